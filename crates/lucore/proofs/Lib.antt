@@ -1,0 +1,10 @@
+pub mod Lists
+pub mod Laid
+pub mod Meaning
+pub mod Variables
+pub mod Agreeing
+pub mod Sounding
+pub mod RankOrders
+pub mod Walks
+pub mod Coding
+pub mod Whole

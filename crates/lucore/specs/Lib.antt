@@ -1,0 +1,5 @@
+pub mod Layout
+pub mod Result
+pub mod Ranked
+pub mod Ranking
+pub mod Code

@@ -1,0 +1,39 @@
+//! Why there is no flat program.
+
+use lulist::Name;
+use std::alloc::{AllocError, AllocFailed};
+use thiserror::Error;
+
+/// Why there is no flat program. Its text is the line that the program prints.
+#[derive(Debug, Drop, Error)]
+pub enum CoreError {
+    /// The flat program would have more than 4,096 flows.
+    #[error("E50 TooLarge")]
+    TooLarge,
+    /// A flow reads itself through a chain of reads at one instant. The variable is the one in whose equation it stands.
+    #[error("E40 Cycle {}", .variable.as_str())]
+    Cycle { variable: Name },
+    /// Memory ran out.
+    #[error("R2 OutOfMemory")]
+    OutOfMemory,
+}
+
+impl From<AllocError> for CoreError {
+    ghost use Rattle.std.specs.Prelude.{◌≡◌};
+    ghost use Rattle.lucore.specs.declared.error.CoreError.TheVariants.{OutOfMemory};
+    ghost from_gives = { λ _ e. e ≡ OutOfMemory };
+
+    fn from(_error: AllocError) -> Self {
+        CoreError::OutOfMemory
+    }
+}
+
+impl<T: Drop> From<AllocFailed<T>> for CoreError {
+    ghost use Rattle.std.specs.Prelude.{◌≡◌};
+    ghost use Rattle.lucore.specs.declared.error.CoreError.TheVariants.{OutOfMemory};
+    ghost from_gives = { λ _ e. e ≡ OutOfMemory };
+
+    fn from(_error: AllocFailed<T>) -> Self {
+        CoreError::OutOfMemory
+    }
+}

@@ -1,0 +1,19 @@
+//! Flattening: from a program whose names are in order to its flat program.
+//!
+//! - [`flatten`]: the flat program, with its order of ranks.
+//! - [`CoreError`]: why there is none.
+//!
+//! The exact list stands in `specs/Layout.antt`, and what else holds of the result in `specs/Result.antt`.
+#![tactic(auto)]
+
+mod error;
+mod flattening;
+mod layout;
+mod ranked;
+mod ranks;
+
+#[cfg(test)]
+mod tests;
+
+pub use error::CoreError;
+pub use flattening::flatten;

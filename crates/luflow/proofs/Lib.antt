@@ -1,0 +1,6 @@
+pub mod Solutions
+pub mod Tidy
+pub mod TidyStreams
+pub mod Faults
+pub mod Tidied
+pub mod FaultsFound

@@ -1,0 +1,12 @@
+pub mod Program
+pub mod Rank
+pub mod Operators
+pub mod Streams
+pub mod Values
+pub mod Solution
+pub mod Faults
+pub mod Sound
+pub mod Messages
+pub mod Tables
+pub mod Flats
+pub mod FlatLaws

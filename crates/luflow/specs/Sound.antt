@@ -1,0 +1,156 @@
+-- What a checked program's flows satisfy, and what follows for each status.
+use Rattle.std.specs.Prelude.{◌≡◌, ◌≢◌, ℕ, ◌<◌, Bool, true, false, Option, Some, slice_get, All}
+use Rattle.luflow.specs.declared.data.Datum.{Datum}
+use Rattle.luflow.specs.declared.data.Datum.TheVariants.{Int, Bool as Truth, Nil}
+use Rattle.luflow.specs.declared.data.Status.TheVariants.{Absent, Present}
+use Rattle.lutree.specs.declared.program.Kind.{Kind}
+use Rattle.lutree.specs.declared.program.Kind.TheVariants.{Int as Ints, Bool as Truths}
+use Rattle.luflow.specs.declared.form.Clock.{Clock}
+use Rattle.luflow.specs.declared.form.Clock.TheVariants.{Base, On}
+use Rattle.lutree.specs.declared.expr.UnaryOperator.{UnaryOperator}
+use Rattle.lutree.specs.declared.expr.UnaryOperator.TheVariants.{Minus, Not}
+use Rattle.lutree.specs.declared.expr.BinaryOperator.{BinaryOperator}
+use Rattle.lutree.specs.declared.expr.BinaryOperator.TheVariants.{Add, Subtract, Multiply, Divide, Modulo, Less, LessEqual, Greater, GreaterEqual, Equal, Unequal, And, Or, Xor, Implies}
+use Rattle.luflow.specs.declared.form.Form.{Form}
+use Rattle.luflow.specs.declared.form.Form.TheVariants.{Input, Constant, Copied, Unary, Binary, If, Pre, Arrow, When, Current, Merge}
+use Rattle.luflow.specs.declared.form.Flow.{Flow}
+use Rattle.luflow.specs.declared.variable.Variable.{Variable}
+use Rattle.luflow.specs.declared.variable.Role.TheVariants.{Output}
+use Rattle.luflow.specs.Program.{FlatProgram, Table, flow_at, places, clock_reads, form_reads, column_of}
+use Rattle.luflow.specs.Streams.{Mark, Known, Broken, Streams, clock_at, ticked}
+
+-- whether a datum has a type; nil has both
+abbrev pub IsOf : Kind → Datum → Type 0
+IsOf Ints (Int n) = Unit {0}
+IsOf Ints (Truth b) = ⊥
+IsOf Ints Nil = Unit {0}
+IsOf Truths (Int n) = ⊥
+IsOf Truths (Truth b) = Unit {0}
+IsOf Truths Nil = Unit {0}
+
+abbrev pub single_sort : UnaryOperator → Kind
+single_sort Minus = Ints
+single_sort Not = Truths
+
+abbrev pub takes : BinaryOperator → Kind → Bool
+takes Add Ints = true
+takes Add Truths = false
+takes Subtract Ints = true
+takes Subtract Truths = false
+takes Multiply Ints = true
+takes Multiply Truths = false
+takes Divide Ints = true
+takes Divide Truths = false
+takes Modulo Ints = true
+takes Modulo Truths = false
+takes Less Ints = true
+takes Less Truths = false
+takes LessEqual Ints = true
+takes LessEqual Truths = false
+takes Greater Ints = true
+takes Greater Truths = false
+takes GreaterEqual Ints = true
+takes GreaterEqual Truths = false
+takes Equal s = true
+takes Unequal s = true
+takes And Ints = false
+takes And Truths = true
+takes Or Ints = false
+takes Or Truths = true
+takes Xor Ints = false
+takes Xor Truths = true
+takes Implies Ints = false
+takes Implies Truths = true
+
+abbrev pub makes : BinaryOperator → Kind
+makes Add = Ints
+makes Subtract = Ints
+makes Multiply = Ints
+makes Divide = Ints
+makes Modulo = Ints
+makes Less = Truths
+makes LessEqual = Truths
+makes Greater = Truths
+makes GreaterEqual = Truths
+makes Equal = Truths
+makes Unequal = Truths
+makes And = Truths
+makes Or = Truths
+makes Xor = Truths
+makes Implies = Truths
+
+-- flow r stands on this clock, with this sort
+pub record IsOn (flat : FlatProgram) (k : Clock) (s : Kind) (r : ℕ) : Type 0 where
+  pub form : Form
+  pub there : flow_at flat r ≡ Some (record { form = form; clock = k; kind = s })
+
+-- the flow of c begins with a constant of this sign: true -> e, false -> e
+pub record BeginsWith (flat : FlatProgram) (k : Clock) (sign : Bool) (c : ℕ) : Type 0 where
+  pub first : ℕ
+  pub then : ℕ
+  pub there : flow_at flat c ≡ Some (record { form = Arrow first then; clock = k; kind = Truths })
+  pub constant : flow_at flat first ≡ Some (record { form = Constant (Truth sign); clock = k; kind = Truths })
+
+-- class false is never nil, class true is nil at most at the first instant of its clock
+abbrev pub AtMost : Bool → Bool → Type 0
+AtMost c d = c ≡ true → d ≡ true
+
+abbrev pub IsConstantOf : Kind → Datum → Type 0
+IsConstantOf s d = IsOf s d × (d ≢ Nil)
+
+-- the rules of types, clocks and initialisation for a flow of class e on clock k, of type s
+abbrev pub FormFits : FlatProgram → (ℕ → Bool) → Clock → Kind → Bool → Form → Type 0
+FormFits flat class k s e (Input c) = k ≡ Base
+FormFits flat class k s e (Constant d) = IsConstantOf s d
+FormFits flat class k s e (Copied a) = IsOn flat k s a × AtMost (class a) e
+FormFits flat class k s e (Unary op a) = (s ≡ single_sort op) × IsOn flat k s a × AtMost (class a) e
+FormFits flat class k s e (Binary op a b) = (u : Kind) × (takes op u ≡ true) × (s ≡ makes op) × IsOn flat k u a × IsOn flat k u b × AtMost (class a) e × AtMost (class b) e
+FormFits flat class k s e (If c a b) = IsOn flat k Truths c × IsOn flat k s a × IsOn flat k s b × AtMost (class c) e × AtMost (class a) e × AtMost (class b) e
+FormFits flat class k s e (Pre a) = IsOn flat k s a × (class a ≡ false) × (e ≡ true)
+FormFits flat class k s e (Arrow a b) = IsOn flat k s a × IsOn flat k s b × AtMost (class a) e
+FormFits flat class k s e (When a) = (c : ℕ) × (sign : Bool) × (k' : Clock) × (k ≡ On c sign) × IsOn flat k' Truths c × IsOn flat k' s a × AtMost (class a) e
+FormFits flat class k s e (Current a) = (c : ℕ) × (sign : Bool) × IsOn flat (On c sign) s a × (class a ≡ false) × BeginsWith flat k sign c
+FormFits flat class k s e (Merge c a b) = IsOn flat k Truths c × IsOn flat (On c true) s a × IsOn flat (On c false) s b × (class c ≡ false) × (class a ≡ false) × (class b ≡ false)
+
+abbrev pub ClockFits : FlatProgram → (ℕ → Bool) → Clock → Type 0
+ClockFits flat class Base = Unit {0}
+ClockFits flat class (On c sign) = (k : Clock) × IsOn flat k Truths c × (class c ≡ false)
+
+-- some assignment of classes meets the rules of all flows and of the outputs, which are never nil
+pub record IsSound (flat : FlatProgram) : Type 0 where
+  pub class : ℕ → Bool
+  pub forms : (i : ℕ) (flow : Flow) → flow_at flat i ≡ Some flow → FormFits flat class flow.clock flow.kind (class i) flow.form
+  pub clocks : (i : ℕ) (flow : Flow) → flow_at flat i ≡ Some flow → ClockFits flat class flow.clock
+  pub outputs : (v : ℕ) (x : Variable) → slice_get flat.variables v ≡ Some x → x.role ≡ Output → class v ≡ false
+
+-- the column of an input has a datum of its type, not nil, at each instant
+abbrev pub IsFitFor : Table → Kind → Form → Type 0
+IsFitFor inputs s (Input c) = (t : ℕ) → t < inputs.instants → (d : Datum) × (slice_get (column_of inputs c) t ≡ Some d) × IsConstantOf s d
+IsFitFor inputs s (Constant d) = Unit {0}
+IsFitFor inputs s (Copied a) = Unit {0}
+IsFitFor inputs s (Unary op a) = Unit {0}
+IsFitFor inputs s (Binary op a b) = Unit {0}
+IsFitFor inputs s (If c a b) = Unit {0}
+IsFitFor inputs s (Pre a) = Unit {0}
+IsFitFor inputs s (Arrow a b) = Unit {0}
+IsFitFor inputs s (When a) = Unit {0}
+IsFitFor inputs s (Current a) = Unit {0}
+IsFitFor inputs s (Merge c a b) = Unit {0}
+
+pub record IsFit (flat : FlatProgram) (inputs : Table) : Type 0 where
+  pub columns : (i : ℕ) (flow : Flow) → flow_at flat i ≡ Some flow → IsFitFor inputs flow.kind flow.form
+
+-- present exactly where its clock is true until it is broken, of its type, and nil only as its class allows
+abbrev pub IsTidyMark : Kind → Bool → Option Bool → Option Bool → Mark → Type 0
+IsTidyMark s e was k Broken = Unit {0}
+IsTidyMark s e was k (Known Absent) = k ≡ Some false
+IsTidyMark s e was k (Known (Present d)) = (k ≡ Some true) × IsOf s d × (d ≡ Nil → (e ≡ true) × (was ≡ Some false))
+
+abbrev pub IsTidy : FlatProgram → Table → (ℕ → Bool) → Streams → ℕ → ℕ → Type 0
+IsTidy flat inputs class σ i t = (flow : Flow) → flow_at flat i ≡ Some flow → IsTidyMark flow.kind (class i) (ticked (clock_at inputs σ flow.clock) t) (clock_at inputs σ flow.clock t) (σ i t)
+
+-- nothing that the value of a form on clock k looks at, at t and before it, is broken
+pub record IsUnbroken (σ : Streams) (k : Clock) (form : Form) (t : ℕ) : Type 0 where
+  pub now : All (λ r. σ r t ≢ Broken) (form_reads form)
+  pub then : (u : ℕ) → u < t → All (λ r. σ r u ≢ Broken) (places form)
+  pub clock_then : (u : ℕ) → u < t → All (λ r. σ r u ≢ Broken) (clock_reads k)

@@ -1,0 +1,65 @@
+//! What a flow is made of.
+
+use crate::data::Datum;
+use lutree::{BinaryOperator, Kind, UnaryOperator};
+
+/// A clock of a flat program: the base clock, or where the flow of this place is present with this value.
+#[derive(Clone, Copy, Debug, Drop, PartialEq, Eq)]
+pub enum Clock {
+    Base,
+    On(usize, bool),
+}
+
+/// What a flow is made of. Operands are places of the flat program; an input has the number of its column.
+#[derive(Clone, Copy, Debug, Drop, PartialEq, Eq)]
+pub enum Form {
+    /// The column of this number in the input table.
+    Input(usize),
+    /// The same value at each instant of the flow's clock.
+    Constant(Datum),
+    /// The flow of this place once more.
+    Copied(usize),
+    /// A data operator with one operand.
+    Unary(UnaryOperator, usize),
+    /// A data operator with two operands.
+    Binary(BinaryOperator, usize, usize),
+    /// `if`, with its condition, its value where that is true and where it is false.
+    If(usize, usize, usize),
+    /// `pre`
+    Pre(usize),
+    /// `->`
+    Arrow(usize, usize),
+    /// `when`, whose clock is that of the flow.
+    When(usize),
+    /// `current`
+    Current(usize),
+    /// `merge`, with its clock variable, its value where that is true and where it is false.
+    Merge(usize, usize, usize),
+}
+
+/// One flow of a flat program.
+#[derive(Clone, Copy, Debug, Drop, PartialEq, Eq)]
+pub struct Flow {
+    pub form: Form,
+    pub clock: Clock,
+    /// The type of its values.
+    pub kind: Kind,
+}
+
+/// How an operator fails.
+#[derive(Clone, Copy, Debug, Drop, PartialEq, Eq)]
+pub enum FaultKind {
+    /// The result in whole numbers has more than 64 bits.
+    Overflow,
+    /// `div` or `mod` by zero.
+    DivZero,
+}
+
+/// What a flow's value is where its clock is true: a datum, a fault of its own operator, or neither, where an operand
+/// gives none.
+#[derive(Clone, Copy, Debug, Drop, PartialEq, Eq)]
+pub enum Outcome {
+    Gives(Datum),
+    Faults(FaultKind),
+    Stuck,
+}

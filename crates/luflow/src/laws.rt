@@ -1,0 +1,25 @@
+//! What holds of the definitions, as contracts of functions that do nothing.
+
+ghost use Rattle.luflow.specs.FlatLaws.{SolutionLaw, TidyLaw, StuckLaw, FaultLaw};
+
+/// A flat program whose reads come first has exactly one solution, faults or not: every two give each flow the same
+/// stream, and there is one.
+pub fn solution_law()
+    ensures { SolutionLaw }
+{}
+
+/// In every solution of a sound program each flow is present exactly where its clock is true, until it is broken; its
+/// values have its type; and clock variables and outputs are never nil.
+pub fn tidy_law()
+    ensures { TidyLaw }
+{}
+
+/// In every solution of a sound program a value is stuck only where something that it looks at is broken.
+pub fn stuck_law()
+    ensures { StuckLaw }
+{}
+
+/// An operator has no value exactly where the language says that it is a fault, and of that kind.
+pub fn fault_law()
+    ensures { FaultLaw }
+{}

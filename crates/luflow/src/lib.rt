@@ -1,0 +1,26 @@
+//! Flat programs: their flows, what these carry, and what their solution is.
+//!
+//! - [`Datum`], [`Status`]: what a flow has at an instant.
+//! - [`Form`], [`Flow`], [`Clock`]: what a flow is made of; [`Outcome`], [`FaultKind`]: what its value may be.
+//! - [`Flat`], [`Variable`]: a whole flat program; [`Inputs`]: the table of its inputs.
+//! - [`Msg`], [`Body`]: what a link carries.
+//! - [`laws`]: exactly one solution, and what every solution keeps.
+//!
+//! The definitions stand in `specs/`: `Program`, `Rank`, `Streams`, `Operators`, `Values`, `Solution`, `Faults`, `Sound`,
+//! `Messages`.
+#![tactic(auto)]
+
+mod data;
+mod flat;
+mod form;
+pub mod laws;
+mod message;
+mod table;
+mod variable;
+
+pub use data::{Datum, Status};
+pub use flat::Flat;
+pub use form::{Clock, FaultKind, Flow, Form, Outcome};
+pub use message::{Body, Msg};
+pub use table::Inputs;
+pub use variable::{Role, Variable};

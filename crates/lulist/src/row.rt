@@ -1,0 +1,48 @@
+//! Lists that never change.
+
+ghost use Rattle.std.specs.Prelude.{◌≡◌};
+
+use std::marker::Model;
+
+/// A list that never changes. A contract sees the list itself, so two rows with the same items are equal.
+#[derive(Drop)]
+pub struct Row<T> {
+    items: Vec<T>,
+}
+
+impl<T> Model for Row<T> {
+    ghost use Rattle.std.specs.Prelude.{List};
+
+    ghost Value = { List T };
+
+    ghost view = { λ r. r.items.items };
+}
+
+impl<T> Row<T> {
+    /// The row of a vector's items.
+    pub fn new(items: Vec<T>) -> Row<T>
+        ensures { result ≡ items.items }
+    {
+        Row { items }
+    }
+
+    /// The items, in order.
+    pub fn as_slice(&self) -> &[T]
+        ensures { result.now ≡ self.now }
+    {
+        self.items.as_slice()
+    }
+}
+
+#[cfg(test)]
+mod tests {
+    use super::*;
+    use std::test::Fail;
+
+    #[test]
+    fn a_row_has_its_items(rt: HostRuntime) -> Result<(), Fail> {
+        let row = Row::new(vec![in rt.alloc(); 3, 1, 2]?);
+        assert_eq!(rt; row.as_slice(), [3, 1, 2].as_slice());
+        Ok(())
+    }
+}

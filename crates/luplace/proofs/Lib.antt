@@ -1,0 +1,5 @@
+pub mod OwnColumns
+pub mod Marked
+pub mod Linked
+pub mod Planned
+pub mod Sited

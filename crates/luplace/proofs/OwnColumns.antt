@@ -1,0 +1,57 @@
+-- What a site reads of its own columns.
+use Rattle.std.proofs.Common.{get_or, ◌++◌, Vec, ◌≡◌, ℕ, zero, suc, ◌+◌, ◌<◌, ◌≤◌, true, cond, List, [], ◌∷◌, length, map, Some, None, sym, ap, ◌∙◌, refl, arith, inl, inr}
+use Rattle.std.specs.Prelude.{slice_get, unwrap_or}
+use Rattle.std.specs.List.{range_with_len}
+use Rattle.std.proofs.lemmas.Bool.{cases_lt}
+use Rattle.std.proofs.lemmas.List.{map-append}
+use Rattle.std.specs.declared.string.String.{String}
+use Rattle.std.specs.declared.alloc.Global.{Global}
+use Rattle.luflow.specs.declared.data.Datum.{Datum}
+use Rattle.luflow.specs.Tables.{columns_view}
+use Rattle.luflow.specs.Program.{column_of, data_of}
+use Rattle.luworld.specs.Needs.{stands}
+use Rattle.luworld.specs.Runs.{Run}
+use Rattle.luplace.specs.SiteTables.{column_at, columns_at}
+
+pub map_range : {X : Type 0} (f : ℕ → X) (a n k : ℕ) → k < n → slice_get (map f (range_with_len a n)) k ≡ Some (f (a + k))
+map_range f a zero k l = absurd (omega arith)
+map_range f a (suc n) zero l = let e : a ≡ a + 0 = omega arith in ap (λ x. Some (f x)) e
+map_range f a (suc n) (suc k) l = let e : a + 1 + k ≡ a + suc k = omega arith in map_range f (a + 1) n k (omega arith) ∙ ap (λ x. Some (f x)) e
+
+past_range : {X : Type 0} (f : ℕ → X) (a n k : ℕ) → n ≤ k → slice_get (map f (range_with_len a n)) k ≡ None
+past_range f a zero k l = refl
+past_range f a (suc n) zero l = absurd (omega arith)
+past_range f a (suc n) (suc k) l = past_range f (a + 1) n k (omega arith)
+
+past_list : {X : Type 0} (xs : List X) (k : ℕ) → length xs ≤ k → slice_get xs k ≡ None
+past_list [] k l = refl
+past_list (x ∷ xs) zero l = absurd (omega arith)
+past_list (x ∷ xs) (suc k) l = past_list xs k (omega arith)
+
+pub own_column : (job : Run) (s c : ℕ) → stands job.plan c s ≡ true → unwrap_or (slice_get (columns_at job s) c) [] ≡ column_of job.inputs c
+own_column job s c own = elim (cases_lt c (length job.inputs.columns)) [
+  | inl l ↦
+      ap (λ o. unwrap_or o []) (map_range (column_at job s) 0 (length job.inputs.columns) c l)
+      ∙ ap (λ k. column_at job s k) (let e : 0 + c ≡ c = omega arith in e)
+      ∙ ap (λ b. cond b (column_of job.inputs c) []) own
+  | inr g ↦
+      ap (λ o. unwrap_or o []) (past_range (column_at job s) 0 (length job.inputs.columns) c g)
+      ∙ sym (ap data_of (past_list job.inputs.columns c g))
+]
+
+range_more : (a n : ℕ) → range_with_len a (n + 1) ≡ range_with_len a n ++ (a + n) ∷ []
+range_more a zero = let e : a ≡ a + 0 = omega arith in ap (λ x. x ∷ []) e
+range_more a (suc n) =
+    let e : a + 1 + n ≡ a + suc n = omega arith in
+    let c : suc n + 1 ≡ suc (n + 1) = omega arith in
+    ap (range_with_len a) c ∙ ap (λ xs. a ∷ xs) (range_more (a + 1) n ∙ ap (λ x. range_with_len (a + 1) n ++ x ∷ []) e)
+
+pub map_more : {X : Type 0} (f : ℕ → X) (n : ℕ) → map f (range_with_len 0 (n + 1)) ≡ map f (range_with_len 0 n) ++ f n ∷ []
+map_more f n =
+    let z : 0 + n ≡ n = omega arith in
+    ap (map f) (range_more 0 n) ∙ map-append f (range_with_len 0 n) ((0 + n) ∷ []) ∙ ap (λ u. map f (range_with_len 0 n) ++ f u ∷ []) z
+
+pub values_there : (xs : List (String Global × Vec Datum Global)) (c : ℕ) (d : String Global × Vec Datum Global) → c < length xs → (get_or xs c d).1.items ≡ data_of (slice_get (columns_view xs) c)
+values_there [] c d l = absurd (omega arith)
+values_there (x ∷ xs) zero d l = refl
+values_there (x ∷ xs) (suc c) d l = values_there xs c d (omega arith)

@@ -1,0 +1,177 @@
+//! Jobs: what one run is about, and what of it a site is handed.
+
+ghost use Rattle.std.specs.Prelude.{◌≡◌, ◌<◌, true, cond, [], IfOk, length, map, slice_get, unwrap_or};
+ghost use Rattle.std.specs.List.{range_with_len};
+ghost use Rattle.luflow.specs.Program.{column_of, data_of};
+ghost use Rattle.luflow.specs.Tables.{columns_view};
+ghost use Rattle.luflow.specs.Sound.{IsFit};
+ghost use Rattle.luworld.specs.Needs.{sites_of, stands};
+ghost use Rattle.luworld.specs.Runs.{IsRun};
+
+use crate::plan::Plan;
+use luflow::{Datum, Inputs};
+use lulist::Row;
+use std::alloc::{AllocError, Global};
+use std::marker::Model;
+use std::snapshot::Snapshot;
+
+/// A plan and the table of the inputs: what one run is about. A contract sees the `Run` of `luworld`.
+#[derive(Drop)]
+pub struct Job {
+    plan: Plan,
+    inputs: Inputs,
+}
+
+impl Model for Job {
+    ghost use Rattle.luworld.specs.Runs.{Run, IsRun};
+
+    ghost Value = { Run };
+
+    ghost view = { λ a. record { plan = a.plan; inputs = a.inputs } };
+
+    ghost invariant = { λ a. IsRun (record { plan = a.plan; inputs = a.inputs }) };
+}
+
+/// The number of instants and the columns of the main inputs that stand at one site, and no other data. It keeps, for
+/// contracts alone, which job and site it is of.
+#[derive(Drop)]
+pub struct SiteInputs {
+    site: u8,
+    instants: u32,
+    columns: Row<Row<Datum>>,
+    job: Snapshot<Job>,
+}
+
+impl Model for SiteInputs {
+    ghost use Rattle.luplace.specs.SiteTables.{SiteTable, IsSiteTable};
+
+    ghost Value = { SiteTable };
+
+    ghost view = { λ a. record { job = a.job.value; site = a.site } };
+
+    ghost invariant = { λ a. IsSiteTable a.job.value a.site a.instants a.columns };
+}
+
+fn copied(alloc: Global, column: &[Datum]) -> Result<Row<Datum>, AllocError>
+    ensures { IfOk result (λ row. row ≡ column.now) }
+{
+    Ok(Row::new(Vec::from_slice(alloc, column)?))
+}
+
+impl Job {
+    /// The job of a plan and a table whose columns are its program's main inputs.
+    pub fn new(plan: Plan, inputs: Inputs) -> Job
+        requires { IsFit plan.flat inputs }
+        ensures { result ≡ record { plan = plan; inputs = inputs } }
+    {
+        let _few = inputs.instants();
+        let _flat = plan.flat();
+        Job { plan, inputs }
+    }
+
+    /// The plan. Takes no memory.
+    pub fn plan(&self) -> &Plan
+        ensures plan { result.now ≡ self.now.plan }
+        ensures run { IsRun self.now }
+    {
+        &self.plan
+    }
+
+    /// The number of instants, 0 to 1,000,000.
+    pub fn instants(&self) -> u32
+        ensures { result ≡ self.now.inputs.instants }
+    {
+        self.inputs.instants()
+    }
+}
+
+fn datum_in(columns: &[Row<Datum>], column: usize, instant: usize) -> Option<Datum>
+    ensures { result ≡ slice_get (unwrap_or (slice_get columns.now column) []) instant }
+{
+    match columns.get(column) {
+        Some(row) => row.as_slice().get(instant).copied(),
+        None => None,
+    }
+}
+
+impl SiteInputs {
+    /// The site.
+    pub fn site(&self) -> u8
+        ensures site { result ≡ self.now.site }
+        ensures run { IsRun self.now.job }
+    {
+        self.site
+    }
+
+    /// The number of instants, 0 to 1,000,000.
+    pub fn instants(&self) -> u32
+        ensures { result ≡ self.now.job.inputs.instants }
+    {
+        self.instants
+    }
+
+    /// The value at an instant of the main input of this number, where that input stands at the site.
+    pub fn given(&self, column: usize, instant: u32) -> Option<Datum>
+        ensures { stands self.now.job.plan column self.now.site ≡ true → result ≡ slice_get (column_of self.now.job.inputs column) instant }
+    {
+        datum_in(self.columns.as_slice(), column, instant as usize)
+    }
+}
+
+/// A column as a site has it: its values where the input stands at the site, and nothing elsewhere.
+fn column_for(
+    alloc: Global,
+    plan: &Plan,
+    columns: &[(String, Vec<Datum>)],
+    c: usize,
+    site: u8,
+) -> Result<Row<Datum>, AllocError>
+    requires { c < length columns.now }
+    ensures { IfOk result (λ row. row ≡ cond (stands plan.now c site) (data_of (slice_get (columns_view columns.now) c)) []) }
+{
+    if plan.stands(c, site) {
+        copied(alloc, values_in(columns, c))
+    } else {
+        Ok(Row::new(Vec::new(alloc)))
+    }
+}
+
+fn values_in(columns: &[(String, Vec<Datum>)], c: usize) -> &[Datum]
+    requires { c < length columns.now }
+    ensures { result.now ≡ data_of (slice_get (columns_view columns.now) c) }
+{
+    columns[c].1.as_slice()
+}
+
+/// The columns of a site's own inputs, and an empty one for each other input.
+fn columns_of(
+    alloc: Global,
+    plan: &Plan,
+    columns: &[(String, Vec<Datum>)],
+    site: u8,
+) -> Result<Vec<Row<Datum>>, AllocError>
+    ensures { IfOk result (λ rows. rows.items ≡ map (λ c. cond (stands plan.now c site) (data_of (slice_get (columns_view columns.now) c)) []) (range_with_len 0 (length columns.now))) }
+{
+    let mut rows = Vec::with_capacity(alloc, columns.len())?;
+    for c in 0..columns.len() {
+        let row = column_for(alloc, plan, columns, c, site)?;
+        rows.push_reserved(row);
+    }
+    Ok(rows)
+}
+
+impl Job {
+    /// What a site is handed: the number of instants, and the columns of the main inputs that stand at the site.
+    pub fn inputs_at(&self, alloc: Global, site: u8) -> Result<SiteInputs, AllocError>
+        requires { site < sites_of self.now.plan }
+        ensures { IfOk result (λ x. x ≡ record { job = self.now; site = site }) }
+    {
+        let columns = columns_of(alloc, &self.plan, self.inputs.columns(), site)?;
+        Ok(SiteInputs {
+            site,
+            instants: self.inputs.instants(),
+            columns: Row::new(columns),
+            job: Snapshot::of(self),
+        })
+    }
+}

@@ -1,0 +1,19 @@
+//! Placements, plans and jobs.
+//!
+//! - [`Place`], [`read_place`], [`PlaceError`]: what a placement file says, and why a placement is refused.
+//! - [`Plan`]: where flows stand, what each site needs, and the links that follow.
+//! - [`Job`], [`SiteInputs`]: one run, and what of it a site is handed.
+#![tactic(auto)]
+
+mod assembly;
+mod job;
+mod linking;
+mod lookup;
+mod marking;
+mod placing;
+mod plan;
+
+pub use job::{Job, SiteInputs};
+pub use luplacefile::{Place, PlaceError, read_place};
+pub use luworld::Link;
+pub use plan::Plan;

@@ -1,0 +1,170 @@
+//! Plans: where the flows of a program stand, what each site needs, and which links there are.
+
+ghost use Rattle.std.specs.Prelude.{◌≡◌, ◌⊎◌, ◌<◌, true, length, slice_index, All, IfOk, IfErr};
+ghost use Rattle.luworld.specs.Needs.{Distribution, IsPlan, sites_of, row, stands, is_in};
+ghost use Rattle.luplacefile.specs.Lawful.{IsLawful};
+ghost use Rattle.luplace.specs.Placing.{refusal, are_together, IsPlanOf, IsPlanAt};
+
+use crate::assembly::{names_of, one_each};
+use crate::linking::links_of;
+use crate::lookup::number_at;
+use crate::marking::{all_marks, needs_of};
+use crate::placing::sites_for;
+use luflow::Flat;
+use lulist::{Name, Row};
+use luplacefile::{Place, PlaceError};
+use luworld::Link;
+use std::alloc::{AllocError, Global};
+use std::marker::Model;
+
+/// A plan: a flat program, its sites, where its main variables stand, and the links that follow. A contract sees the
+/// `Distribution` of `luworld`.
+#[derive(Drop)]
+pub struct Plan {
+    flat: Flat,
+    names: Row<Name>,
+    placed: Row<Row<u8>>,
+    needs: Row<Row<usize>>,
+    links: Row<Link>,
+    capacity: u16,
+}
+
+impl Model for Plan {
+    ghost use Rattle.luworld.specs.Needs.{Distribution, IsPlan};
+
+    ghost Value = { Distribution };
+
+    ghost view = { λ a. record { flat = a.flat; names = a.names; placed = a.placed; needs = a.needs; links = a.links; capacity = a.capacity } };
+
+    ghost invariant = { λ a. IsPlan (record { flat = a.flat; names = a.names; placed = a.placed; needs = a.needs; links = a.links; capacity = a.capacity }) };
+}
+
+fn row_at(rows: &[Row<u8>], place: usize) -> &[u8]
+    ensures { result.now ≡ row rows.now place }
+{
+    match rows.get(place) {
+        Some(row) => row.as_slice(),
+        None => &[],
+    }
+}
+
+fn is_in(site: u8, sites: &[u8]) -> bool
+    ensures { result ≡ is_in site sites.now }
+{
+    sites.iter().any(|s| *s == site)
+}
+
+/// The plan of a program whose main variables stand at these sites.
+fn plan_at(alloc: Global, flat: Flat, place: &Place, sites: &[u8]) -> Result<Plan, AllocError>
+    requires lawful { IsLawful place.now }
+    requires long { length sites.now ≡ length flat.variables }
+    requires inside { All (λ s. s < length place.now.sites) sites.now }
+    requires together { are_together flat.owners sites.now ≡ true }
+    ensures { IfOk result (IsPlanAt flat place.now sites.now) }
+{
+    let names = names_of(alloc, place.sites.as_slice())?;
+    let placed = one_each(alloc, sites)?;
+    let rows = all_marks(alloc, &flat, sites, place.sites.as_slice().len() as u8)?;
+    let needs = needs_of(alloc, rows.as_slice())?;
+    let variables = flat.variables().len();
+    let links = links_of(alloc, rows.as_slice(), flat.owners(), sites, variables)?;
+    Ok(Plan::of_parts(
+        flat,
+        Row::new(names),
+        Row::new(placed),
+        Row::new(needs),
+        Row::new(links),
+        place.capacity,
+    ))
+}
+
+impl Plan {
+    /// The plan of a program and a placement as it was read: the program's main variables at the sites that the placement
+    /// puts them at, and what follows. A placement is refused for the first of these: `UnknownVariable` where it places
+    /// what is no main variable, `Unplaced` where a main variable has no site, `SplitCall` where the variables of one
+    /// equation stand at different sites. `OutOfMemory` may come in place of any answer.
+    pub fn make(alloc: Global, flat: Flat, place: &Place) -> Result<Plan, PlaceError>
+        requires { IsLawful place.now }
+        ensures made { IfOk result (IsPlanOf flat place.now) }
+        ensures refused { IfErr result (λ e. (e ≡ PlaceError.OutOfMemory) ⊎ (refusal flat place.now ≡ Some e)) }
+    {
+        let sites = sites_for(alloc, &flat, place)?;
+        Ok(plan_at(alloc, flat, place, sites.as_slice())?)
+    }
+
+    /// The plan of these parts, which are what they are said to be.
+    pub(crate) fn of_parts(
+        flat: Flat,
+        names: Row<Name>,
+        placed: Row<Row<u8>>,
+        needs: Row<Row<usize>>,
+        links: Row<Link>,
+        capacity: u16,
+    ) -> Plan
+        requires { IsPlan (record { flat = flat; names = names; placed = placed; needs = needs; links = links; capacity = capacity }) }
+        ensures { result ≡ record { flat = flat; names = names; placed = placed; needs = needs; links = links; capacity = capacity } }
+    {
+        Plan {
+            flat,
+            names,
+            placed,
+            needs,
+            links,
+            capacity,
+        }
+    }
+
+    /// The flat program. Takes no memory.
+    pub fn flat(&self) -> &Flat
+        ensures flat { result.now ≡ self.now.flat }
+        ensures plan { IsPlan self.now }
+    {
+        &self.flat
+    }
+
+    /// The names of the sites, by number. Takes no memory.
+    pub fn sites(&self) -> &[Name]
+        ensures { result.now ≡ self.now.names }
+    {
+        self.names.as_slice()
+    }
+
+    /// How many messages a link may hold, 1 to 1,024. Takes no memory.
+    pub fn capacity(&self) -> u16
+        ensures { result ≡ self.now.capacity }
+    {
+        self.capacity
+    }
+
+    /// Whether the flow of this place is computed at the site. Takes no memory.
+    pub fn stands(&self, place: usize, site: u8) -> bool
+        ensures { result ≡ stands self.now place site }
+    {
+        let variable = number_at(self.flat.owners(), place);
+        is_in(site, row_at(self.placed.as_slice(), variable))
+    }
+
+    /// The sites at which a main variable stands, in order; one, for now. Takes no memory.
+    pub fn sites_of(&self, variable: usize) -> &[u8]
+        requires { variable < length self.now.placed }
+        ensures { result.now ≡ row self.now.placed variable }
+    {
+        self.placed.as_slice()[variable].as_slice()
+    }
+
+    /// The places of the flows that a site needs, in order: all that its flows name, and the variables of their clocks.
+    /// Takes no memory.
+    pub fn needs(&self, site: u8) -> &[usize]
+        requires { site < sites_of self.now }
+        ensures { result.now ≡ row self.now.needs site }
+    {
+        self.needs.as_slice()[site as usize].as_slice()
+    }
+
+    /// The links, by number. Takes no memory.
+    pub fn links(&self) -> &[Link]
+        ensures { result.now ≡ self.now.links }
+    {
+        self.links.as_slice()
+    }
+}

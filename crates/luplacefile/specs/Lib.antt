@@ -1,0 +1,7 @@
+pub mod SiteName
+pub mod Keys
+pub mod Draft
+pub mod Rules
+pub mod Placement
+pub mod Lawful
+pub mod Answers

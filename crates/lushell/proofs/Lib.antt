@@ -1,0 +1,2 @@
+pub mod ScheduleSteps
+pub mod CommandLemmas

@@ -1,0 +1,23 @@
+-- The command line of the program, in the words of the crate that parses it.
+use Rattle.std.specs.Prelude.{[], ◌∷◌, true, codes, Some}
+use Rattle.clap.specs.Walk.{Rule, Text}
+use Rattle.clap.specs.Simple.{App, new_app, new_rule, on_top, with_rule, with_subcommand}
+use Rattle.clap.specs.declared.builder.action.ArgAction.TheVariants.{Set}
+
+-- a path that must be given
+abbrev pub path_rule : Text → Rule
+path_rule name = record (new_rule name) { required = true; action = Some Set }
+
+-- `--main NAME`, which is `main` where it isn't given
+abbrev pub main_rule : Rule
+main_rule = record (new_rule (codes "main")) { long = Some (codes "main"); value_names = 1; defaults = codes "main" ∷ [] }
+
+-- `replay PROGRAM PLACE TABLE SCHEDULE [--main NAME]`
+abbrev pub replay : App
+replay =
+    with_rule (with_rule (with_rule (with_rule (with_rule (new_app (codes "replay")) main_rule)
+    (path_rule (codes "PROGRAM"))) (path_rule (codes "PLACE"))) (path_rule (codes "TABLE"))) (path_rule (codes "SCHEDULE"))
+
+-- `lusdist` and one of its commands
+abbrev pub lusdist : App
+lusdist = with_subcommand (on_top (λ top. record top { subcommand_required = true }) (new_app (codes "lusdist"))) replay.top

@@ -1,0 +1,4 @@
+pub mod Schedule
+pub mod ScheduleText
+pub mod CommandLine
+pub mod Request

@@ -1,0 +1,56 @@
+//! Where the program's texts come from.
+
+ghost use Rattle.std.specs.Prelude.{List, ℕ, IfOk};
+
+use std::alloc::Global;
+use std::io::ErrorKind;
+use std::{fs, rt};
+
+/// Why a file gave no bytes.
+#[derive(Clone, Copy, Debug, PartialEq, Eq)]
+pub enum ReadError {
+    /// There is no such file, or it can't be read.
+    CannotRead,
+    /// Memory ran out, which says nothing of the file.
+    OutOfMemory,
+}
+
+/// Files by their paths.
+pub trait Files {
+    /// A read of the path may give these bytes. Files in memory say which; real files may give any.
+    ghost gives: { Self → List ℕ → List ℕ → Type 0 };
+
+    /// The bytes of the file at the path.
+    fn read(&self, alloc: Global, path: &str) -> Result<Vec<u8>, ReadError>
+        ensures { IfOk result (λ bytes. gives self.now path.now bytes.items) };
+}
+
+/// The files of the system.
+#[derive(Drop)]
+pub struct RealFiles<'a, R> {
+    runtime: &'a R,
+}
+
+impl<'a, R: rt::Files + AllocGlobal> RealFiles<'a, R> {
+    /// The files that this runtime reaches.
+    pub fn new(runtime: &'a R) -> Self {
+        RealFiles { runtime }
+    }
+}
+
+impl<R: rt::Files + AllocGlobal> Files for RealFiles<'_, R> {
+    ghost gives = { λ _ _ _. Unit {0} };
+
+    fn read(&self, _alloc: Global, path: &str) -> Result<Vec<u8>, ReadError> {
+        match fs::read(self.runtime, path) {
+            Ok(bytes) => Ok(bytes),
+            Err(e) => {
+                if e.kind() == ErrorKind::OutOfMemory {
+                    Err(ReadError::OutOfMemory)
+                } else {
+                    Err(ReadError::CannotRead)
+                }
+            }
+        }
+    }
+}

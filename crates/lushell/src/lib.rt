@@ -1,0 +1,23 @@
+//! What the program needs around the language: its command line, its files, its schedule, and its two streams.
+//!
+//! - [`parse`] reads the command line into a [`Request`], and [`put_mistake`] shows what the parser says instead.
+//! - [`Files`] is where texts come from: [`RealFiles`], or files in memory.
+//! - [`text_of`] sees bytes as text, where they are text.
+//! - [`read_schedule`] reads whose turn it is, turn by turn.
+//! - [`put_out`] and [`put_error_line`] write to the output and to the error stream.
+#![tactic(auto)]
+
+mod command;
+mod files;
+mod put;
+mod request;
+mod schedule;
+#[cfg(test)]
+mod tests;
+mod text;
+
+pub use files::{Files, ReadError, RealFiles};
+pub use put::{put_error_line, put_mistake, put_out};
+pub use request::{Request, parse};
+pub use schedule::{ScheduleError, read_schedule};
+pub use text::text_of;

@@ -1,0 +1,9 @@
+pub mod Machine
+pub mod Desks
+pub mod Told
+pub mod Offers
+pub mod Turns
+pub mod Starts
+pub mod Outputs
+pub mod FaultsTold
+pub mod Ranges

@@ -1,0 +1,88 @@
+-- What a site tells of its outputs.
+use Rattle.std.proofs.Common.{◌≡◌, ℕ, zero, suc, ◌+◌, ◌<◌, ◌≤◌, inl, inr, Bool, true, false, cond, List, [], ◌∷◌, length, map, filter, nat_eq, Some, refl, sym, ap, ◌∙◌, subst, arith}
+use Rattle.std.specs.Prelude.{slice_get, slice_index, ◌&&◌, nat_lt}
+use Rattle.std.specs.List.{range_with_len}
+use Rattle.std.proofs.lemmas.Bool.{cases_lt, eq-eqb, ne_eqb}
+use Rattle.std.proofs.lemmas.Option.{slice_get_within}
+use Rattle.luworld.proofs.Outlines.{bool_cases}
+use Rattle.luflow.specs.declared.data.Status.{Status}
+use Rattle.luflow.specs.Streams.{Known}
+use Rattle.luflow.specs.Program.{flows_of}
+use Rattle.luflow.proofs.Solutions.{some_at, place_in}
+use Rattle.luworld.specs.Needs.{Distribution, home}
+use Rattle.luworld.specs.Runs.{streams_of, cell, script, is_told, outputs_of}
+use Rattle.lusite.specs.declared.desk.Desk.{Desk}
+use Rattle.lusite.specs.declared.program.Part.{Part}
+use Rattle.lusite.specs.Machine.{is_faulted, IsSet, StandsAt, IsReadyAt, Ready, Over, done_of}
+use Rattle.lusite.specs.Logs.{add_if, IsFirst, IsOutput, IsRow, IsLoggedAt, is_wanted, passed_to, row_items, log_at}
+use Rattle.lusite.proofs.Desks.{Going, going, part_here}
+use Rattle.lusite.proofs.Offers.{Here, hand_next}
+use Rattle.lusite.proofs.Told.{lt-false, both}
+
+-- a site that has done its script stands after the last instant, if it holds no stop
+at_end : (a : Desk) → Going a → IsReadyAt a → done_of a ≡ length (script a.inputs.job (streams_of a.inputs.job) a.inputs.site) → a.instant ≡ a.inputs.job.inputs.instants
+at_end a g (Over et ep ej) n = et
+at_end a g (Ready lp lj) n =
+    let job = a.inputs.job in
+    let h : Here a = record { going_on = g; place_lt = lp; step_lt = lj } in
+    let x = some_at (cell job (streams_of job) a.inputs.site a.instant (slice_index job.plan.flat.order a.place)) a.step lj in
+    let l = slice_get_within (script job (streams_of job) a.inputs.site) (done_of a) x.0 (hand_next a h ∙ x.1) in
+    absurd (omega (arith, l, n))
+
+one_at_most : (b : Bool) → add_if b ≤ 1
+one_at_most true = omega arith
+one_at_most false = omega arith
+
+none_late : (t n : ℕ) (b : Bool) → n ≤ t → add_if (nat_lt t n && b) ≡ 0
+none_late t n b le = ap (λ x. add_if (x && b)) (lt-false t n le)
+
+within_all : (t n : ℕ) (b : Bool) → t ≤ n → t + add_if (nat_lt t n && b) ≤ n
+within_all t n b le = elim (cases_lt t n) [
+  | inl l ↦ let z = one_at_most (nat_lt t n && b) in omega (arith, z, l)
+  | inr g ↦ let z = none_late t n b g in omega (arith, z, le)
+]
+
+-- an element of a filtered range
+filtered : (p : ℕ → Bool) (a n k i : ℕ) → slice_get (filter p (range_with_len a n)) k ≡ Some i → (i < a + n) × (p i ≡ true)
+filtered p a zero k i e = absurd cc
+filtered p a (suc n) k i e = go (p a) refl k e (filtered p (a + 1) n)
+  where
+    go : (b : Bool) → p a ≡ b → (k : ℕ) → slice_get (cond b (a ∷ filter p (range_with_len (a + 1) n)) (filter p (range_with_len (a + 1) n))) k ≡ Some i → ((k i : ℕ) → slice_get (filter p (range_with_len (a + 1) n)) k ≡ Some i → (i < a + 1 + n) × (p i ≡ true)) → (i < a + suc n) × (p i ≡ true)
+    go true e zero is rest = let same : Some a ≡ Some i = is in let x : a ≡ i = cc in (omega (arith, x), ap p (sym x) ∙ e)
+    go true e (suc k) is rest = let w = rest k i is in (let l = w.0 in omega (arith, l), w.1)
+    go false e k is rest = let w = rest k i is in (let l = w.0 in omega (arith, l), w.1)
+
+pub output_there : (plan : Distribution) (k i : ℕ) → slice_get (outputs_of plan) k ≡ Some i → (i < length plan.flat.variables) × (is_told plan i ≡ true)
+output_there plan k i e = let w = filtered (is_told plan) 0 (length plan.flat.variables) k i e in (let l = w.0 in omega (arith, l), w.1)
+
+-- what a site tells of an output
+pub output_is : (a : Desk) → IsSet a → StandsAt a → IsLoggedAt a → (is_faulted a ≡ false → IsReadyAt a) → (k : ℕ) (xs : List Status) → xs ≡ log_at a (slice_get (outputs_of a.program.plan) k) → IsOutput a.inputs.job a.inputs.site (done_of a) k xs
+output_is a set st logged ready k xs e =
+    let job = a.inputs.job in
+    let ok = set.is_job.is_plan in
+    let inside : (i : ℕ) → slice_get (outputs_of job.plan) k ≡ Some i → (i < flows_of job.plan.flat) × (is_told job.plan i ≡ true) = λ i out. let o = output_there job.plan k i out in let v = ok.variables_first in let l = o.0 in (omega (arith, v, l), o.1) in
+    let log = λ (i : ℕ) (out : slice_get (outputs_of job.plan) k ≡ Some i). e ∙ ap (λ (q : Distribution). log_at a (slice_get (outputs_of q) k)) set.plan_is ∙ ap (log_at a) out ∙ ap (λ (x : Part). cond x.told (row_items (slice_get a.logs.items i)) []) (part_here a i set (inside i out).0) in
+    record {
+      told = λ i out at_home.
+          let o = inside i out in
+          let wanted : is_wanted job a.inputs.site i ≡ true = both (nat_eq (home job.plan i) a.inputs.site) (is_told job.plan i) (eq-eqb (home job.plan i) a.inputs.site at_home) o.1 in
+          let w = place_in job.plan.flat.order i (ok.ordered.all_flows i o.0) in
+          let b = nat_lt w.0 (passed_to a) in
+          let m = a.instant + add_if (nat_lt a.instant job.inputs.instants && b) in
+          let r : IsRow job i a.logs.items m = subst (λ (j : ℕ). IsRow job j a.logs.items m) w.2 (logged w.0 w.1 (subst (λ (j : ℕ). is_wanted job a.inputs.site j ≡ true) (sym w.2) wanted)) in
+          let xs_is : xs ≡ r.row.items = log i out ∙ ap (λ (t : Bool). cond t (row_items (slice_get a.logs.items i)) []) wanted ∙ ap row_items r.there in
+          let known : IsFirst job i xs m = ap (map Known) xs_is ∙ r.known in
+          record {
+            begun = (m, within_all a.instant job.inputs.instants b st.instant_le, known);
+            whole = λ n free. elim (bool_cases (is_faulted a)) [
+              | inl bad ↦ absurd ((st.stopped bad).1 free)
+              | inr go ↦
+                  let t = at_end a (going a set st go) (ready go) n in
+                  let z = none_late a.instant job.inputs.instants b (omega arith) in
+                  subst (IsFirst job i xs) (let q : m ≡ job.inputs.instants = omega (arith, z, t) in q) known
+            ];
+          };
+      elsewhere = λ i out away.
+          let off : is_wanted job a.inputs.site i ≡ false = ap (λ (b : Bool). b && is_told job.plan i) (ne_eqb (home job.plan i) a.inputs.site away) in
+          log i out ∙ ap (λ (t : Bool). cond t (row_items (slice_get a.logs.items i)) []) off;
+    }

@@ -1,0 +1,4 @@
+pub mod Programs
+pub mod Machine
+pub mod Logs
+pub mod Sites

@@ -1,0 +1,85 @@
+-- The statuses of a site's outputs, as far as they were passed.
+use Rattle.std.specs.Prelude.{◌≡◌, ℕ, ◌+◌, ◌<◌, ◌≤◌, Bool, true, not, ◌&&◌, nat_eq, nat_lt, cond, List, [], ◌∷◌, ◌++◌, length, map, Option, Some, None, slice_get, slice_set, slice_index, vec_capacity, Vec}
+use Rattle.std.specs.declared.alloc.Global.{Global}
+use Rattle.luflow.specs.declared.data.Status.{Status}
+use Rattle.luflow.specs.Streams.{Known}
+use Rattle.luflow.specs.Messages.{marks}
+use Rattle.luworld.specs.Needs.{home}
+use Rattle.luworld.specs.Runs.{Run, script, HasNoStop, is_told, outputs_of, streams_of}
+use Rattle.lusite.specs.declared.desk.Desk.{Desk}
+use Rattle.lusite.specs.Programs.{part_at}
+use Rattle.lusite.specs.Machine.{is_faulted}
+
+abbrev pub add_if : Bool → ℕ
+add_if b = cond b 1 0
+
+-- the log of one flow
+abbrev pub Log : Type 0
+Log = Vec Status Global
+
+-- the statuses are the first m of flow i, and none of them is broken
+abbrev pub IsFirst : Run → ℕ → List Status → ℕ → Type 0
+IsFirst job i xs m = map Known xs ≡ marks (streams_of job i) m
+
+-- a beginning of flow i's statuses before its first broken one; all of them
+abbrev pub IsBegun : Run → ℕ → List Status → Type 0
+IsBegun job i xs = (m : ℕ) × (m ≤ job.inputs.instants) × IsFirst job i xs m
+
+abbrev pub IsWhole : Run → ℕ → List Status → Type 0
+IsWhole job i xs = IsFirst job i xs job.inputs.instants
+
+-- what site s, with n items done, tells of the output that is flow i
+pub record IsTold (job : Run) (s n i : ℕ) (xs : List Status) : Type 0 where
+  pub begun : IsBegun job i xs
+  pub whole : n ≡ length (script job (streams_of job) s) → HasNoStop job s → IsWhole job i xs
+
+-- output k at site s: told where the site is the output's home, and nothing elsewhere
+pub record IsOutput (job : Run) (s n k : ℕ) (xs : List Status) : Type 0 where
+  pub told : (i : ℕ) → slice_get (outputs_of job.plan) k ≡ Some i → home job.plan i ≡ s → IsTold job s n i xs
+  pub elsewhere : (i : ℕ) → slice_get (outputs_of job.plan) k ≡ Some i → (home job.plan i ≡ s → ⊥) → xs ≡ []
+
+-- whether a site reports a flow
+abbrev pub is_wanted : Run → ℕ → ℕ → Bool
+is_wanted job s i = nat_eq (home job.plan i) s && is_told job.plan i
+
+-- the log of flow i has its first m statuses, and room for all
+pub record IsRow (job : Run) (i : ℕ) (logs : List Log) (m : ℕ) : Type 0 where
+  pub row : Log
+  pub there : slice_get logs i ≡ Some row
+  pub known : IsFirst job i row.items m
+  pub room : job.inputs.instants ≤ vec_capacity row
+
+-- at instant t the flows of rank below e have one status more than those from e on
+abbrev pub IsLogged : Run → ℕ → List Log → ℕ → ℕ → Type 0
+IsLogged job s logs t e =
+    (q : ℕ) → q < length job.plan.flat.order → is_wanted job s (slice_index job.plan.flat.order q) ≡ true
+    → IsRow job (slice_index job.plan.flat.order q) logs (t + add_if (nat_lt t job.inputs.instants && nat_lt q e))
+
+-- the rank up to which a machine has passed the outputs: a present one is passed with its computation, an absent one with its flow
+abbrev pub passed_to : Desk → ℕ
+passed_to a = a.place + add_if (nat_lt 0 a.step && not (is_faulted a))
+
+abbrev pub IsLoggedAt : Desk → Type 0
+IsLoggedAt a = IsLogged a.inputs.job a.inputs.site a.logs.items a.instant (passed_to a)
+
+abbrev pub is_noted : Desk → ℕ → Bool
+is_noted a i = nat_lt a.instant a.inputs.job.inputs.instants && (part_at a.program i).told
+
+-- one status more in the log of flow i
+pub record IsNoted (logs : List Log) (i : ℕ) (x : Log) (status : Status) (logs' : List Log) : Type 0 where
+  pub row : Log
+  pub is : logs' ≡ slice_set logs i row
+  pub items : row.items ≡ x.items ++ status ∷ []
+  pub capacity : vec_capacity row ≡ vec_capacity x
+
+abbrev pub row_items : Option Log → List Status
+row_items None = []
+row_items (Some row) = row.items
+
+abbrev pub log_at : Desk → Option ℕ → List Status
+log_at a None = []
+log_at a (Some i) = cond (part_at a.program i).told (row_items (slice_get a.logs.items i)) []
+
+pub record IsNewRow (wanted : Bool) (instants : ℕ) (row : Log) : Type 0 where
+  pub empty : row.items ≡ []
+  pub room : wanted ≡ true → instants ≤ vec_capacity row

@@ -1,0 +1,21 @@
+//! The machine of one site: it offers exactly the next item of the site's script, and takes what it is given.
+//!
+//! - [`project`], [`SiteProgram`]: what of a plan a site runs.
+//! - [`Site`], [`Next`], [`Fault`]: the machine, what it does next, and how it fails.
+//! - [`SiteReport`], [`Standing`]: what a site leaves.
+#![tactic(auto)]
+
+mod desk;
+mod logs;
+mod next;
+mod program;
+mod projecting;
+mod report;
+mod site;
+
+pub use luflow::{Body, Datum, Msg, Status};
+pub use next::{Fault, LinkNo, Next};
+pub use program::SiteProgram;
+pub use projecting::project;
+pub use report::{SiteReport, Standing};
+pub use site::Site;

@@ -1,0 +1,79 @@
+//! What a site leaves.
+
+ghost use Rattle.std.specs.Prelude.{◌≡◌, true};
+ghost use Rattle.lusite.specs.Logs.{IsOutput};
+ghost use Rattle.lusite.specs.Machine.{IsNext, IsStanding};
+
+use crate::next::{Fault, Next};
+use crate::site::Site;
+use luflow::Status;
+use std::marker::Model;
+
+/// How a site stands.
+#[derive(Clone, Copy, Debug, Drop, PartialEq, Eq)]
+pub enum Standing {
+    /// Its script is done, and nothing of it was a fault.
+    Ended,
+    /// Its last computation was this fault.
+    Faulted(Fault),
+    /// It was left before the end of its script.
+    Cut,
+}
+
+/// What a site leaves: how it stands, and its outputs so far. A contract sees what it saw of the site.
+#[derive(Drop)]
+pub struct SiteReport {
+    site: Site,
+}
+
+impl Model for SiteReport {
+    ghost use Rattle.lusite.specs.Sites.{SiteAt};
+
+    ghost Value = { SiteAt };
+
+    ghost view = { λ a. a.site };
+}
+
+/// Whether a site has ended.
+fn has_ended(site: &Site) -> bool
+    ensures only { result ≡ true → IsNext site.now.job site.now.site site.now.done Next.Ended }
+    ensures all { IsNext site.now.job site.now.site site.now.done Next.Ended → result ≡ true }
+{
+    match site.next() {
+        Next::Ended => true,
+        Next::Faulted => false,
+        Next::Local => false,
+        Next::Take(_) => false,
+        Next::Put(_, _) => false,
+    }
+}
+
+impl Site {
+    /// What the site leaves, wherever it stands. Takes no memory.
+    pub fn report(self) -> SiteReport
+        ensures { result ≡ self }
+    {
+        SiteReport { site: self }
+    }
+}
+
+impl SiteReport {
+    /// How the site stands: ended or faulted exactly where its `next` said so, else cut. Takes no memory.
+    pub fn standing(&self) -> Standing
+        ensures { IsStanding self.now.job self.now.site self.now.done result }
+    {
+        match self.site.fault() {
+            Some(fault) => Standing::Faulted(fault),
+            None if has_ended(&self.site) => Standing::Ended,
+            None => Standing::Cut,
+        }
+    }
+
+    /// Output k as far as the site passed it: a beginning of its statuses, and all of them where the site has ended; empty
+    /// where another site reports it. Takes no memory.
+    pub fn outputs(&self, k: usize) -> &[Status]
+        ensures { IsOutput self.now.job self.now.site self.now.done k result.now }
+    {
+        self.site.outputs(k)
+    }
+}

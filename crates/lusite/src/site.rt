@@ -1,0 +1,159 @@
+//! The machine of one site.
+
+ghost use Rattle.std.specs.Prelude.{◌≡◌, ◌↔◌, ℕ, ◌+◌, ◌<◌, ◌≤◌, IfOk, IfSome, IsSome, List, length, Some, slice_get};
+ghost use Rattle.luworld.specs.Runs.{IsJob};
+ghost use Rattle.lusite.specs.Logs.{IsOutput, IsNewRow, Log};
+ghost use Rattle.lusite.specs.Machine.{IsNext, IsLocalNext, IsPutNext, IsTakeNext, IsFaultAt};
+ghost use Rattle.lusite.specs.Programs.{part_at};
+
+use crate::desk::Desk;
+use crate::next::{Fault, Next};
+use crate::program::SiteProgram;
+use lueval::Past;
+use luflow::{Datum, Msg, Status};
+use luplace::SiteInputs;
+use std::alloc::{AllocError, Global};
+use std::marker::Model;
+
+/// The machine of one site. A contract sees its job, its site, and how many items of the site's script are done.
+#[derive(Drop)]
+pub struct Site {
+    desk: Desk,
+}
+
+impl Model for Site {
+    ghost use Rattle.lusite.specs.Sites.{SiteAt, site_at, IsSite};
+
+    ghost Value = { SiteAt };
+
+    ghost view = { λ a. site_at a.desk };
+
+    ghost invariant = { λ a. IsSite a.desk };
+}
+
+fn new_row(alloc: Global, wanted: bool, instants: u32) -> Result<Vec<Status>, AllocError>
+    ensures { IfOk result (λ x. IsNewRow wanted instants x) }
+{
+    let room = if wanted { instants as usize } else { 0 };
+    Ok(Vec::with_capacity(alloc, room)?)
+}
+
+/// Empty logs with room for all statuses of the site's outputs.
+fn new_logs(
+    alloc: Global,
+    program: &SiteProgram,
+    flows: usize,
+    instants: u32,
+) -> Result<Vec<Vec<Status>>, AllocError>
+    ensures len { IfOk result (λ x. length x.items ≡ flows) }
+    ensures each { IfOk result (λ x. (i : ℕ) (y : Log) → slice_get x.items i ≡ Some y → IsNewRow (part_at program.now i).told instants y) }
+{
+    let mut logs = Vec::with_capacity(alloc, flows)?;
+    for i in 0..flows {
+        let row = new_row(alloc, program.told(i), instants)?;
+        logs.push_reserved(row);
+    }
+    Ok(logs)
+}
+
+impl Site {
+    /// The site's machine at the start of its script, from the site's program and its own columns alone. It makes all
+    /// growths of the run.
+    pub fn new(alloc: Global, program: SiteProgram, inputs: SiteInputs) -> Result<Site, AllocError>
+        requires plan_is { program.plan ≡ inputs.job.plan }
+        requires site_is { program.site ≡ inputs.site }
+        ensures job { IfOk result (λ x. x.job ≡ inputs.job) }
+        ensures site { IfOk result (λ x. x.site ≡ inputs.site) }
+        ensures done { IfOk result (λ x. x.done ≡ 0) }
+    {
+        let flows = program.flows().len();
+        let shown = Vec::from_elem(alloc, Status::Absent, flows)?;
+        let start = Past {
+            last: Datum::Nil,
+            ticked: false,
+            count: 0,
+        };
+        let pasts = Vec::from_elem(alloc, start, flows)?;
+        let logs = new_logs(alloc, &program, flows, inputs.instants())?;
+        let mut desk = Desk {
+            program,
+            inputs,
+            shown,
+            pasts,
+            logs,
+            instant: 0,
+            place: 0,
+            step: 0,
+            fault: None,
+        };
+        desk.settle();
+        Ok(Site { desk })
+    }
+
+    /// The number of instants, 0 to 1,000,000. Takes no memory.
+    pub fn instants(&self) -> u32
+        ensures instants { result ≡ self.now.job.inputs.instants }
+        ensures job { IsJob self.now.job }
+    {
+        self.desk.inputs.instants()
+    }
+
+    /// Exactly the next item of the site's script; at its end whether it ended or faulted. Takes no memory.
+    pub fn next(&self) -> Next
+        ensures { IsNext self.now.job self.now.site self.now.done result }
+    {
+        self.desk.offer()
+    }
+
+    /// Output k so far: a beginning of its statuses before its first broken one, and all of them where the site has ended;
+    /// empty where another site reports it. A present status is told with its computation. Takes no memory.
+    pub fn outputs(&self, k: usize) -> &[Status]
+        ensures { IsOutput self.now.job self.now.site self.now.done k result.now }
+    {
+        self.desk.output(k)
+    }
+
+    /// The fault of the site's last computation, which is one of the program's solution; there is one exactly where
+    /// `next` is `Faulted`. Takes no memory.
+    pub fn fault(&self) -> Option<Fault>
+        ensures is_fault { IfSome result (IsFaultAt self.now.job self.now.site) }
+        ensures when { IsSome result ↔ IsNext self.now.job self.now.site self.now.done Next.Faulted }
+    {
+        self.desk.fault
+    }
+
+    /// Computes the flow at hand.
+    pub fn work(&mut self)
+        requires { IsLocalNext self.old.job self.old.site self.old.done }
+        ensures job { self.new.job ≡ self.old.job }
+        ensures site { self.new.site ≡ self.old.site }
+        ensures done { self.new.done ≡ self.old.done + 1 }
+    {
+        self.desk.work();
+        if self.desk.fault.is_none() {
+            self.desk.settle();
+        }
+    }
+
+    /// The put at hand is done.
+    pub fn sent(&mut self)
+        requires { IsPutNext self.old.job self.old.site self.old.done }
+        ensures job { self.new.job ≡ self.old.job }
+        ensures site { self.new.site ≡ self.old.site }
+        ensures done { self.new.done ≡ self.old.done + 1 }
+    {
+        self.desk.sent();
+        self.desk.settle();
+    }
+
+    /// The take at hand gave this message, the next of its link.
+    pub fn given(&mut self, msg: Msg)
+        requires { IsTakeNext self.old.job self.old.site self.old.done msg }
+        ensures job { self.new.job ≡ self.old.job }
+        ensures site { self.new.site ≡ self.old.site }
+        ensures done { self.new.done ≡ self.old.done + 1 }
+    {
+        self.desk.given_message(msg);
+        self.desk.settle();
+    }
+}

@@ -1,0 +1,9 @@
+//! The meaning of programs as they are written: streams for the variables' names, and equations between them.
+//!
+//! - `specs/Source.antt`: the synchronous solutions of a program, for the whole language.
+//! - `specs/Agreement.antt`: when a flat program means what its source means.
+//! - `specs/First.antt`: which programs are accepted now.
+//! - [`laws`]: worked programs.
+#![tactic(auto)]
+
+pub mod laws;

@@ -1,0 +1,102 @@
+-- Programs without where they lie in memory and without places in a text.
+use Rattle.std.specs.Prelude.{ℕ, Bool, List, [], ◌∷◌, map, Option}
+use Rattle.lutree.specs.declared.expr.Prefix.{Prefix}
+use Rattle.lutree.specs.declared.expr.Infix.{Infix}
+use Rattle.lutree.specs.declared.expr.Condition.{Condition}
+use Rattle.lutree.specs.declared.expr.Expr.{Expr, fold-Expr}
+use Rattle.lutree.specs.declared.expr.Expr.TheOpen.{Expr-F}
+use Rattle.lutree.specs.declared.program.Kind.{Kind}
+use Rattle.lutree.specs.declared.program.Declaration.{Declaration}
+use Rattle.lutree.specs.declared.program.Equation.{Equation}
+use Rattle.lutree.specs.declared.program.Node.{Node}
+use Rattle.lutree.specs.declared.program.Program.{Program}
+
+-- An expression; a name is its bytes. `choice` is `if`, `truth` is `true` or `false`.
+mutual
+  pub data Tree : Type 0 where
+    number : ℕ → Tree
+    truth : Bool → Tree
+    variable : List ℕ → Tree
+    unary : Prefix → Tree → Tree
+    binary : Infix → Tree → Tree → Tree
+    choice : Tree → Tree → Tree → Tree
+    when : Tree → Condition → Tree
+    current : List ℕ → Tree
+    merge : List ℕ → Tree → Tree → Tree
+    call : List ℕ → Trees → Tree
+
+  -- the arguments of a call
+  pub data Trees : Type 0 where
+    none : Trees
+    more : Tree → Trees → Trees
+
+abbrev pub trees_of : List Tree → Trees
+trees_of [] = none
+trees_of (x ∷ xs) = more x (trees_of xs)
+
+abbrev pub list_of : Trees → List Tree
+list_of none = []
+list_of (more x xs) = x ∷ list_of xs
+
+-- a declared variable, its type and its clock
+pub record DeclarationTree : Type 0 where
+  pub name : List ℕ
+  pub kind : Kind
+  pub clock : Option Condition
+
+-- the defined variables and the right side
+pub record EquationTree : Type 0 where
+  pub left : List (List ℕ)
+  pub right : Tree
+
+pub record NodeTree : Type 0 where
+  pub name : List ℕ
+  pub inputs : List DeclarationTree
+  pub outputs : List DeclarationTree
+  pub locals : List DeclarationTree
+  pub equations : List EquationTree
+
+abbrev pub ProgramTree : Type 0
+ProgramTree = List NodeTree
+
+-- one level of an expression, with its operands already seen as trees
+abbrev pub view_step : Expr-F Tree → Tree
+view_step (Expr-F.Number n) = number n
+view_step (Expr-F.Truth b) = truth b
+view_step (Expr-F.Variable x) = variable x
+view_step (Expr-F.Unary op a) = unary op a.value
+view_step (Expr-F.Binary op a b) = binary op a.value b.value
+view_step (Expr-F.If a b c) = choice a.value b.value c.value
+view_step (Expr-F.When a c) = when a.value c
+view_step (Expr-F.Current x) = current x
+view_step (Expr-F.Merge c a b) = merge c a.value b.value
+view_step (Expr-F.Call f arguments) = call f (trees_of arguments.items)
+
+-- what an expression in memory is
+abbrev pub view : Expr → Tree
+view = fold-Expr Tree view_step
+
+abbrev pub views : List Expr → List Tree
+views = map view
+
+abbrev pub declaration_view : Declaration → DeclarationTree
+declaration_view d = record { name = d.name; kind = d.kind; clock = d.clock }
+
+abbrev pub declarations_view : List Declaration → List DeclarationTree
+declarations_view = map declaration_view
+
+abbrev pub equation_view : Equation → EquationTree
+equation_view e = record { left = e.left; right = view e.right }
+
+abbrev pub node_view : Node → NodeTree
+node_view n = record {
+  name = n.name;
+  inputs = declarations_view n.inputs;
+  outputs = declarations_view n.outputs;
+  locals = declarations_view n.locals;
+  equations = map equation_view n.equations;
+}
+
+-- what a program in memory is
+abbrev pub program_view : Program → ProgramTree
+program_view p = map node_view p.nodes

@@ -1,0 +1,99 @@
+//! Expressions.
+
+use lulist::Name;
+
+/// An operator on data that stands before its one operand.
+#[derive(Clone, Copy, Debug, PartialEq, Eq)]
+pub enum UnaryOperator {
+    /// `-`
+    Minus,
+    /// `not`
+    Not,
+}
+
+/// An operator on data that stands between its two operands.
+#[derive(Clone, Copy, Debug, PartialEq, Eq)]
+pub enum BinaryOperator {
+    /// `+`
+    Add,
+    /// `-`
+    Subtract,
+    /// `*`
+    Multiply,
+    /// `div`
+    Divide,
+    /// `mod`
+    Modulo,
+    /// `<`
+    Less,
+    /// `<=`
+    LessEqual,
+    /// `>`
+    Greater,
+    /// `>=`
+    GreaterEqual,
+    /// `=`
+    Equal,
+    /// `<>`
+    Unequal,
+    /// `and`
+    And,
+    /// `or`
+    Or,
+    /// `xor`
+    Xor,
+    /// `=>`
+    Implies,
+}
+
+/// What stands before an operand.
+#[derive(Clone, Copy, Debug, PartialEq, Eq)]
+pub enum Prefix {
+    /// An operator on data, applied at each instant.
+    Data(UnaryOperator),
+    /// `pre`: the value before.
+    Pre,
+}
+
+/// What stands between two operands.
+#[derive(Clone, Copy, Debug, PartialEq, Eq)]
+pub enum Infix {
+    /// An operator on data, applied at each instant.
+    Data(BinaryOperator),
+    /// `->`: the left operand at first, the right one from then on.
+    Arrow,
+    /// `fby`: the left operand at first, from then on the right one's value before.
+    FollowedBy,
+}
+
+/// A clock: the variable `c` with the sign `true` is written `c`, with `false` it is written `not c`.
+#[derive(Debug, Drop)]
+pub struct Condition {
+    pub variable: Name,
+    pub sign: bool,
+}
+
+/// An expression, without the parentheses of its text.
+#[derive(Debug, Drop)]
+pub enum Expr {
+    /// A number, at most 9223372036854775807 where it was read from a text.
+    Number(u64),
+    /// `true` or `false`.
+    Truth(bool),
+    /// A variable.
+    Variable(Name),
+    /// An operand after what stands before it.
+    Unary(Prefix, Box<Expr>),
+    /// Two operands and what stands between them.
+    Binary(Infix, Box<Expr>, Box<Expr>),
+    /// `if a then b else c`
+    If(Box<Expr>, Box<Expr>, Box<Expr>),
+    /// `e when c` or `e when not c`
+    When(Box<Expr>, Condition),
+    /// `current v`
+    Current(Name),
+    /// `merge c (true -> a) (false -> b)`
+    Merge(Name, Box<Expr>, Box<Expr>),
+    /// `f(a, b)`
+    Call(Name, Vec<Expr>),
+}

@@ -1,0 +1,4 @@
+pub mod LineLemmas
+pub mod Finding
+pub mod Judging
+pub mod Building

@@ -1,0 +1,5 @@
+pub mod Names
+pub mod Parts
+pub mod Spots
+pub mod Faults
+pub mod Built

@@ -1,0 +1,23 @@
+//! The checks of names.
+//!
+//! - [`names`]: whether the names of a program are in order, or a [`StatError`].
+//! - [`Typed`]: a program whose names are in order, with the name of its main node.
+//! - [`lines_in`], [`parts_of`], [`Parts`]: what equations consist of.
+//!
+//! Which programs have their names in order is said by `IsFirstProgram`; which rule a refusal says to be broken stands in
+//! `specs/Faults.antt`.
+#![tactic(auto)]
+
+mod error;
+mod naming;
+mod parts;
+mod spots;
+mod typed;
+
+#[cfg(test)]
+mod tests;
+
+pub use error::StatError;
+pub use naming::names;
+pub use parts::{Parts, lines_in, parts_of};
+pub use typed::Typed;

@@ -1,0 +1,118 @@
+-- Where all sites have ended no flow breaks.
+use Rattle.std.proofs.Common.{◌≡◌, ℕ, zero, suc, ◌<◌, inl, inr, Bool, true, false, cond, List, [], ◌∷◌, length, take, get_or, Option, Some, refl, sym, ap, ◌∙◌, subst, arith, nat_lt}
+use Rattle.std.specs.Prelude.{slice_get, slice_index, All, Contains, not}
+use Rattle.std.proofs.lemmas.List.Elements.{All-get_or}
+use Rattle.std.proofs.lemmas.Option.{slice_get_within, slice_get-get_or}
+use Rattle.std.proofs.lemmas.Bool.{cases_eq, false≢true}
+use Rattle.std.proofs.lemmas.List.{length-map}
+use Rattle.luflow.specs.declared.data.Datum.TheVariants.{Int, Bool as Truth, Nil}
+use Rattle.luflow.specs.declared.data.Status.{Status}
+use Rattle.luflow.specs.declared.data.Status.TheVariants.{Absent, Present}
+use Rattle.luflow.specs.declared.form.Clock.{Clock}
+use Rattle.luflow.specs.declared.form.Clock.TheVariants.{Base, On}
+use Rattle.luflow.specs.declared.form.Outcome.{Outcome}
+use Rattle.luflow.specs.Program.{Table, flow_at, form_reads, clock_reads}
+use Rattle.luflow.specs.Streams.{Mark, Known, Broken, Streams, is_broken, truth_in, clock_at}
+use Rattle.luflow.specs.Values.{value_at, under}
+use Rattle.luflow.specs.Solution.{clock_of_flow}
+use Rattle.luflow.proofs.Solutions.{some_at, place_of, place_in, all_right}
+use Rattle.luworld.specs.Needs.{sites_of, home}
+use Rattle.luworld.specs.Runs.{Run, IsJob, streams_of, script, HasNoStop, outline, is_open, NoFault, outputs_of}
+use Rattle.luworld.proofs.Ended.{ended_sound}
+use Rattle.luworld.proofs.Outlines.{says_there, broken_is}
+use Rattle.lusite.specs.Sites.{SiteAt}
+use Rattle.lusite.specs.Logs.{IsBegun, IsWhole, IsOutput}
+use Rattle.lusite.proofs.Machine.{there}
+use Rattle.luweave.specs.declared.lane.Lane.{Lane}
+use Rattle.luweave.specs.Worlds.{IsWorld, IsDone, IsCollected, IsToldBySome, OneTells, NoneTells, AllEnded, dones_of}
+use Rattle.luweave.proofs.Worlds.{done_at}
+
+truth_known : (sign : Bool) (m : Mark) → is_broken m ≡ false → (b : Bool) × (truth_in sign m ≡ Some b)
+truth_known sign Broken e = absurd (false≢true (sym e))
+truth_known sign (Known Absent) e = (false, refl)
+truth_known sign (Known (Present Nil)) e = (false, refl)
+truth_known sign (Known (Present (Int n))) e = (false, refl)
+truth_known sign (Known (Present (Truth b))) e = (cond sign b (not b), refl)
+
+clock_known : (inputs : Table) (σ : Streams) (clock : Clock) (t : ℕ) → All (λ r. is_broken (σ r t) ≡ false) (clock_reads clock) → (b : Bool) × (clock_at inputs σ clock t ≡ Some b)
+clock_known inputs σ Base t h = (nat_lt t inputs.instants, refl)
+clock_known inputs σ (On c sign) t h = truth_known sign (σ c t) (All-get_or (λ r. is_broken (σ r t) ≡ false) (c ∷ []) 0 c (omega arith) h)
+
+sound_under : (b : Bool) (k : Option Bool) (v : Outcome) (m : Mark) → k ≡ Some b → m ≡ under k v → (b ≡ true → is_broken m ≡ false) → is_broken m ≡ false
+sound_under true k v m ek em h = h refl
+sound_under false k v m ek em h = ap is_broken (em ∙ ap (λ x. under x v) ek)
+
+module _ (job : Run) (ok : IsJob job) (dones : List ℕ) (all : AllEnded job dones) where
+  -- a flow whose clock is true isn't broken, since its site has ended
+  shown_sound : (p t : ℕ) → p < length job.plan.flat.order → t < job.inputs.instants → clock_of_flow job.inputs (streams_of job) (flow_at job.plan.flat (slice_index job.plan.flat.order p)) t ≡ Some true → is_broken (streams_of job (slice_index job.plan.flat.order p) t) ≡ false
+  shown_sound p t lp lt open' =
+      let i = slice_index job.plan.flat.order p in
+      let h = home job.plan i in
+      let e = ended_sound (outline job (streams_of job)) dones h (all h (ok.is_plan.homes i)) p i t (slice_get-get_or job.plan.flat.order p 0 lp) lt (ok.is_plan.stands_home i (there job 0 ok p lp).2) (ap is_open open') in
+      sym (broken_is job ok i t (there job 0 ok p lp).2 lt) ∙ e
+
+  sound_below : (n p t : ℕ) → p < n → p < length job.plan.flat.order → t < job.inputs.instants → is_broken (streams_of job (slice_index job.plan.flat.order p) t) ≡ false
+  sound_below zero p t l lp lt = absurd (omega arith)
+  sound_below (suc n) p t l lp lt =
+      let i = slice_index job.plan.flat.order p in
+      let f = there job 0 ok p lp in
+      let s = says_there job ok i t f.2 lt in
+      let first = all_right (λ r. Contains (take p job.plan.flat.order) r) (form_reads s.0.form) (clock_reads s.0.clock) (ok.is_plan.ordered.reads_first p s.0 lp s.1) in
+      let sound : All (λ r. is_broken (streams_of job r t) ≡ false) (clock_reads s.0.clock) = λ k d lk.
+      let w = place_of job.plan.flat.order p (get_or (clock_reads s.0.clock) k d) (first k d lk) in
+      subst (λ (r : ℕ). is_broken (streams_of job r t) ≡ false) w.3 (sound_below n w.0 t (let a = w.1 in omega (arith, a, l)) w.2 lt) in
+      let b = clock_known job.inputs (streams_of job) s.0.clock t sound in
+      let k = ap (λ o. clock_of_flow job.inputs (streams_of job) o t) s.1 ∙ b.1 in
+      sound_under b.0 (clock_of_flow job.inputs (streams_of job) (flow_at job.plan.flat i) t) (value_at job.inputs (streams_of job) s.0.clock s.0.form t) (streams_of job i t) k s.2 (λ e. shown_sound p t lp lt (k ∙ ap Some e))
+
+  pub no_fault : NoFault job
+  no_fault i t li lt =
+      let w = place_in job.plan.flat.order i (ok.is_plan.ordered.all_flows i li) in
+      subst (λ (r : ℕ). is_broken (streams_of job r t) ≡ false) w.2 (sound_below (suc w.0) w.0 t (omega arith) w.1 lt)
+
+module _ (job : Run) (sites : List SiteAt) (lanes : List Lane) (capacity : ℕ) (w : IsWorld job sites lanes capacity) where
+  sites_len : length sites ≡ sites_of job.plan
+  sites_len = sym (length-map sites (λ (v : SiteAt). v.done)) ∙ w.good.long
+
+  pub done_all : ((s : ℕ) (v : SiteAt) → slice_get sites s ≡ Some v → IsDone v) → AllEnded job (dones_of sites)
+  done_all h s ls =
+      let v = some_at sites s (omega (arith, ls, sites_len)) in
+      let e = w.sites_are s v.0 v.1 in
+      let d = subst (λ (j : Run). (v.0.done ≡ length (script j (streams_of j) s)) × HasNoStop j s) e.0 (subst (λ (n : ℕ). (v.0.done ≡ length (script v.0.job (streams_of v.0.job) n)) × HasNoStop v.0.job n) e.1 (h s v.0 v.1)) in
+      record { whole = done_at sites s v.0 v.1 ∙ d.0; no_stop = d.1 }
+
+  pub all_done : AllEnded job (dones_of sites) → (s : ℕ) (v : SiteAt) → slice_get sites s ≡ Some v → IsDone v
+  all_done all s v at =
+      let e = w.sites_are s v at in
+      let x = all s (slice_in s v at) in
+      subst (λ (n : ℕ). (v.done ≡ length (script v.job (streams_of v.job) n)) × HasNoStop v.job n) (sym e.1) (subst (λ (j : Run). (v.done ≡ length (script j (streams_of j) s)) × HasNoStop j s) (sym e.0) (sym (done_at sites s v at) ∙ x.whole, x.no_stop))
+    where
+      slice_in : (s : ℕ) (v : SiteAt) → slice_get sites s ≡ Some v → s < sites_of job.plan
+      slice_in s v at = let l = slice_get_within sites s v at in omega (arith, l, sites_len)
+
+  -- what one of the sites tells is what the output's home tells
+  collected_at : (k s i : ℕ) (xs : List Status) (v : SiteAt) → slice_get sites s ≡ Some v → IsOutput v.job v.site v.done k xs → slice_get (outputs_of job.plan) k ≡ Some i → home job.plan i ≡ s → IsBegun job i xs × (AllEnded job (dones_of sites) → IsWhole job i xs)
+  collected_at k s i xs v at told out at_home =
+      let e = w.sites_are s v at in
+      let told' = subst (λ (j : Run). IsOutput j s v.done k xs) e.0 (subst (λ (n : ℕ). IsOutput v.job n v.done k xs) e.1 told) in
+      let t = told'.told i out at_home in
+      let ls : s < sites_of job.plan = let l = slice_get_within sites s v at in omega (arith, l, sites_len) in
+      (t.begun, λ all. let x = all s ls in t.whole (sym (done_at sites s v at) ∙ x.whole) x.no_stop)
+
+  not_empty : (xs : List Status) → 0 < length xs → xs ≡ [] → ⊥
+  not_empty xs l e = let n = ap length e in omega (arith, l, n)
+
+  pub collected : (k : ℕ) (xs : List Status) → IsToldBySome sites k xs → IsCollected job (dones_of sites) k xs
+  collected k xs (OneTells s ls some tells) i out =
+      let v = some_at sites s ls in
+      let e = w.sites_are s v.0 v.1 in
+      let told : IsOutput job s v.0.done k xs = subst (λ (j : Run). IsOutput j s v.0.done k xs) e.0 (subst (λ (n : ℕ). IsOutput v.0.job n v.0.done k xs) e.1 (tells v.0 v.1)) in
+      elim (cases_eq (home job.plan i) s) [
+        | inl at_home ↦ collected_at k s i xs v.0 v.1 (tells v.0 v.1) out at_home
+        | inr away ↦ absurd (not_empty xs some (told.elsewhere i out away))
+      ]
+  collected k xs (NoneTells empty tells) i out =
+      let h = home job.plan i in
+      let lh : h < length sites = let a = w.is_job.is_plan.homes i in omega (arith, a, sites_len) in
+      let v = some_at sites h lh in
+      collected_at k h i xs v.0 v.1 (subst (λ (ys : List Status). IsOutput v.0.job v.0.site v.0.done k ys) (sym empty) (tells h lh v.0 v.1)) out refl

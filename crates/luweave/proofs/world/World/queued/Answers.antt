@@ -1,0 +1,39 @@
+use Rattle.std.proofs.Common.{◌≡◌, ◌<◌, ◌≤◌, ◌++◌, List, length, sym, subst, take, drop}
+use Rattle.luworld.specs.Runs.{link_list, system_of, streams_of}
+use Rattle.luworld.specs.World.{put_count, taken_count}
+use Rattle.luflow.specs.declared.message.Msg.{Msg}
+use Rattle.luweave.specs.Worlds.{Progress, IsBeginning, dones_of}
+use Rattle.luweave.proofs.Worlds.{along, both_begin, lane_order, queued_view, queued_fits}
+use Rattle.luweave.proofs.world.World.queued.Goals as goal
+
+pub queued_at-requires-clause-order : goal.queued_at-requires-clause-order
+queued_at-requires-clause-order c =
+    let a = c.self.inside in
+    let j = a.first.value.job in
+    lane_order j a.sites.items a.lanes.items a.capacity c.self.invariant c.args.link
+
+pub returns-clause-exact : goal.returns-clause-exact
+returns-clause-exact c =
+    let a = c.self.inside in
+    let j = a.first.value.job in
+    let lt = subst (λ (x : Progress). c.args.link < length x.job.plan.links) (sym c.self.view_is) c.requires in
+    along (λ x. c.queued_at.result.now ≡ drop (taken_count (system_of x.job) x.dones c.args.link) (take (put_count (system_of x.job) x.dones c.args.link) (link_list x.job (streams_of x.job) c.args.link))) c.args.self.now (record { job = j; dones = dones_of a.sites.items }) c.self.view_is (queued_view j a.sites.items a.lanes.items a.capacity c.self.invariant c.args.link lt c.queued_at.result.now c.queued_at.ensures)
+
+pub returns-clause-within : goal.returns-clause-within
+returns-clause-within c =
+    let a = c.self.inside in
+    let j = a.first.value.job in
+    let lt = subst (λ (x : Progress). c.args.link < length x.job.plan.links) (sym c.self.view_is) c.requires in
+    along (λ x. length c.queued_at.result.now ≤ x.job.plan.capacity) c.args.self.now (record { job = j; dones = dones_of a.sites.items }) c.self.view_is (queued_fits j a.sites.items a.lanes.items a.capacity c.self.invariant c.args.link lt c.queued_at.result.now c.queued_at.ensures)
+
+pub returns-clause-follows : goal.returns-clause-follows
+returns-clause-follows c =
+    let a = c.self.inside in
+    let j = a.first.value.job in
+    let ds = dones_of a.sites.items in
+    let lt = subst (λ (x : Progress). c.args.link < length x.job.plan.links) (sym c.self.view_is) c.requires in
+    let e = queued_view j a.sites.items a.lanes.items a.capacity c.self.invariant c.args.link lt c.queued_at.result.now c.queued_at.ensures in
+    let n = taken_count (system_of j) ds c.args.link in
+    let list = link_list j (streams_of j) c.args.link in
+    along (λ x. IsBeginning (take (taken_count (system_of x.job) x.dones c.args.link) (link_list x.job (streams_of x.job) c.args.link) ++ c.queued_at.result.now) (link_list x.job (streams_of x.job) c.args.link)) c.args.self.now (record { job = j; dones = ds }) c.self.view_is
+    (subst (λ (xs : List Msg). IsBeginning (take n list ++ xs) list) (sym e) (both_begin n (put_count (system_of j) ds c.args.link) list (c.self.invariant.good.taken_put c.args.link)))

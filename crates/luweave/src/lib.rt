@@ -1,0 +1,12 @@
+//! The interleaving core: all sites of a job in one thread, by turns.
+//!
+//! - [`World`]: the sites and the links between them; [`Turn`]: what a turn does.
+//! - [`replay`]: a new world after the turns of a schedule.
+#![tactic(auto)]
+
+mod lane;
+mod world;
+
+pub use lusite::{LinkNo, Site};
+pub use luworld::Turn;
+pub use world::{World, replay};

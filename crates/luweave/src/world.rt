@@ -1,0 +1,341 @@
+//! All sites in one thread, by turns.
+ghost use Rattle.std.specs.Prelude.{◌≡◌, ℕ, ◌++◌, true, [], ◌+◌, ◌<◌, ◌≤◌, length, take, drop, slice_get, slice_set, slice_index, vec_capacity, List, Some, IfOk};
+ghost use Rattle.lusite.specs.Machine.{IsNext, IsLocalNext, IsPutNext, IsTakeNext};
+ghost use Rattle.lusite.specs.Sites.{SiteAt};
+ghost use Rattle.luweave.specs.declared.lane.Lane.{Lane};
+ghost use Rattle.luworld.specs.Runs.{link_list, streams_of};
+ghost use Rattle.luworld.specs.World.{done, turn, step, reached, put_count, taken_count, new_world};
+ghost use Rattle.luworld.specs.Runs.{system_of, IsJob};
+ghost use Rattle.luweave.specs.Worlds.{more, IsPutInto, IsTakeFrom, room_in, some_in, IsNewWorld, IsNewLane, IsUnstuck, IsDone, IsCollected, IsToldBySome, IsBeginning, AllEnded};
+ghost use Rattle.lusite.specs.Logs.{IsOutput};
+ghost use Rattle.luworld.specs.Runs.{NoFault};
+
+use crate::lane::Lane;
+use luflow::{Msg, Status};
+use luplace::Plan;
+use lusite::{LinkNo, Next, Site};
+use luworld::Turn;
+use std::alloc::{AllocError, Global};
+use std::marker::Model;
+use std::snapshot::Snapshot;
+
+/// All sites of a job and the links between them, in one thread. A contract sees the job, and how many items of its script
+/// each site has done.
+#[derive(Drop)]
+pub struct World {
+    sites: Vec<Site>,
+    lanes: Vec<Lane>,
+    capacity: usize,
+    first: Snapshot<Site>,
+}
+
+impl Model for World {
+    ghost use Rattle.luweave.specs.Worlds.{Progress, dones_of, IsWorld};
+
+    ghost Value = { Progress };
+
+    ghost view = { λ a. record { job = a.first.value.job; dones = dones_of a.sites.items } };
+
+    ghost invariant = { λ a. IsWorld a.first.value.job a.sites.items a.lanes.items a.capacity };
+}
+
+fn next_of(sites: &Vec<Site>, s: usize) -> Next
+    requires { s < length sites.now.items }
+    ensures { (v : SiteAt) → slice_get sites.now.items s ≡ Some v → IsNext v.job v.site v.done result }
+{
+    sites[s].next()
+}
+
+fn work_at(sites: &mut Vec<Site>, s: usize)
+    requires within { s < length sites.old.items }
+    requires next { (v : SiteAt) → slice_get sites.old.items s ≡ Some v → IsLocalNext v.job v.site v.done }
+    ensures { (v : SiteAt) → slice_get sites.old.items s ≡ Some v → sites.new.items ≡ slice_set sites.old.items s (more v) }
+{
+    let site = &mut sites[s];
+    site.work();
+}
+
+fn sent_at(sites: &mut Vec<Site>, s: usize)
+    requires within { s < length sites.old.items }
+    requires next { (v : SiteAt) → slice_get sites.old.items s ≡ Some v → IsPutNext v.job v.site v.done }
+    ensures { (v : SiteAt) → slice_get sites.old.items s ≡ Some v → sites.new.items ≡ slice_set sites.old.items s (more v) }
+{
+    let site = &mut sites[s];
+    site.sent();
+}
+
+fn given_at(sites: &mut Vec<Site>, s: usize, msg: Msg)
+    requires within { s < length sites.old.items }
+    requires next { (v : SiteAt) → slice_get sites.old.items s ≡ Some v → IsTakeNext v.job v.site v.done msg }
+    ensures { (v : SiteAt) → slice_get sites.old.items s ≡ Some v → sites.new.items ≡ slice_set sites.old.items s (more v) }
+{
+    let site = &mut sites[s];
+    site.given(msg);
+}
+
+fn put_at(lanes: &mut Vec<Lane>, l: usize, msg: Msg)
+    requires within { l < length lanes.old.items }
+    requires room { (x : Lane) → slice_get lanes.old.items l ≡ Some x → length x.put.items < vec_capacity x.put }
+    ensures { (x : Lane) → slice_get lanes.old.items l ≡ Some x → IsPutInto lanes.old.items l x msg lanes.new.items }
+{
+    let lane = &mut lanes[l];
+    lane.put(msg);
+}
+
+fn take_at(lanes: &mut Vec<Lane>, l: usize) -> Msg
+    requires within { l < length lanes.old.items }
+    requires some { (x : Lane) → slice_get lanes.old.items l ≡ Some x → x.taken < length x.put.items }
+    ensures { (x : Lane) → slice_get lanes.old.items l ≡ Some x → IsTakeFrom lanes.old.items l x result lanes.new.items }
+{
+    let lane = &mut lanes[l];
+    lane.take()
+}
+
+/// Whether the lane has room.
+fn has_room(lanes: &Vec<Lane>, l: usize, capacity: usize) -> bool
+    requires lens { (x : Lane) → slice_get lanes.now.items l ≡ Some x → x.taken ≤ length x.put.items }
+    ensures { result ≡ room_in lanes.now.items l capacity }
+{
+    if l < lanes.len() {
+        let lane = &lanes[l];
+        lane.put.len() - lane.taken < capacity
+    } else {
+        false
+    }
+}
+
+/// Whether a message waits.
+fn has_some(lanes: &Vec<Lane>, l: usize) -> bool
+    ensures { result ≡ some_in lanes.now.items l }
+{
+    if l < lanes.len() {
+        let lane = &lanes[l];
+        lane.taken < lane.put.len()
+    } else {
+        false
+    }
+}
+
+impl World {
+    /// One turn of a site: a computation, a put or a take. Blocked where the next item is a put into a full link or a take
+    /// from an empty one; Over where the site has ended or faulted, or the number is no site's; both change nothing. A
+    /// computation that faults is Moved. Takes no memory.
+    pub fn turn(&mut self, site: u8) -> Turn
+        ensures turn { result ≡ turn (system_of self.old.job) self.old.dones site }
+        ensures job { self.new.job ≡ self.old.job }
+        ensures dones { self.new.dones ≡ step (system_of self.old.job) self.old.dones site }
+    {
+        let s = site as usize;
+        if s >= self.sites.len() {
+            return Turn::Over;
+        }
+        match next_of(&self.sites, s) {
+            Next::Local => {
+                work_at(&mut self.sites, s);
+                Turn::Moved
+            }
+            Next::Put(l, msg) => {
+                if !has_room(&self.lanes, l, self.capacity) {
+                    return Turn::Blocked;
+                }
+                put_at(&mut self.lanes, l, msg);
+                sent_at(&mut self.sites, s);
+                Turn::Moved
+            }
+            Next::Take(l) => {
+                if !has_some(&self.lanes, l) {
+                    return Turn::Blocked;
+                }
+                let msg = take_at(&mut self.lanes, l);
+                given_at(&mut self.sites, s, msg);
+                Turn::Moved
+            }
+            Next::Ended => Turn::Over,
+            Next::Faulted => Turn::Over,
+        }
+    }
+}
+
+impl World {
+    /// What was taken from a link: a beginning of its list. Takes no memory.
+    pub fn taken(&self, link: LinkNo) -> &[Msg]
+        requires { link < length self.now.job.plan.links }
+        ensures exact { result.now ≡ take (taken_count (system_of self.now.job) self.now.dones link) (link_list self.now.job (streams_of self.now.job) link) }
+        ensures begins { IsBeginning result.now (link_list self.now.job (streams_of self.now.job) link) }
+    {
+        taken_at(&self.lanes, link)
+    }
+
+    /// What waits in a link, never more than its capacity: behind what was taken, it goes on with the link's list. Takes no
+    /// memory.
+    pub fn queued(&self, link: LinkNo) -> &[Msg]
+        requires { link < length self.now.job.plan.links }
+        ensures exact { result.now ≡ drop (taken_count (system_of self.now.job) self.now.dones link) (take (put_count (system_of self.now.job) self.now.dones link) (link_list self.now.job (streams_of self.now.job) link)) }
+        ensures within { length result.now ≤ self.now.job.plan.capacity }
+        ensures follows { IsBeginning (take (taken_count (system_of self.now.job) self.now.dones link) (link_list self.now.job (streams_of self.now.job) link) ++ result.now) (link_list self.now.job (streams_of self.now.job) link) }
+    {
+        queued_at(&self.lanes, link)
+    }
+
+    /// Without a fault all sites have ended or some turn moves, at any capacity and after any turns.
+    pub fn never_stuck(&self)
+        ensures { IsUnstuck self.now.job self.now.dones }
+    {
+        let _ = self.lanes.len();
+    }
+
+    /// A site of the world as it stands. Takes no memory.
+    pub fn site(&self, site: u8) -> &Site
+        requires { site < length self.now.dones }
+        ensures { result.now ≡ record { job = self.now.job; site = site; done = done self.now.dones site } }
+    {
+        site_in(&self.sites, site as usize)
+    }
+}
+
+fn site_in(sites: &Vec<Site>, s: usize) -> &Site
+    requires { s < length sites.now.items }
+    ensures { slice_get sites.now.items s ≡ Some result.now }
+{
+    &sites[s]
+}
+
+fn taken_at(lanes: &Vec<Lane>, l: usize) -> &[Msg]
+    requires within { l < length lanes.now.items }
+    requires order { (x : Lane) → slice_get lanes.now.items l ≡ Some x → x.taken ≤ length x.put.items }
+    ensures { (x : Lane) → slice_get lanes.now.items l ≡ Some x → result.now ≡ take x.taken x.put.items }
+{
+    lanes[l].taken()
+}
+
+fn queued_at(lanes: &Vec<Lane>, l: usize) -> &[Msg]
+    requires within { l < length lanes.now.items }
+    requires order { (x : Lane) → slice_get lanes.now.items l ≡ Some x → x.taken ≤ length x.put.items }
+    ensures { (x : Lane) → slice_get lanes.now.items l ≡ Some x → result.now ≡ drop x.taken x.put.items }
+{
+    lanes[l].queued()
+}
+
+/// Empty lanes with room for all messages of a run.
+fn new_lanes(alloc: Global, links: usize, room: u32) -> Result<Vec<Lane>, AllocError>
+    ensures len { IfOk result (λ x. length x.items ≡ links) }
+    ensures each { IfOk result (λ x. (l : ℕ) (y : Lane) → slice_get x.items l ≡ Some y → IsNewLane room y) }
+{
+    let mut lanes = Vec::with_capacity(alloc, links)?;
+    for _ in 0..links {
+        let put = Vec::with_capacity(alloc, room as usize + 1)?;
+        lanes.push_reserved(Lane { put, taken: 0 });
+    }
+    Ok(lanes)
+}
+
+fn instants_of(sites: &Vec<Site>) -> u32
+    requires { 0 < length sites.now.items }
+    ensures instants { (v : SiteAt) → slice_get sites.now.items 0 ≡ Some v → result ≡ v.job.inputs.instants }
+    ensures job { (v : SiteAt) → slice_get sites.now.items 0 ≡ Some v → IsJob v.job }
+{
+    sites[0].instants()
+}
+
+fn output_in(sites: &Vec<Site>, s: usize, k: usize) -> &[Status]
+    requires { s < length sites.now.items }
+    ensures { (v : SiteAt) → slice_get sites.now.items s ≡ Some v → IsOutput v.job v.site v.done k result.now }
+{
+    sites[s].outputs(k)
+}
+
+fn has_ended(sites: &Vec<Site>, s: usize) -> bool
+    requires { s < length sites.now.items }
+    ensures only { (v : SiteAt) → slice_get sites.now.items s ≡ Some v → result ≡ true → IsDone v }
+    ensures all { (v : SiteAt) → slice_get sites.now.items s ≡ Some v → IsDone v → result ≡ true }
+{
+    match next_of(sites, s) {
+        Next::Ended => true,
+        Next::Faulted => false,
+        Next::Local => false,
+        Next::Take(_) => false,
+        Next::Put(_, _) => false,
+    }
+}
+
+fn all_ended(sites: &Vec<Site>) -> bool
+    ensures only { result ≡ true → (s : ℕ) (v : SiteAt) → slice_get sites.now.items s ≡ Some v → IsDone v }
+    ensures all { ((s : ℕ) (v : SiteAt) → slice_get sites.now.items s ≡ Some v → IsDone v) → result ≡ true }
+{
+    for s in 0..sites.len() {
+        if !has_ended(sites, s) {
+            return false;
+        }
+    }
+    true
+}
+
+/// The statuses of output k that one of the sites tells.
+fn outputs_in(sites: &Vec<Site>, k: usize) -> &[Status]
+    ensures { IsToldBySome sites.now.items k result.now }
+{
+    for s in 0..sites.len() {
+        let told = output_in(sites, s, k);
+        if told.len() > 0 {
+            return told;
+        }
+    }
+    &[]
+}
+
+impl World {
+    /// Output k so far: a beginning of its statuses before its first broken one; the whole output where all sites have
+    /// ended. Takes no memory.
+    pub fn outputs(&self, k: usize) -> &[Status]
+        ensures { IsCollected self.now.job self.now.dones k result.now }
+    {
+        outputs_in(&self.sites, k)
+    }
+
+    /// Whether all sites have ended; then no flow breaks. Takes no memory.
+    pub fn ended(&self) -> bool
+        ensures only { result ≡ true → AllEnded self.now.job self.now.dones }
+        ensures all { AllEnded self.now.job self.now.dones → result ≡ true }
+        ensures sound { result ≡ true → NoFault self.now.job }
+    {
+        all_ended(&self.sites)
+    }
+
+    /// A world of new sites. It makes all growths of the run: each link has room for all its messages. The world isn't
+    /// handed the inputs.
+    pub fn new(alloc: Global, plan: &Plan, sites: Vec<Site>) -> Result<World, AllocError>
+        requires { IsNewWorld plan.now sites.items }
+        ensures job { IfOk result (λ x. (v : SiteAt) → slice_get sites.items 0 ≡ Some v → x.job ≡ v.job) }
+        ensures dones { IfOk result (λ x. x.dones ≡ new_world (system_of x.job)) }
+    {
+        let instants = instants_of(&sites);
+        let lanes = new_lanes(alloc, plan.links().len(), instants)?;
+        let first = Snapshot::of(&sites[0]);
+        Ok(World {
+            sites,
+            lanes,
+            capacity: plan.capacity() as usize,
+            first,
+        })
+    }
+}
+
+/// The world of new sites after the turns of a schedule, in order: a turn for each number, of the site of that number.
+pub fn replay(
+    alloc: Global,
+    plan: &Plan,
+    sites: Vec<Site>,
+    schedule: &[u8],
+) -> Result<World, AllocError>
+    requires { IsNewWorld plan.now sites.items }
+    ensures job { IfOk result (λ x. (v : SiteAt) → slice_get sites.items 0 ≡ Some v → x.job ≡ v.job) }
+    ensures dones { IfOk result (λ x. x.dones ≡ reached (system_of x.job) schedule.now) }
+    ensures unstuck { IfOk result (λ x. IsUnstuck x.job x.dones) }
+{
+    let mut world = World::new(alloc, plan, sites)?;
+    for site in schedule {
+        let _ = world.turn(*site);
+    }
+    world.never_stuck();
+    Ok(world)
+}

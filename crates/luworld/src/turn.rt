@@ -1,0 +1,12 @@
+//! Turns.
+
+/// What one turn of a site does.
+#[derive(Clone, Copy, Debug, Drop, PartialEq, Eq)]
+pub enum Turn {
+    /// The site did its next item: a computation, a put or a take.
+    Moved,
+    /// The next item is a put into a full link, or a take from an empty one. Nothing has changed.
+    Blocked,
+    /// The site has ended or faulted, or there is no such site. Nothing has changed.
+    Over,
+}
