@@ -47,18 +47,18 @@ module _ (names : List (List ℕ)) (lines : List Line) (named : AreNamed names (
       let len = length-map names var in
       let lt = slice_get_within names i x name in
       get_or_from_slice_get all i (var x) nothing
-          (get-front (map var names) (in_fours (inner_streams k var) (length names) lines) i (omega arith)
-              ∙ slice_get-map var names i
-              ∙ ap (option_map var) name)
+      (get-front (map var names) (in_fours (inner_streams k var) (length names) lines) i (omega arith)
+      ∙ slice_get-map var names i
+      ∙ ap (option_map var) name)
 
   at_inner : (j r : ℕ) (line : Line) (s : Stream) → slice_get lines j ≡ Some line → r < 4 → slice_get (inner_streams k var (length names + 4 * j) line) r ≡ Some s → made (length names + 4 * j + r) ≡ s
   at_inner j r line s there lt e =
       let z : length names + 4 * j + r ≡ length names + (4 * j + r) = omega arith in
       get_or_from_slice_get all (length names + 4 * j + r) s nothing
-          (ap (slice_get all) z
-              ∙ get-behind (map var names) (in_fours (inner_streams k var) (length names) lines) (length names) (4 * j + r) (length-map names var)
-              ∙ get-in_fours (inner_streams k var) (length names) lines j r line (λ s line. refl) there lt
-              ∙ e)
+      (ap (slice_get all) z
+      ∙ get-behind (map var names) (in_fours (inner_streams k var) (length names) lines) (length names) (4 * j + r) (length-map names var)
+      ∙ get-in_fours (inner_streams k var) (length names) lines j r line (λ s line. refl) there lt
+      ∙ e)
 
   pub made_solves : LinesHold k var lines → AreSolved names k made lines
   made_solves h j line there =
@@ -89,9 +89,9 @@ solves_lines names lines k τ h j line there =
     s.root
     ∙ ap (λ a. arrow_stream k a (τ (length names + 4 * j + 3))) s.first
     ∙ ap (λ b. arrow_stream k (constant_stream (Int (pos line.first)) k) b)
-        (s.sum
-            ∙ ap (λ a. binary_stream Add k a (τ (length names + 4 * j + 2))) s.before
-            ∙ ap (λ b. binary_stream Add k (pre_stream k (τ (place_of names line.from))) b) s.step)
+    (s.sum
+    ∙ ap (λ a. binary_stream Add k a (τ (length names + 4 * j + 2))) s.before
+    ∙ ap (λ b. binary_stream Add k (pre_stream k (τ (place_of names line.from))) b) s.step)
 
 abbrev source_of : Named → SourceStreams
 source_of var [] = var
@@ -113,17 +113,19 @@ module _ (program : ProgramTree) (main : List ℕ) (first : IsFirstProgram progr
   to_flat : (σ : SourceStreams) → IsSourceSolution program main inputs σ → (τ : Streams) × IsSolution flat inputs τ × SameOnVariables flat τ σ
   to_flat σ sol =
       let h = source_to program main first inputs σ sol in
-      let k = base_clock inputs in
-      (made names lines first.names k (σ []),
-       flat_from names lines flat is_laid inputs (made names lines first.names k (σ [])) (made_solves names lines first.names k (σ []) h),
-       λ v x there. at_variable names lines first.names k (σ []) v x.name (name_of v x there))
+      let k = base_clock inputs in (
+        made names lines first.names k (σ []),
+        flat_from names lines flat is_laid inputs (made names lines first.names k (σ [])) (made_solves names lines first.names k (σ []) h),
+        λ v x there. at_variable names lines first.names k (σ []) v x.name (name_of v x there),
+      )
 
   to_source : (τ : Streams) → IsSolution flat inputs τ → (σ : SourceStreams) × IsSourceSolution program main inputs σ × SameOnVariables flat τ σ
   to_source τ sol =
-      let h = flat_to names lines flat is_laid inputs τ sol in
-      (source_of (named_by names τ),
-       source_from program main first inputs (source_of (named_by names τ)) (solves_lines names lines (base_clock inputs) τ h),
-       λ v x there. ap τ (sym (place_of-at names x.name v first.names.distinct (name_of v x there))))
+      let h = flat_to names lines flat is_laid inputs τ sol in (
+        source_of (named_by names τ),
+        source_from program main first inputs (source_of (named_by names τ)) (solves_lines names lines (base_clock inputs) τ h),
+        λ v x there. ap τ (sym (place_of-at names x.name v first.names.distinct (name_of v x there))),
+      )
 
   pub agrees : Agrees program main inputs flat
   agrees = record { to_flat = to_flat; to_source = to_source }

@@ -68,4 +68,3 @@ length-so_far f s n i base items lines four e len le =
 pub line_all : (P : Line → Type 0) (lines : List Parts) (i : ℕ) (x : Parts) → All P (lines_of lines) → i < length lines → x ≡ get_or lines i x → P (line_of x)
 line_all P lines i x all lt e =
     all_at P (lines_of lines) i (line_of x) all (slice_get-map line_of lines i ∙ ap (option_map line_of) (slice_get_read lines (length lines) i x refl lt e))
-

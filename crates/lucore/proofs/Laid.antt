@@ -151,11 +151,11 @@ module _ (names : List (List ℕ)) (lines : List Line) (named : AreNamed names (
   spots i lt =
       let c = count in
       ⊎_elim
-          (λ (a : i < length names). spot_root i a)
-          (λ (b : length names ≤ i).
-              let at = any_line ((i - length names) / 4) (omega arith) in
-              spot_inner i b (omega arith) at.0 at.1)
-          (cases_lt i (length names))
+      (λ (a : i < length names). spot_root i a)
+      (λ (b : length names ≤ i).
+      let at = any_line ((i - length names) / 4) (omega arith) in
+      spot_inner i b (omega arith) at.0 at.1)
+      (cases_lt i (length names))
 
   pub laid : Laid names lines (laid_flows names lines)
   laid = record { count = count; stands = stands; spots = spots }

@@ -94,24 +94,24 @@ module _ (program : ProgramTree) (main : List ℕ) (first : IsFirstProgram progr
       let given = given_streams inputs in
       let h = subst (λ o. If o (λ node. InstanceHolds program node k given (σ []) (λ i. σ (i ∷ [])))) found (sol []) in
       hold_to program node k (σ []) (λ i. σ (i ∷ [])) plain lines 0
-          (subst (λ qs. EquationsHold program node k (σ []) (λ i. σ (i ∷ [])) qs 0) first.shape.equations h.equations)
+      (subst (λ qs. EquationsHold program node k (σ []) (λ i. σ (i ∷ [])) qs 0) first.shape.equations h.equations)
 
   -- streams that satisfy every line are a solution of the source
   pub source_from : (σ : SourceStreams) → LinesHold k (σ []) lines → IsSourceSolution program main inputs σ
   source_from σ h [] =
       subst (λ o. If o (λ node. InstanceHolds program node k (given_streams inputs) (σ []) (λ i. σ (i ∷ [])))) (sym found)
-          (record {
-            inputs = λ j d e. let none : None ≡ Some d = ap (λ ds. slice_get ds j) (sym first.shape.no_inputs) ∙ e in cc;
-            equations = subst (λ qs. EquationsHold program node k (σ []) (λ i. σ (i ∷ [])) qs 0) (sym first.shape.equations)
-                (hold_from program node k (σ []) (λ i. σ (i ∷ [])) plain lines 0 h);
-          })
+      (record {
+        inputs = λ j d e. let none : None ≡ Some d = ap (λ ds. slice_get ds j) (sym first.shape.no_inputs) ∙ e in cc;
+        equations = subst (λ qs. EquationsHold program node k (σ []) (λ i. σ (i ∷ [])) qs 0) (sym first.shape.equations)
+            (hold_from program node k (σ []) (λ i. σ (i ∷ [])) plain lines 0 h);
+      })
   source_from σ h (i ∷ path) =
       let var = σ [] in
       let inner = λ (i : ℕ). σ (i ∷ []) in
       let none : sites_of program (node_of program main) k var inner ≡ [] =
-              ap (λ o. sites_of program o k var inner) found
-              ∙ ap (λ qs. all_sites program node k var inner qs 0) first.shape.equations
-              ∙ no_sites program node k var inner plain lines 0 in
+      ap (λ o. sites_of program o k var inner) found
+      ∙ ap (λ qs. all_sites program node k var inner qs 0) first.shape.equations
+      ∙ no_sites program node k var inner plain lines 0 in
       subst (λ sites. If (slice_get sites i) (λ site. HoldsAt program site.node site.base site.arguments (λ rest. σ (i ∷ rest)) path)) (sym none) tt
 
 -- the flat program's equations, one by one

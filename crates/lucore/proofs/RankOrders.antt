@@ -66,9 +66,9 @@ pub contains_from_has : (xs : List ℕ) (x : ℕ) → has xs x ≡ true → Cont
 contains_from_has [] x h = cc
 contains_from_has (y ∷ ys) x h =
     ⊎_elim
-        (λ (a : eqb y x ≡ true). let same : y ≡ x = grind (arith, nat_tests) in (0, omega arith, same))
-        (λ (b : has ys x ≡ true). contains_more y x ys (contains_from_has ys x b))
-        (or_cases (eqb y x) (has ys x) h)
+    (λ (a : eqb y x ≡ true). let same : y ≡ x = grind (arith, nat_tests) in (0, omega arith, same))
+    (λ (b : has ys x ≡ true). contains_more y x ys (contains_from_has ys x b))
+    (or_cases (eqb y x) (has ys x) h)
 
 pub all_from_list_all : (p : ℕ → Bool) (P : ℕ → Type 0) (xs : List ℕ) → ((y : ℕ) → p y ≡ true → P y) → list_all p xs ≡ true → All P xs
 all_from_list_all p P [] f h k d lt = absurd (omega arith)
@@ -93,7 +93,7 @@ module _ (rows : List (List ℕ)) (order : List ℕ) (ranked : IsRankOrder rows 
       let lt : p < length order = omega arith in
       let next = next_at p 0 lt in
       subst (IsDistinct eqb) (sym (take-suc order p 0 lt))
-          (IsDistinct-push nat_eq_equiv (take p order) (get_or order p 0) (distinct p (omega arith)) (has-eqb (get_or order p 0) (take p order) ∙ no_rank_yet rows (take p order) (get_or order p 0) next.ready))
+      (IsDistinct-push nat_eq_equiv (take p order) (get_or order p 0) (distinct p (omega arith)) (has-eqb (get_or order p 0) (take p order) ∙ no_rank_yet rows (take p order) (get_or order p 0) next.ready))
 
   pub all_distinct : IsDistinct eqb order
   all_distinct = subst (IsDistinct eqb) (take_whole order (length order) refl) (distinct (length order) (omega arith))
@@ -111,10 +111,10 @@ module _ (rows : List (List ℕ)) (order : List ℕ) (ranked : IsRankOrder rows 
       go false e =
           let d = IsDistinct-push nat_eq_equiv order i all_distinct (has-eqb i order ∙ e) in
           let b : (q : ℕ) → list_any (eqb q) (order ++ i ∷ []) ≡ true → q < length rows = λ q h.
-                  ⊎_elim
-                      (λ (a : list_any (eqb q) order ≡ true). inside q (sym (has-eqb q order) ∙ a))
-                      (λ (a : list_any (eqb q) (i ∷ []) ≡ true). last q a)
-                      (or_cases _ _ (sym (list_any-append (eqb q) order (i ∷ [])) ∙ h)) in
+          ⊎_elim
+          (λ (a : list_any (eqb q) order ≡ true). inside q (sym (has-eqb q order) ∙ a))
+          (λ (a : list_any (eqb q) (i ∷ []) ≡ true). last q a)
+          (or_cases _ _ (sym (list_any-append (eqb q) order (i ∷ [])) ∙ h)) in
           let l = length-le_from_distinct_below (order ++ i ∷ []) (length rows) d b in
           let c = ranked.count in
           absurd (omega (arith, length-append order (i ∷ [])))
@@ -122,9 +122,9 @@ module _ (rows : List (List ℕ)) (order : List ℕ) (ranked : IsRankOrder rows 
           last : (q : ℕ) → list_any (eqb q) (i ∷ []) ≡ true → q < length rows
           last q h =
               ⊎_elim
-                  (λ (e : eqb q i ≡ true). let same : q ≡ i = grind (arith, nat_tests) in omega arith)
-                  (λ (e : false ≡ true). cc)
-                  (or_cases (eqb q i) false h)
+              (λ (e : eqb q i ≡ true). let same : q ≡ i = grind (arith, nat_tests) in omega arith)
+              (λ (e : false ≡ true). cc)
+              (or_cases (eqb q i) false h)
 
   not_later : (p q : ℕ) → p < q → q < length order → get_or order p 0 ≡ get_or order q 0 → ⊥
   not_later p q lt lq same =
@@ -137,21 +137,21 @@ module _ (rows : List (List ℕ)) (order : List ℕ) (ranked : IsRankOrder rows 
   pub once : (p q : ℕ) → p < length order → q < length order → get_or order p 0 ≡ get_or order q 0 → p ≡ q
   once p q lp lq same =
       ⊎_elim
-          (λ (a : p < q). absurd (not_later p q a lq same))
-          (λ (b : q ≤ p).
-              ⊎_elim
-                  (λ (a : q < p). absurd (not_later q p a lp (sym same)))
-                  (λ (c : p ≤ q). let e : p ≡ q = omega arith in e)
-                  (cases_lt q p))
-          (cases_lt p q)
+      (λ (a : p < q). absurd (not_later p q a lq same))
+      (λ (b : q ≤ p).
+      ⊎_elim
+      (λ (a : q < p). absurd (not_later q p a lp (sym same)))
+      (λ (c : p ≤ q). let e : p ≡ q = omega arith in e)
+      (cases_lt q p))
+      (cases_lt p q)
 
   pub reads_first : (p x : ℕ) (l : List ℕ) → slice_get order p ≡ Some x → slice_get rows x ≡ Some l → All (λ r. Contains (take p order) r) l
   reads_first p x l at there =
       let next = ranked.each p x at in
       let e : row rows x ≡ l = ap (λ (o : Option (List ℕ)). unwrap_or o []) there in
       all_from_list_all (λ y. has (take p order) y) (λ r. Contains (take p order) r) l
-          (λ y h. contains_from_has (take p order) y h)
-          (sym (ap (list_all (λ y. has (take p order) y)) e) ∙ reads_ranked rows (take p order) x next.ready)
+      (λ y h. contains_from_has (take p order) y h)
+      (sym (ap (list_all (λ y. has (take p order) y)) e) ∙ reads_ranked rows (take p order) x next.ready)
 
 -- a flat program whose order is the defined one has each flow once, after all that it reads
 pub is_ordered : (flat : FlatProgram) → IsRankOrder (reads_of flat) flat.order
@@ -191,13 +191,13 @@ rank_more rows order i x r next =
       each = λ j y e.
           let lt = slice_get_within (order ++ x ∷ []) j y e in
           ⊎_elim
-              (λ (a : j < length order). subst (λ l. IsNext rows l y) (sym (take_front j order (x ∷ []) (omega arith))) (r.each j y (sym (get-front order (x ∷ []) j a) ∙ e)))
-              (λ (b : length order ≤ j).
-                  let same : j ≡ length order = omega (arith, length-append order (x ∷ [])) in
-                  let xy : Some x ≡ Some y = sym (get-last order x) ∙ ap (slice_get (order ++ x ∷ [])) (sym same) ∙ e in
-                  let xy' : x ≡ y = cc in
-                  subst (λ l. IsNext rows l y) (sym (take_front j order (x ∷ []) (omega arith) ∙ take_whole order j same)) (subst (IsNext rows order) xy' next))
-              (cases_lt j (length order))
+          (λ (a : j < length order). subst (λ l. IsNext rows l y) (sym (take_front j order (x ∷ []) (omega arith))) (r.each j y (sym (get-front order (x ∷ []) j a) ∙ e)))
+          (λ (b : length order ≤ j).
+          let same : j ≡ length order = omega (arith, length-append order (x ∷ [])) in
+          let xy : Some x ≡ Some y = sym (get-last order x) ∙ ap (slice_get (order ++ x ∷ [])) (sym same) ∙ e in
+          let xy' : x ≡ y = cc in
+          subst (λ l. IsNext rows l y) (sym (take_front j order (x ∷ []) (omega arith) ∙ take_whole order j same)) (subst (IsNext rows order) xy' next))
+          (cases_lt j (length order));
     }
 
 -- where every place has a rank, the order is long enough

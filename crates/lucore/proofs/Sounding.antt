@@ -143,11 +143,11 @@ module _ (node : NodeTree) (lines : List Line) (named : AreNamed (variables_of n
   pub places_in : (i : ℕ) (flow : Flow) → flow_at flat i ≡ Some flow → All (λ r. r < flows_of flat) (places flow.form)
   places_in =
       by_lines PlacesIn
-          (λ s line f. All-nil _)
-          (λ s line f. all_one (λ (r : ℕ). r < flows_of flat) (place_of names line.from) (let le = names_le in let lt = f.from_in in omega arith))
-          (λ s line f. All-nil _)
-          (λ j line e f. all_two (λ (r : ℕ). r < flows_of flat) _ _ (slice_get_within flat.flows _ _ f.before) (slice_get_within flat.flows _ _ f.step))
-          (λ j line e f. all_two (λ (r : ℕ). r < flows_of flat) _ _ (slice_get_within flat.flows _ _ f.first) (slice_get_within flat.flows _ _ f.sum))
+      (λ s line f. All-nil _)
+      (λ s line f. all_one (λ (r : ℕ). r < flows_of flat) (place_of names line.from) (let le = names_le in let lt = f.from_in in omega arith))
+      (λ s line f. All-nil _)
+      (λ j line e f. all_two (λ (r : ℕ). r < flows_of flat) _ _ (slice_get_within flat.flows _ _ f.before) (slice_get_within flat.flows _ _ f.step))
+      (λ j line e f. all_two (λ (r : ℕ). r < flows_of flat) _ _ (slice_get_within flat.flows _ _ f.first) (slice_get_within flat.flows _ _ f.sum))
 
   pub clocks_in : (i : ℕ) (flow : Flow) → flow_at flat i ≡ Some flow → All (λ r. r < flows_of flat) (clock_reads flow.clock)
   clocks_in =
@@ -178,10 +178,10 @@ module _ (node : NodeTree) (lines : List Line) (named : AreNamed (variables_of n
       let z : length names + 4 * j + r ≡ length names + (4 * j + r) = omega arith in
       ap (λ xs. slice_index xs (length names + 4 * j + r)) out.owners
       ∙ get_or_from_slice_get (laid_owners names lines) (length names + 4 * j + r) (place_of names line.left) 0
-          (ap (slice_get (laid_owners names lines)) z
-              ∙ get-behind (range_with_len 0 (length names)) (in_fours owned (length names) lines) (length names) (4 * j + r) (length-range_with_len 0 (length names))
-              ∙ get-in_fours owned (length names) lines j r line (λ s line. refl) there lt
-              ∙ e)
+      (ap (slice_get (laid_owners names lines)) z
+      ∙ get-behind (range_with_len 0 (length names)) (in_fours owned (length names) lines) (length names) (4 * j + r) (length-range_with_len 0 (length names))
+      ∙ get-in_fours owned (length names) lines j r line (λ s line. refl) there lt
+      ∙ e)
 
   variables_len : length flat.variables ≡ length names
   variables_len = ap length out.variables ∙ length-main node
@@ -192,22 +192,22 @@ module _ (node : NodeTree) (lines : List Line) (named : AreNamed (variables_of n
   pub inner : (i : ℕ) (flow : Flow) → flow_at flat i ≡ Some flow → All (IsWithin flat i) (places flow.form ++ clock_reads flow.clock)
   inner =
       by_lines Within
-          (λ s line f. All-nil _)
-          (λ s line f. all_one (IsWithin flat (s + 1)) (place_of names line.from) (inl (let lt = f.from_in in let len = variables_len in omega arith)))
-          (λ s line f. All-nil _)
-          (λ j line e f.
-              let s = length names + 4 * j in
-              let o3 = owner_of_inner j 3 line e (omega arith) refl in
-              all_two (IsWithin flat (s + 3)) (s + 1) (s + 2)
-                  (inr (owner_of_inner j 1 line e (omega arith) refl ∙ sym o3))
-                  (inr (owner_of_inner j 2 line e (omega arith) refl ∙ sym o3)))
-          (λ j line e f.
-              let s = length names + 4 * j in
-              let z : s ≡ s + 0 = omega arith in
-              let ov = owner_of_variable (place_of names line.left) f.left_in in
-              all_two (IsWithin flat (place_of names line.left)) s (s + 3)
-                  (inr (ap owner z ∙ owner_of_inner j 0 line e (omega arith) refl ∙ sym ov))
-                  (inr (owner_of_inner j 3 line e (omega arith) refl ∙ sym ov)))
+      (λ s line f. All-nil _)
+      (λ s line f. all_one (IsWithin flat (s + 1)) (place_of names line.from) (inl (let lt = f.from_in in let len = variables_len in omega arith)))
+      (λ s line f. All-nil _)
+      (λ j line e f.
+      let s = length names + 4 * j in
+      let o3 = owner_of_inner j 3 line e (omega arith) refl in
+      all_two (IsWithin flat (s + 3)) (s + 1) (s + 2)
+      (inr (owner_of_inner j 1 line e (omega arith) refl ∙ sym o3))
+      (inr (owner_of_inner j 2 line e (omega arith) refl ∙ sym o3)))
+      (λ j line e f.
+      let s = length names + 4 * j in
+      let z : s ≡ s + 0 = omega arith in
+      let ov = owner_of_variable (place_of names line.left) f.left_in in
+      all_two (IsWithin flat (place_of names line.left)) s (s + 3)
+      (inr (ap owner z ∙ owner_of_inner j 0 line e (omega arith) refl ∙ sym ov))
+      (inr (owner_of_inner j 3 line e (omega arith) refl ∙ sym ov)))
 
   abbrev NoInput : ℕ → Flow → Type 0
   NoInput i flow = (c : ℕ) → flow.form ≡ Input c → ⊥

@@ -56,9 +56,9 @@ no_input node v x none there e =
     let b = variables_as role.Local node.locals in
     let there' : slice_get (a ++ b) v ≡ Some x = sym (ap (λ ds. slice_get (variables_as role.Input ds ++ (a ++ b)) v) none) ∙ there in
     ⊎_elim
-        (λ (h : slice_get a v ≡ Some x). let no : role.Output ≡ role.Input = sym (role_as role.Output node.outputs v x h) ∙ e in cc)
-        (λ (h : (w : ℕ) × (slice_get b w ≡ Some x)). let no : role.Local ≡ role.Input = sym (role_as role.Local node.locals h.0 x h.1) ∙ e in cc)
-        (get-split a b v x there')
+    (λ (h : slice_get a v ≡ Some x). let no : role.Output ≡ role.Input = sym (role_as role.Output node.outputs v x h) ∙ e in cc)
+    (λ (h : (w : ℕ) × (slice_get b w ≡ Some x)). let no : role.Local ≡ role.Input = sym (role_as role.Local node.locals h.0 x h.1) ∙ e in cc)
+    (get-split a b v x there')
 
 pub name_at-variables : (xs : List Variable) (i : ℕ) (x : Variable) → slice_get xs i ≡ Some x → name_at (variable_names xs) i ≡ x.name
 name_at-variables [] i x there = cc

@@ -73,14 +73,14 @@ pub record Walk (rows : List (List ℕ)) (order seen : List ℕ) (at i : ℕ) : 
 pub walk_more : (rows : List (List ℕ)) (order seen : List ℕ) (at i y : ℕ) → AreClosed rows → Walk rows order seen at i → has seen at ≡ false → has (row rows at) y ≡ true → has order y ≡ false → Walk rows order (seen ++ at ∷ []) y (i + 1)
 walk_more rows order seen at i y closed w new r n =
     let split : (q : ℕ) → has (seen ++ at ∷ []) q ≡ true → (has seen q ≡ true) ⊎ (at ≡ q) = λ q h.
-            ⊎_elim (λ (a : has seen q ≡ true). inl a) (λ (b : has (at ∷ []) q ≡ true). inr (last q b)) (or_cases _ _ (sym (list_any-append (λ y. eqb y q) seen (at ∷ [])) ∙ h)) in
+    ⊎_elim (λ (a : has seen q ≡ true). inl a) (λ (b : has (at ∷ []) q ≡ true). inr (last q b)) (or_cases _ _ (sym (list_any-append (λ y. eqb y q) seen (at ∷ [])) ∙ h)) in
     record {
       inside = closed_at rows at y closed r;
       no_rank = n;
       count = let c = w.count in omega (arith, length-append seen (at ∷ []));
       distinct = IsDistinct-push nat_eq_equiv seen at w.distinct (has-eqb at seen ∙ new);
       below = λ q h. ⊎_elim (λ (a : has seen q ≡ true). w.below q a) (λ (e : at ≡ q). subst (λ q. q < length rows) e w.inside) (split q h);
-      chain = λ x h. ⊎_elim (λ (a : has seen x ≡ true). more x at y (w.chain x a) r) (λ (e : at ≡ x). subst (λ x. Chain rows x y) e (one at y r)) (split x h)
+      chain = λ x h. ⊎_elim (λ (a : has seen x ≡ true). more x at y (w.chain x a) r) (λ (e : at ≡ x). subst (λ x. Chain rows x y) e (one at y r)) (split x h);
     }
   where
     last : (q : ℕ) → has (at ∷ []) q ≡ true → at ≡ q
@@ -99,7 +99,7 @@ walk_end rows order seen at i w le = go (has seen at) refl
     go false e =
         let d = IsDistinct-push nat_eq_equiv seen at w.distinct (has-eqb at seen ∙ e) in
         let b : (q : ℕ) → list_any (eqb q) (seen ++ at ∷ []) ≡ true → q < length rows = λ q h.
-                ⊎_elim (λ (a : list_any (eqb q) seen ≡ true). w.below q (sym (has-eqb q seen) ∙ a)) (λ (a : list_any (eqb q) (at ∷ []) ≡ true). inside q a) (or_cases _ _ (sym (list_any-append (eqb q) seen (at ∷ [])) ∙ h)) in
+        ⊎_elim (λ (a : list_any (eqb q) seen ≡ true). w.below q (sym (has-eqb q seen) ∙ a)) (λ (a : list_any (eqb q) (at ∷ []) ≡ true). inside q a) (or_cases _ _ (sym (list_any-append (eqb q) seen (at ∷ [])) ∙ h)) in
         let l = length-le_from_distinct_below (seen ++ at ∷ []) (length rows) d b in
         let c = w.count in
         absurd (omega (arith, length-append seen (at ∷ [])))

@@ -56,9 +56,9 @@ reads_closed flows places_in clocks_in x =
     go None e = All-nil _
     go (Some flow) e =
         subst (λ n. All (λ r. r < n) (reads flow)) (sym len)
-            (All-append (λ r. r < length flows) (form_reads flow.form) (clock_reads flow.clock)
-                (form_reads_all (λ r. r < length flows) flow.form (places_in x flow e))
-                (clocks_in x flow e))
+        (All-append (λ r. r < length flows) (form_reads flow.form) (clock_reads flow.clock)
+        (form_reads_all (λ r. r < length flows) flow.form (places_in x flow e))
+        (clocks_in x flow e))
 
 has_inside : (rows : List (List ℕ)) (x y : ℕ) → has (row rows x) y ≡ true → x < length rows
 has_inside [] x y h = cc
@@ -89,8 +89,8 @@ module _ (program : ProgramTree) (main : List ℕ) (first : IsFirstProgram progr
   pub closed : AreClosed (map reads list)
   closed =
       reads_closed list
-          (flows.places_in node lines first.names no_inputs (flat_with []) (out []))
-          (flows.clocks_in node lines first.names no_inputs (flat_with []) (out []))
+      (flows.places_in node lines first.names no_inputs (flat_with []) (out []))
+      (flows.clocks_in node lines first.names no_inputs (flat_with []) (out []))
 
   count : length list ≡ node_count node
   count =
@@ -148,10 +148,10 @@ few_if program main first node b alone h is_no =
     let both : node ∷ [] ≡ first.shape.node ∷ [] = sym alone ∙ first.shape.one_node in
     let same : node ≡ first.shape.node = cc in
     subst (λ n. node_count n ≤ 4096) same
-        (⊎_elim
-            (λ (a : 4096 < node_count node). let yes : b ≡ true = h.1 a in absurd (is_false b is_no yes))
-            (λ (l : node_count node ≤ 4096). l)
-            (cases_lt 4096 (node_count node)))
+    (⊎_elim
+    (λ (a : 4096 < node_count node). let yes : b ≡ true = h.1 a in absurd (is_false b is_no yes))
+    (λ (l : node_count node ≤ 4096). l)
+    (cases_lt 4096 (node_count node)))
   where
     is_false : (b : Bool) → b ≡ false → b ≡ true → ⊥
     is_false b e t = let never : true ≡ false = sym t ∙ e in cc

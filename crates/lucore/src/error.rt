@@ -21,6 +21,7 @@ pub enum CoreError {
 impl From<AllocError> for CoreError {
     ghost use Rattle.std.specs.Prelude.{◌≡◌};
     ghost use Rattle.lucore.specs.declared.error.CoreError.TheVariants.{OutOfMemory};
+
     ghost from_gives = { λ _ e. e ≡ OutOfMemory };
 
     fn from(_error: AllocError) -> Self {
@@ -31,6 +32,7 @@ impl From<AllocError> for CoreError {
 impl<T: Drop> From<AllocFailed<T>> for CoreError {
     ghost use Rattle.std.specs.Prelude.{◌≡◌};
     ghost use Rattle.lucore.specs.declared.error.CoreError.TheVariants.{OutOfMemory};
+
     ghost from_gives = { λ _ e. e ≡ OutOfMemory };
 
     fn from(_error: AllocFailed<T>) -> Self {

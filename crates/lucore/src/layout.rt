@@ -136,7 +136,11 @@ fn push_line(flows: &mut Vec<Flow>, variables: &[Variable], line: &Parts) -> Res
 }
 
 /// The list of flows.
-pub fn flows_in(alloc: Global, variables: &[Variable], lines: &[Parts]) -> Result<Vec<Flow>, AllocError>
+pub fn flows_in(
+    alloc: Global,
+    variables: &[Variable],
+    lines: &[Parts],
+) -> Result<Vec<Flow>, AllocError>
     requires in_range { All IsInRange (lines_of lines.now) }
     requires few { length variables.now + 4 * length lines.now ≤ 4096 }
     ensures { IfOk result (λ v. v.items ≡ laid_flows (variable_names variables.now) (lines_of lines.now)) }

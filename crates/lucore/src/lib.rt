@@ -11,7 +11,6 @@ mod flattening;
 mod layout;
 mod ranked;
 mod ranks;
-
 #[cfg(test)]
 mod tests;
 

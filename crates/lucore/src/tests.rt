@@ -174,9 +174,18 @@ fn the_limit_is_4096_flows(rt: HostRuntime) -> Result<(), Fail> {
 #[test]
 fn refusals_are_printed(rt: HostRuntime) -> Result<(), Fail> {
     let alloc = rt.alloc();
-    assert_eq!(rt; CoreError::TooLarge.to_string(alloc)?.as_str(), "E50 TooLarge");
-    assert_eq!(rt; CoreError::OutOfMemory.to_string(alloc)?.as_str(), "R2 OutOfMemory");
+    assert_eq!(rt;
+        CoreError::TooLarge.to_string(alloc)?.as_str(),
+        "E50 TooLarge"
+    );
+    assert_eq!(rt;
+        CoreError::OutOfMemory.to_string(alloc)?.as_str(),
+        "R2 OutOfMemory"
+    );
     let variable = Name::from_text(alloc, "speed")?;
-    assert_eq!(rt; CoreError::Cycle { variable }.to_string(alloc)?.as_str(), "E40 Cycle speed");
+    assert_eq!(rt;
+        CoreError::Cycle { variable }.to_string(alloc)?.as_str(),
+        "E40 Cycle speed"
+    );
     Ok(())
 }

@@ -69,13 +69,7 @@ fn signed(sign: bool, status: Status) -> bool
     ensures { result ≡ signed sign status }
 {
     match status {
-        Status::Present(Datum::Bool(b)) => {
-            if sign {
-                b
-            } else {
-                !b
-            }
-        }
+        Status::Present(Datum::Bool(b)) => { if sign { b } else { !b } }
         _ => false,
     }
 }
@@ -110,7 +104,13 @@ pub fn kept(status: Status, past: Past) -> Past
 
 /// The value of the flow of place `i`, whose clock is true, from the statuses now, what is kept from before, and, where the
 /// flow is an input, the given datum. Neither allocates nor copies more than a datum.
-pub fn value(form: Form, i: usize, given: Option<Datum>, shown: &[Status], pasts: &[Past]) -> Outcome
+pub fn value(
+    form: Form,
+    i: usize,
+    given: Option<Datum>,
+    shown: &[Status],
+    pasts: &[Past],
+) -> Outcome
     ensures { result ≡ value_of form (view_in given shown.now pasts.now i) }
 {
     match form {

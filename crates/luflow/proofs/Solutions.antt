@@ -160,10 +160,12 @@ more_sweeps : (flat : FlatProgram) (inputs : Table) (m k : ℕ) → IsOrdered fl
 more_sweeps flat inputs m zero ordered = let e : 0 + m ≡ m = omega arith in record { at = λ q u lq l. ap (λ n. sweeps flat inputs n (slice_index flat.order q) u) (sym e) }
 more_sweeps flat inputs m (suc k) ordered =
     let e : suc (k + m) ≡ suc k + m = omega arith in
-    record { at = λ q u lq l.
-      (more_sweeps flat inputs m k ordered).at q u lq l
-      ∙ (settles flat inputs (k + m) ordered).at q u lq (omega arith)
-      ∙ ap (λ n. sweeps flat inputs n (slice_index flat.order q) u) e }
+    record {
+      at = λ q u lq l.
+          (more_sweeps flat inputs m k ordered).at q u lq l
+          ∙ (settles flat inputs (k + m) ordered).at q u lq (omega arith)
+          ∙ ap (λ n. sweeps flat inputs n (slice_index flat.order q) u) e;
+    }
 
 -- the solution is what any number of sweeps gives that settles a point
 settled : (flat : FlatProgram) (inputs : Table) (m q u : ℕ) → IsOrdered flat → q < length flat.order → u * length flat.order + q < m → solution flat inputs (slice_index flat.order q) u ≡ sweeps flat inputs m (slice_index flat.order q) u
@@ -193,10 +195,12 @@ IsSolution-solution flat inputs ordered i t li =
 
 agrees : (flat : FlatProgram) (inputs : Table) (σ σ' : Streams) (m : ℕ) → IsOrdered flat → IsSolution flat inputs σ → IsSolution flat inputs σ' → SameTo flat σ σ' m
 agrees flat inputs σ σ' zero ordered s s' = record { at = λ q u lq l. absurd (omega arith) }
-agrees flat inputs σ σ' (suc m) ordered s s' = record { at = λ q u lq l.
-    let i = slice_index flat.order q in
-    let li = All-get_or (λ i. i < flows_of flat) flat.order q 0 lq ordered.only_flows in
-    s i u li ∙ sweep-same flat inputs σ σ' m q u ordered (agrees flat inputs σ σ' m ordered s s') lq (omega arith) ∙ sym (s' i u li) }
+agrees flat inputs σ σ' (suc m) ordered s s' = record {
+  at = λ q u lq l.
+      let i = slice_index flat.order q in
+      let li = All-get_or (λ i. i < flows_of flat) flat.order q 0 lq ordered.only_flows in
+      s i u li ∙ sweep-same flat inputs σ σ' m q u ordered (agrees flat inputs σ σ' m ordered s s') lq (omega arith) ∙ sym (s' i u li);
+}
 
 -- two solutions are the same
 pub solutions_same : (flat : FlatProgram) (inputs : Table) (σ σ' : Streams) → IsOrdered flat → IsSolution flat inputs σ → IsSolution flat inputs σ' → (i t : ℕ) → i < flows_of flat → σ i t ≡ σ' i t

@@ -37,9 +37,9 @@ keeps_types flat inputs σ ordered sound fit sol i t flow is lt =
       absent = λ e. subst mark e here;
       present = λ d e. let g = subst mark e here in (g.0, g.1);
       clock_not_nil = λ c sign e.
-        let w = clock_class flat sound.class flow.clock c sign e (sound.clocks i flow is) in
-        let tc = all c t (slice_get_within flat.flows c (record { form = w.1.form; clock = w.0; kind = Truths }) w.1.there) lt (record { form = w.1.form; clock = w.0; kind = Truths }) w.1.there in
-        never_nil Truths (sound.class c) (ticked (clock_at inputs σ w.0) t) (clock_at inputs σ w.0 t) (σ c t) tc w.2;
+          let w = clock_class flat sound.class flow.clock c sign e (sound.clocks i flow is) in
+          let tc = all c t (slice_get_within flat.flows c (record { form = w.1.form; clock = w.0; kind = Truths }) w.1.there) lt (record { form = w.1.form; clock = w.0; kind = Truths }) w.1.there in
+          never_nil Truths (sound.class c) (ticked (clock_at inputs σ w.0) t) (clock_at inputs σ w.0 t) (σ c t) tc w.2;
       output_not_nil = λ x ex role. never_nil flow.kind (sound.class i) (ticked (clock_at inputs σ flow.clock) t) (clock_at inputs σ flow.clock t) (σ i t) here (sound.outputs i x ex role);
     }
 

@@ -19,9 +19,6 @@ use Rattle.luflow.specs.Streams.{Mark, Known, Broken, datum_of, truth_in, either
 use Rattle.luflow.specs.Values.{gives, on_one, on_two, on_three, arrow_of, under}
 use Rattle.luflow.specs.Sound.{IsOf, single_sort, takes, makes, AtMost, IsTidyMark}
 
-
-
-
 -- nil only as the class allows it
 abbrev pub NilOk : Bool → Option Bool → Datum → Type 0
 NilOk e was d = d ≡ Nil → (e ≡ true) × (was ≡ Some false)

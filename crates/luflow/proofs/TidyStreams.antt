@@ -108,8 +108,8 @@ module _ (flat : FlatProgram) (inputs : Table) (class : ℕ → Bool) (σ : Stre
   begin_here sign x y (Some false) m is a h = refl
   begin_here sign x y (Some true) m is a h = absurd (begin_there sign x y m is (a refl) h)
     where
-    begin_there : (sign : Bool) (x y : Mark) (m : Mark) → m ≡ under (Some true) (on_two (arrow_of (Some false)) (datum_of x) (datum_of y)) → x ≡ Known (Present (Truth sign)) → truth_in sign m ≡ Some false → ⊥
-    begin_there sign x y m is a h = begin_on sign y (sym (ap (truth_in sign) (is ∙ ap (λ z. under (Some true) (on_two (arrow_of (Some false)) (datum_of z) (datum_of y))) a)) ∙ h)
+      begin_there : (sign : Bool) (x y : Mark) (m : Mark) → m ≡ under (Some true) (on_two (arrow_of (Some false)) (datum_of x) (datum_of y)) → x ≡ Known (Present (Truth sign)) → truth_in sign m ≡ Some false → ⊥
+      begin_there sign x y m is a h = begin_on sign y (sym (ap (truth_in sign) (is ∙ ap (λ z. under (Some true) (on_two (arrow_of (Some false)) (datum_of z) (datum_of y))) a)) ∙ h)
 
   starts : IsSolution flat inputs σ → (k : Clock) (sign : Bool) (c t : ℕ) → BeginsWith flat k sign c → t ≤ inputs.instants → ticked (clock_at inputs σ (On c sign)) t ≡ Some false → ticked (clock_at inputs σ k) t ≡ Some false
   starts sol k sign c zero on l h = refl
@@ -272,17 +272,18 @@ module _ (flat : FlatProgram) (inputs : Table) (σ : Streams) (ordered : IsOrder
         on = on;
       })
     where
-    all_tidy : (t : ℕ) → t < inputs.instants → (rs : List ℕ) → All (λ r. r < flows_of flat) rs → All (λ r. IsTidy flat inputs sound.class σ r t) rs
-    all_tidy t lt rs h = All-weaker (λ r. r < flows_of flat) (λ r. IsTidy flat inputs sound.class σ r t) (λ r lr. tidy r t lr lt) rs h
-    reads_in : (form : Form) → All (λ r. r < flows_of flat) (places form) → All (λ r. r < flows_of flat) (form_reads form)
-    reads_in (Input c) h = h
-    reads_in (Constant d) h = h
-    reads_in (Copied a) h = h
-    reads_in (Unary op a) h = h
-    reads_in (Binary op a b) h = h
-    reads_in (If c a b) h = h
-    reads_in (Pre a) h = λ k d l. absurd (omega arith)
-    reads_in (Arrow a b) h = h
-    reads_in (When a) h = h
-    reads_in (Current a) h = h
-    reads_in (Merge c a b) h = h
+      all_tidy : (t : ℕ) → t < inputs.instants → (rs : List ℕ) → All (λ r. r < flows_of flat) rs → All (λ r. IsTidy flat inputs sound.class σ r t) rs
+      all_tidy t lt rs h = All-weaker (λ r. r < flows_of flat) (λ r. IsTidy flat inputs sound.class σ r t) (λ r lr. tidy r t lr lt) rs h
+
+      reads_in : (form : Form) → All (λ r. r < flows_of flat) (places form) → All (λ r. r < flows_of flat) (form_reads form)
+      reads_in (Input c) h = h
+      reads_in (Constant d) h = h
+      reads_in (Copied a) h = h
+      reads_in (Unary op a) h = h
+      reads_in (Binary op a b) h = h
+      reads_in (If c a b) h = h
+      reads_in (Pre a) h = λ k d l. absurd (omega arith)
+      reads_in (Arrow a b) h = h
+      reads_in (When a) h = h
+      reads_in (Current a) h = h
+      reads_in (Merge c a b) h = h

@@ -35,11 +35,21 @@ impl Model for Flat {
 impl Flat {
     /// The flat program of these flows, given their order of rank, the main variable in whose equation each stands, and
     /// the main variables.
-    pub fn new(flows: Row<Flow>, order: Row<usize>, owners: Row<usize>, variables: Row<Variable>) -> Flat
+    pub fn new(
+        flows: Row<Flow>,
+        order: Row<usize>,
+        owners: Row<usize>,
+        variables: Row<Variable>,
+    ) -> Flat
         requires { IsFlat (record { flows = flows; order = order; owners = owners; variables = variables }) }
         ensures { result ≡ record { flows = flows; order = order; owners = owners; variables = variables } }
     {
-        Flat { flows, order, owners, variables }
+        Flat {
+            flows,
+            order,
+            owners,
+            variables,
+        }
     }
 
     /// The flows, by place. Takes no memory.

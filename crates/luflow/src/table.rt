@@ -32,7 +32,9 @@ impl Model for Inputs {
 fn are_long(columns: &[(String, Vec<Datum>)], instants: u32) -> bool
     ensures { IsTrue result ↔ All (λ x. length x.1.items ≡ instants) columns.now }
 {
-    columns.iter().all(|column| column.1.len() == instants as usize)
+    columns
+        .iter()
+        .all(|column| column.1.len() == instants as usize)
 }
 
 fn is_table(instants: u32, columns: &[(String, Vec<Datum>)]) -> bool

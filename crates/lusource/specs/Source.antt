@@ -1,17 +1,17 @@
 -- The synchronous meaning of a program: which streams its equations allow. A program is a system of equations between
 -- flows (Halbwachs, Caspi, Raymond, Pilaud 1991), and a call stands for the equations of the called node, which run where
 -- the call's clock is true (Lustre V6 reference manual).
-use Rattle.std.specs.Prelude.{◌≡◌, ℕ, zero, suc, ◌+◌, Bool, true, false, List, [], ◌∷◌, ◌++◌, map, Option, Some, None, pos, slice_get}
+use Rattle.std.specs.Prelude.{◌≡◌, ℕ, suc, ◌+◌, Bool, true, false, List, [], ◌∷◌, ◌++◌, map, Option, Some, None, pos, slice_get}
 use Rattle.lutree.specs.declared.expr.Prefix.TheVariants.{Data as Data1, Pre}
 use Rattle.lutree.specs.declared.expr.Infix.TheVariants.{Data as Data2, Arrow, FollowedBy}
 use Rattle.lutree.specs.declared.expr.Condition.{Condition}
 use Rattle.lutree.specs.Tree.{Tree, Trees, DeclarationTree, EquationTree, NodeTree, ProgramTree}
 use Rattle.lutree.specs.Tree as tree
 use Rattle.luflow.specs.declared.data.Datum.TheVariants.{Int, Bool as Truth}
-use Rattle.luflow.specs.Program.{Table, Column}
+use Rattle.luflow.specs.Program.{Table}
 use Rattle.luflow.specs.Streams.{Stream, Ticks, truth_in, base_clock}
 use Rattle.luflow.specs.Values.{gives, under}
-use Rattle.lusource.specs.Names.{declarations_of, clock_of, name_at, node_of, output_name}
+use Rattle.lusource.specs.Names.{clock_of, name_at, node_of, output_name}
 use Rattle.lusource.specs.StreamOperators.{constant_stream, unary_stream, binary_stream, choice_stream, pre_stream, arrow_stream, when_stream, current_stream, merge_stream}
 
 -- Calls are numbered as their arguments end in the text, from 0.

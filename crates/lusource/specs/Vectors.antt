@@ -1,13 +1,13 @@
 -- Worked programs, computed on the definitions.
 use Rattle.std.specs.Prelude.{◌≡◌, ℕ, List, [], ◌∷◌, pos, codes, None}
 use Rattle.lutree.specs.declared.program.Kind.TheVariants.{Int as Ints}
-use Rattle.lutree.specs.Tree.{NodeTree, ProgramTree}
+use Rattle.lutree.specs.Tree.{NodeTree}
 use Rattle.luflow.specs.declared.data.Datum.TheVariants.{Int}
 use Rattle.luflow.specs.declared.data.Status.TheVariants.{Present, Absent}
 use Rattle.luflow.specs.Program.{Table}
-use Rattle.luflow.specs.Streams.{Mark, Known, Stream, Ticks, base_clock}
+use Rattle.luflow.specs.Streams.{Mark, Known, Stream, base_clock}
 use Rattle.luflow.specs.Messages.{marks}
-use Rattle.lusource.specs.Source.{Named, value}
+use Rattle.lusource.specs.Source.{value}
 use Rattle.lusource.specs.First.{Line, equation_of}
 
 -- three instants, and no input

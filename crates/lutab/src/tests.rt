@@ -72,7 +72,11 @@ fn first_bad_line_is_told(rt: HostRuntime) {
         ("\n\n,\n\n", TabError::BadRow { line: 3 }),
         ("\n\r\nx", TabError::BadRow { line: 2 }),
     ] {
-        assert_eq!(rt; read_inputs(rt.alloc(), &flat, text).err(), Some(error), "{text:?}");
+        assert_eq!(rt;
+            read_inputs(rt.alloc(), &flat, text).err(),
+            Some(error),
+            "{text:?}"
+        );
     }
 }
 
@@ -86,6 +90,9 @@ fn long_table_is_told_first(rt: HostRuntime) -> Result<(), Fail> {
     let long = vec![in rt.alloc(); b'x'; 67_108_865]?;
     assert_eq!(rt; error_of(rt.alloc(), &flat, &long), Some(TabError::TooLong));
     let short = vec![in rt.alloc(); b'x'; 67_108_864]?;
-    assert_eq!(rt; error_of(rt.alloc(), &flat, &short), Some(TabError::BadHeader));
+    assert_eq!(rt;
+        error_of(rt.alloc(), &flat, &short),
+        Some(TabError::BadHeader)
+    );
     Ok(())
 }

@@ -1,5 +1,5 @@
 -- Programs that are made by hand have the shape of the first language.
-use Rattle.std.proofs.Common.{◌≡◌, ◌∙◌, ℕ, zero, suc, ◌+◌, ◌<◌, ◌≤◌, List, [], ◌∷◌, ◌++◌, length, map, get_or, refl, sym, ap, subst, arith, lit≤}
+use Rattle.std.proofs.Common.{◌≡◌, ◌∙◌, ℕ, zero, suc, List, [], ◌∷◌, ◌++◌, map, refl, sym, ap, subst, arith, lit≤}
 use Rattle.std.specs.Prelude.{All}
 use Rattle.lutree.specs.declared.expr.Prefix.TheVariants.{Pre}
 use Rattle.lutree.specs.declared.expr.Infix.TheVariants.{Data, Arrow}

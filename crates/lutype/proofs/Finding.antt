@@ -1,6 +1,6 @@
 -- The first place of a name.
-use Rattle.std.proofs.Common.{◌≡◌, ◌∙◌, ℕ, zero, suc, ◌+◌, ◌<◌, Bool, true, false, List, [], ◌∷◌, length, map, get_or, drop, take, Option, Some, None, cond, refl, sym, ap, subst, arith, add-one, drop-cons, ◌⊎◌, inl, inr, ◌≤◌, ◌++◌}
-use Rattle.std.specs.Prelude.{slice_get, MatchOption, IfNone, IsSome, IsTrue, ◌↔◌, All, Contains}
+use Rattle.std.proofs.Common.{◌≡◌, ◌∙◌, ℕ, zero, suc, ◌+◌, ◌<◌, Bool, true, false, List, [], ◌∷◌, length, get_or, drop, take, Option, Some, None, cond, refl, sym, ap, subst, arith, add-one, drop-cons, ◌⊎◌, inl, inr, ◌≤◌, ◌++◌}
+use Rattle.std.specs.Prelude.{slice_get, MatchOption, IfNone, IsSome, All, Contains}
 use Rattle.std.specs.Str.{bytes_eq}
 use Rattle.std.specs.Option.{option_map, is_some}
 use Rattle.std.proofs.lemmas.Bool.{cases_lt}
@@ -113,8 +113,8 @@ first_more spots i s lt e at h j s' lt' e' =
 pub all_first : (spots : List Spot) → FirstSoFar spots (length spots) → AreDistinct (spot_names spots)
 all_first spots h =
     distinct_if_first (spot_names spots) (λ j x e.
-        let r = spot_at spots j x e in
-        ap (first_place 0 (spot_names spots)) (sym r.3) ∙ h j r.0 r.1 r.2)
+    let r = spot_at spots j x e in
+    ap (first_place 0 (spot_names spots)) (sym r.3) ∙ h j r.0 r.1 r.2)
 
 pub contains_at : (ys : List (List ℕ)) (x : List ℕ) (k : ℕ) → slice_get ys k ≡ Some x → Contains ys x
 contains_at ys x k e = (k, slice_get_within ys k x e, get_or_from_slice_get ys k x x e)
@@ -131,7 +131,7 @@ found_contains ys x c =
 pub all_push : (P : List ℕ → Type 0) (spots : List Spot) (i : ℕ) (s : Spot) → i < length spots → s ≡ get_or spots i s → P s.name.now → All P (spot_names (take i spots)) → All P (spot_names (take (i + 1) spots))
 all_push P spots i s lt e p all =
     subst (All P) (sym (ap spot_names (take_more spots i s lt ∙ ap (λ y. take i spots ++ y ∷ []) (sym e)) ∙ map-append (λ (s : Spot). s.name.now) (take i spots) (s ∷ [])))
-        (All-append P (spot_names (take i spots)) (s.name.now ∷ []) all one)
+    (All-append P (spot_names (take i spots)) (s.name.now ∷ []) all one)
   where
     one : All P (s.name.now ∷ [])
     one zero d lt = p

@@ -1,14 +1,13 @@
 -- From single rules to the judgement of a program.
-use Rattle.std.proofs.Common.{◌≡◌, ◌∙◌, ℕ, List, [], ◌∷◌, ◌⊎◌, inl, inr, ⊎_elim, map, get_or, Option, Some, None, Result, Ok, Err, refl, sym, ap, subst}
+use Rattle.std.proofs.Common.{◌≡◌, ◌∙◌, ℕ, List, [], ◌∷◌, ◌⊎◌, ⊎_elim, map, get_or, Option, Some, None, Result, Ok, Err, sym, ap, subst}
 use Rattle.std.specs.Prelude.{All, Contains, IfOk}
 use Rattle.lutree.specs.declared.program.Node.{Node}
 use Rattle.lutree.specs.Tree.{NodeTree, ProgramTree, node_view}
 use Rattle.lusource.specs.Names.{variables_of, AreDistinct}
 use Rattle.lusource.specs.First.{Line, equation_of, lefts_of, froms_of, IsFirstShape, IsFirstProgram}
 use Rattle.lutype.specs.declared.error.StatError.{StatError}
-use Rattle.lutype.specs.declared.error.StatError.TheVariants.{DuplicateName, UnknownName, Undefined, DefinedTwice, NoMain, OutOfMemory}
+use Rattle.lutype.specs.declared.error.StatError.TheVariants.{DuplicateName, UnknownName, Undefined, DefinedTwice, NoMain}
 use Rattle.lutype.specs.Faults.{NodeNames, Breaks, IsRefused, Tells, IsOneOf, AreInOrder, IsJudged}
-use Rattle.lutype.proofs.LineLemmas.{lines_same}
 
 none_of : (a b r : Option StatError) → IsOneOf a b r → r ≡ None → (a ≡ None) × (b ≡ None)
 none_of a b None h e = h

@@ -12,7 +12,7 @@ use Rattle.lutype.specs.Parts.{AreLines}
 pub line_there : (equations : List Equation) (i : ℕ) (x : Equation) → AreLines (map equation_view equations) → i < length equations → x ≡ get_or equations i x → (line : Line) × (equation_view x ≡ equation_of line)
 line_there equations i x h lt e =
     let at : slice_get (map equation_view equations) i ≡ Some (equation_view x) =
-            slice_get-map equation_view equations i ∙ ap (option_map equation_view) (slice_get_read equations (length equations) i x refl lt e) in
+    slice_get-map equation_view equations i ∙ ap (option_map equation_view) (slice_get_read equations (length equations) i x refl lt e) in
     go (slice_get h.0 i) refl (sym at ∙ ap (λ xs. slice_get xs i) h.1 ∙ slice_get-map equation_of h.0 i)
   where
     go : (o : Option Line) → slice_get h.0 i ≡ o → Some (equation_view x) ≡ option_map equation_of (slice_get h.0 i) → (line : Line) × (equation_view x ≡ equation_of line)

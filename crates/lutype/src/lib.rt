@@ -12,10 +12,9 @@ mod error;
 mod naming;
 mod parts;
 mod spots;
-mod typed;
-
 #[cfg(test)]
 mod tests;
+mod typed;
 
 pub use error::StatError;
 pub use naming::names;

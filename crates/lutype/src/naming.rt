@@ -104,8 +104,14 @@ fn first_fault(
 {
     let variables = index_of(alloc, declared)?;
     let equations = index_of(alloc, lefts)?;
-    let places = lesser(unknown_name(lefts, &variables), unknown_name(froms, &variables));
-    let twice = lesser(duplicate_name(declared, &variables), defined_twice(lefts, &equations));
+    let places = lesser(
+        unknown_name(lefts, &variables),
+        unknown_name(froms, &variables),
+    );
+    let twice = lesser(
+        duplicate_name(declared, &variables),
+        defined_twice(lefts, &equations),
+    );
     let missing = lesser(undefined(declared, &equations), no_main(name, main));
     Ok(lesser(lesser(places, twice), missing))
 }
@@ -128,11 +134,7 @@ fn node_fault(alloc: Global, node: &Node, main: &str) -> Result<Option<StatError
 ///
 /// An error other than the want of memory tells a rule that is broken: of all faults the one of the least byte, at equal
 /// bytes the one of the least number. The expected time grows with the length of the names.
-pub fn names<'a>(
-    alloc: Global,
-    program: &'a Program,
-    main: &'a str,
-) -> Result<Typed<'a>, StatError>
+pub fn names<'a>(alloc: Global, program: &'a Program, main: &'a str) -> Result<Typed<'a>, StatError>
     requires { IsFirstShape (program_view program.now) }
     ensures typed { IfOk result (λ typed. typed ≡ record { program = program.now; main = main.now }) }
     ensures in_order { IfOk result (λ _. IsFirstProgram (program_view program.now) main.now) }

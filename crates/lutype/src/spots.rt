@@ -22,7 +22,10 @@ pub struct Spot<'a> {
 }
 
 // Declared variables, behind those before.
-fn push_declared<'a>(spots: &mut Vec<Spot<'a>>, declarations: &'a [Declaration]) -> Result<(), AllocError>
+fn push_declared<'a>(
+    spots: &mut Vec<Spot<'a>>,
+    declarations: &'a [Declaration],
+) -> Result<(), AllocError>
     ensures { OnOk result (spot_names spots.new.items ≡ spot_names spots.old.items ++ names_of (declarations_view declarations.now)) }
 {
     for d in declarations {

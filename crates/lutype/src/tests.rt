@@ -127,13 +127,25 @@ fn the_fault_of_the_least_byte_is_told(rt: HostRuntime) -> Result<(), Fail> {
     assert_eq!(rt; fault(alloc, &good, "main"), None);
     assert_eq!(rt; fault(alloc, &good, "mains"), Some(StatError::NoMain));
     let unknown = pair(alloc, ("a", 21), ("b", 33), ("a", "b", 50), ("b", "c", 70))?;
-    assert_eq!(rt; fault(alloc, &unknown, "main"), Some(StatError::UnknownName { byte: 70 }));
+    assert_eq!(rt;
+        fault(alloc, &unknown, "main"),
+        Some(StatError::UnknownName { byte: 70 })
+    );
     let twice = pair(alloc, ("a", 21), ("b", 33), ("a", "b", 50), ("a", "b", 70))?;
-    assert_eq!(rt; fault(alloc, &twice, "main"), Some(StatError::Undefined { byte: 33 }));
+    assert_eq!(rt;
+        fault(alloc, &twice, "main"),
+        Some(StatError::Undefined { byte: 33 })
+    );
     let late = pair(alloc, ("a", 80), ("b", 81), ("a", "b", 50), ("a", "b", 70))?;
-    assert_eq!(rt; fault(alloc, &late, "main"), Some(StatError::DefinedTwice { byte: 70 }));
+    assert_eq!(rt;
+        fault(alloc, &late, "main"),
+        Some(StatError::DefinedTwice { byte: 70 })
+    );
     let same = pair(alloc, ("b", 21), ("b", 33), ("b", "b", 50), ("b", "b", 70))?;
-    assert_eq!(rt; fault(alloc, &same, "main"), Some(StatError::DuplicateName { byte: 33 }));
+    assert_eq!(rt;
+        fault(alloc, &same, "main"),
+        Some(StatError::DuplicateName { byte: 33 })
+    );
     Ok(())
 }
 
@@ -141,9 +153,15 @@ fn the_fault_of_the_least_byte_is_told(rt: HostRuntime) -> Result<(), Fail> {
 fn at_equal_bytes_the_least_number_is_told(rt: HostRuntime) -> Result<(), Fail> {
     let alloc = rt.alloc();
     let both = pair(alloc, ("a", 80), ("b", 81), ("a", "b", 50), ("a", "c", 70))?;
-    assert_eq!(rt; fault(alloc, &both, "main"), Some(StatError::UnknownName { byte: 70 }));
+    assert_eq!(rt;
+        fault(alloc, &both, "main"),
+        Some(StatError::UnknownName { byte: 70 })
+    );
     let same = pair(alloc, ("a", 21), ("a", 21), ("b", "b", 50), ("b", "b", 70))?;
-    assert_eq!(rt; fault(alloc, &same, "main"), Some(StatError::DuplicateName { byte: 21 }));
+    assert_eq!(rt;
+        fault(alloc, &same, "main"),
+        Some(StatError::DuplicateName { byte: 21 })
+    );
     Ok(())
 }
 
@@ -174,7 +192,10 @@ fn a_checked_program_lends_its_program(rt: HostRuntime) -> Result<(), Fail> {
 fn refusals_are_printed(rt: HostRuntime) -> Result<(), Fail> {
     let alloc = rt.alloc();
     for (error, line) in [
-        (StatError::DuplicateName { byte: 17 }, "E10 DuplicateName at 17"),
+        (
+            StatError::DuplicateName { byte: 17 },
+            "E10 DuplicateName at 17",
+        ),
         (StatError::UnknownName { byte: 40 }, "E11 UnknownName at 40"),
         (StatError::Undefined { byte: 0 }, "E15 Undefined at 0"),
         (StatError::DefinedTwice { byte: 9 }, "E16 DefinedTwice at 9"),

@@ -431,7 +431,7 @@ fits plan ok =
       variables_first = ok.flat_is.variables_first;
       input_there = λ i c flow here form. (ok.flat_is.input_there i c flow here form).0;
       needs_clock = clock_known plan ok clocks;
-      needs_operands = operands_known plan ok
+      needs_operands = operands_known plan ok;
     }
 
 -- every run is a job of the machines

@@ -198,10 +198,10 @@ module _ (job : Run) (ij : IsJob job) where
         receiver_other = ij.is_plan.elsewhere;
         ranked_once = λ flow. count_once flow plan.flat.order ij.is_plan.ordered.once;
         linked_once = λ l lt.
-          let w = place_in plan.flat.order (carried plan l) (ij.is_plan.ordered.all_flows (carried plan l) (ij.is_plan.carries l lt)) in
-          let a = count_once (carried plan l) plan.flat.order ij.is_plan.ordered.once in
-          let b = count_some (carried plan l) plan.flat.order w.0 w.1 w.2 in
-          omega (arith, a, b);
+            let w = place_in plan.flat.order (carried plan l) (ij.is_plan.ordered.all_flows (carried plan l) (ij.is_plan.carries l lt)) in
+            let a = count_once (carried plan l) plan.flat.order ij.is_plan.ordered.once in
+            let b = count_some (carried plan l) plan.flat.order w.0 w.1 w.2 in
+            omega (arith, a, b);
       }
 
   pub is_wired : IsWired (system_of job)

@@ -135,9 +135,9 @@ module _ (plan : Outline) (site : ℕ) where
 
     in_any : (t : ℕ) → count_by p (round plan site t) ≤ 1
     in_any t = ⊎_elim
-      (λ lt. let e = in_round t lt in let l = one_le (plan.present (plan.flow_of link) t) in omega (arith, e, l))
-      (λ ge. let e = ap (count_by p) (late_events t ge) ∙ one (flat_map (message_events plan) plan.ranked) ∙ closes plan ok link listed plan.ranked ∙ ok.linked_once link listed in omega (arith, e))
-      (cases_lt t plan.instants)
+        (λ lt. let e = in_round t lt in let l = one_le (plan.present (plan.flow_of link) t) in omega (arith, e, l))
+        (λ ge. let e = ap (count_by p) (late_events t ge) ∙ one (flat_map (message_events plan) plan.ranked) ∙ closes plan ok link listed plan.ranked ∙ ok.linked_once link listed in omega (arith, e))
+        (cases_lt t plan.instants)
 
     in_rounds : (t : ℕ) → t ≤ plan.instants → count_by p (rounds_before t) ≡ shows plan (plan.flow_of link) t
     in_rounds zero le = refl

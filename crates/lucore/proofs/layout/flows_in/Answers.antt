@@ -32,6 +32,6 @@ loop-line-preserved c =
     let lt = c.loop-line-test.true in
     let len = length-so_far (inner_flows names) (length names) (length names) i (roots_of names lines) c.loop-line.flows.items c.args.lines.now (λ s line. refl) c.loop-line.invariant (length-map names (λ x. root_flow (start_of names lines x))) (omega arith) in
     grown (roots_of names lines) (in_fours (inner_flows names) (length names) (lines_of (take i c.args.lines.now))) (inner_flows names (length names + 4 * i) (line_of x)) c.loop-line.flows.items c.push_line.new.flows.items (in_fours (inner_flows names) (length names) (lines_of (take (i + 1) c.args.lines.now)))
-        c.loop-line.invariant
-        (c.in_ok-push_line.ensures ∙ ap (λ n. c.loop-line.flows.items ++ inner_flows names n (line_of x)) len)
-        (fours_more (inner_flows names) (length names) c.args.lines.now i x lt c.line-item.is)
+    c.loop-line.invariant
+    (c.in_ok-push_line.ensures ∙ ap (λ n. c.loop-line.flows.items ++ inner_flows names n (line_of x)) len)
+    (fours_more (inner_flows names) (length names) c.args.lines.now i x lt c.line-item.is)

@@ -23,6 +23,6 @@ loop-line-preserved c =
     let x = c.line-item.result in
     let lt = c.loop-line-test.true in
     grown base (in_fours f (length names) (lines_of (take i c.args.lines.now))) (f (length names + 4 * i) (line_of x)) c.loop-line.owners.items c.push_owner.new.owners.items (in_fours f (length names) (lines_of (take (i + 1) c.args.lines.now)))
-        c.loop-line.invariant
-        (c.in_ok-push_owner.ensures ∙ ap (λ v. c.loop-line.owners.items ++ four_times v) c.place_in.ensures.place)
-        (fours_more f (length names) c.args.lines.now i x lt c.line-item.is)
+    c.loop-line.invariant
+    (c.in_ok-push_owner.ensures ∙ ap (λ v. c.loop-line.owners.items ++ four_times v) c.place_in.ensures.place)
+    (fours_more f (length names) c.args.lines.now i x lt c.line-item.is)

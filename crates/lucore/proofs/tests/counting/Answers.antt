@@ -13,5 +13,5 @@ returns c =
     let sum = c.in_ok-sum.ensures ∙ ap (λ t. binary (Data Add) t (view c.number.result)) before ∙ ap (λ t. binary (Data Add) (unary Pre (variable c.args.from.now)) t) c.number.ensures in
     let right = c.in_ok-right.ensures ∙ ap (λ t. binary Arrow t (view c.in_ok-sum.sum)) c.number-2.ensures ∙ ap (λ t. binary Arrow (number 0) t) sum in
     counting_line (record { left = c.new.result; right = c.in_ok-right.right; byte = 1 }) c.args.left.now c.args.from.now
-        (c.new.ensures ∙ c.in_ok-left.ensures.items ∙ ap (λ x. x ∷ []) c.in_ok-from_text.ensures)
-        right
+    (c.new.ensures ∙ c.in_ok-left.ensures.items ∙ ap (λ x. x ∷ []) c.in_ok-from_text.ensures)
+    right

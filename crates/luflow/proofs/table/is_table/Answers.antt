@@ -13,6 +13,7 @@ pub returns-then-instants-le-MOST_INSTANTS : goal.returns-then-instants-le-MOST_
 returns-then-instants-le-MOST_INSTANTS c =
     let n = c.args.instants in
     let xs = c.args.columns.now in
-    let few : n ≤ 1000000 = omega (arith, c.if-instants-le-MOST_INSTANTS.true) in
-    (λ yes. record { few = few; long = All-map (λ (y : Column). length y.values ≡ n) column_view xs (c.are_long.ensures.0 yes) },
-      λ is. c.are_long.ensures.1 (all_back (λ (y : Column). length y.values ≡ n) column_view xs is.long))
+    let few : n ≤ 1000000 = omega (arith, c.if-instants-le-MOST_INSTANTS.true) in (
+      λ yes. record { few = few; long = All-map (λ (y : Column). length y.values ≡ n) column_view xs (c.are_long.ensures.0 yes) },
+      λ is. c.are_long.ensures.1 (all_back (λ (y : Column). length y.values ≡ n) column_view xs is.long),
+    )

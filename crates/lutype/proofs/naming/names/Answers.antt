@@ -1,4 +1,4 @@
-use Rattle.std.proofs.Common.{◌≡◌, ◌∙◌, List, [], ◌∷◌, map, get_or, sym, ap, subst}
+use Rattle.std.proofs.Common.{◌∙◌, List, [], ◌∷◌, get_or, sym, ap, subst}
 use Rattle.lutree.specs.declared.program.Node.{Node}
 use Rattle.lutree.specs.Tree.{node_view, program_view}
 use Rattle.lutype.specs.Faults.{IsJudged}
@@ -11,7 +11,7 @@ new-requires c =
     let is = c.index-as_slice-0.is ∙ ap (λ (ns : List Node). get_or ns 0 n) c.as_slice.ensures in
     let node = node_at c.args.program.now.nodes n c.requires.node c.requires.one_node is in
     in_order (program_view c.args.program.now) c.args.main.now c.requires (node_view n) node
-        (λ lines e. subst (IsJudged (names_in (node_view n) lines) c.args.main.now) c.in-None.is (c.in_ok-fault.ensures lines e))
+    (λ lines e. subst (IsJudged (names_in (node_view n) lines) c.args.main.now) c.in-None.is (c.in_ok-fault.ensures lines e))
 
 pub returns-in-None-clause-in_order : goal.returns-in-None-clause-in_order
 returns-in-None-clause-in_order c =
@@ -19,7 +19,7 @@ returns-in-None-clause-in_order c =
     let is = c.index-as_slice-0.is ∙ ap (λ (ns : List Node). get_or ns 0 n) c.as_slice.ensures in
     let node = node_at c.args.program.now.nodes n c.requires.node c.requires.one_node is in
     in_order (program_view c.args.program.now) c.args.main.now c.requires (node_view n) node
-        (λ lines e. subst (IsJudged (names_in (node_view n) lines) c.args.main.now) c.in-None.is (c.in_ok-fault.ensures lines e))
+    (λ lines e. subst (IsJudged (names_in (node_view n) lines) c.args.main.now) c.in-None.is (c.in_ok-fault.ensures lines e))
 
 pub returns-in-Some-clause-refused : goal.returns-in-Some-clause-refused
 returns-in-Some-clause-refused c =
@@ -27,4 +27,4 @@ returns-in-Some-clause-refused c =
     let is = c.index-as_slice-0.is ∙ ap (λ (ns : List Node). get_or ns 0 n) c.as_slice.ensures in
     let node = node_at c.args.program.now.nodes n c.requires.node c.requires.one_node is in
     refused (program_view c.args.program.now) c.args.main.now (node_view n) c.in-Some.fault (c.requires.one_node ∙ ap (λ m. m ∷ []) (sym node))
-        (λ lines e. subst (IsJudged (names_in (node_view n) lines) c.args.main.now) c.in-Some.is (c.in_ok-fault.ensures lines e))
+    (λ lines e. subst (IsJudged (names_in (node_view n) lines) c.args.main.now) c.in-Some.is (c.in_ok-fault.ensures lines e))

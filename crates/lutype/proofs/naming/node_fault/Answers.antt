@@ -1,11 +1,10 @@
-use Rattle.std.proofs.Common.{◌≡◌, ◌∙◌, List, map, Option, sym, ap, subst}
+use Rattle.std.proofs.Common.{◌≡◌, ◌∙◌, List, map, sym, ap, subst}
 use Rattle.lutree.specs.Tree.{node_view, equation_view}
 use Rattle.lusource.specs.Names.{variables_of}
 use Rattle.lusource.specs.First.{Line, equation_of, lefts_of, froms_of}
-use Rattle.lutype.specs.declared.error.StatError.{StatError}
 use Rattle.lutype.specs.Parts.{lines_of}
 use Rattle.lutype.specs.Spots.{spot_names}
-use Rattle.lutype.specs.Faults.{NodeNames, IsJudged}
+use Rattle.lutype.specs.Faults.{IsJudged}
 use Rattle.lutype.proofs.LineLemmas.{lines_same}
 use Rattle.lutype.proofs.Judging.{ok_map}
 use Rattle.lutype.proofs.naming.node_fault.Goals as goal
@@ -19,14 +18,14 @@ returns c =
     let fs = spot_names c.deref-5.result.now in
     let variables = ap spot_names c.deref-3.ensures.value ∙ c.in_ok-declared.ensures in
     ok_map c.first_fault.result
-        (IsJudged (record { name = node.name; variables = vs; lefts = ls; froms = fs }) main)
-        (λ fault. (lines : List Line) → map equation_view c.args.node.now.equations ≡ map equation_of lines → IsJudged (record { name = node.name; variables = variables_of node; lefts = lefts_of lines; froms = froms_of lines }) main fault)
-        (λ fault h lines e.
-            let read = sym c.in_ok-lines.ensures ∙ ap (map equation_view) c.as_slice.ensures ∙ e in
-            let same = lines_same (lines_of c.in_ok-lines.lines.items) lines read in
-            let lefts = ap spot_names c.deref-4.ensures.value ∙ c.in_ok-lefts.ensures ∙ ap lefts_of (ap lines_of c.deref.ensures.value ∙ same) in
-            let froms = ap spot_names c.deref-5.ensures.value ∙ c.in_ok-froms.ensures ∙ ap froms_of (ap lines_of c.deref-2.ensures.value ∙ same) in
-            let a = subst (λ v. IsJudged (record { name = node.name; variables = v; lefts = ls; froms = fs }) main fault) variables h in
-            let b = subst (λ l. IsJudged (record { name = node.name; variables = variables_of node; lefts = l; froms = fs }) main fault) lefts a in
-            subst (λ f. IsJudged (record { name = node.name; variables = variables_of node; lefts = lefts_of lines; froms = f }) main fault) froms b)
-        c.first_fault.ensures
+    (IsJudged (record { name = node.name; variables = vs; lefts = ls; froms = fs }) main)
+    (λ fault. (lines : List Line) → map equation_view c.args.node.now.equations ≡ map equation_of lines → IsJudged (record { name = node.name; variables = variables_of node; lefts = lefts_of lines; froms = froms_of lines }) main fault)
+    (λ fault h lines e.
+    let read = sym c.in_ok-lines.ensures ∙ ap (map equation_view) c.as_slice.ensures ∙ e in
+    let same = lines_same (lines_of c.in_ok-lines.lines.items) lines read in
+    let lefts = ap spot_names c.deref-4.ensures.value ∙ c.in_ok-lefts.ensures ∙ ap lefts_of (ap lines_of c.deref.ensures.value ∙ same) in
+    let froms = ap spot_names c.deref-5.ensures.value ∙ c.in_ok-froms.ensures ∙ ap froms_of (ap lines_of c.deref-2.ensures.value ∙ same) in
+    let a = subst (λ v. IsJudged (record { name = node.name; variables = v; lefts = ls; froms = fs }) main fault) variables h in
+    let b = subst (λ l. IsJudged (record { name = node.name; variables = variables_of node; lefts = l; froms = fs }) main fault) lefts a in
+    subst (λ f. IsJudged (record { name = node.name; variables = variables_of node; lefts = lefts_of lines; froms = f }) main fault) froms b)
+    c.first_fault.ensures

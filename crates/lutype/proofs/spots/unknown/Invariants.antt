@@ -7,5 +7,5 @@ use Rattle.lutype.proofs.spots.unknown.Given as goal
 abbrev pub invariant-loop-spot : goal.invariant-loop-spot
 invariant-loop-spot l =
     MatchOption l.least
-        ((known : List (List ℕ)) → IsPlaces (get_by_text l.index) known → All (Contains known) (spot_names (take l.spot-index l.spots)))
-        (λ _. (known : List (List ℕ)) → IsPlaces (get_by_text l.index) known → All (Contains known) (spot_names l.spots) → ⊥)
+    ((known : List (List ℕ)) → IsPlaces (get_by_text l.index) known → All (Contains known) (spot_names (take l.spot-index l.spots)))
+    (λ _. (known : List (List ℕ)) → IsPlaces (get_by_text l.index) known → All (Contains known) (spot_names l.spots) → ⊥)
