@@ -1,0 +1,4 @@
+pub mod Inputless
+pub mod NewSites
+pub mod Shapes
+pub mod Worlds

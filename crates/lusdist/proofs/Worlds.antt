@@ -1,0 +1,35 @@
+-- A world has all the sites of its job.
+use Rattle.std.proofs.Common.{◌≡◌, ℕ, ◌<◌, suc, List, [], ◌∷◌, length, sym, ap, ◌∙◌, refl, Some, slice_get, arith}
+use Rattle.std.proofs.Math.ListN.{length-set}
+use Rattle.std.proofs.lemmas.List.{length-replicate}
+use Rattle.luworld.specs.Needs.{Distribution, sites_of}
+use Rattle.luworld.specs.Runs.{Run, system_of}
+use Rattle.lusite.specs.Sites.{SiteAt}
+use Rattle.luweave.specs.Worlds.{IsNewWorld}
+use Rattle.luworld.specs.World.{System, World, done, turn, world_after, step, run, reached, new_world}
+use Rattle.luworld.specs.declared.turn.Turn.{Turn}
+use Rattle.luworld.specs.declared.turn.Turn.TheVariants.{Moved, Blocked, Over}
+
+after_len : (t : Turn) (world : World) (site : ℕ) → length (world_after t world site) ≡ length world
+after_len Moved world site = simp length-set
+after_len Blocked world site = refl
+after_len Over world site = refl
+
+run_len : (sys : System) (world : World) (schedule : List ℕ) → length (run sys world schedule) ≡ length world
+run_len sys world [] = refl
+run_len sys world (site ∷ schedule) = run_len sys (step sys world site) schedule ∙ after_len (turn sys world site) world site
+
+pub reached_len : (sys : System) (schedule : List ℕ) → length (reached sys schedule) ≡ sys.sites
+reached_len sys schedule = run_len sys (new_world sys) schedule ∙ length-replicate sys.sites 0
+
+first_there : (sites : List SiteAt) → 0 < length sites → (v : SiteAt) × (slice_get sites 0 ≡ Some v)
+first_there [] some = absurd (omega arith)
+first_there (v ∷ sites) some = (v, refl)
+
+pub world_plan : (plan : Distribution) (sites : List SiteAt) (job : Run) → IsNewWorld plan sites → ((v : SiteAt) → slice_get sites 0 ≡ Some v → job ≡ v.job) → job.plan ≡ plan
+world_plan plan sites job new first =
+    let (v, there) = first_there sites new.some in
+    ap (λ (r : Run). r.plan) (first v there ∙ (new.each 0 v there).job_is) ∙ sym new.plan_is
+
+pub world_sites : (plan : Distribution) (job : Run) (dones turns : List ℕ) → job.plan ≡ plan → dones ≡ reached (system_of job) turns → length dones ≡ sites_of plan
+world_sites plan job dones turns is reach = ap length reach ∙ reached_len (system_of job) turns ∙ ap sites_of is

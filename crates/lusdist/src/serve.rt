@@ -1,0 +1,81 @@
+//! A call of the program.
+
+ghost use Rattle.std.specs.Prelude.{◌≡◌, ◌⊎◌};
+
+use crate::sites::new_sites;
+use crate::sources::{flat_of, job_of, plan_of, read, turns_of};
+use crate::stop::Stop;
+use crate::text::text_of_world;
+use luplace::Job;
+use lushell::{Files, Request, parse, put_error_line, put_mistake, put_out};
+use luweave::replay;
+use std::alloc::Global;
+use std::io::Write;
+
+/// The job of the files that a replay asks for, and its turns. They are read and refused in the order of the words.
+fn job_and_turns<F: Files>(
+    alloc: Global,
+    request: Request<'_>,
+    files: &F,
+) -> Result<(Job, Vec<u8>), Stop> {
+    let program = read(alloc, files, request.program)?;
+    let flat = flat_of(alloc, &program, request.main)?;
+    let place = read(alloc, files, request.place)?;
+    let plan = plan_of(alloc, flat, &place)?;
+    let table = read(alloc, files, request.table)?;
+    let job = job_of(alloc, plan, &table)?;
+    let schedule = read(alloc, files, request.schedule)?;
+    let turns = turns_of(alloc, &schedule)?;
+    Ok((job, turns))
+}
+
+/// What a replay of a job prints.
+fn replayed(alloc: Global, job: &Job, turns: &[u8]) -> Result<String, Stop> {
+    let sites = new_sites(alloc, job)?;
+    let world = replay(alloc, job.plan(), sites, turns)?;
+    Ok(text_of_world(alloc, job.plan(), &world)?)
+}
+
+fn answer<F: Files>(alloc: Global, request: Request<'_>, files: &F) -> Result<String, Stop> {
+    let (job, turns) = job_and_turns(alloc, request, files)?;
+    replayed(alloc, &job, &turns)
+}
+
+/// Does what the words asked for.
+fn perform<F: Files, W: Write, V: Write>(
+    alloc: Global,
+    request: Request<'_>,
+    files: &F,
+    out: &mut W,
+    err: &mut V,
+) -> u8
+    ensures refused { (result ≡ 1) ⊎ (result ≡ 2) → out.new ≡ out.old }
+{
+    match answer(alloc, request, files) {
+        Ok(text) => put_out(out, err, text.as_bytes()),
+        Err(stop) => {
+            let status = stop.status();
+            put_error_line(err, stop);
+            status
+        }
+    }
+}
+
+/// One call of the program, of which the first word is the program's name. Answers the exit status: 0 where it is done,
+/// also where a site faulted, and for help; 1 where a text is refused; 2 for a mistake in the words or a file that can't
+/// be read; 3 for want of memory, or output that can't be written. A refusal is one line on the error stream.
+pub fn serve_words<F: Files, W: Write, V: Write>(
+    alloc: Global,
+    words: &[String],
+    files: &F,
+    out: &mut W,
+    err: &mut V,
+) -> u8
+    // Where a text or a file is refused, or the words are, nothing goes to the output.
+    ensures refused { (result ≡ 1) ⊎ (result ≡ 2) → out.new ≡ out.old }
+{
+    match parse(alloc, words) {
+        Ok(request) => perform(alloc, request, files, out, err),
+        Err(mistake) => put_mistake(out, err, &mistake),
+    }
+}

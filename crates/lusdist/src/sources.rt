@@ -1,0 +1,107 @@
+//! From the texts of the files to a plan, a job and its turns.
+
+ghost use Rattle.std.specs.Prelude.{◌≡◌, IfOk};
+ghost use Rattle.lutree.specs.Tree.{program_view};
+ghost use Rattle.lusource.specs.First.{IsFirstShape};
+ghost use Rattle.lutab.specs.Fit.{HasNoInputs};
+
+use crate::stop::Stop;
+use lucore::flatten;
+use luflow::Flat;
+use lulist::Name;
+use luplace::{Job, Plan};
+use luplacefile::{PlaceError, read_place};
+use lushell::{Files, ReadError, read_schedule, text_of};
+use lusyn::read_program;
+use lutab::{TabError, read_inputs};
+use lutree::Program;
+use lutype::names;
+use std::alloc::Global;
+
+/// The bytes of the file at the path.
+pub fn read<F: Files>(alloc: Global, files: &F, path: &str) -> Result<Vec<u8>, Stop>
+    ensures { IfOk result (λ bytes. F.gives files.now path.now bytes.items) }
+{
+    match files.read(alloc, path) {
+        Ok(bytes) => Ok(bytes),
+        Err(ReadError::OutOfMemory) => Err(Stop::OutOfMemory),
+        Err(ReadError::CannotRead) => Err(Stop::CannotRead {
+            path: Name::from_text(alloc, path)?,
+        }),
+    }
+}
+
+/// The flat program that the bytes of a program's file are, from its main node of this name.
+pub fn flat_of(alloc: Global, bytes: &[u8], main: &str) -> Result<Flat, Stop>
+    ensures { IfOk result HasNoInputs }
+{
+    let Some(text) = text_of(bytes) else {
+        return Err(Stop::NotAscii);
+    };
+    let program = program_of(alloc, text)?;
+    flattened(alloc, &program, main)
+}
+
+/// The program that a text spells.
+fn program_of(alloc: Global, text: &str) -> Result<Program, Stop>
+    ensures { IfOk result (λ program. IsFirstShape (program_view program)) }
+{
+    match read_program(alloc, text) {
+        Ok(program) => Ok(program),
+        Err(e) => Err(Stop::Syntax(e)),
+    }
+}
+
+/// The flat program of a program, from its main node of this name.
+fn flattened(alloc: Global, program: &Program, main: &str) -> Result<Flat, Stop>
+    requires { IsFirstShape (program_view program.now) }
+    ensures { IfOk result HasNoInputs }
+{
+    let typed = match names(alloc, program, main) {
+        Ok(typed) => typed,
+        Err(e) => return Err(Stop::Names(e)),
+    };
+    match flatten(alloc, &typed) {
+        Ok(flat) => Ok(flat),
+        Err(e) => Err(Stop::Flat(e)),
+    }
+}
+
+/// The plan of a flat program and the bytes of a placement's file.
+pub fn plan_of(alloc: Global, flat: Flat, bytes: &[u8]) -> Result<Plan, Stop>
+    ensures { IfOk result (λ plan. plan.flat ≡ flat) }
+{
+    let Some(text) = text_of(bytes) else {
+        return Err(Stop::Place(PlaceError::NotToml));
+    };
+    let place = match read_place(alloc, text) {
+        Ok(place) => place,
+        Err(e) => return Err(Stop::Place(e)),
+    };
+    match Plan::make(alloc, flat, &place) {
+        Ok(plan) => Ok(plan),
+        Err(e) => Err(Stop::Place(e)),
+    }
+}
+
+/// The job of a plan and the bytes of a table's file.
+pub fn job_of(alloc: Global, plan: Plan, bytes: &[u8]) -> Result<Job, Stop>
+    requires { HasNoInputs plan.flat }
+    ensures { IfOk result (λ job. job.plan ≡ plan) }
+{
+    let Some(text) = text_of(bytes) else {
+        return Err(Stop::Table(TabError::BadHeader));
+    };
+    match read_inputs(alloc, plan.flat(), text) {
+        Ok(inputs) => Ok(Job::new(plan, inputs)),
+        Err(e) => Err(Stop::Table(e)),
+    }
+}
+
+/// The turns that the bytes of a schedule's file are.
+pub fn turns_of(alloc: Global, bytes: &[u8]) -> Result<Vec<u8>, Stop> {
+    match read_schedule(alloc, bytes) {
+        Ok(turns) => Ok(turns),
+        Err(e) => Err(Stop::Schedule(e)),
+    }
+}
