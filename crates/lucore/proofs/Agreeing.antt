@@ -1,26 +1,26 @@
 -- The flat program and its source have the same solutions.
-use Rattle.std.proofs.Common.{◌≡◌, ℕ, zero, suc, ◌+◌, ◌*◌, ◌<◌, ◌≤◌, List, [], ◌∷◌, ◌++◌, length, map, get_or, Option, Some, None, refl, sym, ap, ◌∙◌, subst, arith}
+use Rattle.std.proofs.Common.{◌≡◌, ℕ, ◌+◌, ◌*◌, ◌<◌, List, [], ◌∷◌, ◌++◌, length, map, get_or, Some, refl, sym, ap, ◌∙◌, subst, arith}
 use Rattle.std.specs.Prelude.{slice_get, pos}
 use Rattle.std.specs.Option.{option_map}
 use Rattle.std.proofs.lemmas.List.{length-map}
 use Rattle.std.proofs.lemmas.Option.{slice_get_within, slice_get-map, get_or_from_slice_get}
 use Rattle.lutree.specs.declared.expr.BinaryOperator.TheVariants.{Add}
-use Rattle.lutree.specs.Tree.{NodeTree, ProgramTree}
+use Rattle.lutree.specs.Tree.{ProgramTree}
 use Rattle.luflow.specs.declared.data.Datum.TheVariants.{Int}
 use Rattle.luflow.specs.declared.variable.Variable.{Variable}
 use Rattle.luflow.specs.Program.{FlatProgram, Table}
-use Rattle.luflow.specs.Streams.{Mark, Broken, Stream, Streams, Ticks, base_clock}
+use Rattle.luflow.specs.Streams.{Broken, Stream, Streams, Ticks, base_clock}
 use Rattle.luflow.specs.Solution.{IsSolution}
 use Rattle.lusource.specs.Names.{variables_of, place_of}
 use Rattle.lusource.specs.StreamOperators.{constant_stream, binary_stream, pre_stream, arrow_stream}
-use Rattle.lusource.specs.Source.{Named, Path, SourceStreams, IsSourceSolution}
+use Rattle.lusource.specs.Source.{Named, SourceStreams, IsSourceSolution}
 use Rattle.lusource.specs.Agreement.{SameOnVariables, Agrees}
 use Rattle.lusource.specs.First.{Line, AreNamed, lefts_of, froms_of, IsFirstProgram}
-use Rattle.lucore.specs.Layout.{in_fours, laid_flows, IsLaidOut}
+use Rattle.lucore.specs.Layout.{in_fours, IsLaidOut}
 use Rattle.lucore.proofs.Lists.{get-front, get-behind, get-in_fours, get-place_of, place_of-at}
 use Rattle.lucore.proofs.Laid.{Laid, laid, left_at, from_at}
 use Rattle.lucore.proofs.Variables.{get-name}
-use Rattle.lucore.proofs.Meaning.{line_stream, LinesHold, source_to, source_from, LineSolved, AreSolved, flat_to, flat_from}
+use Rattle.lucore.proofs.Meaning.{LinesHold, source_to, source_from, AreSolved, flat_to, flat_from}
 
 pub nothing : Stream
 nothing t = Broken

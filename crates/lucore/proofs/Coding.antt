@@ -1,13 +1,11 @@
 -- Lists as the code builds them.
-use Rattle.std.proofs.Common.{◌≡◌, ℕ, zero, suc, ◌+◌, ◌*◌, ◌<◌, ◌≤◌, List, [], ◌∷◌, ◌++◌, length, map, get_or, take, Option, Some, None, refl, sym, ap, ◌∙◌, subst, arith, append_assoc, length-append}
-use Rattle.std.specs.Prelude.{slice_get, All}
+use Rattle.std.proofs.Common.{◌≡◌, ℕ, zero, suc, ◌+◌, ◌*◌, ◌<◌, ◌≤◌, List, [], ◌∷◌, ◌++◌, length, get_or, take, refl, sym, ap, ◌∙◌, arith, append_assoc, length-append}
+use Rattle.std.specs.Prelude.{All}
 use Rattle.std.specs.List.{range_with_len}
 use Rattle.std.specs.Option.{option_map}
 use Rattle.std.proofs.lemmas.List.{map-append, length-map, take_more}
 use Rattle.std.proofs.lemmas.Option.{slice_get_read, slice_get-map}
-use Rattle.lutree.specs.declared.program.Equation.{Equation}
-use Rattle.lutree.specs.Tree.{EquationTree, equation_view}
-use Rattle.lusource.specs.First.{Line, equation_of}
+use Rattle.lusource.specs.First.{Line}
 use Rattle.lutype.specs.declared.parts.Parts.{Parts}
 use Rattle.lutype.specs.Parts.{line_of, lines_of}
 use Rattle.lucore.specs.Layout.{in_fours}

@@ -1,16 +1,16 @@
 -- Where the flows of each line stand.
-use Rattle.std.proofs.Common.{◌≡◌, ℕ, zero, suc, ◌+◌, ◌*◌, ◌-◌, ◌/◌, ◌%◌, ◌<◌, ◌≤◌, ◌⊎◌, inl, inr, ⊎_elim, List, [], ◌∷◌, ◌++◌, length, map, get_or, Option, Some, None, refl, sym, ap, ◌∙◌, subst, arith, length-append}
-use Rattle.std.specs.Prelude.{slice_get, pos, Contains, All}
+use Rattle.std.proofs.Common.{◌≡◌, ℕ, zero, suc, ◌+◌, ◌*◌, ◌-◌, ◌/◌, ◌%◌, ◌<◌, ◌≤◌, ⊎_elim, List, [], ◌++◌, length, map, get_or, Option, Some, None, refl, sym, ap, ◌∙◌, arith, length-append}
+use Rattle.std.specs.Prelude.{slice_get, pos, Contains}
 use Rattle.std.proofs.lemmas.Bool.{cases_lt}
 use Rattle.std.proofs.lemmas.List.{length-map}
 use Rattle.std.proofs.lemmas.Option.{slice_get-get_or, slice_get_within, slice_get-map}
 use Rattle.std.specs.Option.{option_map}
 use Rattle.lutree.specs.declared.expr.BinaryOperator.TheVariants.{Add}
 use Rattle.luflow.specs.declared.data.Datum.TheVariants.{Int}
-use Rattle.luflow.specs.declared.form.Form.TheVariants.{Constant, Binary, Pre, Arrow}
+use Rattle.luflow.specs.declared.form.Form.TheVariants.{Constant, Binary, Pre}
 use Rattle.luflow.specs.declared.form.Flow.{Flow}
 use Rattle.lusource.specs.First.{Line, AreNamed, lefts_of, froms_of}
-use Rattle.lusource.specs.Names.{AreDistinct, place_of}
+use Rattle.lusource.specs.Names.{place_of}
 use Rattle.lucore.specs.Layout.{int_flow, inner_flows, root_flow, in_fours, start_of, laid_flows}
 use Rattle.lucore.proofs.Lists.{get-front, get-behind, length-in_fours, get-in_fours, get-place_of, place_of-at, at_from_contains, all_at}
 

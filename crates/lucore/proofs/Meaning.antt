@@ -1,29 +1,27 @@
 -- What a line says of streams, in the source and in the flat program.
-use Rattle.std.proofs.Common.{◌≡◌, ℕ, zero, suc, ◌+◌, ◌*◌, ◌<◌, ◌≤◌, Bool, true, false, List, [], ◌∷◌, ◌++◌, length, map, get_or, Option, Some, None, refl, sym, ap, ◌∙◌, subst, arith, cond}
-use Rattle.std.specs.Prelude.{slice_get, pos, Contains, All}
+use Rattle.std.proofs.Common.{◌≡◌, ℕ, zero, suc, ◌+◌, ◌*◌, Bool, true, false, List, [], ◌∷◌, length, map, Option, Some, None, refl, sym, ap, ◌∙◌, subst, cond}
+use Rattle.std.specs.Prelude.{slice_get, pos}
 use Rattle.std.specs.Str.{bytes_eq}
 use Rattle.std.proofs.Math.Path.{fun_ext}
 use Rattle.std.proofs.lemmas.Slice.Eq.{bytes_eq-Decides}
 use Rattle.std.proofs.lemmas.Option.{slice_get_within}
 use Rattle.lutree.specs.declared.expr.BinaryOperator.TheVariants.{Add}
 use Rattle.lutree.specs.declared.expr.Condition.{Condition}
-use Rattle.lutree.specs.Tree.{DeclarationTree, EquationTree, NodeTree, ProgramTree}
+use Rattle.lutree.specs.Tree.{DeclarationTree, NodeTree, ProgramTree}
 use Rattle.luflow.specs.declared.data.Datum.TheVariants.{Int}
 use Rattle.luflow.specs.declared.form.Clock.TheVariants.{Base}
 use Rattle.luflow.specs.declared.form.Form.{Form}
-use Rattle.luflow.specs.declared.form.Form.TheVariants.{Constant, Binary, Pre, Arrow}
-use Rattle.luflow.specs.declared.form.Flow.{Flow}
-use Rattle.luflow.specs.Program.{FlatProgram, Table, flow_at, flows_of}
-use Rattle.luflow.specs.Streams.{Mark, Known, Broken, Stream, Streams, Ticks, base_clock, clock_at}
+use Rattle.luflow.specs.Program.{FlatProgram, Table, flow_at}
+use Rattle.luflow.specs.Streams.{Stream, Streams, Ticks, base_clock}
 use Rattle.luflow.specs.Values.{under, value_at}
 use Rattle.luflow.specs.Solution.{IsSolution, says}
-use Rattle.lusource.specs.Names.{declarations_of, variables_of, place_of, node_of, clock_in, clock_of}
+use Rattle.lusource.specs.Names.{declarations_of, place_of, node_of, clock_in, clock_of}
 use Rattle.lusource.specs.StreamOperators.{constant_stream, binary_stream, pre_stream, arrow_stream}
-use Rattle.lusource.specs.Source.{Named, output, EquationsHold, all_sites, SourceStreams, HoldsAt, IsSourceSolution, InstanceHolds, If, sites_of, given_streams, Path}
-use Rattle.lusource.specs.First.{Line, equation_of, IsPlain, IsFirstShape, IsFirstProgram}
-use Rattle.lucore.specs.Layout.{int_flow, root_flow}
+use Rattle.lusource.specs.Source.{Named, output, EquationsHold, all_sites, SourceStreams, HoldsAt, IsSourceSolution, InstanceHolds, If, sites_of, given_streams}
+use Rattle.lusource.specs.First.{Line, equation_of, IsPlain, IsFirstProgram}
+use Rattle.lucore.specs.Layout.{int_flow}
 use Rattle.lucore.proofs.Lists.{all_at}
-use Rattle.lucore.proofs.Laid.{LineStands, as_first, as_before, as_step, as_sum, as_root, Which, Spot, Laid}
+use Rattle.lucore.proofs.Laid.{LineStands, as_first, as_before, as_step, as_sum, as_root, Which, Laid}
 
 -- what a line's right side is, where the variables have these streams
 abbrev pub line_stream : Ticks → Named → Line → Stream

@@ -1,29 +1,27 @@
 -- The laid-out flows are sound, name flows, and keep inside their equations.
-use Rattle.std.proofs.Common.{◌≡◌, ◌≢◌, ℕ, zero, suc, ◌+◌, ◌*◌, ◌-◌, ◌<◌, ◌≤◌, ◌⊎◌, inl, inr, ⊎_elim, Bool, true, false, List, [], ◌∷◌, ◌++◌, length, map, get_or, Option, Some, None, refl, sym, ap, ◌∙◌, subst, arith, length-append, zero-add}
+use Rattle.std.proofs.Common.{◌≡◌, ℕ, zero, suc, ◌+◌, ◌*◌, ◌<◌, ◌≤◌, inl, inr, Bool, true, false, List, [], ◌∷◌, ◌++◌, length, get_or, Option, Some, None, refl, sym, ap, ◌∙◌, subst, arith, length-append, zero-add}
 use Rattle.std.specs.Prelude.{slice_get, slice_index, pos, All}
 use Rattle.std.specs.List.{range_with_len}
-use Rattle.std.proofs.lemmas.Bool.{cases_lt}
 use Rattle.std.proofs.lemmas.List.FromFn.{length-range_with_len, get_or-range_with_len}
 use Rattle.std.proofs.lemmas.List.Elements.{All-nil}
 use Rattle.std.proofs.lemmas.Option.{slice_get-get_or, slice_get_within, get_or_from_slice_get}
 use Rattle.lutree.specs.declared.expr.BinaryOperator.TheVariants.{Add}
 use Rattle.lutree.specs.declared.program.Kind.TheVariants.{Int as Ints}
 use Rattle.lutree.specs.Tree.{NodeTree}
-use Rattle.luflow.specs.declared.data.Datum.TheVariants.{Int, Nil}
+use Rattle.luflow.specs.declared.data.Datum.TheVariants.{Int}
 use Rattle.luflow.specs.declared.form.Clock.TheVariants.{Base}
 use Rattle.luflow.specs.declared.form.Form.{Form}
 use Rattle.luflow.specs.declared.form.Form.TheVariants.{Input, Constant, Copied, Unary, Binary, If, Pre, Arrow, When, Current, Merge}
 use Rattle.luflow.specs.declared.form.Flow.{Flow}
 use Rattle.luflow.specs.declared.variable.Variable.{Variable}
-use Rattle.luflow.specs.declared.variable.Role.TheVariants as role
 use Rattle.luflow.specs.Program.{FlatProgram, flow_at, flows_of, places, clock_reads}
-use Rattle.luflow.specs.Sound.{IsOn, AtMost, FormFits, ClockFits, IsSound}
+use Rattle.luflow.specs.Sound.{IsOn, FormFits, ClockFits, IsSound}
 use Rattle.luflow.specs.Flats.{IsWithin}
 use Rattle.lusource.specs.Names.{variables_of, place_of}
 use Rattle.lusource.specs.First.{Line, AreNamed, lefts_of, froms_of}
-use Rattle.lucore.specs.Layout.{int_flow, root_flow, in_fours, laid_owners, four_times, main_variables, IsLaidOut}
+use Rattle.lucore.specs.Layout.{int_flow, root_flow, in_fours, laid_owners, four_times, IsLaidOut}
 use Rattle.lucore.proofs.Lists.{get-front, get-behind, length-in_fours, get-in_fours}
-use Rattle.lucore.proofs.Laid.{LineStands, Which, as_first, as_before, as_step, as_sum, as_root, Spot, Laid, laid, Rooted, rooted}
+use Rattle.lucore.proofs.Laid.{LineStands, Which, as_first, as_before, as_step, as_sum, as_root, Spot, Laid, laid, rooted}
 use Rattle.lucore.proofs.Variables.{get-name, length-main}
 
 -- the class of a flow: a `pre` and its sum may be nil

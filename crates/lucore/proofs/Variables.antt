@@ -1,5 +1,5 @@
 -- The main variables and their names.
-use Rattle.std.proofs.Common.{◌≡◌, ℕ, zero, suc, ◌+◌, ◌<◌, List, [], ◌∷◌, ◌++◌, length, map, Option, Some, None, refl, sym, ap, ◌∙◌, subst, arith, ◌⊎◌, ⊎_elim}
+use Rattle.std.proofs.Common.{◌≡◌, ℕ, zero, suc, List, [], ◌∷◌, ◌++◌, length, Some, refl, sym, ap, ◌∙◌, ⊎_elim}
 use Rattle.std.specs.Prelude.{slice_get}
 use Rattle.std.specs.Option.{option_map}
 use Rattle.std.proofs.lemmas.List.{map-append, length-map}
@@ -8,7 +8,7 @@ use Rattle.lutree.specs.Tree.{DeclarationTree, NodeTree}
 use Rattle.luflow.specs.declared.variable.Variable.{Variable}
 use Rattle.luflow.specs.declared.variable.Role.{Role}
 use Rattle.luflow.specs.declared.variable.Role.TheVariants as role
-use Rattle.lusource.specs.Names.{declarations_of, variables_of, names_of, name_at}
+use Rattle.lusource.specs.Names.{variables_of, names_of, name_at}
 use Rattle.lucore.proofs.Lists.{get-split}
 use Rattle.lucore.specs.Layout.{variables_as, main_variables, variable_names}
 

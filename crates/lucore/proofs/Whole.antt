@@ -1,6 +1,6 @@
 -- The laid-out list with its order of ranks is the flat program of its source.
-use Rattle.std.proofs.Common.{◌≡◌, ℕ, zero, suc, ◌+◌, ◌*◌, ◌<◌, ◌≤◌, List, [], ◌∷◌, ◌++◌, length, map, get_or, Option, Some, None, refl, sym, ap, ◌∙◌, subst, arith, true, false, Bool, ⊎_elim, ◌⊎◌, rules}
-use Rattle.std.specs.Prelude.{slice_get, slice_index, unwrap_or, All, IsTrue, ◌↔◌}
+use Rattle.std.proofs.Common.{◌≡◌, ℕ, zero, suc, ◌<◌, ◌≤◌, List, [], ◌∷◌, length, map, Option, Some, None, refl, sym, ap, ◌∙◌, subst, arith, true, false, Bool, ⊎_elim}
+use Rattle.std.specs.Prelude.{slice_get, unwrap_or, All, IsTrue, ◌↔◌}
 use Rattle.std.specs.Option.{option_map}
 use Rattle.std.proofs.lemmas.Bool.{cases_lt}
 use Rattle.std.proofs.lemmas.List.{length-map}
@@ -11,12 +11,12 @@ use Rattle.luflow.specs.declared.form.Form.{Form}
 use Rattle.luflow.specs.declared.form.Form.TheVariants.{Input, Constant, Copied, Unary, Binary, If, Pre, Arrow, When, Current, Merge}
 use Rattle.luflow.specs.declared.form.Flow.{Flow}
 use Rattle.luflow.specs.declared.variable.Variable.{Variable}
-use Rattle.luflow.specs.Program.{FlatProgram, flow_at, flows_of, places, form_reads, clock_reads, reads}
+use Rattle.luflow.specs.Program.{FlatProgram, places, form_reads, clock_reads, reads}
 use Rattle.luflow.specs.Rank.{IsRankOrder, Chain, one, more, has, row}
 use Rattle.luflow.specs.Flats.{IsFlat}
-use Rattle.lusource.specs.Names.{variables_of, place_of}
+use Rattle.lusource.specs.Names.{variables_of}
 use Rattle.lusource.specs.First.{Line, IsFirstProgram, equation_of}
-use Rattle.lucore.specs.Layout.{IsLaidOut, node_count, laid_flows}
+use Rattle.lucore.specs.Layout.{IsLaidOut, node_count}
 use Rattle.lucore.specs.Code.{AreLaid}
 use Rattle.lucore.specs.Ranking.{AreClosed}
 use Rattle.lucore.specs.Result.{IsFlatOf}

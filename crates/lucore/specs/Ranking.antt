@@ -1,5 +1,5 @@
 -- Orders of ranks that grow.
-use Rattle.std.specs.Prelude.{◌≡◌, ℕ, ◌<◌, Bool, true, false, List, length, All, slice_index_or}
+use Rattle.std.specs.Prelude.{◌≡◌, ℕ, ◌<◌, true, false, List, length, All}
 use Rattle.luflow.specs.Rank.{has, row, IsRankOrder, Chain}
 use Rattle.lucore.specs.declared.ranks.Ranking.{Ranking}
 use Rattle.lucore.specs.declared.ranks.Ranking.TheVariants.{Order, Cycle}

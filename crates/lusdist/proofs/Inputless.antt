@@ -1,6 +1,5 @@
 -- The flat program of a program of the first language has no inputs.
-use Rattle.std.proofs.Common.{◌≡◌, ◌≢◌, ℕ, List, [], ◌∷◌, ◌++◌, map, Some, sym, ap, ◌∙◌, subst, All}
-use Rattle.std.specs.Prelude.{slice_get}
+use Rattle.std.proofs.Common.{◌≡◌, ◌≢◌, ℕ, List, [], ◌∷◌, ◌++◌, sym, subst, All}
 use Rattle.std.proofs.lemmas.List.Elements.{All-nil, All-cons, All-append}
 use Rattle.lutree.specs.Tree.{DeclarationTree, NodeTree, ProgramTree}
 use Rattle.luflow.specs.declared.variable.Role.{Role}

@@ -1,5 +1,5 @@
 -- One new site more.
-use Rattle.std.proofs.Common.{◌≡◌, ℕ, zero, suc, List, [], ◌∷◌, ◌++◌, length, Option, Some, None, slice_get, subst, sym}
+use Rattle.std.proofs.Common.{◌≡◌, ℕ, zero, suc, List, [], ◌∷◌, ◌++◌, length, Some, None, slice_get, subst, sym}
 use Rattle.luworld.specs.Runs.{Run}
 use Rattle.lusite.specs.Sites.{SiteAt}
 use Rattle.luweave.specs.Worlds.{IsNewSite}

@@ -1,12 +1,11 @@
 -- A text that spells a program has the shape of the first language.
-use Rattle.std.proofs.Common.{◌≡◌, ℕ, ◌<◌, ◌≤◌, ◌^◌, List, [], ◌∷◌, ◌++◌, map, Option, Some, None, refl, sym, ap, ◌∙◌, subst, arith, All, Bool, true, false, Result, Ok, Err, IfOk}
+use Rattle.std.proofs.Common.{◌≡◌, ℕ, ◌<◌, ◌≤◌, ◌^◌, List, [], ◌∷◌, map, Option, Some, None, refl, sym, ap, ◌∙◌, subst, arith, All, Bool, true, false, Result, Ok, Err, IfOk}
 use Rattle.std.specs.List.{flat_map}
-use Rattle.std.proofs.lemmas.List.Elements.{All-nil, All-cons, All-append, All-map}
-use Rattle.lutree.specs.Tree.{DeclarationTree, EquationTree, NodeTree, ProgramTree}
-use Rattle.lusource.specs.Names.{declarations_of}
+use Rattle.std.proofs.lemmas.List.Elements.{All-nil, All-cons, All-append}
+use Rattle.lutree.specs.Tree.{EquationTree, ProgramTree}
 use Rattle.lusource.specs.First.{Line, equation_of, IsPlain, IsFirstShape}
 use Rattle.lusource.specs.First as first
-use Rattle.lusyn.specs.Tokens.{Tok, identifier, number, fixed}
+use Rattle.lusyn.specs.Tokens.{Tok}
 use Rattle.lusyn.specs.Lexing.{IsInRange, Pieces, AreCut, tokens, before}
 use Rattle.lusyn.specs.Grammar.{WrittenDeclaration, WrittenDeclarations, WrittenEquation, WrittenHeading, WrittenBody, WrittenProgram, repeated, optional, further_name, declaration, further_declaration, declarations, ended_declaration, locals, ended_equation, heading, body, declared, declaration_tree, declarations_tree, locals_tree, equation_tree, node_tree}
 use Rattle.lusyn.specs.Grammar as grammar

@@ -1,12 +1,12 @@
 -- A world has all the sites of its job.
-use Rattle.std.proofs.Common.{◌≡◌, ℕ, ◌<◌, suc, List, [], ◌∷◌, length, sym, ap, ◌∙◌, refl, Some, slice_get, arith}
+use Rattle.std.proofs.Common.{◌≡◌, ℕ, ◌<◌, List, [], ◌∷◌, length, sym, ap, ◌∙◌, refl, Some, slice_get, arith}
 use Rattle.std.proofs.Math.ListN.{length-set}
 use Rattle.std.proofs.lemmas.List.{length-replicate}
 use Rattle.luworld.specs.Needs.{Distribution, sites_of}
 use Rattle.luworld.specs.Runs.{Run, system_of}
 use Rattle.lusite.specs.Sites.{SiteAt}
 use Rattle.luweave.specs.Worlds.{IsNewWorld}
-use Rattle.luworld.specs.World.{System, World, done, turn, world_after, step, run, reached, new_world}
+use Rattle.luworld.specs.World.{System, World, turn, world_after, step, run, reached, new_world}
 use Rattle.luworld.specs.declared.turn.Turn.{Turn}
 use Rattle.luworld.specs.declared.turn.Turn.TheVariants.{Moved, Blocked, Over}
 

@@ -50,6 +50,7 @@ fn perform<F: Files, W: Write, V: Write>(
     err: &mut V,
 ) -> u8
     ensures refused { (result ≡ 1) ⊎ (result ≡ 2) → out.new ≡ out.old }
+    ensures silent { result ≡ 0 → err.new ≡ err.old }
 {
     match answer(alloc, request, files) {
         Ok(text) => put_out(out, err, text.as_bytes()),
@@ -73,6 +74,9 @@ pub fn serve_words<F: Files, W: Write, V: Write>(
 ) -> u8
     // Where a text or a file is refused, or the words are, nothing goes to the output.
     ensures refused { (result ≡ 1) ⊎ (result ≡ 2) → out.new ≡ out.old }
+
+    // Where the call is done, nothing goes to the error stream.
+    ensures silent { result ≡ 0 → err.new ≡ err.old }
 {
     match parse(alloc, words) {
         Ok(request) => perform(alloc, request, files, out, err),

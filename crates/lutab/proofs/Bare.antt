@@ -1,5 +1,5 @@
 -- The flat program of no flows.
-use Rattle.std.proofs.Common.{◌≡◌, ℕ, ◌<◌, List, [], Some, None, refl, sym, subst, arith, true, All}
+use Rattle.std.proofs.Common.{◌≡◌, ℕ, ◌<◌, List, [], Some, None, refl, sym, subst, arith, true}
 use Rattle.std.proofs.lemmas.List.Elements.{All-nil}
 use Rattle.luflow.specs.declared.form.Flow.{Flow}
 use Rattle.luflow.specs.declared.variable.Variable.{Variable}

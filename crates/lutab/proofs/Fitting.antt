@@ -1,10 +1,9 @@
 -- A program without inputs asks nothing of a table.
-use Rattle.std.proofs.Common.{◌≡◌, ℕ, Some, refl, IfOk, Result, Ok, Err}
+use Rattle.std.proofs.Common.{◌≡◌, ℕ, refl}
 use Rattle.lutree.specs.declared.program.Kind.{Kind}
 use Rattle.luflow.specs.declared.form.Form.{Form}
 use Rattle.luflow.specs.declared.form.Form.TheVariants.{Input, Constant, Copied, Unary, Binary, If, Pre, Arrow, When, Current, Merge}
-use Rattle.luflow.specs.declared.form.Flow.{Flow}
-use Rattle.luflow.specs.Program.{FlatProgram, Table, flow_at}
+use Rattle.luflow.specs.Program.{FlatProgram, Table}
 use Rattle.luflow.specs.Flats.{IsFlat}
 use Rattle.luflow.specs.Sound.{IsFit, IsFitFor}
 use Rattle.lutab.specs.Fit.{HasNoInputs}

@@ -1,4 +1,4 @@
-use Rattle.std.proofs.Common.{◌≡◌, ℕ, List, ◌<◌, ◌≤◌, length, map, ◌∙◌, sym, ap, subst, arith}
+use Rattle.std.proofs.Common.{ℕ, List, ◌<◌, length, map, ◌∙◌, sym, ap, subst, arith}
 use Rattle.std.specs.Prelude.{All, slice_index}
 use Rattle.std.proofs.lemmas.List.{length-map}
 use Rattle.luflow.specs.declared.form.Flow.{Flow}
@@ -9,11 +9,11 @@ use Rattle.luflow.specs.Flats.{IsFlat}
 use Rattle.lutree.specs.Tree.{node_view}
 use Rattle.lusource.specs.Names.{variables_of, name_at}
 use Rattle.lutype.specs.Names.{tree_of}
-use Rattle.lucore.specs.Layout.{node_count, laid_flows, laid_owners, variable_names}
+use Rattle.lucore.specs.Layout.{variable_names}
 use Rattle.lucore.specs.Ranking.{AreClosed, IsRanking}
 use Rattle.lucore.specs.Result.{IsFlatOf}
 use Rattle.lucore.proofs.Variables.{names-main}
-use Rattle.lucore.proofs.Whole.{laid_for, few_if, closed, is_flat, whole, flat_with, owners_len, owners_in, chain_inside}
+use Rattle.lucore.proofs.Whole.{laid_for, few_if, closed, is_flat, whole, owners_len, owners_in, chain_inside}
 use Rattle.lucore.proofs.flattening.flatten.Goals as goal
 
 abbrev flat_record : List Flow → List ℕ → List ℕ → List Variable → FlatProgram

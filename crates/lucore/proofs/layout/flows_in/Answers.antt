@@ -1,4 +1,4 @@
-use Rattle.std.proofs.Common.{◌≡◌, ℕ, ◌++◌, ◌∷◌, [], ◌+◌, ◌*◌, length, take, ◌∙◌, sym, ap, refl, arith}
+use Rattle.std.proofs.Common.{◌++◌, ◌+◌, ◌*◌, length, take, ◌∙◌, ap, refl, arith}
 use Rattle.std.proofs.lemmas.List.{length-map}
 use Rattle.lusource.specs.First.{IsInRange}
 use Rattle.luflow.specs.declared.variable.Variable.{Variable}

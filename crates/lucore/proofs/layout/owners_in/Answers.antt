@@ -1,4 +1,4 @@
-use Rattle.std.proofs.Common.{◌≡◌, ℕ, List, ◌*◌, ◌++◌, ◌∷◌, [], ◌+◌, length, take, ◌∙◌, sym, ap, zero-add}
+use Rattle.std.proofs.Common.{ℕ, List, ◌*◌, ◌++◌, ◌∷◌, [], ◌+◌, length, take, ◌∙◌, sym, ap, zero-add}
 use Rattle.std.specs.List.{range_with_len}
 use Rattle.lusource.specs.Names.{place_of}
 use Rattle.lusource.specs.First.{Line}

@@ -1,4 +1,4 @@
-use Rattle.std.proofs.Common.{◌≡◌, ◌+◌, ◌++◌, ◌∷◌, [], ◌<◌, length, true, false, ◌∙◌, sym, ap, subst, arith}
+use Rattle.std.proofs.Common.{◌≡◌, ◌+◌, true, false, ◌∙◌, sym, ap, subst, arith}
 use Rattle.luflow.specs.Rank.{has}
 use Rattle.lucore.proofs.Walks.{Walk, walk_more, walk_start, walk_end, reads-at, reads_in, ready_if}
 use Rattle.lucore.proofs.ranks.on_cycle.Goals as goal

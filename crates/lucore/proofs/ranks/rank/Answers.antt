@@ -1,5 +1,5 @@
-use Rattle.std.proofs.Common.{◌≡◌, ◌+◌, ◌++◌, ◌∷◌, [], ◌<◌, length, ◌∙◌, sym, ap, subst, arith, refl}
-use Rattle.luflow.specs.Rank.{IsNext, IsRankOrder}
+use Rattle.std.proofs.Common.{◌≡◌, ◌+◌, length, ◌∙◌, sym, subst, arith}
+use Rattle.luflow.specs.Rank.{IsRankOrder}
 use Rattle.lucore.proofs.RankOrders.{RankSoFar, rank_more, full}
 use Rattle.lucore.proofs.ranks.rank.Goals as goal
 

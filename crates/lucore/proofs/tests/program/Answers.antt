@@ -1,4 +1,4 @@
-use Rattle.std.proofs.Common.{◌≡◌, ◌∙◌, sym, subst}
+use Rattle.std.proofs.Common.{◌∙◌, sym, subst}
 use Rattle.std.specs.Prelude.{All}
 use Rattle.lutype.specs.Built.{IsLine, IsPlainVariable}
 use Rattle.lutype.proofs.Building.{shape_of}

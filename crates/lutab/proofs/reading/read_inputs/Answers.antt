@@ -1,7 +1,5 @@
-use Rattle.std.proofs.Common.{Result, Ok, Err, IfOk}
-use Rattle.luflow.specs.Program.{Table}
+use Rattle.std.proofs.Common.{Ok, Err, IfOk}
 use Rattle.luflow.specs.Sound.{IsFit}
-use Rattle.lutab.specs.declared.error.TabError.{TabError}
 use Rattle.lutab.proofs.Fitting.{fits}
 use Rattle.lutab.proofs.reading.read_inputs.Goals as goal
 

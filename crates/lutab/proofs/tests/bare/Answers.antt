@@ -1,7 +1,5 @@
-use Rattle.std.proofs.Common.{◌≡◌, ◌∙◌, sym, subst}
-use Rattle.luflow.specs.Program.{FlatProgram}
-use Rattle.lutab.specs.Fit.{HasNoInputs}
-use Rattle.lutab.proofs.Bare.{empty_is_flat, empty_has_none}
+use Rattle.std.proofs.Common.{◌∙◌}
+use Rattle.lutab.proofs.Bare.{empty_is_flat}
 use Rattle.lutab.proofs.tests.bare.Goals as goal
 
 pub new-requires-5 : goal.new-requires-5
