@@ -3,3 +3,4 @@ pub mod Marked
 pub mod Linked
 pub mod Planned
 pub mod Sited
+pub mod SampleFlat
