@@ -23,6 +23,7 @@ use Rattle.lucore.specs.Result.{IsFlatOf}
 use Rattle.lucore.proofs.Laid.{Laid, laid}
 use Rattle.lucore.proofs.RankOrders.{is_ordered}
 use Rattle.lucore.proofs.Variables.{no_input}
+use Rattle.lusource.proofs.Meanings.{one_meaning}
 use Rattle.lucore.proofs.Agreeing.{agrees}
 use Rattle.lucore.proofs.Sounding as flows
 
@@ -121,11 +122,13 @@ module _ (program : ProgramTree) (main : List ℕ) (first : IsFirstProgram progr
 
   pub whole : (order : List ℕ) → node_count node ≤ 4096 → IsRankOrder (map reads list) order → IsFlatOf program main (flat_with order)
   whole order few ranked =
+      let flat = is_flat order few ranked in
       record {
         first = first;
         laid_out = out order;
-        is_flat = is_flat order few ranked;
+        is_flat = flat;
         agrees = λ inputs none. agrees program main first (flat_with order) (out order) inputs;
+        one_meaning = λ inputs none. one_meaning program main inputs (flat_with order) flat.ordered flat.variables_first (agrees program main first (flat_with order) (out order) inputs);
       }
 
   pub owners_len : length owners ≡ length list

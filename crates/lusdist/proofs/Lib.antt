@@ -2,3 +2,4 @@ pub mod Inputless
 pub mod NewSites
 pub mod Shapes
 pub mod Worlds
+pub mod AskedFor

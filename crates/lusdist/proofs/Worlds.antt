@@ -31,5 +31,11 @@ world_plan plan sites job new first =
     let (v, there) = first_there sites new.some in
     ap (λ (r : Run). r.plan) (first v there ∙ (new.each 0 v there).job_is) ∙ sym new.plan_is
 
+-- the world's job is that of its sites
+pub world_job : (plan : Distribution) (sites : List SiteAt) (job given : Run) → IsNewWorld plan sites → ((v : SiteAt) → slice_get sites 0 ≡ Some v → job ≡ v.job) → ((s : ℕ) (v : SiteAt) → slice_get sites s ≡ Some v → v.job ≡ given) → job ≡ given
+world_job plan sites job given new first each =
+    let (v, there) = first_there sites new.some in
+    first v there ∙ each 0 v there
+
 pub world_sites : (plan : Distribution) (job : Run) (dones turns : List ℕ) → job.plan ≡ plan → dones ≡ reached (system_of job) turns → length dones ≡ sites_of plan
 world_sites plan job dones turns is reach = ap length reach ∙ reached_len (system_of job) turns ∙ ap sites_of is

@@ -1,6 +1,8 @@
 //! A call of the program.
 
-ghost use Rattle.std.specs.Prelude.{◌≡◌, ◌⊎◌};
+ghost use Rattle.std.specs.Prelude.{◌≡◌, ◌⊎◌, IfOk};
+ghost use Rattle.luweave.specs.Headline.{IsFaithful};
+ghost use Rattle.lusdist.specs.Asked.{IsAskedFor, IsWorldOf};
 
 use crate::sites::new_sites;
 use crate::sources::{flat_of, job_of, plan_of, read, turns_of};
@@ -8,7 +10,7 @@ use crate::stop::Stop;
 use crate::text::text_of_world;
 use luplace::Job;
 use lushell::{Files, Request, parse, put_error_line, put_mistake, put_out};
-use luweave::replay;
+use luweave::{World, replay};
 use std::alloc::Global;
 use std::io::Write;
 
@@ -17,7 +19,9 @@ fn job_and_turns<F: Files>(
     alloc: Global,
     request: Request<'_>,
     files: &F,
-) -> Result<(Job, Vec<u8>), Stop> {
+) -> Result<(Job, Vec<u8>), Stop>
+    ensures { IfOk result (λ found. IsAskedFor (F.gives files.now) request.entry found.0 found.1.items) }
+{
     let program = read(alloc, files, request.program)?;
     let flat = flat_of(alloc, &program, request.main)?;
     let place = read(alloc, files, request.place)?;
@@ -29,16 +33,25 @@ fn job_and_turns<F: Files>(
     Ok((job, turns))
 }
 
-/// What a replay of a job prints.
-fn replayed(alloc: Global, job: &Job, turns: &[u8]) -> Result<String, Stop> {
+/// The world that the turns make of a job's new sites.
+fn replayed(alloc: Global, job: &Job, turns: &[u8]) -> Result<World, Stop>
+    ensures world { IfOk result (IsWorldOf job.now turns.now) }
+    ensures faithful { IfOk result (λ world. IsFaithful world.job world.dones) }
+{
     let sites = new_sites(alloc, job)?;
     let world = replay(alloc, job.plan(), sites, turns)?;
+    Ok(world)
+}
+
+/// What a replay of a job prints.
+fn printed(alloc: Global, job: &Job, turns: &[u8]) -> Result<String, Stop> {
+    let world = replayed(alloc, job, turns)?;
     Ok(text_of_world(alloc, job.plan(), &world)?)
 }
 
 fn answer<F: Files>(alloc: Global, request: Request<'_>, files: &F) -> Result<String, Stop> {
     let (job, turns) = job_and_turns(alloc, request, files)?;
-    replayed(alloc, &job, &turns)
+    printed(alloc, &job, &turns)
 }
 
 /// Does what the words asked for.

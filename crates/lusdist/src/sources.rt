@@ -1,9 +1,14 @@
 //! From the texts of the files to a plan, a job and its turns.
 
-ghost use Rattle.std.specs.Prelude.{◌≡◌, IfOk};
+ghost use Rattle.std.specs.Prelude.{◌≡◌, [], IfOk, Ok};
 ghost use Rattle.lutree.specs.Tree.{program_view};
 ghost use Rattle.lusource.specs.First.{IsFirstShape};
+ghost use Rattle.lucore.specs.Result.{IsFlatOf};
+ghost use Rattle.lushell.specs.ScheduleText.{schedule_of};
+ghost use Rattle.lusyn.specs.Texts.{SpellsText};
 ghost use Rattle.lutab.specs.Fit.{HasNoInputs};
+ghost use Rattle.lutab.specs.Rows.{table_of};
+ghost use Rattle.lusdist.specs.Asked.{IsFlatOfText, IsPlanOfText};
 
 use crate::stop::Stop;
 use lucore::flatten;
@@ -33,7 +38,8 @@ pub fn read<F: Files>(alloc: Global, files: &F, path: &str) -> Result<Vec<u8>, S
 
 /// The flat program that the bytes of a program's file are, from its main node of this name.
 pub fn flat_of(alloc: Global, bytes: &[u8], main: &str) -> Result<Flat, Stop>
-    ensures { IfOk result HasNoInputs }
+    ensures flat { IfOk result (IsFlatOfText bytes.now main.now) }
+    ensures inputless { IfOk result HasNoInputs }
 {
     let Some(text) = text_of(bytes) else {
         return Err(Stop::NotAscii);
@@ -44,7 +50,8 @@ pub fn flat_of(alloc: Global, bytes: &[u8], main: &str) -> Result<Flat, Stop>
 
 /// The program that a text spells.
 fn program_of(alloc: Global, text: &str) -> Result<Program, Stop>
-    ensures { IfOk result (λ program. IsFirstShape (program_view program)) }
+    ensures spelled { IfOk result (λ program. SpellsText text.now (program_view program)) }
+    ensures shape { IfOk result (λ program. IsFirstShape (program_view program)) }
 {
     match read_program(alloc, text) {
         Ok(program) => Ok(program),
@@ -55,7 +62,8 @@ fn program_of(alloc: Global, text: &str) -> Result<Program, Stop>
 /// The flat program of a program, from its main node of this name.
 fn flattened(alloc: Global, program: &Program, main: &str) -> Result<Flat, Stop>
     requires { IsFirstShape (program_view program.now) }
-    ensures { IfOk result HasNoInputs }
+    ensures flat { IfOk result (IsFlatOf (program_view program.now) main.now) }
+    ensures inputless { IfOk result HasNoInputs }
 {
     let typed = match names(alloc, program, main) {
         Ok(typed) => typed,
@@ -69,7 +77,8 @@ fn flattened(alloc: Global, program: &Program, main: &str) -> Result<Flat, Stop>
 
 /// The plan of a flat program and the bytes of a placement's file.
 pub fn plan_of(alloc: Global, flat: Flat, bytes: &[u8]) -> Result<Plan, Stop>
-    ensures { IfOk result (λ plan. plan.flat ≡ flat) }
+    ensures flat { IfOk result (λ plan. plan.flat ≡ flat) }
+    ensures plan { IfOk result (IsPlanOfText bytes.now) }
 {
     let Some(text) = text_of(bytes) else {
         return Err(Stop::Place(PlaceError::NotToml));
@@ -87,7 +96,9 @@ pub fn plan_of(alloc: Global, flat: Flat, bytes: &[u8]) -> Result<Plan, Stop>
 /// The job of a plan and the bytes of a table's file.
 pub fn job_of(alloc: Global, plan: Plan, bytes: &[u8]) -> Result<Job, Stop>
     requires { HasNoInputs plan.flat }
-    ensures { IfOk result (λ job. job.plan ≡ plan) }
+    ensures plan { IfOk result (λ job. job.plan ≡ plan) }
+    ensures inputs { IfOk result (λ job. table_of bytes.now ≡ Ok job.inputs) }
+    ensures columns { IfOk result (λ job. job.inputs.columns ≡ []) }
 {
     let Some(text) = text_of(bytes) else {
         return Err(Stop::Table(TabError::BadHeader));
@@ -99,7 +110,9 @@ pub fn job_of(alloc: Global, plan: Plan, bytes: &[u8]) -> Result<Job, Stop>
 }
 
 /// The turns that the bytes of a schedule's file are.
-pub fn turns_of(alloc: Global, bytes: &[u8]) -> Result<Vec<u8>, Stop> {
+pub fn turns_of(alloc: Global, bytes: &[u8]) -> Result<Vec<u8>, Stop>
+    ensures { IfOk result (λ turns. schedule_of bytes.now ≡ Ok turns.items) }
+{
     match read_schedule(alloc, bytes) {
         Ok(turns) => Ok(turns),
         Err(e) => Err(Stop::Schedule(e)),

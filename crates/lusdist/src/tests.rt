@@ -17,15 +17,15 @@ const TURNS: &[u8] =
 
 /// The four files of a replay, in memory.
 #[derive(Clone, Copy, Drop)]
-struct Shelf {
-    program: &'static [u8],
-    place: &'static [u8],
-    table: &'static [u8],
-    turns: &'static [u8],
+struct Shelf<'a> {
+    program: &'a [u8],
+    place: &'a [u8],
+    table: &'a [u8],
+    turns: &'a [u8],
 }
 
-impl Shelf {
-    fn bytes(&self, path: &str) -> Option<&'static [u8]> {
+impl<'a> Shelf<'a> {
+    fn bytes(&self, path: &str) -> Option<&'a [u8]> {
         match path {
             "p.lus" => Some(self.program),
             "p.toml" => Some(self.place),
@@ -36,7 +36,7 @@ impl Shelf {
     }
 }
 
-impl Files for Shelf {
+impl Files for Shelf<'_> {
     ghost gives = { λ _ _ _. Unit {0} };
 
     fn read(&self, alloc: Global, path: &str) -> Result<Vec<u8>, ReadError> {
@@ -61,7 +61,7 @@ impl Write for Full {
     }
 }
 
-fn counters() -> Shelf {
+fn counters() -> Shelf<'static> {
     Shelf {
         program: COUNTERS,
         place: TWO_SITES,
@@ -82,7 +82,7 @@ fn words(alloc: Global, all: &[&str]) -> Result<Vec<String>, Fail> {
 fn answers(
     alloc: Global,
     all: &[&str],
-    shelf: &Shelf,
+    shelf: &Shelf<'_>,
     status: u8,
     text: &str,
     line: &str,
@@ -96,7 +96,7 @@ fn answers(
 
 const REPLAY: &[&str] = &["lusdist", "replay", "p.lus", "p.toml", "t.csv", "s.txt"];
 
-fn refuses(alloc: Global, shelf: &Shelf, line: &str) -> Result<bool, Fail> {
+fn refuses(alloc: Global, shelf: &Shelf<'_>, line: &str) -> Result<bool, Fail> {
     answers(alloc, REPLAY, shelf, 1, "", line)
 }
 
@@ -285,5 +285,79 @@ fn output_that_cannot_be_written(rt: HostRuntime) -> Result<(), Fail> {
         3
     );
     assert_eq!(rt; err.as_slice(), b"F02 CannotWrite\n".as_slice());
+    Ok(())
+}
+
+/// Whether the output of a replay that is done begins so.
+fn begins(alloc: Global, shelf: &Shelf<'_>, text: &str) -> Result<bool, Fail> {
+    let words = words(alloc, REPLAY)?;
+    let mut out = Vec::new(alloc);
+    let mut err = Vec::new(alloc);
+    let answered = serve_words(alloc, &words, shelf, &mut out, &mut err);
+    Ok(answered == 0 && out.starts_with(text.as_bytes()))
+}
+
+const PRODUCER: &[u8] =
+    b"node main() returns (a: int; b: int); let a = 0 -> pre a + 1; b = 0 -> pre a + 1; tel";
+
+#[test]
+fn the_greatest_capacity_is_filled(rt: HostRuntime) -> Result<(), Fail> {
+    let table = vec![in rt.alloc(); b'\n'; 1_201]?;
+    let turns = vec![in rt.alloc(); b'0'; 12_000]?;
+    let shelf = Shelf {
+        program: PRODUCER,
+        place: b"sites = [\"A\", \"B\"]\ncapacity = 1024\n[place]\na = \"A\"\nb = \"B\"\n",
+        table: &table,
+        turns: &turns,
+    };
+    let text = "link a A B taken queued 1024\nsite A open\nsite B open\noutput a 0 1 2 3 4 5 ";
+    assert!(rt; begins(rt.alloc(), &shelf, text)?);
+    Ok(())
+}
+
+#[test]
+fn a_link_of_one_message_is_filled(rt: HostRuntime) -> Result<(), Fail> {
+    let turns = vec![in rt.alloc(); b'0'; 100]?;
+    let mut shelf = counters();
+    shelf.program = PRODUCER;
+    shelf.turns = &turns;
+    let text = "link a A B taken queued 1\nsite A open\nsite B open\noutput a 0 1\noutput b\n";
+    assert!(rt; begins(rt.alloc(), &shelf, text)?);
+    Ok(())
+}
+
+#[test]
+fn a_program_of_too_many_flows(rt: HostRuntime) -> Result<(), Fail> {
+    let mut text = String::new(rt.alloc());
+    text.push_str("node main() returns (v0: int")?;
+    for number in 1..820 {
+        write!(text, "; v{number}: int")?;
+    }
+    text.push_str("); let ")?;
+    for number in 0..820 {
+        write!(text, "v{number} = 0 -> pre v0 + 1; ")?;
+    }
+    text.push_str("tel")?;
+    let mut shelf = counters();
+    shelf.program = text.as_bytes();
+    assert!(rt; refuses(rt.alloc(), &shelf, "E50 TooLarge\n")?);
+    Ok(())
+}
+
+#[test]
+fn a_table_of_too_many_instants(rt: HostRuntime) -> Result<(), Fail> {
+    let table = vec![in rt.alloc(); b'\n'; 1_000_002]?;
+    let mut shelf = counters();
+    shelf.table = &table;
+    assert!(rt; refuses(rt.alloc(), &shelf, "T04 TooLong\n")?);
+    Ok(())
+}
+
+#[test]
+fn a_schedule_of_too_many_turns(rt: HostRuntime) -> Result<(), Fail> {
+    let turns = vec![in rt.alloc(); b'0'; 67_108_865]?;
+    let mut shelf = counters();
+    shelf.turns = &turns;
+    assert!(rt; refuses(rt.alloc(), &shelf, "S02 LongSchedule\n")?);
     Ok(())
 }

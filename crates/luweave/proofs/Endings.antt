@@ -17,9 +17,12 @@ use Rattle.luflow.specs.Values.{value_at, under}
 use Rattle.luflow.specs.Solution.{clock_of_flow}
 use Rattle.luflow.proofs.Solutions.{some_at, place_of, place_in, all_right}
 use Rattle.luworld.specs.Needs.{sites_of, home}
-use Rattle.luworld.specs.Runs.{Run, IsJob, streams_of, script, HasNoStop, outline, is_open, NoFault, outputs_of}
+use Rattle.luworld.specs.World.{put_count, taken_count}
+use Rattle.luworld.specs.OutlineLaws.{PassedWhole}
+use Rattle.luworld.specs.Runs.{Run, IsJob, streams_of, system_of, script, link_list, carried, receiver_of, HasNoStop, outline, is_open, NoFault, outputs_of}
 use Rattle.luworld.proofs.Ended.{ended_sound}
-use Rattle.luworld.proofs.Outlines.{says_there, broken_is}
+use Rattle.luworld.proofs.PassedWhole.{passed_whole}
+use Rattle.luworld.proofs.Outlines.{says_there, broken_is, is_outline, no_break, list_long}
 use Rattle.lusite.specs.Sites.{SiteAt}
 use Rattle.lusite.specs.Logs.{IsBegun, IsWhole, IsOutput}
 use Rattle.lusite.proofs.Machine.{there}
@@ -69,6 +72,16 @@ module _ (job : Run) (ok : IsJob job) (dones : List ℕ) (all : AllEnded job don
   no_fault i t li lt =
       let w = place_in job.plan.flat.order i (ok.is_plan.ordered.all_flows i li) in
       subst (λ (r : ℕ). is_broken (streams_of job r t) ≡ false) w.2 (sound_below (suc w.0) w.0 t (omega arith) w.1 lt)
+
+  passed : (l : ℕ) → l < length job.plan.links → PassedWhole (outline job (streams_of job)) dones l
+  passed l lt = passed_whole (outline job (streams_of job)) (is_outline job ok) (no_break job ok no_fault) dones l lt
+
+  -- a link's list was put and taken whole
+  pub all_put : (l : ℕ) → l < length job.plan.links → put_count (system_of job) dones l ≡ length (link_list job (streams_of job) l)
+  all_put l lt = (passed l lt).put (all (home job.plan (carried job.plan l)) (ok.is_plan.homes (carried job.plan l))) ∙ list_long job ok l lt
+
+  pub all_taken : (l : ℕ) → l < length job.plan.links → taken_count (system_of job) dones l ≡ length (link_list job (streams_of job) l)
+  all_taken l lt = (passed l lt).taken (all (receiver_of job.plan l) (ok.is_plan.receivers l)) ∙ list_long job ok l lt
 
 module _ (job : Run) (sites : List SiteAt) (lanes : List Lane) (capacity : ℕ) (w : IsWorld job sites lanes capacity) where
   sites_len : length sites ≡ sites_of job.plan

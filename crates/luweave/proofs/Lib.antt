@@ -1,2 +1,3 @@
 pub mod Worlds
 pub mod Endings
+pub mod Headlines

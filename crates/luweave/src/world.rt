@@ -7,6 +7,9 @@ ghost use Rattle.luworld.specs.Runs.{link_list, streams_of};
 ghost use Rattle.luworld.specs.World.{done, turn, step, reached, put_count, taken_count, new_world};
 ghost use Rattle.luworld.specs.Runs.{system_of, IsJob};
 ghost use Rattle.luweave.specs.Worlds.{more, IsPutInto, IsTakeFrom, room_in, some_in, IsNewWorld, IsNewLane, IsUnstuck, IsDone, IsCollected, IsToldBySome, IsBeginning, AllEnded};
+ghost use Rattle.lusource.specs.Source.{SourceStreams};
+ghost use Rattle.lumeaning.specs.Meaning.{IsMeant, NoneBreaks, source_list};
+ghost use Rattle.luweave.specs.Headline.{IsCollectedOf, IsFaithful};
 ghost use Rattle.lusite.specs.Logs.{IsOutput};
 ghost use Rattle.luworld.specs.Runs.{NoFault};
 
@@ -157,22 +160,28 @@ impl World {
 }
 
 impl World {
-    /// What was taken from a link: a beginning of its list. Takes no memory.
+    /// What was taken from a link: a beginning of its list, also as the source says it, and the whole list where all sites
+    /// have ended. Takes no memory.
     pub fn taken(&self, link: LinkNo) -> &[Msg]
         requires { link < length self.now.job.plan.links }
         ensures exact { result.now ≡ take (taken_count (system_of self.now.job) self.now.dones link) (link_list self.now.job (streams_of self.now.job) link) }
         ensures begins { IsBeginning result.now (link_list self.now.job (streams_of self.now.job) link) }
+        ensures whole { AllEnded self.now.job self.now.dones → result.now ≡ link_list self.now.job (streams_of self.now.job) link }
+        ensures source { (σ : SourceStreams) → IsMeant self.now.job σ → IsBeginning result.now (source_list self.now.job σ link) }
+        ensures source_whole { (σ : SourceStreams) → IsMeant self.now.job σ → AllEnded self.now.job self.now.dones → result.now ≡ source_list self.now.job σ link }
     {
         taken_at(&self.lanes, link)
     }
 
-    /// What waits in a link, never more than its capacity: behind what was taken, it goes on with the link's list. Takes no
-    /// memory.
+    /// What waits in a link, never more than its capacity: behind what was taken, it goes on with the link's list, also as the
+    /// source says it. Nothing waits where all sites have ended. Takes no memory.
     pub fn queued(&self, link: LinkNo) -> &[Msg]
         requires { link < length self.now.job.plan.links }
         ensures exact { result.now ≡ drop (taken_count (system_of self.now.job) self.now.dones link) (take (put_count (system_of self.now.job) self.now.dones link) (link_list self.now.job (streams_of self.now.job) link)) }
         ensures within { length result.now ≤ self.now.job.plan.capacity }
         ensures follows { IsBeginning (take (taken_count (system_of self.now.job) self.now.dones link) (link_list self.now.job (streams_of self.now.job) link) ++ result.now) (link_list self.now.job (streams_of self.now.job) link) }
+        ensures none { AllEnded self.now.job self.now.dones → result.now ≡ [] }
+        ensures source { (σ : SourceStreams) → IsMeant self.now.job σ → IsBeginning (take (taken_count (system_of self.now.job) self.now.dones link) (source_list self.now.job σ link) ++ result.now) (source_list self.now.job σ link) }
     {
         queued_at(&self.lanes, link)
     }
@@ -180,6 +189,14 @@ impl World {
     /// Without a fault all sites have ended or some turn moves, at any capacity and after any turns.
     pub fn never_stuck(&self)
         ensures { IsUnstuck self.now.job self.now.dones }
+    {
+        let _ = self.lanes.len();
+    }
+
+    /// After any turns each link is within its list, in the source's words, and where all sites have ended its list was taken
+    /// whole and nothing breaks.
+    pub fn faithful(&self)
+        ensures { IsFaithful self.now.job self.now.dones }
     {
         let _ = self.lanes.len();
     }
@@ -284,10 +301,11 @@ fn outputs_in(sites: &Vec<Site>, k: usize) -> &[Status]
 }
 
 impl World {
-    /// Output k so far: a beginning of its statuses before its first broken one; the whole output where all sites have
-    /// ended. Takes no memory.
+    /// Output k so far: a beginning of its statuses before its first broken one, also as the source says it; the whole output
+    /// where all sites have ended. Takes no memory.
     pub fn outputs(&self, k: usize) -> &[Status]
-        ensures { IsCollected self.now.job self.now.dones k result.now }
+        ensures collected { IsCollected self.now.job self.now.dones k result.now }
+        ensures source { (σ : SourceStreams) → IsMeant self.now.job σ → IsCollectedOf self.now.job self.now.dones σ k result.now }
     {
         outputs_in(&self.sites, k)
     }
@@ -297,6 +315,7 @@ impl World {
         ensures only { result ≡ true → AllEnded self.now.job self.now.dones }
         ensures all { AllEnded self.now.job self.now.dones → result ≡ true }
         ensures sound { result ≡ true → NoFault self.now.job }
+        ensures source { (σ : SourceStreams) → IsMeant self.now.job σ → result ≡ true → NoneBreaks self.now.job σ }
     {
         all_ended(&self.sites)
     }
@@ -331,11 +350,13 @@ pub fn replay(
     ensures job { IfOk result (λ x. (v : SiteAt) → slice_get sites.items 0 ≡ Some v → x.job ≡ v.job) }
     ensures dones { IfOk result (λ x. x.dones ≡ reached (system_of x.job) schedule.now) }
     ensures unstuck { IfOk result (λ x. IsUnstuck x.job x.dones) }
+    ensures faithful { IfOk result (λ x. IsFaithful x.job x.dones) }
 {
     let mut world = World::new(alloc, plan, sites)?;
     for site in schedule {
         let _ = world.turn(*site);
     }
     world.never_stuck();
+    world.faithful();
     Ok(world)
 }

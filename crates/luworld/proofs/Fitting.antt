@@ -302,8 +302,8 @@ module _ (plan : Distribution) (ok : IsPlan plan) where
   receiver_is : (l : ℕ) (k : Link) → slice_get plan.links l ≡ Some k → receiver_of plan l ≡ k.to
   receiver_is l k e = ap (λ o. unwrap_or (option_map (λ (x : Link). x.to) o) 0) e
 
-  carries_main : (l : ℕ) → l < length plan.links → carried plan l < flows_of plan.flat
-  carries_main l lt = let k = link_at l lt in omega (arith, carried_is l k.0 k.1, k.2.0, ok.flat_is.variables_first)
+  carries_main : (l : ℕ) → l < length plan.links → carried plan l < length plan.flat.variables
+  carries_main l lt = let k = link_at l lt in omega (arith, carried_is l k.0 k.1, k.2.0)
 
   receivers_in : (l : ℕ) → receiver_of plan l < sites_of plan
   receivers_in l = elim (cases_lt l (length plan.links)) [

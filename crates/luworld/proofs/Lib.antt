@@ -21,3 +21,4 @@ pub mod Messages
 pub mod Outlines
 pub mod Cursor
 pub mod Fitting
+pub mod PassedWhole

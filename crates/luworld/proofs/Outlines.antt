@@ -179,12 +179,16 @@ module _ (job : Run) (ij : IsJob job) where
       go (Known Absent) e more = sound (ap is_broken e) ∙ ap (λ m. once_if m + rest) e ∙ zero-add rest ∙ more k
       go (Known (Present d)) e more = sound (ap is_broken e) ∙ ap (λ m. once_if m + rest) e ∙ ap (λ x. 1 + x) (more (k + 1)) ∙ one-add (length (messages (k + 1) (map (streams_of job i) (range_with_len (a + 1) n))))
 
+  -- what a link carries is a flow
+  pub carries_flow : (l : ℕ) → l < length job.plan.links → carried job.plan l < flows_of job.plan.flat
+  carries_flow l lt = omega (arith, ij.is_plan.carries l lt, ij.is_plan.variables_first)
+
   -- a link's list is as long as the outline says
   pub list_long : (l : ℕ) → l < length job.plan.links → messages_from (outline job (streams_of job)) (carried job.plan l) 0 job.inputs.instants ≡ length (link_list job (streams_of job) l)
   unfolding link_list
   list_long l lt =
       let i = carried job.plan l in
-      messages_long i 0 job.inputs.instants 0 (ij.is_plan.carries l lt) (omega arith)
+      messages_long i 0 job.inputs.instants 0 (carries_flow l lt) (omega arith)
       ∙ sym (ap (λ o. length (messages_of job (streams_of job) o)) (flow_of_carried job.plan l i lt refl))
 
   pub is_outline : IsOutline (outline job (streams_of job))
@@ -198,7 +202,7 @@ module _ (job : Run) (ij : IsJob job) where
         receiver_other = ij.is_plan.elsewhere;
         ranked_once = λ flow. count_once flow plan.flat.order ij.is_plan.ordered.once;
         linked_once = λ l lt.
-            let w = place_in plan.flat.order (carried plan l) (ij.is_plan.ordered.all_flows (carried plan l) (ij.is_plan.carries l lt)) in
+            let w = place_in plan.flat.order (carried plan l) (ij.is_plan.ordered.all_flows (carried plan l) (carries_flow l lt)) in
             let a = count_once (carried plan l) plan.flat.order ij.is_plan.ordered.once in
             let b = count_some (carried plan l) plan.flat.order w.0 w.1 w.2 in
             omega (arith, a, b);

@@ -1,6 +1,6 @@
 -- The laws of the systems that plans give.
 use Rattle.std.specs.Prelude.{◌≡◌, ◌↔◌, ◌⊎◌, ℕ, ◌+◌, ◌*◌, ◌<◌, ◌≤◌, List, length, flat_map, slice_get, Some, true, false}
-use Rattle.luworld.specs.World.{IsWired, World, done, turn, step, reached, moved_turns, item_count, IsAllDone, total_below}
+use Rattle.luworld.specs.World.{IsWired, World, done, put_count, taken_count, turn, step, reached, moved_turns, item_count, IsAllDone, total_below}
 use Rattle.luworld.specs.declared.turn.Turn.TheVariants.{Moved}
 use Rattle.luworld.specs.Reach.{IsReachable}
 use Rattle.luworld.specs.Outline.{Outline, IsOutline, NoFault, full_script, script, system, part, events, left, list_length, status_count, HasEnded}
@@ -44,3 +44,11 @@ EndedLaw = (plan : Outline) (world : World) (site : ℕ) → HasEnded plan world
 -- without a fault a site has ended exactly where its script is done
 abbrev pub DoneEndsLaw : Type 0
 DoneEndsLaw = (plan : Outline) → IsOutline plan → NoFault plan → (world : World) (site : ℕ) → done world site ≡ length (script plan site) → HasEnded plan world site
+
+-- without a fault, a link's list was put whole where its sender has ended, and taken whole where its receiver has
+pub record PassedWhole (plan : Outline) (world : World) (link : ℕ) : Type 0 where
+  pub put : HasEnded plan world (plan.home (plan.flow_of link)) → put_count (system plan) world link ≡ list_length plan link
+  pub taken : HasEnded plan world (plan.receiver link) → taken_count (system plan) world link ≡ list_length plan link
+
+abbrev pub PassedWholeLaw : Type 0
+PassedWholeLaw = (plan : Outline) → IsOutline plan → NoFault plan → (world : World) (link : ℕ) → link < plan.links → PassedWhole plan world link

@@ -152,7 +152,7 @@ pub record Fits (plan : Distribution) : Type 0 where
   pub homes : (i : ℕ) → home plan i < sites_of plan
   pub stands_home : (i : ℕ) → i < flows_of plan.flat → stands plan i (home plan i) ≡ true
   pub stands_in : (i s : ℕ) → stands plan i s ≡ true → s < sites_of plan
-  pub carries : (l : ℕ) → l < length plan.links → carried plan l < flows_of plan.flat
+  pub carries : (l : ℕ) → l < length plan.links → carried plan l < length plan.flat.variables
   pub receivers : (l : ℕ) → receiver_of plan l < sites_of plan
   pub elsewhere : (l : ℕ) → l < length plan.links → receiver_of plan l ≢ home plan (carried plan l)
   pub one_link : (s i : ℕ) → home plan i ≢ s → filter (λ l. nat_eq (receiver_of plan l) s) (carriers plan i) ≡ listed (link_into plan s i)

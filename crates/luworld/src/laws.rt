@@ -2,7 +2,7 @@
 
 ghost use Rattle.luworld.specs.Laws.{CountsLaw, TurnLaw, ReachableLaw, QuietLaw, SameEndLaw, MovesLaw, EnabledLaw, NumbersLaw, StepCountsLaw};
 ghost use Rattle.luworld.specs.Vectors.{VectorsLaw, ExampleIsOutline};
-ghost use Rattle.luworld.specs.OutlineLaws.{PartsLaw, WiredLaw, WholeLaw, NeverStuckLaw, LeftLaw, ItemCountLaw, EndedLaw, DoneEndsLaw};
+ghost use Rattle.luworld.specs.OutlineLaws.{PartsLaw, WiredLaw, WholeLaw, NeverStuckLaw, LeftLaw, ItemCountLaw, EndedLaw, DoneEndsLaw, PassedWholeLaw};
 
 /// Messages taken are at most those put, and at most the capacity fewer.
 pub fn counts_law()
@@ -97,4 +97,9 @@ pub fn ended_law()
 /// Without a fault a done script is an ended one.
 pub fn done_ends_law()
     ensures { DoneEndsLaw }
+{}
+
+/// Without a fault a link's list was put whole where its sender has ended, and taken whole where its receiver has.
+pub fn passed_whole_law()
+    ensures { PassedWholeLaw }
 {}

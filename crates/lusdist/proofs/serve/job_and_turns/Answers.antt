@@ -1,6 +1,24 @@
-use Rattle.std.proofs.Common.{sym, subst}
+use Rattle.std.proofs.Common.{◌≡◌, ℕ, List, Ok, sym, subst, ◌∙◌}
 use Rattle.lutab.specs.Fit.{HasNoInputs}
+use Rattle.lushell.specs.ScheduleText.{schedule_of}
+use Rattle.lusdist.proofs.AskedFor.{job_is}
 use Rattle.lusdist.proofs.serve.job_and_turns.Goals as goal
 
 pub job_of-requires : goal.job_of-requires
-job_of-requires g c = subst HasNoInputs (sym c.in_ok-plan.ensures) c.in_ok-flat.ensures
+job_of-requires g c = subst HasNoInputs (sym c.in_ok-plan.ensures.flat) c.in_ok-flat.ensures.inputless
+
+pub returns : goal.returns
+returns g c =
+    let gives = g.F.Files.gives c.args.files.now in
+    record {
+      program = c.deref.result.now;
+      place = c.deref-2.result.now;
+      table = c.deref-3.result.now;
+      schedule = c.deref-4.result.now;
+      program_given = subst (gives c.args.request.program.now) (sym c.deref.ensures.value) c.in_ok-program.ensures;
+      place_given = subst (gives c.args.request.place.now) (sym c.deref-2.ensures.value) c.in_ok-place.ensures;
+      table_given = subst (gives c.args.request.table.now) (sym c.deref-3.ensures.value) c.in_ok-table.ensures;
+      schedule_given = subst (gives c.args.request.schedule.now) (sym c.deref-4.ensures.value) c.in_ok-schedule.ensures;
+      job_is = job_is c.deref.result.now c.deref-2.result.now c.deref-3.result.now c.args.request.main.now c.in_ok-flat.flat c.in_ok-plan.plan c.in_ok-job.job c.in_ok-flat.ensures.flat c.in_ok-plan.ensures.flat c.in_ok-plan.ensures.plan c.in_ok-job.ensures.plan c.in_ok-job.ensures.inputs c.in_ok-job.ensures.columns;
+      turns_are = c.in_ok-turns.ensures;
+    }

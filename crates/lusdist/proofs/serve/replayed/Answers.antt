@@ -1,11 +1,13 @@
-use Rattle.std.proofs.Common.{sym, ◌∙◌}
-use Rattle.lusdist.proofs.Worlds.{world_plan, world_sites}
+use Rattle.std.proofs.Common.{◌≡◌, ap, ◌∙◌}
+use Rattle.luworld.specs.World.{reached}
+use Rattle.luworld.specs.Runs.{Run, system_of}
+use Rattle.lusdist.proofs.Worlds.{world_job}
 use Rattle.lusdist.proofs.serve.replayed.Goals as goal
 
-pub text_of_world-requires-clause-plan_is : goal.text_of_world-requires-clause-plan_is
-text_of_world-requires-clause-plan_is c =
-    world_plan c.args.job.now.plan c.in_ok-sites.sites.items c.in_ok-world.world.job c.in_ok-sites.ensures c.in_ok-world.ensures.job ∙ sym c.plan-2.ensures.plan
-
-pub text_of_world-requires-clause-all_sites : goal.text_of_world-requires-clause-all_sites
-text_of_world-requires-clause-all_sites c =
-    world_sites c.plan-2.result.now c.in_ok-world.world.job c.in_ok-world.world.dones c.args.turns.now (text_of_world-requires-clause-plan_is c) c.in_ok-world.ensures.dones
+pub returns-clause-world : goal.returns-clause-world
+returns-clause-world c =
+    let same = world_job c.args.job.now.plan c.in_ok-sites.sites.items c.in_ok-world.world.job c.args.job.now c.in_ok-sites.ensures.new c.in_ok-world.ensures.job c.in_ok-sites.ensures.job in
+    record {
+      job_is = same;
+      dones_are = c.in_ok-world.ensures.dones ∙ ap (λ (j : Run). reached (system_of j) c.args.turns.now) same;
+    }

@@ -1,5 +1,5 @@
 use Rattle.lusdist.proofs.Inputless.{flat_inputless}
 use Rattle.lusdist.proofs.sources.flattened.Goals as goal
 
-pub returns-in-Ok-flatten : goal.returns-in-Ok-flatten
-returns-in-Ok-flatten c = flat_inputless _ _ _ c.in-Ok-flatten.ensures.flat
+pub returns-in-Ok-flatten-clause-inputless : goal.returns-in-Ok-flatten-clause-inputless
+returns-in-Ok-flatten-clause-inputless c = flat_inputless _ _ _ c.in-Ok-flatten.ensures.flat

@@ -1,8 +1,11 @@
 use Rattle.std.proofs.Common.{◌≡◌, true}
 use Rattle.luworld.specs.Runs.{NoFault}
+use Rattle.lusource.specs.Source.{SourceStreams}
+use Rattle.lumeaning.specs.Meaning.{IsMeant, NoneBreaks}
 use Rattle.luweave.specs.Worlds.{AllEnded, dones_of}
 use Rattle.luweave.proofs.Worlds.{along}
 use Rattle.luweave.proofs.Endings.{done_all, all_done, no_fault}
+use Rattle.luweave.proofs.Headlines.{ended_source}
 use Rattle.luweave.proofs.world.World.ended.Goals as goal
 
 pub returns-clause-only : goal.returns-clause-only
@@ -25,3 +28,10 @@ returns-clause-sound c =
     let j = a.first.value.job in
     along (λ x. c.all_ended.result ≡ true → NoFault x.job) c.args.self.now (record { job = j; dones = dones_of a.sites.items }) c.self.view_is
     (λ e. no_fault j c.self.invariant.is_job (dones_of a.sites.items) (done_all j a.sites.items a.lanes.items a.capacity c.self.invariant (c.all_ended.ensures.only e)))
+
+pub returns-clause-source : goal.returns-clause-source
+returns-clause-source c =
+    let a = c.self.inside in
+    let j = a.first.value.job in
+    along (λ x. (σ : SourceStreams) → IsMeant x.job σ → c.all_ended.result ≡ true → NoneBreaks x.job σ) c.args.self.now (record { job = j; dones = dones_of a.sites.items }) c.self.view_is
+    (λ σ meant e. ended_source j a.sites.items a.lanes.items a.capacity c.self.invariant σ meant (done_all j a.sites.items a.lanes.items a.capacity c.self.invariant (c.all_ended.ensures.only e)))

@@ -1,0 +1,59 @@
+-- What the texts of a replay say together, and what its files gave.
+use Rattle.std.specs.Prelude.{◌≡◌, ℕ, List, Ok}
+use Rattle.lutree.specs.Tree.{ProgramTree}
+use Rattle.luflow.specs.Program.{FlatProgram}
+use Rattle.luworld.specs.Needs.{Distribution}
+use Rattle.luworld.specs.World.{reached}
+use Rattle.luworld.specs.Runs.{Run, system_of}
+use Rattle.lusource.specs.Source.{SourceStreams, IsSourceSolution}
+use Rattle.lusource.specs.Agreement.{HasOneMeaning}
+use Rattle.lumeaning.specs.Meaning.{IsMeant}
+use Rattle.lusyn.specs.Texts.{SpellsText}
+use Rattle.lucore.specs.Result.{IsFlatOf}
+use Rattle.luplacefile.specs.declared.place.Place.{Place}
+use Rattle.luplacefile.specs.Placement.{placement_of}
+use Rattle.luplace.specs.Placing.{IsPlanOf}
+use Rattle.lutab.specs.Rows.{table_of}
+use Rattle.lushell.specs.ScheduleText.{schedule_of}
+use Rattle.lushell.specs.declared.request.Request.{Request}
+use Rattle.luweave.specs.Worlds.{Progress}
+
+-- the flat program of the program that a text spells
+pub record IsFlatOfText (text main : List ℕ) (flat : FlatProgram) : Type 0 where
+  pub tree : ProgramTree
+  pub spelled : SpellsText text tree
+  pub flat_is : IsFlatOf tree main flat
+
+-- the plan of its flat program and the placement that a text says
+pub record IsPlanOfText (text : List ℕ) (plan : Distribution) : Type 0 where
+  pub place : Place
+  pub says : placement_of text ≡ Ok place
+  pub plan_is : IsPlanOf plan.flat place plan
+
+-- The job of three texts: the plan of the program that the first spells and the placement that the second says, with the
+-- table that the third says. The program has one meaning at the table, and what is said of the job in its source's words is
+-- said of the program's solutions.
+pub record IsJobOf (program place table main : List ℕ) (job : Run) : Type 0 where
+  pub flat : IsFlatOfText program main job.plan.flat
+  pub plan : IsPlanOfText place job.plan
+  pub inputs : table_of table ≡ Ok job.inputs
+  pub one_meaning : HasOneMeaning flat.tree main job.inputs job.plan.flat
+  pub is_meant : (σ : SourceStreams) → IsSourceSolution flat.tree main job.inputs σ → IsMeant job σ
+
+-- a job and its turns are those of texts that the files of a request gave
+pub record IsAskedFor (gives : List ℕ → List ℕ → Type 0) (request : Request) (job : Run) (turns : List ℕ) : Type 0 where
+  pub program : List ℕ
+  pub place : List ℕ
+  pub table : List ℕ
+  pub schedule : List ℕ
+  pub program_given : gives request.program.now program
+  pub place_given : gives request.place.now place
+  pub table_given : gives request.table.now table
+  pub schedule_given : gives request.schedule.now schedule
+  pub job_is : IsJobOf program place table request.main.now job
+  pub turns_are : schedule_of schedule ≡ Ok turns
+
+-- the world that a job's turns make of its new sites
+pub record IsWorldOf (job : Run) (turns : List ℕ) (world : Progress) : Type 0 where
+  pub job_is : world.job ≡ job
+  pub dones_are : world.dones ≡ reached (system_of job) turns

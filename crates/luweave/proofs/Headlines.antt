@@ -1,0 +1,96 @@
+-- A world in the source's words.
+use Rattle.std.proofs.Common.{◌≡◌, ℕ, zero, suc, ◌<◌, ◌≤◌, Bool, true, List, [], ◌∷◌, ◌++◌, length, take, drop, map, Some, refl, sym, ap, ◌∙◌, subst, arith}
+use Rattle.std.specs.Prelude.{slice_get}
+use Rattle.std.proofs.lemmas.List.{take_all, length-take}
+use Rattle.luflow.specs.declared.data.Status.{Status}
+use Rattle.luflow.specs.declared.message.Msg.{Msg}
+use Rattle.luflow.specs.Streams.{Mark, Known}
+use Rattle.luflow.proofs.Solutions.{some_at}
+use Rattle.luworld.specs.World.{put_count, taken_count}
+use Rattle.luworld.specs.Runs.{Run, streams_of, system_of, link_list, outputs_of}
+use Rattle.lusource.specs.Source.{SourceStreams}
+use Rattle.lumeaning.specs.Meaning.{IsMeant, NoneBreaks, source_list, AreStatuses, BeginStatuses}
+use Rattle.lumeaning.proofs.Sources.{same_list, same_marks, none_breaks}
+use Rattle.lusite.specs.Sites.{SiteAt}
+use Rattle.lusite.proofs.Outputs.{output_there}
+use Rattle.luweave.specs.declared.lane.Lane.{Lane}
+use Rattle.luweave.specs.Worlds.{IsWorld, IsCollected, IsBeginning, AllEnded, dones_of}
+use Rattle.luweave.specs.Headline.{IsCollectedOf, IsWithin, IsFaithful}
+use Rattle.luweave.proofs.Worlds.{take_begins, both_begin, lane_view}
+use Rattle.luweave.proofs.Endings.{all_put, all_taken, no_fault}
+
+drop_all : (n : ℕ) (xs : List Msg) → length xs ≤ n → drop n xs ≡ []
+drop_all zero [] le = refl
+drop_all zero (x ∷ xs) le = absurd (omega arith)
+drop_all (suc n) [] le = refl
+drop_all (suc n) (x ∷ xs) le = drop_all n xs (omega arith)
+
+module _ (job : Run) (sites : List SiteAt) (lanes : List Lane) (capacity : ℕ) (w : IsWorld job sites lanes capacity) where
+  abbrev ds : List ℕ
+  ds = dones_of sites
+
+  -- what was taken from a link, and what waits in it
+  abbrev front : ℕ → List Msg
+  front l = take (taken_count (system_of job) ds l) (link_list job (streams_of job) l)
+
+  abbrev rest : ℕ → List Msg
+  rest l = drop (taken_count (system_of job) ds l) (take (put_count (system_of job) ds l) (link_list job (streams_of job) l))
+
+  pub taken_whole : (l : ℕ) (xs : List Msg) → l < length job.plan.links → xs ≡ front l → AllEnded job ds → xs ≡ link_list job (streams_of job) l
+  taken_whole l xs lt e all =
+      let n = all_taken job w.is_job ds all l lt in
+      e ∙ take_all (taken_count (system_of job) ds l) (link_list job (streams_of job) l) (omega (arith, n))
+
+  pub none_waits : (l : ℕ) (xs : List Msg) → l < length job.plan.links → xs ≡ rest l → AllEnded job ds → xs ≡ []
+  none_waits l xs lt e all =
+      let n = all_taken job w.is_job ds all l lt in
+      let m = length-take (put_count (system_of job) ds l) (link_list job (streams_of job) l) in
+      e ∙ drop_all (taken_count (system_of job) ds l) (take (put_count (system_of job) ds l) (link_list job (streams_of job) l)) (omega (arith, n, m))
+
+  pub put_within : (l : ℕ) → l < length job.plan.links → put_count (system_of job) ds l ≤ length (link_list job (streams_of job) l)
+  put_within l lt =
+      let k = lane_view job sites lanes capacity w l lt in
+      let e = ap length k.2.put_is in
+      let m = length-take (put_count (system_of job) ds l) (link_list job (streams_of job) l) in
+      omega (arith, e, k.2.put_len, m)
+
+  module _ (σ : SourceStreams) (meant : IsMeant job σ) where
+    pub taken_source : (l : ℕ) (xs : List Msg) → l < length job.plan.links → xs ≡ front l → IsBeginning xs (source_list job σ l)
+    taken_source l xs lt e =
+        let same = same_list job σ w.is_job meant l lt in
+        subst (IsBeginning xs) (sym same) (subst (λ ys. IsBeginning ys (link_list job (streams_of job) l)) (sym e) (take_begins (taken_count (system_of job) ds l) (link_list job (streams_of job) l)))
+
+    pub taken_source_whole : (l : ℕ) (xs : List Msg) → l < length job.plan.links → xs ≡ front l → AllEnded job ds → xs ≡ source_list job σ l
+    taken_source_whole l xs lt e all = taken_whole l xs lt e all ∙ sym (same_list job σ w.is_job meant l lt)
+
+    pub queued_source : (l : ℕ) (xs : List Msg) → l < length job.plan.links → xs ≡ rest l → IsBeginning (take (taken_count (system_of job) ds l) (source_list job σ l) ++ xs) (source_list job σ l)
+    queued_source l xs lt e =
+        let same = same_list job σ w.is_job meant l lt in
+        let n = taken_count (system_of job) ds l in
+        let both = both_begin n (put_count (system_of job) ds l) (link_list job (streams_of job) l) (w.good.taken_put l) in
+        subst (λ ys. IsBeginning (take n ys ++ xs) ys) (sym same) (subst (λ ys. IsBeginning (take n (link_list job (streams_of job) l) ++ ys) (link_list job (streams_of job) l)) (sym e) both)
+
+    pub collected_source : (k : ℕ) (xs : List Status) → IsCollected job ds k xs → IsCollectedOf job ds σ k xs
+    collected_source k xs h v at =
+        let lv = (output_there job.plan k v at).0 in
+        let x = h v at in
+        ((x.0.0, x.0.1, x.0.2 ∙ sym (same_marks job σ w.is_job meant v x.0.0 lv)), λ all. x.1 all ∙ sym (same_marks job σ w.is_job meant v job.inputs.instants lv))
+
+    pub ended_source : AllEnded job ds → NoneBreaks job σ
+    ended_source all = none_breaks job σ w.is_job meant (no_fault job w.is_job ds all)
+
+    link_within : (l : ℕ) → l < length job.plan.links → IsWithin job ds σ l
+    link_within l lt =
+        let same = ap length (same_list job σ w.is_job meant l lt) in
+        record {
+          put = omega (arith, put_within l lt, same);
+          taken = w.good.taken_put l;
+          waiting = w.good.bounded l;
+          ended = λ all. all_taken job w.is_job ds all l lt ∙ sym same;
+        }
+
+  pub faithful : IsFaithful job ds
+  faithful = record {
+    links = λ σ l meant lt. link_within σ meant l lt;
+    sound = λ σ meant all. ended_source σ meant all;
+  }

@@ -1,0 +1,25 @@
+-- What a world says of its source: for each synchronous solution of the program as it is written.
+use Rattle.std.specs.Prelude.{◌≡◌, ℕ, ◌+◌, ◌<◌, ◌≤◌, List, length, Some, slice_get}
+use Rattle.luflow.specs.declared.data.Status.{Status}
+use Rattle.lusource.specs.Source.{SourceStreams}
+use Rattle.luworld.specs.World.{put_count, taken_count}
+use Rattle.luworld.specs.Runs.{Run, system_of, outputs_of}
+use Rattle.lumeaning.specs.Meaning.{IsMeant, source_list, AreStatuses, BeginStatuses, NoneBreaks}
+use Rattle.luweave.specs.Worlds.{AllEnded}
+
+-- output k: a beginning of its variable's statuses, and all of them where all sites have ended
+abbrev pub IsCollectedOf : Run → List ℕ → SourceStreams → ℕ → List Status → Type 0
+IsCollectedOf job dones σ k xs = (v : ℕ) → slice_get (outputs_of job.plan) k ≡ Some v → BeginStatuses job σ v xs × (AllEnded job dones → AreStatuses job σ v xs)
+
+-- how far a link is: no message more than its list has, and no more waiting than the capacity
+pub record IsWithin (job : Run) (dones : List ℕ) (σ : SourceStreams) (l : ℕ) : Type 0 where
+  pub put : put_count (system_of job) dones l ≤ length (source_list job σ l)
+  pub taken : taken_count (system_of job) dones l ≤ put_count (system_of job) dones l
+  pub waiting : put_count (system_of job) dones l ≤ taken_count (system_of job) dones l + job.plan.capacity
+  pub ended : AllEnded job dones → taken_count (system_of job) dones l ≡ length (source_list job σ l)
+
+-- in each solution of the source every link is within its list, which was taken whole where all sites have ended, and then
+-- no main variable breaks
+pub record IsFaithful (job : Run) (dones : List ℕ) : Type 0 where
+  pub links : (σ : SourceStreams) (l : ℕ) → IsMeant job σ → l < length job.plan.links → IsWithin job dones σ l
+  pub sound : (σ : SourceStreams) → IsMeant job σ → AllEnded job dones → NoneBreaks job σ
