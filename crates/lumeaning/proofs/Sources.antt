@@ -1,11 +1,10 @@
 -- A solution of the source and the flat program's give main variables the same streams.
-use Rattle.std.proofs.Common.{◌≡◌, ℕ, zero, suc, ◌+◌, ◌<◌, ◌≤◌, List, [], ◌∷◌, length, map, Some, refl, sym, ap, ap₂, ◌∙◌, arith}
-use Rattle.std.specs.Prelude.{slice_get, unwrap_or}
+use Rattle.std.proofs.Common.{◌≡◌, ℕ, zero, suc, ◌+◌, ◌<◌, [], ◌∷◌, length, map, refl, sym, ap, ap₂, ◌∙◌, arith}
+use Rattle.std.specs.Prelude.{unwrap_or}
 use Rattle.std.specs.List.{range_with_len}
 use Rattle.std.specs.Option.{option_map}
-use Rattle.luflow.specs.declared.data.Status.{Status}
 use Rattle.luflow.specs.declared.variable.Variable.{Variable}
-use Rattle.luflow.specs.Streams.{Stream, Known, is_broken}
+use Rattle.luflow.specs.Streams.{Stream, is_broken}
 use Rattle.luflow.specs.Messages.{marks, messages}
 use Rattle.luflow.proofs.Solutions.{some_at}
 use Rattle.luworld.specs.Runs.{Run, IsJob, NoFault, streams_of, messages_of, link_list, carried}

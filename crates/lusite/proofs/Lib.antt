@@ -7,3 +7,4 @@ pub mod Starts
 pub mod Outputs
 pub mod FaultsTold
 pub mod Ranges
+pub mod Passed

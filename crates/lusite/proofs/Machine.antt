@@ -227,6 +227,7 @@ module _ (job : Run) (s : ℕ) (ij : IsJob job) where
           here = λ lt l. absurd (omega arith);
           no_stop = λ _. subst (λ (m : ℕ). IsFree job (take m (endless job (streams_of job) s))) (sym n) (st.no_stop refl);
           stopped = λ e. absurd (false≢true e);
+          stopped_at = λ e. absurd (false≢true e);
         },
         n,
       )
@@ -265,6 +266,7 @@ module _ (job : Run) (s : ℕ) (ij : IsJob job) where
           here = λ _ l. absurd (omega arith);
           no_stop = λ _. subst (λ (m : ℕ). IsFree job (take m (endless job (streams_of job) s))) (sym n) (st.no_stop refl);
           stopped = λ e. absurd (false≢true e);
+          stopped_at = λ e. absurd (false≢true e);
         },
         n,
       )
@@ -294,12 +296,13 @@ module _ (job : Run) (s : ℕ) (ij : IsJob job) where
         here = λ lt _ _. here lt;
         no_stop = λ _. subst (λ (m : ℕ). IsFree job (take m (endless job σ s))) (sym one) more;
         stopped = λ e. absurd (false≢true e);
+        stopped_at = λ e. absurd (false≢true e);
       }
 
   -- one more item, that is a stop
-  pub stands_stop : (now : List Status) (pasts : List Past) (t p j : ℕ) (x : Item) → Stands job s now pasts t p j false → p < length job.plan.flat.order → slice_get (cell job (streams_of job) s t (slice_index job.plan.flat.order p)) j ≡ Some x → stops_at job s (items_before job (streams_of job) s t p j) x ≡ true → Stands job s now pasts t p (j + 1) true
+  pub stands_stop : (now : List Status) (pasts : List Past) (t p j : ℕ) (x : Item) → Stands job s now pasts t p j false → p < length job.plan.flat.order → slice_get (cell job (streams_of job) s t (slice_index job.plan.flat.order p)) j ≡ Some x → j ≡ 0 → stops_at job s (items_before job (streams_of job) s t p j) x ≡ true → Stands job s now pasts t p (j + 1) true
   unfolding endless
-  stands_stop now pasts t p j x st lp at stop =
+  stands_stop now pasts t p j x st lp at first stop =
       let order = job.plan.flat.order in
       let i = slice_index order p in
       let σ = streams_of job in
@@ -320,6 +323,7 @@ module _ (job : Run) (s : ℕ) (ij : IsJob job) where
         here = λ _ _ e. absurd (false≢true (sym e));
         no_stop = λ e. absurd (false≢true (sym e));
         stopped = λ _. (before_step job σ s t p j ∙ sym (cut_stops (outline job σ) [] (endless job σ s) n x (st.no_stop refl) item stop), stop_not (outline job σ) [] (script job σ s) n x last (ap (λ (ys : List Item). stops (outline job σ) ys x) same ∙ stop));
+        stopped_at = λ _. omega (arith, first);
       }
 
   pub script_take : (now : List Status) (pasts : List Past) (t p j : ℕ) → Stands job s now pasts t p j false → take (items_before job (streams_of job) s t p j) (script job (streams_of job) s) ≡ take (items_before job (streams_of job) s t p j) (endless job (streams_of job) s)

@@ -3,13 +3,13 @@ use Rattle.std.proofs.Common.{◌≡◌, ℕ, zero, suc, ◌+◌, ◌<◌, ◌�
 use Rattle.std.specs.Prelude.{slice_get, slice_index, ◌&&◌, nat_lt}
 use Rattle.std.specs.List.{range_with_len}
 use Rattle.std.proofs.lemmas.Bool.{cases_lt, eq-eqb, ne_eqb}
-use Rattle.std.proofs.lemmas.Option.{slice_get_within}
+use Rattle.std.proofs.lemmas.Option.{slice_get_within, get_or_from_slice_get}
 use Rattle.luworld.proofs.Outlines.{bool_cases}
 use Rattle.luflow.specs.declared.data.Status.{Status}
 use Rattle.luflow.specs.Streams.{Known}
 use Rattle.luflow.specs.Program.{flows_of}
 use Rattle.luflow.proofs.Solutions.{some_at, place_in}
-use Rattle.luworld.specs.Needs.{Distribution, home}
+use Rattle.luworld.specs.Needs.{Distribution, home, stands}
 use Rattle.luworld.specs.Runs.{streams_of, cell, script, is_told, outputs_of}
 use Rattle.lusite.specs.declared.desk.Desk.{Desk}
 use Rattle.lusite.specs.declared.program.Part.{Part}
@@ -17,7 +17,8 @@ use Rattle.lusite.specs.Machine.{is_faulted, IsSet, StandsAt, IsReadyAt, Ready, 
 use Rattle.lusite.specs.Logs.{add_if, IsFirst, IsOutput, IsRow, IsLoggedAt, is_wanted, passed_to, row_items, log_at}
 use Rattle.lusite.proofs.Desks.{Going, going, part_here}
 use Rattle.lusite.proofs.Offers.{Here, hand_next}
-use Rattle.lusite.proofs.Told.{lt-false, both}
+use Rattle.lusite.proofs.Told.{lt-false, both, first_len}
+use Rattle.lusite.proofs.Passed.{told, told_passed, passed_told}
 
 -- a site that has done its script stands after the last instant, if it holds no stop
 at_end : (a : Desk) → Going a → IsReadyAt a → done_of a ≡ length (script a.inputs.job (streams_of a.inputs.job) a.inputs.site) → a.instant ≡ a.inputs.job.inputs.instants
@@ -74,6 +75,15 @@ output_is a set st logged ready k xs e =
           let known : IsFirst job i xs m = ap (map Known) xs_is ∙ r.known in
           record {
             begun = (m, within_all a.instant job.inputs.instants b st.instant_le, known);
+            passed = λ q u there lu.
+                let lq = slice_get_within job.plan.flat.order q i there in
+                let eq : slice_index job.plan.flat.order q ≡ i = get_or_from_slice_get job.plan.flat.order q i 0 there in
+                let n = told a set st ready q in
+                let row : IsRow job i a.logs.items n = subst (λ (j : ℕ). IsRow job j a.logs.items n) eq (logged q lq (subst (λ (j : ℕ). is_wanted job a.inputs.site j ≡ true) (sym eq) wanted)) in
+                let items : xs ≡ row.row.items = log i out ∙ ap (λ (t : Bool). cond t (row_items (slice_get a.logs.items i)) []) wanted ∙ ap row_items row.there in
+                let len : length xs ≡ n = first_len job i xs n (ap (map Known) items ∙ row.known) in
+                let own : stands job.plan (slice_index job.plan.flat.order q) a.inputs.site ≡ true = ap (λ (j : ℕ). stands job.plan j a.inputs.site) eq ∙ ap (stands job.plan i) (sym at_home) ∙ ok.stands_home i o.0 in
+                (λ l. told_passed a set st ready q lq own u lu (omega (arith, l, len)), λ h. let l = passed_told a set st ready q lq own u lu h in omega (arith, l, len));
             whole = λ n free. elim (bool_cases (is_faulted a)) [
               | inl bad ↦ absurd ((st.stopped bad).1 free)
               | inr go ↦

@@ -31,4 +31,5 @@ stands_start job s now pasts en ep =
       here = λ _ l. absurd (omega arith);
       no_stop = λ _. subst (λ (m : ℕ). IsFree job (take m (endless job (streams_of job) s))) (sym (before_start job (streams_of job) s)) tt;
       stopped = λ e. absurd (false≢true e);
+      stopped_at = λ e. absurd (false≢true e);
     }

@@ -112,7 +112,7 @@ work_faults a kind g ready next c =
     let ij = g.set.is_job in
     let wa = work_at a (Faults kind) g ready next c in
     let w = wa.1 in
-    let r = stands_stop job a.inputs.site ij a.shown.items a.pasts.items a.instant a.place a.step (Compute i a.instant) g.stands wa.0 w.item (broken_is job ij i a.instant w.works.inside w.early ∙ ap is_broken w.works.mark) in
+    let r = stands_stop job a.inputs.site ij a.shown.items a.pasts.items a.instant a.place a.step (Compute i a.instant) g.stands wa.0 w.item w.first (broken_is job ij i a.instant w.works.inside w.early ∙ ap is_broken w.works.mark) in
     let one = one_step a w.first in
     (subst (λ (j : ℕ). Stands job a.inputs.site a.shown.items a.pasts.items a.instant a.place j true) one.0 r, one.1)
 

@@ -1,11 +1,13 @@
 -- The statuses of a site's outputs, as far as they were passed.
-use Rattle.std.specs.Prelude.{◌≡◌, ℕ, ◌+◌, ◌<◌, ◌≤◌, Bool, true, not, ◌&&◌, nat_eq, nat_lt, cond, List, [], ◌∷◌, ◌++◌, length, map, Option, Some, None, slice_get, slice_set, slice_index, vec_capacity, Vec}
+use Rattle.std.specs.Prelude.{◌≡◌, ◌↔◌, take, ℕ, ◌+◌, ◌<◌, ◌≤◌, Bool, true, not, ◌&&◌, nat_eq, nat_lt, cond, List, [], ◌∷◌, ◌++◌, length, map, Option, Some, None, slice_get, slice_set, slice_index, vec_capacity, Vec}
 use Rattle.std.specs.declared.alloc.Global.{Global}
 use Rattle.luflow.specs.declared.data.Status.{Status}
 use Rattle.luflow.specs.Streams.{Known}
 use Rattle.luflow.specs.Messages.{marks}
 use Rattle.luworld.specs.Needs.{home}
-use Rattle.luworld.specs.Runs.{Run, script, HasNoStop, is_told, outputs_of, streams_of}
+use Rattle.luflow.specs.Program.{flow_at}
+use Rattle.luflow.specs.Solution.{clock_of_flow}
+use Rattle.luworld.specs.Runs.{Run, script, endless, items_before, is_open, IsFree, HasNoStop, is_told, outputs_of, streams_of}
 use Rattle.lusite.specs.declared.desk.Desk.{Desk}
 use Rattle.lusite.specs.Programs.{part_at}
 use Rattle.lusite.specs.Machine.{is_faulted}
@@ -28,9 +30,24 @@ IsBegun job i xs = (m : ℕ) × (m ≤ job.inputs.instants) × IsFirst job i xs 
 abbrev pub IsWhole : Run → ℕ → List Status → Type 0
 IsWhole job i xs = IsFirst job i xs job.inputs.instants
 
--- what site s, with n items done, tells of the output that is flow i
+-- one where the flow of rank p is present at instant t: a present status waits for its computation
+abbrev pub lead : Run → ℕ → ℕ → ℕ
+lead job p t = cond (is_open (clock_of_flow job.inputs (streams_of job) (flow_at job.plan.flat (slice_index job.plan.flat.order p)) t)) 1 0
+
+-- With n items done, site s has passed the flow of rank p at instant t: where it is present once its computation is done, where
+-- it is absent once every item before it is, and nothing behind a stop. (profile)
+pub record IsPassed (job : Run) (s n p t : ℕ) : Type 0 where
+  pub done : items_before job (streams_of job) s t p (lead job p t) ≤ n
+  pub free : IsFree job (take (items_before job (streams_of job) s t p (lead job p t)) (endless job (streams_of job) s))
+
+-- as many statuses of flow i as site s has passed
+abbrev pub AreAllPassed : Run → ℕ → ℕ → ℕ → List Status → Type 0
+AreAllPassed job s n i xs = (p t : ℕ) → slice_get job.plan.flat.order p ≡ Some i → t < job.inputs.instants → (t < length xs) ↔ IsPassed job s n p t
+
+-- what site s, with n items done, tells of the output that is flow i: its statuses so far, which are those that it has passed
 pub record IsTold (job : Run) (s n i : ℕ) (xs : List Status) : Type 0 where
   pub begun : IsBegun job i xs
+  pub passed : AreAllPassed job s n i xs
   pub whole : n ≡ length (script job (streams_of job) s) → HasNoStop job s → IsWhole job i xs
 
 -- output k at site s: told where the site is the output's home, and nothing elsewhere

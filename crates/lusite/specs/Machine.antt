@@ -54,6 +54,7 @@ pub record Stands (job : Run) (s : ℕ) (now : List Status) (pasts : List Past) 
   pub here : t < job.inputs.instants → 0 < j → faulted ≡ false → IsShown (streams_of job) now t (slice_index job.plan.flat.order p)
   pub no_stop : faulted ≡ false → IsFree job (take (items_before job (streams_of job) s t p j) (endless job (streams_of job) s))
   pub stopped : faulted ≡ true → (items_before job (streams_of job) s t p j ≡ length (script job (streams_of job) s)) × (HasNoStop job s → ⊥)
+  pub stopped_at : faulted ≡ true → j ≡ 1
 
 pub data IsReady (job : Run) (s t p j : ℕ) : Type 0 where
   Ready : p < length job.plan.flat.order → j < length (cell job (streams_of job) s t (slice_index job.plan.flat.order p)) → IsReady job s t p j

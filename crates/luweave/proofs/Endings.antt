@@ -17,14 +17,14 @@ use Rattle.luflow.specs.Values.{value_at, under}
 use Rattle.luflow.specs.Solution.{clock_of_flow}
 use Rattle.luflow.proofs.Solutions.{some_at, place_of, place_in, all_right}
 use Rattle.luworld.specs.Needs.{sites_of, home}
-use Rattle.luworld.specs.World.{put_count, taken_count}
+use Rattle.luworld.specs.World.{done, put_count, taken_count}
 use Rattle.luworld.specs.OutlineLaws.{PassedWhole}
 use Rattle.luworld.specs.Runs.{Run, IsJob, streams_of, system_of, script, link_list, carried, receiver_of, HasNoStop, outline, is_open, NoFault, outputs_of}
 use Rattle.luworld.proofs.Ended.{ended_sound}
 use Rattle.luworld.proofs.PassedWhole.{passed_whole}
 use Rattle.luworld.proofs.Outlines.{says_there, broken_is, is_outline, no_break, list_long}
 use Rattle.lusite.specs.Sites.{SiteAt}
-use Rattle.lusite.specs.Logs.{IsBegun, IsWhole, IsOutput}
+use Rattle.lusite.specs.Logs.{IsBegun, IsWhole, IsOutput, AreAllPassed}
 use Rattle.lusite.proofs.Machine.{there}
 use Rattle.luweave.specs.declared.lane.Lane.{Lane}
 use Rattle.luweave.specs.Worlds.{IsWorld, IsDone, IsCollected, IsToldBySome, OneTells, NoneTells, AllEnded, dones_of}
@@ -104,13 +104,14 @@ module _ (job : Run) (sites : List SiteAt) (lanes : List Lane) (capacity : ℕ) 
       slice_in s v at = let l = slice_get_within sites s v at in omega (arith, l, sites_len)
 
   -- what one of the sites tells is what the output's home tells
-  collected_at : (k s i : ℕ) (xs : List Status) (v : SiteAt) → slice_get sites s ≡ Some v → IsOutput v.job v.site v.done k xs → slice_get (outputs_of job.plan) k ≡ Some i → home job.plan i ≡ s → IsBegun job i xs × (AllEnded job (dones_of sites) → IsWhole job i xs)
+  collected_at : (k s i : ℕ) (xs : List Status) (v : SiteAt) → slice_get sites s ≡ Some v → IsOutput v.job v.site v.done k xs → slice_get (outputs_of job.plan) k ≡ Some i → home job.plan i ≡ s → IsBegun job i xs × AreAllPassed job (home job.plan i) (done (dones_of sites) (home job.plan i)) i xs × (AllEnded job (dones_of sites) → IsWhole job i xs)
   collected_at k s i xs v at told out at_home =
       let e = w.sites_are s v at in
       let told' = subst (λ (j : Run). IsOutput j s v.done k xs) e.0 (subst (λ (n : ℕ). IsOutput v.job n v.done k xs) e.1 told) in
       let t = told'.told i out at_home in
       let ls : s < sites_of job.plan = let l = slice_get_within sites s v at in omega (arith, l, sites_len) in
-      (t.begun, λ all. let x = all s ls in t.whole (sym (done_at sites s v at) ∙ x.whole) x.no_stop)
+      let passed = subst (λ (h : ℕ). AreAllPassed job h (done (dones_of sites) h) i xs) (sym at_home) (subst (λ (n : ℕ). AreAllPassed job s n i xs) (sym (done_at sites s v at)) t.passed) in
+      (t.begun, passed, λ all. let x = all s ls in t.whole (sym (done_at sites s v at) ∙ x.whole) x.no_stop)
 
   not_empty : (xs : List Status) → 0 < length xs → xs ≡ [] → ⊥
   not_empty xs l e = let n = ap length e in omega (arith, l, n)

@@ -74,7 +74,7 @@ module _ (job : Run) (sites : List SiteAt) (lanes : List Lane) (capacity : ℕ) 
     collected_source k xs h v at =
         let lv = (output_there job.plan k v at).0 in
         let x = h v at in
-        ((x.0.0, x.0.1, x.0.2 ∙ sym (same_marks job σ w.is_job meant v x.0.0 lv)), λ all. x.1 all ∙ sym (same_marks job σ w.is_job meant v job.inputs.instants lv))
+        ((x.0.0, x.0.1, x.0.2 ∙ sym (same_marks job σ w.is_job meant v x.0.0 lv)), λ all. x.2 all ∙ sym (same_marks job σ w.is_job meant v job.inputs.instants lv))
 
     pub ended_source : AllEnded job ds → NoneBreaks job σ
     ended_source all = none_breaks job σ w.is_job meant (no_fault job w.is_job ds all)

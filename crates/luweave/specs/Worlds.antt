@@ -1,15 +1,15 @@
 -- A world of sites: how many items each has done. What each turn does is `turn` and `step` of the scripts' system.
 use Rattle.std.specs.Prelude.{◌≡◌, ◌⊎◌, ℕ, ◌+◌, ◌-◌, ◌<◌, ◌≤◌, Bool, false, nat_lt, List, [], ◌∷◌, ◌++◌, length, map, Option, Some, None, slice_get, slice_set, take, vec_capacity}
 use Rattle.luworld.specs.declared.turn.Turn.TheVariants.{Moved}
-use Rattle.luworld.specs.World.{put_count, taken_count, turn}
+use Rattle.luworld.specs.World.{done, put_count, taken_count, turn}
 use Rattle.luworld.specs.Reach.{IsGood}
 use Rattle.luworld.specs.Outline.{HasEnded}
-use Rattle.luworld.specs.Needs.{Distribution, sites_of}
+use Rattle.luworld.specs.Needs.{Distribution, sites_of, home}
 use Rattle.luflow.specs.declared.message.Msg.{Msg}
 use Rattle.luflow.specs.declared.data.Status.{Status}
 use Rattle.luweave.specs.declared.lane.Lane.{Lane}
 use Rattle.luworld.specs.Runs.{Run, streams_of, system_of, script, HasNoStop, outline, link_list, NoFault, IsJob, outputs_of}
-use Rattle.lusite.specs.Logs.{IsBegun, IsWhole, IsOutput}
+use Rattle.lusite.specs.Logs.{IsBegun, IsWhole, IsOutput, AreAllPassed}
 use Rattle.lusite.specs.Sites.{SiteAt}
 
 -- what a lane holds after so many puts and takes: a beginning of the link's list
@@ -101,9 +101,10 @@ IsUnstuck job dones = NoFault job → AllEnded job dones ⊎ ((s : ℕ) × (turn
 abbrev pub IsDone : SiteAt → Type 0
 IsDone v = (v.done ≡ length (script v.job (streams_of v.job) v.site)) × HasNoStop v.job v.site
 
--- output k: a beginning of its statuses before its first broken one, and all of them where all sites have ended
+-- output k: a beginning of its statuses before its first broken one, as many as its home has passed, and all of them where
+-- all sites have ended
 abbrev pub IsCollected : Run → List ℕ → ℕ → List Status → Type 0
-IsCollected job dones k xs = (i : ℕ) → slice_get (outputs_of job.plan) k ≡ Some i → IsBegun job i xs × (AllEnded job dones → IsWhole job i xs)
+IsCollected job dones k xs = (i : ℕ) → slice_get (outputs_of job.plan) k ≡ Some i → IsBegun job i xs × AreAllPassed job (home job.plan i) (done dones (home job.plan i)) i xs × (AllEnded job dones → IsWhole job i xs)
 
 -- a beginning of a list
 abbrev pub IsBeginning : List Msg → List Msg → Type 0

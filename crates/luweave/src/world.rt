@@ -301,8 +301,8 @@ fn outputs_in(sites: &Vec<Site>, k: usize) -> &[Status]
 }
 
 impl World {
-    /// Output k so far: a beginning of its statuses before its first broken one, also as the source says it; the whole output
-    /// where all sites have ended. Takes no memory.
+    /// Output k so far: a beginning of its statuses before its first broken one, also as the source says it, as many as its
+    /// site has passed; the whole output where all sites have ended. Takes no memory.
     pub fn outputs(&self, k: usize) -> &[Status]
         ensures collected { IsCollected self.now.job self.now.dones k result.now }
         ensures source { (σ : SourceStreams) → IsMeant self.now.job σ → IsCollectedOf self.now.job self.now.dones σ k result.now }
