@@ -8,3 +8,4 @@ pub mod RankOrders
 pub mod Walks
 pub mod Coding
 pub mod Whole
+pub mod Vectors

@@ -3,3 +3,4 @@ pub mod Result
 pub mod Ranked
 pub mod Ranking
 pub mod Code
+pub mod Vectors

@@ -4,3 +4,5 @@ pub mod TidyStreams
 pub mod Faults
 pub mod Tidied
 pub mod FaultsFound
+pub mod Worked
+pub mod Vectors

@@ -10,3 +10,4 @@ pub mod Messages
 pub mod Tables
 pub mod Flats
 pub mod FlatLaws
+pub mod Vectors

@@ -1,6 +1,7 @@
 //! What holds of the definitions, as contracts of functions that do nothing.
 
 ghost use Rattle.luflow.specs.FlatLaws.{SolutionLaw, TidyLaw, StuckLaw, FaultLaw};
+ghost use Rattle.luflow.specs.Vectors.{SolutionVectors};
 
 /// A flat program whose reads come first has exactly one solution, faults or not: every two give each flow the same
 /// stream, and there is one.
@@ -22,4 +23,11 @@ pub fn stuck_law()
 /// An operator has no value exactly where the language says that it is a fault, and of that kind.
 pub fn fault_law()
     ensures { FaultLaw }
+{}
+
+/// The solutions of four worked programs at their tables: two counters that feed each other, a sum beside a doubled sample
+/// on a slow clock, a division that breaks at its second instant, and a sample that is held. They are flat programs, so the
+/// rules of types, clocks and ranks can be met.
+pub fn solution_vectors_law()
+    ensures { SolutionVectors }
 {}

@@ -4,10 +4,10 @@
 //! - [`Form`], [`Flow`], [`Clock`]: what a flow is made of; [`Outcome`], [`FaultKind`]: what its value may be.
 //! - [`Flat`], [`Variable`]: a whole flat program; [`Inputs`]: the table of its inputs.
 //! - [`Msg`], [`Body`]: what a link carries.
-//! - [`laws`]: exactly one solution, and what every solution keeps.
+//! - [`laws`]: exactly one solution, what every solution keeps, and worked programs.
 //!
 //! The definitions stand in `specs/`: `Program`, `Rank`, `Streams`, `Operators`, `Values`, `Solution`, `Faults`, `Sound`,
-//! `Messages`.
+//! `Messages`; worked programs in `Vectors`.
 #![tactic(auto)]
 
 mod data;

@@ -22,3 +22,4 @@ pub mod Outlines
 pub mod Cursor
 pub mod Fitting
 pub mod PassedWhole
+pub mod WorkedPlans

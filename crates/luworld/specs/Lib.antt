@@ -6,3 +6,4 @@ pub mod OutlineLaws
 pub mod Vectors
 pub mod Needs
 pub mod Runs
+pub mod RunVectors

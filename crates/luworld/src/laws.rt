@@ -3,6 +3,7 @@
 ghost use Rattle.luworld.specs.Laws.{CountsLaw, TurnLaw, ReachableLaw, QuietLaw, SameEndLaw, MovesLaw, EnabledLaw, NumbersLaw, StepCountsLaw};
 ghost use Rattle.luworld.specs.Vectors.{VectorsLaw, ExampleIsOutline};
 ghost use Rattle.luworld.specs.OutlineLaws.{PartsLaw, WiredLaw, WholeLaw, NeverStuckLaw, LeftLaw, ItemCountLaw, EndedLaw, DoneEndsLaw, PassedWholeLaw};
+ghost use Rattle.luworld.specs.RunVectors.{RunVectors};
 
 /// Messages taken are at most those put, and at most the capacity fewer.
 pub fn counts_law()
@@ -102,4 +103,10 @@ pub fn done_ends_law()
 /// Without a fault a link's list was put whole where its sender has ended, and taken whole where its receiver has.
 pub fn passed_whole_law()
     ensures { PassedWholeLaw }
+{}
+
+/// Worked runs on two or three sites: counters that feed each other, a sum beside a doubled sample on a slow clock, a
+/// division that breaks, and a held sample. Each plan and each table is what a plan and a table have to be.
+pub fn run_vectors_law()
+    ensures { RunVectors }
 {}

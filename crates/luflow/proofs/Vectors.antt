@@ -1,0 +1,399 @@
+-- The worked programs are flat programs, and their tables fit them.
+use Rattle.std.proofs.Common.{◌≡◌, ℕ, ◌<◌, ◌≤◌, Bool, true, false, ◌||◌, Some, nat_eq, refl, ap, ◌∙◌, arith}
+use Rattle.std.specs.Prelude.{length, slice_get, codes, pos}
+use Rattle.std.proofs.lemmas.Bool.{le-ltb}
+use Rattle.std.proofs.lemmas.List.Elements.{All-nil}
+use Rattle.std.proofs.lemmas.Option.{slice_get_within}
+use Rattle.lutree.specs.declared.expr.UnaryOperator.TheVariants.{Not}
+use Rattle.lutree.specs.declared.expr.BinaryOperator.TheVariants.{Add, Divide}
+use Rattle.lutree.specs.declared.program.Kind.TheVariants.{Int as Ints, Bool as Truths}
+use Rattle.luflow.specs.declared.data.Status.TheVariants.{Absent}
+use Rattle.luflow.specs.declared.form.Clock.{Clock}
+use Rattle.luflow.specs.declared.form.Clock.TheVariants.{Base, On}
+use Rattle.luflow.specs.declared.form.Form.{Form}
+use Rattle.luflow.specs.declared.variable.Variable.{Variable}
+use Rattle.lutree.specs.declared.program.Kind.{Kind}
+use Rattle.luflow.specs.declared.form.Form.TheVariants.{Input, Constant, Unary, Binary, Pre, Arrow, When}
+use Rattle.luflow.specs.declared.form.Flow.{Flow}
+use Rattle.luflow.specs.declared.variable.Role.TheVariants as role
+use Rattle.luflow.specs.Program.{FlatProgram, Table, IsOrdered, flow_at, flows_of, column_of}
+use Rattle.luflow.specs.Rank.{reads_of}
+use Rattle.luflow.specs.Streams.{Known, clock_at}
+use Rattle.luflow.specs.Values.{under, value_at}
+use Rattle.luflow.specs.Solution.{says, solution}
+use Rattle.luflow.specs.Sound.{IsSound, IsFitFor, IsOn, AtMost, FormFits, ClockFits}
+use Rattle.luflow.specs.Flats.{IsFlat}
+use Rattle.luflow.specs.declared.data.Datum.TheVariants.{Int, Bool as Truth}
+use Rattle.luflow.specs.declared.form.FaultKind.TheVariants.{DivZero}
+use Rattle.luflow.specs.Operators.{ZeroDivisor}
+use Rattle.luflow.specs.Faults.{IsFault, OnBinary}
+use Rattle.luflow.specs.Vectors.{int_flow, truth_flow, int_variable, truth_variable, number, IsWorked, two_counters, three, sampled_sum, four_samples, division, one_zero, one_two, held_sample, three_samples}
+use Rattle.luflow.proofs.Solutions.{some_at, IsSolution-solution}
+use Rattle.luflow.proofs.Worked.{each_at, ranked, ordered, places_below, inner, main_clocks, column, columns_long}
+
+counters_ordered : IsOrdered two_counters
+counters_ordered = ordered two_counters refl refl refl refl refl refl
+
+sum_ordered : IsOrdered sampled_sum
+sum_ordered = ordered sampled_sum refl refl refl refl refl refl
+
+division_ordered : IsOrdered division
+division_ordered = ordered division refl refl refl refl refl refl
+
+-- flow r has this form
+there : {flat : FlatProgram} {k : Clock} {s : Kind} {r : ℕ} (form : Form) → flow_at flat r ≡ Some (record { form = form; clock = k; kind = s }) → IsOn flat k s r
+there form e = record { form = form; there = e }
+
+-- a class that is never nil, and one that may be
+never : {d : Bool} → AtMost false d
+never e = cc
+
+may : {c : Bool} → AtMost c true
+may e = refl
+
+abbrev IsInputThere : FlatProgram → ℕ → Flow → Type 0
+IsInputThere flat i flow = (c : ℕ) → flow.form ≡ Input c → (c ≡ i) × (x : Variable) × (slice_get flat.variables i ≡ Some x) × (x.role ≡ role.Input)
+
+abbrev IsInputFlow : FlatProgram → ℕ → Variable → Type 0
+IsInputFlow flat v x = x.role ≡ role.Input → (flow : Flow) × (flow_at flat v ≡ Some flow) × (flow.form ≡ Input v)
+
+-- `pre` and the sum may be nil at first
+abbrev counters_class : ℕ → Bool
+counters_class i = (nat_eq i 3 || nat_eq i 5) || (nat_eq i 7 || nat_eq i 9)
+
+counters_sound : IsSound two_counters
+counters_sound =
+    record {
+      class = counters_class;
+      forms = each_at (λ i flow. FormFits two_counters counters_class flow.clock flow.kind (counters_class i) flow.form) two_counters.flows (
+        (there (number 0) refl, there (Binary Add 3 4) refl, never),
+        (
+          (there (number 0) refl, there (Binary Add 7 8) refl, never),
+          (
+            (tt, λ e. cc),
+            (
+              (there (Arrow 6 9) refl, refl, refl),
+              (
+                (tt, λ e. cc),
+                (
+                  (Ints, refl, refl, there (Pre 1) refl, there (number 1) refl, may, never),
+                  (
+                    (tt, λ e. cc),
+                    (
+                      (there (Arrow 2 5) refl, refl, refl),
+                      (
+                        (tt, λ e. cc),
+                        (
+                          (Ints, refl, refl, there (Pre 0) refl, there (number 1) refl, may, never),
+                          tt,
+                        ),
+                      ),
+                    ),
+                  ),
+                ),
+              ),
+            ),
+          ),
+        ),
+      );
+      clocks = each_at (λ i flow. ClockFits two_counters counters_class flow.clock) two_counters.flows
+          (tt, (tt, (tt, (tt, (tt, (tt, (tt, (tt, (tt, (tt, tt))))))))));
+      outputs = each_at (λ v x. x.role ≡ role.Output → counters_class v ≡ false) two_counters.variables ((λ e. refl), ((λ e. refl), tt));
+    }
+
+pub counters_flat : IsFlat two_counters
+counters_flat =
+    record {
+      ordered = counters_ordered;
+      ranked = ranked (reads_of two_counters) two_counters.order refl refl;
+      sound = counters_sound;
+      few = omega arith;
+      owners_len = refl;
+      owners_in = places_below two_counters 2 two_counters.owners refl;
+      inner = inner two_counters refl;
+      main_clocks = main_clocks two_counters refl;
+      input_there = λ i c flow here. each_at (IsInputThere two_counters) two_counters.flows
+          ((λ c e. cc), ((λ c e. cc), ((λ c e. cc), ((λ c e. cc), ((λ c e. cc), ((λ c e. cc), ((λ c e. cc), ((λ c e. cc), ((λ c e. cc), ((λ c e. cc), tt))))))))))
+          i flow here c;
+      input_is = each_at (IsInputFlow two_counters) two_counters.variables ((λ e. cc), ((λ e. cc), tt));
+      variables_first = omega arith;
+    }
+
+pub counters_worked : IsWorked two_counters three
+counters_worked =
+    record {
+      flat_is = counters_flat;
+      table_is = record { few = omega arith; long = All-nil (λ column. length column.values ≡ 3) };
+      fit =
+          record {
+            columns = each_at (λ i flow. IsFitFor three flow.kind flow.form) two_counters.flows
+                (tt, (tt, (tt, (tt, (tt, (tt, (tt, (tt, (tt, (tt, tt))))))))));
+          };
+    }
+
+-- what is on the base clock is absent after the table
+ends : (flat : FlatProgram) (inputs : Table) (i t : ℕ) (flow : Flow) → IsOrdered flat → flow_at flat i ≡ Some flow → flow.clock ≡ Base → inputs.instants ≤ t → solution flat inputs i t ≡ Known Absent
+ends flat inputs i t flow ordered is base le =
+    let σ = solution flat inputs in
+    let v = value_at inputs σ flow.clock flow.form t in
+    IsSolution-solution flat inputs ordered i t (slice_get_within flat.flows i flow is)
+    ∙ ap (λ o. says inputs σ o t) is
+    ∙ ap (λ k. under (clock_at inputs σ k t) v) base
+    ∙ ap (λ b. under (Some b) v) (le-ltb t inputs.instants le)
+
+pub counters_end : (i t : ℕ) → i < flows_of two_counters → 3 ≤ t → solution two_counters three i t ≡ Known Absent
+counters_end i t l le =
+    let x = some_at two_counters.flows i l in
+    let base = each_at (λ i flow. flow.clock ≡ Base) two_counters.flows (refl, (refl, (refl, (refl, (refl, (refl, (refl, (refl, (refl, (refl, tt)))))))))) i x.0 x.1 in
+    ends two_counters three i t x.0 counters_ordered x.1 base le
+
+-- `pre y` and the sum may be nil at first
+abbrev sum_class : ℕ → Bool
+sum_class i = nat_eq i 6 || nat_eq i 7
+
+-- the clock that is true where c is
+on_c : ClockFits sampled_sum sum_class (On 1 true)
+on_c = (Base, there (Input 1) refl, refl)
+
+sum_sound : IsSound sampled_sum
+sum_sound =
+    record {
+      class = sum_class;
+      forms = each_at (λ i flow. FormFits sampled_sum sum_class flow.clock flow.kind (sum_class i) flow.form) sampled_sum.flows (
+        refl,
+        (
+          refl,
+          (
+            (there (Input 0) refl, there (Binary Add 6 0) refl, never),
+            (
+              (Ints, refl, refl, there (number 2) refl, there (When 0) refl, never, never),
+              (
+                (1, true, Base, refl, there (Input 1) refl, there (Input 0) refl, never),
+                (
+                  (tt, λ e. cc),
+                  (
+                    (there (Arrow 0 7) refl, refl, refl),
+                    (
+                      (Ints, refl, refl, there (Pre 2) refl, there (Input 0) refl, may, never),
+                      tt,
+                    ),
+                  ),
+                ),
+              ),
+            ),
+          ),
+        ),
+      );
+      clocks = each_at (λ i flow. ClockFits sampled_sum sum_class flow.clock) sampled_sum.flows
+          (tt, (tt, (tt, (on_c, (on_c, (on_c, (tt, (tt, tt))))))));
+      outputs = each_at (λ v x. x.role ≡ role.Output → sum_class v ≡ false) sampled_sum.variables
+          ((λ e. refl), ((λ e. refl), ((λ e. refl), ((λ e. refl), ((λ e. refl), tt)))));
+    }
+
+pub sum_flat : IsFlat sampled_sum
+sum_flat =
+    record {
+      ordered = sum_ordered;
+      ranked = ranked (reads_of sampled_sum) sampled_sum.order refl refl;
+      sound = sum_sound;
+      few = omega arith;
+      owners_len = refl;
+      owners_in = places_below sampled_sum 5 sampled_sum.owners refl;
+      inner = inner sampled_sum refl;
+      main_clocks = main_clocks sampled_sum refl;
+      input_there = λ i c flow here. each_at (IsInputThere sampled_sum) sampled_sum.flows (
+        (λ c e. (cc, int_variable role.Input (codes "x"), refl, refl)),
+        (
+          (λ c e. (cc, truth_variable role.Input (codes "c"), refl, refl)),
+          ((λ c e. cc), ((λ c e. cc), ((λ c e. cc), ((λ c e. cc), ((λ c e. cc), ((λ c e. cc), tt)))))),
+        ),
+      )
+          i flow here c;
+      input_is = each_at (IsInputFlow sampled_sum) sampled_sum.variables (
+        (λ e. (int_flow (Input 0), refl, refl)),
+        (
+          (λ e. (truth_flow (Input 1), refl, refl)),
+          ((λ e. cc), ((λ e. cc), ((λ e. cc), tt))),
+        ),
+      );
+      variables_first = omega arith;
+    }
+
+pub sum_worked : IsWorked sampled_sum four_samples
+sum_worked =
+    record {
+      flat_is = sum_flat;
+      table_is = record { few = omega arith; long = columns_long four_samples refl };
+      fit =
+          record {
+            columns = each_at (λ i flow. IsFitFor four_samples flow.kind flow.form) sampled_sum.flows
+                (column Ints (column_of four_samples 0) refl, (column Truths (column_of four_samples 1) refl, (tt, (tt, (tt, (tt, (tt, (tt, tt))))))));
+          };
+    }
+
+division_sound : IsSound division
+division_sound =
+    record {
+      class = λ i. nat_eq i 3;
+      forms = each_at (λ i flow. FormFits division (λ i. nat_eq i 3) flow.clock flow.kind (nat_eq i 3) flow.form) division.flows (
+        refl,
+        (
+          (there (number 0) refl, there (Pre 2) refl, never),
+          (
+            (Ints, refl, refl, there (number 1) refl, there (Input 0) refl, never, never),
+            (
+              (there (Binary Divide 4 0) refl, refl, refl),
+              (
+                (tt, λ e. cc),
+                (
+                  (tt, λ e. cc),
+                  tt,
+                ),
+              ),
+            ),
+          ),
+        ),
+      );
+      clocks = each_at (λ i flow. ClockFits division (λ i. nat_eq i 3) flow.clock) division.flows
+          (tt, (tt, (tt, (tt, (tt, (tt, tt))))));
+      outputs = each_at (λ v x. x.role ≡ role.Output → nat_eq v 3 ≡ false) division.variables
+          ((λ e. refl), ((λ e. refl), ((λ e. refl), ((λ e. cc), tt))));
+    }
+
+pub division_flat : IsFlat division
+division_flat =
+    record {
+      ordered = division_ordered;
+      ranked = ranked (reads_of division) division.order refl refl;
+      sound = division_sound;
+      few = omega arith;
+      owners_len = refl;
+      owners_in = places_below division 4 division.owners refl;
+      inner = inner division refl;
+      main_clocks = main_clocks division refl;
+      input_there = λ i c flow here. each_at (IsInputThere division) division.flows (
+        (λ c e. (cc, int_variable role.Input (codes "x"), refl, refl)),
+        ((λ c e. cc), ((λ c e. cc), ((λ c e. cc), ((λ c e. cc), ((λ c e. cc), tt))))),
+      )
+          i flow here c;
+      input_is = each_at (IsInputFlow division) division.variables
+          ((λ e. (int_flow (Input 0), refl, refl)), ((λ e. cc), ((λ e. cc), ((λ e. cc), tt))));
+      variables_first = omega arith;
+    }
+
+pub division_worked : IsWorked division one_zero
+division_worked =
+    record {
+      flat_is = division_flat;
+      table_is = record { few = omega arith; long = columns_long one_zero refl };
+      fit =
+          record {
+            columns = each_at (λ i flow. IsFitFor one_zero flow.kind flow.form) division.flows
+                (column Ints (column_of one_zero 0) refl, (tt, (tt, (tt, (tt, (tt, tt))))));
+          };
+    }
+
+pub quotient_worked : IsWorked division one_two
+quotient_worked =
+    record {
+      flat_is = division_flat;
+      table_is = record { few = omega arith; long = columns_long one_two refl };
+      fit =
+          record {
+            columns = each_at (λ i flow. IsFitFor one_two flow.kind flow.form) division.flows
+                (column Ints (column_of one_two 0) refl, (tt, (tt, (tt, (tt, (tt, tt))))));
+          };
+    }
+
+-- y divides 1 by 0 at its second instant
+pub division_fault : IsFault division one_zero (solution division one_zero) 2 1 DivZero
+unfolding solution
+division_fault =
+    record {
+      flow = int_flow (Binary Divide 4 0);
+      there = refl;
+      clock = refl;
+      fault = OnBinary Divide 4 0 (Int (pos 1)) (Int (pos 0)) DivZero refl refl (ZeroDivisor (pos 1));
+    }
+
+-- `pre c` and its negation may be nil at first
+abbrev held_class : ℕ → Bool
+held_class i = nat_eq i 6 || nat_eq i 7
+
+-- the clock that is true where c is, or where it isn't
+on_held : (sign : Bool) → ClockFits held_sample held_class (On 3 sign)
+on_held sign = (Base, there (Arrow 5 7) refl, refl)
+
+held_sound : IsSound held_sample
+held_sound =
+    record {
+      class = held_class;
+      forms = each_at (λ i flow. FormFits held_sample held_class flow.clock flow.kind (held_class i) flow.form) held_sample.flows (
+        refl,
+        (
+          (3, true, there (When 0) refl, refl, record { first = 5; then = 7; there = refl; constant = refl }),
+          (
+            (there (Arrow 5 7) refl, there (When 0) refl, there (When 8) refl, refl, refl, refl),
+            (
+              (there (Constant (Truth true)) refl, there (Unary Not 6) refl, never),
+              (
+                (3, true, Base, refl, there (Arrow 5 7) refl, there (Input 0) refl, never),
+                (
+                  (tt, λ e. cc),
+                  (
+                    (there (Arrow 5 7) refl, refl, refl),
+                    (
+                      (refl, there (Pre 3) refl, may),
+                      (
+                        (tt, λ e. cc),
+                        (
+                          (3, false, Base, refl, there (Arrow 5 7) refl, there (number 0) refl, never),
+                          tt,
+                        ),
+                      ),
+                    ),
+                  ),
+                ),
+              ),
+            ),
+          ),
+        ),
+      );
+      clocks = each_at (λ i flow. ClockFits held_sample held_class flow.clock) held_sample.flows
+          (tt, (tt, (tt, (tt, (on_held true, (tt, (tt, (tt, (tt, (on_held false, tt))))))))));
+      outputs = each_at (λ v x. x.role ≡ role.Output → held_class v ≡ false) held_sample.variables
+          ((λ e. refl), ((λ e. refl), ((λ e. refl), ((λ e. refl), ((λ e. refl), tt)))));
+    }
+
+held_flat : IsFlat held_sample
+held_flat =
+    record {
+      ordered = ordered held_sample refl refl refl refl refl refl;
+      ranked = ranked (reads_of held_sample) held_sample.order refl refl;
+      sound = held_sound;
+      few = omega arith;
+      owners_len = refl;
+      owners_in = places_below held_sample 5 held_sample.owners refl;
+      inner = inner held_sample refl;
+      main_clocks = main_clocks held_sample refl;
+      input_there = λ i c flow here. each_at (IsInputThere held_sample) held_sample.flows (
+        (λ c e. (cc, int_variable role.Input (codes "x"), refl, refl)),
+        ((λ c e. cc), ((λ c e. cc), ((λ c e. cc), ((λ c e. cc), ((λ c e. cc), ((λ c e. cc), ((λ c e. cc), ((λ c e. cc), ((λ c e. cc), tt))))))))),
+      )
+          i flow here c;
+      input_is = each_at (IsInputFlow held_sample) held_sample.variables
+          ((λ e. (int_flow (Input 0), refl, refl)), ((λ e. cc), ((λ e. cc), ((λ e. cc), ((λ e. cc), tt)))));
+      variables_first = omega arith;
+    }
+
+pub held_worked : IsWorked held_sample three_samples
+held_worked =
+    record {
+      flat_is = held_flat;
+      table_is = record { few = omega arith; long = columns_long three_samples refl };
+      fit =
+          record {
+            columns = each_at (λ i flow. IsFitFor three_samples flow.kind flow.form) held_sample.flows
+                (column Ints (column_of three_samples 0) refl, (tt, (tt, (tt, (tt, (tt, (tt, (tt, (tt, (tt, tt))))))))));
+          };
+    }
