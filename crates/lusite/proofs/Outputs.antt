@@ -95,4 +95,5 @@ output_is a set st logged ready k xs e =
       elsewhere = λ i out away.
           let off : is_wanted job a.inputs.site i ≡ false = ap (λ (b : Bool). b && is_told job.plan i) (ne_eqb (home job.plan i) a.inputs.site away) in
           log i out ∙ ap (λ (t : Bool). cond t (row_items (slice_get a.logs.items i)) []) off;
+      beyond = λ none. e ∙ ap (λ (q : Distribution). log_at a (slice_get (outputs_of q) k)) set.plan_is ∙ ap (log_at a) none;
     }

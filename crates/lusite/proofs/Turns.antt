@@ -1,5 +1,5 @@
 -- One item more.
-use Rattle.std.proofs.Common.{filter, cond, nat_eq, ◌≡◌, ◌≢◌, ℕ, zero, suc, ◌+◌, ◌<◌, ◌≤◌, ◌⊎◌, inl, inr, Bool, true, false, List, [], ◌∷◌, length, take, count_by, set, Option, Some, None, refl, sym, ap, ap₂, ◌∙◌, subst, arith}
+use Rattle.std.proofs.Common.{filter, cond, nat_eq, ◌≡◌, ◌≢◌, ℕ, zero, suc, ◌+◌, ◌-◌, ◌<◌, ◌≤◌, ◌⊎◌, inl, inr, Bool, true, false, List, [], ◌∷◌, length, take, count_by, set, Option, Some, None, refl, sym, ap, ap₂, ◌∙◌, subst, arith}
 use Rattle.std.specs.Prelude.{slice_get, slice_index, ◌&&◌, unwrap_or}
 use Rattle.std.proofs.lemmas.List.{length-set, length-map}
 use Rattle.std.specs.Option.{option_map}
@@ -116,7 +116,19 @@ work_faults a kind g ready next c =
     let one = one_step a w.first in
     (subst (λ (j : ℕ). Stands job a.inputs.site a.shown.items a.pasts.items a.instant a.place j true) one.0 r, one.1)
 
--- a fault that the machine tells is one of the solution
+-- a computation that faults is the last item of the script
+last_item : (a : Desk) (kind : FaultKind) (g : Going a) → IsReadyAt a → IsLocalNext a.inputs.job a.inputs.site (done_of a) → Computes a (slice_index a.program.plan.flat.order a.place) (flow_at a.program.plan.flat (slice_index a.program.plan.flat.order a.place)) (Faults kind) → slice_get (script a.inputs.job (streams_of a.inputs.job) a.inputs.site) (length (script a.inputs.job (streams_of a.inputs.job) a.inputs.site) - 1) ≡ Some (Compute (slice_index a.inputs.job.plan.flat.order a.place) a.instant)
+last_item a kind g ready next c =
+    let job = a.inputs.job in
+    let items = script job (streams_of job) a.inputs.site in
+    let h = here_from a (Compute next.0 next.1) g ready next.2 in
+    let r = work_faults a kind g ready next c in
+    let whole = (r.0.stopped refl).0 in
+    let more = r.1 in
+    let place : length items - 1 ≡ done_of a = omega (arith, whole, more) in
+    ap (slice_get items) place ∙ hand_next a h ∙ (work_at a (Faults kind) g ready next c).1.item
+
+-- a fault that the machine tells is one of the solution, and of the last computation
 pub work_fault : (a : Desk) (fault : Fault) (g : Going a) → IsReadyAt a → IsLocalNext a.inputs.job a.inputs.site (done_of a) → Computes a (slice_index a.program.plan.flat.order a.place) (flow_at a.program.plan.flat (slice_index a.program.plan.flat.order a.place)) (Faults fault.kind) → fault.variable ≡ slice_index a.program.plan.flat.owners (slice_index a.program.plan.flat.order a.place) → fault.instant ≡ a.instant → IsFaultAt a.inputs.job a.inputs.site fault
 work_fault a fault g ready next c ev et =
     let job = a.inputs.job in
@@ -132,6 +144,7 @@ work_fault a fault g ready next c ev et =
       owner = owner;
       in_time = let e = w.early in omega (arith, e, et);
       is = subst (λ (t : ℕ). IsFault job.plan.flat job.inputs (streams_of job) i t fault.kind) (sym et) is;
+      last = last_item a fault.kind g ready next c ∙ ap (λ t. Some (Compute i t)) (sym et);
     }
 
 -- a sound program's machine is never stuck

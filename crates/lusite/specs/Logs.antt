@@ -50,10 +50,11 @@ pub record IsTold (job : Run) (s n i : ℕ) (xs : List Status) : Type 0 where
   pub passed : AreAllPassed job s n i xs
   pub whole : n ≡ length (script job (streams_of job) s) → HasNoStop job s → IsWhole job i xs
 
--- output k at site s: told where the site is the output's home, and nothing elsewhere
+-- output k at site s: told where the site is the output's home, and nothing elsewhere or where there is no such output
 pub record IsOutput (job : Run) (s n k : ℕ) (xs : List Status) : Type 0 where
   pub told : (i : ℕ) → slice_get (outputs_of job.plan) k ≡ Some i → home job.plan i ≡ s → IsTold job s n i xs
   pub elsewhere : (i : ℕ) → slice_get (outputs_of job.plan) k ≡ Some i → (home job.plan i ≡ s → ⊥) → xs ≡ []
+  pub beyond : slice_get (outputs_of job.plan) k ≡ None → xs ≡ []
 
 -- whether a site reports a flow
 abbrev pub is_wanted : Run → ℕ → ℕ → Bool

@@ -32,7 +32,7 @@ use Rattle.lusite.specs.Programs.{part_at}
 abbrev pub is_faulted : Desk → Bool
 is_faulted a = is_some a.fault
 
--- a fault of the run's solution, of a flow that stands at the site
+-- a fault of the run's solution, of a flow that stands at the site: that of the last computation of the site's script
 pub record IsFaultAt (job : Run) (s : ℕ) (fault : Fault) : Type 0 where
   pub place : ℕ
   pub inside : place < flows_of job.plan.flat
@@ -40,6 +40,7 @@ pub record IsFaultAt (job : Run) (s : ℕ) (fault : Fault) : Type 0 where
   pub owner : slice_index job.plan.flat.owners place ≡ fault.variable
   pub in_time : fault.instant < job.inputs.instants
   pub is : IsFault job.plan.flat job.inputs (streams_of job) place fault.instant fault.kind
+  pub last : slice_get (script job (streams_of job) s) (length (script job (streams_of job) s) - 1) ≡ Some (Compute place fault.instant)
 
 -- what the machine of site s holds, where it stands at step j of the flow of rank p at instant t
 pub record Stands (job : Run) (s : ℕ) (now : List Status) (pasts : List Past) (t p j : ℕ) (faulted : Bool) : Type 0 where

@@ -49,6 +49,17 @@ fn has_ended(site: &Site) -> bool
 }
 
 impl Site {
+    /// How the site stands: ended or faulted exactly where its `next` says so, else cut. Takes no memory.
+    pub fn standing(&self) -> Standing
+        ensures { IsStanding self.now.job self.now.site self.now.done result }
+    {
+        match self.fault() {
+            Some(fault) => Standing::Faulted(fault),
+            None if has_ended(self) => Standing::Ended,
+            None => Standing::Cut,
+        }
+    }
+
     /// What the site leaves, wherever it stands. Takes no memory.
     pub fn report(self) -> SiteReport
         ensures { result ≡ self }
@@ -62,15 +73,11 @@ impl SiteReport {
     pub fn standing(&self) -> Standing
         ensures { IsStanding self.now.job self.now.site self.now.done result }
     {
-        match self.site.fault() {
-            Some(fault) => Standing::Faulted(fault),
-            None if has_ended(&self.site) => Standing::Ended,
-            None => Standing::Cut,
-        }
+        self.site.standing()
     }
 
     /// Output k as far as the site passed it: a beginning of its statuses, and all of them where the site has ended; empty
-    /// where another site reports it. Takes no memory.
+    /// where another site reports it, and where there is no output k. Takes no memory.
     pub fn outputs(&self, k: usize) -> &[Status]
         ensures { IsOutput self.now.job self.now.site self.now.done k result.now }
     {

@@ -106,8 +106,8 @@ impl Site {
     }
 
     /// Output k so far: a beginning of its statuses before its first broken one, and all of them where the site has ended;
-    /// empty where another site reports it. A present status is told with its computation, an absent one when all items
-    /// before it are done. Takes no memory.
+    /// empty where another site reports it, and where there is no output k. A present status is told with its computation,
+    /// an absent one when all items before it are done. Takes no memory.
     pub fn outputs(&self, k: usize) -> &[Status]
         ensures { IsOutput self.now.job self.now.site self.now.done k result.now }
     {

@@ -3,3 +3,4 @@ pub mod Parts
 pub mod Spots
 pub mod Faults
 pub mod Built
+pub mod Told

@@ -2,6 +2,7 @@
 
 ghost use Rattle.std.specs.Prelude.{◌≡◌};
 ghost use Rattle.lutype.specs.declared.error.StatError.TheVariants.{OutOfMemory};
+ghost use Rattle.lutype.specs.Told.{byte_of, number_of};
 
 use std::alloc::{AllocError, AllocFailed};
 use thiserror::Error;
@@ -32,7 +33,9 @@ pub enum StatError {
 
 impl StatError {
     /// The place of the fault.
-    pub fn byte(&self) -> usize {
+    pub fn byte(&self) -> usize
+        ensures { result ≡ byte_of self.now }
+    {
         match self {
             StatError::DuplicateName { byte }
             | StatError::UnknownName { byte }
@@ -43,7 +46,9 @@ impl StatError {
     }
 
     /// The number of the rule.
-    pub fn number(&self) -> u8 {
+    pub fn number(&self) -> u8
+        ensures { result ≡ number_of self.now }
+    {
         match self {
             StatError::DuplicateName { .. } => 10,
             StatError::UnknownName { .. } => 11,
