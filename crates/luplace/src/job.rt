@@ -77,6 +77,13 @@ impl Job {
         &self.plan
     }
 
+    /// The table of the inputs. Takes no memory.
+    pub fn inputs(&self) -> &Inputs
+        ensures { result.now ≡ self.now.inputs }
+    {
+        &self.inputs
+    }
+
     /// The number of instants, 0 to 1,000,000.
     pub fn instants(&self) -> u32
         ensures { result ≡ self.now.inputs.instants }

@@ -1,0 +1,275 @@
+//! The plain programs at two counters that feed each other, each at a site of its own, with a step of 1 and with one so large
+//! that the second sum has no value.
+
+ghost use Rattle.std.specs.Prelude.{◌≡◌, codes, IfOk};
+ghost use Rattle.luplain.specs.Counters.{counter_flows, counter_order, counter_owners, counter_variables, counters, flow, step_of};
+
+use super::*;
+use luflow::{Body, Clock, Datum, Flat, Flow, Form, Inputs, Msg, Role, Status, Variable};
+use lulist::{Name, Row};
+use luplace::{Job, PlaceError, Plan, read_place};
+use lutree::{BinaryOperator, Kind};
+use std::alloc::{AllocError, Global};
+use std::test::Fail;
+
+const TWO_SITES: &str = "sites = [\"A\", \"B\"]\ncapacity = 1\n[place]\na = \"A\"\nb = \"B\"\n";
+
+fn flow(form: Form) -> Flow
+    ensures { result ≡ flow form }
+{
+    Flow {
+        form,
+        clock: Clock::Base,
+        kind: Kind::Int,
+    }
+}
+
+fn constant(n: i64) -> Flow
+    ensures { result ≡ flow (Form.Constant (Datum.Int n)) }
+{
+    flow(Form::Constant(Datum::Int(n)))
+}
+
+fn sum(a: usize, b: usize) -> Flow
+    ensures { result ≡ flow (Form.Binary BinaryOperator.Add a b) }
+{
+    flow(Form::Binary(BinaryOperator::Add, a, b))
+}
+
+/// The step of the counters.
+fn step_of(large: bool) -> i64
+    ensures { result ≡ step_of large }
+{
+    if large { i64::MAX } else { 1 }
+}
+
+fn flows(alloc: Global, large: bool) -> Result<Row<Flow>, AllocError>
+    ensures { IfOk result (λ row. row ≡ counter_flows large) }
+{
+    let flows = vec![in alloc;
+        flow(Form::Arrow(2, 5)),
+        flow(Form::Arrow(6, 9)),
+        constant(0),
+        flow(Form::Pre(1)),
+        constant(step_of(large)),
+        sum(3, 4),
+        constant(0),
+        flow(Form::Pre(0)),
+        constant(step_of(large)),
+        sum(7, 8),
+    ]?;
+    Ok(Row::new(flows))
+}
+
+fn order(alloc: Global) -> Result<Row<usize>, AllocError>
+    ensures { IfOk result (λ row. row ≡ counter_order) }
+{
+    let order = vec![in alloc; 2, 3, 4, 5, 0, 6, 7, 8, 9, 1]?;
+    Ok(Row::new(order))
+}
+
+fn owners(alloc: Global) -> Result<Row<usize>, AllocError>
+    ensures { IfOk result (λ row. row ≡ counter_owners) }
+{
+    let owners = vec![in alloc; 0, 1, 0, 0, 0, 0, 1, 1, 1, 1]?;
+    Ok(Row::new(owners))
+}
+
+fn output(alloc: Global, name: &str) -> Result<Variable, AllocError>
+    ensures { IfOk result (λ x. x ≡ record { name = name.now; role = Role.Output; kind = Kind.Int }) }
+{
+    Ok(Variable {
+        name: Name::from_text(alloc, name)?,
+        role: Role::Output,
+        kind: Kind::Int,
+    })
+}
+
+fn variables(alloc: Global) -> Result<Row<Variable>, AllocError>
+    ensures { IfOk result (λ row. row ≡ counter_variables (codes "a") (codes "b")) }
+{
+    let a = output(alloc, "a")?;
+    let b = output(alloc, "b")?;
+    let variables = vec![in alloc; a, b]?;
+    Ok(Row::new(variables))
+}
+
+/// The program `node main() returns (a: int; b: int); let a = 0 -> pre b + step; b = 0 -> pre a + step; tel`.
+fn two_counters(alloc: Global, large: bool) -> Result<Flat, AllocError>
+    ensures { IfOk result (λ flat. flat ≡ counters large (codes "a") (codes "b")) }
+{
+    let flows = flows(alloc, large)?;
+    let order = order(alloc)?;
+    let owners = owners(alloc)?;
+    let variables = variables(alloc)?;
+    Ok(Flat::new(flows, order, owners, variables))
+}
+
+fn plan_of_counters(alloc: Global, large: bool) -> Result<Plan, PlaceError>
+    ensures { IfOk result (λ plan. plan.flat ≡ counters large (codes "a") (codes "b")) }
+{
+    let place = read_place(alloc, TWO_SITES)?;
+    Plan::make(alloc, two_counters(alloc, large)?, &place)
+}
+
+/// The counters at two sites, over three instants.
+fn job_of_counters(alloc: Global, large: bool) -> Result<Job, Fail> {
+    let plan = plan_of_counters(alloc, large)?;
+    let found = Inputs::new(3, Vec::new(alloc));
+    match found {
+        Some(inputs) => Ok(Job::new(plan, inputs)),
+        None => Err("no table")?,
+    }
+}
+
+fn known(n: i64) -> Mark {
+    Mark::Known(Status::Present(Datum::Int(n)))
+}
+
+fn known_nil() -> Mark {
+    Mark::Known(Status::Present(Datum::Nil))
+}
+
+fn compute(flow: usize) -> Item {
+    Item::Compute { flow, instant: 0 }
+}
+
+fn marks_are(rows: &[Marks], flow: usize, want: &[Mark]) -> bool {
+    match rows.get(flow) {
+        Some(row) => row.as_slice() == want,
+        None => false,
+    }
+}
+
+#[test]
+fn counters_count(rt: HostRuntime) -> Result<(), Fail> {
+    let job = job_of_counters(rt.alloc(), false)?;
+    let rows = marks_of(rt.alloc(), job.plan().flat(), job.inputs(), 4)?;
+    let absent = Mark::Known(Status::Absent);
+    assert_eq!(rt; rows.len(), 10);
+    assert!(rt; marks_are(&rows, 0, &[known(0), known(1), known(2), absent]));
+    assert!(rt; marks_are(&rows, 1, &[known(0), known(1), known(2), absent]));
+    assert!(rt; marks_are(&rows, 3, &[known_nil(), known(0), known(1), absent]));
+    Ok(())
+}
+
+fn value_no(no: u32, n: i64) -> Msg {
+    Msg {
+        no,
+        body: Body::Value(Datum::Int(n)),
+    }
+}
+
+fn close_no(no: u32) -> Msg {
+    Msg {
+        no,
+        body: Body::Close,
+    }
+}
+
+fn carries(alloc: Global, job: &Job, link: usize, want: &[Msg]) -> Result<bool, Fail> {
+    Ok(list_of_link(alloc, job, link)?.as_slice() == want)
+}
+
+/// The counts of three instants, and the close.
+fn carries_counts(alloc: Global, job: &Job, link: usize) -> Result<bool, Fail> {
+    let want = [value_no(0, 0), value_no(1, 1), value_no(2, 2), close_no(3)];
+    carries(alloc, job, link, &want)
+}
+
+#[test]
+fn links_carry_the_counts_and_the_close(rt: HostRuntime) -> Result<(), Fail> {
+    let job = job_of_counters(rt.alloc(), false)?;
+    assert!(rt; carries_counts(rt.alloc(), &job, 0)?);
+    assert!(rt; carries_counts(rt.alloc(), &job, 1)?);
+    assert!(rt; carries(rt.alloc(), &job, 2, &[])?);
+    Ok(())
+}
+
+#[test]
+fn a_sum_that_does_not_fit_breaks_both(rt: HostRuntime) -> Result<(), Fail> {
+    let job = job_of_counters(rt.alloc(), true)?;
+    let rows = marks_of(rt.alloc(), job.plan().flat(), job.inputs(), 3)?;
+    let want = [known(0), known(i64::MAX), Mark::Broken];
+    assert!(rt; marks_are(&rows, 0, &want));
+    assert!(rt; marks_are(&rows, 1, &want));
+    Ok(())
+}
+
+#[test]
+fn no_close_follows_a_fault(rt: HostRuntime) -> Result<(), Fail> {
+    let job = job_of_counters(rt.alloc(), true)?;
+    let want = [value_no(0, 0), value_no(1, i64::MAX)];
+    assert!(rt; carries(rt.alloc(), &job, 0, &want)?);
+    Ok(())
+}
+
+fn item_is(items: &[Item], place: usize, want: Item) -> bool {
+    items.get(place).copied() == Some(want)
+}
+
+#[test]
+fn scripts_have_forty_six_items(rt: HostRuntime) -> Result<(), Fail> {
+    let job = job_of_counters(rt.alloc(), false)?;
+    let first = script_of(rt.alloc(), &job, 0)?;
+    let second = script_of(rt.alloc(), &job, 1)?;
+    assert_eq!(rt; first.len(), 23);
+    assert_eq!(rt; second.len(), 23);
+    assert!(rt; item_is(&first, 4, compute(0)));
+    assert!(rt; item_is(&first, 5, Item::Put { link: 0 }));
+    assert!(rt; item_is(&second, 0, Item::Take { link: 0 }));
+    Ok(())
+}
+
+#[test]
+fn no_site_has_no_script(rt: HostRuntime) -> Result<(), Fail> {
+    let job = job_of_counters(rt.alloc(), false)?;
+    let none = script_of(rt.alloc(), &job, 2)?;
+    assert_eq!(rt; none.len(), 0);
+    Ok(())
+}
+
+#[test]
+fn a_fault_cuts_both_scripts(rt: HostRuntime) -> Result<(), Fail> {
+    let job = job_of_counters(rt.alloc(), true)?;
+    let first = script_of(rt.alloc(), &job, 0)?;
+    let second = script_of(rt.alloc(), &job, 1)?;
+    assert_eq!(rt; first.len(), 18);
+    assert_eq!(rt; second.len(), 15);
+    assert!(rt; item_is(&second, 14, Item::Take { link: 0 }));
+    Ok(())
+}
+
+fn ends_at(alloc: Global, job: &Job, turns: &[u8], want: &[usize]) -> Result<bool, Fail> {
+    Ok(world_after(alloc, job, turns)?.as_slice() == want)
+}
+
+#[test]
+fn a_site_alone_is_blocked(rt: HostRuntime) -> Result<(), Fail> {
+    let job = job_of_counters(rt.alloc(), false)?;
+    assert!(rt; ends_at(rt.alloc(), &job, &[], &[0, 0])?);
+    assert!(rt; ends_at(rt.alloc(), &job, &[0; 9], &[6, 0])?);
+    assert!(rt; ends_at(rt.alloc(), &job, &[1; 9], &[0, 0])?);
+    assert!(rt; ends_at(rt.alloc(), &job, &[2; 9], &[0, 0])?);
+    Ok(())
+}
+
+/// So many turns of both sites, one after the other.
+fn both_sites(alloc: Global, count: usize) -> Result<Vec<u8>, AllocError> {
+    let mut turns = Vec::new(alloc);
+    for _ in 0..count {
+        turns.push(0)?;
+        turns.push(1)?;
+    }
+    Ok(turns)
+}
+
+#[test]
+fn both_sites_together_end(rt: HostRuntime) -> Result<(), Fail> {
+    let turns = both_sites(rt.alloc(), 60)?;
+    let job = job_of_counters(rt.alloc(), false)?;
+    assert!(rt; ends_at(rt.alloc(), &job, &turns, &[23, 23])?);
+    let broken = job_of_counters(rt.alloc(), true)?;
+    assert!(rt; ends_at(rt.alloc(), &broken, &turns, &[18, 14])?);
+    Ok(())
+}
