@@ -3,3 +3,4 @@ pub mod NewSites
 pub mod Shapes
 pub mod Worlds
 pub mod AskedFor
+pub mod Texts

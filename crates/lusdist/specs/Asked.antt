@@ -16,7 +16,10 @@ use Rattle.luplace.specs.Placing.{IsPlanOf}
 use Rattle.lutab.specs.Rows.{table_of}
 use Rattle.lushell.specs.ScheduleText.{schedule_of}
 use Rattle.lushell.specs.declared.request.Request.{Request}
+use Rattle.lushell.specs.Request.{IsAskedBy}
 use Rattle.luweave.specs.Worlds.{Progress}
+use Rattle.luweave.specs.Headline.{IsFaithful}
+use Rattle.lusdist.specs.WorldText.{IsWorldText}
 
 -- the flat program of the program that a text spells
 pub record IsFlatOfText (text main : List ℕ) (flat : FlatProgram) : Type 0 where
@@ -57,3 +60,23 @@ pub record IsAskedFor (gives : List ℕ → List ℕ → Type 0) (request : Requ
 pub record IsWorldOf (job : Run) (turns : List ℕ) (world : Progress) : Type 0 where
   pub job_is : world.job ≡ job
   pub dones_are : world.dones ≡ reached (system_of job) turns
+
+-- the text of the world of a job after its turns, which keeps what the source says
+pub record IsPrinted (job : Run) (turns text : List ℕ) : Type 0 where
+  pub world : Progress
+  pub world_is : IsWorldOf job turns world
+  pub faithful : IsFaithful world.job world.dones
+  pub text_is : IsWorldText world text
+
+-- the text of a replay of what a request asks for
+pub record IsReplayed (gives : List ℕ → List ℕ → Type 0) (request : Request) (text : List ℕ) : Type 0 where
+  pub job : Run
+  pub turns : List ℕ
+  pub asked_for : IsAskedFor gives request job turns
+  pub printed : IsPrinted job turns text
+
+-- the text of a replay of what the words ask for
+pub record IsDone (gives : List ℕ → List ℕ → Type 0) (words : List (List ℕ)) (text : List ℕ) : Type 0 where
+  pub request : Request
+  pub asked : IsAskedBy words request
+  pub replayed : IsReplayed gives request text

@@ -7,6 +7,8 @@
 //! - `text`: what a replay prints.
 #![tactic(auto)]
 
+#[cfg(test)]
+mod schedules;
 mod serve;
 mod sites;
 mod sources;

@@ -1,8 +1,11 @@
 //! A call of the program.
 
-ghost use Rattle.std.specs.Prelude.{◌≡◌, ◌⊎◌, IfOk};
+ghost use Rattle.std.specs.Prelude.{◌≡◌, ◌⊎◌, ℕ, true, List, map, IfOk, string_bytes};
+ghost use Rattle.std.specs.Io.KnownBytes.{Appends};
+ghost use Rattle.clap.specs.Words.{takes};
+ghost use Rattle.lushell.specs.CommandLine.{lusdist};
 ghost use Rattle.luweave.specs.Headline.{IsFaithful};
-ghost use Rattle.lusdist.specs.Asked.{IsAskedFor, IsWorldOf};
+ghost use Rattle.lusdist.specs.Asked.{IsAskedFor, IsWorldOf, IsPrinted, IsReplayed, IsDone};
 
 use crate::sites::new_sites;
 use crate::sources::{flat_of, job_of, plan_of, read, turns_of};
@@ -34,7 +37,7 @@ fn job_and_turns<F: Files>(
 }
 
 /// The world that the turns make of a job's new sites.
-fn replayed(alloc: Global, job: &Job, turns: &[u8]) -> Result<World, Stop>
+pub fn replayed(alloc: Global, job: &Job, turns: &[u8]) -> Result<World, Stop>
     ensures world { IfOk result (IsWorldOf job.now turns.now) }
     ensures faithful { IfOk result (λ world. IsFaithful world.job world.dones) }
 {
@@ -44,12 +47,16 @@ fn replayed(alloc: Global, job: &Job, turns: &[u8]) -> Result<World, Stop>
 }
 
 /// What a replay of a job prints.
-fn printed(alloc: Global, job: &Job, turns: &[u8]) -> Result<String, Stop> {
+fn printed(alloc: Global, job: &Job, turns: &[u8]) -> Result<String, Stop>
+    ensures { IfOk result (λ text. IsPrinted job.now turns.now (string_bytes text)) }
+{
     let world = replayed(alloc, job, turns)?;
     Ok(text_of_world(alloc, job.plan(), &world)?)
 }
 
-fn answer<F: Files>(alloc: Global, request: Request<'_>, files: &F) -> Result<String, Stop> {
+fn answer<F: Files>(alloc: Global, request: Request<'_>, files: &F) -> Result<String, Stop>
+    ensures { IfOk result (λ text. IsReplayed (F.gives files.now) request.entry (string_bytes text)) }
+{
     let (job, turns) = job_and_turns(alloc, request, files)?;
     printed(alloc, &job, &turns)
 }
@@ -62,6 +69,7 @@ fn perform<F: Files, W: Write, V: Write>(
     out: &mut W,
     err: &mut V,
 ) -> u8
+    ensures done { result ≡ 0 → (text : List ℕ) × IsReplayed (F.gives files.now) request.entry text × Appends (W.contents out.old) (W.contents out.new) text }
     ensures refused { (result ≡ 1) ⊎ (result ≡ 2) → out.new ≡ out.old }
     ensures silent { result ≡ 0 → err.new ≡ err.old }
 {
@@ -85,6 +93,9 @@ pub fn serve_words<F: Files, W: Write, V: Write>(
     out: &mut W,
     err: &mut V,
 ) -> u8
+    // Where the command line takes the words and the call is done, the text of the replay that they ask for went to the output.
+    ensures done { takes lusdist (map string_bytes words.entry.now) ≡ true → result ≡ 0 → (text : List ℕ) × IsDone (F.gives files.now) (map string_bytes words.entry.now) text × Appends (W.contents out.old) (W.contents out.new) text }
+
     // Where a text or a file is refused, or the words are, nothing goes to the output.
     ensures refused { (result ≡ 1) ⊎ (result ≡ 2) → out.new ≡ out.old }
 

@@ -318,9 +318,12 @@ fn the_greatest_capacity_is_filled(rt: HostRuntime) -> Result<(), Fail> {
 #[test]
 fn a_link_of_one_message_is_filled(rt: HostRuntime) -> Result<(), Fail> {
     let turns = vec![in rt.alloc(); b'0'; 100]?;
-    let mut shelf = counters();
-    shelf.program = PRODUCER;
-    shelf.turns = &turns;
+    let shelf = Shelf {
+        program: PRODUCER,
+        place: TWO_SITES,
+        table: b"\n\n\n\n",
+        turns: &turns,
+    };
     let text = "link a A B taken queued 1\nsite A open\nsite B open\noutput a 0 1\noutput b\n";
     assert!(rt; begins(rt.alloc(), &shelf, text)?);
     Ok(())
@@ -338,8 +341,12 @@ fn a_program_of_too_many_flows(rt: HostRuntime) -> Result<(), Fail> {
         write!(text, "v{number} = 0 -> pre v0 + 1; ")?;
     }
     text.push_str("tel")?;
-    let mut shelf = counters();
-    shelf.program = text.as_bytes();
+    let shelf = Shelf {
+        program: text.as_bytes(),
+        place: TWO_SITES,
+        table: b"\n\n\n\n",
+        turns: TURNS,
+    };
     assert!(rt; refuses(rt.alloc(), &shelf, "E50 TooLarge\n")?);
     Ok(())
 }
@@ -347,8 +354,12 @@ fn a_program_of_too_many_flows(rt: HostRuntime) -> Result<(), Fail> {
 #[test]
 fn a_table_of_too_many_instants(rt: HostRuntime) -> Result<(), Fail> {
     let table = vec![in rt.alloc(); b'\n'; 1_000_002]?;
-    let mut shelf = counters();
-    shelf.table = &table;
+    let shelf = Shelf {
+        program: COUNTERS,
+        place: TWO_SITES,
+        table: &table,
+        turns: TURNS,
+    };
     assert!(rt; refuses(rt.alloc(), &shelf, "T04 TooLong\n")?);
     Ok(())
 }
@@ -356,8 +367,12 @@ fn a_table_of_too_many_instants(rt: HostRuntime) -> Result<(), Fail> {
 #[test]
 fn a_schedule_of_too_many_turns(rt: HostRuntime) -> Result<(), Fail> {
     let turns = vec![in rt.alloc(); b'0'; 67_108_865]?;
-    let mut shelf = counters();
-    shelf.turns = &turns;
+    let shelf = Shelf {
+        program: COUNTERS,
+        place: TWO_SITES,
+        table: b"\n\n\n\n",
+        turns: &turns,
+    };
     assert!(rt; refuses(rt.alloc(), &shelf, "S02 LongSchedule\n")?);
     Ok(())
 }

@@ -1,0 +1,119 @@
+-- What a replay prints.
+use Rattle.std.specs.Prelude.{◌≡◌, ℕ, ◌+◌, Bool, true, false, List, [], ◌∷◌, ◌++◌, length, take, drop, codes, flat_map, slice_get, Option, Some, None, unwrap_or}
+use Rattle.std.specs.List.{range_with_len}
+use Rattle.std.specs.Fmt.{decimal, signed_decimal}
+use Rattle.std.specs.Option.{option_map}
+use Rattle.luflow.specs.declared.data.Datum.{Datum}
+use Rattle.luflow.specs.declared.data.Datum.TheVariants.{Int, Bool as Truth, Nil}
+use Rattle.luflow.specs.declared.data.Status.{Status}
+use Rattle.luflow.specs.declared.data.Status.TheVariants.{Absent, Present}
+use Rattle.luflow.specs.declared.message.Msg.{Msg}
+use Rattle.luflow.specs.declared.message.Body.{Body}
+use Rattle.luflow.specs.declared.message.Body.TheVariants.{Value, Close}
+use Rattle.luflow.specs.declared.form.FaultKind.{FaultKind}
+use Rattle.luflow.specs.declared.form.FaultKind.TheVariants.{Overflow, DivZero}
+use Rattle.luflow.specs.declared.variable.Variable.{Variable}
+use Rattle.luflow.specs.Program.{FlatProgram}
+use Rattle.luworld.specs.declared.link.Link.{Link}
+use Rattle.luworld.specs.Needs.{Distribution, sites_of}
+use Rattle.luworld.specs.World.{done, put_count, taken_count}
+use Rattle.luworld.specs.Runs.{link_list, streams_of, system_of, is_output, is_told, outputs_of}
+use Rattle.lusite.specs.Machine.{IsStanding}
+use Rattle.lusite.specs.declared.report.Standing.{Standing}
+use Rattle.lusite.specs.declared.report.Standing.TheVariants.{Ended, Faulted, Cut}
+use Rattle.luweave.specs.Worlds.{Progress, IsCollected}
+
+-- a space and a datum
+abbrev pub datum_text : Datum → List ℕ
+datum_text (Int n) = codes " " ++ signed_decimal n
+datum_text (Truth true) = codes " true"
+datum_text (Truth false) = codes " false"
+datum_text Nil = codes " nil"
+
+-- a space and what a message says
+abbrev pub body_text : Body → List ℕ
+body_text (Value d) = datum_text d
+body_text Close = codes " close"
+
+-- a space and a status
+abbrev pub status_text : Status → List ℕ
+status_text Absent = codes " -"
+status_text (Present d) = datum_text d
+
+-- the name of a main variable, and of a site
+abbrev pub name_of : FlatProgram → ℕ → List ℕ
+name_of flat v = unwrap_or (option_map (λ (x : Variable). x.name) (slice_get flat.variables v)) []
+
+abbrev pub site_name : List (List ℕ) → ℕ → List ℕ
+site_name names s = unwrap_or (slice_get names s) []
+
+-- what passed a link: a space and what each message says
+abbrev pub messages_text : List Msg → List ℕ
+messages_text = flat_map (λ (m : Msg). body_text m.body)
+
+-- `link FLOW FROM TO taken`, what was taken, and how many messages wait
+abbrev pub link_line : Distribution → Link → List Msg → ℕ → List ℕ
+link_line plan link taken waiting =
+    codes "link " ++ (name_of plan.flat link.flow ++ (codes " " ++ (site_name plan.names link.from ++ (codes " " ++ (site_name plan.names link.to ++ codes " taken")))))
+    ++ (messages_text taken ++ (codes " queued " ++ (decimal waiting ++ 10 ∷ [])))
+
+-- `site NAME`, and how the site stands
+abbrev pub kind_text : FaultKind → List ℕ
+kind_text Overflow = codes "overflow"
+kind_text DivZero = codes "div-zero"
+
+abbrev pub standing_text : FlatProgram → Standing → List ℕ
+standing_text flat Ended = codes "ended"
+standing_text flat Cut = codes "open"
+standing_text flat (Faulted fault) = codes "faulted " ++ (name_of flat fault.variable ++ (codes " " ++ (decimal fault.instant ++ (codes " " ++ kind_text fault.kind))))
+
+abbrev pub site_line : Distribution → ℕ → Standing → List ℕ
+site_line plan s standing = codes "site " ++ (site_name plan.names s ++ codes " ") ++ (standing_text plan.flat standing ++ 10 ∷ [])
+
+-- `output NAME`, and its statuses
+abbrev pub statuses_text : List Status → List ℕ
+statuses_text = flat_map status_text
+
+abbrev pub output_line : List ℕ → List Status → List ℕ
+output_line name statuses = codes "output " ++ name ++ (statuses_text statuses ++ 10 ∷ [])
+
+-- whether a main variable is an output
+abbrev pub is_output_of : FlatProgram → ℕ → Bool
+is_output_of flat v = unwrap_or (option_map (λ (x : Variable). is_output x.role) (slice_get flat.variables v)) false
+
+-- what was taken from link l in a world, and what waits in it
+abbrev pub taken_of : Progress → ℕ → List Msg
+taken_of w l = take (taken_count (system_of w.job) w.dones l) (link_list w.job (streams_of w.job) l)
+
+abbrev pub queued_of : Progress → ℕ → List Msg
+queued_of w l = drop (taken_count (system_of w.job) w.dones l) (take (put_count (system_of w.job) w.dones l) (link_list w.job (streams_of w.job) l))
+
+-- the line of link l
+abbrev pub line_of : Progress → Option Link → ℕ → List ℕ
+line_of w None l = []
+line_of w (Some link) l = link_line w.job.plan link (taken_of w l) (length (queued_of w l))
+
+-- the lines of the first n links
+abbrev pub links_text : Progress → ℕ → List ℕ
+links_text w n = flat_map (λ l. line_of w (slice_get w.job.plan.links l) l) (range_with_len 0 n)
+
+-- the lines of the first n sites, each as it stands
+pub data AreSiteLines (w : Progress) : ℕ → List ℕ → Type 0 where
+  NoSites : AreSiteLines w 0 []
+  OneSiteMore : (n : ℕ) (lines : List ℕ) (standing : Standing) → AreSiteLines w n lines → IsStanding w.job n (done w.dones n) standing → AreSiteLines w (n + 1) (lines ++ site_line w.job.plan n standing)
+
+-- the lines of the outputs among the first v main variables, which are the first k outputs, each as far as it was passed
+pub data AreOutputLines (w : Progress) : ℕ → ℕ → List ℕ → Type 0 where
+  NoVariables : AreOutputLines w 0 0 []
+  NoOutput : (v k : ℕ) (lines : List ℕ) → AreOutputLines w v k lines → is_told w.job.plan v ≡ false → AreOutputLines w (v + 1) k lines
+  OneOutputMore : (v k : ℕ) (lines : List ℕ) (statuses : List Status) → AreOutputLines w v k lines → slice_get (outputs_of w.job.plan) k ≡ Some v → IsCollected w.job w.dones k statuses
+      → AreOutputLines w (v + 1) (k + 1) (lines ++ output_line (name_of w.job.plan.flat v) statuses)
+
+-- the text of a world: its links, its sites and its outputs, each in order
+pub record IsWorldText (w : Progress) (text : List ℕ) : Type 0 where
+  pub site_lines : List ℕ
+  pub output_lines : List ℕ
+  pub outputs : ℕ
+  pub sites_are : AreSiteLines w (sites_of w.job.plan) site_lines
+  pub outputs_are : AreOutputLines w (length w.job.plan.flat.variables) outputs output_lines
+  pub text_is : text ≡ links_text w (length w.job.plan.links) ++ (site_lines ++ output_lines)
