@@ -1,15 +1,15 @@
 -- A text that spells a program has the shape of the first language.
-use Rattle.std.proofs.Common.{◌≡◌, ℕ, ◌<◌, ◌≤◌, ◌^◌, List, [], ◌∷◌, map, Option, Some, None, refl, sym, ap, ◌∙◌, subst, arith, All, Bool, true, false, Result, Ok, Err, IfOk}
+use Rattle.std.proofs.Common.{◌≡◌, ℕ, ◌+◌, length, ◌<◌, ◌≤◌, ◌^◌, List, [], ◌∷◌, map, Option, Some, None, refl, sym, ap, ◌∙◌, subst, arith, All, Bool, true, false, Result, Ok, Err, IfOk}
 use Rattle.std.specs.List.{flat_map}
 use Rattle.std.proofs.lemmas.List.Elements.{All-nil, All-cons, All-append}
 use Rattle.lutree.specs.Tree.{EquationTree, ProgramTree}
 use Rattle.lusource.specs.First.{Line, equation_of, IsPlain, IsFirstShape}
 use Rattle.lusource.specs.First as first
-use Rattle.lusyn.specs.Tokens.{Tok}
-use Rattle.lusyn.specs.Lexing.{IsInRange, Pieces, AreCut, tokens, before}
+use Rattle.lutoken.specs.Tokens.{Tok}
+use Rattle.lulex.specs.Lexing.{IsInRange, Pieces, Placed, AreCut, placed, before}
 use Rattle.lusyn.specs.Grammar.{WrittenDeclaration, WrittenDeclarations, WrittenEquation, WrittenHeading, WrittenBody, WrittenProgram, repeated, optional, further_name, declaration, further_declaration, declarations, ended_declaration, locals, ended_equation, heading, body, declared, declaration_tree, declarations_tree, locals_tree, equation_tree, node_tree}
 use Rattle.lusyn.specs.Grammar as grammar
-use Rattle.lusyn.specs.Texts.{SpellsText}
+use Rattle.lusyn.specs.Texts.{SpellsText, unplaced}
 use Rattle.lutree.specs.declared.program.Program.{Program}
 use Rattle.lutree.specs.Tree.{program_view}
 use Rattle.lusyn.specs.declared.error.SynError.{SynError}
@@ -20,13 +20,13 @@ abbrev AreInRange : List Tok → Type 0
 AreInRange [] = Unit {0}
 AreInRange (t ∷ ts) = IsInRange (Some t) × AreInRange ts
 
-before_in_range : (t : Option Tok) (ts : List Tok) → IsInRange t → AreInRange ts → AreInRange (before t ts)
-before_in_range None ts here rest = rest
-before_in_range (Some t) ts here rest = (here, rest)
+before_in_range : (at : ℕ) (t : Option Tok) (ts : List Placed) → IsInRange t → AreInRange (unplaced ts) → AreInRange (unplaced (before at t ts))
+before_in_range at None ts here rest = rest
+before_in_range at (Some t) ts here rest = (here, rest)
 
-cut_in_range : (ps : Pieces) → AreCut ps → AreInRange (tokens ps)
-cut_in_range [] cut = tt
-cut_in_range (p ∷ ps) cut = before_in_range p.1 (tokens ps) cut.2 (cut_in_range ps cut.3)
+cut_in_range : (at : ℕ) (ps : Pieces) (rest : List ℕ) → AreCut ps rest → AreInRange (unplaced (placed at ps))
+cut_in_range at [] rest cut = tt
+cut_in_range at (p ∷ ps) rest cut = before_in_range at p.1 (placed (at + length p.0) ps) cut.2 (cut_in_range (at + length p.0) ps rest cut.3)
 
 -- ---- behind each part the rest is in range too
 
@@ -109,10 +109,10 @@ tree_first p h = record {
 
 pub text_first : (text : List ℕ) (found : ProgramTree) → SpellsText text found → IsFirstShape found
 text_first text found spelled =
-    let (ts, cut, spells) = spelled.2 in
-    let (ps, are_cut, bytes_are, tokens_are) = cut in
+    let (ts, lexed, spells) = spelled in
+    let (ps, cut, tokens_are) = lexed.1 in
     let (p, program_is, tree_is) = spells in
-    subst IsFirstShape tree_is (tree_first p (subst AreInRange (tokens_are ∙ sym program_is) (cut_in_range ps are_cut)))
+    subst IsFirstShape tree_is (tree_first p (subst AreInRange (ap unplaced tokens_are ∙ sym program_is) (cut_in_range 0 ps [] cut.0)))
 
 pub text_first_of : (text : List ℕ) (result : Result Program SynError) → IfOk result (λ found. SpellsText text (program_view found)) → IfOk result (λ found. IsFirstShape (program_view found))
 text_first_of text (Ok found) spelled = text_first text (program_view found) spelled

@@ -4,8 +4,8 @@ use Rattle.std.specs.List.{flat_map}
 use Rattle.std.proofs.lemmas.List.{append-nil}
 use Rattle.std.proofs.lemmas.List.Concat.{flat_map_single}
 use Rattle.lutree.specs.Tree.{DeclarationTree, EquationTree, NodeTree, ProgramTree}
-use Rattle.lusyn.specs.declared.token.Fixed.TheVariants as f
-use Rattle.lusyn.specs.Tokens.{Tok, identifier, fixed}
+use Rattle.lutoken.specs.declared.token.Fixed.TheVariants as f
+use Rattle.lutoken.specs.Tokens.{Tok, identifier, fixed}
 use Rattle.lusyn.specs.Grammar as w
 use Rattle.lusyn.specs.Grammar.{WrittenDeclaration, WrittenDeclarations, WrittenEquation, WrittenHeading, WrittenBody, WrittenProgram, repeated, optional, declared, declaration_tree, declarations_tree, locals_tree, equation_tree, Spells}
 use Rattle.lusyn.specs.Reading.{Read, ◌>>=◌, after, begins, past, past_by, begins_name, many, further_name, names, declaration, further_declaration, declarations, ended_declaration, locals_by, locals, equation, equations, heading, body, node, to_the_end, all_of}

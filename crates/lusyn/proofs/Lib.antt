@@ -1,6 +1,3 @@
-pub mod ScanningLemmas
-pub mod Pieces
-pub mod Cuts
 pub mod Loops
 pub mod Tables
 pub mod Sound

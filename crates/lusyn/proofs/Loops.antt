@@ -3,10 +3,10 @@ use Rattle.std.proofs.Common.{◌≡◌, ◌<◌, ◌+◌, ◌-◌, ℕ, zero, s
 use Rattle.lusyn.specs.declared.error.SynError.{SynError}
 use Rattle.lusyn.specs.declared.error.SynError.TheVariants as errors
 use Rattle.lutree.specs.Tree.{DeclarationTree}
-use Rattle.lusyn.specs.declared.token.Fixed.{Fixed}
-use Rattle.lusyn.specs.declared.token.Fixed.TheVariants as f
-use Rattle.lusyn.specs.declared.token.Lexeme.{Lexeme}
-use Rattle.lusyn.specs.Tokens.{Tok}
+use Rattle.lutoken.specs.declared.token.Fixed.{Fixed}
+use Rattle.lutoken.specs.declared.token.Fixed.TheVariants as f
+use Rattle.lutoken.specs.declared.token.Lexeme.{Lexeme}
+use Rattle.lutoken.specs.Tokens.{Tok}
 use Rattle.lusyn.specs.Gives.{ahead, Fails}
 use Rattle.lusyn.specs.Reading.{Read, ◌>>=◌, many, after, begins, begins_name, declare, further_name, names, declaration, further_declaration, declarations, ended_declaration, locals_by, locals}
 
@@ -49,7 +49,7 @@ module _ {A : Type 0} (test : List Tok → Bool) (piece : List A → List Tok �
   pub refuses : (whole : Read (List A)) (found : List A) (ls : List Lexeme) (at : ℕ) (error : SynError) → Continues whole found ls at
       → test (ahead ls at) ≡ true → Fails error (piece found (ahead ls at)) → Fails error whole
   refuses whole found ls at errors.OutOfMemory h holds why = tt
-  refuses whole found ls at (errors.Syntax byte) h holds why = fails whole found ls at h holds why
+  refuses whole found ls at _ h holds why = fails whole found ls at h holds why
 
   pub stops : (whole : Read (List A)) (found : List A) (ls : List Lexeme) (at : ℕ) → Continues whole found ls at
       → test (ahead ls at) ≡ false → whole ≡ Some (found, ahead ls at)
@@ -80,7 +80,7 @@ module _ {A : Type 0} (g : Fixed) (item : List A → List Tok → Read (List A))
   pub refuses_after : (whole : Read (List A)) (found : List A) (ls : List Lexeme) (at mid : ℕ) (error : SynError) → Continues (begins g) led whole found ls at
       → after g (ahead ls at) ≡ Some (ahead ls mid) → Fails error (item found (ahead ls mid)) → Fails error whole
   refuses_after whole found ls at mid errors.OutOfMemory h passed why = tt
-  refuses_after whole found ls at mid (errors.Syntax byte) h passed why = fails_after whole found ls at mid h passed why
+  refuses_after whole found ls at mid _ h passed why = fails_after whole found ls at mid h passed why
 
   pub stops_after : (whole : Read (List A)) (found : List A) (ls : List Lexeme) (at : ℕ) → Continues (begins g) led whole found ls at
       → after g (ahead ls at) ≡ None → whole ≡ Some (found, ahead ls at)

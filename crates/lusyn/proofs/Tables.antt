@@ -2,9 +2,9 @@
 use Rattle.std.proofs.Common.{◌≡◌, ℕ, true, List, [], ◌∷◌, Option, Some, None, refl, ap, sym, ◌∙◌, if◌then◌else◌}
 use Rattle.std.specs.Str.{bytes_eq}
 use Rattle.std.proofs.lemmas.Slice.Eq.{bytes_eq-Decides}
-use Rattle.lusyn.specs.declared.token.Fixed.{Fixed}
-use Rattle.lusyn.specs.declared.token.Fixed.TheVariants as f
-use Rattle.lusyn.specs.Tokens.{text_of}
+use Rattle.lutoken.specs.declared.token.Fixed.{Fixed}
+use Rattle.lutoken.specs.declared.token.Fixed.TheVariants as f
+use Rattle.lutoken.specs.Tokens.{text_of}
 use Rattle.lusyn.specs.Reading.{same}
 
 abbrev every : List Fixed

@@ -13,8 +13,8 @@ use Rattle.lutree.specs.declared.expr.Infix.TheVariants.{Data, Arrow}
 use Rattle.lutree.specs.declared.program.Kind.TheVariants.{Int}
 use Rattle.lutree.specs.Tree.{DeclarationTree, EquationTree, NodeTree, ProgramTree}
 use Rattle.lutree.specs.Tree as t
-use Rattle.lusyn.specs.declared.token.Fixed.TheVariants as f
-use Rattle.lusyn.specs.Tokens.{Tok, identifier, number, fixed}
+use Rattle.lutoken.specs.declared.token.Fixed.TheVariants as f
+use Rattle.lutoken.specs.Tokens.{Tok, identifier, number, fixed}
 
 -- A program as it is written.
 

@@ -1,6 +1,3 @@
-pub mod Tokens
-pub mod Lexing
-pub mod Scanning
 pub mod Grammar
 pub mod Texts
 pub mod Reading

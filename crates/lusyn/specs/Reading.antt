@@ -2,9 +2,9 @@
 use Rattle.std.specs.Prelude.{ℕ, zero, suc, Bool, List, [], ◌∷◌, ◌++◌, length, Option, Some, None, is_some, if◌then◌else◌}
 use Rattle.std.specs.Str.{bytes_eq}
 use Rattle.lutree.specs.Tree.{DeclarationTree, EquationTree, NodeTree, ProgramTree}
-use Rattle.lusyn.specs.declared.token.Fixed.{Fixed}
-use Rattle.lusyn.specs.declared.token.Fixed.TheVariants as f
-use Rattle.lusyn.specs.Tokens.{Tok, identifier, number, fixed, text_of}
+use Rattle.lutoken.specs.declared.token.Fixed.{Fixed}
+use Rattle.lutoken.specs.declared.token.Fixed.TheVariants as f
+use Rattle.lutoken.specs.Tokens.{Tok, identifier, number, fixed, text_of}
 use Rattle.lusyn.specs.Grammar.{declared, equation_tree}
 
 -- what was read, and what follows it

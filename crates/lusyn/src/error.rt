@@ -1,15 +1,29 @@
 //! Why a text is refused.
 
+use lulex::LexError;
 use std::alloc::{AllocError, AllocFailed};
 use thiserror::Error;
 
 /// Why a text is refused. Its text is the line that the program prints.
 #[derive(Debug, Drop, Error)]
 pub enum SynError {
-    /// The text spells no program. The byte is the first one of the first token with which no program goes on, or the
-    /// text's length where it ends too early.
+    /// The text spells no program. The byte is one that begins no token, or the first one of the first token with which
+    /// no program goes on, or the text's length where it ends too early.
     #[error("E01 Syntax at {byte}")]
     Syntax { byte: usize },
+    /// The number at this byte is above 9223372036854775807.
+    #[error("E02 NumberTooLarge at {byte}")]
+    NumberTooLarge { byte: usize },
+    /// A byte is above 127.
+    #[error("E03 NotAscii")]
+    NotAscii,
+    /// The text has more than 1,048,576 bytes.
+    #[error("E04 TooLong")]
+    TooLong,
+    /// The token at this byte is the first one with 1,000 others of its run before it. A run's tokens are those before
+    /// the first `;`, those between two, and those after the last.
+    #[error("E05 LongRun at {byte}")]
+    LongRun { byte: usize },
     /// Memory ran out.
     #[error("R2 OutOfMemory")]
     OutOfMemory,
@@ -34,5 +48,23 @@ impl<T: Drop> From<AllocFailed<T>> for SynError {
 
     fn from(_error: AllocFailed<T>) -> Self {
         SynError::OutOfMemory
+    }
+}
+
+impl From<LexError> for SynError {
+    ghost use Rattle.std.specs.Prelude.{◌≡◌};
+    ghost use Rattle.lusyn.specs.Gives.{refusal};
+
+    ghost from_gives = { λ error e. e ≡ refusal error };
+
+    fn from(error: LexError) -> Self {
+        match error {
+            LexError::TooLong => SynError::TooLong,
+            LexError::NotAscii => SynError::NotAscii,
+            LexError::NoToken { byte } => SynError::Syntax { byte },
+            LexError::NumberTooLarge { byte } => SynError::NumberTooLarge { byte },
+            LexError::LongRun { byte } => SynError::LongRun { byte },
+            LexError::OutOfMemory => SynError::OutOfMemory,
+        }
     }
 }

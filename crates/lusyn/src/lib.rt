@@ -4,20 +4,18 @@
 //! programs of the first language: one node without inputs, whose variables are all `int` on the base clock and whose
 //! equations are all of the form `v = 0 -> pre w + 1`. Every other text is refused.
 //!
-//! - `token`, `lexer`: tokens, which are those of the whole language, and how a text is cut into them.
+//! Crate `lulex` cuts the text into tokens.
+//!
 //! - `reader`: from tokens to the tree.
 //! - `text`: from a text to the tree.
 //! - `error`: why a text is refused.
 //!
-//! What a text has to be is said in `specs/`: `Lexing.antt` for its tokens, `Grammar.antt` for the tree that tokens spell,
-//! `Texts.antt` for both together.
+//! What a text has to be is said in `specs/`: `Grammar.antt` for the tree that tokens spell, and `Texts.antt` for the text.
 #![tactic(auto)]
 
 mod error;
-mod lexer;
 mod reader;
 mod text;
-mod token;
 
 pub use error::SynError;
 pub use lutree::Program;

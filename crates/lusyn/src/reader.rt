@@ -5,12 +5,13 @@ ghost use Rattle.lutree.specs.Tree.{ProgramTree, view, declarations_view, node_v
 ghost use Rattle.lutree.specs.Tree as t;
 ghost use Rattle.lutree.specs.declared.expr.Infix.TheVariants as infixes;
 ghost use Rattle.lusyn.specs.Grammar.{Spells};
-ghost use Rattle.lusyn.specs.Gives.{Gives, GivesPlace, tok, toks, ahead, equations_view};
+ghost use Rattle.lutoken.specs.Tokens.{tok, toks};
+ghost use Rattle.lusyn.specs.Gives.{Gives, GivesPlace, ahead, equations_view};
 ghost use Rattle.lusyn.specs.Reading as reading;
 
 use crate::error::SynError;
-use crate::token::{Fixed, Lexeme, Token};
 use lulist::{Name, Row};
+use lutoken::{Fixed, Lexeme, Token};
 use lutree::{BinaryOperator, Declaration, Equation, Expr, Infix, Kind, Node, Prefix, Program};
 use std::alloc::Global;
 

@@ -138,11 +138,6 @@ fn other_texts_are_refused_at_their_place(rt: HostRuntime) -> Result<(), Fail> {
         ("node m() returns (a: int) let a = 0 - > pre a + 1; tel", 36),
         // unequal
         ("node m() returns (a: int) let a <> 0 -> pre a + 1; tel", 32),
-        // too large
-        (
-            "node m() returns (a: int) let a = 0 -> pre a + 9223372036854775808; tel",
-            47,
-        ),
         // a digit first
         ("node m() returns (a: int) let 1a = 0 -> pre a + 1; tel", 30),
         // no last semicolon
@@ -159,16 +154,38 @@ fn other_texts_are_refused_at_their_place(rt: HostRuntime) -> Result<(), Fail> {
         ("node m() returns (a: int) let tel -- a\n b", 40),
         // no token
         ("node m() returns (a: int) let tel $", 34),
-        // a wide byte comes before all else
-        ("$ é", 2),
-        // a wide byte in a comment
-        ("node m() returns (a: int) let tel -- é", 37),
     ];
     for (text, place) in cases {
         let got = described(rt.alloc(), text)?;
         let want = format!(in rt.alloc(); "E01 Syntax at {place}")?;
         assert_eq!(rt; got.as_str(), want.as_str(), "at {text}");
     }
+    Ok(())
+}
+
+#[test]
+fn the_lexer_is_heard(rt: HostRuntime) -> Result<(), Fail> {
+    let cases = [
+        (
+            "node m() returns (a: int) let a = 0 -> pre a + 9223372036854775808; tel",
+            "E02 NumberTooLarge at 47",
+        ),
+        // before the grammar
+        ("tel 9223372036854775808", "E02 NumberTooLarge at 4"),
+        // a wide byte comes before all else
+        ("$ é", "E03 NotAscii"),
+        // a wide byte in a comment
+        ("node m() returns (a: int) let tel -- é", "E03 NotAscii"),
+    ];
+    for (text, want) in cases {
+        let got = described(rt.alloc(), text)?;
+        assert_eq!(rt; got.as_str(), want, "at {text}");
+    }
+    let run = String::from_utf8(vec![in rt.alloc(); b'+'; 1_001]?)
+        .ok()
+        .ok_or("ASCII")?;
+    let got = described(rt.alloc(), run.as_str())?;
+    assert_eq!(rt; got.as_str(), "E05 LongRun at 1000");
     Ok(())
 }
 
@@ -196,9 +213,9 @@ fn no_proper_beginning_is_a_program(rt: HostRuntime) -> Result<(), Fail> {
 #[test]
 fn a_text_has_at_most_a_mebibyte(rt: HostRuntime) -> Result<(), Fail> {
     let mut text = String::from_str(rt.alloc(), COUNTERS)?;
-    for _ in COUNTERS.len()..1_048_576 {
-        text.push(' ')?;
-    }
+    let blanks = vec![in rt.alloc(); b' '; 1_048_576 - COUNTERS.len()]?;
+    let blanks = String::from_utf8(blanks).ok().ok_or("ASCII")?;
+    text.push_str(blanks.as_str())?;
     let got = described(rt.alloc(), text.as_str())?;
     assert_eq!(rt;
         got.as_str(),
@@ -206,7 +223,7 @@ fn a_text_has_at_most_a_mebibyte(rt: HostRuntime) -> Result<(), Fail> {
     );
     text.push(' ')?;
     let got = described(rt.alloc(), text.as_str())?;
-    assert_eq!(rt; got.as_str(), "E01 Syntax at 1048576");
+    assert_eq!(rt; got.as_str(), "E04 TooLong");
     Ok(())
 }
 

@@ -1,5 +1,5 @@
 use Rattle.lutree.specs.Tree.{program_view}
-use Rattle.lusyn.specs.Gives.{toks}
+use Rattle.lutoken.specs.Tokens.{toks}
 use Rattle.lusyn.proofs.Whole.{Gives-spelled, Gives-only}
 use Rattle.lusyn.proofs.reader.read_tokens.Goals as goal
 

@@ -1,6 +1,6 @@
 use Rattle.std.proofs.Common.{suc, ◌-◌, length}
 use Rattle.lutree.specs.Tree.{declarations_view}
-use Rattle.lusyn.specs.declared.token.Fixed.TheVariants as f
+use Rattle.lutoken.specs.declared.token.Fixed.TheVariants as f
 use Rattle.lusyn.specs.Gives.{ahead}
 use Rattle.lusyn.specs.Reading.{many, begins, further_declaration}
 use Rattle.lusyn.proofs.Loops.{Continues}

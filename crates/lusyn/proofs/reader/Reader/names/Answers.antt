@@ -1,6 +1,6 @@
 use Rattle.std.proofs.Common.{arith, ◌∙◌}
 use Rattle.std.proofs.lemmas.Result.{err_from_is_err_and}
-use Rattle.lusyn.specs.declared.token.Fixed.TheVariants as f
+use Rattle.lutoken.specs.declared.token.Fixed.TheVariants as f
 use Rattle.lusyn.specs.Reading.{declare}
 use Rattle.lusyn.proofs.Loops.{goes_after, refuses_after, stops_after, Fails-along, names-continues}
 use Rattle.lusyn.proofs.reader.Reader.names.Goals as goal

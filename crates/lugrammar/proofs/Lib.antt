@@ -1,0 +1,14 @@
+pub mod Tables
+pub mod Pieces
+pub mod SoundExpressions
+pub mod SoundDeclarations
+pub mod SoundPrograms
+pub mod CompletePieces
+pub mod CompleteExpressions
+pub mod CompleteDeclarations
+pub mod CompletePrograms
+pub mod Printed
+pub mod Examples
+pub mod Local
+pub mod LocalExpressions
+pub mod LocalPrograms

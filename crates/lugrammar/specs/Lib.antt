@@ -1,0 +1,6 @@
+pub mod Levels
+pub mod Grammar
+pub mod Reading
+pub mod Printing
+pub mod Laws
+pub mod Examples

@@ -1,0 +1,34 @@
+//! What holds of reading and printing, over all tokens and all trees, as contracts of functions that do nothing.
+
+ghost use Rattle.lugrammar.specs.Laws.{ReadingLaw, OneTreeLaw, PrintingLaw, PrintableLaw, RefusalLaw};
+ghost use Rattle.lugrammar.specs.Examples.{ExamplesLaw};
+
+/// Reading gives a tree exactly where the tokens spell it.
+pub fn reading_law()
+    ensures { ReadingLaw }
+{}
+
+/// No tokens spell two trees.
+pub fn one_tree_law()
+    ensures { OneTreeLaw }
+{}
+
+/// No text goes on with a token that is refused.
+pub fn refusal_law()
+    ensures { RefusalLaw }
+{}
+
+/// The canonical tokens of a printable tree spell it.
+pub fn printing_law()
+    ensures { PrintingLaw }
+{}
+
+/// Every tree that is spelled is printable.
+pub fn printable_law()
+    ensures { PrintableLaw }
+{}
+
+/// Worked readings of expressions and of one program, and worked refusals.
+pub fn examples_law()
+    ensures { ExamplesLaw }
+{}

@@ -1,0 +1,5 @@
+pub mod Lexing
+pub mod Runs
+pub mod Refusals
+pub mod Scanning
+pub mod Gives
