@@ -6,10 +6,11 @@ use Rattle.std.proofs.lemmas.List.{length-set, length-map, take_more, map-set, l
 use Rattle.std.proofs.lemmas.Option.{slice_get_within, slice_get-get_or, get_or_from_slice_get, slice_get-map, slice_get_past, same_Some}
 use Rattle.std.proofs.lemmas.Bool.{cases_lt, cases_eq, eq-eqb, ne_eqb, ltb-true, lt-ltb}
 use Rattle.luworld.specs.declared.turn.Turn.TheVariants.{Moved, Blocked, Over}
-use Rattle.luworld.specs.World.{Item, Compute, Puts, Takes, puts, takes, World, done, new_world, put_count, taken_count, puts_before, takes_before, next_item, turn, turn_at, step, moved_if}
+use Rattle.luworld.specs.World.{Item, Compute, Puts, Takes, puts, takes, World, done, new_world, put_count, taken_count, puts_before, takes_before, next_item, turn, turn_at, step, moved_if, reached}
 use Rattle.luworld.specs.Reach.{IsGood}
 use Rattle.luworld.proofs.Steps.{MayGo, moves_item, step_moved, put_exact, take_exact}
-use Rattle.luworld.proofs.Runs.{good_next, good_new, puts_there, takes_there}
+use Rattle.luworld.proofs.Runs.{good_next, good_new, good_reached, puts_there, takes_there}
+use Rattle.luworld.proofs.Ends.{same_end}
 use Rattle.luworld.proofs.Enabled.{never_stuck_at}
 use Rattle.luworld.proofs.Ended.{done_ends}
 use Rattle.luworld.specs.Runs.{Run, IsJob, streams_of, script, link_list, system_of, outline}
@@ -20,7 +21,7 @@ use Rattle.lusite.specs.declared.next.Next.TheVariants.{Take, Put}
 use Rattle.luweave.specs.declared.lane.Lane.{Lane}
 use Rattle.lusite.specs.Machine.{IsNext, IsTakeNext}
 use Rattle.lusite.specs.Sites.{SiteAt}
-use Rattle.luweave.specs.Worlds.{IsLaneAt, IsLane, IsWorld, dones_of, more, room_in, room_of, some_in, some_of, IsPutInto, IsTakeFrom, IsNewSite, IsNewLane, IsNewWorld, IsUnstuck, IsBeginning, Progress}
+use Rattle.luweave.specs.Worlds.{IsLaneAt, IsLane, IsWorld, dones_of, more, room_in, room_of, some_in, some_of, IsPutInto, IsTakeFrom, IsNewSite, IsNewLane, IsNewWorld, IsUnstuck, IsOnlyEnd, IsBeginning, Progress}
 use Rattle.luflow.proofs.Solutions.{some_at}
 use Rattle.lusite.proofs.Machine.{slice_get-set_same, slice_get-set_other}
 use Rattle.luworld.proofs.Outlines.{bool_cases, is_wired, is_outline, no_break}
@@ -269,6 +270,12 @@ module _ (job : Run) (sites : List SiteAt) (lanes : List Lane) (capacity : ℕ) 
     | inl all ↦ inl (λ s _. done_ends (outline job (streams_of job)) (is_outline job w.is_job) (no_break job w.is_job fine) (dones_of sites) s (all s))
     | inr moves ↦ inr moves
   ]
+
+  -- the only end
+  pub only_end : IsOnlyEnd job (dones_of sites)
+  only_end schedule quiet other =
+      let wired = is_wired job w.is_job in
+      same_end (system_of job) wired (reached (system_of job) schedule) (dones_of sites) (good_reached (system_of job) wired schedule) w.good other quiet
 
 -- along the view of a world
 pub along : (P : Progress → Type 0) (x y : Progress) → y ≡ x → P y → P x

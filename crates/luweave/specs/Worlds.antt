@@ -1,7 +1,7 @@
 -- A world of sites: how many items each has done. What each turn does is `turn` and `step` of the scripts' system.
 use Rattle.std.specs.Prelude.{◌≡◌, ◌⊎◌, ℕ, ◌+◌, ◌-◌, ◌<◌, ◌≤◌, Bool, false, nat_lt, List, [], ◌∷◌, ◌++◌, length, map, Option, Some, None, slice_get, slice_set, take, vec_capacity}
 use Rattle.luworld.specs.declared.turn.Turn.TheVariants.{Moved}
-use Rattle.luworld.specs.World.{done, put_count, taken_count, turn}
+use Rattle.luworld.specs.World.{done, put_count, taken_count, turn, reached, NoTurnMoves}
 use Rattle.luworld.specs.Reach.{IsGood}
 use Rattle.luworld.specs.Outline.{HasEnded}
 use Rattle.luworld.specs.Needs.{Distribution, sites_of, home}
@@ -96,6 +96,10 @@ AllEnded job dones = (s : ℕ) → s < sites_of job.plan → HasEnded (outline j
 -- without a fault all sites have ended or some turn moves
 abbrev pub IsUnstuck : Run → List ℕ → Type 0
 IsUnstuck job dones = NoFault job → AllEnded job dones ⊎ ((s : ℕ) × (turn (system_of job) dones s ≡ Moved))
+
+-- where no turn moves any more, every schedule that goes on until none does ends here
+abbrev pub IsOnlyEnd : Run → List ℕ → Type 0
+IsOnlyEnd job dones = (schedule : List ℕ) → NoTurnMoves (system_of job) dones → NoTurnMoves (system_of job) (reached (system_of job) schedule) → reached (system_of job) schedule ≡ dones
 
 -- a site has done its whole script, and no stop is in it
 abbrev pub IsDone : SiteAt → Type 0

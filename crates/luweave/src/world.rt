@@ -6,7 +6,7 @@ ghost use Rattle.luweave.specs.declared.lane.Lane.{Lane};
 ghost use Rattle.luworld.specs.Runs.{link_list, streams_of};
 ghost use Rattle.luworld.specs.World.{done, turn, step, reached, put_count, taken_count, new_world};
 ghost use Rattle.luworld.specs.Runs.{system_of, IsJob};
-ghost use Rattle.luweave.specs.Worlds.{more, IsPutInto, IsTakeFrom, room_in, some_in, IsNewWorld, IsNewLane, IsUnstuck, IsDone, IsCollected, IsToldBySome, IsBeginning, AllEnded};
+ghost use Rattle.luweave.specs.Worlds.{more, IsPutInto, IsTakeFrom, room_in, some_in, IsNewWorld, IsNewLane, IsUnstuck, IsOnlyEnd, IsDone, IsCollected, IsToldBySome, IsBeginning, AllEnded};
 ghost use Rattle.lusource.specs.Source.{SourceStreams};
 ghost use Rattle.lumeaning.specs.Meaning.{IsMeant, NoneBreaks, source_list};
 ghost use Rattle.luweave.specs.Headline.{IsCollectedOf, IsFaithful};
@@ -193,6 +193,13 @@ impl World {
         let _ = self.lanes.len();
     }
 
+    /// Where no turn moves any more, every schedule that goes on until none does ends in this world, faults or not.
+    pub fn same_end(&self)
+        ensures { IsOnlyEnd self.now.job self.now.dones }
+    {
+        let _ = self.lanes.len();
+    }
+
     /// After any turns each link is within its list, in the source's words, and where all sites have ended its list was taken
     /// whole and nothing breaks.
     pub fn faithful(&self)
@@ -350,6 +357,7 @@ pub fn replay(
     ensures job { IfOk result (λ x. (v : SiteAt) → slice_get sites.items 0 ≡ Some v → x.job ≡ v.job) }
     ensures dones { IfOk result (λ x. x.dones ≡ reached (system_of x.job) schedule.now) }
     ensures unstuck { IfOk result (λ x. IsUnstuck x.job x.dones) }
+    ensures same_end { IfOk result (λ x. IsOnlyEnd x.job x.dones) }
     ensures faithful { IfOk result (λ x. IsFaithful x.job x.dones) }
 {
     let mut world = World::new(alloc, plan, sites)?;
@@ -357,6 +365,7 @@ pub fn replay(
         let _ = world.turn(*site);
     }
     world.never_stuck();
+    world.same_end();
     world.faithful();
     Ok(world)
 }
