@@ -1,0 +1,25 @@
+//! The parser of the whole language: from tokens to the syntax tree that they spell.
+//!
+//! [`parse_tokens`] reads tokens from left to right, by the levels of the operators, as crate `lugrammar` defines it, or
+//! tells by a [`ParseError`] the first token with which no program goes on.
+//!
+//! - `levels`: the operators of the tokens, and how tightly they bind.
+//! - `pieces`: what is handed on while tokens are read.
+//! - `reader`: from tokens to the tree.
+//! - `error`: why tokens are refused.
+//!
+//! `specs/Gives.antt` says what a reading function of the code answers, against the reading of `lugrammar`, and
+//! `specs/Refused.antt` what a refusal tells.
+#![tactic(auto)]
+
+mod error;
+mod levels;
+mod pieces;
+mod reader;
+
+pub use error::ParseError;
+pub use lutree::Program;
+pub use reader::parse_tokens;
+
+#[cfg(test)]
+mod tests;
