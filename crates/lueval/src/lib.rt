@@ -7,6 +7,8 @@
 
 mod kernel;
 mod operators;
+#[cfg(test)]
+mod tests;
 
 pub use kernel::{Past, clock_now, datum_at, kept, value};
 pub use luflow::{Datum, Inputs, Status};

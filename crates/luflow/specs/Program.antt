@@ -53,7 +53,7 @@ places (When a) = a ∷ []
 places (Current a) = a ∷ []
 places (Merge c a b) = c ∷ a ∷ b ∷ []
 
--- the operands that a form reads at the same instant: all but that of a `pre` (Halbwachs, Caspi, Raymond, Pilaud 1991)
+-- the operands that a form reads at the same instant: all but that of a `pre`
 abbrev pub form_reads : Form → List ℕ
 form_reads (Input c) = []
 form_reads (Constant d) = []

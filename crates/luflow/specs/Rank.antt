@@ -28,7 +28,7 @@ pub record IsRankOrder (rows : List (List ℕ)) (order : List ℕ) : Type 0 wher
   pub count : length order ≡ length rows
   pub each : (p x : ℕ) → slice_get order p ≡ Some x → IsNext rows (take p order) x
 
--- a chain of reads from one place to another (Halbwachs, Caspi, Raymond, Pilaud 1991: every cycle has to pass a `pre`)
+-- a chain of reads from one place to another; where every cycle passes a `pre`, none leads back
 pub data Chain (rows : List (List ℕ)) : ℕ → ℕ → Type 0 where
   one : (x y : ℕ) → has (row rows x) y ≡ true → Chain rows x y
   more : (x y z : ℕ) → Chain rows x y → has (row rows y) z ≡ true → Chain rows x z

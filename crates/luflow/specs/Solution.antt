@@ -15,8 +15,7 @@ abbrev pub says : Table → Streams → Option Flow → ℕ → Mark
 says inputs σ None t = Broken
 says inputs σ (Some flow) t = under (clock_at inputs σ flow.clock t) (value_at inputs σ flow.clock flow.form t)
 
--- Each flow's stream is that of its form on its operands' streams. (Halbwachs, Caspi, Raymond, Pilaud 1991: a program is a
--- system of equations between flows.)
+-- Each flow's stream is that of its form on its operands' streams: a program is a system of equations between flows.
 abbrev pub IsSolution : FlatProgram → Table → Streams → Type 0
 IsSolution flat inputs σ = (i t : ℕ) → i < flows_of flat → σ i t ≡ says inputs σ (flow_at flat i) t
 

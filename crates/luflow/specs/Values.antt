@@ -51,7 +51,7 @@ merge_of (Some (Int n)) a b = Stuck
 merge_of (Some (Truth true)) a b = gives a
 merge_of (Some (Truth false)) a b = gives b
 
--- The value of a form where its clock is true. (Lustre V6 reference manual for each operator; `current` is the profile's.)
+-- the value of a form where its clock is true
 abbrev pub value_of : Form → View → Outcome
 value_of (Input c) v = gives (v.given c)
 value_of (Constant d) v = Gives d

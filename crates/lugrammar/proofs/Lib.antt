@@ -12,3 +12,6 @@ pub mod Examples
 pub mod Local
 pub mod LocalExpressions
 pub mod LocalPrograms
+pub mod Viable
+pub mod ViableExpressions
+pub mod ViablePrograms

@@ -1,13 +1,15 @@
 -- Worked readings of single expressions and of one whole program.
-use Rattle.std.specs.Prelude.{◌≡◌, ℕ, suc, Bool, false, List, [], ◌∷◌, length, codes, Some, Ok, Err, None}
+use Rattle.std.specs.Prelude.{◌≡◌, ℕ, suc, Bool, true, false, List, [], ◌∷◌, length, codes, Some, Ok, Err, None}
+use Rattle.lutree.specs.declared.expr.UnaryOperator.TheVariants as u
 use Rattle.lutree.specs.declared.expr.BinaryOperator.TheVariants as b
 use Rattle.lutree.specs.declared.expr.Prefix.TheVariants as p
 use Rattle.lutree.specs.declared.expr.Infix.TheVariants as i
 use Rattle.lutree.specs.declared.expr.Condition.{Condition}
 use Rattle.lutree.specs.declared.program.Kind.TheVariants as kinds
-use Rattle.lutree.specs.Tree.{Tree, variable, unary, binary, when, current, call, none, more, NodeTree}
+use Rattle.lutree.specs.Tree.{Tree, number, truth, variable, unary, binary, choice, when, current, merge, call, none, more, NodeTree}
 use Rattle.lutoken.specs.declared.token.Fixed.TheVariants as f
 use Rattle.lutoken.specs.Tokens.{Tok, identifier, fixed}
+use Rattle.lutoken.specs.Tokens as tok
 use Rattle.lugrammar.specs.Grammar.{declared}
 use Rattle.lugrammar.specs.Reading.{Read, expr, all_of}
 
@@ -41,6 +43,23 @@ pub record ExpressionsAre : Type 0 where
   -- pre x when not y is pre (x when not y), and current x when y ends before when
   pub clock_first : reading (fixed f.Pre ∷ identifier x ∷ fixed f.When ∷ fixed f.Not ∷ identifier y ∷ []) ≡ Ok (unary p.Pre (when (variable x) (is_on false)), [])
   pub current_ends : reading (fixed f.Current ∷ identifier x ∷ fixed f.When ∷ identifier y ∷ []) ≡ Ok (current x, fixed f.When ∷ identifier y ∷ [])
+  -- x + y * z is x + (y * z), x div y mod z is (x div y) mod z, - x * y is (- x) * y, and x + y < z is (x + y) < z
+  pub product_first : reading (three (fixed f.Plus) (fixed f.Star)) ≡ Ok (binary (i.Data b.Add) (variable x) (binary (i.Data b.Multiply) (variable y) (variable z)), [])
+  pub quotient_first : reading (three (fixed f.Divide) (fixed f.Modulo)) ≡ Ok (binary (i.Data b.Modulo) (binary (i.Data b.Divide) (variable x) (variable y)) (variable z), [])
+  pub sign_first : reading (fixed f.Minus ∷ identifier x ∷ fixed f.Star ∷ identifier y ∷ []) ≡ Ok (binary (i.Data b.Multiply) (unary (p.Data u.Minus) (variable x)) (variable y), [])
+  pub sum_first : reading (three (fixed f.Plus) (fixed f.Less)) ≡ Ok (binary (i.Data b.Less) (binary (i.Data b.Add) (variable x) (variable y)) (variable z), [])
+  -- not x = y is (not x) = y, x = y and z is (x = y) and z, x xor y and z is x xor (y and z), and x => y => z is x => (y => z)
+  pub negation_first : reading (fixed f.Not ∷ identifier x ∷ fixed f.Equal ∷ identifier y ∷ []) ≡ Ok (binary (i.Data b.Equal) (unary (p.Data u.Not) (variable x)) (variable y), [])
+  pub equality_first : reading (three (fixed f.Equal) (fixed f.And)) ≡ Ok (binary (i.Data b.And) (binary (i.Data b.Equal) (variable x) (variable y)) (variable z), [])
+  pub conjunction_first : reading (three (fixed f.Xor) (fixed f.And)) ≡ Ok (binary (i.Data b.Xor) (variable x) (binary (i.Data b.And) (variable y) (variable z)), [])
+  pub implication_last : reading (three (fixed f.Implies) (fixed f.Implies)) ≡ Ok (binary (i.Data b.Implies) (variable x) (binary (i.Data b.Implies) (variable y) (variable z)), [])
+  -- x => y fby z is (x => y) fby z, and if x then y else z -> x is if x then y else (z -> x)
+  pub arrows_last : reading (three (fixed f.Implies) (fixed f.FollowedBy)) ≡ Ok (binary i.FollowedBy (binary (i.Data b.Implies) (variable x) (variable y)) (variable z), [])
+  pub choice_last : reading (fixed f.If ∷ identifier x ∷ fixed f.Then ∷ identifier y ∷ fixed f.Else ∷ identifier z ∷ fixed f.Arrow ∷ identifier x ∷ []) ≡ Ok (choice (variable x) (variable y) (binary i.Arrow (variable z) (variable x)), [])
+  -- (x - y) when z, merge x (true -> y) (false -> 7), and x(y, true)
+  pub parentheses : reading (fixed f.Open ∷ identifier x ∷ fixed f.Minus ∷ identifier y ∷ fixed f.Close ∷ fixed f.When ∷ identifier z ∷ []) ≡ Ok (when (binary (i.Data b.Subtract) (variable x) (variable y)) (record { variable = z; sign = true }), [])
+  pub branches : reading (fixed f.Merge ∷ identifier x ∷ fixed f.Open ∷ fixed f.True ∷ fixed f.Arrow ∷ identifier y ∷ fixed f.Close ∷ fixed f.Open ∷ fixed f.False ∷ fixed f.Arrow ∷ tok.number 7 ∷ fixed f.Close ∷ []) ≡ Ok (merge x (variable y) (number 7), [])
+  pub operands : reading (identifier x ∷ fixed f.Open ∷ identifier y ∷ fixed f.Comma ∷ fixed f.True ∷ fixed f.Close ∷ []) ≡ Ok (call x (more (variable y) (more (truth true) none)), [])
   -- x + if y .. is none
   pub no_choice : reading (identifier x ∷ fixed f.Plus ∷ fixed f.If ∷ identifier y ∷ fixed f.Then ∷ identifier y ∷ fixed f.Else ∷ identifier z ∷ []) ≡ Err (fixed f.If ∷ identifier y ∷ fixed f.Then ∷ identifier y ∷ fixed f.Else ∷ identifier z ∷ [])
 

@@ -26,3 +26,11 @@ PrintableLaw = (ts : List Tok) (found : ProgramTree) → Spells ts found → IsP
 abbrev pub RefusalLaw : Type 0
 RefusalLaw = (before : List Tok) (refused : Tok) (rest others : List Tok) (found : ProgramTree)
     → all_of (before ++ refused ∷ rest) ≡ Err (refused ∷ rest) → Spells (before ++ refused ∷ others) found → ⊥
+
+-- these tokens are some and then that rest, and a program begins with the some
+abbrev pub GoesOn : List Tok → List Tok → Type 0
+GoesOn ts rest = (before : List Tok) × (others : List Tok) × (found : ProgramTree) × (before ++ rest ≡ ts) × Spells (before ++ others) found
+
+-- what stands before a refused token goes on to a program, so the refused one is the first with which none goes on
+abbrev pub BeginningLaw : Type 0
+BeginningLaw = (ts rest : List Tok) → all_of ts ≡ Err rest → GoesOn ts rest

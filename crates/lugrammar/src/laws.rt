@@ -1,6 +1,6 @@
 //! What holds of reading and printing, over all tokens and all trees, as contracts of functions that do nothing.
 
-ghost use Rattle.lugrammar.specs.Laws.{ReadingLaw, OneTreeLaw, PrintingLaw, PrintableLaw, RefusalLaw};
+ghost use Rattle.lugrammar.specs.Laws.{ReadingLaw, OneTreeLaw, PrintingLaw, PrintableLaw, RefusalLaw, BeginningLaw};
 ghost use Rattle.lugrammar.specs.Examples.{ExamplesLaw};
 
 /// Reading gives a tree exactly where the tokens spell it.
@@ -16,6 +16,11 @@ pub fn one_tree_law()
 /// No text goes on with a token that is refused.
 pub fn refusal_law()
     ensures { RefusalLaw }
+{}
+
+/// What stands before a refused token is the beginning of a text. So a refused token is the first with which no text goes on.
+pub fn beginning_law()
+    ensures { BeginningLaw }
 {}
 
 /// The canonical tokens of a printable tree spell it.

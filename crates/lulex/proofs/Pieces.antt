@@ -61,7 +61,7 @@ widen : (d x y w : Bool) → ((x || y) || w) ≡ true → (((d || x) || y) || w)
 widen true x y w h = refl
 widen false x y w h = h
 
-letter-is_word : (b : ℕ) → is_letter b ≡ true → is_word b ≡ true
+pub letter-is_word : (b : ℕ) → is_letter b ≡ true → is_word b ≡ true
 letter-is_word b h = widen (is_in_range 48 57 b) (is_in_range 65 90 b) (is_in_range 97 122 b) (b == 95) h
 
 digit-is_no_letter : (b : ℕ) → is_ascii_digit b ≡ true → is_letter b ≡ false
@@ -79,14 +79,14 @@ piece-blank : (b : ℕ) (z : List ℕ) → is_blank b ≡ true → piece (b ∷ 
 unfolding piece
 piece-blank b z h = rw h refl
 
-piece-word : (b : ℕ) (z : List ℕ) → is_letter b ≡ true → piece (b ∷ z) ≡ (token (word (take (prefix_len is_word (b ∷ z)) (b ∷ z))), prefix_len is_word (b ∷ z))
+pub piece-word : (b : ℕ) (z : List ℕ) → is_letter b ≡ true → piece (b ∷ z) ≡ (token (word (take (prefix_len is_word (b ∷ z)) (b ∷ z))), prefix_len is_word (b ∷ z))
 unfolding piece
 piece-word b z h =
     let no_blank : is_blank b ≡ false = not_blank is_letter refl refl refl refl b h in
     let no_comment : is_comment b (slice_index (b ∷ z) 1) ≡ false = not_comment is_letter refl b (slice_index (b ∷ z) 1) h in
     rw (no_blank, no_comment, h) refl
 
-piece-digits : (b : ℕ) (z : List ℕ) → is_ascii_digit b ≡ true → piece (b ∷ z) ≡ (numeral (take (prefix_len is_ascii_digit (b ∷ z)) (b ∷ z)), prefix_len is_ascii_digit (b ∷ z))
+pub piece-digits : (b : ℕ) (z : List ℕ) → is_ascii_digit b ≡ true → piece (b ∷ z) ≡ (numeral (take (prefix_len is_ascii_digit (b ∷ z)) (b ∷ z)), prefix_len is_ascii_digit (b ∷ z))
 unfolding piece
 piece-digits b z h =
     let no_blank : is_blank b ≡ false = not_blank is_ascii_digit refl refl refl refl b h in

@@ -5,7 +5,6 @@ use Rattle.lutree.specs.declared.program.Program.{Program}
 use Rattle.lutoken.specs.Tokens.{Tok}
 use Rattle.lulex.specs.Lexing.{Placed}
 use Rattle.lugrammar.specs.Grammar.{Spells}
-use Rattle.lugrammar.specs.Reading.{all_of}
 use Rattle.luparse.specs.declared.error.ParseError.{ParseError}
 use Rattle.luparse.specs.declared.error.ParseError.TheVariants as e
 
@@ -23,20 +22,20 @@ abbrev pub NoneGoesOn : List Tok → List Tok → Type 0
 NoneGoesOn before [] = (found : ProgramTree) → Spells before found → ⊥
 NoneGoesOn before (refused ∷ rest) = (others : List Tok) (found : ProgramTree) → Spells (before ++ refused ∷ others) found → ⊥
 
--- Reading these tokens from left to right stops at this byte of a text that ends at `end`: some tokens are read, then one is
--- refused, or the text ends too early.
-pub record IsStoppedAt (ts : List Placed) (end byte : ℕ) : Type 0 where
+-- Tokens of a text that ends at `end` are wrong from this byte on: those before it begin a program, and no program goes on
+-- with the one at it, or ends there if there is none.
+pub record IsWrongFrom (ts : List Placed) (end byte : ℕ) : Type 0 where
   pub before : List Placed
   pub rest : List Placed
   pub parts : before ++ rest ≡ ts
   pub told : byte ≡ place end rest
-  pub read : all_of (unplaced ts) ≡ Err (unplaced rest)
+  pub begun : (others : List Tok) × (found : ProgramTree) × Spells (unplaced before ++ others) found
   pub none : NoneGoesOn (unplaced before) (unplaced rest)
 
 -- the error is true of these tokens; want of memory is none of theirs
 abbrev pub IsRefused : List Placed → ℕ → ParseError → Type 0
 IsRefused ts end e.OutOfMemory = Unit {0}
-IsRefused ts end (e.Syntax byte) = IsStoppedAt ts end byte
+IsRefused ts end (e.Syntax byte) = IsWrongFrom ts end byte
 
 -- this tree is answered, unless memory ran out
 abbrev pub IsAnswered : Result Program ParseError → ProgramTree → Type 0

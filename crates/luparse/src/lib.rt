@@ -3,7 +3,6 @@
 //! [`parse_tokens`] reads tokens from left to right, by the levels of the operators, as crate `lugrammar` defines it, or
 //! tells by a [`ParseError`] the first token with which no program goes on.
 //!
-//! - `levels`: the operators of the tokens, and how tightly they bind.
 //! - `pieces`: what is handed on while tokens are read.
 //! - `reader`: from tokens to the tree.
 //! - `error`: why tokens are refused.
@@ -13,7 +12,6 @@
 #![tactic(auto)]
 
 mod error;
-mod levels;
 mod pieces;
 mod reader;
 

@@ -9,11 +9,11 @@ ghost use Rattle.lugrammar.specs.Grammar.{Spells, declared};
 ghost use Rattle.lugrammar.specs.Levels as levels;
 ghost use Rattle.lugrammar.specs.Reading as reading;
 ghost use Rattle.luparse.specs.Gives.{Gives, GivesPlace, ahead, next_view, operand_view, name_behind, names_view, equations_view, nodes_view, heading_view};
-ghost use Rattle.luparse.specs.Refused.{IsAnswered, IsRefused, IsRefusedAt, IsStoppedAt};
+ghost use Rattle.luparse.specs.Refused.{IsAnswered, IsRefused, IsRefusedAt, IsWrongFrom};
 
 use crate::error::{ParseError, Stop};
-use crate::levels::{binding_of, infix_of, prefix_of};
 use crate::pieces::{Heading, Next, Operand, PlacedName, byte_of, copied, operand_of, plain};
+use lugrammar::{binding_of, infix_of, prefix_of};
 use lulist::{Name, Row};
 use lutoken::{Fixed, Lexeme, Token};
 use lutree::{Condition, Declaration, Equation, Expr, Infix, Kind, Node, Prefix, Program};
@@ -758,10 +758,10 @@ pub fn parse_tokens(alloc: Global, tokens: &[Lexeme<'_>], end: usize) -> Result<
     ensures spelled { IfOk result (λ found. Spells (toks tokens.now) (program_view found)) }
     // What is spelled so is answered, unless memory runs out. So no tokens spell two programs.
     ensures only { (tree : ProgramTree) → Spells (toks tokens.now) tree → IsAnswered result tree }
-    // No program goes on with the token that is told, at which reading from left to right stops.
+    // The tokens before the one that is told begin a program, and no program goes on with it.
     ensures refused { IfErr result (IsRefused (located tokens.now) end) }
-    // Where reading stops, that place is told, unless memory runs out.
-    ensures refuses { (byte : ℕ) → IsStoppedAt (located tokens.now) end byte → IsRefusedAt result byte }
+    // Where that is so at a place, it is told, unless memory runs out.
+    ensures refuses { (byte : ℕ) → IsWrongFrom (located tokens.now) end byte → IsRefusedAt result byte }
 {
     match all(alloc, tokens, end) {
         Ok(program) => Ok(program),

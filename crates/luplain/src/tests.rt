@@ -141,16 +141,18 @@ fn marks_are(rows: &[Marks], flow: usize, want: &[Mark]) -> bool {
     }
 }
 
-#[test]
-fn counters_count(rt: HostRuntime) -> Result<(), Fail> {
-    let job = job_of_counters(rt.alloc(), false)?;
-    let rows = marks_of(rt.alloc(), job.plan().flat(), job.inputs(), 4)?;
+fn are_counts(rows: &[Marks]) -> bool {
     let absent = Mark::Known(Status::Absent);
-    assert_eq!(rt; rows.len(), 10);
-    assert!(rt; marks_are(&rows, 0, &[known(0), known(1), known(2), absent]));
-    assert!(rt; marks_are(&rows, 1, &[known(0), known(1), known(2), absent]));
-    assert!(rt; marks_are(&rows, 3, &[known_nil(), known(0), known(1), absent]));
-    Ok(())
+    rows.len() == 10
+        && marks_are(rows, 0, &[known(0), known(1), known(2), absent])
+        && marks_are(rows, 1, &[known(0), known(1), known(2), absent])
+        && marks_are(rows, 3, &[known_nil(), known(0), known(1), absent])
+}
+
+/// Whether the marks of the first four instants are those of two counters.
+fn counts(alloc: Global, job: &Job) -> Result<bool, Fail> {
+    let rows = marks_of(alloc, job.plan().flat(), job.inputs(), 4)?;
+    Ok(are_counts(&rows))
 }
 
 fn value_no(no: u32, n: i64) -> Msg {
@@ -171,87 +173,87 @@ fn carries(alloc: Global, job: &Job, link: usize, want: &[Msg]) -> Result<bool, 
     Ok(list_of_link(alloc, job, link)?.as_slice() == want)
 }
 
-/// The counts of three instants, and the close.
+/// Whether a link carries the counts of three instants, and the close.
 fn carries_counts(alloc: Global, job: &Job, link: usize) -> Result<bool, Fail> {
     let want = [value_no(0, 0), value_no(1, 1), value_no(2, 2), close_no(3)];
     carries(alloc, job, link, &want)
 }
 
-#[test]
-fn links_carry_the_counts_and_the_close(rt: HostRuntime) -> Result<(), Fail> {
-    let job = job_of_counters(rt.alloc(), false)?;
-    assert!(rt; carries_counts(rt.alloc(), &job, 0)?);
-    assert!(rt; carries_counts(rt.alloc(), &job, 1)?);
-    assert!(rt; carries(rt.alloc(), &job, 2, &[])?);
-    Ok(())
+/// Whether both links carry the counts, and what is no link carries nothing.
+fn both_carry_counts(alloc: Global, job: &Job) -> Result<bool, Fail> {
+    Ok(
+        carries_counts(alloc, job, 0)?
+            && carries_counts(alloc, job, 1)?
+            && carries(alloc, job, 2, &[])?,
+    )
 }
 
-#[test]
-fn a_sum_that_does_not_fit_breaks_both(rt: HostRuntime) -> Result<(), Fail> {
-    let job = job_of_counters(rt.alloc(), true)?;
-    let rows = marks_of(rt.alloc(), job.plan().flat(), job.inputs(), 3)?;
+fn are_broken(rows: &[Marks]) -> bool {
     let want = [known(0), known(i64::MAX), Mark::Broken];
-    assert!(rt; marks_are(&rows, 0, &want));
-    assert!(rt; marks_are(&rows, 1, &want));
-    Ok(())
+    marks_are(rows, 0, &want) && marks_are(rows, 1, &want)
 }
 
-#[test]
-fn no_close_follows_a_fault(rt: HostRuntime) -> Result<(), Fail> {
-    let job = job_of_counters(rt.alloc(), true)?;
-    let want = [value_no(0, 0), value_no(1, i64::MAX)];
-    assert!(rt; carries(rt.alloc(), &job, 0, &want)?);
-    Ok(())
+/// Whether both counters break at the third instant.
+fn both_break(alloc: Global, job: &Job) -> Result<bool, Fail> {
+    let rows = marks_of(alloc, job.plan().flat(), job.inputs(), 3)?;
+    Ok(are_broken(&rows))
 }
 
-fn item_is(items: &[Item], place: usize, want: Item) -> bool {
-    items.get(place).copied() == Some(want)
+/// Whether the first link carries the values before the fault, and nothing more.
+fn carries_no_close(alloc: Global, job: &Job) -> Result<bool, Fail> {
+    carries(alloc, job, 0, &[value_no(0, 0), value_no(1, i64::MAX)])
 }
 
-#[test]
-fn scripts_have_forty_six_items(rt: HostRuntime) -> Result<(), Fail> {
-    let job = job_of_counters(rt.alloc(), false)?;
-    let first = script_of(rt.alloc(), &job, 0)?;
-    let second = script_of(rt.alloc(), &job, 1)?;
-    assert_eq!(rt; first.len(), 23);
-    assert_eq!(rt; second.len(), 23);
-    assert!(rt; item_is(&first, 4, compute(0)));
-    assert!(rt; item_is(&first, 5, Item::Put { link: 0 }));
-    assert!(rt; item_is(&second, 0, Item::Take { link: 0 }));
-    Ok(())
+/// Whether a site's script has so many items, and this one among them at a place.
+fn has_items(
+    alloc: Global,
+    job: &Job,
+    site: u8,
+    count: usize,
+    place: usize,
+    want: Item,
+) -> Result<bool, Fail> {
+    let script = script_of(alloc, job, site)?;
+    Ok(script.len() == count && script.as_slice().get(place).copied() == Some(want))
 }
 
-#[test]
-fn no_site_has_no_script(rt: HostRuntime) -> Result<(), Fail> {
-    let job = job_of_counters(rt.alloc(), false)?;
-    let none = script_of(rt.alloc(), &job, 2)?;
-    assert_eq!(rt; none.len(), 0);
-    Ok(())
+/// Whether each script has 23 items, in the first a put behind its sum, and in the second a take at its head.
+fn has_whole_scripts(alloc: Global, job: &Job) -> Result<bool, Fail> {
+    Ok(
+        has_items(alloc, job, 0, 23, 4, compute(0))?
+            && has_items(alloc, job, 0, 23, 5, Item::Put { link: 0 })?
+            && has_items(alloc, job, 1, 23, 0, Item::Take { link: 0 })?,
+    )
 }
 
-#[test]
-fn a_fault_cuts_both_scripts(rt: HostRuntime) -> Result<(), Fail> {
-    let job = job_of_counters(rt.alloc(), true)?;
-    let first = script_of(rt.alloc(), &job, 0)?;
-    let second = script_of(rt.alloc(), &job, 1)?;
-    assert_eq!(rt; first.len(), 18);
-    assert_eq!(rt; second.len(), 15);
-    assert!(rt; item_is(&second, 14, Item::Take { link: 0 }));
-    Ok(())
+fn has_no_script(alloc: Global, job: &Job, site: u8) -> Result<bool, Fail> {
+    Ok(script_of(alloc, job, site)?.is_empty())
+}
+
+/// Whether the scripts end at the fault, and at the take of what never comes.
+fn has_cut_scripts(alloc: Global, job: &Job) -> Result<bool, Fail> {
+    let broken = Item::Compute {
+        flow: 5,
+        instant: 2,
+    };
+    Ok(
+        has_items(alloc, job, 0, 18, 17, broken)?
+            && has_items(alloc, job, 1, 15, 14, Item::Take { link: 0 })?,
+    )
 }
 
 fn ends_at(alloc: Global, job: &Job, turns: &[u8], want: &[usize]) -> Result<bool, Fail> {
     Ok(world_after(alloc, job, turns)?.as_slice() == want)
 }
 
-#[test]
-fn a_site_alone_is_blocked(rt: HostRuntime) -> Result<(), Fail> {
-    let job = job_of_counters(rt.alloc(), false)?;
-    assert!(rt; ends_at(rt.alloc(), &job, &[], &[0, 0])?);
-    assert!(rt; ends_at(rt.alloc(), &job, &[0; 9], &[6, 0])?);
-    assert!(rt; ends_at(rt.alloc(), &job, &[1; 9], &[0, 0])?);
-    assert!(rt; ends_at(rt.alloc(), &job, &[2; 9], &[0, 0])?);
-    Ok(())
+/// Whether turns of one site alone, or of what is no site, end at its first wait.
+fn waits_alone(alloc: Global, job: &Job) -> Result<bool, Fail> {
+    Ok(
+        ends_at(alloc, job, &[], &[0, 0])?
+            && ends_at(alloc, job, &[0; 9], &[6, 0])?
+            && ends_at(alloc, job, &[1; 9], &[0, 0])?
+            && ends_at(alloc, job, &[2; 9], &[0, 0])?,
+    )
 }
 
 /// So many turns of both sites, one after the other.
@@ -264,12 +266,110 @@ fn both_sites(alloc: Global, count: usize) -> Result<Vec<u8>, AllocError> {
     Ok(turns)
 }
 
+/// Whether sixty turns of both sites end here.
+fn end_together(alloc: Global, job: &Job, want: &[usize]) -> Result<bool, Fail> {
+    let turns = both_sites(alloc, 60)?;
+    ends_at(alloc, job, &turns, want)
+}
+
+/// What each test says of the counters.
+#[derive(Clone, Copy)]
+enum Fact {
+    Counts,
+    Breaks,
+    LinksCarryCounts,
+    LinkCarriesNoClose,
+    ScriptsAreWhole,
+    ScriptsAreCut,
+    NoSiteHasNoScript,
+    SiteAloneWaits,
+    SitesEnd,
+    SitesEndAtFault,
+}
+
+fn is_true(alloc: Global, job: &Job, fact: Fact) -> Result<bool, Fail> {
+    match fact {
+        Fact::Counts => counts(alloc, job),
+        Fact::Breaks => both_break(alloc, job),
+        Fact::LinksCarryCounts => both_carry_counts(alloc, job),
+        Fact::LinkCarriesNoClose => carries_no_close(alloc, job),
+        Fact::ScriptsAreWhole => has_whole_scripts(alloc, job),
+        Fact::ScriptsAreCut => has_cut_scripts(alloc, job),
+        Fact::NoSiteHasNoScript => has_no_script(alloc, job, 2),
+        Fact::SiteAloneWaits => waits_alone(alloc, job),
+        Fact::SitesEnd => end_together(alloc, job, &[23, 23]),
+        Fact::SitesEndAtFault => end_together(alloc, job, &[18, 14]),
+    }
+}
+
+/// Whether it is true of the counters with a step of 1.
+fn holds(alloc: Global, fact: Fact) -> Result<bool, Fail> {
+    let job = job_of_counters(alloc, false)?;
+    is_true(alloc, &job, fact)
+}
+
+/// Whether it is true of the counters with the largest step.
+fn holds_at_a_fault(alloc: Global, fact: Fact) -> Result<bool, Fail> {
+    let job = job_of_counters(alloc, true)?;
+    is_true(alloc, &job, fact)
+}
+
+#[test]
+fn counters_count(rt: HostRuntime) -> Result<(), Fail> {
+    assert!(rt; holds(rt.alloc(), Fact::Counts)?);
+    Ok(())
+}
+
+#[test]
+fn links_carry_the_counts_and_the_close(rt: HostRuntime) -> Result<(), Fail> {
+    assert!(rt; holds(rt.alloc(), Fact::LinksCarryCounts)?);
+    Ok(())
+}
+
+#[test]
+fn a_sum_that_does_not_fit_breaks_both(rt: HostRuntime) -> Result<(), Fail> {
+    assert!(rt; holds_at_a_fault(rt.alloc(), Fact::Breaks)?);
+    Ok(())
+}
+
+#[test]
+fn no_close_follows_a_fault(rt: HostRuntime) -> Result<(), Fail> {
+    assert!(rt; holds_at_a_fault(rt.alloc(), Fact::LinkCarriesNoClose)?);
+    Ok(())
+}
+
+#[test]
+fn scripts_have_forty_six_items(rt: HostRuntime) -> Result<(), Fail> {
+    assert!(rt; holds(rt.alloc(), Fact::ScriptsAreWhole)?);
+    Ok(())
+}
+
+#[test]
+fn no_site_has_no_script(rt: HostRuntime) -> Result<(), Fail> {
+    assert!(rt; holds(rt.alloc(), Fact::NoSiteHasNoScript)?);
+    Ok(())
+}
+
+#[test]
+fn a_fault_cuts_both_scripts(rt: HostRuntime) -> Result<(), Fail> {
+    assert!(rt; holds_at_a_fault(rt.alloc(), Fact::ScriptsAreCut)?);
+    Ok(())
+}
+
+#[test]
+fn a_site_alone_is_blocked(rt: HostRuntime) -> Result<(), Fail> {
+    assert!(rt; holds(rt.alloc(), Fact::SiteAloneWaits)?);
+    Ok(())
+}
+
 #[test]
 fn both_sites_together_end(rt: HostRuntime) -> Result<(), Fail> {
-    let turns = both_sites(rt.alloc(), 60)?;
-    let job = job_of_counters(rt.alloc(), false)?;
-    assert!(rt; ends_at(rt.alloc(), &job, &turns, &[23, 23])?);
-    let broken = job_of_counters(rt.alloc(), true)?;
-    assert!(rt; ends_at(rt.alloc(), &broken, &turns, &[18, 14])?);
+    assert!(rt; holds(rt.alloc(), Fact::SitesEnd)?);
+    Ok(())
+}
+
+#[test]
+fn both_sites_together_end_at_a_fault(rt: HostRuntime) -> Result<(), Fail> {
+    assert!(rt; holds_at_a_fault(rt.alloc(), Fact::SitesEndAtFault)?);
     Ok(())
 }

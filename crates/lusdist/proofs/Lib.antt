@@ -1,6 +1,5 @@
 pub mod Inputless
 pub mod NewSites
-pub mod Shapes
 pub mod Worlds
 pub mod AskedFor
 pub mod Texts

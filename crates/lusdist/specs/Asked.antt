@@ -1,4 +1,4 @@
--- What the texts of a replay say together, and what its files gave.
+-- What the texts of a check and of a replay say, and what their files gave.
 use Rattle.std.specs.Prelude.{◌≡◌, ℕ, List, Ok}
 use Rattle.lutree.specs.Tree.{ProgramTree}
 use Rattle.luflow.specs.Program.{FlatProgram}
@@ -8,14 +8,18 @@ use Rattle.luworld.specs.Runs.{Run, system_of}
 use Rattle.lusource.specs.Source.{SourceStreams, IsSourceSolution}
 use Rattle.lusource.specs.Agreement.{HasOneMeaning}
 use Rattle.lumeaning.specs.Meaning.{IsMeant}
-use Rattle.lusyn.specs.Texts.{SpellsText}
+use Rattle.lusyn.specs.Texts.{SpellsText, IsReadBack}
+use Rattle.luprint.specs.Canonical.{canonical}
 use Rattle.lucore.specs.Result.{IsFlatOf}
 use Rattle.luplacefile.specs.declared.place.Place.{Place}
 use Rattle.luplacefile.specs.Placement.{placement_of}
 use Rattle.luplace.specs.Placing.{IsPlanOf}
 use Rattle.lutab.specs.Rows.{table_of}
 use Rattle.lushell.specs.ScheduleText.{schedule_of}
+use Rattle.lushell.specs.declared.request.CheckRequest.{CheckRequest}
+use Rattle.lushell.specs.declared.request.ReplayRequest.{ReplayRequest}
 use Rattle.lushell.specs.declared.request.Request.{Request}
+use Rattle.lushell.specs.declared.request.Request.TheVariants.{Check, Replay}
 use Rattle.lushell.specs.Request.{IsAskedBy}
 use Rattle.luweave.specs.Worlds.{Progress}
 use Rattle.luweave.specs.Headline.{IsFaithful}
@@ -44,7 +48,7 @@ pub record IsJobOf (program place table main : List ℕ) (job : Run) : Type 0 wh
   pub is_meant : (σ : SourceStreams) → IsSourceSolution flat.tree main job.inputs σ → IsMeant job σ
 
 -- a job and its turns are those of texts that the files of a request gave
-pub record IsAskedFor (gives : List ℕ → List ℕ → Type 0) (request : Request) (job : Run) (turns : List ℕ) : Type 0 where
+pub record IsAskedFor (gives : List ℕ → List ℕ → Type 0) (request : ReplayRequest) (job : Run) (turns : List ℕ) : Type 0 where
   pub program : List ℕ
   pub place : List ℕ
   pub table : List ℕ
@@ -69,14 +73,29 @@ pub record IsPrinted (job : Run) (turns text : List ℕ) : Type 0 where
   pub text_is : IsWorldText world text
 
 -- the text of a replay of what a request asks for
-pub record IsReplayed (gives : List ℕ → List ℕ → Type 0) (request : Request) (text : List ℕ) : Type 0 where
+pub record IsReplayed (gives : List ℕ → List ℕ → Type 0) (request : ReplayRequest) (text : List ℕ) : Type 0 where
   pub job : Run
   pub turns : List ℕ
   pub asked_for : IsAskedFor gives request job turns
   pub printed : IsPrinted job turns text
 
--- the text of a replay of what the words ask for
+-- the text of a check of what a request asks for: the canonical text of the program that the file's bytes spell, which spells
+-- that program too if it isn't longer than a text may be
+pub record IsChecked (gives : List ℕ → List ℕ → Type 0) (request : CheckRequest) (text : List ℕ) : Type 0 where
+  pub program : List ℕ
+  pub tree : ProgramTree
+  pub program_given : gives request.program.now program
+  pub spelled : SpellsText program tree
+  pub text_is : text ≡ canonical tree
+  pub again : IsReadBack text tree
+
+-- the text of what a request asks for
+abbrev pub IsAnswer : (List ℕ → List ℕ → Type 0) → Request → List ℕ → Type 0
+IsAnswer gives (Check request) text = IsChecked gives request text
+IsAnswer gives (Replay request) text = IsReplayed gives request text
+
+-- the text of what the words ask for
 pub record IsDone (gives : List ℕ → List ℕ → Type 0) (words : List (List ℕ)) (text : List ℕ) : Type 0 where
   pub request : Request
   pub asked : IsAskedBy words request
-  pub replayed : IsReplayed gives request text
+  pub answer : IsAnswer gives request text

@@ -1,4 +1,5 @@
-//! The program `lusdist`: it spreads one Lustre program over several sites, and replays the run turn by turn.
+//! The program `lusdist`: it checks one Lustre program, spreads it over several sites, and replays the run turn by
+//! turn.
 //!
 //! - `serve`: a call of the program, from its words to its exit status.
 //! - `sources`: from the texts of the files to a plan, a job and its turns.
@@ -7,6 +8,8 @@
 //! - `text`: what a replay prints.
 #![tactic(auto)]
 
+#[cfg(test)]
+mod checks;
 #[cfg(test)]
 mod schedules;
 mod serve;

@@ -5,14 +5,17 @@ ghost use Rattle.std.specs.Io.KnownBytes.{Appends};
 ghost use Rattle.clap.specs.Words.{takes};
 ghost use Rattle.lushell.specs.CommandLine.{lusdist};
 ghost use Rattle.luweave.specs.Headline.{IsFaithful};
-ghost use Rattle.lusdist.specs.Asked.{IsAskedFor, IsWorldOf, IsPrinted, IsReplayed, IsDone};
+ghost use Rattle.lusdist.specs.Asked.{IsAskedFor, IsWorldOf, IsPrinted, IsReplayed, IsChecked, IsAnswer, IsDone};
 
 use crate::sites::new_sites;
-use crate::sources::{flat_of, job_of, plan_of, read, turns_of};
+use crate::sources::{flat_of, job_of, plan_of, program_of, read, turns_of};
 use crate::stop::Stop;
 use crate::text::text_of_world;
 use luplace::Job;
-use lushell::{Files, Request, parse, put_error_line, put_mistake, put_out};
+use lushell::{
+    CheckRequest, Files, ReplayRequest, Request, parse, put_error_line, put_mistake, put_out,
+};
+use lusyn::print_program;
 use luweave::{World, replay};
 use std::alloc::Global;
 use std::io::Write;
@@ -20,7 +23,7 @@ use std::io::Write;
 /// The job of the files that a replay asks for, and its turns. They are read and refused in the order of the words.
 fn job_and_turns<F: Files>(
     alloc: Global,
-    request: Request<'_>,
+    request: ReplayRequest<'_>,
     files: &F,
 ) -> Result<(Job, Vec<u8>), Stop>
     ensures { IfOk result (λ found. IsAskedFor (F.gives files.now) request.entry found.0 found.1.items) }
@@ -54,11 +57,36 @@ fn printed(alloc: Global, job: &Job, turns: &[u8]) -> Result<String, Stop>
     Ok(text_of_world(alloc, job.plan(), &world)?)
 }
 
-fn answer<F: Files>(alloc: Global, request: Request<'_>, files: &F) -> Result<String, Stop>
+/// What a replay prints.
+fn replay_text<F: Files>(
+    alloc: Global,
+    request: ReplayRequest<'_>,
+    files: &F,
+) -> Result<String, Stop>
     ensures { IfOk result (λ text. IsReplayed (F.gives files.now) request.entry (string_bytes text)) }
 {
     let (job, turns) = job_and_turns(alloc, request, files)?;
     printed(alloc, &job, &turns)
+}
+
+/// What a check prints: the canonical text of the program.
+fn check_text<F: Files>(alloc: Global, request: CheckRequest<'_>, files: &F) -> Result<String, Stop>
+    ensures { IfOk result (λ text. IsChecked (F.gives files.now) request.entry (string_bytes text)) }
+{
+    let bytes = read(alloc, files, request.program)?;
+    let program = program_of(alloc, &bytes)?;
+    let text = print_program(alloc, &program)?;
+    Ok(text)
+}
+
+/// What the command that is asked for prints.
+fn answer<F: Files>(alloc: Global, request: Request<'_>, files: &F) -> Result<String, Stop>
+    ensures { IfOk result (λ text. IsAnswer (F.gives files.now) request.entry (string_bytes text)) }
+{
+    match request {
+        Request::Check(request) => check_text(alloc, request, files),
+        Request::Replay(request) => replay_text(alloc, request, files),
+    }
 }
 
 /// Does what the words asked for.
@@ -69,7 +97,7 @@ fn perform<F: Files, W: Write, V: Write>(
     out: &mut W,
     err: &mut V,
 ) -> u8
-    ensures done { result ≡ 0 → (text : List ℕ) × IsReplayed (F.gives files.now) request.entry text × Appends (W.contents out.old) (W.contents out.new) text }
+    ensures done { result ≡ 0 → (text : List ℕ) × IsAnswer (F.gives files.now) request.entry text × Appends (W.contents out.old) (W.contents out.new) text }
     ensures refused { (result ≡ 1) ⊎ (result ≡ 2) → out.new ≡ out.old }
     ensures silent { result ≡ 0 → err.new ≡ err.old }
 {
@@ -93,7 +121,7 @@ pub fn serve_words<F: Files, W: Write, V: Write>(
     out: &mut W,
     err: &mut V,
 ) -> u8
-    // Where the command line takes the words and the call is done, the text of the replay that they ask for went to the output.
+    // Where the command line takes the words and the call is done, the text that they ask for went to the output.
     ensures done { takes lusdist (map string_bytes words.entry.now) ≡ true → result ≡ 0 → (text : List ℕ) × IsDone (F.gives files.now) (map string_bytes words.entry.now) text × Appends (W.contents out.old) (W.contents out.new) text }
 
     // Where a text or a file is refused, or the words are, nothing goes to the output.

@@ -1,6 +1,6 @@
 //! From the texts of the files to a plan, a job and its turns.
 
-ghost use Rattle.std.specs.Prelude.{◌≡◌, [], IfOk, Ok};
+ghost use Rattle.std.specs.Prelude.{◌≡◌, ◌≢◌, ◌↔◌, [], IfOk, IfErr, Ok};
 ghost use Rattle.lutree.specs.Tree.{program_view};
 ghost use Rattle.lusource.specs.First.{IsFirstShape};
 ghost use Rattle.lucore.specs.Result.{IsFlatOf};
@@ -8,10 +8,12 @@ ghost use Rattle.lushell.specs.ScheduleText.{schedule_of};
 ghost use Rattle.lusyn.specs.Texts.{SpellsText};
 ghost use Rattle.lutab.specs.Fit.{HasNoInputs};
 ghost use Rattle.lutab.specs.Rows.{table_of};
+ghost use Rattle.lusdist.specs.declared.stop.Stop.TheVariants.{NotYet};
 ghost use Rattle.lusdist.specs.Asked.{IsFlatOfText, IsPlanOfText};
 
 use crate::stop::Stop;
 use lucore::flatten;
+use lufirst::is_first;
 use luflow::Flat;
 use lulist::Name;
 use luplace::{Job, Plan};
@@ -36,34 +38,47 @@ pub fn read<F: Files>(alloc: Global, files: &F, path: &str) -> Result<Vec<u8>, S
     }
 }
 
-/// The flat program that the bytes of a program's file are, from its main node of this name.
-pub fn flat_of(alloc: Global, bytes: &[u8], main: &str) -> Result<Flat, Stop>
-    ensures flat { IfOk result (IsFlatOfText bytes.now main.now) }
-    ensures inputless { IfOk result HasNoInputs }
+/// The program that the bytes of a program's file spell.
+pub fn program_of(alloc: Global, bytes: &[u8]) -> Result<Program, Stop>
+    ensures { IfOk result (λ program. SpellsText bytes.now (program_view program)) }
 {
     let Some(text) = text_of(bytes) else {
         return Err(Stop::NotAscii);
     };
-    let program = program_of(alloc, text)?;
-    flattened(alloc, &program, main)
-}
-
-/// The program that a text spells.
-fn program_of(alloc: Global, text: &str) -> Result<Program, Stop>
-    ensures spelled { IfOk result (λ program. SpellsText text.now (program_view program)) }
-    ensures shape { IfOk result (λ program. IsFirstShape (program_view program)) }
-{
     match read_program(alloc, text) {
         Ok(program) => Ok(program),
         Err(e) => Err(Stop::Syntax(e)),
     }
 }
 
-/// The flat program of a program, from its main node of this name.
+/// The flat program that the bytes of a program's file are, from its main node of this name.
+pub fn flat_of(alloc: Global, bytes: &[u8], main: &str) -> Result<Flat, Stop>
+    ensures flat { IfOk result (IsFlatOfText bytes.now main.now) }
+    ensures inputless { IfOk result HasNoInputs }
+{
+    let program = program_of(alloc, bytes)?;
+    flattened(alloc, &program, main)
+}
+
+/// The flat program of a program, from its main node of this name, where the program is of the first language.
 fn flattened(alloc: Global, program: &Program, main: &str) -> Result<Flat, Stop>
+    ensures flat { IfOk result (IsFlatOf (program_view program.now) main.now) }
+    ensures inputless { IfOk result HasNoInputs }
+    ensures not_yet { IfErr result (λ stop. (stop ≡ NotYet) ↔ (¬ IsFirstShape (program_view program.now))) }
+{
+    if is_first(program) {
+        flattened_first(alloc, program, main)
+    } else {
+        Err(Stop::NotYet)
+    }
+}
+
+/// The flat program of a program of the first language, from its main node of this name.
+fn flattened_first(alloc: Global, program: &Program, main: &str) -> Result<Flat, Stop>
     requires { IsFirstShape (program_view program.now) }
     ensures flat { IfOk result (IsFlatOf (program_view program.now) main.now) }
     ensures inputless { IfOk result HasNoInputs }
+    ensures refused { IfErr result (λ stop. stop ≢ NotYet) }
 {
     let typed = match names(alloc, program, main) {
         Ok(typed) => typed,

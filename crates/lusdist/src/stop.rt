@@ -26,6 +26,9 @@ pub enum Stop {
     /// The text of the program spells none.
     #[error("{0}")]
     Syntax(SynError),
+    /// The program is of more than the first language, which alone is replayed as yet.
+    #[error("E00 NotYet")]
+    NotYet,
     /// The program breaks a rule of names.
     #[error("{0}")]
     Names(StatError),

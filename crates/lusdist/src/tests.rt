@@ -17,11 +17,11 @@ const TURNS: &[u8] =
 
 /// The four files of a replay, in memory.
 #[derive(Clone, Copy, Drop)]
-struct Shelf<'a> {
-    program: &'a [u8],
-    place: &'a [u8],
-    table: &'a [u8],
-    turns: &'a [u8],
+pub struct Shelf<'a> {
+    pub program: &'a [u8],
+    pub place: &'a [u8],
+    pub table: &'a [u8],
+    pub turns: &'a [u8],
 }
 
 impl<'a> Shelf<'a> {
@@ -49,7 +49,7 @@ impl Files for Shelf<'_> {
 
 /// A stream that takes nothing.
 #[derive(Drop)]
-struct Full;
+pub struct Full;
 
 impl Write for Full {
     fn write(&mut self, _buf: &[u8]) -> io::Result<usize> {
@@ -61,7 +61,8 @@ impl Write for Full {
     }
 }
 
-fn counters() -> Shelf<'static> {
+/// Two counters that feed each other, and what a replay of them takes.
+pub fn counters() -> Shelf<'static> {
     Shelf {
         program: COUNTERS,
         place: TWO_SITES,
@@ -70,7 +71,8 @@ fn counters() -> Shelf<'static> {
     }
 }
 
-fn words(alloc: Global, all: &[&str]) -> Result<Vec<String>, Fail> {
+/// The words of a command line.
+pub fn words(alloc: Global, all: &[&str]) -> Result<Vec<String>, Fail> {
     let mut words = Vec::new(alloc);
     for word in all {
         words.push(String::from_str(alloc, *word)?)?;
@@ -79,7 +81,7 @@ fn words(alloc: Global, all: &[&str]) -> Result<Vec<String>, Fail> {
 }
 
 /// Whether the call answers this status and writes these two texts.
-fn answers(
+pub fn answers(
     alloc: Global,
     all: &[&str],
     shelf: &Shelf<'_>,

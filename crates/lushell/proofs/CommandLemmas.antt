@@ -1,20 +1,21 @@
 -- The command line, and a request that was read from it.
-use Rattle.std.proofs.Common.{◌≡◌, ◌∙◌, sym, ap, refl, List, [], ◌∷◌, Bool, true, false, not, Option, Some, None, Result, Ok, Err, IfOk}
-use Rattle.std.specs.List.{list_any}
-use Rattle.std.specs.Prelude.{◌&&◌, is_some, unwrap_or, option_map}
+use Rattle.std.proofs.Common.{◌≡◌, ◌⊎◌, ℕ, ◌∙◌, sym, ap, refl, subst, inl, inr, List, [], ◌∷◌, Bool, true, false, cond, not, Option, Some, None, Result, Ok, Err, IfOk, codes, get_or}
+use Rattle.std.specs.List.{list_any, find}
+use Rattle.std.proofs.Math.Bool.{or-false}
+use Rattle.std.proofs.lemmas.Slice.Eq.{bytes_eq-Decides}
+use Rattle.std.specs.Prelude.{◌&&◌, is_some, option_map}
 use Rattle.clap.specs.Kinds.{FailsBy, Kinds, check_kinds, or_else}
-use Rattle.clap.specs.Matches.{has_subcommand}
 use Rattle.clap.specs.declared.error.Error.{Error}
 use Rattle.clap.specs.declared.parser.matches.ArgMatches.{ArgMatches}
-use Rattle.clap.specs.declared.parser.matches.ArgMatches.TheViews.{out-ArgMatches}
 use Rattle.clap.specs.Faults.{check_fault, defaults_fault, entered_fault, fault_of, level_fault, settle_fault, walk_fault}
 use Rattle.clap.specs.Facts.{explicit_source}
 use Rattle.clap.specs.Takes.{is_given}
-use Rattle.clap.specs.Walk.{Held, Names, Row, Rule, Text, finished, first_of, nothing_held, settled, stop_after, walk, walk_from}
-use Rattle.clap.specs.Simple.{Shape, argument_words, built, entered, is_simple, names_of, subcommand_of, subcommand_rows_of}
+use Rattle.clap.specs.Walk.{Held, Names, Row, Rule, Text, answers_to, finished, nothing_held, settled, stop_after, walk, walk_from}
+use Rattle.clap.specs.Simple.{Shape, argument_words, built, entered, help_shape, is_simple, label_of, names_of, rows_at, subcommand_of, subcommand_rows_of}
 use Rattle.clap.specs.Faults.{is_simple_and_free}
 use Rattle.lushell.specs.CommandLine.{lusdist}
-use Rattle.lushell.specs.Request.{text_in}
+use Rattle.lushell.specs.Request.{IsCommand}
+use Rattle.lushell.proofs.NoHelp.{IsNoHelp, left_nil, walk_no_help}
 
 -- the command line is one whose parse is known to the letter
 pub lusdist_is_simple : is_simple lusdist ≡ true
@@ -52,17 +53,47 @@ has_command words none =
     let stop = stop_after (built lusdist).top.rules (names_of (built lusdist)) (argument_words lusdist words) in
     has_from_fault (built lusdist).top (names_of (built lusdist)) nothing_held (argument_words lusdist words) (is_some (entered (built lusdist) stop)) (entered_fault (built lusdist) stop) refl none
 
--- ---- the text of an argument
+-- ---- which command that is
 
-pub text_in-found : (matches : Option (Text × List Row)) (rows : List Row) (argument : Text) → Some rows ≡ option_map (λ (found : Text × List Row). found.1) matches → unwrap_or (first_of argument rows) [] ≡ text_in (option_map (λ (found : Text × List Row). found.1) matches) argument
-text_in-found matches rows argument is = ap (λ (m : Option (List Row)). text_in m argument) is
+abbrev stop_at : List Text → Option (Text × List Text)
+stop_at words = stop_after (built lusdist).top.rules (names_of (built lusdist)) (argument_words lusdist words)
 
-is_some-option_map : {X Y : Type 0} (f : X → Y) (o : Option X) → is_some (option_map f o) ≡ is_some o
-is_some-option_map f (Some x) = refl
-is_some-option_map f None = refl
+no_help : (words : List Text) → fault_of lusdist words ≡ [] → IsNoHelp (stop_at words)
+no_help words none =
+    walk_no_help (built lusdist).top (names_of (built lusdist)) refl (walk_from nothing_held) (argument_words lusdist words) (λ p e. absurd cc) (left_nil _ _ none)
+
+-- what is found among three is one of the first two, or the third passes
+one_of_three : (a b d : Bool) (x y z found : Shape) → cond a (Some x) (cond b (Some y) (cond d (Some z) None)) ≡ Some found → ((found ≡ x) ⊎ (found ≡ y)) ⊎ (d ≡ true)
+one_of_three true b d x y z found e = inl (inl (let s : found ≡ x = cc in s))
+one_of_three false true d x y z found e = inl (inr (let s : found ≡ y = cc in s))
+one_of_three false false true x y z found e = inr refl
+one_of_three false false false x y z found e = absurd cc
+
+abbrev shape_at : ℕ → Shape
+shape_at k = get_or (built lusdist).subs k help_shape
+
+is_command_at : (stop : Option (Text × List Text)) → IsNoHelp stop → is_some (entered (built lusdist) stop) ≡ true → IsCommand (entered (built lusdist) stop)
+is_command_at None other some = absurd cc
+is_command_at (Some p) other some =
+    go (find (λ s. answers_to p.0 (label_of s)) (built lusdist).subs) refl some
+  where
+    is_help : answers_to p.0 (label_of (shape_at 2)) ≡ true → ⊥
+    is_help e = other p refl (sym ((bytes_eq-Decides (codes "help") p.0).0 (sym (or-false _) ∙ e)))
+
+    go : (o : Option Shape) → find (λ s. answers_to p.0 (label_of s)) (built lusdist).subs ≡ o → is_some (option_map (λ s. rows_at s p.1) o) ≡ true
+        → IsCommand (option_map (λ s. rows_at s p.1) o)
+    go None e is = absurd cc
+    go (Some found) e is = record {
+      found = rows_at found p.1;
+      is = refl;
+      named = elim (one_of_three (answers_to p.0 (label_of (shape_at 0))) (answers_to p.0 (label_of (shape_at 1))) (answers_to p.0 (label_of (shape_at 2))) (shape_at 0) (shape_at 1) (shape_at 2) found e) [
+        | inl named ↦ elim named [ inl first ↦ inl (ap (λ (s : Shape). s.name) first) | inr second ↦ inr (ap (λ (s : Shape). s.name) second) ]
+        | inr help ↦ absurd (is_help help)
+      ];
+    }
 
 -- what was matched has a command
-pub command_from : (words : List Text) (r : Result ArgMatches Error) → FailsBy (fault_of lusdist words) r → IfOk r (λ m. subcommand_rows_of m ≡ subcommand_of lusdist words) → IfOk r (λ m. has_subcommand m ≡ true)
+pub command_from : (words : List Text) (r : Result ArgMatches Error) → FailsBy (fault_of lusdist words) r → IfOk r (λ m. subcommand_rows_of m ≡ subcommand_of lusdist words) → IfOk r (λ m. IsCommand (subcommand_rows_of m))
 command_from words (Ok m) none rows =
-    sym (is_some-option_map _ (out-ArgMatches m).subcommand) ∙ ap is_some rows ∙ has_command words none
+    subst IsCommand (sym rows) (is_command_at (stop_at words) (no_help words none) (has_command words none))
 command_from words (Err e) none rows = tt

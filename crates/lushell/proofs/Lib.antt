@@ -1,2 +1,3 @@
 pub mod ScheduleSteps
+pub mod NoHelp
 pub mod CommandLemmas

@@ -12,6 +12,10 @@ path_rule name = record (new_rule name) { required = true; action = Some Set }
 abbrev pub main_rule : Rule
 main_rule = record (new_rule (codes "main")) { long = Some (codes "main"); value_names = 1; defaults = codes "main" ∷ [] }
 
+-- `check PROGRAM [--main NAME]`
+abbrev pub check : App
+check = with_rule (with_rule (new_app (codes "check")) main_rule) (path_rule (codes "PROGRAM"))
+
 -- `replay PROGRAM PLACE TABLE SCHEDULE [--main NAME]`
 abbrev pub replay : App
 replay =
@@ -20,4 +24,6 @@ replay =
 
 -- `lusdist` and one of its commands
 abbrev pub lusdist : App
-lusdist = with_subcommand (on_top (λ top. record top { subcommand_required = true }) (new_app (codes "lusdist"))) replay.top
+lusdist =
+    with_subcommand (with_subcommand (on_top (λ top. record top { subcommand_required = true }) (new_app (codes "lusdist")))
+    check.top) replay.top

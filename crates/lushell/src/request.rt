@@ -1,18 +1,27 @@
 //! What the command line asks for.
 
-ghost use Rattle.std.specs.Prelude.{◌≡◌, IfOk, IfErr, map, true, unwrap_or, [], string_bytes, option_map, codes};
-ghost use Rattle.clap.specs.Words.{kind_of, takes, found_of, has_subcommand, rows_of, first_of, subcommand_of, subcommand_rows_of, FailsBy, fault_of};
+ghost use Rattle.std.specs.Prelude.{◌≡◌, IfOk, IfErr, map, true, string_bytes, codes, Some};
+ghost use Rattle.clap.specs.Words.{kind_of, takes, found_of, rows_of, subcommand_of, subcommand_rows_of, FailsBy, fault_of};
 ghost use Rattle.clap.specs.declared.error.kind.ErrorKind.TheVariants.{OutOfMemory};
 ghost use Rattle.lushell.specs.CommandLine.{lusdist};
-ghost use Rattle.lushell.specs.Request.{IsFoundIn, IsAskedBy};
+ghost use Rattle.lushell.specs.Request.{text_in, IsCommand, IsCheckIn, IsReplayIn, IsFoundIn, IsAskedBy};
 
 use crate::command::lusdist;
 use clap::{ArgMatches, Error};
 use std::alloc::Global;
 
-/// What the command line asks for: a replay of these files.
+/// What a check is asked of.
 #[derive(Clone, Copy, Debug, PartialEq, Eq)]
-pub struct Request<'a> {
+pub struct CheckRequest<'a> {
+    /// The name of the main node.
+    pub main: &'a str,
+    /// The path of the program.
+    pub program: &'a str,
+}
+
+/// What a replay is asked of.
+#[derive(Clone, Copy, Debug, PartialEq, Eq)]
+pub struct ReplayRequest<'a> {
     /// The name of the main node.
     pub main: &'a str,
     /// The path of the program.
@@ -25,9 +34,18 @@ pub struct Request<'a> {
     pub schedule: &'a str,
 }
 
+/// What the command line asks for.
+#[derive(Clone, Copy, Debug, PartialEq, Eq)]
+pub enum Request<'a> {
+    /// A check of a program.
+    Check(CheckRequest<'a>),
+    /// A replay of these files.
+    Replay(ReplayRequest<'a>),
+}
+
 /// The text of an argument, which is empty where it has none.
 fn text<'a>(matches: &ArgMatches<'a>, argument: &str) -> &'a str
-    ensures { result.now ≡ unwrap_or (first_of argument.now (rows_of (found_of matches.now))) [] }
+    ensures { result.now ≡ text_in (rows_of (found_of matches.now)) argument.now }
 {
     match matches.get_str(argument) {
         Some(text) => text,
@@ -35,26 +53,44 @@ fn text<'a>(matches: &ArgMatches<'a>, argument: &str) -> &'a str
     }
 }
 
+/// What the matches of `check` ask for.
+fn check_in<'a>(matches: &ArgMatches<'a>) -> CheckRequest<'a>
+    ensures { IsCheckIn (Some (codes "check", rows_of (found_of matches.now))) result }
+{
+    CheckRequest {
+        main: text(matches, "main"),
+        program: text(matches, "PROGRAM"),
+    }
+}
+
+/// What the matches of `replay` ask for.
+fn replay_in<'a>(matches: &ArgMatches<'a>) -> ReplayRequest<'a>
+    ensures { IsReplayIn (Some (codes "replay", rows_of (found_of matches.now))) result }
+{
+    ReplayRequest {
+        main: text(matches, "main"),
+        program: text(matches, "PROGRAM"),
+        place: text(matches, "PLACE"),
+        table: text(matches, "TABLE"),
+        schedule: text(matches, "SCHEDULE"),
+    }
+}
+
 /// What the matches of the one command ask for.
 fn request_in<'a>(matches: &ArgMatches<'a>) -> Request<'a>
-    requires { has_subcommand matches.now ≡ true }
-    ensures { IsFoundIn (option_map (λ found. found.1) (subcommand_rows_of matches.now)) result }
+    requires { IsCommand (subcommand_rows_of matches.now) }
+    ensures { IsFoundIn (subcommand_rows_of matches.now) result }
 {
-    let Some((_, found)) = matches.subcommand() else {
-        unreachable!()
-    };
-    Request {
-        main: text(found, "main"),
-        program: text(found, "PROGRAM"),
-        place: text(found, "PLACE"),
-        table: text(found, "TABLE"),
-        schedule: text(found, "SCHEDULE"),
+    match matches.subcommand() {
+        Some((name, found)) if name == "check" => Request::Check(check_in(found)),
+        Some((_, found)) => Request::Replay(replay_in(found)),
+        None => unreachable!(),
     }
 }
 
 /// What the words match.
 fn matches_in<'a>(alloc: Global, words: &'a [String]) -> Result<ArgMatches<'a>, Error>
-    ensures command { IfOk result (λ m. has_subcommand m ≡ true) }
+    ensures command { IfOk result (λ m. IsCommand (subcommand_rows_of m)) }
     ensures matches { IfOk result (λ m. subcommand_rows_of m ≡ subcommand_of lusdist (map string_bytes words.entry.now)) }
     ensures taken { IfErr result (λ e. takes lusdist (map string_bytes words.entry.now) ≡ true → kind_of e ≡ OutOfMemory) }
     ensures refused { FailsBy (fault_of lusdist (map string_bytes words.entry.now)) result }

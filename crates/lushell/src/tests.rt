@@ -105,23 +105,54 @@ fn lines_of_the_schedules_refusals(rt: HostRuntime) -> Result<(), Fail> {
 
 #[test]
 fn replay_is_asked_for(rt: HostRuntime) -> Result<(), Fail> {
-    let plain = words(rt.alloc(), &["lusdist", "replay", "a", "b", "c", "d"])?;
-    let request = parse(rt.alloc(), &plain)?;
-    assert_eq!(rt; request.main, "main");
-    assert_eq!(rt; request.program, "a");
-    assert_eq!(rt; request.place, "b");
-    assert_eq!(rt; request.table, "c");
-    assert_eq!(rt; request.schedule, "d");
-    for all in [
-        ["lusdist", "replay", "--main", "top", "a", "b", "c", "d"],
-        ["lusdist", "replay", "a", "b", "--main", "top", "c", "d"],
-        ["lusdist", "replay", "a", "b", "c", "d", "--main", "top"],
+    for (all, main) in [
+        (["lusdist", "replay", "a", "b", "c", "d"].as_slice(), "main"),
+        (
+            ["lusdist", "replay", "--main", "top", "a", "b", "c", "d"].as_slice(),
+            "top",
+        ),
+        (
+            ["lusdist", "replay", "a", "b", "--main", "top", "c", "d"].as_slice(),
+            "top",
+        ),
+        (
+            ["lusdist", "replay", "a", "b", "c", "d", "--main", "top"].as_slice(),
+            "top",
+        ),
     ] {
-        let named = words(rt.alloc(), &all)?;
-        let request = parse(rt.alloc(), &named)?;
-        assert_eq!(rt; request.main, "top");
-        assert_eq!(rt; request.program, "a");
-        assert_eq!(rt; request.schedule, "d");
+        let words = words(rt.alloc(), all)?;
+        let request = parse(rt.alloc(), &words)?;
+        let wanted = ReplayRequest {
+            main,
+            program: "a",
+            place: "b",
+            table: "c",
+            schedule: "d",
+        };
+        assert_eq!(rt; request, Request::Replay(wanted));
+    }
+    Ok(())
+}
+
+#[test]
+fn check_is_asked_for(rt: HostRuntime) -> Result<(), Fail> {
+    for (all, main, program) in [
+        (["lusdist", "check", "a"].as_slice(), "main", "a"),
+        (["lusdist", "check", "replay"].as_slice(), "main", "replay"),
+        (
+            ["lusdist", "check", "--main", "top", "a"].as_slice(),
+            "top",
+            "a",
+        ),
+        (
+            ["lusdist", "check", "a", "--main", "top"].as_slice(),
+            "top",
+            "a",
+        ),
+    ] {
+        let words = words(rt.alloc(), all)?;
+        let request = parse(rt.alloc(), &words)?;
+        assert_eq!(rt; request, Request::Check(CheckRequest { main, program }));
     }
     Ok(())
 }
@@ -132,8 +163,13 @@ fn help_is_status_0_and_a_mistake_is_status_2(rt: HostRuntime) -> Result<(), Fai
         (["lusdist", "--help"].as_slice(), 0),
         (["lusdist", "help"].as_slice(), 0),
         (["lusdist", "replay", "--help"].as_slice(), 0),
+        (["lusdist", "check", "--help"].as_slice(), 0),
+        (["lusdist", "help", "check"].as_slice(), 0),
         (["lusdist"].as_slice(), 2),
-        (["lusdist", "check", "a"].as_slice(), 2),
+        (["lusdist", "check"].as_slice(), 2),
+        (["lusdist", "check", "a", "b"].as_slice(), 2),
+        (["lusdist", "check", "a", "--main"].as_slice(), 2),
+        (["lusdist", "help", "run"].as_slice(), 2),
         (["lusdist", "run", "a", "b", "c"].as_slice(), 2),
         (["lusdist", "replay", "a", "b", "c"].as_slice(), 2),
         (["lusdist", "replay", "a", "b", "c", "d", "e"].as_slice(), 2),

@@ -1,6 +1,5 @@
 -- The synchronous meaning of a program: which streams its equations allow. A program is a system of equations between
--- flows (Halbwachs, Caspi, Raymond, Pilaud 1991), and a call stands for the equations of the called node, which run where
--- the call's clock is true (Lustre V6 reference manual).
+-- flows, and a call stands for the equations of the called node, which run where the call's clock is true.
 use Rattle.std.specs.Prelude.{◌≡◌, ℕ, suc, ◌+◌, Bool, true, false, List, [], ◌∷◌, ◌++◌, map, Option, Some, None, pos, slice_get}
 use Rattle.lutree.specs.declared.expr.Prefix.TheVariants.{Data as Data1, Pre}
 use Rattle.lutree.specs.declared.expr.Infix.TheVariants.{Data as Data2, Arrow, FollowedBy}

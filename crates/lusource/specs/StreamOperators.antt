@@ -1,5 +1,5 @@
 -- The operators of Lustre on whole streams. Each result is absent where the clock is false, and broken where the clock or
--- a stream that it looks at is. (Lustre V6 reference manual; Halbwachs, Caspi, Raymond, Pilaud 1991.)
+-- a stream that it looks at is.
 use Rattle.std.specs.Prelude.{suc}
 use Rattle.lutree.specs.declared.expr.UnaryOperator.{UnaryOperator}
 use Rattle.lutree.specs.declared.expr.BinaryOperator.{BinaryOperator}

@@ -1,18 +1,22 @@
--- Worked programs, computed on the definitions.
-use Rattle.std.specs.Prelude.{◌≡◌, ℕ, List, [], ◌∷◌, pos, codes, None}
-use Rattle.lutree.specs.declared.program.Kind.TheVariants.{Int as Ints}
-use Rattle.lutree.specs.Tree.{NodeTree}
-use Rattle.luflow.specs.declared.data.Datum.TheVariants.{Int}
+-- Worked programs and expressions, computed on the definitions.
+use Rattle.std.specs.Prelude.{◌≡◌, ℕ, ◌+◌, Bool, true, false, List, [], ◌∷◌, map, pos, codes, Option, Some, None, slice_get, unwrap_or, if◌then◌else◌}
+use Rattle.std.specs.Str.{bytes_eq}
+use Rattle.lutree.specs.declared.expr.UnaryOperator.TheVariants.{Minus, Not}
+use Rattle.lutree.specs.declared.expr.BinaryOperator.TheVariants.{Add, Subtract, Less}
+use Rattle.lutree.specs.declared.expr.Prefix.TheVariants.{Data as Data1, Pre}
+use Rattle.lutree.specs.declared.expr.Infix.TheVariants.{Data as Data2, Arrow, FollowedBy}
+use Rattle.lutree.specs.declared.expr.Condition.{Condition}
+use Rattle.lutree.specs.declared.program.Kind.TheVariants.{Int as Ints, Bool as Truths}
+use Rattle.lutree.specs.Tree.{Tree, DeclarationTree, NodeTree, ProgramTree}
+use Rattle.lutree.specs.Tree as tree
+use Rattle.luflow.specs.declared.data.Datum.TheVariants.{Int, Bool as Truth, Nil}
+use Rattle.luflow.specs.declared.data.Status.{Status}
 use Rattle.luflow.specs.declared.data.Status.TheVariants.{Present, Absent}
-use Rattle.luflow.specs.Program.{Table}
 use Rattle.luflow.specs.Streams.{Mark, Known, Stream, base_clock}
 use Rattle.luflow.specs.Messages.{marks}
-use Rattle.lusource.specs.Source.{value}
+use Rattle.luflow.specs.Vectors.{known, known_truth, three, four_samples}
+use Rattle.lusource.specs.Source.{Named, Site, condition, value, output, sites, given_streams}
 use Rattle.lusource.specs.First.{Line, equation_of}
-
--- three instants, and no input
-abbrev pub three : Table
-three = record { instants = 3; columns = [] }
 
 -- node main() returns (a: int; b: int); let a = 0 -> pre b + 1; b = 0 -> pre a + 1; tel
 abbrev pub a_line : Line
@@ -33,21 +37,139 @@ two_counters =
 
 -- 0 1 2 and so on
 abbrev pub counting : Stream
-counting t = Known (Present (Int (pos t)))
-
-abbrev pub int_marks : List ℕ → List Mark
-int_marks [] = []
-int_marks (n ∷ ns) = Known (Present (Int (pos n))) ∷ int_marks ns
+counting t = known t
 
 -- the right side of a line's equation, where all variables count
 abbrev pub right_of : Line → Stream
 right_of line = value (two_counters ∷ []) two_counters (base_clock three) (λ x. counting) (λ i x. counting) (equation_of line).right None 0
 
-pub record HasVectors : Type 0 where
-  -- both sides of each equation of the two counters are 0 1 2, and absent from then on
-  pub a_counts : marks (right_of a_line) 3 ≡ int_marks (0 ∷ 1 ∷ 2 ∷ [])
-  pub b_counts : marks (right_of b_line) 3 ≡ int_marks (0 ∷ 1 ∷ 2 ∷ [])
+-- the right sides of both equations of the two counters are 0 1 2, and absent from then on
+pub record CountersAre : Type 0 where
+  pub a_counts : marks (right_of a_line) 3 ≡ map known (0 ∷ 1 ∷ 2 ∷ [])
+  pub b_counts : marks (right_of b_line) 3 ≡ map known (0 ∷ 1 ∷ 2 ∷ [])
   pub a_ends : right_of a_line 3 ≡ Known Absent
 
-abbrev pub VectorsLaw : Type 0
-VectorsLaw = HasVectors
+-- x and c on the base clock, s where c is true, and u where it is false
+abbrev pub int_on : Option Condition → List ℕ → DeclarationTree
+int_on clock name = record { name = name; kind = Ints; clock = clock }
+
+abbrev pub where_c : Bool → Option Condition
+where_c = condition (codes "c")
+
+abbrev pub sampler : NodeTree
+sampler =
+    record {
+      name = codes "main";
+      inputs =
+          int_on None (codes "x") ∷ record { name = codes "c"; kind = Truths; clock = None }
+          ∷ int_on (where_c true) (codes "s") ∷ int_on (where_c false) (codes "u") ∷ [];
+      outputs = [];
+      locals = [];
+      equations = [];
+    }
+
+-- a node with two outputs, and one with one
+abbrev pub pair : NodeTree
+pair = record { name = codes "pair"; inputs = []; outputs = int_on None (codes "p") ∷ int_on None (codes "q") ∷ []; locals = []; equations = [] }
+
+abbrev pub single : NodeTree
+single = record { name = codes "single"; inputs = []; outputs = int_on None (codes "p") ∷ []; locals = []; equations = [] }
+
+abbrev pub three_nodes : ProgramTree
+three_nodes = sampler ∷ pair ∷ single ∷ []
+
+abbrev pub told : List Status → Stream
+told xs t = Known (unwrap_or (slice_get xs t) Absent)
+
+abbrev pub present : ℕ → Status
+present n = Present (Int (pos n))
+
+-- x is 1 2 3 4, and c is true, false, true, true
+abbrev pub samples : Named
+samples name =
+    if bytes_eq name (codes "x") then told (present 1 ∷ present 2 ∷ present 3 ∷ present 4 ∷ [])
+    else if bytes_eq name (codes "c") then told (map (λ b. Present (Truth b)) (true ∷ false ∷ true ∷ true ∷ []))
+    else if bytes_eq name (codes "s") then told (present 1 ∷ Absent ∷ present 3 ∷ present 4 ∷ [])
+    else told (Absent ∷ present 2 ∷ Absent ∷ Absent ∷ [])
+
+-- in the instance of call i, variable p is 10 + i, and every other is 20 + i
+abbrev pub instances : ℕ → Named
+instances i name t = known ((if bytes_eq name (codes "p") then 10 else 20) + i)
+
+-- the marks of an expression at four instants, on a clock
+abbrev pub gives : Tree → Option Condition → List Mark
+gives e k = marks (value three_nodes sampler (base_clock four_samples) samples instances e k 0) 4
+
+abbrev pub x : Tree
+x = tree.variable (codes "x")
+
+abbrev pub c : Tree
+c = tree.variable (codes "c")
+
+abbrev pub s : Tree
+s = tree.variable (codes "s")
+
+-- where c is true
+abbrev pub sampled : Mark → Mark → Mark → List Mark
+sampled first third fourth = first ∷ Known Absent ∷ third ∷ fourth ∷ []
+
+pub record ExpressionsAre : Type 0 where
+  pub numbers : gives (tree.number 7) (where_c true) ≡ sampled (known 7) (known 7) (known 7)
+  pub numbers_elsewhere : gives (tree.number 7) (where_c false) ≡ Known Absent ∷ known 7 ∷ Known Absent ∷ Known Absent ∷ []
+  pub truths : gives (tree.truth false) (where_c true) ≡ sampled (known_truth false) (known_truth false) (known_truth false)
+  pub variables : gives s (where_c true) ≡ sampled (known 1) (known 3) (known 4)
+  -- - x + 5, not c, x - 1
+  pub minus : gives (tree.binary (Data2 Add) (tree.unary (Data1 Minus) x) (tree.number 5)) None ≡ map known (4 ∷ 3 ∷ 2 ∷ 1 ∷ [])
+  pub negation : gives (tree.unary (Data1 Not) c) None ≡ map known_truth (false ∷ true ∷ false ∷ false ∷ [])
+  pub difference : gives (tree.binary (Data2 Subtract) x (tree.number 1)) None ≡ map known (0 ∷ 1 ∷ 2 ∷ 3 ∷ [])
+  -- pre s, 9 -> s and 9 fby s look at the instants at which c is true
+  pub previous : gives (tree.unary Pre s) (where_c true) ≡ sampled (Known (Present Nil)) (known 1) (known 3)
+  pub arrow : gives (tree.binary Arrow (tree.number 9) s) (where_c true) ≡ sampled (known 9) (known 3) (known 4)
+  pub followed : gives (tree.binary FollowedBy (tree.number 9) s) (where_c true) ≡ sampled (known 9) (known 1) (known 3)
+  -- if c then x else 9
+  pub choice : gives (tree.choice c x (tree.number 9)) None ≡ map known (1 ∷ 9 ∷ 3 ∷ 4 ∷ [])
+  -- x when c, (x - 1) when not c
+  pub sample : gives (tree.when x (record { variable = codes "c"; sign = true })) (where_c true) ≡ sampled (known 1) (known 3) (known 4)
+  pub sample_elsewhere : gives (tree.when (tree.binary (Data2 Subtract) x (tree.number 1)) (record { variable = codes "c"; sign = false })) (where_c false) ≡ Known Absent ∷ known 1 ∷ Known Absent ∷ Known Absent ∷ []
+  -- current s and current u hold the last value, and nil before the first
+  pub held : gives (tree.current (codes "s")) None ≡ map known (1 ∷ 1 ∷ 3 ∷ 4 ∷ [])
+  pub held_later : gives (tree.current (codes "u")) None ≡ Known (Present Nil) ∷ known 2 ∷ known 2 ∷ known 2 ∷ []
+  -- merge c (true -> s) (false -> 9)
+  pub merged : gives (tree.merge (codes "c") s (tree.number 9)) None ≡ map known (1 ∷ 9 ∷ 3 ∷ 4 ∷ [])
+
+abbrev pub call_of : List ℕ → Tree → Tree
+call_of f e = tree.call f (tree.more e tree.none)
+
+-- pair(single(x)), and pair(x) < pair(x)
+abbrev pub nested : Tree
+nested = call_of (codes "pair") (call_of (codes "single") x)
+
+abbrev pub compared : Tree
+compared = tree.binary (Data2 Less) (call_of (codes "pair") x) (call_of (codes "pair") x)
+
+abbrev pub sites_of_nested : Option Condition → List Site
+sites_of_nested k = sites three_nodes sampler (base_clock four_samples) samples instances nested k 0
+
+-- the streams that a call is given, at four instants
+abbrev pub given_marks : Site → List (List Mark)
+given_marks site = map (λ a. marks a 4) site.arguments
+
+pub record CallsAre : Type 0 where
+  -- the inner call has number 0, and the outer one number 1
+  pub number_of_outer : gives nested None ≡ map known (11 ∷ 11 ∷ 11 ∷ 11 ∷ [])
+  pub second_output : marks (output three_nodes sampler (base_clock four_samples) samples instances nested None 0 1) 4 ≡ map known (21 ∷ 21 ∷ 21 ∷ 21 ∷ [])
+  pub left_is_first : gives compared None ≡ map known_truth (true ∷ true ∷ true ∷ true ∷ [])
+  pub nodes : map (λ (site : Site). site.node) (sites_of_nested None) ≡ codes "single" ∷ codes "pair" ∷ []
+  pub arguments : map given_marks (sites_of_nested None) ≡ (map known (1 ∷ 2 ∷ 3 ∷ 4 ∷ []) ∷ []) ∷ (map known (10 ∷ 10 ∷ 10 ∷ 10 ∷ []) ∷ []) ∷ []
+  -- both run where c is true
+  pub clocks : map (λ (site : Site). map site.base (0 ∷ 1 ∷ [])) (sites_of_nested (where_c true)) ≡ (Some true ∷ Some false ∷ []) ∷ (Some true ∷ Some false ∷ []) ∷ []
+
+-- the main node is given the table's columns, and nothing after them
+pub record GivenAre : Type 0 where
+  pub columns : map (λ a. marks a 5) (given_streams four_samples) ≡ (known 1 ∷ known 2 ∷ known 3 ∷ known 4 ∷ Known Absent ∷ []) ∷ (known_truth true ∷ known_truth false ∷ known_truth true ∷ known_truth true ∷ Known Absent ∷ []) ∷ []
+
+pub record VectorsLaw : Type 0 where
+  pub counters : CountersAre
+  pub expressions : ExpressionsAre
+  pub calls : CallsAre
+  pub given : GivenAre

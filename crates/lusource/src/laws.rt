@@ -3,7 +3,8 @@
 ghost use Rattle.lusource.specs.Agreement.{OneMeaningLaw};
 ghost use Rattle.lusource.specs.Vectors.{VectorsLaw};
 
-/// The right sides of two counters that count each other, where both count from 0, are 0 1 2 at three instants.
+/// Worked expressions of all forms, on the base clock and on slower ones; calls, with their numbers, nodes, clocks and
+/// arguments; the right sides of two counters that count each other; and what a table gives the main node.
 pub fn vectors_law()
     ensures { VectorsLaw }
 {}

@@ -3,7 +3,8 @@
 //! - `specs/Source.antt`: the synchronous solutions of a program, for the whole language.
 //! - `specs/Agreement.antt`: when a flat program means what its source means.
 //! - `specs/First.antt`: which programs are accepted now.
-//! - [`laws`]: worked programs.
+//! - `specs/Vectors.antt`: worked programs and expressions.
+//! - [`laws`]: those, and that a program has one meaning where it agrees with a flat program.
 #![tactic(auto)]
 
 pub mod laws;

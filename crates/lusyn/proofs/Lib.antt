@@ -1,5 +1,2 @@
-pub mod Loops
-pub mod Tables
-pub mod Sound
-pub mod Complete
+pub mod Again
 pub mod Whole

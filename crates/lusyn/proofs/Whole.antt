@@ -1,76 +1,191 @@
--- All of the tokens are read, or nothing is; and from the tokens to the text.
-use Rattle.std.proofs.Common.{◌≡◌, ℕ, List, [], ◌∷◌, Some, Result, Ok, Err, IfOk, refl, ap, sym, ◌∙◌, subst}
-use Rattle.lutree.specs.Tree.{ProgramTree}
-use Rattle.lusyn.specs.declared.error.SynError.{SynError}
-use Rattle.lusyn.specs.declared.error.SynError.TheVariants as errors
+-- From the answers of the lexer and of the parser to that of the reader.
+use Rattle.std.proofs.Common.{◌≡◌, ◌⊎◌, inl, inr, ◌≤◌, ◌<◌, ℕ, length, List, map, Result, Ok, Err, IfOk, refl, ap, sym, ◌∙◌, subst, arith}
+use Rattle.std.specs.Result.{IfErr}
+use Rattle.std.proofs.lemmas.List.{length-map}
+use Rattle.lutree.specs.Tree.{ProgramTree, program_view, node_view}
+use Rattle.lutree.specs.declared.program.Program.{Program}
 use Rattle.lutoken.specs.declared.token.Lexeme.{Lexeme}
-use Rattle.lutoken.specs.Tokens.{Tok, tok, toks, located}
-use Rattle.lusyn.specs.Grammar.{Spells}
-use Rattle.lusyn.specs.Reading.{all_of}
+use Rattle.lutoken.specs.Tokens.{toks, located}
 use Rattle.lulex.specs.declared.error.LexError.{LexError}
-use Rattle.lulex.specs.declared.error.LexError.TheVariants as lexing
+use Rattle.lulex.specs.declared.error.LexError.TheVariants as l
 use Rattle.lulex.specs.Gives.{Lexes}
-use Rattle.lulex.specs.Scanning.{Lexed}
 use Rattle.lulex.specs.Lexing.{Placed}
 use Rattle.lulex.specs.Refusals.{IsLexed}
-use Rattle.lusyn.specs.Gives.{Gives, Refuses, refusal}
-use Rattle.lusyn.specs.Texts.{SpellsText, unplaced}
-use Rattle.lusyn.proofs.Sound.{all_of-spells}
-use Rattle.lusyn.proofs.Complete.{all_of-again}
+use Rattle.lulex.specs.Refusals as lexing
+use Rattle.lugrammar.specs.Grammar.{Spells}
+use Rattle.luparse.specs.declared.error.ParseError.{ParseError}
+use Rattle.luparse.specs.declared.error.ParseError.TheVariants as p
+use Rattle.luparse.specs.Refused.{IsWrongFrom, IsRefusedAt, unplaced}
+use Rattle.luparse.specs.Refused as parsing
+use Rattle.luparse.proofs.Whole.{toks-located}
+use Rattle.lusyn.specs.declared.error.SynError.{SynError}
+use Rattle.lusyn.specs.declared.error.SynError.TheVariants as e
+use Rattle.lusyn.specs.Gives.{IsAnswered, Refuses, refusal, syntax_refusal}
+use Rattle.lusyn.specs.Refusals.{IsRefused}
+use Rattle.lusyn.specs.Texts.{HasProgram, SpellsText}
 
-pub Gives-spelled : {X : Type 0} (view : X → ProgramTree) (r : Result X SynError) (ts : List Tok) → Gives view r (all_of ts) → IfOk r (λ x. Spells ts (view x))
-Gives-spelled view (Ok x) ts h = all_of-spells ts (view x) h
-Gives-spelled view (Err error) ts h = tt
+-- ---- the lexer refuses
 
-pub Gives-only : {X : Type 0} (view : X → ProgramTree) (r : Result X SynError) (ts : List Tok) (found : ProgramTree) → Gives view r (all_of ts) → Spells ts found → Gives view r (Some found)
-Gives-only view (Ok x) ts found h s = sym (all_of-again ts found s) ∙ h
-Gives-only view (Err errors.OutOfMemory) ts found h s = tt
-Gives-only view (Err _) ts found h s = sym (all_of-again ts found s) ∙ h
+module _ {Y : Type 0} (seen : Y → List Lexeme) (text : List ℕ) where
+  without_tokens : (told : LexError) (error : SynError) (ts : List Placed) → Lexes {X = Y} seen (Err told) (Ok ts) → Refuses (Err (refusal told)) error
+  without_tokens l.OutOfMemory error ts h = tt
+  without_tokens l.TooLong error ts h = absurd cc
+  without_tokens l.NotAscii error ts h = absurd cc
+  without_tokens (l.NoToken byte) error ts h = absurd cc
+  without_tokens (l.NumberTooLarge byte) error ts h = absurd cc
+  without_tokens (l.LongRun byte) error ts h = absurd cc
 
-toks-located : (ls : List Lexeme) → unplaced (located ls) ≡ toks ls
-toks-located [] = refl
-toks-located (l ∷ ls) = ap (λ (ts : List Tok). tok l.token ∷ ts) (toks-located ls)
+  Err-same : (told error : LexError) (r : Result (List Placed) LexError) → r ≡ Err told → r ≡ Err error → told ≡ error
+  Err-same told error r h k = cc
+
+  same_refusal : (told error : LexError) → Lexes {X = Y} seen (Err told) (Err error) → Refuses (Err (refusal told)) (refusal error)
+  same_refusal l.OutOfMemory error h = tt
+  same_refusal l.TooLong error h = ap refusal (Err-same l.TooLong error (Err error) h refl)
+  same_refusal l.NotAscii error h = ap refusal (Err-same l.NotAscii error (Err error) h refl)
+  same_refusal (l.NoToken byte) error h = ap refusal (Err-same (l.NoToken byte) error (Err error) h refl)
+  same_refusal (l.NumberTooLarge byte) error h = ap refusal (Err-same (l.NumberTooLarge byte) error (Err error) h refl)
+  same_refusal (l.LongRun byte) error h = ap refusal (Err-same (l.LongRun byte) error (Err error) h refl)
+
+  not_answered : (told : LexError) (tree : ProgramTree) (ts : List Placed) → Lexes {X = Y} seen (Err told) (Ok ts) → IsAnswered (Err (refusal told)) tree
+  not_answered l.OutOfMemory tree ts h = tt
+  not_answered l.TooLong tree ts h = absurd cc
+  not_answered l.NotAscii tree ts h = absurd cc
+  not_answered (l.NoToken byte) tree ts h = absurd cc
+  not_answered (l.NumberTooLarge byte) tree ts h = absurd cc
+  not_answered (l.LongRun byte) tree ts h = absurd cc
+
+  pub lexer-only : (told : LexError) (tree : ProgramTree) → ((ts : List Placed) → IsLexed text ts → Lexes {X = Y} seen (Err told) (Ok ts))
+      → SpellsText text tree → IsAnswered (Err (refusal told)) tree
+  lexer-only told tree only ((ts, lexed, s), few) = not_answered told tree ts (only ts lexed)
+
+  pub lexer-refuses : (told : LexError) (error : SynError) → ((ts : List Placed) → IsLexed text ts → Lexes {X = Y} seen (Err told) (Ok ts))
+      → ((other : LexError) → lexing.IsRefused text other → Lexes {X = Y} seen (Err told) (Err other)) → IsRefused text error → Refuses (Err (refusal told)) error
+  lexer-refuses told e.TooLong only refuses (inl h) = same_refusal told l.TooLong (refuses l.TooLong h)
+  lexer-refuses told e.TooLong only refuses (inr (found, (ts, lexed, s), many)) = without_tokens told e.TooLong ts (only ts lexed)
+  lexer-refuses told e.NotAscii only refuses h = same_refusal told l.NotAscii (refuses l.NotAscii h)
+  lexer-refuses told (e.Syntax byte) only refuses (inl h) = same_refusal told (l.NoToken byte) (refuses (l.NoToken byte) h)
+  lexer-refuses told (e.Syntax byte) only refuses (inr (ts, lexed, wrong)) = without_tokens told (e.Syntax byte) ts (only ts lexed)
+  lexer-refuses told (e.NumberTooLarge byte) only refuses h = same_refusal told (l.NumberTooLarge byte) (refuses (l.NumberTooLarge byte) h)
+  lexer-refuses told (e.LongRun byte) only refuses h = same_refusal told (l.LongRun byte) (refuses (l.LongRun byte) h)
+  lexer-refuses told e.OutOfMemory only refuses h = absurd h
+
+pub lexer-refused : (text : List ℕ) (told : LexError) → (told ≡ l.OutOfMemory) ⊎ lexing.IsRefused text told → (refusal told ≡ e.OutOfMemory) ⊎ IsRefused text (refusal told)
+lexer-refused text told (inl h) = inl (ap refusal h)
+lexer-refused text l.TooLong (inr h) = inr (inl h)
+lexer-refused text l.NotAscii (inr h) = inr h
+lexer-refused text (l.NoToken byte) (inr h) = inr (inl h)
+lexer-refused text (l.NumberTooLarge byte) (inr h) = inr h
+lexer-refused text (l.LongRun byte) (inr h) = inr h
+lexer-refused text l.OutOfMemory (inr h) = inl refl
+
+-- ---- the lexer gives tokens
+
+-- these are the tokens of the text, and the lexer refuses nothing of it
+pub record Scanned (text : List ℕ) (ls : List Lexeme) : Type 0 where
+  pub lexed : IsLexed text (located ls)
+  pub only : (ts : List Placed) → IsLexed text ts → ts ≡ located ls
+  pub fine : (error : LexError) → lexing.IsRefused text error → ⊥
 
 Ok-same : {Y : Type 0} (seen : Y → List Lexeme) (y : Y) (ts : List Placed) → Lexes seen (Ok y) (Ok ts) → ts ≡ located (seen y)
-Ok-same seen y ts e = cc
+Ok-same seen y ts h = cc
 
--- what the tokens of a text spell, the text spells
-pub IfOk-spelled : {X : Type 0} (view : X → ProgramTree) (r : Result X SynError) (text : List ℕ) (ls ms : List Lexeme) → ls ≡ ms
-    → IsLexed text (located ms) → IfOk r (λ x. Spells (toks ls) (view x)) → IfOk r (λ x. SpellsText text (view x))
-IfOk-spelled view (Ok x) text ls ms same lexed h =
-    let P : List Tok → Type 0 = λ ts. Spells ts (view x) in
-    (located ms, lexed, subst P (ap toks same ∙ sym (toks-located ms)) h)
-IfOk-spelled view (Err error) text ls ms same lexed h = tt
+Ok-fine : {Y : Type 0} (seen : Y → List Lexeme) (y : Y) (error : LexError) → Lexes seen (Ok y) (Err error) → ⊥
+Ok-fine seen y error h = absurd cc
 
--- what a text spells, its tokens spell
-pub Spells-at : {Y : Type 0} (seen : Y → List Lexeme) (y : Y) (text : List ℕ) (ls : List Lexeme) (t : ProgramTree) → ls ≡ seen y
-    → ((ts : List Placed) → IsLexed text ts → Lexes seen (Ok y) (Ok ts)) → SpellsText text t → Spells (toks ls) t
-Spells-at seen y text ls t same only (ts, lexed, s) =
-    let e : ts ≡ located (seen y) = Ok-same seen y ts (only ts lexed) in
-    let P : List Tok → Type 0 = λ us. Spells us t in
-    subst P (ap unplaced e ∙ toks-located (seen y) ∙ ap toks (sym same)) s
+pub scanned : {Y : Type 0} (seen : Y → List Lexeme) (y : Y) (text : List ℕ) (ls : List Lexeme) → ls ≡ seen y → IsLexed text (located (seen y))
+    → ((ts : List Placed) → IsLexed text ts → Lexes seen (Ok y) (Ok ts)) → ((error : LexError) → lexing.IsRefused text error → Lexes seen (Ok y) (Err error)) → Scanned text ls
+scanned seen y text ls same lexed only refuses =
+    let P : List Lexeme → Type 0 = λ ms. IsLexed text (located ms) in
+    record {
+      lexed = subst P (sym same) lexed;
+      only = λ ts h. Ok-same seen y ts (only ts h) ∙ ap located (sym same);
+      fine = λ error h. Ok-fine seen y error (refuses error h);
+    }
 
-Err-same : (a b : LexError) (l : Lexed) → l ≡ Err a → l ≡ Err b → b ≡ a
-Err-same a b l e h = cc
+spelled-at : (text : List ℕ) (ls : List Lexeme) (ts : List Placed) (tree : ProgramTree) → Scanned text ls → IsLexed text ts → Spells (unplaced ts) tree → Spells (toks ls) tree
+spelled-at text ls ts tree h lexed s = let P : List _ → Type 0 = λ us. Spells us tree in subst P (ap unplaced (h.only ts lexed) ∙ toks-located ls) s
 
--- a refusal of the lexer goes with want of memory alone or with the same refusal
-pub Gives-without_tokens : {X Y : Type 0} (view : X → ProgramTree) (seen : Y → List Lexeme) (text : List ℕ) (t : ProgramTree) (error : LexError)
-    → ((ts : List Placed) → IsLexed text ts → Lexes {X = Y} seen (Err error) (Ok ts)) → SpellsText text t → Gives {X = X} view (Err (refusal error)) (Some t)
-Gives-without_tokens view seen text t lexing.OutOfMemory only spelled = tt
-Gives-without_tokens view seen text t lexing.TooLong only (ts, lexed, s) = let no = only ts lexed in absurd cc
-Gives-without_tokens view seen text t lexing.NotAscii only (ts, lexed, s) = let no = only ts lexed in absurd cc
-Gives-without_tokens view seen text t (lexing.NoToken byte) only (ts, lexed, s) = let no = only ts lexed in absurd cc
-Gives-without_tokens view seen text t (lexing.NumberTooLarge byte) only (ts, lexed, s) = let no = only ts lexed in absurd cc
-Gives-without_tokens view seen text t (lexing.LongRun byte) only (ts, lexed, s) = let no = only ts lexed in absurd cc
+wrong-from : (text : List ℕ) (ls : List Lexeme) (ts : List Placed) (end byte : ℕ) → Scanned text ls → IsLexed text ts → IsWrongFrom ts end byte → IsWrongFrom (located ls) end byte
+wrong-from text ls ts end byte h lexed s = let P : List Placed → Type 0 = λ us. IsWrongFrom us end byte in subst P (h.only ts lexed) s
 
-pub Refuses-without_tokens : (X : Type 0) {Y : Type 0} (seen : Y → List Lexeme) (error found : LexError) → Lexes {X = Y} seen (Err found) (Err error) → Refuses {X = X} (Err (refusal found)) (refusal error)
-Refuses-without_tokens X seen error lexing.OutOfMemory h = tt
-Refuses-without_tokens X seen error lexing.TooLong h = ap refusal (Err-same error lexing.TooLong (Err error) refl h)
-Refuses-without_tokens X seen error lexing.NotAscii h = ap refusal (Err-same error lexing.NotAscii (Err error) refl h)
-Refuses-without_tokens X seen error (lexing.NoToken byte) h = ap refusal (Err-same error (lexing.NoToken byte) (Err error) refl h)
-Refuses-without_tokens X seen error (lexing.NumberTooLarge byte) h = ap refusal (Err-same error (lexing.NumberTooLarge byte) (Err error) refl h)
-Refuses-without_tokens X seen error (lexing.LongRun byte) h = ap refusal (Err-same error (lexing.LongRun byte) (Err error) refl h)
+has-program : (text : List ℕ) (ls : List Lexeme) (tree : ProgramTree) → Scanned text ls → Spells (toks ls) tree → HasProgram text tree
+has-program text ls tree h s = let P : List _ → Type 0 = λ us. Spells us tree in (located ls, h.lexed, subst P (sym (toks-located ls)) s)
 
--- a text with tokens is not refused by the lexer
-pub Refuses-with_tokens : {X Y : Type 0} (seen : Y → List Lexeme) (error : LexError) (y : Y) (r : Result X SynError) → Lexes seen (Ok y) (Err error) → Refuses r (refusal error)
-Refuses-with_tokens seen error y r h = absurd cc
+-- ---- the parser refuses
+
+abbrev ParsesOnly : List Lexeme → Result Program ParseError → Type 0
+ParsesOnly ls r = (tree : ProgramTree) → Spells (toks ls) tree → parsing.IsAnswered r tree
+
+abbrev ParserRefuses : List Lexeme → ℕ → Result Program ParseError → Type 0
+ParserRefuses ls end r = (byte : ℕ) → IsWrongFrom (located ls) end byte → IsRefusedAt r byte
+
+refused_tree : (told : ParseError) (tree : ProgramTree) → parsing.IsAnswered (Err told) tree → IsAnswered (Err (syntax_refusal told)) tree
+refused_tree (p.Syntax byte) tree h = absurd h
+refused_tree p.OutOfMemory tree h = tt
+
+refused_many : (told : ParseError) (tree : ProgramTree) (error : SynError) → parsing.IsAnswered (Err told) tree → Refuses (Err (syntax_refusal told)) error
+refused_many (p.Syntax byte) tree error h = absurd h
+refused_many p.OutOfMemory tree error h = tt
+
+refused_byte : (told : ParseError) (byte : ℕ) → IsRefusedAt (Err told) byte → Refuses (Err (syntax_refusal told)) (e.Syntax byte)
+refused_byte (p.Syntax other) byte h = ap e.Syntax (sym h)
+refused_byte p.OutOfMemory byte h = tt
+
+pub parser-only : (text : List ℕ) (ls : List Lexeme) (told : ParseError) (tree : ProgramTree) → Scanned text ls → ParsesOnly ls (Err told)
+    → SpellsText text tree → IsAnswered (Err (syntax_refusal told)) tree
+parser-only text ls told tree h only ((ts, lexed, s), few) = refused_tree told tree (only tree (spelled-at text ls ts tree h lexed s))
+
+pub parser-refused : (text : List ℕ) (ls : List Lexeme) (told : ParseError) → Scanned text ls → parsing.IsRefused (located ls) (length text) told
+    → (syntax_refusal told ≡ e.OutOfMemory) ⊎ IsRefused text (syntax_refusal told)
+parser-refused text ls (p.Syntax byte) h wrong = inr (inr (located ls, h.lexed, wrong))
+parser-refused text ls p.OutOfMemory h wrong = inl refl
+
+pub parser-refuses : (text : List ℕ) (ls : List Lexeme) (told : ParseError) (error : SynError) → Scanned text ls → ParsesOnly ls (Err told) → ParserRefuses ls (length text) (Err told)
+    → IsRefused text error → Refuses (Err (syntax_refusal told)) error
+parser-refuses text ls told e.TooLong h only refuses (inl r) = absurd (h.fine l.TooLong r)
+parser-refuses text ls told e.TooLong h only refuses (inr (found, (ts, lexed, s), many)) = refused_many told found e.TooLong (only found (spelled-at text ls ts found h lexed s))
+parser-refuses text ls told e.NotAscii h only refuses r = absurd (h.fine l.NotAscii r)
+parser-refuses text ls told (e.Syntax byte) h only refuses (inl r) = absurd (h.fine (l.NoToken byte) r)
+parser-refuses text ls told (e.Syntax byte) h only refuses (inr (ts, lexed, wrong)) = refused_byte told byte (refuses byte (wrong-from text ls ts (length text) byte h lexed wrong))
+parser-refuses text ls told (e.NumberTooLarge byte) h only refuses r = absurd (h.fine (l.NumberTooLarge byte) r)
+parser-refuses text ls told (e.LongRun byte) h only refuses r = absurd (h.fine (l.LongRun byte) r)
+parser-refuses text ls told e.OutOfMemory h only refuses r = absurd r
+
+-- ---- the parser gives a program
+
+nodes-seen : (found : Program) → length (program_view found) ≡ length found.nodes
+nodes-seen found = length-map found.nodes node_view
+
+pub many-only : (text : List ℕ) (ls : List Lexeme) (found : Program) (tree : ProgramTree) → Scanned text ls → ParsesOnly ls (Ok found) → 256 < length found.nodes
+    → SpellsText text tree → ⊥
+many-only text ls found tree h only many ((ts, lexed, s), few) =
+    let same = ap length (only tree (spelled-at text ls ts tree h lexed s)) ∙ nodes-seen found in
+    omega (arith, same, few, many)
+
+pub many-refused : (text : List ℕ) (ls : List Lexeme) (found : Program) → Scanned text ls → Spells (toks ls) (program_view found) → 256 < length found.nodes
+    → (e.TooLong ≡ e.OutOfMemory) ⊎ IsRefused text e.TooLong
+many-refused text ls found h s many =
+    let seen = nodes-seen found in
+    inr (inr (program_view found, has-program text ls (program_view found) h s, omega (arith, seen, many)))
+
+-- what is true of a text that spells a program
+pub found-refuses : (text : List ℕ) (ls : List Lexeme) (found : Program) (error : SynError) → Scanned text ls → ParsesOnly ls (Ok found) → ParserRefuses ls (length text) (Ok found)
+    → IsRefused text error → (error ≡ e.TooLong) × (256 < length found.nodes)
+found-refuses text ls found e.TooLong h only refuses (inl r) = absurd (h.fine l.TooLong r)
+found-refuses text ls found e.TooLong h only refuses (inr (other, (ts, lexed, s), many)) =
+    let same = ap length (only other (spelled-at text ls ts other h lexed s)) ∙ nodes-seen found in
+    (refl, omega (arith, same, many))
+found-refuses text ls found e.NotAscii h only refuses r = absurd (h.fine l.NotAscii r)
+found-refuses text ls found (e.Syntax byte) h only refuses (inl r) = absurd (h.fine (l.NoToken byte) r)
+found-refuses text ls found (e.Syntax byte) h only refuses (inr (ts, lexed, wrong)) = absurd (refuses byte (wrong-from text ls ts (length text) byte h lexed wrong))
+found-refuses text ls found (e.NumberTooLarge byte) h only refuses r = absurd (h.fine (l.NumberTooLarge byte) r)
+found-refuses text ls found (e.LongRun byte) h only refuses r = absurd (h.fine (l.LongRun byte) r)
+found-refuses text ls found e.OutOfMemory h only refuses r = absurd r
+
+pub few-spelled : (text : List ℕ) (ls : List Lexeme) (found : Program) → Scanned text ls → Spells (toks ls) (program_view found) → length found.nodes ≤ 256 → SpellsText text (program_view found)
+few-spelled text ls found h s few =
+    let seen = nodes-seen found in
+    (has-program text ls (program_view found) h s, omega (arith, seen, few))
+
+pub few-only : (text : List ℕ) (ls : List Lexeme) (found : Program) (tree : ProgramTree) → Scanned text ls → ParsesOnly ls (Ok found) → SpellsText text tree → tree ≡ program_view found
+few-only text ls found tree h only ((ts, lexed, s), few) = only tree (spelled-at text ls ts tree h lexed s)

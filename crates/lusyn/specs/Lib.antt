@@ -1,4 +1,3 @@
-pub mod Grammar
-pub mod Texts
-pub mod Reading
 pub mod Gives
+pub mod Refusals
+pub mod Texts

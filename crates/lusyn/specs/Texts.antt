@@ -1,15 +1,19 @@
 -- Which text spells which program.
-use Rattle.std.specs.Prelude.{ℕ, List, map}
+use Rattle.std.specs.Prelude.{ℕ, ◌≤◌, List, length}
 use Rattle.lutree.specs.Tree.{ProgramTree}
-use Rattle.lutoken.specs.Tokens.{Tok}
 use Rattle.lulex.specs.Lexing.{Placed}
 use Rattle.lulex.specs.Refusals.{IsLexed}
-use Rattle.lusyn.specs.Grammar.{Spells}
+use Rattle.lugrammar.specs.Grammar.{Spells}
+use Rattle.luparse.specs.Refused.{unplaced}
 
--- tokens without their places
-abbrev pub unplaced : List Placed → List Tok
-unplaced = map (λ x. x.1)
+-- a text that is accepted as tokens, which spell the program
+abbrev pub HasProgram : List ℕ → ProgramTree → Type 0
+HasProgram text found = (ts : List Placed) × IsLexed text ts × Spells (unplaced ts) found
 
--- a text that is accepted, whose tokens spell the program
+-- and the program has at most 256 nodes
 abbrev pub SpellsText : List ℕ → ProgramTree → Type 0
-SpellsText text found = (ts : List Placed) × IsLexed text ts × Spells (unplaced ts) found
+SpellsText text found = HasProgram text found × (length found ≤ 256)
+
+-- This text spells the program again, if some text spells it and this one isn't longer than a text may be.
+abbrev pub IsReadBack : List ℕ → ProgramTree → Type 0
+IsReadBack text found = (source : List ℕ) → SpellsText source found → length text ≤ 1048576 → SpellsText text found

@@ -1,6 +1,7 @@
 //! Why a text is refused.
 
 use lulex::LexError;
+use luparse::ParseError;
 use std::alloc::{AllocError, AllocFailed};
 use thiserror::Error;
 
@@ -17,7 +18,7 @@ pub enum SynError {
     /// A byte is above 127.
     #[error("E03 NotAscii")]
     NotAscii,
-    /// The text has more than 1,048,576 bytes.
+    /// The text has more than 1,048,576 bytes, or its program has more than 256 nodes.
     #[error("E04 TooLong")]
     TooLong,
     /// The token at this byte is the first one with 1,000 others of its run before it. A run's tokens are those before
@@ -65,6 +66,20 @@ impl From<LexError> for SynError {
             LexError::NumberTooLarge { byte } => SynError::NumberTooLarge { byte },
             LexError::LongRun { byte } => SynError::LongRun { byte },
             LexError::OutOfMemory => SynError::OutOfMemory,
+        }
+    }
+}
+
+impl From<ParseError> for SynError {
+    ghost use Rattle.std.specs.Prelude.{◌≡◌};
+    ghost use Rattle.lusyn.specs.Gives.{syntax_refusal};
+
+    ghost from_gives = { λ error e. e ≡ syntax_refusal error };
+
+    fn from(error: ParseError) -> Self {
+        match error {
+            ParseError::Syntax { byte } => SynError::Syntax { byte },
+            ParseError::OutOfMemory => SynError::OutOfMemory,
         }
     }
 }

@@ -1,22 +1,27 @@
-//! The reader: from a text to the syntax tree that it spells.
+//! The reader: from a text to the syntax tree that it spells, and back.
 //!
-//! [`read_program`] reads a text, or tells by a [`SynError`] where it stops to be one of a program. For now it reads the
-//! programs of the first language: one node without inputs, whose variables are all `int` on the base clock and whose
-//! equations are all of the form `v = 0 -> pre w + 1`. Every other text is refused.
+//! [`read_program`] reads a text of the whole language, or tells by a [`SynError`] why it spells no program. [`print_program`]
+//! gives the canonical text of a program, which is read back as the same program.
 //!
-//! Crate `lulex` cuts the text into tokens.
+//! Crate `lulex` cuts the text into tokens, crate `luparse` reads them by the grammar that crate `lugrammar` defines, and crate
+//! `luprint` prints.
 //!
-//! - `reader`: from tokens to the tree.
 //! - `text`: from a text to the tree.
+//! - `print`: from a tree to its canonical text.
 //! - `error`: why a text is refused.
 //!
-//! What a text has to be is said in `specs/`: `Grammar.antt` for the tree that tokens spell, and `Texts.antt` for the text.
+//! What a text has to be is said in `specs/`: `Texts.antt` which program a text spells, and `Refusals.antt` which refusal is
+//! true of a text that spells none.
 #![tactic(auto)]
 
 mod error;
-mod reader;
+mod print;
 mod text;
 
 pub use error::SynError;
 pub use lutree::Program;
+pub use print::print_program;
 pub use text::read_program;
+
+#[cfg(test)]
+mod tests;

@@ -1,5 +1,5 @@
 -- Where all sites have ended no flow breaks.
-use Rattle.std.proofs.Common.{◌≡◌, ℕ, zero, suc, ◌<◌, inl, inr, Bool, true, false, cond, List, [], ◌∷◌, length, take, get_or, Option, Some, refl, sym, ap, ◌∙◌, subst, arith, nat_lt}
+use Rattle.std.proofs.Common.{◌≡◌, ℕ, zero, suc, ◌<◌, inl, inr, Bool, true, false, cond, List, [], ◌∷◌, length, take, get_or, Option, Some, None, refl, sym, ap, ◌∙◌, subst, arith, nat_lt}
 use Rattle.std.specs.Prelude.{slice_get, slice_index, All, Contains, not}
 use Rattle.std.proofs.lemmas.List.Elements.{All-get_or}
 use Rattle.std.proofs.lemmas.Option.{slice_get_within, slice_get-get_or}
@@ -130,3 +130,12 @@ module _ (job : Run) (sites : List SiteAt) (lanes : List Lane) (capacity : ℕ) 
       let lh : h < length sites = let a = w.is_job.is_plan.homes i in omega (arith, a, sites_len) in
       let v = some_at sites h lh in
       collected_at k h i xs v.0 v.1 (subst (λ (ys : List Status). IsOutput v.0.job v.0.site v.0.done k ys) (sym empty) (tells h lh v.0 v.1)) out refl
+
+  -- what is no output is told nothing
+  pub none_beyond : (k : ℕ) (xs : List Status) → IsToldBySome sites k xs → slice_get (outputs_of job.plan) k ≡ None → xs ≡ []
+  none_beyond k xs (OneTells s ls some tells) out =
+      let v = some_at sites s ls in
+      let e = w.sites_are s v.0 v.1 in
+      let told : IsOutput job s v.0.done k xs = subst (λ (j : Run). IsOutput j s v.0.done k xs) e.0 (subst (λ (n : ℕ). IsOutput v.0.job n v.0.done k xs) e.1 (tells v.0 v.1)) in
+      told.beyond out
+  none_beyond k xs (NoneTells empty tells) out = empty

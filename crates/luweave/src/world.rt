@@ -1,5 +1,5 @@
 //! All sites in one thread, by turns.
-ghost use Rattle.std.specs.Prelude.{◌≡◌, ℕ, ◌++◌, true, [], ◌+◌, ◌<◌, ◌≤◌, length, take, drop, slice_get, slice_set, slice_index, vec_capacity, List, Some, IfOk};
+ghost use Rattle.std.specs.Prelude.{◌≡◌, ℕ, ◌++◌, true, [], ◌+◌, ◌<◌, ◌≤◌, length, take, drop, slice_get, slice_set, slice_index, vec_capacity, List, Some, None, IfOk};
 ghost use Rattle.lusite.specs.Machine.{IsNext, IsLocalNext, IsPutNext, IsTakeNext};
 ghost use Rattle.lusite.specs.Sites.{SiteAt};
 ghost use Rattle.luweave.specs.declared.lane.Lane.{Lane};
@@ -11,7 +11,7 @@ ghost use Rattle.lusource.specs.Source.{SourceStreams};
 ghost use Rattle.lumeaning.specs.Meaning.{IsMeant, NoneBreaks, source_list};
 ghost use Rattle.luweave.specs.Headline.{IsCollectedOf, IsFaithful};
 ghost use Rattle.lusite.specs.Logs.{IsOutput};
-ghost use Rattle.luworld.specs.Runs.{NoFault};
+ghost use Rattle.luworld.specs.Runs.{NoFault, outputs_of};
 
 use crate::lane::Lane;
 use luflow::{Msg, Status};
@@ -309,9 +309,10 @@ fn outputs_in(sites: &Vec<Site>, k: usize) -> &[Status]
 
 impl World {
     /// Output k so far: a beginning of its statuses before its first broken one, also as the source says it, as many as its
-    /// site has passed; the whole output where all sites have ended. Takes no memory.
+    /// site has passed; the whole output where all sites have ended; empty where there is no output k. Takes no memory.
     pub fn outputs(&self, k: usize) -> &[Status]
         ensures collected { IsCollected self.now.job self.now.dones k result.now }
+        ensures beyond { slice_get (outputs_of self.now.job.plan) k ≡ None → result.now ≡ [] }
         ensures source { (σ : SourceStreams) → IsMeant self.now.job σ → IsCollectedOf self.now.job self.now.dones σ k result.now }
     {
         outputs_in(&self.sites, k)

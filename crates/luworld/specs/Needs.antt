@@ -38,7 +38,7 @@ abbrev pub home : Distribution → ℕ → ℕ
 home plan i = slice_index (flow_sites plan i) 0
 
 -- The needs of a site: the least set that holds what its flows name, operands of `pre` included, and, with each of its flows
--- and each flow of the set, the variable of its clock. (profile; after Caspi, Girault, Pilaud 1999)
+-- and each flow of the set, the variable of its clock. (profile)
 pub data IsNeeded (plan : Distribution) (s : ℕ) : ℕ → Type 0 where
   read_there : (i r : ℕ) (flow : Flow) → stands plan i s ≡ true → flow_at plan.flat i ≡ Some flow → Contains (places flow.form) r → IsNeeded plan s r
   clock_there : (i c : ℕ) (flow : Flow) → stands plan i s ≡ true → flow_at plan.flat i ≡ Some flow → Contains (clock_reads flow.clock) c → IsNeeded plan s c

@@ -1,8 +1,10 @@
-use Rattle.std.proofs.Common.{◌≡◌, ◌∙◌, ap₂, rules, codes}
+use Rattle.std.proofs.Common.{◌≡◌, ◌∙◌, ap, ap₂, rules, codes}
 use Rattle.std.proofs.lemmas.Bool.{or_from}
 use Rattle.std.proofs.lemmas.Result.{IfOk-weaker}
 use Rattle.clap.specs.Walk.{rule_of}
-use Rattle.clap.specs.Simple.{with_rule}
+use Rattle.clap.specs.Simple.{app_of_fields, with_rule}
+use Rattle.clap.specs.declared.builder.command.Command.{Command}
+use Rattle.clap.specs.declared.builder.command.Command.TheOpen.{Command-F}
 use Rattle.lushell.specs.CommandLine.{path_rule}
 use Rattle.lushell.proofs.command.replay.Goals as goal
 
@@ -12,7 +14,8 @@ returns-clause-app c =
     let place : rule_of c.path-2.result ≡ path_rule (codes "PLACE") = search rules in
     let table : rule_of c.path-3.result ≡ path_rule (codes "TABLE") = search rules in
     let schedule : rule_of c.path-4.result ≡ path_rule (codes "SCHEDULE") = search rules in
-    let one = c.in_ok-arg.ensures.shape c.main_name.ensures.local ∙ ap₂ with_rule c.new.ensures.app c.main_name.ensures.rule in
+    let new = ap app_of_fields c.about.ensures ∙ c.new.ensures.app in
+    let one = c.in_ok-arg.ensures.shape c.main_name.ensures.local ∙ ap₂ with_rule new c.main_name.ensures.rule in
     let two = c.in_ok-arg-2.ensures.shape c.path.ensures.local ∙ ap₂ with_rule one program in
     let three = c.in_ok-arg-3.ensures.shape c.path-2.ensures.local ∙ ap₂ with_rule two place in
     let four = c.in_ok-arg-4.ensures.shape c.path-3.ensures.local ∙ ap₂ with_rule three table in
@@ -20,7 +23,8 @@ returns-clause-app c =
 
 pub returns-clause-local : goal.returns-clause-local
 returns-clause-local c =
-    let one = c.in_ok-arg.ensures.globals ∙ or_from _ _ c.new.ensures.local c.main_name.ensures.local in
+    let new = ap (λ (f : Command-F Command). f.has_globals) c.about.ensures ∙ c.new.ensures.local in
+    let one = c.in_ok-arg.ensures.globals ∙ or_from _ _ new c.main_name.ensures.local in
     let two = c.in_ok-arg-2.ensures.globals ∙ or_from _ _ one c.path.ensures.local in
     let three = c.in_ok-arg-3.ensures.globals ∙ or_from _ _ two c.path-2.ensures.local in
     let four = c.in_ok-arg-4.ensures.globals ∙ or_from _ _ three c.path-3.ensures.local in

@@ -1,0 +1,10 @@
+pub mod Joined
+pub mod Operands
+pub mod Pieces
+pub mod Longest
+pub mod Wholes
+pub mod Cut
+pub mod Peaks
+pub mod Sizes
+pub mod Narrow
+pub mod ReadBack

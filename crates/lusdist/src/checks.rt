@@ -1,0 +1,210 @@
+//! Whole calls of `check`, and replays of programs of more than the first language.
+
+use crate::serve::serve_words;
+use crate::tests::{Full, Shelf, answers, counters, words};
+use std::alloc::Global;
+use std::test::Fail;
+
+fn with_program(program: &[u8]) -> Shelf<'_> {
+    let files = counters();
+    Shelf {
+        program,
+        place: files.place,
+        table: files.table,
+        turns: files.turns,
+    }
+}
+
+const CHECK: &[&str] = &["lusdist", "check", "p.lus"];
+
+const REPLAY: &[&str] = &["lusdist", "replay", "p.lus", "p.toml", "t.csv", "s.txt"];
+
+/// Whether a check of the program prints this text.
+fn prints(alloc: Global, program: &[u8], canonical: &str) -> Result<bool, Fail> {
+    answers(alloc, CHECK, &with_program(program), 0, canonical, "")
+}
+
+#[test]
+fn programs_of_the_first_language_are_printed(rt: HostRuntime) -> Result<(), Fail> {
+    for (program, canonical) in [
+        (
+            b"node main() returns (a: int; b: int); let a = 0 -> pre b + 1; b = 0 -> pre a + 1; tel".as_slice(),
+            "node main() returns (a: int; b: int);\nlet\n  a = 0 -> pre b + 1;\n  b = 0 -> pre a + 1;\ntel\n",
+        ),
+        (
+            b"-- a counter\nnode  main()returns(a,b:int)var c:int;d,e:int;let a=007->pre a+2;tel;".as_slice(),
+            "node main() returns (a: int; b: int);\nvar c: int; d: int; e: int;\nlet\n  a = 7 -> pre a + 2;\ntel\n",
+        ),
+        (
+            b"node other() returns (a: int); let tel".as_slice(),
+            "node other() returns (a: int);\nlet\ntel\n",
+        ),
+    ] {
+        assert!(rt; prints(rt.alloc(), program, canonical)?, "{canonical}");
+    }
+    Ok(())
+}
+
+#[test]
+fn programs_of_the_whole_language_are_printed(rt: HostRuntime) -> Result<(), Fail> {
+    for (program, canonical) in [
+        (
+            b"node main(x: int; c: bool) returns (y: int; z: int when c); var s: int when c; let s = (x) when c; z = 2*s; y = x -> (pre y) + x; tel".as_slice(),
+            "node main(x: int; c: bool) returns (y: int; z: int when c);\nvar s: int when c;\nlet\n  s = x when c;\n  z = 2 * s;\n  y = x -> pre y + x;\ntel\n",
+        ),
+        (
+            b"node f(x, y: int) returns (p, q: int); let p = x - (y - x); q = x - y - x; tel node main() returns (a, b: int); let (a, b) = f(1, - - 2); tel".as_slice(),
+            "node f(x: int; y: int) returns (p: int; q: int);\nlet\n  p = x - (y - x);\n  q = x - y - x;\ntel\nnode main() returns (a: int; b: int);\nlet\n  (a, b) = f(1, - - 2);\ntel\n",
+        ),
+        (
+            b"node main(c: bool) returns (a: int); let a = merge c (true -> 1 when c) (false -> (if c then 1 else 2) when not c); tel".as_slice(),
+            "node main(c: bool) returns (a: int);\nlet\n  a = merge c (true -> 1 when c) (false -> (if c then 1 else 2) when not c);\ntel\n",
+        ),
+    ] {
+        assert!(rt; prints(rt.alloc(), program, canonical)?, "{canonical}");
+    }
+    Ok(())
+}
+
+#[test]
+fn the_main_node_plays_no_part_in_a_check(rt: HostRuntime) -> Result<(), Fail> {
+    let program = b"node main() returns (a: int); let a = 0 -> pre a + 1; tel";
+    let canonical = "node main() returns (a: int);\nlet\n  a = 0 -> pre a + 1;\ntel\n";
+    for all in [
+        ["lusdist", "check", "p.lus", "--main", "top"].as_slice(),
+        ["lusdist", "check", "--main", "main", "p.lus"].as_slice(),
+        ["lusdist", "check", "--main=top", "p.lus"].as_slice(),
+    ] {
+        assert!(rt; answers(rt.alloc(), all, &with_program(program), 0, canonical, "")?);
+    }
+    Ok(())
+}
+
+#[test]
+fn texts_that_a_check_refuses(rt: HostRuntime) -> Result<(), Fail> {
+    for (program, line) in [
+        (
+            b"node main() returns (a: int); let a = 0 -> pre a + 1 tel".as_slice(),
+            "E01 Syntax at 53\n",
+        ),
+        (b"?".as_slice(), "E01 Syntax at 0\n"),
+        (
+            b"node main() returns (a: int); let a = 9223372036854775808 -> pre a + 1; tel".as_slice(),
+            "E02 NumberTooLarge at 38\n",
+        ),
+        (b"\xff".as_slice(), "E03 NotAscii\n"),
+        (b"-- \xc3\xa9".as_slice(), "E03 NotAscii\n"),
+    ] {
+        let shelf = with_program(program);
+        assert!(rt; answers(rt.alloc(), CHECK, &shelf, 1, "", line)?, "{line}");
+        assert!(rt; answers(rt.alloc(), REPLAY, &shelf, 1, "", line)?, "{line}");
+    }
+    Ok(())
+}
+
+#[test]
+fn texts_of_too_many_bytes_or_tokens(rt: HostRuntime) -> Result<(), Fail> {
+    let blanks = vec![in rt.alloc(); b' '; 1_048_577]?;
+    assert!(rt;
+        answers(
+            rt.alloc(),
+            CHECK,
+            &with_program(&blanks),
+            1,
+            "",
+            "E04 TooLong\n"
+        )?
+    );
+    let parens = vec![in rt.alloc(); b'('; 1_001]?;
+    assert!(rt;
+        answers(
+            rt.alloc(),
+            CHECK,
+            &with_program(&parens),
+            1,
+            "",
+            "E05 LongRun at 1000\n"
+        )?
+    );
+    Ok(())
+}
+
+#[test]
+fn a_file_that_a_check_cannot_read(rt: HostRuntime) -> Result<(), Fail> {
+    let all = ["lusdist", "check", "q"];
+    assert!(rt; answers(rt.alloc(), &all, &counters(), 2, "", "F01 CannotRead q\n")?);
+    Ok(())
+}
+
+/// Whether the words are refused as words: status 2, something on the error stream, and nothing on the output.
+fn are_no_call(alloc: Global, all: &[&str]) -> Result<bool, Fail> {
+    let words = words(alloc, all)?;
+    let mut out = Vec::new(alloc);
+    let mut err = Vec::new(alloc);
+    let status = serve_words(alloc, &words, &counters(), &mut out, &mut err);
+    Ok(status == 2 && out.is_empty() && !err.is_empty())
+}
+
+#[test]
+fn words_that_are_no_call(rt: HostRuntime) -> Result<(), Fail> {
+    for all in [
+        ["lusdist"].as_slice(),
+        ["lusdist", "check"].as_slice(),
+        ["lusdist", "check", "p.lus", "p.toml"].as_slice(),
+        ["lusdist", "check", "p.lus", "--main"].as_slice(),
+        ["lusdist", "check", "p.lus", "--fast"].as_slice(),
+        ["lusdist", "replay", "p.lus"].as_slice(),
+        ["lusdist", "print", "p.lus"].as_slice(),
+        ["lusdist", "p.lus"].as_slice(),
+    ] {
+        assert!(rt; are_no_call(rt.alloc(), all)?);
+    }
+    Ok(())
+}
+
+#[test]
+fn a_check_that_cannot_be_written(rt: HostRuntime) -> Result<(), Fail> {
+    let words = words(rt.alloc(), CHECK)?;
+    let mut err = Vec::new(rt.alloc());
+    let status = serve_words(rt.alloc(), &words, &counters(), &mut Full, &mut err);
+    assert!(rt; status == 3);
+    assert!(rt; err.as_slice() == b"F02 CannotWrite\n".as_slice());
+    Ok(())
+}
+
+#[test]
+fn programs_that_are_not_replayed_yet(rt: HostRuntime) -> Result<(), Fail> {
+    for program in [
+        b"node main(x: int) returns (a: int); let a = 0 -> pre a + 1; tel".as_slice(),
+        b"node main() returns (a: bool); let a = 0 -> pre a + 1; tel".as_slice(),
+        b"node main() returns (a: int when c); let a = 0 -> pre a + 1; tel".as_slice(),
+        b"node main() returns (a: int); let a = 0; tel".as_slice(),
+        b"node main() returns (a: int); let a = 0 -> pre a - 1; tel".as_slice(),
+        b"node main() returns (a: int); let a = 0 fby a + 1; tel".as_slice(),
+        b"node main() returns (a, b: int); let (a, b) = f(1); tel".as_slice(),
+        b"node f() returns (a: int); let a = 0 -> pre a + 1; tel node main() returns (a: int); let a = 0 -> pre a + 1; tel".as_slice(),
+        b"node other() returns (a, a: bool); let c = d; c = d; tel".as_slice(),
+    ] {
+        assert!(rt;
+            answers(
+                rt.alloc(),
+                REPLAY,
+                &with_program(program),
+                1,
+                "",
+                "E00 NotYet\n"
+            )?
+        );
+    }
+    Ok(())
+}
+
+#[test]
+fn what_is_not_replayed_yet_is_told_before_other_files(rt: HostRuntime) -> Result<(), Fail> {
+    let shelf = with_program(b"node main() returns (a: int); let a = 0; tel");
+    let all = ["lusdist", "replay", "p.lus", "q", "q", "q"];
+    assert!(rt; answers(rt.alloc(), &all, &shelf, 1, "", "E00 NotYet\n")?);
+    let all = ["lusdist", "replay", "q", "p.toml", "t.csv", "s.txt"];
+    assert!(rt; answers(rt.alloc(), &all, &shelf, 2, "", "F01 CannotRead q\n")?);
+    Ok(())
+}

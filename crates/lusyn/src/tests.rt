@@ -1,0 +1,221 @@
+//! Programs that are read, printed and read again.
+
+use super::*;
+use lutree::{Declaration, Equation};
+use std::alloc::Global;
+use std::test::Fail;
+
+/// Each form of an expression, with its level.
+const FORMS: [(&str, u8); 32] = [
+    ("if p then q else r", 0),
+    ("p -> q", 1),
+    ("p fby q", 1),
+    ("p => q", 2),
+    ("p or q", 3),
+    ("p xor q", 3),
+    ("p and q", 4),
+    ("p = q", 5),
+    ("p <> q", 5),
+    ("p < q", 5),
+    ("p <= q", 5),
+    ("p > q", 5),
+    ("p >= q", 5),
+    ("p + q", 6),
+    ("p - q", 6),
+    ("p * q", 7),
+    ("p div q", 7),
+    ("p mod q", 7),
+    ("not p", 8),
+    ("- p", 8),
+    ("pre p", 8),
+    ("current p", 8),
+    ("p when q", 9),
+    ("p when not q", 9),
+    ("p", 10),
+    ("9223372036854775807", 10),
+    ("true", 10),
+    ("false", 10),
+    ("f()", 10),
+    ("f(p)", 10),
+    ("f(p, q)", 10),
+    ("merge p (true -> q) (false -> r)", 10),
+];
+
+/// Each place of an expression, as the text before it and after it, with the least level that it asks for.
+const PLACES: [(&str, &str, u8); 50] = [
+    ("", "", 0),
+    ("if ", " then b else c", 0),
+    ("if a then ", " else c", 0),
+    ("if a then b else ", "", 0),
+    ("", " -> b", 2),
+    ("a -> ", "", 0),
+    ("", " fby b", 2),
+    ("a fby ", "", 0),
+    ("", " => b", 3),
+    ("a => ", "", 2),
+    ("", " or b", 3),
+    ("a or ", "", 4),
+    ("", " xor b", 3),
+    ("a xor ", "", 4),
+    ("", " and b", 4),
+    ("a and ", "", 5),
+    ("", " = b", 6),
+    ("a = ", "", 6),
+    ("", " <> b", 6),
+    ("a <> ", "", 6),
+    ("", " < b", 6),
+    ("a < ", "", 6),
+    ("", " <= b", 6),
+    ("a <= ", "", 6),
+    ("", " > b", 6),
+    ("a > ", "", 6),
+    ("", " >= b", 6),
+    ("a >= ", "", 6),
+    ("", " + b", 6),
+    ("a + ", "", 7),
+    ("", " - b", 6),
+    ("a - ", "", 7),
+    ("", " * b", 7),
+    ("a * ", "", 8),
+    ("", " div b", 7),
+    ("a div ", "", 8),
+    ("", " mod b", 7),
+    ("a mod ", "", 8),
+    ("not ", "", 8),
+    ("- ", "", 8),
+    ("pre ", "", 8),
+    ("", " when c", 9),
+    ("", " when not c", 9),
+    ("merge c (true -> ", ") (false -> b)", 0),
+    ("merge c (true -> a) (false -> ", ")", 0),
+    ("g(", ")", 0),
+    ("g(", ", b)", 0),
+    ("g(a, ", ")", 0),
+    ("g(a, ", ", c)", 0),
+    ("1 + 2 * ", " < 3 and d", 8),
+];
+
+/// The canonical text, or the line of the refusal.
+fn printed(alloc: Global, text: &str) -> Result<String, Fail> {
+    match read_program(alloc, text) {
+        Ok(program) => Ok(print_program(alloc, &program)?),
+        Err(error) => Ok(format!(in alloc; "{error}")?),
+    }
+}
+
+fn describe_declarations(out: &mut String, declarations: &[Declaration]) -> Result<(), Fail> {
+    for d in declarations {
+        write!(out, " {:?} {:?} {:?};", d.name, d.kind, d.clock)?;
+    }
+    Ok(())
+}
+
+fn describe_equations(out: &mut String, equations: &[Equation]) -> Result<(), Fail> {
+    for e in equations {
+        for name in e.left.as_slice() {
+            write!(out, " {}", name.as_str())?;
+        }
+        write!(out, " = {:?};", e.right)?;
+    }
+    Ok(())
+}
+
+/// The tree of a text without its places, or the line of the refusal.
+fn described(alloc: Global, text: &str) -> Result<String, Fail> {
+    let program = match read_program(alloc, text) {
+        Ok(program) => program,
+        Err(error) => return Ok(format!(in alloc; "{error}")?),
+    };
+    let mut out = String::new(alloc);
+    for node in program.nodes.as_slice() {
+        write!(out, "{:?} inputs", node.name)?;
+        describe_declarations(&mut out, node.inputs.as_slice())?;
+        write!(out, " outputs")?;
+        describe_declarations(&mut out, node.outputs.as_slice())?;
+        write!(out, " locals")?;
+        describe_declarations(&mut out, node.locals.as_slice())?;
+        write!(out, " equations")?;
+        describe_equations(&mut out, node.equations.as_slice())?;
+    }
+    Ok(out)
+}
+
+fn of_right(alloc: Global, right: &str) -> Result<String, Fail> {
+    Ok(format!(in alloc; "node m() returns (y: int);\nlet\n  y = {right};\ntel\n")?)
+}
+
+#[test]
+fn each_form_is_printed_at_each_place(rt: HostRuntime) -> Result<(), Fail> {
+    for (before, after, least) in PLACES {
+        for (form, level) in FORMS {
+            let source = format!(in rt.alloc(); "{before}({form}){after}")?;
+            let source = of_right(rt.alloc(), source.as_str())?;
+            let want = if level < least {
+                format!(in rt.alloc(); "{before}({form}){after}")?
+            } else {
+                format!(in rt.alloc(); "{before}{form}{after}")?
+            };
+            let want = of_right(rt.alloc(), want.as_str())?;
+            let text = printed(rt.alloc(), source.as_str())?;
+            assert_eq!(rt; text.as_str(), want.as_str());
+
+            // it is read as the same tree, and printed as the same text
+            let first = described(rt.alloc(), source.as_str())?;
+            let again = described(rt.alloc(), text.as_str())?;
+            assert_eq!(rt; again.as_str(), first.as_str());
+            let text = printed(rt.alloc(), want.as_str())?;
+            assert_eq!(rt; text.as_str(), want.as_str());
+        }
+    }
+    Ok(())
+}
+
+#[test]
+fn texts_become_canonical(rt: HostRuntime) -> Result<(), Fail> {
+    let cases = [
+        ("-(-1)", "- - 1"),
+        ("(1 -> 2) -> (3 -> (4))", "(1 -> 2) -> 3 -> 4"),
+        ("1 - (2 - 3) - 007", "1 - (2 - 3) - 7"),
+        ("a-(b-c)", "a - (b - c)"),
+        ("((a-b))-c", "a - b - c"),
+        ("(a=b)=c", "(a = b) = c"),
+        ("pre(a when b)", "pre a when b"),
+        ("(pre a)when b", "(pre a) when b"),
+        ("(a when b)when not c", "a when b when not c"),
+        ("(if a then b else c)+1", "(if a then b else c) + 1"),
+        ("1->(if a then b else c)", "1 -> if a then b else c"),
+        ("(a=>b)=>c", "(a => b) => c"),
+        ("a=>(b=>c)", "a => b => c"),
+    ];
+    for (right, want) in cases {
+        let text = of_right(rt.alloc(), right)?;
+        let got = printed(rt.alloc(), text.as_str())?;
+        let want = of_right(rt.alloc(), want)?;
+        assert_eq!(rt; got.as_str(), want.as_str());
+    }
+    Ok(())
+}
+
+#[test]
+fn programs_become_canonical(rt: HostRuntime) -> Result<(), Fail> {
+    let cases = [
+        (
+            "node main(x: int; c: bool) returns (y: int; z: int when c) var s: int when c; let s = x when c; z = 2 * s; y = x -> pre y + x; tel",
+            "node main(x: int; c: bool) returns (y: int; z: int when c);\nvar s: int when c;\nlet\n  s = x when c;\n  z = 2 * s;\n  y = x -> pre y + x;\ntel\n",
+        ),
+        (
+            "node f(a, b: int; c: bool) returns (d, e: int when not c); var g, h: bool; k: int; let tel; -- the first\nnode main() returns (z: bool); let (x, y) = f(1, 2, true); (a, b, c) = g(); z = (1 < 2); tel",
+            "node f(a: int; b: int; c: bool) returns (d: int when not c; e: int when not c);\nvar g: bool; h: bool; k: int;\nlet\ntel\nnode main() returns (z: bool);\nlet\n  (x, y) = f(1, 2, true);\n  (a, b, c) = g();\n  z = 1 < 2;\ntel\n",
+        ),
+    ];
+    for (text, want) in cases {
+        let got = printed(rt.alloc(), text)?;
+        assert_eq!(rt; got.as_str(), want);
+        let first = described(rt.alloc(), text)?;
+        let again = described(rt.alloc(), want)?;
+        assert_eq!(rt; again.as_str(), first.as_str());
+        let got = printed(rt.alloc(), want)?;
+        assert_eq!(rt; got.as_str(), want);
+    }
+    Ok(())
+}
