@@ -17,7 +17,7 @@ pub data IsFaultOn (σ : Streams) (t : ℕ) : Form → FaultKind → Type 0 wher
   OnBinary : (op : BinaryOperator) (a b : ℕ) (x y : Datum) (kind : FaultKind) → σ a t ≡ Known (Present x) → σ b t ≡ Known (Present y) → IsFaultOf op x y kind → IsFaultOn σ t (Binary op a b) kind
   OnUnary : (op : UnaryOperator) (a : ℕ) (x : Datum) (kind : FaultKind) → σ a t ≡ Known (Present x) → IsFaultOfOne op x kind → IsFaultOn σ t (Unary op a) kind
 
--- flow i, whose clock is true, is such an operator at t (profile)
+-- flow i, whose clock is true, is such an operator at t
 pub record IsFault (flat : FlatProgram) (inputs : Table) (σ : Streams) (i t : ℕ) (kind : FaultKind) : Type 0 where
   pub flow : Flow
   pub there : flow_at flat i ≡ Some flow

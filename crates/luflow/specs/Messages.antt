@@ -11,14 +11,14 @@ use Rattle.luflow.specs.Streams.{Mark, Known, Broken, Stream}
 abbrev pub marks : Stream → ℕ → List Mark
 marks s n = map s (range_with_len 0 n)
 
--- the clean list: the data that are present before the first broken mark, in order (profile)
+-- the clean list: the data that are present before the first broken mark, in order
 abbrev pub clean_list : List Mark → List Datum
 clean_list [] = []
 clean_list (Broken ∷ ms) = []
 clean_list (Known Absent ∷ ms) = clean_list ms
 clean_list (Known (Present d) ∷ ms) = d ∷ clean_list ms
 
--- the link list: the clean list numbered from n, and a close that is numbered with the count, only where no mark is broken (profile)
+-- the link list: the clean list numbered from n, and a close that is numbered with the count, only where no mark is broken
 abbrev pub messages : ℕ → List Mark → List Msg
 messages n [] = record { no = n; body = Close } ∷ []
 messages n (Broken ∷ ms) = []

@@ -9,7 +9,7 @@ use Rattle.luflow.specs.declared.form.Flow.{Flow}
 use Rattle.luflow.specs.declared.variable.Variable.{Variable}
 
 -- The flows by place, the main variables first; all places in order of rank; for each flow the main variable in whose
--- equation it stands; and the main variables. (profile)
+-- equation it stands; and the main variables.
 pub record FlatProgram : Type 0 where
   pub flows : List Flow
   pub order : List ℕ

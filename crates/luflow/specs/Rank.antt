@@ -17,7 +17,7 @@ row rows x = unwrap_or (slice_get rows x) []
 abbrev pub is_ready : List (List ℕ) → List ℕ → ℕ → Bool
 is_ready rows order x = not (has order x) && list_all (λ y. has order y) (row rows x)
 
--- the next rank goes to the least place that is ready (profile)
+-- the next rank goes to the least place that is ready
 pub record IsNext (rows : List (List ℕ)) (order : List ℕ) (x : ℕ) : Type 0 where
   pub inside : x < length rows
   pub ready : is_ready rows order x ≡ true

@@ -47,9 +47,9 @@ is_wrong ls end byte at there e =
     let before = take at (located ls) in
     let rest = drop at (located ls) in
     let whole : unplaced before ++ unplaced rest ≡ unplaced (located ls)
-            = sym (map-append (λ (x : Placed). x.1) before rest) ∙ ap unplaced (take-append-drop at (located ls)) in
+    = sym (map-append (λ (x : Placed). x.1) before rest) ∙ ap unplaced (take-append-drop at (located ls)) in
     let read : all_of (unplaced (located ls)) ≡ Err (unplaced rest)
-            = ap all_of (toks-located ls) ∙ e ∙ err-along (ahead ls at) (unplaced rest) (sym (located-drop ls at)) in
+    = ap all_of (toks-located ls) ∙ e ∙ err-along (ahead ls at) (unplaced rest) (sym (located-drop ls at)) in
     let (front, others, found, parts, spelled) = refused_goes_on (unplaced (located ls)) (unplaced rest) read in
     let same : front ≡ unplaced before = append_cancel_right front (unplaced before) (unplaced rest) (parts ∙ sym whole) in
     let P : List Tok → Type 0 = λ us. Spells (us ++ others) found in
@@ -94,7 +94,7 @@ not_begun before rest behind x mid none e others found s =
     let N : List Placed → Type 0 = λ us. NoneGoesOn (unplaced before) (unplaced us) in
     let S : List Tok → Type 0 = λ us. Spells us found in
     let split : unplaced (before ++ x ∷ mid) ++ others ≡ unplaced before ++ x.1 ∷ (unplaced mid ++ others)
-            = ap (λ (us : List Tok). us ++ others) (map-append (λ (y : Placed). y.1) before (x ∷ mid)) ∙ append_assoc (unplaced before) (x.1 ∷ unplaced mid) others in
+    = ap (λ (us : List Tok). us ++ others) (map-append (λ (y : Placed). y.1) before (x ∷ mid)) ∙ append_assoc (unplaced before) (x.1 ∷ unplaced mid) others in
     subst N e none (unplaced mid ++ others) found (subst S split s)
 
 same_by : (ts : List Placed) (end one other : ℕ) (a : IsWrongFrom ts end one) (b : IsWrongFrom ts end other) → Cuts a.before b.before a.rest b.rest → one ≡ other

@@ -35,7 +35,7 @@ abbrev pub lead : Run → ℕ → ℕ → ℕ
 lead job p t = cond (is_open (clock_of_flow job.inputs (streams_of job) (flow_at job.plan.flat (slice_index job.plan.flat.order p)) t)) 1 0
 
 -- With n items done, site s has passed the flow of rank p at instant t: where it is present once its computation is done, where
--- it is absent once every item before it is, and nothing behind a stop. (profile)
+-- it is absent once every item before it is, and nothing behind a stop.
 pub record IsPassed (job : Run) (s n p t : ℕ) : Type 0 where
   pub done : items_before job (streams_of job) s t p (lead job p t) ≤ n
   pub free : IsFree job (take (items_before job (streams_of job) s t p (lead job p t)) (endless job (streams_of job) s))

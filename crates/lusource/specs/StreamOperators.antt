@@ -37,7 +37,7 @@ arrow_stream k a b t = under (k t) (on_two (arrow_of (ticked k t)) (datum_of (a 
 abbrev pub when_stream : Ticks → Stream → Stream
 when_stream k a t = under (k t) (gives (datum_of (a t)))
 
--- `current a`: the last datum up to now, and nil before the first (profile)
+-- `current a`: the last datum up to now, and nil before the first
 abbrev pub current_stream : Ticks → Stream → Stream
 current_stream k a t = under (k t) (gives (before a (suc t)))
 
