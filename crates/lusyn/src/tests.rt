@@ -2,7 +2,7 @@
 
 use super::*;
 use lutree::{Declaration, Equation};
-use std::alloc::Global;
+use std::alloc::{AllocError, Global};
 use std::test::Fail;
 
 /// Each form of an expression, with its level.
@@ -140,32 +140,76 @@ fn described(alloc: Global, text: &str) -> Result<String, Fail> {
     Ok(out)
 }
 
-fn of_right(alloc: Global, right: &str) -> Result<String, Fail> {
-    Ok(format!(in alloc; "node m() returns (y: int);\nlet\n  y = {right};\ntel\n")?)
+/// A program whose one equation has this right side, as it is printed.
+fn of_right(alloc: Global, right: &str) -> Result<String, AllocError> {
+    let mut text = String::new(alloc);
+    text.push_str("node m() returns (y: int);\nlet\n  y = ")?;
+    text.push_str(right)?;
+    text.push_str(";\ntel\n")?;
+    Ok(text)
+}
+
+/// Three texts, one behind the other.
+fn joined(alloc: Global, before: &str, inner: &str, after: &str) -> Result<String, AllocError> {
+    let mut text = String::new(alloc);
+    text.push_str(before)?;
+    text.push_str(inner)?;
+    text.push_str(after)?;
+    Ok(text)
+}
+
+/// Whether the text is printed as the other, which is printed as it is.
+fn is_printed_as(alloc: Global, source: &str, want: &str) -> Result<bool, Fail> {
+    let first = printed(alloc, source)?;
+    let again = printed(alloc, want)?;
+    Ok(first.as_str() == want && again.as_str() == want)
+}
+
+/// Whether both texts are read as one tree.
+fn are_one_tree(alloc: Global, source: &str, other: &str) -> Result<bool, Fail> {
+    let first = described(alloc, source)?;
+    let again = described(alloc, other)?;
+    Ok(first.as_str() == again.as_str())
+}
+
+/// Whether a right side is printed as the other, and both are one tree.
+fn becomes(alloc: Global, right: &str, want: &str) -> Result<bool, Fail> {
+    let source = of_right(alloc, right)?;
+    let want = of_right(alloc, want)?;
+    Ok(
+        is_printed_as(alloc, source.as_str(), want.as_str())?
+            && are_one_tree(alloc, source.as_str(), want.as_str())?,
+    )
+}
+
+/// Whether a form in parentheses at a place keeps them exactly where they are needed.
+fn is_placed(alloc: Global, place: (&str, &str, u8), form: (&str, u8)) -> Result<bool, Fail> {
+    let (before, after, least) = place;
+    let (form, level) = form;
+    let inner = joined(alloc, "(", form, ")")?;
+    let source = joined(alloc, before, inner.as_str(), after)?;
+    if level < least {
+        return becomes(alloc, source.as_str(), source.as_str());
+    }
+    let want = joined(alloc, before, form, after)?;
+    becomes(alloc, source.as_str(), want.as_str())
+}
+
+/// Whether all forms do so at a place.
+fn are_placed(alloc: Global, place: (&str, &str, u8)) -> Result<bool, Fail> {
+    for form in FORMS {
+        if is_placed(alloc, place, form)? {
+            continue;
+        }
+        return Ok(false);
+    }
+    Ok(true)
 }
 
 #[test]
 fn each_form_is_printed_at_each_place(rt: HostRuntime) -> Result<(), Fail> {
-    for (before, after, least) in PLACES {
-        for (form, level) in FORMS {
-            let source = format!(in rt.alloc(); "{before}({form}){after}")?;
-            let source = of_right(rt.alloc(), source.as_str())?;
-            let want = if level < least {
-                format!(in rt.alloc(); "{before}({form}){after}")?
-            } else {
-                format!(in rt.alloc(); "{before}{form}{after}")?
-            };
-            let want = of_right(rt.alloc(), want.as_str())?;
-            let text = printed(rt.alloc(), source.as_str())?;
-            assert_eq!(rt; text.as_str(), want.as_str());
-
-            // it is read as the same tree, and printed as the same text
-            let first = described(rt.alloc(), source.as_str())?;
-            let again = described(rt.alloc(), text.as_str())?;
-            assert_eq!(rt; again.as_str(), first.as_str());
-            let text = printed(rt.alloc(), want.as_str())?;
-            assert_eq!(rt; text.as_str(), want.as_str());
-        }
+    for place in PLACES {
+        assert!(rt; are_placed(rt.alloc(), place)?, "{} {}", place.0, place.1);
     }
     Ok(())
 }
@@ -188,10 +232,7 @@ fn texts_become_canonical(rt: HostRuntime) -> Result<(), Fail> {
         ("a=>(b=>c)", "a => b => c"),
     ];
     for (right, want) in cases {
-        let text = of_right(rt.alloc(), right)?;
-        let got = printed(rt.alloc(), text.as_str())?;
-        let want = of_right(rt.alloc(), want)?;
-        assert_eq!(rt; got.as_str(), want.as_str());
+        assert!(rt; becomes(rt.alloc(), right, want)?, "{right}");
     }
     Ok(())
 }
@@ -209,13 +250,8 @@ fn programs_become_canonical(rt: HostRuntime) -> Result<(), Fail> {
         ),
     ];
     for (text, want) in cases {
-        let got = printed(rt.alloc(), text)?;
-        assert_eq!(rt; got.as_str(), want);
-        let first = described(rt.alloc(), text)?;
-        let again = described(rt.alloc(), want)?;
-        assert_eq!(rt; again.as_str(), first.as_str());
-        let got = printed(rt.alloc(), want)?;
-        assert_eq!(rt; got.as_str(), want);
+        assert!(rt; is_printed_as(rt.alloc(), text, want)?, "{text}");
+        assert!(rt; are_one_tree(rt.alloc(), text, want)?, "{text}");
     }
     Ok(())
 }
