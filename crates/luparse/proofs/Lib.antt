@@ -1,2 +1,3 @@
+pub mod Atoms
 pub mod Loops
 pub mod Whole

@@ -1,5 +1,5 @@
 -- A loop that takes piece after piece, against the pieces that reading takes.
-use Rattle.std.proofs.Common.{◌≡◌, ◌<◌, ◌≤◌, ◌+◌, ◌-◌, ◌++◌, ℕ, zero, suc, Bool, true, false, List, length, [], ◌∷◌, Result, Ok, Err, refl, ap, sym, ◌∙◌, arith, cond, subst}
+use Rattle.std.proofs.Common.{◌≡◌, ◌<◌, ◌+◌, ◌-◌, ◌++◌, ℕ, zero, suc, Bool, true, false, List, length, [], ◌∷◌, Result, Ok, Err, refl, ap, sym, ◌∙◌, arith, cond, subst}
 use Rattle.std.specs.Result.{is_ok}
 use Rattle.luparse.specs.declared.error.Stop.{Stop}
 use Rattle.luparse.specs.declared.error.Stop.TheVariants as stops_by
@@ -121,6 +121,26 @@ operands-continue read turns less found new x ts mid rest more passed e is =
     ∙ many-goes (begins f.Comma) (further_operand read) less found ts (ap (λ (r : Result (List Tok) (List Tok)). is_ok r) passed)
     ∙ ap (λ (r : Read (List Tree)). r >>= next) (one-operand read found x ts mid rest passed e)
     ∙ ap (λ (l : List Tree). many (begins f.Comma) (further_operand read) less l rest) (sym is)
+
+pub operands-stop : (read : ℕ → List Tok → Read Tree) (turns less : ℕ) (found : List Tree) (ts us : List Tok) → turns ≡ suc less → after f.Comma ts ≡ Err us
+    → many (begins f.Comma) (further_operand read) turns found ts ≡ Ok (found, ts)
+operands-stop read turns less found ts us more passed =
+    ap (λ (n : ℕ). many (begins f.Comma) (further_operand read) n found ts) more
+    ∙ many-stops (begins f.Comma) (further_operand read) less found ts (ap (λ (r : Result (List Tok) (List Tok)). is_ok r) passed)
+
+operands-refused : (read : ℕ → List Tok → Read Tree) (turns less : ℕ) (found : List Tree) (ts mid us : List Tok) → turns ≡ suc less → after f.Comma ts ≡ Ok mid → read 0 mid ≡ Err us
+    → many (begins f.Comma) (further_operand read) turns found ts ≡ Err us
+operands-refused read turns less found ts mid us more passed e =
+    let inner : List Tok → Read (List Tree) = λ vs. read 0 vs >>= operand_behind found in
+    let next : List Tree × List Tok → Read (List Tree) = λ y. many (begins f.Comma) (further_operand read) less y.0 y.1 in
+    ap (λ (n : ℕ). many (begins f.Comma) (further_operand read) n found ts) more
+    ∙ many-goes (begins f.Comma) (further_operand read) less found ts (ap (λ (r : Result (List Tok) (List Tok)). is_ok r) passed)
+    ∙ ap (λ (r : Read (List Tree)). r >>= next) (ap (λ (r : Result (List Tok) (List Tok)). r >>= inner) passed ∙ ap (λ (r : Read Tree). r >>= operand_behind found) e)
+
+pub operands-fail : (read : ℕ → List Tok → Read Tree) (turns less : ℕ) (found : List Tree) (ts mid : List Tok) (ls : List Lexeme) (error : Stop) → turns ≡ suc less → after f.Comma ts ≡ Ok mid
+    → Fails ls error (read 0 mid) → Fails ls error (many (begins f.Comma) (further_operand read) turns found ts)
+operands-fail read turns less found ts mid ls stops_by.OutOfMemory more passed h = tt
+operands-fail read turns less found ts mid ls (stops_by.Refused q) more passed h = operands-refused read turns less found ts mid (ahead ls q) more passed h
 
 pub declarations-continues : (n : ℕ) (new : List DeclarationTree) (ts rest : List Tok) → declaration n [] ts ≡ Ok (new, rest)
     → declarations n ts ≡ many (begins f.Semicolon) (further_declaration n) n new rest

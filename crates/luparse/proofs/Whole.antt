@@ -1,7 +1,7 @@
 -- All of the tokens are read, or they are refused at a place.
-use Rattle.std.proofs.Common.{◌≡◌, ℕ, append_assoc, List, [], ◌∷◌, ◌++◌, map, take, drop, Result, Ok, Err, IfOk, refl, ap, sym, ◌∙◌, subst}
+use Rattle.std.proofs.Common.{◌≡◌, ℕ, append_assoc, List, [], ◌∷◌, ◌++◌, take, drop, Result, Ok, Err, refl, ap, sym, ◌∙◌, subst}
 use Rattle.std.proofs.lemmas.List.{take-append-drop, map-append, append-nil, append_cancel_right, drop-map}
-use Rattle.lutree.specs.Tree.{ProgramTree, program_view}
+use Rattle.lutree.specs.Tree.{ProgramTree}
 use Rattle.lutoken.specs.declared.token.Lexeme.{Lexeme}
 use Rattle.lutoken.specs.Tokens.{Tok, tok, toks, located}
 use Rattle.lulex.specs.Lexing.{Placed}

@@ -1,10 +1,12 @@
 -- What the functions of the parser answer, against the reading of the grammar.
-use Rattle.std.specs.Prelude.{◌≡◌, ◌++◌, ◌∷◌, ℕ, List, [], map, drop, Option, Some, None, Result, Ok, Err}
+use Rattle.std.specs.Prelude.{◌≡◌, ◌++◌, ◌∷◌, ℕ, true, false, List, [], map, drop, Option, Some, None, Result, Ok, Err}
 use Rattle.lutree.specs.Tree.{Tree, EquationTree, NodeTree, view, declarations_view, equation_view, node_view}
 use Rattle.lutree.specs.declared.program.Equation.{Equation}
 use Rattle.lutree.specs.declared.program.Node.{Node}
 use Rattle.lutoken.specs.declared.token.Lexeme.{Lexeme}
-use Rattle.lutoken.specs.Tokens.{Tok, toks}
+use Rattle.lutree.specs.Tree as t
+use Rattle.lutoken.specs.declared.token.Fixed.TheVariants as f
+use Rattle.lutoken.specs.Tokens.{Tok, identifier, number, fixed, toks}
 use Rattle.lugrammar.specs.Reading.{Read, ◌>>=◌}
 use Rattle.lugrammar.specs.Reading as reading
 use Rattle.luparse.specs.declared.error.Stop.{Stop}
@@ -65,3 +67,16 @@ heading_view h = record {
   locals = [];
   equations = [];
 }
+
+-- a name or a constant alone
+abbrev pub atom : List Tok → Read Tree
+atom (identifier x ∷ rest) = Ok (t.variable x, rest)
+atom (number n ∷ rest) = Ok (t.number n, rest)
+atom (fixed f.True ∷ rest) = Ok (t.truth true, rest)
+atom (fixed f.False ∷ rest) = Ok (t.truth false, rest)
+atom ts = Err ts
+
+-- a name before these tokens isn't called, and an operand of the greatest level before them ends there in a place that asks for this level
+pub record EndsOperand (least : ℕ) (ts : List Tok) : Type 0 where
+  pub uncalled : reading.begins f.Open ts ≡ false
+  pub stays : (read : ℕ → List Tok → Read Tree) (turns : ℕ) (found : Tree) → reading.climb read turns least 10 found ts ≡ Ok (found, ts)

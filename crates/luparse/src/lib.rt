@@ -4,7 +4,8 @@
 //! tells by a [`ParseError`] the first token with which no program goes on.
 //!
 //! - `pieces`: what is handed on while tokens are read.
-//! - `reader`: from tokens to the tree.
+//! - `reader`: from tokens to expressions, declarations and equations.
+//! - `nodes`: from tokens to nodes and programs.
 //! - `error`: why tokens are refused.
 //!
 //! `specs/Gives.antt` says what a reading function of the code answers, against the reading of `lugrammar`, and
@@ -12,12 +13,13 @@
 #![tactic(auto)]
 
 mod error;
+mod nodes;
 mod pieces;
 mod reader;
 
 pub use error::ParseError;
 pub use lutree::Program;
-pub use reader::parse_tokens;
+pub use nodes::parse_tokens;
 
 #[cfg(test)]
 mod tests;

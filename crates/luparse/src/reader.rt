@@ -1,35 +1,33 @@
 //! From tokens to the tree, from left to right. A place here is an index into the tokens.
 
 ghost use Rattle.std.specs.Prelude.{◌≡◌, ◌≢◌, ◌+◌, ◌<◌, ◌++◌, ◌≤◌, ℕ, suc, true, Ok, [], ◌∷◌, length, map, MatchOption, IfOk};
-ghost use Rattle.lutree.specs.Tree.{ProgramTree, view, views, declarations_view, equation_view, node_view, program_view};
-ghost use Rattle.lutree.specs.Tree as t;
-ghost use Rattle.lutoken.specs.Tokens.{tok, toks, located};
 ghost use Rattle.std.specs.Result.{IfErr};
-ghost use Rattle.lugrammar.specs.Grammar.{Spells, declared};
-ghost use Rattle.lugrammar.specs.Levels as levels;
+ghost use Rattle.lutree.specs.Tree.{view, views, declarations_view, equation_view};
+ghost use Rattle.lutree.specs.Tree as t;
+ghost use Rattle.lutoken.specs.Tokens.{tok};
+ghost use Rattle.lugrammar.specs.Grammar.{declared};
 ghost use Rattle.lugrammar.specs.Reading as reading;
-ghost use Rattle.luparse.specs.Gives.{Gives, GivesPlace, ahead, next_view, operand_view, name_behind, names_view, equations_view, nodes_view, heading_view};
-ghost use Rattle.luparse.specs.Refused.{IsAnswered, IsRefused, IsRefusedAt, IsWrongFrom};
+ghost use Rattle.luparse.specs.Gives.{Gives, GivesPlace, EndsOperand, atom, ahead, next_view, operand_view, name_behind, names_view, equations_view};
 
-use crate::error::{ParseError, Stop};
-use crate::pieces::{Heading, Next, Operand, PlacedName, byte_of, copied, operand_of, plain};
+use crate::error::Stop;
+use crate::pieces::{Next, Operand, PlacedName, byte_of, copied, operand_of, plain};
 use lugrammar::{binding_of, infix_of, prefix_of};
 use lulist::{Name, Row};
 use lutoken::{Fixed, Lexeme, Token};
-use lutree::{Condition, Declaration, Equation, Expr, Infix, Kind, Node, Prefix, Program};
+use lutree::{Condition, Declaration, Equation, Expr, Infix, Kind, Prefix};
 use std::alloc::Global;
 
 #[derive(Clone, Copy)]
-struct Reader<'t> {
-    alloc: Global,
-    tokens: &'t [Lexeme<'t>],
+pub(crate) struct Reader<'t> {
+    pub(crate) alloc: Global,
+    pub(crate) tokens: &'t [Lexeme<'t>],
     /// The length of the text.
-    end: usize,
+    pub(crate) end: usize,
 }
 
 /// Tokens.
 impl<'t> Reader<'t> {
-    fn token(&self, at: usize) -> Option<Token<'t>>
+    pub(crate) fn token(&self, at: usize) -> Option<Token<'t>>
         ensures { MatchOption result (ahead self.now.tokens.now at ≡ []) (λ x. (ahead self.now.tokens.now at ≡ tok x ∷ ahead self.now.tokens.now (at + 1)) × (at < length self.now.tokens.now)) }
     {
         match self.tokens.get(at) {
@@ -39,7 +37,7 @@ impl<'t> Reader<'t> {
     }
 
     /// The place in the text of this token, or the text's end.
-    fn byte(&self, at: usize) -> usize {
+    pub(crate) fn byte(&self, at: usize) -> usize {
         byte_of(self.tokens, self.end, at)
     }
 
@@ -61,7 +59,7 @@ impl<'t> Reader<'t> {
         }
     }
 
-    fn begins(&self, wanted: Fixed, at: usize) -> bool
+    pub(crate) fn begins(&self, wanted: Fixed, at: usize) -> bool
         ensures begins { result ≡ reading.begins wanted (ahead self.now.tokens.now at) }
         ensures within { result ≡ true → at < length self.now.tokens.now }
     {
@@ -69,7 +67,7 @@ impl<'t> Reader<'t> {
     }
 
     /// The place after this token, which has to stand here.
-    fn after(&self, wanted: Fixed, at: usize) -> Result<usize, Stop>
+    pub(crate) fn after(&self, wanted: Fixed, at: usize) -> Result<usize, Stop>
         ensures after { Gives self.now.tokens.now (ahead self.now.tokens.now) result (reading.after wanted (ahead self.now.tokens.now at)) }
         ensures within { IfOk result (λ next. next ≡ at + 1) }
     {
@@ -80,7 +78,7 @@ impl<'t> Reader<'t> {
     }
 
     /// The place after a semicolon that may be left out.
-    fn past_semicolon(&self, at: usize) -> usize
+    pub(crate) fn past_semicolon(&self, at: usize) -> usize
         ensures past { ahead self.now.tokens.now result ≡ reading.past Fixed.Semicolon (ahead self.now.tokens.now at) }
         ensures within { at ≤ result }
     {
@@ -97,7 +95,7 @@ impl<'t> Reader<'t> {
         matches!(self.token(at), Some(Token::Name(_)))
     }
 
-    fn name(&self, at: usize) -> Result<(Name, usize), Stop>
+    pub(crate) fn name(&self, at: usize) -> Result<(Name, usize), Stop>
         ensures name { Gives self.now.tokens.now (λ x. (x.0, ahead self.now.tokens.now x.1)) result (reading.name (ahead self.now.tokens.now at)) }
         ensures within { IfOk result (λ x. x.1 ≡ at + 1) }
     {
@@ -199,11 +197,62 @@ impl<'t> Reader<'t> {
     }
 }
 
+/// Names and constants.
+impl<'t> Reader<'t> {
+    /// Whether a name or a constant before this place is not called, and no operator of this level or above follows it.
+    fn ends_at(&self, least: u8, at: usize) -> bool
+        ensures { result ≡ true → EndsOperand least (ahead self.now.tokens.now at) }
+    {
+        if self.begins(Fixed::Open, at) {
+            return false;
+        }
+        match self.next_of(at) {
+            Next::Operator(op) => {
+                let binding = binding_of(op);
+                if least <= binding.level {
+                    return false;
+                }
+                true
+            }
+            Next::Clock | Next::Parenthesis => false,
+            Next::Nothing => true,
+        }
+    }
+
+    /// Whether an expression of this level or above is a name or a constant alone.
+    fn is_atom(&self, least: u8, at: usize) -> bool
+        ensures { result ≡ true → (depth : ℕ) → reading.expr (suc depth) least (ahead self.now.tokens.now at) ≡ atom (ahead self.now.tokens.now at) }
+    {
+        match self.token(at) {
+            Some(Token::Name(_)) => self.ends_at(least, at + 1),
+            Some(Token::Number(_)) => self.ends_at(least, at + 1),
+            Some(Token::Fixed(Fixed::True)) => self.ends_at(least, at + 1),
+            Some(Token::Fixed(Fixed::False)) => self.ends_at(least, at + 1),
+            _ => false,
+        }
+    }
+
+    /// A name or a constant alone.
+    fn atom(&self, at: usize) -> Result<(Expr, usize), Stop>
+        ensures atom { Gives self.now.tokens.now (λ x. (view x.0, ahead self.now.tokens.now x.1)) result (atom (ahead self.now.tokens.now at)) }
+        ensures within { IfOk result (λ x. at ≤ x.1) }
+    {
+        match self.token(at) {
+            Some(Token::Name(name)) => {
+                Ok((Expr::Variable(Name::from_text(self.alloc, name)?), at + 1))
+            }
+            Some(Token::Number(n)) => Ok((Expr::Number(n), at + 1)),
+            Some(Token::Fixed(Fixed::True)) => Ok((Expr::Truth(true), at + 1)),
+            Some(Token::Fixed(Fixed::False)) => Ok((Expr::Truth(false), at + 1)),
+            _ => Err(Stop::Refused(at)),
+        }
+    }
+}
+
 /// Expressions. A depth bounds how deeply they are nested.
 impl<'t> Reader<'t> {
     /// An expression of this level or above, and the place after it.
     #[cycle(parser)]
-    #[tactic(auto, unfolding(lugrammar::specs::Reading::expr, lugrammar::specs::Reading::whole))]
     fn expr(&self, depth: usize, least: u8, at: usize) -> Result<(Expr, usize), Stop>
         ensures expr { Gives self.now.tokens.now (λ x. (view x.0, ahead self.now.tokens.now x.1)) result (reading.expr depth least (ahead self.now.tokens.now at)) }
         ensures within { IfOk result (λ x. at ≤ x.1) }
@@ -211,8 +260,21 @@ impl<'t> Reader<'t> {
         if depth == 0 {
             return Err(Stop::Refused(at));
         }
-        let operand = self.head(depth - 1, least, at)?;
-        self.climb(depth - 1, depth - 1, least, operand)
+        if self.is_atom(least, at) {
+            return self.atom(at);
+        }
+        self.compound(depth - 1, least, at)
+    }
+
+    /// An operand, and the operators after it.
+    #[cycle(parser)]
+    #[tactic(auto, unfolding(lugrammar::specs::Reading::expr, lugrammar::specs::Reading::whole))]
+    fn compound(&self, depth: usize, least: u8, at: usize) -> Result<(Expr, usize), Stop>
+        ensures expr { Gives self.now.tokens.now (λ x. (view x.0, ahead self.now.tokens.now x.1)) result (reading.expr (suc depth) least (ahead self.now.tokens.now at)) }
+        ensures within { IfOk result (λ x. at ≤ x.1) }
+    {
+        let operand = self.head(depth, least, at)?;
+        self.climb(depth, depth, least, operand)
     }
 
     /// An operand before any operator follows it.
@@ -345,15 +407,16 @@ impl<'t> Reader<'t> {
         ensures operands { Gives self.now.tokens.now (λ x. (views x.0.items, ahead self.now.tokens.now x.1)) result (reading.many (reading.begins Fixed.Comma) (reading.further_operand (reading.expr depth)) turns (views found.items) (ahead self.now.tokens.now at)) }
         ensures within { IfOk result (λ x. at ≤ x.1) }
     {
-        if turns == 0 {
-            return Err(Stop::Refused(at));
+        let mut at = at;
+        for _ in 0..turns {
+            let Some(next) = self.passed(Fixed::Comma, at) else {
+                return Ok((found, at));
+            };
+            let (operand, next) = self.expr(depth, 0, next)?;
+            found.push(operand)?;
+            at = next;
         }
-        let Some(next) = self.passed(Fixed::Comma, at) else {
-            return Ok((found, at));
-        };
-        let (operand, next) = self.expr(depth, 0, next)?;
-        found.push(operand)?;
-        self.further_operands(depth, turns - 1, found, next)
+        Err(Stop::Refused(at))
     }
 
     /// The operators after an operand, at most so many.
@@ -369,38 +432,44 @@ impl<'t> Reader<'t> {
         ensures climb { Gives self.now.tokens.now (λ x. (view x.0, ahead self.now.tokens.now x.1)) result (reading.climb (reading.expr depth) turns least operand.level (view operand.found) (ahead self.now.tokens.now operand.next)) }
         ensures within { IfOk result (λ x. operand.next ≤ x.1) }
     {
-        let Operand { level, found, next } = operand;
-        if turns == 0 {
-            return Ok((found, next));
-        }
-        match self.next_of(next) {
-            Next::Operator(op) => {
-                let binding = binding_of(op);
-                if least > binding.level {
-                    return Ok((found, next));
+        let Operand {
+            mut level,
+            mut found,
+            mut next,
+        } = operand;
+        for _ in 0..turns {
+            match self.next_of(next) {
+                Next::Operator(op) => {
+                    let binding = binding_of(op);
+                    if least > binding.level {
+                        return Ok((found, next));
+                    }
+                    if binding.left > level {
+                        return Ok((found, next));
+                    }
+                    let (right, after) = self.expr(depth, binding.right, next + 1)?;
+                    found = self.binary(op, found, right)?;
+                    level = binding.level;
+                    next = after;
+                    continue;
                 }
-                if binding.left > level {
-                    return Ok((found, next));
+                Next::Clock => {
+                    if least > 9 {
+                        return Ok((found, next));
+                    }
+                    if level < 9 {
+                        return Ok((found, next));
+                    }
+                    let (clock, after) = self.condition(next + 1)?;
+                    found = self.when(found, clock)?;
+                    level = 9;
+                    next = after;
+                    continue;
                 }
-                let (right, next) = self.expr(depth, binding.right, next + 1)?;
-                let found = self.binary(op, found, right)?;
-                let level = binding.level;
-                self.climb(depth, turns - 1, least, Operand { level, found, next })
+                Next::Parenthesis | Next::Nothing => return Ok((found, next)),
             }
-            Next::Clock => {
-                if least > 9 {
-                    return Ok((found, next));
-                }
-                if level < 9 {
-                    return Ok((found, next));
-                }
-                let (clock, next) = self.condition(next + 1)?;
-                let found = self.when(found, clock)?;
-                let level = 9;
-                self.climb(depth, turns - 1, least, Operand { level, found, next })
-            }
-            Next::Parenthesis | Next::Nothing => Ok((found, next)),
         }
+        Ok((found, next))
     }
 }
 
@@ -506,7 +575,7 @@ impl<'t> Reader<'t> {
 
     /// `decl { ";" decl }`
     #[tactic(auto, unfolding(lugrammar::specs::Reading::declarations))]
-    fn declarations(&self, at: usize) -> Result<(Vec<Declaration>, usize), Stop>
+    pub(crate) fn declarations(&self, at: usize) -> Result<(Vec<Declaration>, usize), Stop>
         ensures declarations { Gives self.now.tokens.now (λ x. (declarations_view x.0.items, ahead self.now.tokens.now x.1)) result (reading.declarations (suc (length self.now.tokens.now)) (ahead self.now.tokens.now at)) }
         ensures within { IfOk result (λ x. at ≤ x.1) }
     {
@@ -520,7 +589,7 @@ impl<'t> Reader<'t> {
 
     /// `[ decls ]`
     #[tactic(auto, unfolding(lugrammar::specs::Reading::inputs))]
-    fn inputs(&self, at: usize) -> Result<(Vec<Declaration>, usize), Stop>
+    pub(crate) fn inputs(&self, at: usize) -> Result<(Vec<Declaration>, usize), Stop>
         ensures declarations { Gives self.now.tokens.now (λ x. (declarations_view x.0.items, ahead self.now.tokens.now x.1)) result (reading.inputs (suc (length self.now.tokens.now)) (ahead self.now.tokens.now at)) }
         ensures within { IfOk result (λ x. at ≤ x.1) }
     {
@@ -541,7 +610,7 @@ impl<'t> Reader<'t> {
 
     /// `[ "var" decl ";" { decl ";" } ]`
     #[tactic(auto, unfolding(lugrammar::specs::Reading::locals))]
-    fn locals(&self, at: usize) -> Result<(Vec<Declaration>, usize), Stop>
+    pub(crate) fn locals(&self, at: usize) -> Result<(Vec<Declaration>, usize), Stop>
         ensures declarations { Gives self.now.tokens.now (λ x. (declarations_view x.0.items, ahead self.now.tokens.now x.1)) result (reading.locals (suc (length self.now.tokens.now)) (ahead self.now.tokens.now at)) }
         ensures within { IfOk result (λ x. at ≤ x.1) }
     {
@@ -643,7 +712,7 @@ impl<'t> Reader<'t> {
     }
 
     #[tactic(auto, unfolding(lugrammar::specs::Reading::equations))]
-    fn equations(&self, at: usize) -> Result<(Vec<Equation>, usize), Stop>
+    pub(crate) fn equations(&self, at: usize) -> Result<(Vec<Equation>, usize), Stop>
         ensures equations { Gives self.now.tokens.now (λ x. (equations_view x.0.items, ahead self.now.tokens.now x.1)) result (reading.equations (suc (length self.now.tokens.now)) (ahead self.now.tokens.now at)) }
         ensures within { IfOk result (λ x. at ≤ x.1) }
     {
@@ -653,121 +722,5 @@ impl<'t> Reader<'t> {
             next = self.ended_equation(&mut found, next)?;
         }
         Ok((found, next))
-    }
-}
-
-/// Nodes.
-impl<'t> Reader<'t> {
-    /// `"node" ident "(" [ decls ] ")" "returns" "(" decls ")" [ ";" ]`
-    #[tactic(auto, unfolding(lugrammar::specs::Reading::heading))]
-    fn heading(&self, at: usize) -> Result<(Heading, usize), Stop>
-        ensures heading { Gives self.now.tokens.now (λ x. (heading_view x.0, ahead self.now.tokens.now x.1)) result (reading.heading (suc (length self.now.tokens.now)) (ahead self.now.tokens.now at)) }
-        ensures within { IfOk result (λ x. at < x.1) }
-    {
-        let next = self.after(Fixed::Node, at)?;
-        let byte = self.byte(next);
-        let (name, next) = self.name(next)?;
-        let next = self.after(Fixed::Open, next)?;
-        let (inputs, next) = self.inputs(next)?;
-        let next = self.after(Fixed::Close, next)?;
-        let next = self.after(Fixed::Returns, next)?;
-        let next = self.after(Fixed::Open, next)?;
-        let (outputs, next) = self.declarations(next)?;
-        let next = self.after(Fixed::Close, next)?;
-        let heading = Heading {
-            name,
-            byte,
-            inputs,
-            outputs,
-        };
-        Ok((heading, self.past_semicolon(next)))
-    }
-
-    /// `"let" { equation ";" } "tel" [ ";" ]`
-    #[tactic(auto, unfolding(lugrammar::specs::Reading::body))]
-    fn body(&self, at: usize) -> Result<(Vec<Equation>, usize), Stop>
-        ensures body { Gives self.now.tokens.now (λ x. (equations_view x.0.items, ahead self.now.tokens.now x.1)) result (reading.body (suc (length self.now.tokens.now)) (ahead self.now.tokens.now at)) }
-        ensures within { IfOk result (λ x. at < x.1) }
-    {
-        let next = self.after(Fixed::Let, at)?;
-        let (equations, next) = self.equations(next)?;
-        let next = self.after(Fixed::Tel, next)?;
-        Ok((equations, self.past_semicolon(next)))
-    }
-
-    #[tactic(auto, unfolding(lugrammar::specs::Reading::node))]
-    fn node(&self, at: usize) -> Result<(Node, usize), Stop>
-        ensures node { Gives self.now.tokens.now (λ x. (node_view x.0, ahead self.now.tokens.now x.1)) result (reading.node (suc (length self.now.tokens.now)) (ahead self.now.tokens.now at)) }
-        ensures within { IfOk result (λ x. at < x.1) }
-    {
-        let (heading, next) = self.heading(at)?;
-        let (locals, next) = self.locals(next)?;
-        let (equations, next) = self.body(next)?;
-        let node = Node {
-            name: heading.name,
-            byte: heading.byte,
-            inputs: Row::new(heading.inputs),
-            outputs: Row::new(heading.outputs),
-            locals: Row::new(locals),
-            equations: Row::new(equations),
-        };
-        Ok((node, next))
-    }
-
-    fn further_node(&self, found: &mut Vec<Node>, at: usize) -> Result<usize, Stop>
-        ensures node { Gives self.now.tokens.now (λ next. (nodes_view found.new.items, ahead self.now.tokens.now next)) result (reading.further_node (suc (length self.now.tokens.now)) (nodes_view found.old.items) (ahead self.now.tokens.now at)) }
-        ensures within { IfOk result (λ next. at < next) }
-    {
-        let (node, next) = self.node(at)?;
-        found.push(node)?;
-        Ok(next)
-    }
-
-    /// `node { node }`
-    #[tactic(auto, unfolding(lugrammar::specs::Reading::program))]
-    fn program(&self, at: usize) -> Result<(Vec<Node>, usize), Stop>
-        ensures { Gives self.now.tokens.now (λ x. (nodes_view x.0.items, ahead self.now.tokens.now x.1)) result (reading.program (suc (length self.now.tokens.now)) (ahead self.now.tokens.now at)) }
-    {
-        let mut found = Vec::new(self.alloc);
-        let mut next = self.further_node(&mut found, at)?;
-        while self.begins(Fixed::Node, next) {
-            next = self.further_node(&mut found, next)?;
-        }
-        Ok((found, next))
-    }
-}
-
-#[tactic(auto, unfolding(lugrammar::specs::Reading::all_of))]
-fn all(alloc: Global, tokens: &[Lexeme<'_>], end: usize) -> Result<Program, Stop>
-    ensures { Gives tokens.now program_view result (reading.all_of (toks tokens.now)) }
-{
-    let reader = Reader { alloc, tokens, end };
-    let (nodes, next) = reader.program(0)?;
-    match reader.token(next) {
-        None => Ok(Program {
-            nodes: Row::new(nodes),
-        }),
-        Some(_) => Err(Stop::Refused(next)),
-    }
-}
-
-/// The program that all of the tokens spell. The text ends at the given place.
-#[tactic(auto, using(crate::proofs::Whole::spelled_by))]
-pub fn parse_tokens(alloc: Global, tokens: &[Lexeme<'_>], end: usize) -> Result<Program, ParseError>
-    // What is answered is spelled so.
-    ensures spelled { IfOk result (λ found. Spells (toks tokens.now) (program_view found)) }
-    // What is spelled so is answered, unless memory runs out. So no tokens spell two programs.
-    ensures only { (tree : ProgramTree) → Spells (toks tokens.now) tree → IsAnswered result tree }
-    // The tokens before the one that is told begin a program, and no program goes on with it.
-    ensures refused { IfErr result (IsRefused (located tokens.now) end) }
-    // Where that is so at a place, it is told, unless memory runs out.
-    ensures refuses { (byte : ℕ) → IsWrongFrom (located tokens.now) end byte → IsRefusedAt result byte }
-{
-    match all(alloc, tokens, end) {
-        Ok(program) => Ok(program),
-        Err(Stop::Refused(at)) => Err(ParseError::Syntax {
-            byte: byte_of(tokens, end, at),
-        }),
-        Err(Stop::OutOfMemory) => Err(ParseError::OutOfMemory),
     }
 }

@@ -43,15 +43,19 @@ pub(crate) fn put_expr(text: &mut String, e: &Expr) -> Result<(), AllocError>
         Expr::Number(n) => write!(text, "{n}"),
         Expr::Truth(truth) => write!(text, "{truth}"),
         Expr::Variable(x) => text.push_str(x.as_str()),
-        Expr::Current(x) => write!(text, "current {}", x.as_str()),
+        Expr::Current(x) => {
+            text.push_str("current ")?;
+            text.push_str(x.as_str())
+        }
         Expr::Unary(op, a) => {
-            write!(text, "{} ", prefix_text(*op))?;
+            text.push_str(prefix_text(*op))?;
+            text.push(' ')?;
             put_operand(text, a, 8)
         }
         Expr::Binary(op, a, b) => {
             let binding = binding_of(*op);
             put_operand(text, a, binding.left)?;
-            write!(text, " {} ", infix_text(*op))?;
+            text.push_str(infix_text(*op))?;
             put_operand(text, b, binding.right)
         }
         Expr::If(a, b, c) => {
@@ -74,7 +78,8 @@ pub(crate) fn put_expr(text: &mut String, e: &Expr) -> Result<(), AllocError>
             text.push_str(")")
         }
         Expr::Call(f, arguments) => {
-            write!(text, "{}(", f.as_str())?;
+            text.push_str(f.as_str())?;
+            text.push_str("(")?;
             put_operands(text, arguments)?;
             text.push_str(")")
         }

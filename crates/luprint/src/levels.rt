@@ -1,6 +1,6 @@
 //! How tightly an expression binds, and how its operators are spelled.
 
-ghost use Rattle.std.specs.Prelude.{◌≡◌};
+ghost use Rattle.std.specs.Prelude.{◌≡◌, ◌++◌, codes};
 ghost use Rattle.lutree.specs.Tree.{view};
 ghost use Rattle.lutoken.specs.Tokens.{text_of};
 ghost use Rattle.lugrammar.specs.Levels.{prefix_token, infix_token};
@@ -34,35 +34,35 @@ pub(crate) fn prefix_text(op: Prefix) -> &'static str
     }
 }
 
-/// The spelling of an operator between its operands.
+/// The spelling of an operator between its operands, with a space before it and after it.
 pub(crate) fn infix_text(op: Infix) -> &'static str
-    ensures { result.now ≡ text_of (infix_token op) }
+    ensures { result.now ≡ codes " " ++ text_of (infix_token op) ++ codes " " }
 {
     match op {
-        Infix::Arrow => "->",
-        Infix::FollowedBy => "fby",
+        Infix::Arrow => " -> ",
+        Infix::FollowedBy => " fby ",
         Infix::Data(op) => data_text(op),
     }
 }
 
 fn data_text(op: BinaryOperator) -> &'static str
-    ensures { result.now ≡ text_of (infix_token (Infix.Data op)) }
+    ensures { result.now ≡ codes " " ++ text_of (infix_token (Infix.Data op)) ++ codes " " }
 {
     match op {
-        BinaryOperator::Add => "+",
-        BinaryOperator::Subtract => "-",
-        BinaryOperator::Multiply => "*",
-        BinaryOperator::Divide => "div",
-        BinaryOperator::Modulo => "mod",
-        BinaryOperator::Less => "<",
-        BinaryOperator::LessEqual => "<=",
-        BinaryOperator::Greater => ">",
-        BinaryOperator::GreaterEqual => ">=",
-        BinaryOperator::Equal => "=",
-        BinaryOperator::Unequal => "<>",
-        BinaryOperator::And => "and",
-        BinaryOperator::Or => "or",
-        BinaryOperator::Xor => "xor",
-        BinaryOperator::Implies => "=>",
+        BinaryOperator::Add => " + ",
+        BinaryOperator::Subtract => " - ",
+        BinaryOperator::Multiply => " * ",
+        BinaryOperator::Divide => " div ",
+        BinaryOperator::Modulo => " mod ",
+        BinaryOperator::Less => " < ",
+        BinaryOperator::LessEqual => " <= ",
+        BinaryOperator::Greater => " > ",
+        BinaryOperator::GreaterEqual => " >= ",
+        BinaryOperator::Equal => " = ",
+        BinaryOperator::Unequal => " <> ",
+        BinaryOperator::And => " and ",
+        BinaryOperator::Or => " or ",
+        BinaryOperator::Xor => " xor ",
+        BinaryOperator::Implies => " => ",
     }
 }

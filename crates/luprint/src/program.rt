@@ -23,12 +23,9 @@ fn kind_text(kind: Kind) -> &'static str
 fn put_declaration(text: &mut String, declared: &Declaration) -> Result<(), AllocError>
     ensures { IfOk result (λ _. string_bytes text.new ≡ string_bytes text.old ++ declaration (declaration_view declared.now)) }
 {
-    write!(
-        text,
-        "{}: {}",
-        declared.name.as_str(),
-        kind_text(declared.kind)
-    )?;
+    text.push_str(declared.name.as_str())?;
+    text.push_str(": ")?;
+    text.push_str(kind_text(declared.kind))?;
     match &declared.clock {
         Some(condition) => put_when(text, condition),
         None => Ok(()),

@@ -1,4 +1,4 @@
--- The programs that are accepted now: one node without inputs, all variables int on the base clock, each equation
+-- The first language: one node without inputs, all variables int on the base clock, each equation
 -- `v = NUMBER -> pre w + NUMBER`.
 use Rattle.std.specs.Prelude.{◌≡◌, ℕ, ◌≤◌, List, [], ◌∷◌, map, None, All, Contains}
 use Rattle.lutree.specs.declared.expr.Prefix.TheVariants.{Pre}
@@ -31,7 +31,7 @@ IsInRange line = (line.first ≤ 9223372036854775807) × (line.step ≤ 92233720
 abbrev pub IsPlain : DeclarationTree → Type 0
 IsPlain d = (d.kind ≡ Int) × (d.clock ≡ None)
 
--- what the grammar of the first language gives
+-- a program of the first language, whatever its names
 pub record IsFirstShape (program : ProgramTree) : Type 0 where
   pub node : NodeTree
   pub lines : List Line

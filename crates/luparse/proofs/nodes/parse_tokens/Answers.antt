@@ -1,5 +1,5 @@
 use Rattle.luparse.proofs.Whole.{same_tree, none_spelled, is_wrong, same_place, not_wrong}
-use Rattle.luparse.proofs.reader.parse_tokens.Goals as goal
+use Rattle.luparse.proofs.nodes.parse_tokens.Goals as goal
 
 pub returns-in-Ok-clause-only : goal.returns-in-Ok-clause-only
 returns-in-Ok-clause-only c = λ tree spelled. same_tree _ _ tree c.in-Ok.ensures spelled
