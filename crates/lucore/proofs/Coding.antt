@@ -6,8 +6,8 @@ use Rattle.std.specs.Option.{option_map}
 use Rattle.std.proofs.lemmas.List.{map-append, length-map, take_more}
 use Rattle.std.proofs.lemmas.Option.{slice_get_read, slice_get-map}
 use Rattle.lusource.specs.First.{Line}
-use Rattle.lutype.specs.declared.parts.Parts.{Parts}
-use Rattle.lutype.specs.Parts.{line_of, lines_of}
+use Rattle.lufirst.specs.declared.parts.Parts.{Parts}
+use Rattle.lufirst.specs.Parts.{line_of, lines_of}
 use Rattle.lucore.specs.Layout.{in_fours}
 use Rattle.lucore.proofs.Lists.{AreFours, length-in_fours, all_at}
 

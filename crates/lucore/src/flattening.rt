@@ -5,7 +5,7 @@ ghost use Rattle.luflow.specs.Program.{reads};
 ghost use Rattle.lutree.specs.Tree.{node_view};
 ghost use Rattle.lusource.specs.Names.{name_at};
 ghost use Rattle.lusource.specs.First.{IsFirstProgram};
-ghost use Rattle.lutype.specs.Names.{tree_of};
+ghost use Rattle.lufirst.specs.Names.{tree_of};
 ghost use Rattle.lucore.specs.Layout.{flow_count, variable_names};
 ghost use Rattle.lucore.specs.Ranking.{AreClosed, IsRanking};
 ghost use Rattle.lucore.specs.Result.{IsFlatOf, Refuses};
@@ -13,10 +13,10 @@ ghost use Rattle.lucore.specs.Result.{IsFlatOf, Refuses};
 use crate::error::CoreError;
 use crate::layout::{is_too_large, lay_out, rows_in};
 use crate::ranks::{Ranking, rank};
+use lufirst::Typed;
 use luflow::{Flat, Flow, Variable};
 use lulist::{Name, Row};
 use lutree::Node;
-use lutype::Typed;
 use std::alloc::{AllocError, Global};
 
 // The one node.

@@ -7,14 +7,14 @@ ghost use Rattle.luflow.specs.Program.{reads};
 ghost use Rattle.lutree.specs.Tree.{declarations_view, node_view};
 ghost use Rattle.lusource.specs.Names.{place_of};
 ghost use Rattle.lusource.specs.First.{Line, IsInRange, equation_of, lefts_of};
-ghost use Rattle.lutype.specs.Parts.{line_of, lines_of};
+ghost use Rattle.lufirst.specs.Parts.{line_of, lines_of};
 ghost use Rattle.lucore.specs.Layout.{int_flow, inner_flows, root_flow, start_of, four_times, laid_flows, laid_owners, variables_as, main_variables, variable_names, node_count};
 ghost use Rattle.lucore.specs.Code.{AreLaid, HasLines, roots_of};
 
+use lufirst::{Parts, lines_in};
 use luflow::{Clock, Datum, Flow, Form, Role, Variable};
 use lulist::{Name, Row};
 use lutree::{BinaryOperator, Declaration, Kind, Node};
-use lutype::{Parts, lines_in};
 use std::alloc::{AllocError, Global};
 
 /// The most flows that a flat program may have.

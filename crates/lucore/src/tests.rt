@@ -5,14 +5,14 @@ ghost use Rattle.lutree.specs.declared.expr.Prefix.TheVariants.{Pre};
 ghost use Rattle.lutree.specs.Tree.{program_view, view};
 ghost use Rattle.lutree.specs.Tree as t;
 ghost use Rattle.lusource.specs.First.{IsFirstShape};
-ghost use Rattle.lutype.specs.Built.{IsLine, IsPlainVariable};
+ghost use Rattle.lufirst.specs.Built.{IsLine, IsPlainVariable};
 
 use crate::error::CoreError;
 use crate::flattening::flatten;
+use lufirst::names;
 use luflow::{Clock, Datum, Flow, Form, Role};
 use lulist::{Name, Row};
 use lutree::{BinaryOperator, Declaration, Equation, Expr, Infix, Kind, Node, Prefix, Program};
-use lutype::names;
 use std::alloc::{AllocError, Global};
 use std::test::Fail;
 

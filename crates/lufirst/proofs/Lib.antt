@@ -1,1 +1,5 @@
 pub mod Shapes
+pub mod LineLemmas
+pub mod Finding
+pub mod Judging
+pub mod Building

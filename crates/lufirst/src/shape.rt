@@ -5,8 +5,8 @@ ghost use Rattle.lutree.specs.Tree.{program_view, node_view};
 ghost use Rattle.lusource.specs.First.{IsFirstShape};
 ghost use Rattle.lufirst.specs.Lines.{IsPlainVariable, HasPlainVariables, IsLine};
 
+use crate::parts::parts_of;
 use lutree::{Declaration, Equation, Kind, Node, Program};
-use lutype::parts_of;
 
 /// The greatest number of 64 bits with a sign.
 const GREATEST: u64 = 9_223_372_036_854_775_807;

@@ -1,7 +1,7 @@
 -- The exit statuses of a call that stops.
 use Rattle.std.specs.Prelude.{ℕ}
 use Rattle.lusyn.specs.declared.error.SynError.TheVariants as syn
-use Rattle.lutype.specs.declared.error.StatError.TheVariants as stat
+use Rattle.lufirst.specs.declared.error.StatError.TheVariants as stat
 use Rattle.lucore.specs.declared.error.CoreError.TheVariants as core
 use Rattle.luplacefile.specs.declared.error.PlaceError.TheVariants as place
 use Rattle.lutab.specs.declared.error.TabError.TheVariants as tab

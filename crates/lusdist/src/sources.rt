@@ -13,7 +13,7 @@ ghost use Rattle.lusdist.specs.Asked.{IsFlatOfText, IsPlanOfText};
 
 use crate::stop::Stop;
 use lucore::flatten;
-use lufirst::is_first;
+use lufirst::{is_first, names};
 use luflow::Flat;
 use lulist::Name;
 use luplace::{Job, Plan};
@@ -22,7 +22,6 @@ use lushell::{Files, ReadError, read_schedule, text_of};
 use lusyn::read_program;
 use lutab::{TabError, read_inputs};
 use lutree::Program;
-use lutype::names;
 use std::alloc::Global;
 
 /// The bytes of the file at the path.

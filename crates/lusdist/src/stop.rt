@@ -4,12 +4,12 @@ ghost use Rattle.std.specs.Prelude.{◌≡◌};
 ghost use Rattle.lusdist.specs.Statuses.{status_of};
 
 use lucore::CoreError;
+use lufirst::StatError;
 use lulist::Name;
 use luplacefile::PlaceError;
 use lushell::ScheduleError;
 use lusyn::SynError;
 use lutab::TabError;
-use lutype::StatError;
 use std::alloc::AllocError;
 use thiserror::Error;
 

@@ -1,4 +1,7 @@
-pub mod LineLemmas
-pub mod Finding
-pub mod Judging
-pub mod Building
+pub mod Forms
+pub mod Lookups
+pub mod Fit
+pub mod Defining
+pub mod Places
+pub mod Standing
+pub mod Told

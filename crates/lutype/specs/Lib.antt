@@ -1,6 +1,6 @@
-pub mod Names
-pub mod Parts
-pub mod Spots
-pub mod Faults
-pub mod Built
-pub mod Told
+pub mod Forms
+pub mod Asked
+pub mod CallRules
+pub mod Starts
+pub mod Tables
+pub mod Named

@@ -1,22 +1,24 @@
-//! The checks of names.
+//! The first stage of the static checks: names and types.
 //!
-//! - [`names`]: whether the names of a program are in order, or a [`StatError`].
-//! - [`Typed`]: a program whose names are in order, with the name of its main node.
-//! - [`lines_in`], [`parts_of`], [`Parts`]: what equations consist of.
+//! - [`names`]: whether the names and types of a program are in order, or a `StatError` that tells a rule that is broken.
+//! - [`Typed`]: a program whose names and types are in order.
+//! - [`least_fault`]: the fault that is told, by the rules that look at one place alone.
 //!
-//! Which programs have their names in order is said by `IsFirstProgram`; which rule a refusal says to be broken stands in
-//! `specs/Faults.antt`.
+//! The rules are those of `lurules`; which of them the search asks for stands in `specs/Asked.antt`.
 #![tactic(auto)]
 
-mod error;
-mod naming;
-mod parts;
-mod spots;
+mod calls;
+mod checked;
+mod defined;
+mod faults;
+mod kinds;
+mod known;
+mod search;
 #[cfg(test)]
 mod tests;
 mod typed;
+mod typing;
 
-pub use error::StatError;
-pub use naming::names;
-pub use parts::{Parts, lines_in, parts_of};
+pub use checked::names;
+pub use search::least_fault;
 pub use typed::Typed;

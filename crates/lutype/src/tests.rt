@@ -1,208 +1,312 @@
-//! Trees made by hand, with the places of their text.
+//! The refusals of texts, with their places.
 
-ghost use Rattle.std.specs.Prelude.{◌≡◌, All, IfOk};
-ghost use Rattle.lutree.specs.declared.expr.Prefix.TheVariants.{Pre};
-ghost use Rattle.lutree.specs.Tree.{program_view, view};
-ghost use Rattle.lutree.specs.Tree as t;
-ghost use Rattle.lusource.specs.First.{IsFirstShape};
-ghost use Rattle.lutype.specs.Built.{IsLine, IsPlainVariable};
-
-use crate::error::StatError;
-use crate::naming::names;
-use crate::parts::{lines_in, parts_of};
-use lulist::{Name, Row};
-use lutree::{BinaryOperator, Declaration, Equation, Expr, Infix, Kind, Node, Prefix, Program};
-use std::alloc::{AllocError, Global};
+use crate::names;
+use lurules::StatError;
+use lusyn::read_program;
+use std::alloc::Global;
+use std::process::Abort;
 use std::test::Fail;
 
-fn declared(alloc: Global, name: &str, byte: usize) -> Result<Declaration, AllocError>
-    ensures { IfOk result IsPlainVariable }
-{
-    Ok(Declaration {
-        name: Name::from_text(alloc, name)?,
-        kind: Kind::Int,
-        clock: None,
-        byte,
-    })
-}
-
-fn number(n: u64) -> Expr
-    ensures { view result ≡ t.number n }
-{
-    Expr::Number(n)
-}
-
-fn variable(alloc: Global, name: &str) -> Result<Expr, AllocError>
-    ensures { IfOk result (λ e. view e ≡ t.variable name.now) }
-{
-    Ok(Expr::Variable(Name::from_text(alloc, name)?))
-}
-
-fn before(alloc: Global, a: Expr) -> Result<Expr, AllocError>
-    ensures { IfOk result (λ e. view e ≡ t.unary Pre (view a)) }
-{
-    Ok(Expr::Unary(Prefix::Pre, Box::new(alloc, a)?))
-}
-
-fn both(alloc: Global, op: Infix, a: Expr, b: Expr) -> Result<Expr, AllocError>
-    ensures { IfOk result (λ e. view e ≡ t.binary op (view a) (view b)) }
-{
-    let a = Box::new(alloc, a)?;
-    Ok(Expr::Binary(op, a, Box::new(alloc, b)?))
-}
-
-/// `left = 0 -> pre from + 1`
-fn counting(alloc: Global, left: &str, from: &str, byte: usize) -> Result<Equation, AllocError>
-    ensures { IfOk result IsLine }
-{
-    let before = before(alloc, variable(alloc, from)?)?;
-    let plus = Infix::Data(BinaryOperator::Add);
-    let sum = both(alloc, plus, before, number(1))?;
-    let right = both(alloc, Infix::Arrow, number(0), sum)?;
-    let left = vec![in alloc; Name::from_text(alloc, left)?]?;
-    Ok(Equation {
-        left: Row::new(left),
-        right,
-        byte,
-    })
-}
-
-/// A node `main` with these outputs and equations.
-fn program(
-    alloc: Global,
-    outputs: Vec<Declaration>,
-    equations: Vec<Equation>,
-) -> Result<Program, AllocError>
-    requires plain { All IsPlainVariable outputs.items }
-    requires lines { All IsLine equations.items }
-    ensures { IfOk result (λ p. IsFirstShape (program_view p)) }
-{
-    let name = Name::from_text(alloc, "main")?;
-    let inputs = Vec::new(alloc);
-    let locals = Vec::new(alloc);
-    let node = Node {
-        name,
-        byte: 5,
-        inputs: Row::new(inputs),
-        outputs: Row::new(outputs),
-        locals: Row::new(locals),
-        equations: Row::new(equations),
-    };
-    let nodes = vec![in alloc; node]?;
-    Ok(Program {
-        nodes: Row::new(nodes),
-    })
-}
-
-/// A node `main` with two outputs and two equations, each with its place.
-fn pair(
-    alloc: Global,
-    a: (&str, usize),
-    b: (&str, usize),
-    x: (&str, &str, usize),
-    y: (&str, &str, usize),
-) -> Result<Program, AllocError>
-    ensures { IfOk result (λ p. IsFirstShape (program_view p)) }
-{
-    let mut outputs = Vec::new(alloc);
-    outputs.push(declared(alloc, a.0, a.1)?)?;
-    outputs.push(declared(alloc, b.0, b.1)?)?;
-    let mut equations = Vec::new(alloc);
-    equations.push(counting(alloc, x.0, x.1, x.2)?)?;
-    equations.push(counting(alloc, y.0, y.1, y.2)?)?;
-    program(alloc, outputs, equations)
-}
-
-/// The fault of a program.
-fn fault(alloc: Global, program: &Program, main: &str) -> Option<StatError>
-    requires { IsFirstShape (program_view program.now) }
-{
-    names(alloc, program, main).err()
-}
-
-#[test]
-fn the_fault_of_the_least_byte_is_told(rt: HostRuntime) -> Result<(), Fail> {
-    let alloc = rt.alloc();
-    let good = pair(alloc, ("a", 21), ("b", 33), ("a", "b", 50), ("b", "a", 70))?;
-    assert_eq!(rt; fault(alloc, &good, "main"), None);
-    assert_eq!(rt; fault(alloc, &good, "mains"), Some(StatError::NoMain));
-    let unknown = pair(alloc, ("a", 21), ("b", 33), ("a", "b", 50), ("b", "c", 70))?;
-    assert_eq!(rt;
-        fault(alloc, &unknown, "main"),
-        Some(StatError::UnknownName { byte: 70 })
-    );
-    let twice = pair(alloc, ("a", 21), ("b", 33), ("a", "b", 50), ("a", "b", 70))?;
-    assert_eq!(rt;
-        fault(alloc, &twice, "main"),
-        Some(StatError::Undefined { byte: 33 })
-    );
-    let late = pair(alloc, ("a", 80), ("b", 81), ("a", "b", 50), ("a", "b", 70))?;
-    assert_eq!(rt;
-        fault(alloc, &late, "main"),
-        Some(StatError::DefinedTwice { byte: 70 })
-    );
-    let same = pair(alloc, ("b", 21), ("b", 33), ("b", "b", 50), ("b", "b", 70))?;
-    assert_eq!(rt;
-        fault(alloc, &same, "main"),
-        Some(StatError::DuplicateName { byte: 33 })
-    );
-    Ok(())
-}
-
-#[test]
-fn at_equal_bytes_the_least_number_is_told(rt: HostRuntime) -> Result<(), Fail> {
-    let alloc = rt.alloc();
-    let both = pair(alloc, ("a", 80), ("b", 81), ("a", "b", 50), ("a", "c", 70))?;
-    assert_eq!(rt;
-        fault(alloc, &both, "main"),
-        Some(StatError::UnknownName { byte: 70 })
-    );
-    let same = pair(alloc, ("a", 21), ("a", 21), ("b", "b", 50), ("b", "b", 70))?;
-    assert_eq!(rt;
-        fault(alloc, &same, "main"),
-        Some(StatError::DuplicateName { byte: 21 })
-    );
-    Ok(())
-}
-
-#[test]
-fn an_equation_has_its_parts(rt: HostRuntime) -> Result<(), Fail> {
-    let alloc = rt.alloc();
-    let equation = counting(alloc, "a", "b", 12)?;
-    let parts = parts_of(&equation).ok_or("a line")?;
-    assert_eq!(rt; parts.left.as_str(), "a");
-    assert_eq!(rt; parts.from.as_str(), "b");
-    assert_eq!(rt; (parts.first, parts.step, parts.byte), (0, 1, 12));
-    let none = Vec::new(alloc);
-    assert_eq!(rt; lines_in(alloc, none.as_slice())?.len(), 0);
-    Ok(())
-}
-
-#[test]
-fn a_checked_program_lends_its_program(rt: HostRuntime) -> Result<(), Fail> {
-    let alloc = rt.alloc();
-    let program = pair(alloc, ("a", 21), ("b", 33), ("a", "b", 50), ("b", "b", 70))?;
-    let typed = names(alloc, &program, "main")?;
-    assert_eq!(rt; typed.main(), "main");
-    assert_eq!(rt; typed.program().nodes.as_slice().len(), 1);
-    Ok(())
-}
-
-#[test]
-fn refusals_are_printed(rt: HostRuntime) -> Result<(), Fail> {
-    let alloc = rt.alloc();
-    for (error, line) in [
-        (
-            StatError::DuplicateName { byte: 17 },
-            "E10 DuplicateName at 17",
-        ),
-        (StatError::UnknownName { byte: 40 }, "E11 UnknownName at 40"),
-        (StatError::Undefined { byte: 0 }, "E15 Undefined at 0"),
-        (StatError::DefinedTwice { byte: 9 }, "E16 DefinedTwice at 9"),
-        (StatError::NoMain, "E18 NoMain at 0"),
-        (StatError::OutOfMemory, "R2 OutOfMemory"),
-    ] {
-        assert_eq!(rt; error.to_string(alloc)?.as_str(), line);
+// Why a text is refused; none where its names and types are in order.
+fn refusal(alloc: Global, text: &str) -> Result<Option<StatError>, Fail> {
+    let program = read_program(alloc, text)?;
+    match names(alloc, &program, "main") {
+        Ok(_) => Ok(None),
+        Err(fault) => Ok(Some(fault)),
     }
+}
+
+// Each text is refused so.
+fn are_refused(rt: &impl Abort, alloc: Global, texts: &[(&str, StatError)]) -> Result<(), Fail> {
+    for (text, fault) in texts {
+        assert_eq!(rt; refusal(alloc, *text)?, Some(*fault), "{text}");
+    }
+    Ok(())
+}
+
+#[test]
+fn duplicate_names(rt: HostRuntime) -> Result<(), Fail> {
+    let texts = [
+        (
+            "node main(x: int) returns (x: int); let x = 1; tel",
+            StatError::DuplicateName { byte: 27 },
+        ),
+        (
+            "node f(x: int) returns (y: int); let y = x; tel node f(x: int) returns (y: int); let y = x; tel node main(x: int) returns (y: int); let y = f(x); tel",
+            StatError::DuplicateName { byte: 53 },
+        ),
+        (
+            "node main(x: int) returns (y: int); var v, v: int; let v = x; y = v; tel",
+            StatError::DuplicateName { byte: 43 },
+        ),
+    ];
+    are_refused(&rt, rt.alloc(), &texts)
+}
+
+#[test]
+fn unknown_names(rt: HostRuntime) -> Result<(), Fail> {
+    let texts = [
+        (
+            "node main(x: int) returns (y: int); let y = z; tel",
+            StatError::UnknownName { byte: 40 },
+        ),
+        (
+            "node main(x: int) returns (y: int when c); let y = x; tel",
+            StatError::UnknownName { byte: 27 },
+        ),
+        (
+            "node main(x: int) returns (y: int); let y = x; z = x; tel",
+            StatError::UnknownName { byte: 47 },
+        ),
+        (
+            "node main(x: int) returns (y: int); let y = merge c (true -> x) (false -> x); tel",
+            StatError::UnknownName { byte: 40 },
+        ),
+    ];
+    are_refused(&rt, rt.alloc(), &texts)
+}
+
+#[test]
+fn unknown_nodes(rt: HostRuntime) -> Result<(), Fail> {
+    let texts = [
+        (
+            "node main(x: int) returns (y: int); let y = g(x); tel",
+            StatError::UnknownNode { byte: 40 },
+        ),
+        (
+            "node main(x: int) returns (y: int); let y = 1 + g(x); tel",
+            StatError::UnknownNode { byte: 40 },
+        ),
+        (
+            "node f(x: int) returns (y: int); let y = x; tel node main(x: int) returns (y: int); let y = f(g(x)); tel",
+            StatError::UnknownNode { byte: 88 },
+        ),
+    ];
+    are_refused(&rt, rt.alloc(), &texts)
+}
+
+#[test]
+fn mismatched_types(rt: HostRuntime) -> Result<(), Fail> {
+    let texts = [
+        (
+            "node main(x: bool) returns (y: int); let y = x; tel",
+            StatError::TypeMismatch { byte: 41 },
+        ),
+        (
+            "node main(x: int) returns (y: int); let y = if x then 1 else 2; tel",
+            StatError::TypeMismatch { byte: 40 },
+        ),
+        (
+            "node main(x: int) returns (y: int); var b: bool; let b = true; y = x + b; tel",
+            StatError::TypeMismatch { byte: 63 },
+        ),
+        (
+            "node f(x: int) returns (y: int); let y = x; tel node main(x: int) returns (y: int); let y = f(true); tel",
+            StatError::TypeMismatch { byte: 88 },
+        ),
+        (
+            "node f(x: int) returns (p: int; q: bool); let p = x; q = true; tel node main(x: int) returns (a: int; b: int); let (a, b) = f(x); tel",
+            StatError::TypeMismatch { byte: 115 },
+        ),
+    ];
+    are_refused(&rt, rt.alloc(), &texts)
+}
+
+#[test]
+fn wrong_arities(rt: HostRuntime) -> Result<(), Fail> {
+    let texts = [
+        (
+            "node f(x: int) returns (y: int); let y = x; tel node main(x: int) returns (y: int); let y = f(x, x); tel",
+            StatError::WrongArity { byte: 88 },
+        ),
+        (
+            "node f(x: int) returns (p: int; q: int); let p = x; q = x; tel node main(x: int) returns (y: int); let y = 1 + f(x); tel",
+            StatError::WrongArity { byte: 103 },
+        ),
+        (
+            "node f(x: int) returns (y: int); let y = x; tel node main(x: int) returns (y: int); let y = f(f(x, x)); tel",
+            StatError::WrongArity { byte: 88 },
+        ),
+        (
+            "node f(x: int) returns (y: int); let y = x; tel node main(x: int) returns (a: int; b: int); let (a, b) = f(x); tel",
+            StatError::WrongArity { byte: 96 },
+        ),
+    ];
+    are_refused(&rt, rt.alloc(), &texts)
+}
+
+#[test]
+fn undefined_variables(rt: HostRuntime) -> Result<(), Fail> {
+    let texts = [
+        (
+            "node main(x: int) returns (y: int); var v: int; let y = x; tel",
+            StatError::Undefined { byte: 40 },
+        ),
+        (
+            "node main(x: int) returns (y: int; z: int); let y = x; tel",
+            StatError::Undefined { byte: 35 },
+        ),
+        (
+            "node f(x: int) returns (y: int; z: int); let z = x; tel node main(x: int) returns (y: int); let y = x; tel",
+            StatError::Undefined { byte: 24 },
+        ),
+    ];
+    are_refused(&rt, rt.alloc(), &texts)
+}
+
+#[test]
+fn variables_defined_twice(rt: HostRuntime) -> Result<(), Fail> {
+    let texts = [
+        (
+            "node main(x: int) returns (y: int); let y = 1; y = 2; tel",
+            StatError::DefinedTwice { byte: 47 },
+        ),
+        (
+            "node main(x: int) returns (y: int); let x = 1; y = x; tel",
+            StatError::DefinedTwice { byte: 40 },
+        ),
+        (
+            "node f(x: int) returns (p: int; q: int); let p = x; q = x; tel node main(x: int) returns (a: int); let (a, a) = f(x); tel",
+            StatError::DefinedTwice { byte: 103 },
+        ),
+        (
+            "node f(x: int) returns (p: int; q: int); let p = x; q = x; tel node main(x: int) returns (a: int; b: int); let b = 1; (a, b) = f(x); tel",
+            StatError::DefinedTwice { byte: 118 },
+        ),
+    ];
+    are_refused(&rt, rt.alloc(), &texts)
+}
+
+#[test]
+fn recursive_nodes(rt: HostRuntime) -> Result<(), Fail> {
+    let texts = [
+        (
+            "node main(x: int) returns (y: int); let y = main(x); tel",
+            StatError::RecursiveNode { byte: 5 },
+        ),
+        (
+            "node f(x: int) returns (y: int); let y = g(x); tel node g(x: int) returns (y: int); let y = f(x); tel node main(x: int) returns (y: int); let y = x; tel",
+            StatError::RecursiveNode { byte: 5 },
+        ),
+        (
+            "node main(x: int) returns (y: int); let y = g(x); tel node g(x: int) returns (y: int); let y = 1 + g(x); tel",
+            StatError::RecursiveNode { byte: 59 },
+        ),
+    ];
+    are_refused(&rt, rt.alloc(), &texts)
+}
+
+#[test]
+fn no_main_node(rt: HostRuntime) -> Result<(), Fail> {
+    let texts = [
+        (
+            "node f(x: int) returns (y: int); let y = x; tel ",
+            StatError::NoMain,
+        ),
+        (
+            "node Main(x: int) returns (y: int); let y = x; tel",
+            StatError::NoMain,
+        ),
+        (
+            "node f(x: int) returns (y: int); let y = z; tel",
+            StatError::NoMain,
+        ),
+    ];
+    are_refused(&rt, rt.alloc(), &texts)
+}
+
+#[test]
+fn the_lesser_byte_is_told(rt: HostRuntime) -> Result<(), Fail> {
+    let texts = [
+        (
+            "node main(x: int) returns (y: int); var v: int; let v = z; tel",
+            StatError::Undefined { byte: 27 },
+        ),
+        (
+            "node main(x: int) returns (y: int); let y = true; y = z; tel",
+            StatError::TypeMismatch { byte: 40 },
+        ),
+        (
+            "node f(x: int) returns (y: int); let y = true; tel node main(x: int) returns (x: int); let x = 1; tel",
+            StatError::TypeMismatch { byte: 37 },
+        ),
+    ];
+    are_refused(&rt, rt.alloc(), &texts)
+}
+
+#[test]
+fn at_equal_bytes_the_lesser_number_is_told(rt: HostRuntime) -> Result<(), Fail> {
+    let texts = [
+        (
+            "node main(x: int) returns (y: int); let y = z + g(x); tel",
+            StatError::UnknownName { byte: 40 },
+        ),
+        (
+            "node f(x: int) returns (y: int); let y = x; tel node main(x: int) returns (y: int); let y = g(x) + f(x, x); tel",
+            StatError::UnknownNode { byte: 88 },
+        ),
+        (
+            "node f(x: int) returns (y: int); let y = x; tel node main(x: int) returns (y: int); let y = true + f(x, x); tel",
+            StatError::WrongArity { byte: 88 },
+        ),
+        (
+            "node main(x: int) returns (y: int); var v: int when c; let y = x; tel",
+            StatError::UnknownName { byte: 40 },
+        ),
+        (
+            "node main(x: int) returns (y: int); let y = x; y = true; tel",
+            StatError::TypeMismatch { byte: 47 },
+        ),
+    ];
+    are_refused(&rt, rt.alloc(), &texts)
+}
+
+// Faults of clocks and of initialisation are no matter of names and types.
+#[test]
+fn faults_of_later_stages_pass(rt: HostRuntime) -> Result<(), Fail> {
+    let clocks = "node main(x: int; c: bool) returns (y: int); let y = x + (x when c); tel";
+    assert_eq!(rt; refusal(rt.alloc(), clocks)?, None);
+    Ok(())
+}
+
+#[test]
+fn what_is_missing_at_first_passes(rt: HostRuntime) -> Result<(), Fail> {
+    let nil = "node main(x: int) returns (y: int); let y = pre x; tel";
+    assert_eq!(rt; refusal(rt.alloc(), nil)?, None);
+    Ok(())
+}
+
+const CALLS: &str =
+    "node main(x: int) returns (y: int); let y = f(x) -> pre y; tel node f(x: int) returns (y: int); let y = x; tel";
+
+#[test]
+fn a_call_stands_behind_what_it_calls(rt: HostRuntime) -> Result<(), Fail> {
+    let program = read_program(rt.alloc(), CALLS)?;
+    let typed = names(rt.alloc(), &program, "main")?;
+    assert_eq!(rt; typed.order(), [1, 0].as_slice());
+    Ok(())
+}
+
+#[test]
+fn the_main_node_has_its_name(rt: HostRuntime) -> Result<(), Fail> {
+    let program = read_program(rt.alloc(), CALLS)?;
+    let typed = names(rt.alloc(), &program, "f")?;
+    assert_eq!(rt; typed.main(), "f");
+    Ok(())
+}
+
+#[test]
+fn the_tables_find_the_nodes(rt: HostRuntime) -> Result<(), Fail> {
+    let program = read_program(rt.alloc(), CALLS)?;
+    let typed = names(rt.alloc(), &program, "main")?;
+    assert_eq!(rt; typed.catalog().place("f"), Some(1));
+    Ok(())
+}
+
+#[test]
+fn the_program_is_lent(rt: HostRuntime) -> Result<(), Fail> {
+    let program = read_program(rt.alloc(), CALLS)?;
+    let typed = names(rt.alloc(), &program, "main")?;
+    assert_eq!(rt; typed.program().nodes.as_slice().len(), 2);
     Ok(())
 }

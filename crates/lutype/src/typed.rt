@@ -1,59 +1,80 @@
-//! A program whose names are in order.
+//! A program whose names and types are in order.
 
 ghost use Rattle.std.specs.Prelude.{◌≡◌};
 ghost use Rattle.lutree.specs.Tree.{program_view};
-ghost use Rattle.lusource.specs.First.{IsFirstProgram};
-ghost use Rattle.lutype.specs.Names.{Chosen, tree_of};
+ghost use Rattle.lurules.specs.Accepted.{IsNamed};
+ghost use Rattle.lurules.specs.Naming.{IsCallOrder};
+ghost use Rattle.lutype.specs.Named.{AreInOrder};
 
+use luscope::Catalog;
 use lutree::Program;
 use std::marker::Model;
 
-/// A program whose names are in order, lent, with the name of its main node. A contract sees the `Chosen` of
-/// `specs/Names.antt`.
+/// A program whose names and types are in order, lent, with the name of its main node and an order of its nodes in which calls
+/// go backward. A contract sees the `Named` of `specs/Named.antt`.
 #[derive(Drop)]
 pub struct Typed<'a> {
-    program: &'a Program,
+    catalog: Catalog<'a>,
     main: &'a str,
+    order: Vec<usize>,
 }
 
 impl<'a> Model for Typed<'a> {
-    ghost use Rattle.lutype.specs.Names.{Chosen};
+    ghost use Rattle.lutype.specs.Named.{Named};
     ghost use Rattle.std.specs.Coded.{codes};
     ghost use Rattle.lutree.specs.contracts.expr.Expr as tree_row;
 
-    ghost Value = { Chosen };
+    ghost Value = { Named };
 
     ghost coded = { Prim.hlevel (codes, tree_row.the_row.coded) };
 
-    ghost use Rattle.lutree.specs.Tree.{program_view};
-    ghost use Rattle.lusource.specs.First.{IsFirstProgram};
+    ghost use Rattle.lutype.specs.Named.{AreInOrder};
 
-    ghost view = { λ t. record { program = t.program.now; main = t.main.now } };
+    ghost view = { λ t. record { program = t.catalog; main = t.main.now; order = t.order.items } };
 
-    ghost invariant = { λ t. IsFirstProgram (program_view t.program.now) t.main.now };
+    ghost invariant = { λ t. AreInOrder (record { program = t.catalog; main = t.main.now; order = t.order.items }) };
 }
 
 impl<'a> Typed<'a> {
-    /// The program and the name of its main node, of which the check is done.
-    pub fn new(program: &'a Program, main: &'a str) -> Typed<'a>
-        requires { IsFirstProgram (program_view program.now) main.now }
-        ensures { result ≡ record { program = program.now; main = main.now } }
+    // What the checks found in order.
+    pub(crate) fn new(catalog: Catalog<'a>, main: &'a str, order: Vec<usize>) -> Typed<'a>
+        requires { AreInOrder (record { program = catalog; main = main.now; order = order.items }) }
+        ensures { result ≡ record { program = catalog.entry; main = main.now; order = order.items } }
     {
-        Typed { program, main }
+        Typed {
+            catalog,
+            main,
+            order,
+        }
+    }
+
+    /// The tables of the program's names.
+    pub fn catalog(&self) -> &Catalog<'a>
+        ensures catalog { result.now ≡ self.now.program }
+        ensures names { IsNamed (program_view self.now.program) self.now.main }
+    {
+        &self.catalog
     }
 
     /// The program.
-    pub fn program(&self) -> &Program
-        ensures program { result.now ≡ self.now.program }
-        ensures names { IsFirstProgram (tree_of self.now) self.now.main }
+    pub fn program(&self) -> &'a Program
+        ensures { result.now ≡ self.now.program }
     {
-        self.program
+        self.catalog.program()
     }
 
     /// The name of the main node.
-    pub fn main(&self) -> &str
+    pub fn main(&self) -> &'a str
         ensures { result.now ≡ self.now.main }
     {
         self.main
+    }
+
+    /// All nodes by their places in the text, from 0, each after those that it calls.
+    pub fn order(&self) -> &[usize]
+        ensures order { result.now ≡ self.now.order }
+        ensures calls { IsCallOrder (program_view self.now.program) self.now.order }
+    {
+        self.order.as_slice()
     }
 }

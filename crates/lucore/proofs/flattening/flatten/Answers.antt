@@ -8,7 +8,7 @@ use Rattle.luflow.specs.Rank.{Chain, IsRankOrder}
 use Rattle.luflow.specs.Flats.{IsFlat}
 use Rattle.lutree.specs.Tree.{node_view}
 use Rattle.lusource.specs.Names.{variables_of, name_at}
-use Rattle.lutype.specs.Names.{tree_of}
+use Rattle.lufirst.specs.Names.{tree_of}
 use Rattle.lucore.specs.Layout.{variable_names}
 use Rattle.lucore.specs.Ranking.{AreClosed, IsRanking}
 use Rattle.lucore.specs.Result.{IsFlatOf}

@@ -2,7 +2,7 @@ use Rattle.std.proofs.Common.{◌++◌, ◌+◌, ◌*◌, length, take, ◌∙�
 use Rattle.std.proofs.lemmas.List.{length-map}
 use Rattle.lusource.specs.First.{IsInRange}
 use Rattle.luflow.specs.declared.variable.Variable.{Variable}
-use Rattle.lutype.specs.Parts.{lines_of, line_of}
+use Rattle.lufirst.specs.Parts.{lines_of, line_of}
 use Rattle.lucore.specs.Layout.{in_fours, inner_flows, root_flow, start_of, variable_names}
 use Rattle.lucore.specs.Code.{roots_of}
 use Rattle.lucore.proofs.Coding.{fours_more, grown, length-so_far, line_all}

@@ -1,5 +1,5 @@
 use Rattle.std.proofs.Common.{◌≡◌, ◌++◌, length, take}
-use Rattle.lutype.specs.Parts.{lines_of}
+use Rattle.lufirst.specs.Parts.{lines_of}
 use Rattle.lucore.specs.Layout.{in_fours, inner_flows, variable_names}
 use Rattle.lucore.specs.Code.{roots_of}
 use Rattle.lucore.proofs.layout.flows_in.Given as goal

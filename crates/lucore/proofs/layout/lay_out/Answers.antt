@@ -2,9 +2,9 @@ use Rattle.std.proofs.Common.{map, ◌∙◌, sym, ap, subst, All}
 use Rattle.lutree.specs.Tree.{equation_view, node_view}
 use Rattle.lusource.specs.Names.{variables_of}
 use Rattle.lusource.specs.First.{IsInRange}
-use Rattle.lutype.specs.Parts.{lines_of}
+use Rattle.lufirst.specs.Parts.{lines_of}
 use Rattle.lucore.specs.Layout.{variable_names, laid_flows, laid_owners}
-use Rattle.lutype.proofs.LineLemmas.{lines_same}
+use Rattle.lufirst.proofs.LineLemmas.{lines_same}
 use Rattle.lucore.proofs.Variables.{names-main}
 use Rattle.lucore.proofs.layout.lay_out.Goals as goal
 

@@ -1,7 +1,7 @@
 use Rattle.std.proofs.Common.{◌≡◌, ◌+◌, drop}
 use Rattle.lusource.specs.Names.{place_of}
 use Rattle.lusource.specs.First.{lefts_of}
-use Rattle.lutype.specs.Parts.{lines_of}
+use Rattle.lufirst.specs.Parts.{lines_of}
 use Rattle.lucore.proofs.layout.line_at.Given as goal
 
 abbrev pub invariant-loop-i : goal.invariant-loop-i

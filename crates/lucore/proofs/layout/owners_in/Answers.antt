@@ -2,7 +2,7 @@ use Rattle.std.proofs.Common.{ℕ, List, ◌*◌, ◌++◌, ◌∷◌, [], ◌+�
 use Rattle.std.specs.List.{range_with_len}
 use Rattle.lusource.specs.Names.{place_of}
 use Rattle.lusource.specs.First.{Line}
-use Rattle.lutype.specs.Parts.{lines_of, line_of}
+use Rattle.lufirst.specs.Parts.{lines_of, line_of}
 use Rattle.lucore.specs.Layout.{in_fours, four_times, variable_names}
 use Rattle.lucore.proofs.Coding.{range_more, fours_more, grown}
 use Rattle.lucore.proofs.layout.owners_in.Goals as goal

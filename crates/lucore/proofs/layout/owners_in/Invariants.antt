@@ -1,7 +1,7 @@
 use Rattle.std.proofs.Common.{◌≡◌, ◌++◌, length, take}
 use Rattle.std.specs.List.{range_with_len}
 use Rattle.lusource.specs.Names.{place_of}
-use Rattle.lutype.specs.Parts.{lines_of}
+use Rattle.lufirst.specs.Parts.{lines_of}
 use Rattle.lucore.specs.Layout.{in_fours, four_times, variable_names}
 use Rattle.lucore.proofs.layout.owners_in.Given as goal
 

@@ -1,5 +1,5 @@
 use Rattle.std.proofs.Common.{◌≡◌, map, take}
-use Rattle.lutype.specs.Parts.{lines_of}
+use Rattle.lufirst.specs.Parts.{lines_of}
 use Rattle.lucore.specs.Layout.{root_flow, start_of, variable_names}
 use Rattle.lucore.proofs.layout.roots_in.Given as goal
 

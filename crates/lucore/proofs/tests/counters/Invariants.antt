@@ -1,5 +1,5 @@
 use Rattle.std.specs.Prelude.{All}
-use Rattle.lutype.specs.Built.{IsLine, IsPlainVariable}
+use Rattle.lufirst.specs.Built.{IsLine, IsPlainVariable}
 use Rattle.lucore.proofs.tests.counters.Given as goal
 
 abbrev pub invariant-loop-i : goal.invariant-loop-i

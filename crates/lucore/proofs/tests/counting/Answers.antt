@@ -3,7 +3,7 @@ use Rattle.lutree.specs.declared.expr.Prefix.TheVariants.{Pre}
 use Rattle.lutree.specs.declared.expr.Infix.TheVariants.{Data, Arrow}
 use Rattle.lutree.specs.declared.expr.BinaryOperator.TheVariants.{Add}
 use Rattle.lutree.specs.Tree.{view, binary, unary, number, variable}
-use Rattle.lutype.proofs.Building.{counting_line}
+use Rattle.lufirst.proofs.Building.{counting_line}
 use Rattle.lucore.proofs.tests.counting.Goals as goal
 
 pub returns : goal.returns

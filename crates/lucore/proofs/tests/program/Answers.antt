@@ -1,7 +1,7 @@
 use Rattle.std.proofs.Common.{◌∙◌, sym, subst}
 use Rattle.std.specs.Prelude.{All}
-use Rattle.lutype.specs.Built.{IsLine, IsPlainVariable}
-use Rattle.lutype.proofs.Building.{shape_of}
+use Rattle.lufirst.specs.Built.{IsLine, IsPlainVariable}
+use Rattle.lufirst.proofs.Building.{shape_of}
 use Rattle.lucore.proofs.tests.program.Goals as goal
 
 pub returns : goal.returns

@@ -1,7 +1,7 @@
 use Rattle.std.proofs.Common.{◌≡◌, ◌∙◌, sym, arith, true, false}
 use Rattle.std.proofs.lemmas.Bool.{leb-true, le-leb}
 use Rattle.lusource.specs.First.{IsInRange}
-use Rattle.lutype.specs.Parts.{line_of}
+use Rattle.lufirst.specs.Parts.{line_of}
 use Rattle.lufirst.proofs.Shapes.{same_numbers}
 use Rattle.lufirst.proofs.shape.is_line.Goals as goal
 

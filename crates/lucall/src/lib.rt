@@ -1,0 +1,14 @@
+//! Calls of a program: an order of its nodes, or one that reaches itself by calls.
+//!
+//! - [`call_order`], [`CallOrder`]: all nodes, each behind those that it calls, or the first node in order of text that calls itself, directly or through others.
+//!
+//! A call means the first node of its name, and a call of no node is passed over: so there is an answer for any program, whatever other rules it breaks.
+//! The nodes are the vertices of a graph of calls (`specs/CallGraph.antt`), and the order is that of the graph.
+#![tactic(auto)]
+
+mod calls;
+mod order;
+#[cfg(test)]
+mod tests;
+
+pub use order::{CallOrder, call_order};

@@ -1,0 +1,7 @@
+pub mod Held
+pub mod Named
+pub mod Anchored
+pub mod Lent
+pub mod Chaining
+pub mod Uncalled
+pub mod Places

@@ -1,0 +1,4 @@
+pub mod Anchors
+pub mod Chains
+pub mod Named
+pub mod Asked

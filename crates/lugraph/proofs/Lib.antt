@@ -1,0 +1,11 @@
+pub mod Places
+pub mod Marks
+pub mod Stepping
+pub mod Ordering
+pub mod Either
+pub mod Bounds
+pub mod Grouping
+pub mod Leaving
+pub mod Going
+pub mod Endings
+pub mod Loops

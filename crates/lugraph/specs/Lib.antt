@@ -1,0 +1,7 @@
+pub mod Graph
+pub mod Answer
+pub mod Search
+pub mod Grouped
+pub mod States
+pub mod Chain
+pub mod Walk

@@ -1,0 +1,8 @@
+pub mod Sourcing
+pub mod Spreading
+pub mod Leasts
+pub mod Telling
+pub mod Lent
+pub mod Starting
+pub mod Beginning
+pub mod Naming

@@ -1,0 +1,6 @@
+pub mod Assigned
+pub mod Sources
+pub mod Linked
+pub mod Judged
+pub mod Currents
+pub mod Tables

@@ -1,0 +1,24 @@
+//! The rules of initialisation: which equations of a node keep them.
+//!
+//! - [`is_one`], [`needs_met`]: the class of an expression, and whether what it needs in class 0 is there.
+//! - [`lefts_are_known`]: whether what equations define is declared.
+//! - [`least_classes`]: the least classes of a node's variables.
+//! - [`clocks_named`], [`keeps_classes`]: whether an equation keeps the rules of classes.
+//! - [`Firsts`]: which clocks are true at first, by the form of their equations, and which uses of `current` that allows.
+//! - [`laws`]: what the least classes decide.
+#![tactic(auto)]
+
+mod class;
+mod current;
+mod judge;
+mod known;
+pub mod laws;
+mod least;
+#[cfg(test)]
+mod tests;
+
+pub use class::{is_one, needs_met};
+pub use current::Firsts;
+pub use judge::{clocks_named, keeps_classes};
+pub use known::lefts_are_known;
+pub use least::least_classes;

@@ -1,0 +1,10 @@
+pub mod Fitting
+pub mod Raising
+pub mod Worked
+pub mod OneNode
+pub mod Sampler
+pub mod Delayed
+pub mod Once
+pub mod Calling
+pub mod Rounds
+pub mod Judging

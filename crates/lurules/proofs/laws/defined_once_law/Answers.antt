@@ -1,0 +1,5 @@
+use Rattle.lurules.proofs.Once.{defined_once}
+use Rattle.lurules.proofs.laws.defined_once_law.Goals as goal
+
+pub returns : goal.returns
+returns c = λ n anew. defined_once n anew

@@ -1,0 +1,10 @@
+pub mod Scope
+pub mod Naming
+pub mod Typing
+pub mod Clocks
+pub mod Classes
+pub mod Accepted
+pub mod Vectors
+pub mod Chains
+pub mod Told
+pub mod Faults

@@ -1,0 +1,5 @@
+pub mod Places
+pub mod Scopes
+pub mod ClockRefs
+pub mod Tables
+pub mod Catalogs

@@ -1,0 +1,16 @@
+-- Where a name stands first in a row of names.
+use Rattle.std.specs.Prelude.{◌≡◌, ℕ, ◌+◌, List, [], ◌∷◌, Option, Some, None, if◌then◌else◌}
+use Rattle.std.specs.Str.{bytes_eq}
+
+-- the place of a name's first occurrence, counted from a number on
+abbrev pub place_from : ℕ → List (List ℕ) → List ℕ → Option ℕ
+place_from i [] x = None
+place_from i (y ∷ ys) x = if bytes_eq y x then Some i else place_from (i + 1) ys x
+
+-- the place of a name's first occurrence, counted from 0
+abbrev pub first_place : List (List ℕ) → List ℕ → Option ℕ
+first_place = place_from 0
+
+-- a look-up that gives the place of each name's first occurrence
+abbrev pub IsPlaces : (List ℕ → Option ℕ) → List (List ℕ) → Type 0
+IsPlaces look_up names = (x : List ℕ) → look_up x ≡ first_place names x

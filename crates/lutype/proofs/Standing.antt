@@ -1,0 +1,36 @@
+-- Names that stand first.
+use Rattle.std.proofs.Common.{◌≡◌, ◌∙◌, ◌↔◌, ℕ, List, map, Option, Some, Bool, IsTrue, sym, ap, subst}
+use Rattle.std.specs.Prelude.{slice_get}
+use Rattle.std.specs.Option.{option_map}
+use Rattle.std.proofs.lemmas.Option.{slice_get-map}
+use Rattle.lutree.specs.declared.program.Declaration.{Declaration}
+use Rattle.lutree.specs.declared.program.Node.{Node}
+use Rattle.lutree.specs.declared.program.Program.{Program}
+use Rattle.lutree.specs.Tree.{NodeTree, node_view, program_view, declaration_view}
+use Rattle.lurules.specs.Scope.{declarations_of, names_of, IsNew}
+use Rattle.lurules.specs.Naming.{IsNewNode, IsNewVariable, node_place}
+use Rattle.lurules.specs.Faults.{declared_in}
+use Rattle.luscope.specs.Places.{first_place}
+use Rattle.luscope.specs.Scopes.{spellings}
+use Rattle.luscope.proofs.Finding.{stands_first}
+use Rattle.luscope.proofs.Declared.{names_of_nodes, place_of_node, names_in_view}
+
+pub node_is_new : (p : Program) (place : ℕ) (n : Node) (found : Option ℕ) (b : Bool) → slice_get p.nodes place ≡ Some n → found ≡ node_place (program_view p) n.name
+    → (IsTrue b ↔ (found ≡ Some place)) → IsTrue b ↔ IsNewNode (program_view p) place (node_view n)
+node_is_new p place n found b at is same =
+    let names = names_of_nodes (program_view p) in
+    let there : slice_get names place ≡ Some n.name =
+    slice_get-map (λ (m : NodeTree). m.name) (program_view p) place ∙ ap (option_map (λ (m : NodeTree). m.name)) (slice_get-map node_view p.nodes place ∙ ap (option_map node_view) at) in
+    let law = stands_first names n.name place there in
+    let where_first : found ≡ first_place names n.name = is ∙ sym (place_of_node (program_view p) n.name) in
+    (λ h. law.0 (sym where_first ∙ same.0 h), λ h. same.1 (where_first ∙ law.1 h))
+
+pub variable_is_new : (n : Node) (place : ℕ) (d : Declaration) (found : Option ℕ) (b : Bool) → slice_get (declared_in n) place ≡ Some d
+    → found ≡ first_place (names_of (declarations_of (node_view n))) d.name
+    → (IsTrue b ↔ (found ≡ Some place)) → IsTrue b ↔ IsNewVariable (node_view n) place (declaration_view d)
+variable_is_new n place d found b at is same =
+    let names = names_of (declarations_of (node_view n)) in
+    let there : slice_get names place ≡ Some d.name =
+    ap (λ l. slice_get l place) (names_in_view n) ∙ slice_get-map (λ (m : Declaration). m.name) (declared_in n) place ∙ ap (option_map (λ (m : Declaration). m.name)) at in
+    let law = stands_first names d.name place there in
+    (λ h. law.0 (sym is ∙ same.0 h), λ h. same.1 (is ∙ law.1 h))

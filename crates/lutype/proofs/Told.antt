@@ -1,0 +1,106 @@
+-- What the check of names tells.
+use Rattle.std.proofs.Common.{◌≡◌, ◌∙◌, ◌<◌, ◌≤◌, ◌⊎◌, inl, inr, ⊎_elim, ℕ, List, map, length, Option, Some, None, IsTrue, refl, sym, ap, subst, arith, true≢false}
+use Rattle.std.specs.Prelude.{slice_get}
+use Rattle.std.proofs.lemmas.List.{length-map}
+use Rattle.std.proofs.lemmas.Option.{slice_get_within}
+use Rattle.lutree.specs.declared.program.Node.{Node}
+use Rattle.lutree.specs.declared.program.Program.{Program}
+use Rattle.lutree.specs.Tree.{NodeTree, ProgramTree, node_view, program_view}
+use Rattle.lurules.specs.Naming.{Reaches, IsCallOrder}
+use Rattle.lurules.specs.Accepted.{Rule, duplicate_name, unknown_name, unknown_node, type_mismatch, wrong_arity, undefined, defined_twice, recursive_node, no_main, clock_mismatch, not_a_clock, clocked_parameter, hidden_clock, maybe_nil, current_may_be_nil, stage, Keeps, Breaks, IsNamed, IsRefused}
+use Rattle.lurules.specs.declared.error.StatError.{StatError}
+use Rattle.lurules.specs.declared.error.StatError.TheVariants.{RecursiveNode}
+use Rattle.lurules.specs.Told.{byte_of, number_of, RuleTold, Tells}
+use Rattle.lurules.specs.Faults.{lesser_of, IsAtMost, IsJudged, IsFault, AreKept}
+use Rattle.lurules.proofs.Judging.{judged_joined}
+use Rattle.luscope.proofs.Keeping.{broken_somewhere}
+use Rattle.lucall.specs.CallGraph.{IsRecursive}
+use Rattle.lutype.specs.Asked.{is_asked}
+use Rattle.lutype.specs.Named.{IsToldFirst}
+
+-- no stage is before the first
+stage_least : (rule : Rule) → 1 ≤ stage rule
+stage_least duplicate_name = omega arith
+stage_least unknown_name = omega arith
+stage_least unknown_node = omega arith
+stage_least type_mismatch = omega arith
+stage_least wrong_arity = omega arith
+stage_least undefined = omega arith
+stage_least defined_twice = omega arith
+stage_least recursive_node = omega arith
+stage_least no_main = omega arith
+stage_least clock_mismatch = omega arith
+stage_least not_a_clock = omega arith
+stage_least clocked_parameter = omega arith
+stage_least hidden_clock = omega arith
+stage_least maybe_nil = omega arith
+stage_least current_may_be_nil = omega arith
+
+stage_of : (rule : Rule) → IsTrue (is_asked rule) → stage rule ≤ 1
+stage_of duplicate_name one = omega arith
+stage_of unknown_name one = omega arith
+stage_of unknown_node one = omega arith
+stage_of type_mismatch one = omega arith
+stage_of wrong_arity one = omega arith
+stage_of undefined one = omega arith
+stage_of defined_twice one = omega arith
+stage_of recursive_node one = absurd (true≢false (sym one))
+stage_of no_main one = omega arith
+stage_of clock_mismatch one = absurd (true≢false (sym one))
+stage_of not_a_clock one = absurd (true≢false (sym one))
+stage_of clocked_parameter one = absurd (true≢false (sym one))
+stage_of hidden_clock one = absurd (true≢false (sym one))
+stage_of maybe_nil one = absurd (true≢false (sym one))
+stage_of current_may_be_nil one = absurd (true≢false (sym one))
+
+not_recursive : (p : Program) (main : List ℕ) → ((f : List ℕ) → ¬ Reaches (program_view p) f f) → Keeps (program_view p) main recursive_node
+not_recursive p main straight = record { program = tt; nodes = λ i n at. straight n.name; declarations = λ i j n d at there. tt; equations = λ i j n q at there. tt }
+
+pub named_from : (p : Program) (main : List ℕ) → AreKept is_asked p main → ((f : List ℕ) → ¬ Reaches (program_view p) f f) → IsNamed (program_view p) main
+named_from p main kept straight duplicate_name first = kept duplicate_name refl
+named_from p main kept straight unknown_name first = kept unknown_name refl
+named_from p main kept straight unknown_node first = kept unknown_node refl
+named_from p main kept straight type_mismatch first = kept type_mismatch refl
+named_from p main kept straight wrong_arity first = kept wrong_arity refl
+named_from p main kept straight undefined first = kept undefined refl
+named_from p main kept straight defined_twice first = kept defined_twice refl
+named_from p main kept straight recursive_node first = not_recursive p main straight
+named_from p main kept straight no_main first = kept no_main refl
+named_from p main kept straight clock_mismatch first = absurd (omega (arith, first))
+named_from p main kept straight not_a_clock first = absurd (omega (arith, first))
+named_from p main kept straight clocked_parameter first = absurd (omega (arith, first))
+named_from p main kept straight hidden_clock first = absurd (omega (arith, first))
+named_from p main kept straight maybe_nil first = absurd (omega (arith, first))
+named_from p main kept straight current_may_be_nil first = absurd (omega (arith, first))
+
+refused_first : (p : ProgramTree) (main : List ℕ) (rule : Rule) → stage rule ≤ 1 → Breaks p main rule → IsRefused p main rule
+refused_first p main rule le broken = record { broken = broken; before = λ other lt. absurd (let least = stage_least other in omega (arith, lt, le, least)) }
+
+pub told_asked : (p : Program) (main : List ℕ) (e : StatError) → IsFault is_asked p main e → Tells 1 (program_view p) main e
+told_asked p main e fault =
+    let b = broken_somewhere is_asked p main e fault in
+    subst (RuleTold 1 (program_view p) main) (sym b.told) (stage_of b.rule b.one, refused_first (program_view p) main b.rule (stage_of b.rule b.one) b.broken)
+
+told_recursive : (p : Program) (main : List ℕ) (place byte : ℕ) → IsRecursive (program_view p) place → Tells 1 (program_view p) main (RecursiveNode byte)
+told_recursive p main place byte h =
+    let one : stage recursive_node ≤ 1 = omega arith in
+    (one, refused_first (program_view p) main recursive_node one (Breaks.node place h.0 h.1 (λ no. no h.2)))
+
+pub told_alone : (p : Program) (main : List ℕ) (e : StatError) → IsJudged (IsFault is_asked p main) (AreKept is_asked p main) (Some e) → Tells 1 (program_view p) main e × IsToldFirst p main e
+told_alone p main e h = (told_asked p main e h.0, inr h.1)
+
+-- the fault of recursion among others
+pub told_with : (p : Program) (main : List ℕ) (place byte : ℕ) (found : Option StatError) (r : StatError) → IsJudged (IsFault is_asked p main) (AreKept is_asked p main) found
+    → IsRecursive (program_view p) place → Some r ≡ lesser_of found (Some (RecursiveNode byte)) → Tells 1 (program_view p) main r × IsToldFirst p main r
+told_with p main place byte found r judged recursive is =
+    let own : IsJudged (λ g. g ≡ RecursiveNode byte) (Unit {0}) (Some (RecursiveNode byte)) =
+    (refl, λ f e. inr (ap byte_of (sym e), (let n = ap number_of e in omega (arith, n)))) in
+    let both = judged_joined (IsFault is_asked p main) (λ g. g ≡ RecursiveNode byte) (AreKept is_asked p main) (Unit {0}) found (Some (RecursiveNode byte)) (Some r) is judged own in (
+      ⊎_elim {C = Tells 1 (program_view p) main r} (told_asked p main r) (λ e. subst (Tells 1 (program_view p) main) (sym e) (told_recursive p main place byte recursive)) both.0,
+      inr (λ f fault. both.1 f (inl fault)),
+    )
+
+pub recursive_within : (p : Program) (scopes : List Node) (place : ℕ) → scopes ≡ p.nodes → IsRecursive (program_view p) place → place < length scopes
+recursive_within p scopes place same h =
+    let lt = slice_get_within (program_view p) place h.0 h.1 in
+    omega (arith, lt, length-map p.nodes node_view, ap length same)

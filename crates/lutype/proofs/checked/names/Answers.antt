@@ -1,0 +1,58 @@
+use Rattle.std.proofs.Common.{◌≡◌, ◌∙◌, ◌<◌, refl, ap, sym, subst, None, Some, Option, length, List, ℕ}
+use Rattle.lutree.specs.declared.program.Program.{Program}
+use Rattle.lutree.specs.Tree.{program_view}
+use Rattle.lurules.specs.Naming.{Reaches, IsCallOrder}
+use Rattle.lurules.specs.Told.{Tells}
+use Rattle.lurules.specs.declared.error.StatError.{StatError}
+use Rattle.lurules.specs.Faults.{IsJudged, IsFault, AreKept}
+use Rattle.lucall.specs.Answer.{IfSorted, IfRecursive}
+use Rattle.lucall.specs.CallGraph.{IsRecursive}
+use Rattle.lutype.specs.Asked.{is_asked}
+use Rattle.lutype.specs.Named.{IsToldFirst}
+use Rattle.lutype.proofs.Told.{named_from, told_alone, told_with, recursive_within}
+use Rattle.lutype.proofs.checked.names.Goals as goal
+
+pub new-requires-in-None : goal.new-requires-in-None
+new-requires-in-None c =
+    let p = c.in_ok-catalog.catalog in
+    let main = c.args.main.now in
+    let judged = subst (IsJudged (IsFault is_asked p main) (AreKept is_asked p main)) c.in-None.is c.in_ok-found.ensures in
+    record {
+      names = named_from p main judged.0 (subst (λ o. IfSorted o (λ _. (f : List ℕ) → ¬ Reaches (program_view p) f f)) c.in-Sorted.is c.in_ok-order.ensures.straight);
+      calls = subst (λ o. IfSorted o (IsCallOrder (program_view p))) c.in-Sorted.is c.in_ok-order.ensures.order;
+    }
+
+pub returns-in-Sorted-clause-told : goal.returns-in-Sorted-clause-told
+returns-in-Sorted-clause-told c =
+    let main = c.args.main.now in
+    let e = c.in-Some.fault in
+    let judged = subst (IsJudged (IsFault is_asked c.in_ok-catalog.catalog main) (AreKept is_asked c.in_ok-catalog.catalog main)) c.in-Some.is c.in_ok-found.ensures in
+    subst (λ (p : Program). Tells 1 (program_view p) main e) c.in_ok-catalog.ensures (told_alone c.in_ok-catalog.catalog main e judged).0
+
+pub returns-in-Sorted-clause-first : goal.returns-in-Sorted-clause-first
+returns-in-Sorted-clause-first c =
+    let main = c.args.main.now in
+    let e = c.in-Some.fault in
+    let judged = subst (IsJudged (IsFault is_asked c.in_ok-catalog.catalog main) (AreKept is_asked c.in_ok-catalog.catalog main)) c.in-Some.is c.in_ok-found.ensures in
+    subst (λ (p : Program). IsToldFirst p main e) c.in_ok-catalog.ensures (told_alone c.in_ok-catalog.catalog main e judged).1
+
+pub byte_of_node-byte-requires : goal.byte_of_node-byte-requires
+byte_of_node-byte-requires c =
+    recursive_within c.in_ok-catalog.catalog c.in_ok-catalog.catalog.nodes c.in-Recursive.place refl
+    (subst (λ o. IfRecursive o (IsRecursive (program_view c.in_ok-catalog.catalog))) c.in-Recursive.is c.in_ok-order.ensures.recursive)
+
+pub returns-clause-told : goal.returns-clause-told
+returns-clause-told c =
+    let p = c.in_ok-catalog.catalog in
+    let main = c.args.main.now in
+    let recursive = subst (λ o. IfRecursive o (IsRecursive (program_view p))) c.in-Recursive.is c.in_ok-order.ensures.recursive in
+    subst (λ (p : Program). Tells 1 (program_view p) main c.with_recursion.result) c.in_ok-catalog.ensures
+    (told_with p main c.in-Recursive.place c.byte_of_node-byte.result c.in_ok-found.found c.with_recursion.result c.in_ok-found.ensures recursive c.with_recursion.ensures).0
+
+pub returns-clause-first : goal.returns-clause-first
+returns-clause-first c =
+    let p = c.in_ok-catalog.catalog in
+    let main = c.args.main.now in
+    let recursive = subst (λ o. IfRecursive o (IsRecursive (program_view p))) c.in-Recursive.is c.in_ok-order.ensures.recursive in
+    subst (λ (p : Program). IsToldFirst p main c.with_recursion.result) c.in_ok-catalog.ensures
+    (told_with p main c.in-Recursive.place c.byte_of_node-byte.result c.in_ok-found.found c.with_recursion.result c.in_ok-found.ensures recursive c.with_recursion.ensures).1

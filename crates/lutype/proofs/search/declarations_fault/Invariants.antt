@@ -1,0 +1,11 @@
+use Rattle.std.proofs.Common.{ℕ, List}
+use Rattle.lutree.specs.declared.program.Program.{Program}
+use Rattle.lurules.specs.Faults.{declared_in, IsJudged, DeclarationFault, DeclarationKept}
+use Rattle.lurules.proofs.Judging.{FaultBefore, KeptBefore}
+use Rattle.lutype.specs.Asked.{is_asked}
+use Rattle.lutype.proofs.search.declarations_fault.Given as goal
+
+abbrev pub invariant-loop-j : goal.invariant-loop-j
+invariant-loop-j l =
+    (program : Program) (main : List ℕ)
+    → IsJudged (FaultBefore l.j (declared_in l.scope) (DeclarationFault is_asked program main l.scope)) (KeptBefore l.j (declared_in l.scope) (DeclarationKept is_asked program main l.scope)) l.best

@@ -1,0 +1,70 @@
+//! The check of names and types.
+
+ghost use Rattle.std.specs.Prelude.{◌≡◌, ◌<◌, Some, IfOk, IfErr, length};
+ghost use Rattle.lutree.specs.Tree.{program_view};
+ghost use Rattle.lurules.specs.Accepted.{IsNamed};
+ghost use Rattle.lurules.specs.Told.{Tells};
+ghost use Rattle.lurules.specs.Faults.{lesser_of};
+ghost use Rattle.lutype.specs.Named.{IsToldFirst};
+
+use crate::search::least_fault;
+use crate::typed::Typed;
+use lucall::{CallOrder, call_order};
+use lurules::{StatError, is_told_before};
+use luscope::Catalog;
+use lutree::Program;
+use std::alloc::Global;
+
+/// Of a fault, if there is one, and that of recursion the one that is told.
+fn with_recursion(found: Option<StatError>, recursion: StatError) -> StatError
+    ensures { Some result ≡ lesser_of found (Some recursion) }
+{
+    match found {
+        None => recursion,
+        Some(fault) => {
+            if is_told_before(&recursion, &fault) {
+                recursion
+            } else {
+                fault
+            }
+        }
+    }
+}
+
+/// The place of a node's name in the text.
+fn byte_of_node(catalog: &Catalog, place: usize) -> usize
+    requires { place < length catalog.now.nodes }
+{
+    catalog.program().nodes.as_slice()[place].byte
+}
+
+/// Whether the names and types of a program are in order: its names are declared once and known, its calls are of nodes and
+/// have their arities, no node reaches itself by calls, its equations are well typed and define each variable once that is no
+/// input, and some node has the name of the main node.
+///
+/// The expected time grows with the size of the program.
+///
+/// # Errors
+///
+/// An error other than the want of memory tells a rule that is broken: that of the least byte, at equal bytes that of the
+/// least number. Of several nodes that reach themselves only the first in order of text is thought of.
+pub fn names<'a>(alloc: Global, program: &'a Program, main: &'a str) -> Result<Typed<'a>, StatError>
+    ensures program { IfOk result (λ typed. typed.program ≡ program.now) }
+    ensures main { IfOk result (λ typed. typed.main ≡ main.now) }
+    ensures named { IfOk result (λ _. IsNamed (program_view program.now) main.now) }
+    ensures told { IfErr result (Tells 1 (program_view program.now) main.now) }
+    ensures first { IfErr result (IsToldFirst program.now main.now) }
+{
+    let catalog = Catalog::new(alloc, program)?;
+    let found = least_fault(alloc, &catalog, main)?;
+    match call_order(alloc, &catalog)? {
+        CallOrder::Sorted(order) => match found {
+            None => Ok(Typed::new(catalog, main, order)),
+            Some(fault) => Err(fault),
+        },
+        CallOrder::Recursive(place) => {
+            let byte = byte_of_node(&catalog, place);
+            Err(with_recursion(found, StatError::RecursiveNode { byte }))
+        }
+    }
+}

@@ -1,0 +1,132 @@
+//! The faults of single places.
+
+ghost use Rattle.std.specs.Prelude.{◌≡◌, ◌↔◌, ℕ, List, Some, IsTrue, map, slice_get};
+ghost use Rattle.lutree.specs.declared.program.Program.{Program};
+ghost use Rattle.lutree.specs.Tree.{declaration_view, equation_view, node_view, program_view};
+ghost use Rattle.lurules.specs.Naming.{IsNewNode, IsNewVariable, HasMain, NamesKnown, CallsKnown, AritiesRight};
+ghost use Rattle.lurules.specs.Typing.{IsTyped};
+ghost use Rattle.lurules.specs.Faults.{declared_in, IsJudged, ProgramFault, ProgramKept, NodeFault, NodeKept, DeclarationFault, DeclarationKept, EquationFault, EquationKept};
+ghost use Rattle.lutype.specs.Asked.{is_asked};
+
+use crate::calls::{arities_are_right, calls_are_known};
+use crate::defined::{Definitions, defines_anew, is_defined};
+use crate::known::{clock_is_known, names_are_known};
+use crate::typing::is_well_typed;
+use lurules::{StatError, lesser, told};
+use luscope::{Catalog, Scope};
+use lutree::{Declaration, Equation, Node};
+
+/// Whether a place that was found is another.
+fn is_at(found: Option<usize>, place: usize) -> bool
+    ensures { IsTrue result ↔ (found ≡ Some place) }
+{
+    found == Some(place)
+}
+
+/// Whether no node before has the name of the one at a place.
+fn is_new_node(catalog: &Catalog, place: usize, node: &Node) -> bool
+    requires { slice_get catalog.now.nodes place ≡ Some node.now }
+    ensures { IsTrue result ↔ IsNewNode (program_view catalog.now) place (node_view node.now) }
+{
+    is_at(catalog.place(node.name.as_str()), place)
+}
+
+/// Whether no variable before has the name of the one at a place.
+fn is_new_variable(scope: &Scope, place: usize, declaration: &Declaration) -> bool
+    requires { slice_get (declared_in scope.now) place ≡ Some declaration.now }
+    ensures { IsTrue result ↔ IsNewVariable (node_view scope.now) place (declaration_view declaration.now) }
+{
+    is_at(scope.place(declaration.name.as_str()), place)
+}
+
+/// Whether some node has the name of the main node.
+fn has_main(catalog: &Catalog, main: &str) -> bool
+    ensures { IsTrue result ↔ HasMain (program_view catalog.now) main.now }
+{
+    catalog.find(main).is_some()
+}
+
+/// Whether an equation is well typed, or isn't ready to be asked.
+fn is_typed(catalog: &Catalog, scope: &Scope, equation: &Equation, is_ready: bool) -> bool
+    requires { IsTrue is_ready ↔ (NamesKnown (node_view scope.now) (equation_view equation.now)
+        × CallsKnown (program_view catalog.now) (equation_view equation.now) × AritiesRight (program_view catalog.now) (equation_view equation.now)) }
+    ensures { IsTrue result ↔ IsTyped (program_view catalog.now) (node_view scope.now) (equation_view equation.now) }
+{
+    if is_ready {
+        is_well_typed(catalog, scope, equation)
+    } else {
+        true
+    }
+}
+
+/// The fault of the program as a whole: no node has the name of the main node.
+pub fn program_fault(catalog: &Catalog, main: &str) -> Option<StatError>
+    ensures { IsJudged (ProgramFault is_asked catalog.now main.now) (ProgramKept is_asked catalog.now main.now) result }
+{
+    told(has_main(catalog, main), StatError::NoMain)
+}
+
+/// The fault of a node's name.
+pub fn name_fault(catalog: &Catalog, place: usize, node: &Node) -> Option<StatError>
+    requires { slice_get catalog.now.nodes place ≡ Some node.now }
+    ensures { (main : List ℕ) → IsJudged (NodeFault is_asked catalog.now main place node.now) (NodeKept is_asked catalog.now main place node.now) result }
+{
+    let is_new = is_new_node(catalog, place, node);
+    told(is_new, StatError::DuplicateName { byte: node.byte })
+}
+
+/// The least fault of a declaration, whatever the program round its node.
+pub fn declaration_fault(
+    scope: &Scope,
+    definitions: &Definitions,
+    place: usize,
+    declaration: &Declaration,
+) -> Option<StatError>
+    requires same { definitions.now ≡ scope.now }
+    requires at { slice_get (declared_in scope.now) place ≡ Some declaration.now }
+    ensures { (program : Program) → (main : List ℕ)
+        → IsJudged (DeclarationFault is_asked program main scope.now place declaration.now) (DeclarationKept is_asked program main scope.now place declaration.now) result }
+{
+    let byte = declaration.byte;
+    let is_new = is_new_variable(scope, place, declaration);
+    let is_known = clock_is_known(scope, declaration);
+    let is_defined = is_defined(scope, definitions, declaration);
+    let duplicate = told(is_new, StatError::DuplicateName { byte });
+    let unknown = told(is_known, StatError::UnknownName { byte });
+    let undefined = told(is_defined, StatError::Undefined { byte });
+    lesser(duplicate, lesser(unknown, undefined))
+}
+
+/// The least fault of an equation.
+pub fn equation_fault(
+    catalog: &Catalog,
+    scope: &Scope,
+    definitions: &Definitions,
+    place: usize,
+    equation: &Equation,
+) -> Option<StatError>
+    requires same { definitions.now ≡ scope.now }
+    requires at { slice_get scope.now.equations place ≡ Some equation.now }
+    ensures { (main : List ℕ) → IsJudged (EquationFault is_asked catalog.now main scope.now place equation.now) (EquationKept is_asked catalog.now main scope.now place equation.now) result }
+{
+    let byte = equation.byte;
+    let are_known = names_are_known(scope, equation);
+    let are_nodes = calls_are_known(catalog, equation);
+    let are_right = arities_are_right(catalog, equation);
+    let is_typed = is_typed(
+        catalog,
+        scope,
+        equation,
+        are_known && are_nodes && are_right,
+    );
+    let is_anew = defines_anew(scope, definitions, place, equation);
+    let unknown_name = told(are_known, StatError::UnknownName { byte });
+    let unknown_node = told(are_nodes, StatError::UnknownNode { byte });
+    let mismatch = told(is_typed, StatError::TypeMismatch { byte });
+    let arity = told(are_right, StatError::WrongArity { byte });
+    let twice = told(is_anew, StatError::DefinedTwice { byte });
+    lesser(
+        unknown_name,
+        lesser(unknown_node, lesser(mismatch, lesser(arity, twice))),
+    )
+}
