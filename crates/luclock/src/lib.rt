@@ -17,8 +17,6 @@ mod fault;
 mod fit;
 mod parameter;
 mod search;
-#[cfg(test)]
-mod tests;
 
 pub use agree::agrees;
 pub use chain::{chain_ends, is_clock, names_truths};

@@ -5,7 +5,6 @@ pub mod Variables
 pub mod Agreeing
 pub mod Sounding
 pub mod RankOrders
-pub mod Walks
 pub mod Coding
 pub mod Whole
 pub mod Vectors

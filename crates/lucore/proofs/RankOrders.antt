@@ -1,5 +1,5 @@
 -- Orders of ranks put reads first, and how they grow.
-use Rattle.std.proofs.Common.{◌≡◌, ℕ, zero, suc, ◌+◌, ◌<◌, ◌≤◌, ◌⊎◌, inl, inr, ⊎_elim, Bool, true, false, eqb, List, [], ◌∷◌, ◌++◌, length, get_or, take, Option, Some, refl, sym, ap, ◌∙◌, subst, arith, length-append}
+use Rattle.std.proofs.Common.{◌≡◌, ℕ, zero, suc, ◌<◌, ◌≤◌, ◌⊎◌, inl, inr, ⊎_elim, Bool, true, false, eqb, List, [], ◌∷◌, ◌++◌, length, get_or, take, Option, Some, refl, sym, ap, ◌∙◌, subst, arith, length-append}
 use Rattle.std.specs.Prelude.{slice_get, slice_index, unwrap_or, not, ◌&&◌, ◌||◌, Contains, All}
 use Rattle.std.specs.List.{list_any, list_all, IsDistinct}
 use Rattle.std.specs.Option.{option_map}
@@ -7,15 +7,14 @@ use Rattle.std.proofs.Math.Seq.{take-suc}
 use Rattle.std.proofs.lemmas.Bool.Decides.{nat_tests}
 use Rattle.std.proofs.lemmas.List.{length-map}
 use Rattle.std.proofs.lemmas.Bool.{cases_lt}
-use Rattle.std.proofs.lemmas.Option.{slice_get_within, slice_get-get_or, slice_get-map}
+use Rattle.std.proofs.lemmas.Option.{slice_get-get_or, slice_get-map}
 use Rattle.std.proofs.lemmas.List.Folds.{list_any-append}
 use Rattle.std.proofs.lemmas.Cmp.{nat_eq_equiv}
 use Rattle.std.proofs.lemmas.Map.Keys.{IsDistinct-push}
-use Rattle.std.proofs.lemmas.Map.Steps.{length-le_from_distinct_below, le-length_from_below}
+use Rattle.std.proofs.lemmas.Map.Steps.{length-le_from_distinct_below}
 use Rattle.luflow.specs.declared.form.Flow.{Flow}
 use Rattle.luflow.specs.Program.{FlatProgram, IsOrdered, flow_at, flows_of, places, clock_reads, reads}
 use Rattle.luflow.specs.Rank.{reads_of, has, row, is_ready, IsNext, IsRankOrder}
-use Rattle.lucore.proofs.Lists.{get-front}
 
 eqb-comm : (a b : ℕ) → eqb a b ≡ eqb b a
 eqb-comm a b = grind (arith, nat_tests)
@@ -169,37 +168,3 @@ is_ordered flat ranked places_in clocks_in =
       once = once rows flat.order ranked;
       reads_first = λ p flow lt there. reads_first rows flat.order ranked p (slice_index flat.order p) (reads flow) (slice_get-get_or flat.order p 0 lt) (slice_get-map reads flat.flows (slice_index flat.order p) ∙ ap (option_map reads) there);
     }
-
--- the order so far
-pub record RankSoFar (rows : List (List ℕ)) (order : List ℕ) (i : ℕ) : Type 0 where
-  pub count : length order ≡ i
-  pub each : (j x : ℕ) → slice_get order j ≡ Some x → IsNext rows (take j order) x
-
-get-last : (c : List ℕ) (x : ℕ) → slice_get (c ++ x ∷ []) (length c) ≡ Some x
-get-last [] x = refl
-get-last (y ∷ c) x = get-last c x
-
-take_front : (j : ℕ) (c d : List ℕ) → j ≤ length c → take j (c ++ d) ≡ take j c
-take_front zero c d le = refl
-take_front (suc j) [] d le = absurd (omega arith)
-take_front (suc j) (x ∷ c) d le = ap (λ l. x ∷ l) (take_front j c d (omega arith))
-
-pub rank_more : (rows : List (List ℕ)) (order : List ℕ) (i x : ℕ) → RankSoFar rows order i → IsNext rows order x → RankSoFar rows (order ++ x ∷ []) (i + 1)
-rank_more rows order i x r next =
-    record {
-      count = let c = r.count in omega (arith, length-append order (x ∷ []));
-      each = λ j y e.
-          let lt = slice_get_within (order ++ x ∷ []) j y e in
-          ⊎_elim
-          (λ (a : j < length order). subst (λ l. IsNext rows l y) (sym (take_front j order (x ∷ []) (omega arith))) (r.each j y (sym (get-front order (x ∷ []) j a) ∙ e)))
-          (λ (b : length order ≤ j).
-          let same : j ≡ length order = omega (arith, length-append order (x ∷ [])) in
-          let xy : Some x ≡ Some y = sym (get-last order x) ∙ ap (slice_get (order ++ x ∷ [])) (sym same) ∙ e in
-          let xy' : x ≡ y = cc in
-          subst (λ l. IsNext rows l y) (sym (take_front j order (x ∷ []) (omega arith) ∙ take_whole order j same)) (subst (IsNext rows order) xy' next))
-          (cases_lt j (length order));
-    }
-
--- where every place has a rank, the order is long enough
-pub full : (order : List ℕ) (n : ℕ) → ((y : ℕ) → y < n → has order y ≡ true) → n ≤ length order
-full order n h = le-length_from_below order n (λ q lt. has-eqb q order ∙ h q lt)

@@ -18,7 +18,7 @@ use Rattle.lusource.specs.Names.{variables_of}
 use Rattle.lusource.specs.First.{Line, IsFirstProgram, equation_of}
 use Rattle.lucore.specs.Layout.{IsLaidOut, node_count}
 use Rattle.lucore.specs.Code.{AreLaid}
-use Rattle.lucore.specs.Ranking.{AreClosed}
+use Rattle.lurank.specs.Rank.{AreClosed}
 use Rattle.lucore.specs.Result.{IsFlatOf}
 use Rattle.lucore.proofs.Laid.{Laid, laid}
 use Rattle.lucore.proofs.RankOrders.{is_ordered}

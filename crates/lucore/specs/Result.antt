@@ -2,8 +2,8 @@
 use Rattle.std.specs.Prelude.{◌≡◌, ℕ, ◌<◌, List, [], map, slice_index}
 use Rattle.lutree.specs.Tree.{ProgramTree}
 use Rattle.luflow.specs.Program.{FlatProgram, Table, reads}
-use Rattle.luflow.specs.Rank.{Chain}
 use Rattle.luflow.specs.Flats.{IsFlat}
+use Rattle.lurank.specs.Rank.{IsLeastOnCycle}
 use Rattle.lusource.specs.Names.{variables_of, name_at}
 use Rattle.lusource.specs.First.{IsFirstProgram}
 use Rattle.lusource.specs.Agreement.{Agrees, HasOneMeaning}
@@ -20,11 +20,11 @@ pub record IsFlatOf (program : ProgramTree) (main : List ℕ) (flat : FlatProgra
   pub agrees : (inputs : Table) → inputs.columns ≡ [] → Agrees program main inputs flat
   pub one_meaning : (inputs : Table) → inputs.columns ≡ [] → HasOneMeaning program main inputs flat
 
--- a flow of the list that reads itself through a chain of reads, in the equation of the variable of this name
+-- the least flow of the list that reads itself through a chain of reads stands in the equation of the variable of this name
 pub record ReadsItself (program : ProgramTree) (main : List ℕ) (variable : List ℕ) : Type 0 where
   pub first : IsFirstProgram program main
   pub place : ℕ
-  pub chain : Chain (map reads (laid_flows (variables_of first.shape.node) first.shape.lines)) place place
+  pub least : IsLeastOnCycle (map reads (laid_flows (variables_of first.shape.node) first.shape.lines)) place
   pub owner : variable ≡ name_at (variables_of first.shape.node) (slice_index (laid_owners (variables_of first.shape.node) first.shape.lines) place)
 
 -- what a refusal tells of a program

@@ -2,20 +2,22 @@
 
 ghost use Rattle.std.specs.Prelude.{◌≡◌, ◌↔◌, ◌<◌, ◌≤◌, [], ◌∷◌, List, All, IfOk, IfErr, length, map, slice_index};
 ghost use Rattle.luflow.specs.Program.{reads};
+ghost use Rattle.luflow.specs.Rank.{IsRankOrder};
+ghost use Rattle.lurank.specs.Answer.{IfOrdered, IfCyclic};
+ghost use Rattle.lurank.specs.Rank.{AreClosed, IsLeastOnCycle};
 ghost use Rattle.lutree.specs.Tree.{node_view};
 ghost use Rattle.lusource.specs.Names.{name_at};
 ghost use Rattle.lusource.specs.First.{IsFirstProgram};
 ghost use Rattle.lufirst.specs.Names.{tree_of};
 ghost use Rattle.lucore.specs.Layout.{flow_count, variable_names};
-ghost use Rattle.lucore.specs.Ranking.{AreClosed, IsRanking};
 ghost use Rattle.lucore.specs.Result.{IsFlatOf, Refuses};
 
 use crate::error::CoreError;
 use crate::layout::{is_too_large, lay_out, rows_in};
-use crate::ranks::{Ranking, rank};
 use lufirst::Typed;
 use luflow::{Flat, Flow, Variable};
 use lulist::{Name, Row};
+use lurank::{Ranking, rank};
 use lutree::Node;
 use std::alloc::{AllocError, Global};
 
@@ -41,10 +43,11 @@ fn owner_name(
     variables[owners[place]].name.copied(alloc)
 }
 
-// The order of ranks of flows, or a place on a cycle.
+// The order of ranks of flows, or the least place on a cycle.
 fn ranking(alloc: Global, flows: &[Flow]) -> Result<Ranking, AllocError>
     requires { AreClosed (map reads flows.now) }
-    ensures { IfOk result (IsRanking (map reads flows.now)) }
+    ensures order { IfOk result (λ found. IfOrdered found (IsRankOrder (map reads flows.now))) }
+    ensures cycle { IfOk result (λ found. IfCyclic found (IsLeastOnCycle (map reads flows.now))) }
 {
     let rows = rows_in(alloc, flows)?;
     rank(alloc, &rows)
@@ -54,8 +57,8 @@ fn ranking(alloc: Global, flows: &[Flow]) -> Result<Ranking, AllocError>
 ///
 /// Its list has the main variables at the first places, in order of declaration, each with the root of its equation; then,
 /// for the equations in order of text, their inner flows, operands before their operator. `TooLarge` exactly where that
-/// list would have more than 4,096 flows, which is told before it is built and takes no memory. The time may grow with
-/// the square of the number of flows.
+/// list would have more than 4,096 flows, which is told before it is built and takes no memory. `Cycle` names the variable in
+/// whose equation the least flow stands that reads itself through a chain of reads.
 pub fn flatten(alloc: Global, program: &Typed) -> Result<Flat, CoreError>
     ensures flat { IfOk result (IsFlatOf (tree_of program.now) program.now.main) }
     ensures too_large { (result ≡ Err CoreError.TooLarge) ↔ (4096 < flow_count (tree_of program.now)) }
@@ -67,13 +70,13 @@ pub fn flatten(alloc: Global, program: &Typed) -> Result<Flat, CoreError>
     }
     let laid = lay_out(alloc, node)?;
     match ranking(alloc, &laid.flows)? {
-        Ranking::Order(order) => Ok(Flat::new(
+        Ranking::Ordered(order) => Ok(Flat::new(
             Row::new(laid.flows),
             order,
             Row::new(laid.owners),
             Row::new(laid.variables),
         )),
-        Ranking::Cycle(place) => {
+        Ranking::Cyclic(place) => {
             let variable = owner_name(alloc, &laid.owners, &laid.variables, place)?;
             Err(CoreError::Cycle { variable })
         }

@@ -11,8 +11,6 @@ mod error;
 mod flattening;
 pub mod laws;
 mod layout;
-mod ranked;
-mod ranks;
 #[cfg(test)]
 mod tests;
 

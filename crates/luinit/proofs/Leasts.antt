@@ -46,10 +46,10 @@ known_place n x known = by_option (place_of n x) refl where
   by_option None e = absurd (unknown (sym (first_at_place (declarations_of n) x) ∙ ap (at (declarations_of n)) e))
   by_option (Some v) e = (v, e)
 
-contained_at : {X : Type 0} (xs : List X) (x : X) → Contains xs x → (i : ℕ) × (slice_get xs i ≡ Some x)
+pub contained_at : {X : Type 0} (xs : List X) (x : X) → Contains xs x → (i : ℕ) × (slice_get xs i ≡ Some x)
 contained_at xs x h = (h.0, slice_get_read xs (length xs) h.0 x refl h.1 (sym h.2))
 
-at_contained : {X : Type 0} (xs : List X) (x : X) (i : ℕ) → slice_get xs i ≡ Some x → Contains xs x
+pub at_contained : {X : Type 0} (xs : List X) (x : X) (i : ℕ) → slice_get xs i ≡ Some x → Contains xs x
 at_contained xs x i e = (i, slice_get_within xs i x e, get_or_from_slice_get xs i x x e)
 
 module _ (n : NodeTree) (first : ℕ) (starts : List ℕ) (marks : List Bool) (whole : length (declarations_of n) ≡ first)

@@ -6,3 +6,5 @@ pub mod Lent
 pub mod Starting
 pub mod Beginning
 pub mod Naming
+pub mod Equations
+pub mod Rowing

@@ -5,7 +5,7 @@ use Rattle.std.specs.Option.{IfSome}
 use Rattle.std.proofs.lemmas.List.Elements.{All-weaker, All-contains, All-contains_itself, Contains-append_left, Contains-append_right, Contains-append_cases, Contains-push, Contains-push_cases}
 use Rattle.lutree.specs.Tree.{DeclarationTree, EquationTree, NodeTree}
 use Rattle.lurules.specs.Scope.{Clock, declarations_of, names_of, IsInput, IsOutput}
-use Rattle.lurules.specs.Classes.{Classes, NeedsMet, IsRaised, IsHeld, Meets, IsLeast}
+use Rattle.lurules.specs.Classes.{Classes, NeedsMet, IsRaised, IsHeld, Meets, HasClasses, IsLeast}
 use Rattle.lurules.proofs.Raising.{least_meets}
 use Rattle.luinit.specs.Assigned.{IsCaused}
 use Rattle.luinit.specs.Judged.{clock_names_of, clock_names, IsFree, KeepsClasses, LeastTells}
@@ -45,31 +45,7 @@ declared_name (e ∷ ds) x h =
       | inr rest ↦ let r = declared_name ds x rest in (r.0, Contains-append_right (e ∷ []) ds r.0 r.1, r.2)
     ]
 
-module _ (n : NodeTree) (a : Classes) (least : IsLeast a n) (caused : IsCaused a n) where
-  -- with all equations kept, what is of class 1 is free
-  free : All (KeepsClasses a n) n.equations → (x : List ℕ) → IsTrue (a x) → IsFree n x
-  free keeps x h =
-      let q = caused x h in
-      All-contains (IsFree n) q.0.left x ((All-contains (KeepsClasses a n) n.equations q.0 keeps q.1).held q.3) q.2
-
-  held_clock : All (KeepsClasses a n) n.equations → (k : Clock) → ((x : List ℕ) → Contains (clock_names_of k) x → Contains (clock_names (declarations_of n)) x) → IfSome k (λ c. IsFalse (a c.variable))
-  held_clock keeps None in_names = tt
-  held_clock keeps (Some c) in_names = is_false (a c.variable) (λ h. (free keeps c.variable h).clock (in_names c.variable (Contains-push [] c.variable)))
-
-  meets : All (KeepsClasses a n) n.equations → Meets a n
-  meets keeps =
-      record {
-        raised = least.raised;
-        needs = All-weaker (KeepsClasses a n) (λ (q : EquationTree). NeedsMet a q.right) (λ q k. k.needs) n.equations keeps;
-        held = All-weaker (Contains (declarations_of n)) (IsHeld a n)
-            (λ d among. record {
-              input = λ is. is_false (a d.name) (λ h. (free keeps d.name h).input is);
-              output = λ is. is_false (a d.name) (λ h. (free keeps d.name h).output is);
-              clock = held_clock keeps d.clock (λ x is. named_clock (declarations_of n) d x among is);
-            })
-            (declarations_of n) (All-contains_itself (declarations_of n));
-      }
-
+module _ (n : NodeTree) (a : Classes) where
   -- with the rules met, what is of class 1 is free
   clock_held : (k : Clock) (x : List ℕ) → Contains (clock_names_of k) x → IfSome k (λ c. IsFalse (a c.variable)) → IsTrue (a x) → ⊥
   clock_held None x h zero one = nothing x h
@@ -102,9 +78,38 @@ module _ (n : NodeTree) (a : Classes) (least : IsLeast a n) (caused : IsCaused a
             All-weaker (λ x. IsTrue (a x)) (IsFree n) (met_free m) q.left (All-contains (IsRaised a) n.equations q m.raised among one);
       }
 
+module _ (n : NodeTree) (a : Classes) (least : IsLeast a n) (caused : IsCaused a n) where
+  -- with all equations kept, what is of class 1 is free
+  free : All (KeepsClasses a n) n.equations → (x : List ℕ) → IsTrue (a x) → IsFree n x
+  free keeps x h =
+      let q = caused x h in
+      All-contains (IsFree n) q.0.left x ((All-contains (KeepsClasses a n) n.equations q.0 keeps q.1).held q.3) q.2
+
+  held_clock : All (KeepsClasses a n) n.equations → (k : Clock) → ((x : List ℕ) → Contains (clock_names_of k) x → Contains (clock_names (declarations_of n)) x) → IfSome k (λ c. IsFalse (a c.variable))
+  held_clock keeps None in_names = tt
+  held_clock keeps (Some c) in_names = is_false (a c.variable) (λ h. (free keeps c.variable h).clock (in_names c.variable (Contains-push [] c.variable)))
+
+  meets : All (KeepsClasses a n) n.equations → Meets a n
+  meets keeps =
+      record {
+        raised = least.raised;
+        needs = All-weaker (KeepsClasses a n) (λ (q : EquationTree). NeedsMet a q.right) (λ q k. k.needs) n.equations keeps;
+        held = All-weaker (Contains (declarations_of n)) (IsHeld a n)
+            (λ d among. record {
+              input = λ is. is_false (a d.name) (λ h. (free keeps d.name h).input is);
+              output = λ is. is_false (a d.name) (λ h. (free keeps d.name h).output is);
+              clock = held_clock keeps d.clock (λ x is. named_clock (declarations_of n) d x among is);
+            })
+            (declarations_of n) (All-contains_itself (declarations_of n));
+      }
+
   pub tells : LeastTells n a
   tells =
       record {
         kept = meets;
-        broken = λ q among breaks has. breaks (keeps_met (least_meets n a least has) q among);
+        broken = λ q among breaks has. breaks (keeps_met n a (least_meets n a least has) q among);
       }
+
+-- in a node with classes each equation keeps the rules, with the least ones
+pub keeps_all_met : (n : NodeTree) (a : Classes) → IsLeast a n → HasClasses n → (q : EquationTree) → Contains n.equations q → KeepsClasses a n q
+keeps_all_met n a least has q among = keeps_met n a (least_meets n a least has) q among

@@ -4,3 +4,5 @@ pub mod Linked
 pub mod Judged
 pub mod Currents
 pub mod Tables
+pub mod Faults
+pub mod Rows

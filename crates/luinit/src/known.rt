@@ -2,12 +2,13 @@
 
 ghost use Rattle.std.specs.Prelude.{◌≡◌, ◌↔◌, IsTrue, All};
 ghost use Rattle.lutree.specs.declared.program.Equation.{Equation};
-ghost use Rattle.lutree.specs.Tree.{node_view};
+ghost use Rattle.lutree.specs.declared.program.Node.{Node};
+ghost use Rattle.lutree.specs.Tree.{node_view, program_view};
 ghost use Rattle.lurules.specs.Scope.{IsVariable};
 ghost use Rattle.luinit.specs.Assigned.{LeftsKnown};
 
 use lulist::Name;
-use luscope::Scope;
+use luscope::{Catalog, Scope};
 use lutree::Equation;
 
 // Whether a name is declared.
@@ -44,4 +45,19 @@ pub fn lefts_are_known(scope: &Scope) -> bool
     ensures { IsTrue result ↔ LeftsKnown (node_view scope.now) }
 {
     all_known(scope, scope.node().equations.as_slice())
+}
+
+// Whether what the equations of nodes define is declared.
+fn scopes_known(scopes: &[Scope]) -> bool
+    ensures { IsTrue result ↔ All (λ (n : Node). LeftsKnown (node_view n)) scopes.now }
+{
+    scopes.iter().all(|scope| lefts_are_known(scope))
+}
+
+/// Whether all variables that the equations of a program define are declared, as [`crate::initialise`] asks. A program that keeps the
+/// rules of names has no others. Takes no memory.
+pub fn all_lefts_known(catalog: &Catalog) -> bool
+    ensures { IsTrue result ↔ All LeftsKnown (program_view catalog.now) }
+{
+    scopes_known(catalog.scopes())
 }

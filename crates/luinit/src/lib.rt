@@ -1,10 +1,11 @@
 //! The rules of initialisation: which equations of a node keep them.
 //!
 //! - [`is_one`], [`needs_met`]: the class of an expression, and whether what it needs in class 0 is there.
-//! - [`lefts_are_known`]: whether what equations define is declared.
+//! - [`lefts_are_known`], [`all_lefts_known`]: whether what equations define is declared.
 //! - [`least_classes`]: the least classes of a node's variables.
 //! - [`clocks_named`], [`keeps_classes`]: whether an equation keeps the rules of classes.
 //! - [`Firsts`]: which clocks are true at first, by the form of their equations, and which uses of `current` that allows.
+//! - [`initialise`], [`Initialised`]: whether a program keeps these rules: the classes of each node, or the fault that is told.
 //! - [`laws`]: what the least classes decide.
 #![tactic(auto)]
 
@@ -14,11 +15,11 @@ mod judge;
 mod known;
 pub mod laws;
 mod least;
-#[cfg(test)]
-mod tests;
+mod search;
 
 pub use class::{is_one, needs_met};
 pub use current::Firsts;
 pub use judge::{clocks_named, keeps_classes};
-pub use known::lefts_are_known;
+pub use known::{all_lefts_known, lefts_are_known};
 pub use least::least_classes;
+pub use search::{Initialised, initialise};

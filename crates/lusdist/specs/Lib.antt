@@ -1,3 +1,4 @@
 pub mod Statuses
 pub mod Asked
 pub mod WorldText
+pub mod Refused

@@ -32,12 +32,12 @@ fn programs_of_the_first_language_are_printed(rt: HostRuntime) -> Result<(), Fai
             "node main() returns (a: int; b: int);\nlet\n  a = 0 -> pre b + 1;\n  b = 0 -> pre a + 1;\ntel\n",
         ),
         (
-            b"-- a counter\nnode  main()returns(a,b:int)var c:int;d,e:int;let a=007->pre a+2;tel;".as_slice(),
-            "node main() returns (a: int; b: int);\nvar c: int; d: int; e: int;\nlet\n  a = 7 -> pre a + 2;\ntel\n",
+            b"-- counters\nnode  main()returns(a,b:int)var c:int;let a=007->pre a+2;b=0->pre c+1;c=1->pre b+1;tel;".as_slice(),
+            "node main() returns (a: int; b: int);\nvar c: int;\nlet\n  a = 7 -> pre a + 2;\n  b = 0 -> pre c + 1;\n  c = 1 -> pre b + 1;\ntel\n",
         ),
         (
-            b"node other() returns (a: int); let tel".as_slice(),
-            "node other() returns (a: int);\nlet\ntel\n",
+            b"node main() returns (a: int); let a = 0 -> pre a + 0; tel node other() returns (b: int); let b = 1 -> pre b + 1; tel".as_slice(),
+            "node main() returns (a: int);\nlet\n  a = 0 -> pre a + 0;\ntel\nnode other() returns (b: int);\nlet\n  b = 1 -> pre b + 1;\ntel\n",
         ),
     ] {
         assert!(rt; prints(rt.alloc(), program, canonical)?, "{canonical}");
@@ -57,7 +57,7 @@ fn programs_of_the_whole_language_are_printed(rt: HostRuntime) -> Result<(), Fai
             "node f(x: int; y: int) returns (p: int; q: int);\nlet\n  p = x - (y - x);\n  q = x - y - x;\ntel\nnode main() returns (a: int; b: int);\nlet\n  (a, b) = f(1, - - 2);\ntel\n",
         ),
         (
-            b"node main(c: bool) returns (a: int); let a = merge c (true -> 1 when c) (false -> (if c then 1 else 2) when not c); tel".as_slice(),
+            b"node main(c: bool) returns (a: int); let a = merge c (true -> 1 when c) (false -> (if (c) then 1 else 2) when not c); tel".as_slice(),
             "node main(c: bool) returns (a: int);\nlet\n  a = merge c (true -> 1 when c) (false -> (if c then 1 else 2) when not c);\ntel\n",
         ),
     ] {
@@ -66,16 +66,80 @@ fn programs_of_the_whole_language_are_printed(rt: HostRuntime) -> Result<(), Fai
     Ok(())
 }
 
+/// Whether a check of a program whose nodes are `top` and `low`, with these words, prints it.
+fn top_is_printed(alloc: Global, all: &[&str]) -> Result<bool, Fail> {
+    let program =
+        b"node low() returns (a: int); let a = 0 -> pre a + 1; tel node top() returns (b: int); let b = low(); tel";
+    let canonical =
+        "node low() returns (a: int);\nlet\n  a = 0 -> pre a + 1;\ntel\nnode top() returns (b: int);\nlet\n  b = low();\ntel\n";
+    answers(alloc, all, &with_program(program), 0, canonical, "")
+}
+
 #[test]
-fn the_main_node_plays_no_part_in_a_check(rt: HostRuntime) -> Result<(), Fail> {
-    let program = b"node main() returns (a: int); let a = 0 -> pre a + 1; tel";
-    let canonical = "node main() returns (a: int);\nlet\n  a = 0 -> pre a + 1;\ntel\n";
+fn a_main_node_of_another_name_is_checked(rt: HostRuntime) -> Result<(), Fail> {
     for all in [
         ["lusdist", "check", "p.lus", "--main", "top"].as_slice(),
-        ["lusdist", "check", "--main", "main", "p.lus"].as_slice(),
+        ["lusdist", "check", "--main", "low", "p.lus"].as_slice(),
         ["lusdist", "check", "--main=top", "p.lus"].as_slice(),
     ] {
-        assert!(rt; answers(rt.alloc(), all, &with_program(program), 0, canonical, "")?);
+        assert!(rt; top_is_printed(rt.alloc(), all)?);
+    }
+    Ok(())
+}
+
+/// Whether a check and a replay of the program both refuse it with this line.
+fn both_refuse(alloc: Global, program: &[u8], line: &str) -> Result<bool, Fail> {
+    let shelf = with_program(program);
+    let checked = answers(alloc, CHECK, &shelf, 1, "", line)?;
+    let replayed = answers(alloc, REPLAY, &shelf, 1, "", line)?;
+    Ok(checked && replayed)
+}
+
+#[test]
+fn programs_that_break_a_rule(rt: HostRuntime) -> Result<(), Fail> {
+    for (program, line) in [
+        (
+            b"node main() returns (a: int; a: int); let a = 0; tel".as_slice(),
+            "E10 DuplicateName at 29\n",
+        ),
+        (
+            b"node main() returns (a: int); let a = b; tel".as_slice(),
+            "E11 UnknownName at 34\n",
+        ),
+        (
+            b"node main() returns (a: int); let a = f(); tel".as_slice(),
+            "E12 UnknownNode at 34\n",
+        ),
+        (
+            b"node main() returns (a: int); let a = true; tel".as_slice(),
+            "E13 TypeMismatch at 34\n",
+        ),
+        (
+            b"node main() returns (a: int); let a = main(1); tel".as_slice(),
+            "E17 RecursiveNode at 5\n",
+        ),
+        (
+            b"node other() returns (a: int); let a = 0; tel".as_slice(),
+            "E18 NoMain at 0\n",
+        ),
+        (
+            b"node main(c: bool) returns (a: int); let a = 1 when c; tel".as_slice(),
+            "E20 ClockMismatch at 41\n",
+        ),
+        (
+            b"node main() returns (a: int); let a = pre a; tel".as_slice(),
+            "E30 MaybeNil at 34\n",
+        ),
+        (
+            b"node main(c: bool; x: int when c) returns (a: int); let a = current x; tel".as_slice(),
+            "E22 ClockedParameter at 19\n",
+        ),
+        (
+            b"node main(c: bool; x: int) returns (a: int); var y: int when c; let y = x when c; a = current y; tel".as_slice(),
+            "E31 CurrentMayBeNil at 82\n",
+        ),
+    ] {
+        assert!(rt; both_refuse(rt.alloc(), program, line)?, "{line}");
     }
     Ok(())
 }
@@ -176,14 +240,14 @@ fn a_check_that_cannot_be_written(rt: HostRuntime) -> Result<(), Fail> {
 fn programs_that_are_not_replayed_yet(rt: HostRuntime) -> Result<(), Fail> {
     for program in [
         b"node main(x: int) returns (a: int); let a = 0 -> pre a + 1; tel".as_slice(),
-        b"node main() returns (a: bool); let a = 0 -> pre a + 1; tel".as_slice(),
-        b"node main() returns (a: int when c); let a = 0 -> pre a + 1; tel".as_slice(),
+        b"node main() returns (a: bool); let a = true -> not pre a; tel".as_slice(),
+        b"node main(c: bool) returns (a: int when c); let a = 0 -> pre a + 1; tel".as_slice(),
         b"node main() returns (a: int); let a = 0; tel".as_slice(),
         b"node main() returns (a: int); let a = 0 -> pre a - 1; tel".as_slice(),
         b"node main() returns (a: int); let a = 0 fby a + 1; tel".as_slice(),
-        b"node main() returns (a, b: int); let (a, b) = f(1); tel".as_slice(),
+        b"node f(x: int) returns (p, q: int); let p = x; q = x; tel node main() returns (a, b: int); let (a, b) = f(1); tel".as_slice(),
         b"node f() returns (a: int); let a = 0 -> pre a + 1; tel node main() returns (a: int); let a = 0 -> pre a + 1; tel".as_slice(),
-        b"node other() returns (a, a: bool); let c = d; c = d; tel".as_slice(),
+        b"node main() returns (a: bool); var c: bool; let c = a; a = true fby c; tel".as_slice(),
     ] {
         assert!(rt;
             answers(

@@ -2,6 +2,7 @@
 
 ghost use Rattle.std.specs.Prelude.{◌≡◌, ◌≢◌, ◌↔◌, [], IfOk, IfErr, Ok};
 ghost use Rattle.lutree.specs.Tree.{program_view};
+ghost use Rattle.lurules.specs.Accepted.{IsAccepted};
 ghost use Rattle.lusource.specs.First.{IsFirstShape};
 ghost use Rattle.lucore.specs.Result.{IsFlatOf};
 ghost use Rattle.lushell.specs.ScheduleText.{schedule_of};
@@ -10,6 +11,7 @@ ghost use Rattle.lutab.specs.Fit.{HasNoInputs};
 ghost use Rattle.lutab.specs.Rows.{table_of};
 ghost use Rattle.lusdist.specs.declared.stop.Stop.TheVariants.{NotYet};
 ghost use Rattle.lusdist.specs.Asked.{IsFlatOfText, IsPlanOfText};
+ghost use Rattle.lusdist.specs.Refused.{IsRuleTold};
 
 use crate::stop::Stop;
 use lucore::flatten;
@@ -19,6 +21,7 @@ use lulist::Name;
 use luplace::{Job, Plan};
 use luplacefile::{PlaceError, read_place};
 use lushell::{Files, ReadError, read_schedule, text_of};
+use lustat::check;
 use lusyn::read_program;
 use lutab::{TabError, read_inputs};
 use lutree::Program;
@@ -50,12 +53,24 @@ pub fn program_of(alloc: Global, bytes: &[u8]) -> Result<Program, Stop>
     }
 }
 
+/// That a program keeps all rules, with the main node of this name.
+pub fn accept(alloc: Global, program: &Program, main: &str) -> Result<(), Stop>
+    ensures accepted { IfOk result (λ _. IsAccepted (program_view program.now) main.now) }
+    ensures told { IfErr result (IsRuleTold (program_view program.now) main.now) }
+{
+    match check(alloc, program, main) {
+        Ok(_checked) => Ok(()),
+        Err(e) => Err(Stop::Rules(e)),
+    }
+}
+
 /// The flat program that the bytes of a program's file are, from its main node of this name.
 pub fn flat_of(alloc: Global, bytes: &[u8], main: &str) -> Result<Flat, Stop>
     ensures flat { IfOk result (IsFlatOfText bytes.now main.now) }
     ensures inputless { IfOk result HasNoInputs }
 {
     let program = program_of(alloc, bytes)?;
+    accept(alloc, &program, main)?;
     flattened(alloc, &program, main)
 }
 

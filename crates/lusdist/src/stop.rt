@@ -4,9 +4,10 @@ ghost use Rattle.std.specs.Prelude.{◌≡◌};
 ghost use Rattle.lusdist.specs.Statuses.{status_of};
 
 use lucore::CoreError;
-use lufirst::StatError;
+use lufirst::StatError as NamesError;
 use lulist::Name;
 use luplacefile::PlaceError;
+use lurules::StatError;
 use lushell::ScheduleError;
 use lusyn::SynError;
 use lutab::TabError;
@@ -26,12 +27,15 @@ pub enum Stop {
     /// The text of the program spells none.
     #[error("{0}")]
     Syntax(SynError),
+    /// The program breaks a rule.
+    #[error("{0}")]
+    Rules(StatError),
     /// The program is of more than the first language, which alone is replayed as yet.
     #[error("E00 NotYet")]
     NotYet,
-    /// The program breaks a rule of names.
+    /// The names of a program of the first language are not in order.
     #[error("{0}")]
-    Names(StatError),
+    Names(NamesError),
     /// The program has no flat program.
     #[error("{0}")]
     Flat(CoreError),
@@ -68,7 +72,8 @@ impl Stop {
         match self {
             Stop::CannotRead { .. } => 2,
             Stop::Syntax(SynError::OutOfMemory)
-            | Stop::Names(StatError::OutOfMemory)
+            | Stop::Rules(StatError::OutOfMemory)
+            | Stop::Names(NamesError::OutOfMemory)
             | Stop::Flat(CoreError::OutOfMemory)
             | Stop::Place(PlaceError::OutOfMemory)
             | Stop::Table(TabError::OutOfMemory)

@@ -14,8 +14,6 @@ mod faults;
 mod kinds;
 mod known;
 mod search;
-#[cfg(test)]
-mod tests;
 mod typed;
 mod typing;
 

@@ -1,0 +1,42 @@
+//! What holds of the definitions, as contracts of functions that do nothing.
+
+ghost use Rattle.lulayout.specs.Laws.{AgreesLaw, OneListLaw, ClosedLaw};
+ghost use Rattle.lulayout.specs.Loop.{LoopLaw};
+ghost use Rattle.lulayout.specs.Open.{NodesLaw};
+ghost use Rattle.lulayout.specs.Sizes.{CountLaw};
+ghost use Rattle.lulayout.specs.Vectors.{VectorsLaw};
+
+/// The flows, owners and variables of worked programs, the sizes of the nodes of one, and that one has the solutions of its source.
+pub fn vectors_law()
+    ensures { VectorsLaw }
+{}
+
+/// The flat list of an accepted program has the solutions of its source, if its flows have an order of rank.
+pub fn agrees_law()
+    ensures { AgreesLaw }
+{}
+
+/// Without such an order it may have others: where two variables are copies of each other.
+pub fn loop_law()
+    ensures { LoopLaw }
+{}
+
+/// The list of each node of an accepted program has the solutions of the node, on any base clock and for any inputs.
+pub fn nodes_law()
+    ensures { NodesLaw }
+{}
+
+/// A program has at most one flat list.
+pub fn one_list_law()
+    ensures { OneListLaw }
+{}
+
+/// What a flow of the list names is a flow of the list, and the main variables stand first.
+pub fn closed_law()
+    ensures { ClosedLaw }
+{}
+
+/// The flat list has as many flows as are counted without making it.
+pub fn count_law()
+    ensures { CountLaw }
+{}

@@ -1,0 +1,10 @@
+pub mod Deciding
+pub mod Counts
+pub mod Reading
+pub mod Orders
+pub mod Walks
+pub mod Stepping
+pub mod Cycles
+pub mod Heaps
+pub mod Free
+pub mod Closing

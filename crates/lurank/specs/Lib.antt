@@ -1,0 +1,4 @@
+pub mod Rank
+pub mod Answer
+pub mod Laws
+pub mod Search

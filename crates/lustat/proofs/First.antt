@@ -1,0 +1,74 @@
+-- What each stage tells is told first.
+use Rattle.std.proofs.Common.{◌≡◌, ◌∙◌, ◌<◌, ◌≤◌, ◌/◌, ◌⊎◌, inl, inr, ℕ, List, Option, Some, None, refl, sym, ap, subst, arith}
+use Rattle.lutree.specs.declared.program.Program.{Program}
+use Rattle.lutree.specs.Tree.{program_view}
+use Rattle.lurules.specs.Accepted.{Rule, duplicate_name, unknown_name, unknown_node, type_mismatch, wrong_arity, undefined, defined_twice, recursive_node, no_main, clock_mismatch, not_a_clock, clocked_parameter, hidden_clock, maybe_nil, current_may_be_nil, number, stage}
+use Rattle.lurules.specs.declared.error.StatError.{StatError}
+use Rattle.lurules.specs.declared.error.StatError.TheVariants.{DuplicateName, UnknownName, UnknownNode, TypeMismatch, WrongArity, Undefined, DefinedTwice, RecursiveNode, ClockMismatch, NotAClock, ClockedParameter, HiddenClock, MaybeNil, CurrentMayBeNil, NoMain, OutOfMemory}
+use Rattle.lurules.specs.Told.{rule_of, number_of, number_told, RuleTold, Tells}
+use Rattle.lurules.specs.Faults.{IsAtMost, IsJudged, IsFault, AreKept}
+use Rattle.luscope.proofs.Keeping.{broken_somewhere}
+use Rattle.lutype.specs.Named.{IsToldFirst as IsFirstOfNames}
+use Rattle.luclock.specs.Asked.{is_asked}
+use Rattle.luinit.specs.Faults.{IsFault as IsClassFault, AreKept as AreClassesKept, TellsBroken}
+use Rattle.lustat.specs.First.{stage_told, IsToldFirst}
+use Rattle.lustat.proofs.Telling.{second}
+
+-- only the want of memory tells no rule
+no_rule : (e : StatError) → rule_of e ≡ None → e ≡ OutOfMemory
+no_rule (DuplicateName byte) h = absurd (cc)
+no_rule (UnknownName byte) h = absurd (cc)
+no_rule (UnknownNode byte) h = absurd (cc)
+no_rule (TypeMismatch byte) h = absurd (cc)
+no_rule (WrongArity byte) h = absurd (cc)
+no_rule (Undefined byte) h = absurd (cc)
+no_rule (DefinedTwice byte) h = absurd (cc)
+no_rule (RecursiveNode byte) h = absurd (cc)
+no_rule NoMain h = absurd (cc)
+no_rule (ClockMismatch byte) h = absurd (cc)
+no_rule (NotAClock byte) h = absurd (cc)
+no_rule (ClockedParameter byte) h = absurd (cc)
+no_rule (HiddenClock byte) h = absurd (cc)
+no_rule (MaybeNil byte) h = absurd (cc)
+no_rule (CurrentMayBeNil byte) h = absurd (cc)
+no_rule OutOfMemory h = refl
+
+-- no stage is before the first
+stage_least : (rule : Rule) → 1 ≤ stage rule
+stage_least duplicate_name = omega arith
+stage_least unknown_name = omega arith
+stage_least unknown_node = omega arith
+stage_least type_mismatch = omega arith
+stage_least wrong_arity = omega arith
+stage_least undefined = omega arith
+stage_least defined_twice = omega arith
+stage_least recursive_node = omega arith
+stage_least no_main = omega arith
+stage_least clock_mismatch = omega arith
+stage_least not_a_clock = omega arith
+stage_least clocked_parameter = omega arith
+stage_least hidden_clock = omega arith
+stage_least maybe_nil = omega arith
+stage_least current_may_be_nil = omega arith
+
+-- the stage of the rule that a refusal tells
+stage_of_told : (e : StatError) (rule : Rule) → rule_of e ≡ Some rule → stage_told e ≡ stage rule
+stage_of_told e rule told = ap (λ n. n / 10) (ap number_told told)
+
+pub first_of_names : (p : Program) (main : List ℕ) (e : StatError) → Tells 1 (program_view p) main e → IsFirstOfNames p main e → IsToldFirst p main e
+first_of_names p main e tells (inl no_memory) = IsToldFirst.memory no_memory
+first_of_names p main e tells (inr least) = by_rule (rule_of e) refl tells
+  where
+    by_rule : (o : Option Rule) → rule_of e ≡ o → RuleTold 1 (program_view p) main o → IsToldFirst p main e
+    by_rule None is h = IsToldFirst.memory (no_rule e is)
+    by_rule (Some rule) is h =
+        let one : stage rule ≡ 1 = (let le = h.0 in let ge = stage_least rule in omega (arith, le, ge)) in
+        IsToldFirst.names (stage_of_told e rule is ∙ one) least
+
+pub first_of_clocks : (p : Program) (main : List ℕ) (e : StatError) → IsJudged (IsFault is_asked p main) (AreKept is_asked p main) (Some e) → IsToldFirst p main e
+first_of_clocks p main e judged =
+    let b = broken_somewhere is_asked p main e judged.0 in
+    IsToldFirst.clocks (stage_of_told e b.rule b.told ∙ second b.rule b.one) judged.1
+
+pub first_of_classes : (p : Program) (main : List ℕ) (e : StatError) → TellsBroken (program_view p) main e → IsJudged (IsClassFault p.nodes) (AreClassesKept p.nodes) (Some e) → IsToldFirst p main e
+first_of_classes p main e b judged = IsToldFirst.classes (stage_of_told e b.rule b.told ∙ b.third) judged.1

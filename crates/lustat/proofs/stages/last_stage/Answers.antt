@@ -1,0 +1,62 @@
+use Rattle.std.proofs.Common.{◌≡◌, ◌∙◌, List, ℕ, Some, All, refl, ap, sym, subst}
+use Rattle.lutree.specs.declared.program.Program.{Program}
+use Rattle.lutree.specs.Tree.{program_view}
+use Rattle.lurules.specs.Accepted.{Passes}
+use Rattle.lurules.specs.Naming.{IsCallOrder}
+use Rattle.lutype.specs.Named.{Named}
+use Rattle.lurules.specs.Faults.{IsJudged}
+use Rattle.luinit.specs.Assigned.{LeftsKnown}
+use Rattle.luinit.specs.Faults.{AreKept, IsFault, TellsBroken}
+use Rattle.luinit.specs.Rows.{AreClasses, IfKept, IfBroken, fault_of, plain}
+use Rattle.luinit.proofs.Rowing.{lefts}
+use Rattle.lustat.proofs.Telling.{accepted_from, told_by_classes}
+use Rattle.lustat.proofs.First.{first_of_classes}
+use Rattle.lustat.proofs.stages.last_stage.Goals as goal
+
+pub initialise-requires : goal.initialise-requires
+initialise-requires c =
+    let p : Program = c.args.typed.program in
+    subst (λ (x : Program). All LeftsKnown (program_view x)) (sym c.catalog.ensures.catalog) (lefts (program_view p) c.args.typed.main c.catalog.ensures.names)
+
+pub new-requires : goal.new-requires
+new-requires c =
+    let p : Program = c.args.typed.program in
+    let main = c.args.typed.main in
+    let seen : Program = c.catalog.result.now in
+    let all = subst (λ f. IfKept f (λ _. (m : List ℕ) → Passes (program_view seen) m 3)) c.in-Kept.is c.in_ok-classes.ensures.passes in
+    let passes = subst (λ (x : Program). Passes (program_view x) main 3) c.catalog.ensures.catalog (all main) in
+    let rows = subst (λ f. IfKept f (AreClasses (program_view seen))) c.in-Kept.is c.in_ok-classes.ensures.classes in
+    record {
+      accepted = accepted_from p main c.catalog.ensures.names c.requires passes;
+      calls = subst (λ (t : Named). IsCallOrder (program_view t.program) t.order) c.typed.view_is c.typed.invariant.calls;
+      classes = subst (λ (x : Program). AreClasses (program_view x) (plain c.in-Kept.classes.items)) c.catalog.ensures.catalog rows;
+    }
+
+pub returns-in-Kept-clause-accepted : goal.returns-in-Kept-clause-accepted
+returns-in-Kept-clause-accepted c =
+    let p : Program = c.args.typed.program in
+    let main = c.args.typed.main in
+    let seen : Program = c.catalog.result.now in
+    let all = subst (λ f. IfKept f (λ _. (m : List ℕ) → Passes (program_view seen) m 3)) c.in-Kept.is c.in_ok-classes.ensures.passes in
+    let passes = subst (λ (x : Program). Passes (program_view x) main 3) c.catalog.ensures.catalog (all main) in
+    accepted_from p main c.catalog.ensures.names c.requires passes
+
+pub returns-clause-told : goal.returns-clause-told
+returns-clause-told c =
+    let p : Program = c.args.typed.program in
+    let main = c.args.typed.main in
+    let e = c.in-Broken.fault in
+    let seen : Program = c.catalog.result.now in
+    let broken = subst (λ f. IfBroken f (λ e. (m : List ℕ) → TellsBroken (program_view seen) m e)) c.in-Broken.is c.in_ok-classes.ensures.broken in
+    told_by_classes p main e c.catalog.ensures.names c.requires (subst (λ (x : Program). TellsBroken (program_view x) main e) c.catalog.ensures.catalog (broken main))
+
+pub returns-clause-first : goal.returns-clause-first
+returns-clause-first c =
+    let p : Program = c.args.typed.program in
+    let main = c.args.typed.main in
+    let e = c.in-Broken.fault in
+    let seen : Program = c.catalog.result.now in
+    let broken = subst (λ f. IfBroken f (λ e. (m : List ℕ) → TellsBroken (program_view seen) m e)) c.in-Broken.is c.in_ok-classes.ensures.broken in
+    let judged = subst (λ f. IsJudged (IsFault seen.nodes) (AreKept seen.nodes) (fault_of f)) c.in-Broken.is c.in_ok-classes.ensures.first in
+    first_of_classes p main e (subst (λ (x : Program). TellsBroken (program_view x) main e) c.catalog.ensures.catalog (broken main))
+    (subst (λ (x : Program). IsJudged (IsFault x.nodes) (AreKept x.nodes) (Some e)) c.catalog.ensures.catalog judged)

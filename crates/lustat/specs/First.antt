@@ -1,0 +1,21 @@
+-- What is told first.
+use Rattle.std.specs.Prelude.{◌≡◌, ◌/◌, ℕ, List}
+use Rattle.lutree.specs.declared.program.Program.{Program}
+use Rattle.lurules.specs.declared.error.StatError.{StatError}
+use Rattle.lurules.specs.declared.error.StatError.TheVariants.{OutOfMemory}
+use Rattle.lurules.specs.Told.{number_of}
+use Rattle.lurules.specs.Faults.{IsAtMost, IsFault}
+use Rattle.lutype.specs.Asked.{is_asked as is_name_rule}
+use Rattle.luclock.specs.Asked.{is_asked as is_clock_rule}
+use Rattle.luinit.specs.Faults.{IsFault as IsClassFault}
+
+-- the first digit of a refusal's number
+abbrev pub stage_told : StatError → ℕ
+stage_told e = number_of e / 10
+
+-- No fault of the stage of a refusal is told before it, of the first stage none but that of recursion, unless memory ran out.
+pub data IsToldFirst (p : Program) (main : List ℕ) (e : StatError) : Type 0 where
+  memory : e ≡ OutOfMemory → IsToldFirst p main e
+  names : stage_told e ≡ 1 → ((f : StatError) → IsFault is_name_rule p main f → IsAtMost e f) → IsToldFirst p main e
+  clocks : stage_told e ≡ 2 → ((f : StatError) → IsFault is_clock_rule p main f → IsAtMost e f) → IsToldFirst p main e
+  classes : stage_told e ≡ 3 → ((f : StatError) → IsClassFault p.nodes f → IsAtMost e f) → IsToldFirst p main e

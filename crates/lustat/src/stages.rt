@@ -1,0 +1,60 @@
+//! The stages of the static checks.
+
+ghost use Rattle.std.specs.Prelude.{◌≡◌, IfOk, IfErr};
+ghost use Rattle.lutree.specs.Tree.{program_view};
+ghost use Rattle.lurules.specs.Accepted.{IsAccepted};
+ghost use Rattle.lurules.specs.Told.{Tells};
+ghost use Rattle.lurules.specs.Faults.{AreKept};
+ghost use Rattle.luclock.specs.Asked.{is_asked};
+ghost use Rattle.lustat.specs.First.{IsToldFirst};
+
+use crate::checked::Checked;
+use luclock::clock_fault;
+use luinit::{Initialised, initialise};
+use lurules::StatError;
+use lutree::Program;
+use lutype::{Typed, names};
+use std::alloc::Global;
+
+// The last stage, of a program that keeps the rules of names and of clocks.
+fn last_stage(alloc: Global, typed: Typed<'_>) -> Result<Checked<'_>, StatError>
+    requires { AreKept is_asked typed.program typed.main }
+    ensures program { IfOk result (λ checked. checked.program ≡ typed.entry.program) }
+    ensures main { IfOk result (λ checked. checked.main ≡ typed.entry.main) }
+    ensures accepted { IfOk result (λ _. IsAccepted (program_view typed.entry.program) typed.entry.main) }
+    ensures told { IfErr result (Tells 3 (program_view typed.entry.program) typed.entry.main) }
+    ensures first { IfErr result (IsToldFirst typed.entry.program typed.entry.main) }
+{
+    match initialise(alloc, typed.catalog())? {
+        Initialised::Kept(classes) => Ok(Checked::new(typed, classes)),
+        Initialised::Broken(fault) => Err(fault),
+    }
+}
+
+/// Whether a program keeps all rules: those of names and types, then those of clocks, then those of initialisation. Every node is
+/// checked.
+///
+/// The expected time grows with the size of the program.
+///
+/// # Errors
+///
+/// An error other than the want of memory tells a rule that is broken, where all rules of the stages before are kept: of its stage the
+/// fault of the least byte, at equal bytes that of the least number. Of several nodes that reach themselves by calls only the first in
+/// order of text is thought of.
+pub fn check<'a>(
+    alloc: Global,
+    program: &'a Program,
+    main: &'a str,
+) -> Result<Checked<'a>, StatError>
+    ensures program { IfOk result (λ checked. checked.program ≡ program.now) }
+    ensures main { IfOk result (λ checked. checked.main ≡ main.now) }
+    ensures accepted { IfOk result (λ _. IsAccepted (program_view program.now) main.now) }
+    ensures told { IfErr result (Tells 3 (program_view program.now) main.now) }
+    ensures first { IfErr result (IsToldFirst program.now main.now) }
+{
+    let typed = names(alloc, program, main)?;
+    match clock_fault(alloc, typed.catalog(), main)? {
+        Some(fault) => Err(fault),
+        None => last_stage(alloc, typed),
+    }
+}
