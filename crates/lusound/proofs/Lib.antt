@@ -1,0 +1,12 @@
+pub mod Types
+pub mod Fitting
+pub mod Walks
+pub mod Expressions
+pub mod Ruling
+pub mod Variables
+pub mod Nodes
+pub mod Roles
+pub mod Programs
+pub mod Near
+pub mod Owners
+pub mod Flats
