@@ -1,5 +1,6 @@
 //! Calls of a program: an order of its nodes, or one that reaches itself by calls.
 //!
+//! - [`graph_of`]: the places of the nodes that each node calls.
 //! - [`call_order`], [`CallOrder`]: all nodes, each behind those that it calls, or the first node in order of text that calls itself, directly or through others.
 //!
 //! A call means the first node of its name, and a call of no node is passed over: so there is an answer for any program, whatever other rules it breaks.
@@ -11,4 +12,5 @@ mod order;
 #[cfg(test)]
 mod tests;
 
+pub use calls::graph_of;
 pub use order::{CallOrder, call_order};

@@ -1,4 +1,4 @@
-use crate::{CallOrder, call_order};
+use crate::{CallOrder, call_order, graph_of};
 use lulist::{Name, Row};
 use luscope::Catalog;
 use lutree::{Equation, Expr, Node, Program};
@@ -205,5 +205,27 @@ fn many_nodes_that_call_all_before_them_stand_in_order(rt: HostRuntime) -> Resul
     let program = callers_of_all(rt.alloc(), 256)?;
     let order = order_in(rt.alloc(), &program)?;
     assert!(rt; is_in_order_of_text(&order, 256));
+    Ok(())
+}
+
+/// How many calls of nodes each node has.
+fn calls_counted(alloc: Global, program: &Program) -> Result<Vec<usize>, AllocError> {
+    let catalog = Catalog::new(alloc, program)?;
+    let graph = graph_of(alloc, &catalog)?;
+    let mut counts = Vec::with_capacity(alloc, graph.len())?;
+    for row in graph.iter() {
+        counts.push(row.len())?;
+    }
+    Ok(counts)
+}
+
+#[test]
+fn each_call_of_a_node_is_an_edge(rt: HostRuntime) -> Result<(), Fail> {
+    let program = program_of(
+        rt.alloc(),
+        &[("a", &["b", "c", "b"]), ("b", &["d"]), ("c", &[])],
+    )?;
+    let counts = calls_counted(rt.alloc(), &program)?;
+    assert_eq!(rt; counts.as_slice(), [3, 0, 0].as_slice());
     Ok(())
 }

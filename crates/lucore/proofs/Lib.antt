@@ -1,10 +1,3 @@
-pub mod Lists
-pub mod Laid
-pub mod Meaning
-pub mod Variables
-pub mod Agreeing
-pub mod Sounding
 pub mod RankOrders
-pub mod Coding
 pub mod Whole
-pub mod Vectors
+pub mod Told

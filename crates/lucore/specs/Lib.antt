@@ -1,4 +1,1 @@
-pub mod Layout
 pub mod Result
-pub mod Code
-pub mod Vectors

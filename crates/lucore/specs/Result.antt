@@ -1,34 +1,55 @@
 -- What flattening gives.
-use Rattle.std.specs.Prelude.{◌≡◌, ℕ, ◌<◌, List, [], map, slice_index}
+use Rattle.std.specs.Prelude.{◌≡◌, ℕ, ◌<◌, ◌≤◌, List, Some, slice_get, slice_index}
 use Rattle.lutree.specs.Tree.{ProgramTree}
-use Rattle.luflow.specs.Program.{FlatProgram, Table, reads}
+use Rattle.luflow.specs.declared.variable.Variable.{Variable}
+use Rattle.luflow.specs.Program.{FlatProgram, Table, flows_of}
+use Rattle.luflow.specs.Rank.{reads_of}
 use Rattle.luflow.specs.Flats.{IsFlat}
 use Rattle.lurank.specs.Rank.{IsLeastOnCycle}
-use Rattle.lusource.specs.Names.{variables_of, name_at}
-use Rattle.lusource.specs.First.{IsFirstProgram}
 use Rattle.lusource.specs.Agreement.{Agrees, HasOneMeaning}
-use Rattle.lucore.specs.Layout.{IsLaidOut, laid_flows, laid_owners, flow_count}
+use Rattle.lurules.specs.Accepted.{IsAccepted}
+use Rattle.lulayout.specs.Layout.{IsLaidOut}
+use Rattle.lulayout.specs.Laws.{HasColumns}
+use Rattle.lucause.specs.Reads.{Occurrence, Leads}
+use Rattle.lucause.specs.Laws.{HasCycle}
+use Rattle.lucause.specs.Owners as owners
 use Rattle.lucore.specs.declared.error.CoreError.{CoreError}
 use Rattle.lucore.specs.declared.error.CoreError.TheVariants.{TooLarge, Cycle, OutOfMemory}
 
--- The flat program of a source: its list is the exact one, it is sound and in order of rank, and at every table without
--- columns it has the same solutions as the source, which has one and no other as to its main variables.
+-- The flat program of a source that keeps all rules and has no cycle: its list is the one of the layout, it is sound and in order of
+-- rank, and at every table that has the inputs' columns it has the same solutions as the source, which has one and no other as to
+-- its main variables.
 pub record IsFlatOf (program : ProgramTree) (main : List ℕ) (flat : FlatProgram) : Type 0 where
-  pub first : IsFirstProgram program main
-  pub laid_out : IsLaidOut first.shape.node first.shape.lines flat
+  pub accepted : IsAccepted program main
+  pub causal : ¬ HasCycle program main
+  pub laid_out : IsLaidOut program main flat
   pub is_flat : IsFlat flat
-  pub agrees : (inputs : Table) → inputs.columns ≡ [] → Agrees program main inputs flat
-  pub one_meaning : (inputs : Table) → inputs.columns ≡ [] → HasOneMeaning program main inputs flat
+  pub agrees : (inputs : Table) → HasColumns program main inputs → Agrees program main inputs flat
+  pub one_meaning : (inputs : Table) → HasColumns program main inputs → HasOneMeaning program main inputs flat
 
--- the least flow of the list that reads itself through a chain of reads stands in the equation of the variable of this name
-pub record ReadsItself (program : ProgramTree) (main : List ℕ) (variable : List ℕ) : Type 0 where
-  pub first : IsFirstProgram program main
+-- the list of the source is longer than a flat program may be
+pub record IsTooLarge (program : ProgramTree) (main : List ℕ) : Type 0 where
+  pub flat : FlatProgram
+  pub laid_out : IsLaidOut program main flat
+  pub large : 4096 < flows_of flat
+
+-- The list of the source isn't too large, and the least flow of it that reads itself through a chain of reads stands in the
+-- equation of the variable of this name. So does an occurrence of the source that reads itself through a chain.
+pub record ReadsItself (program : ProgramTree) (main : List ℕ) (name : List ℕ) : Type 0 where
+  pub flat : FlatProgram
+  pub laid_out : IsLaidOut program main flat
+  pub few : flows_of flat ≤ 4096
   pub place : ℕ
-  pub least : IsLeastOnCycle (map reads (laid_flows (variables_of first.shape.node) first.shape.lines)) place
-  pub owner : variable ≡ name_at (variables_of first.shape.node) (slice_index (laid_owners (variables_of first.shape.node) first.shape.lines) place)
+  pub least : IsLeastOnCycle (reads_of flat) place
+  pub owner : Variable
+  pub is_owner : slice_get flat.variables (slice_index flat.owners place) ≡ Some owner
+  pub named : name ≡ owner.name
+  pub occurrence : Occurrence
+  pub leads : Leads program main occurrence occurrence
+  pub owns : owners.owner laid_out.node occurrence ≡ slice_index flat.owners place
 
 -- what a refusal tells of a program
 abbrev pub Refuses : ProgramTree → List ℕ → CoreError → Type 0
-Refuses program main TooLarge = 4096 < flow_count program
-Refuses program main (Cycle variable) = ReadsItself program main variable
+Refuses program main TooLarge = IsTooLarge program main
+Refuses program main (Cycle name) = ReadsItself program main name
 Refuses program main OutOfMemory = Unit {0}

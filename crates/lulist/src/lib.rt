@@ -2,10 +2,13 @@
 //!
 //! - [`Row`]: a list that never changes; a contract sees the list.
 //! - [`Name`]: a text that never changes; a contract sees its bytes.
+//! - [`Number`]: a number that a program's text may have; a contract sees the number.
 #![tactic(auto)]
 
 mod name;
+mod number;
 mod row;
 
 pub use name::Name;
+pub use number::Number;
 pub use row::Row;

@@ -12,7 +12,7 @@ ghost use Rattle.luparse.specs.Gives.{Gives, GivesPlace, EndsOperand, atom, ahea
 use crate::error::Stop;
 use crate::pieces::{Next, Operand, PlacedName, byte_of, copied, operand_of, plain};
 use lugrammar::{binding_of, infix_of, prefix_of};
-use lulist::{Name, Row};
+use lulist::{Name, Number, Row};
 use lutoken::{Fixed, Lexeme, Token};
 use lutree::{Condition, Declaration, Equation, Expr, Infix, Kind, Prefix};
 use std::alloc::Global;
@@ -241,7 +241,7 @@ impl<'t> Reader<'t> {
             Some(Token::Name(name)) => {
                 Ok((Expr::Variable(Name::from_text(self.alloc, name)?), at + 1))
             }
-            Some(Token::Number(n)) => Ok((Expr::Number(n), at + 1)),
+            Some(Token::Number(n)) => Ok((Expr::Number(Number::at_most(n)), at + 1)),
             Some(Token::Fixed(Fixed::True)) => Ok((Expr::Truth(true), at + 1)),
             Some(Token::Fixed(Fixed::False)) => Ok((Expr::Truth(false), at + 1)),
             _ => Err(Stop::Refused(at)),
@@ -286,7 +286,9 @@ impl<'t> Reader<'t> {
     {
         match self.token(at) {
             Some(Token::Name(name)) => Ok(operand_of(10, self.named(depth, name, at + 1)?)),
-            Some(Token::Number(n)) => Ok(operand_of(10, (Expr::Number(n), at + 1))),
+            Some(Token::Number(n)) => {
+                Ok(operand_of(10, (Expr::Number(Number::at_most(n)), at + 1)))
+            },
             Some(Token::Fixed(Fixed::True)) => Ok(operand_of(10, (Expr::Truth(true), at + 1))),
             Some(Token::Fixed(Fixed::False)) => Ok(operand_of(10, (Expr::Truth(false), at + 1))),
             Some(Token::Fixed(Fixed::Merge)) => Ok(operand_of(10, self.merge(depth, at + 1)?)),

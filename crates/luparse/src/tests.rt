@@ -35,7 +35,7 @@ fn describe_condition(out: &mut String, condition: &Condition) -> Result<(), Fai
 /// The expression with parentheses at each operator.
 fn describe_expr(out: &mut String, expr: &Expr) -> Result<(), Fail> {
     match expr {
-        Expr::Number(n) => write!(out, "{n}")?,
+        Expr::Number(n) => write!(out, "{}", n.value())?,
         Expr::Truth(truth) => write!(out, "{}", if *truth { "true" } else { "false" })?,
         Expr::Variable(name) => write!(out, "{}", name.as_str())?,
         Expr::Current(name) => write!(out, "(current {})", name.as_str())?,

@@ -40,7 +40,7 @@ pub(crate) fn put_expr(text: &mut String, e: &Expr) -> Result<(), AllocError>
     ensures { IfOk result (λ _. string_bytes text.new ≡ string_bytes text.old ++ expression (written (view e.now))) }
 {
     match e {
-        Expr::Number(n) => write!(text, "{n}"),
+        Expr::Number(n) => write!(text, "{}", n.value()),
         Expr::Truth(truth) => write!(text, "{truth}"),
         Expr::Variable(x) => text.push_str(x.as_str()),
         Expr::Current(x) => {

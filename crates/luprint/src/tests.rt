@@ -2,7 +2,7 @@
 
 use crate::expr::put_expr;
 use crate::{Program, print_program};
-use lulist::{Name, Row};
+use lulist::{Name, Number, Row};
 use lutree::{
     BinaryOperator, Condition, Declaration, Equation, Expr, Infix, Kind, Node, Prefix,
     UnaryOperator,
@@ -118,9 +118,13 @@ fn operators_over_time_are_spelled(rt: HostRuntime) -> Result<(), Fail> {
 #[test]
 fn atoms_are_spelled(rt: HostRuntime) -> Result<(), Fail> {
     let alloc = rt.alloc();
-    assert_eq!(rt; printed(alloc, Expr::Number(0))?.as_str(), "0");
     assert_eq!(rt;
-        printed(alloc, Expr::Number(9223372036854775807))?.as_str(),
+        printed(alloc, Expr::Number(Number::from(0)))?.as_str(),
+        "0"
+    );
+    let greatest = Number::new(9_223_372_036_854_775_807).unwrap_or(Number::from(0));
+    assert_eq!(rt;
+        printed(alloc, Expr::Number(greatest))?.as_str(),
         "9223372036854775807"
     );
     assert_eq!(rt; printed(alloc, Expr::Truth(true))?.as_str(), "true");
@@ -157,8 +161,18 @@ fn a_difference_on_the_left_stands_as_it_is(rt: HostRuntime) -> Result<(), Fail>
 #[test]
 fn arrows_group_to_the_right(rt: HostRuntime) -> Result<(), Fail> {
     let alloc = rt.alloc();
-    let first = binary(alloc, Infix::Arrow, Expr::Number(1), Expr::Number(2))?;
-    let then = binary(alloc, Infix::Arrow, Expr::Number(3), Expr::Number(4))?;
+    let first = binary(
+        alloc,
+        Infix::Arrow,
+        Expr::Number(Number::from(1)),
+        Expr::Number(Number::from(2)),
+    )?;
+    let then = binary(
+        alloc,
+        Infix::Arrow,
+        Expr::Number(Number::from(3)),
+        Expr::Number(Number::from(4)),
+    )?;
     let whole = binary(alloc, Infix::Arrow, first, then)?;
     assert_eq!(rt; printed(alloc, whole)?.as_str(), "(1 -> 2) -> 3 -> 4");
     Ok(())
@@ -185,7 +199,7 @@ fn a_comparison_on_the_right_stands_in_parentheses(rt: HostRuntime) -> Result<()
 #[test]
 fn prefixes_are_followed_by_a_space(rt: HostRuntime) -> Result<(), Fail> {
     let alloc = rt.alloc();
-    let inner = unary(alloc, MINUS, Expr::Number(1))?;
+    let inner = unary(alloc, MINUS, Expr::Number(Number::from(1)))?;
     let twice = unary(alloc, MINUS, inner)?;
     assert_eq!(rt; printed(alloc, twice)?.as_str(), "- - 1");
     Ok(())
@@ -249,15 +263,20 @@ fn one_or_two(alloc: Global, test: &str) -> Result<Expr, AllocError> {
     choice(
         alloc,
         variable(alloc, test)?,
-        Expr::Number(1),
-        Expr::Number(2),
+        Expr::Number(Number::from(1)),
+        Expr::Number(Number::from(2)),
     )
 }
 
 #[test]
 fn a_choice_in_an_operator_stands_in_parentheses(rt: HostRuntime) -> Result<(), Fail> {
     let alloc = rt.alloc();
-    let whole = binary(alloc, ADD, one_or_two(alloc, "c")?, Expr::Number(3))?;
+    let whole = binary(
+        alloc,
+        ADD,
+        one_or_two(alloc, "c")?,
+        Expr::Number(Number::from(3)),
+    )?;
     assert_eq!(rt; printed(alloc, whole)?.as_str(), "(if c then 1 else 2) + 3");
     Ok(())
 }
@@ -266,7 +285,12 @@ fn a_choice_in_an_operator_stands_in_parentheses(rt: HostRuntime) -> Result<(), 
 fn a_choice_in_a_choice_has_no_parentheses(rt: HostRuntime) -> Result<(), Fail> {
     let alloc = rt.alloc();
     let inner = one_or_two(alloc, "b")?;
-    let outer = choice(alloc, variable(alloc, "c")?, Expr::Number(0), inner)?;
+    let outer = choice(
+        alloc,
+        variable(alloc, "c")?,
+        Expr::Number(Number::from(0)),
+        inner,
+    )?;
     assert_eq!(rt;
         printed(alloc, outer)?.as_str(),
         "if c then 0 else if b then 1 else 2"
@@ -278,7 +302,7 @@ fn a_choice_in_a_choice_has_no_parentheses(rt: HostRuntime) -> Result<(), Fail> 
 fn a_choice_behind_an_arrow_has_no_parentheses(rt: HostRuntime) -> Result<(), Fail> {
     let alloc = rt.alloc();
     let last = one_or_two(alloc, "c")?;
-    let whole = binary(alloc, Infix::Arrow, Expr::Number(0), last)?;
+    let whole = binary(alloc, Infix::Arrow, Expr::Number(Number::from(0)), last)?;
     assert_eq!(rt; printed(alloc, whole)?.as_str(), "0 -> if c then 1 else 2");
     Ok(())
 }
@@ -290,7 +314,7 @@ fn branches_of_a_merge_stand_in_their_parentheses(rt: HostRuntime) -> Result<(),
     let other = binary(
         alloc,
         Infix::FollowedBy,
-        Expr::Number(0),
+        Expr::Number(Number::from(0)),
         variable(alloc, "y")?,
     )?;
     let whole = Expr::Merge(
@@ -326,7 +350,11 @@ fn a_call_has_one_operand(rt: HostRuntime) -> Result<(), Fail> {
 fn a_call_has_two_operands(rt: HostRuntime) -> Result<(), Fail> {
     let alloc = rt.alloc();
     let inner = call(alloc, "f", Vec::new(alloc))?;
-    let two = call(alloc, "g", vec![in alloc; inner, Expr::Number(1)]?)?;
+    let two = call(
+        alloc,
+        "g",
+        vec![in alloc; inner, Expr::Number(Number::from(1))]?,
+    )?;
     assert_eq!(rt; printed(alloc, two)?.as_str(), "g(f(), 1)");
     Ok(())
 }
@@ -372,7 +400,12 @@ fn clocked(alloc: Global) -> Result<Node, AllocError> {
     let s = declared(alloc, "s", Kind::Int, Some(again))?;
     let sampled = when(alloc, variable(alloc, "x")?, "c", true)?;
     let times = Infix::Data(BinaryOperator::Multiply);
-    let twice = binary(alloc, times, Expr::Number(2), variable(alloc, "s")?)?;
+    let twice = binary(
+        alloc,
+        times,
+        Expr::Number(Number::from(2)),
+        variable(alloc, "s")?,
+    )?;
     let first = defined(alloc, "s", sampled)?;
     let second = defined(alloc, "z", twice)?;
     let third = defined(alloc, "y", running_sum(alloc)?)?;
@@ -392,7 +425,7 @@ fn calling(alloc: Global) -> Result<Node, AllocError> {
     let y = declared(alloc, "y", Kind::Int, None)?;
     let a = declared(alloc, "a", Kind::Int, Some(off_b))?;
     let b = declared(alloc, "b", Kind::Bool, None)?;
-    let called = call(alloc, "f", vec![in alloc; Expr::Number(1)]?)?;
+    let called = call(alloc, "f", vec![in alloc; Expr::Number(Number::from(1))]?)?;
     let both = Equation {
         left: Row::new(vec![in alloc; name(alloc, "a")?, name(alloc, "b")?]?),
         right: called,
@@ -411,7 +444,7 @@ fn calling(alloc: Global) -> Result<Node, AllocError> {
 /// A node of one equation.
 fn plain(alloc: Global) -> Result<Node, AllocError> {
     let y = declared(alloc, "y", Kind::Int, None)?;
-    let one = defined(alloc, "y", Expr::Number(1))?;
+    let one = defined(alloc, "y", Expr::Number(Number::from(1)))?;
     Ok(Node {
         name: name(alloc, "main")?,
         byte: 0,

@@ -28,7 +28,7 @@ kept_before Rule.unknown_node h = keeps_one bare (codes "delay") Rule.unknown_no
 kept_before Rule.type_mismatch h = keeps_one bare (codes "delay") Rule.type_mismatch tt tt (tt, (tt, tt)) ((λ a b c. (Int ∷ [], refl, refl)), tt)
 kept_before Rule.wrong_arity h =
     keeps_one bare (codes "delay") Rule.wrong_arity tt tt (tt, (tt, tt))
-    (record { arguments = λ k d l. absurd (none_below l); inner = λ k d l. absurd (none_below l); values = refl }, tt)
+    (record { arguments = λ k d l. absurd (none_below l); inner = λ k d l. absurd (none_below l); values = refl; some = omega arith }, tt)
 kept_before Rule.undefined h =
     keeps_one bare (codes "delay") Rule.undefined tt tt (inl (0, omega arith, refl), (inr (0, omega arith, refl), tt)) (tt, tt)
 kept_before Rule.defined_twice h =

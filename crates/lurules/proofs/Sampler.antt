@@ -69,10 +69,10 @@ accepted Rule.type_mismatch =
     ((λ a b c. (Int ∷ [], refl, refl)), ((λ a b c. (Int ∷ [], refl, refl)), ((λ a b c. (Int ∷ [], refl, refl)), tt)))
 accepted Rule.wrong_arity =
     keeps_one sampler main Rule.wrong_arity tt tt (tt, (tt, (tt, (tt, (tt, tt))))) (
-      record { arguments = λ k d l. absurd (none_below l); inner = λ k d l. absurd (none_below l); values = refl },
+      record { arguments = λ k d l. absurd (none_below l); inner = λ k d l. absurd (none_below l); values = refl; some = omega arith },
       (
-        record { arguments = λ k d l. absurd (none_below l); inner = λ k d l. absurd (none_below l); values = refl },
-        (record { arguments = λ k d l. absurd (none_below l); inner = λ k d l. absurd (none_below l); values = refl }, tt),
+        record { arguments = λ k d l. absurd (none_below l); inner = λ k d l. absurd (none_below l); values = refl; some = omega arith },
+        (record { arguments = λ k d l. absurd (none_below l); inner = λ k d l. absurd (none_below l); values = refl; some = omega arith }, tt),
       ),
     )
 accepted Rule.undefined =

@@ -1,4 +1,4 @@
-//! Programs that no text has: one equation without variables on its left.
+//! Programs that no text has: an equation without variables on its left.
 
 use crate::told::{Stage, told};
 use lulist::{Name, Row};
@@ -18,8 +18,20 @@ fn declared(alloc: Global, name: &str, kind: Kind) -> Result<Declaration, AllocE
     })
 }
 
+/// `node nothing() returns (); let tel`
+fn empty_node(alloc: Global) -> Result<Node, AllocError> {
+    Ok(Node {
+        name: Name::from_text(alloc, "nothing")?,
+        byte: 0,
+        inputs: Row::new(Vec::new(alloc)),
+        outputs: Row::new(Vec::new(alloc)),
+        locals: Row::new(Vec::new(alloc)),
+        equations: Row::new(Vec::new(alloc)),
+    })
+}
+
 /// `node main(x: int; c: bool) returns (); let = RIGHT; tel`, its equation at byte 7.
-fn program(alloc: Global, right: Expr) -> Result<Program, AllocError> {
+fn main_node(alloc: Global, right: Expr) -> Result<Node, AllocError> {
     let mut inputs = Vec::new(alloc);
     inputs.push(declared(alloc, "x", Kind::Int)?)?;
     inputs.push(declared(alloc, "c", Kind::Bool)?)?;
@@ -28,14 +40,19 @@ fn program(alloc: Global, right: Expr) -> Result<Program, AllocError> {
         right,
         byte: 7,
     };
-    let node = Node {
+    Ok(Node {
         name: Name::from_text(alloc, "main")?,
         byte: 0,
         inputs: Row::new(inputs),
         outputs: Row::new(Vec::new(alloc)),
         locals: Row::new(Vec::new(alloc)),
         equations: Row::new(vec![in alloc; equation]?),
-    };
+    })
+}
+
+/// The program of this one node.
+fn program(alloc: Global, right: Expr) -> Result<Program, AllocError> {
+    let node = main_node(alloc, right)?;
     Ok(Program {
         nodes: Row::new(vec![in alloc; node]?),
     })
@@ -71,6 +88,21 @@ fn before(alloc: Global, e: Expr) -> Result<Expr, AllocError> {
 fn a_value_for_no_variable_is_told(rt: HostRuntime) -> Result<(), Fail> {
     let alloc = rt.alloc();
     let found = told(alloc, Stage::Names, &program(alloc, input(alloc)?)?)?;
+    assert_eq!(rt; found, Some(StatError::WrongArity { byte: 7 }));
+    Ok(())
+}
+
+#[test]
+fn no_value_for_no_variable_is_told(rt: HostRuntime) -> Result<(), Fail> {
+    let alloc = rt.alloc();
+    let right = Expr::Call(Name::from_text(alloc, "nothing")?, Vec::new(alloc));
+    let mut nodes = Vec::new(alloc);
+    nodes.push(main_node(alloc, right)?)?;
+    nodes.push(empty_node(alloc)?)?;
+    let program = Program {
+        nodes: Row::new(nodes),
+    };
+    let found = told(alloc, Stage::Names, &program)?;
     assert_eq!(rt; found, Some(StatError::WrongArity { byte: 7 }));
     Ok(())
 }

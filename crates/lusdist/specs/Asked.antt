@@ -8,7 +8,7 @@ use Rattle.luworld.specs.Runs.{Run, system_of}
 use Rattle.lusource.specs.Source.{SourceStreams, IsSourceSolution}
 use Rattle.lusource.specs.Agreement.{HasOneMeaning}
 use Rattle.lumeaning.specs.Meaning.{IsMeant}
-use Rattle.lurules.specs.Accepted.{IsAccepted}
+use Rattle.lusource.specs.First.{IsFirstShape}
 use Rattle.lusyn.specs.Texts.{SpellsText, IsReadBack}
 use Rattle.luprint.specs.Canonical.{canonical}
 use Rattle.lucore.specs.Result.{IsFlatOf}
@@ -26,11 +26,11 @@ use Rattle.luweave.specs.Worlds.{Progress}
 use Rattle.luweave.specs.Headline.{IsFaithful}
 use Rattle.lusdist.specs.WorldText.{IsWorldText}
 
--- the flat program of the program that a text spells, which keeps all rules
+-- the flat program of the program of the first language that a text spells
 pub record IsFlatOfText (text main : List ℕ) (flat : FlatProgram) : Type 0 where
   pub tree : ProgramTree
   pub spelled : SpellsText text tree
-  pub accepted : IsAccepted tree main
+  pub first : IsFirstShape tree
   pub flat_is : IsFlatOf tree main flat
 
 -- the plan of its flat program and the placement that a text says
@@ -81,14 +81,15 @@ pub record IsReplayed (gives : List ℕ → List ℕ → Type 0) (request : Repl
   pub asked_for : IsAskedFor gives request job turns
   pub printed : IsPrinted job turns text
 
--- the text of a check of what a request asks for: the program that the file's bytes spell keeps all rules, and the text is its
--- canonical one, which spells that program too if it isn't longer than a text may be
+-- the text of a check of what a request asks for: the program that the file's bytes spell keeps all rules and has a flat program,
+-- and the text is its canonical one, which spells that program too if it isn't longer than a text may be
 pub record IsChecked (gives : List ℕ → List ℕ → Type 0) (request : CheckRequest) (text : List ℕ) : Type 0 where
   pub program : List ℕ
   pub tree : ProgramTree
   pub program_given : gives request.program.now program
   pub spelled : SpellsText program tree
-  pub accepted : IsAccepted tree request.main.now
+  pub flat : FlatProgram
+  pub flat_is : IsFlatOf tree request.main.now flat
   pub text_is : text ≡ canonical tree
   pub again : IsReadBack text tree
 

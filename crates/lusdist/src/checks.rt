@@ -227,6 +227,27 @@ fn words_that_are_no_call(rt: HostRuntime) -> Result<(), Fail> {
 }
 
 #[test]
+fn programs_without_a_flat_program(rt: HostRuntime) -> Result<(), Fail> {
+    for (program, line) in [
+        (
+            b"node main() returns (y: int); let y = y + 1; tel".as_slice(),
+            "E40 Cycle y\n",
+        ),
+        (
+            b"node f(x: int) returns (y: int); let y = x; tel node main() returns (a: int); let a = f(a); tel".as_slice(),
+            "E40 Cycle a\n",
+        ),
+        (
+            b"node main() returns (y: int; z: bool); let y = y + 1; z = 1; tel".as_slice(),
+            "E13 TypeMismatch at 54\n",
+        ),
+    ] {
+        assert!(rt; both_refuse(rt.alloc(), program, line)?);
+    }
+    Ok(())
+}
+
+#[test]
 fn a_check_that_cannot_be_written(rt: HostRuntime) -> Result<(), Fail> {
     let words = words(rt.alloc(), CHECK)?;
     let mut err = Vec::new(rt.alloc());

@@ -8,7 +8,7 @@ ghost use Rattle.luweave.specs.Headline.{IsFaithful};
 ghost use Rattle.lusdist.specs.Asked.{IsAskedFor, IsWorldOf, IsPrinted, IsReplayed, IsChecked, IsAnswer, IsDone};
 
 use crate::sites::new_sites;
-use crate::sources::{accept, flat_of, job_of, plan_of, program_of, read, turns_of};
+use crate::sources::{flat_of, flattened, job_of, plan_of, program_of, read, turns_of};
 use crate::stop::Stop;
 use crate::text::text_of_world;
 use luplace::Job;
@@ -69,13 +69,13 @@ fn replay_text<F: Files>(
     printed(alloc, &job, &turns)
 }
 
-/// What a check prints: the canonical text of the program, which keeps all rules.
+/// What a check prints: the canonical text of the program, which keeps all rules and has a flat program.
 fn check_text<F: Files>(alloc: Global, request: CheckRequest<'_>, files: &F) -> Result<String, Stop>
     ensures { IfOk result (λ text. IsChecked (F.gives files.now) request.entry (string_bytes text)) }
 {
     let bytes = read(alloc, files, request.program)?;
     let program = program_of(alloc, &bytes)?;
-    accept(alloc, &program, request.main)?;
+    let _flat = flattened(alloc, &program, request.main)?;
     let text = print_program(alloc, &program)?;
     Ok(text)
 }

@@ -1,8 +1,7 @@
 //! From the texts of the files to a plan, a job and its turns.
 
-ghost use Rattle.std.specs.Prelude.{◌≡◌, ◌≢◌, ◌↔◌, [], IfOk, IfErr, Ok};
+ghost use Rattle.std.specs.Prelude.{◌≡◌, [], IfOk, IfErr, Ok};
 ghost use Rattle.lutree.specs.Tree.{program_view};
-ghost use Rattle.lurules.specs.Accepted.{IsAccepted};
 ghost use Rattle.lusource.specs.First.{IsFirstShape};
 ghost use Rattle.lucore.specs.Result.{IsFlatOf};
 ghost use Rattle.lushell.specs.ScheduleText.{schedule_of};
@@ -11,11 +10,11 @@ ghost use Rattle.lutab.specs.Fit.{HasNoInputs};
 ghost use Rattle.lutab.specs.Rows.{table_of};
 ghost use Rattle.lusdist.specs.declared.stop.Stop.TheVariants.{NotYet};
 ghost use Rattle.lusdist.specs.Asked.{IsFlatOfText, IsPlanOfText};
-ghost use Rattle.lusdist.specs.Refused.{IsRuleTold};
+ghost use Rattle.lusdist.specs.Refused.{IsToldOf};
 
 use crate::stop::Stop;
 use lucore::flatten;
-use lufirst::{is_first, names};
+use lufirst::is_first;
 use luflow::Flat;
 use lulist::Name;
 use luplace::{Job, Plan};
@@ -53,55 +52,43 @@ pub fn program_of(alloc: Global, bytes: &[u8]) -> Result<Program, Stop>
     }
 }
 
-/// That a program keeps all rules, with the main node of this name.
-pub fn accept(alloc: Global, program: &Program, main: &str) -> Result<(), Stop>
-    ensures accepted { IfOk result (λ _. IsAccepted (program_view program.now) main.now) }
-    ensures told { IfErr result (IsRuleTold (program_view program.now) main.now) }
+/// The flat program of a program, from its main node of this name, where the program keeps all rules.
+pub fn flattened(alloc: Global, program: &Program, main: &str) -> Result<Flat, Stop>
+    ensures flat { IfOk result (IsFlatOf (program_view program.now) main.now) }
+    ensures told { IfErr result (IsToldOf (program_view program.now) main.now) }
 {
-    match check(alloc, program, main) {
-        Ok(_checked) => Ok(()),
-        Err(e) => Err(Stop::Rules(e)),
+    let checked = match check(alloc, program, main) {
+        Ok(checked) => checked,
+        Err(e) => return Err(Stop::Rules(e)),
+    };
+    match flatten(alloc, &checked) {
+        Ok(flat) => Ok(flat),
+        Err(e) => Err(Stop::Flat(e)),
     }
 }
 
-/// The flat program that the bytes of a program's file are, from its main node of this name.
-pub fn flat_of(alloc: Global, bytes: &[u8], main: &str) -> Result<Flat, Stop>
-    ensures flat { IfOk result (IsFlatOfText bytes.now main.now) }
-    ensures inputless { IfOk result HasNoInputs }
-{
-    let program = program_of(alloc, bytes)?;
-    accept(alloc, &program, main)?;
-    flattened(alloc, &program, main)
-}
-
-/// The flat program of a program, from its main node of this name, where the program is of the first language.
-fn flattened(alloc: Global, program: &Program, main: &str) -> Result<Flat, Stop>
-    ensures flat { IfOk result (IsFlatOf (program_view program.now) main.now) }
-    ensures inputless { IfOk result HasNoInputs }
-    ensures not_yet { IfErr result (λ stop. (stop ≡ NotYet) ↔ (¬ IsFirstShape (program_view program.now))) }
+/// The flat program of a program of the first language.
+fn first_alone(program: &Program, flat: Flat) -> Result<Flat, Stop>
+    ensures flat { IfOk result (λ same. same ≡ flat) }
+    ensures first { IfOk result (λ _. IsFirstShape (program_view program.now)) }
+    ensures not_yet { IfErr result (λ stop. (stop ≡ NotYet) × (¬ IsFirstShape (program_view program.now))) }
 {
     if is_first(program) {
-        flattened_first(alloc, program, main)
+        Ok(flat)
     } else {
         Err(Stop::NotYet)
     }
 }
 
-/// The flat program of a program of the first language, from its main node of this name.
-fn flattened_first(alloc: Global, program: &Program, main: &str) -> Result<Flat, Stop>
-    requires { IsFirstShape (program_view program.now) }
-    ensures flat { IfOk result (IsFlatOf (program_view program.now) main.now) }
+/// The flat program that the bytes of a program's file are, from its main node of this name, where the program is of the first
+/// language.
+pub fn flat_of(alloc: Global, bytes: &[u8], main: &str) -> Result<Flat, Stop>
+    ensures flat { IfOk result (IsFlatOfText bytes.now main.now) }
     ensures inputless { IfOk result HasNoInputs }
-    ensures refused { IfErr result (λ stop. stop ≢ NotYet) }
 {
-    let typed = match names(alloc, program, main) {
-        Ok(typed) => typed,
-        Err(e) => return Err(Stop::Names(e)),
-    };
-    match flatten(alloc, &typed) {
-        Ok(flat) => Ok(flat),
-        Err(e) => Err(Stop::Flat(e)),
-    }
+    let program = program_of(alloc, bytes)?;
+    let flat = flattened(alloc, &program, main)?;
+    first_alone(&program, flat)
 }
 
 /// The plan of a flat program and the bytes of a placement's file.

@@ -4,7 +4,6 @@ ghost use Rattle.std.specs.Prelude.{◌≡◌};
 ghost use Rattle.lusdist.specs.Statuses.{status_of};
 
 use lucore::CoreError;
-use lufirst::StatError as NamesError;
 use lulist::Name;
 use luplacefile::PlaceError;
 use lurules::StatError;
@@ -33,9 +32,6 @@ pub enum Stop {
     /// The program is of more than the first language, which alone is replayed as yet.
     #[error("E00 NotYet")]
     NotYet,
-    /// The names of a program of the first language are not in order.
-    #[error("{0}")]
-    Names(NamesError),
     /// The program has no flat program.
     #[error("{0}")]
     Flat(CoreError),
@@ -73,7 +69,6 @@ impl Stop {
             Stop::CannotRead { .. } => 2,
             Stop::Syntax(SynError::OutOfMemory)
             | Stop::Rules(StatError::OutOfMemory)
-            | Stop::Names(NamesError::OutOfMemory)
             | Stop::Flat(CoreError::OutOfMemory)
             | Stop::Place(PlaceError::OutOfMemory)
             | Stop::Table(TabError::OutOfMemory)

@@ -1,13 +1,13 @@
 -- The first language: one node without inputs, all variables int on the base clock, each equation
 -- `v = NUMBER -> pre w + NUMBER`.
-use Rattle.std.specs.Prelude.{◌≡◌, ℕ, ◌≤◌, List, [], ◌∷◌, map, None, All, Contains}
+use Rattle.std.specs.Prelude.{◌≡◌, ℕ, ◌≤◌, List, [], ◌∷◌, map, None, All}
 use Rattle.lutree.specs.declared.expr.Prefix.TheVariants.{Pre}
 use Rattle.lutree.specs.declared.expr.Infix.TheVariants.{Data, Arrow}
 use Rattle.lutree.specs.declared.expr.BinaryOperator.TheVariants.{Add}
 use Rattle.lutree.specs.declared.program.Kind.TheVariants.{Int}
 use Rattle.lutree.specs.Tree.{DeclarationTree, EquationTree, NodeTree, ProgramTree}
 use Rattle.lutree.specs.Tree as tree
-use Rattle.lusource.specs.Names.{declarations_of, variables_of, AreDistinct}
+use Rattle.lusource.specs.Names.{declarations_of}
 
 -- `left = first -> pre from + step`
 pub record Line : Type 0 where
@@ -40,26 +40,3 @@ pub record IsFirstShape (program : ProgramTree) : Type 0 where
   pub plain : All IsPlain (declarations_of node)
   pub equations : node.equations ≡ map equation_of lines
   pub in_range : All IsInRange lines
-
--- the defined variables
-abbrev pub lefts_of : List Line → List (List ℕ)
-lefts_of = map (λ line. line.left)
-
--- the variables behind `pre`
-abbrev pub froms_of : List Line → List (List ℕ)
-froms_of = map (λ line. line.from)
-
--- What names have to satisfy: no two variables have one name, each equation is of variables, and each variable has exactly
--- one equation.
-pub record AreNamed (variables lefts froms : List (List ℕ)) : Type 0 where
-  pub distinct : AreDistinct variables
-  pub lefts_known : All (Contains variables) lefts
-  pub froms_known : All (Contains variables) froms
-  pub defined : All (Contains lefts) variables
-  pub once : AreDistinct lefts
-
--- a program of the first language whose names are in order
-pub record IsFirstProgram (program : ProgramTree) (main : List ℕ) : Type 0 where
-  pub shape : IsFirstShape program
-  pub name : shape.node.name ≡ main
-  pub names : AreNamed (variables_of shape.node) (lefts_of shape.lines) (froms_of shape.lines)

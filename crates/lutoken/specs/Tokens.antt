@@ -1,5 +1,5 @@
 -- Tokens, and the spelling of those that have one.
-use Rattle.std.specs.Prelude.{ℕ, List, map, codes}
+use Rattle.std.specs.Prelude.{ℕ, min, List, map, codes}
 use Rattle.lutoken.specs.declared.token.Fixed.{Fixed}
 use Rattle.lutoken.specs.declared.token.Fixed.TheVariants as f
 use Rattle.lutoken.specs.declared.token.Token.{Token}
@@ -56,10 +56,10 @@ text_of f.Star = codes "*"
 text_of f.Arrow = codes "->"
 text_of f.Implies = codes "=>"
 
--- a token in memory
+-- a token in memory; a number above the greatest one, which no text has, stands for the greatest
 abbrev pub tok : Token → Tok
 tok (k.Name x) = identifier x.now
-tok (k.Number n) = number n
+tok (k.Number n) = number (min n 9223372036854775807)
 tok (k.Fixed g) = fixed g
 
 abbrev pub toks : List Lexeme → List Tok

@@ -92,7 +92,7 @@ pub enum Fixed {
 pub enum Token<'t> {
     /// An identifier.
     Name(&'t str),
-    /// A number, at most 9223372036854775807.
+    /// A number. One above 9223372036854775807, which no text has, stands for that.
     Number(u64),
     Fixed(Fixed),
 }

@@ -1,6 +1,6 @@
 //! Expressions.
 
-use lulist::Name;
+use lulist::{Name, Number};
 
 /// An operator on data that stands before its one operand.
 #[derive(Clone, Copy, Debug, PartialEq, Eq)]
@@ -76,8 +76,8 @@ pub struct Condition {
 /// An expression, without the parentheses of its text.
 #[derive(Debug, Drop)]
 pub enum Expr {
-    /// A number, at most 9223372036854775807 where it was read from a text.
-    Number(u64),
+    /// A number.
+    Number(Number),
     /// `true` or `false`.
     Truth(bool),
     /// A variable.

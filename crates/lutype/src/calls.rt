@@ -1,6 +1,6 @@
 //! Whether calls are of nodes, and have their arities.
 
-ghost use Rattle.std.specs.Prelude.{◌≡◌, ◌↔◌, ℕ, List, IsTrue, All, IfSome, IfNone, Option, length, map, option_map, slice_get};
+ghost use Rattle.std.specs.Prelude.{◌≡◌, ◌↔◌, ◌<◌, ℕ, List, IsTrue, All, IfSome, IfNone, Option, length, map, option_map, slice_get};
 ghost use Rattle.lutree.specs.Tree.{Trees, list_of, view, views, trees_of, node_view, program_view, equation_view};
 ghost use Rattle.lutree.specs.Tree as tree;
 ghost use Rattle.lurules.specs.Naming.{Call, CallsKnown, AritiesRight, calls_in, inner_calls, value_count};
@@ -126,6 +126,13 @@ fn values_are_right(catalog: &Catalog, equation: &Equation) -> bool
     }
 }
 
+/// Whether an equation defines a variable, and as many as its right side has values, if these are known.
+fn left_is_right(catalog: &Catalog, equation: &Equation) -> bool
+    ensures { IsTrue result ↔ (IfSome (value_count (program_view catalog.now) (view equation.now.right)) (λ count. length equation.now.left ≡ count) × (0 < length equation.now.left)) }
+{
+    values_are_right(catalog, equation) && !equation.left.as_slice().is_empty()
+}
+
 /// Whether the calls of an equation are of nodes.
 pub fn calls_are_known(catalog: &Catalog, equation: &Equation) -> bool
     ensures { IsTrue result ↔ CallsKnown (program_view catalog.now) (equation_view equation.now) }
@@ -146,7 +153,7 @@ pub fn arities_are_right(catalog: &Catalog, equation: &Equation) -> bool
 {
     if arguments_are_right(catalog, &equation.right) {
         if inner_calls_are_single(catalog, &equation.right) {
-            values_are_right(catalog, equation)
+            left_is_right(catalog, equation)
         } else {
             false
         }

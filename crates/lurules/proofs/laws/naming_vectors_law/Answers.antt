@@ -19,7 +19,7 @@ returns c = record {
   two_inside = λ f. let e = f.inner 0 to_one zero_less in omega (arith, e);
   two_for_one = λ f. let e = f.values in omega (arith, e);
   one_for_two = λ f. let e = f.values in omega (arith, e);
-  two_for_two = record { arguments = All-from_recursion (λ (c : Call). IfSome (node_called program c.node) (λ n. c.arguments ≡ length n.inputs)) (to_two ∷ []) (refl, tt); inner = λ k d l. absurd (none_below l); values = refl };
+  two_for_two = record { arguments = All-from_recursion (λ (c : Call). IfSome (node_called program c.node) (λ n. c.arguments ≡ length n.inputs)) (to_two ∷ []) (refl, tt); inner = λ k d l. absurd (none_below l); values = refl; some = omega arith };
   first = record { once = single_distinct (codes "y"); first = All-from_recursion (λ x. ¬ Contains [] x) (codes "y" ∷ []) (nothing_in (codes "y"), tt); no_input = All-from_recursion (λ x. ¬ IsInput sampler x) (codes "y" ∷ []) (not_in (names_of sampler.inputs) (codes "y") refl (refl, (refl, tt)), tt) };
   second = λ f. f.first 0 [] zero_less (2, omega arith, refl);
   twice_on_left = λ f. f.once 1 (codes "y") refl (0, zero_less, refl);

@@ -10,7 +10,8 @@ returns g c =
       tree = program_view c.in_ok-program.program;
       program_given = subst (gives c.args.request.program.now) (sym c.deref.ensures.value) c.in_ok-bytes.ensures;
       spelled = c.in_ok-program.ensures;
-      accepted = c.in_ok-accept.ensures.accepted;
+      flat = c.in_ok-_flat._flat;
+      flat_is = c.in_ok-_flat.ensures.flat;
       text_is = c.in_ok-text.ensures.canonical;
       again = c.in_ok-text.ensures.again;
     }

@@ -19,6 +19,6 @@ returns g c =
       place_given = subst (gives c.args.request.place.now) (sym c.deref-2.ensures.value) c.in_ok-place.ensures;
       table_given = subst (gives c.args.request.table.now) (sym c.deref-3.ensures.value) c.in_ok-table.ensures;
       schedule_given = subst (gives c.args.request.schedule.now) (sym c.deref-4.ensures.value) c.in_ok-schedule.ensures;
-      job_is = job_is c.deref.result.now c.deref-2.result.now c.deref-3.result.now c.args.request.main.now c.in_ok-flat.flat c.in_ok-plan.plan c.in_ok-job.job c.in_ok-flat.ensures.flat c.in_ok-plan.ensures.flat c.in_ok-plan.ensures.plan c.in_ok-job.ensures.plan c.in_ok-job.ensures.inputs c.in_ok-job.ensures.columns;
+      job_is = job_is c.deref.result.now c.deref-2.result.now c.deref-3.result.now c.args.request.main.now c.in_ok-flat.flat c.in_ok-plan.plan c.in_ok-job.job c.in_ok-flat.ensures.flat c.in_ok-plan.ensures.flat c.in_ok-plan.ensures.plan c.in_ok-job.ensures.plan c.in_ok-job.ensures.inputs;
       turns_are = c.in_ok-turns.ensures;
     }

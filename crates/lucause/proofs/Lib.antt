@@ -1,0 +1,10 @@
+pub mod Graph
+pub mod Owning
+pub mod Makes
+pub mod Expressions
+pub mod Nodes
+pub mod ToSource
+pub mod Places
+pub mod Placing
+pub mod Instances
+pub mod ToFlat

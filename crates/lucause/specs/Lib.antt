@@ -1,0 +1,4 @@
+pub mod Reads
+pub mod Laws
+pub mod Owners
+pub mod Vectors

@@ -1,0 +1,10 @@
+pub mod Walking
+pub mod Forms
+pub mod Named
+pub mod Fit
+pub mod Views
+pub mod Gather
+pub mod Found
+pub mod Owned
+pub mod Reaching
+pub mod Building

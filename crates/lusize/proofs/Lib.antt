@@ -1,0 +1,4 @@
+pub mod Capped
+pub mod Alike
+pub mod Formed
+pub mod Counting
