@@ -3,7 +3,6 @@ use Rattle.std.proofs.Common.{◌≡◌, ℕ, List, Ok, sym, ap, ◌∙◌, subs
 use Rattle.luflow.specs.Program.{FlatProgram}
 use Rattle.luworld.specs.Needs.{Distribution}
 use Rattle.luworld.specs.Runs.{Run}
-use Rattle.lusource.specs.Source.{SourceStreams}
 use Rattle.lutab.specs.Rows.{table_of}
 use Rattle.lusdist.specs.Asked.{IsFlatOfText, IsPlanOfText, IsJobOf}
 use Rattle.lusdist.proofs.Inputless.{columns_there}

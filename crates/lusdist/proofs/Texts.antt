@@ -1,10 +1,9 @@
 -- The text of a world, line by line.
-use Rattle.std.proofs.Common.{◌≡◌, ℕ, zero, suc, ◌+◌, ◌-◌, ◌<◌, ◌≤◌, Bool, true, false, cond, List, [], ◌∷◌, ◌++◌, length, filter, flat_map, Option, Some, None, refl, sym, ap, ◌∙◌, arith, length-append, append_assoc, append-nil}
+use Rattle.std.proofs.Common.{◌≡◌, ℕ, zero, suc, ◌+◌, ◌<◌, Bool, true, false, cond, List, [], ◌∷◌, ◌++◌, length, filter, flat_map, Some, refl, sym, ap, ◌∙◌, arith, length-append, append_assoc}
 use Rattle.std.specs.Prelude.{slice_get}
 use Rattle.std.specs.List.{range_with_len}
 use Rattle.std.proofs.lemmas.Bool.{false≢true}
 use Rattle.luflow.specs.declared.data.Status.{Status}
-use Rattle.luworld.specs.Needs.{Distribution}
 use Rattle.luworld.specs.Runs.{is_told, outputs_of}
 use Rattle.luworld.proofs.Rounds.{range_more, one_more}
 use Rattle.luworld.specs.declared.link.Link.{Link}

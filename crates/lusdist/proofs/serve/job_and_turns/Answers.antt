@@ -1,6 +1,5 @@
-use Rattle.std.proofs.Common.{◌≡◌, ℕ, List, Ok, sym, subst, ◌∙◌}
+use Rattle.std.proofs.Common.{sym, subst}
 use Rattle.lutab.specs.Fit.{HasNoInputs}
-use Rattle.lushell.specs.ScheduleText.{schedule_of}
 use Rattle.lusdist.proofs.AskedFor.{job_is}
 use Rattle.lusdist.proofs.serve.job_and_turns.Goals as goal
 

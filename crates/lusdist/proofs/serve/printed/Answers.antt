@@ -1,4 +1,4 @@
-use Rattle.std.proofs.Common.{◌≡◌, ap, sym, ◌∙◌}
+use Rattle.std.proofs.Common.{ap, sym, ◌∙◌}
 use Rattle.luworld.specs.World.{reached}
 use Rattle.luworld.specs.Runs.{Run, system_of}
 use Rattle.lusdist.proofs.Worlds.{world_sites}

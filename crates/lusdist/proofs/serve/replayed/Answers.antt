@@ -1,4 +1,4 @@
-use Rattle.std.proofs.Common.{◌≡◌, ap, ◌∙◌}
+use Rattle.std.proofs.Common.{ap, ◌∙◌}
 use Rattle.luworld.specs.World.{reached}
 use Rattle.luworld.specs.Runs.{Run, system_of}
 use Rattle.lusdist.proofs.Worlds.{world_job}

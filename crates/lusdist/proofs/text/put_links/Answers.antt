@@ -1,10 +1,10 @@
-use Rattle.std.proofs.Common.{◌≡◌, ◌++◌, ◌∷◌, [], ℕ, List, Some, get_or, length, sym, ap, ap₂, ◌∙◌, string_bytes}
+use Rattle.std.proofs.Common.{◌≡◌, ◌++◌, ℕ, List, Some, get_or, length, sym, ap, ap₂, ◌∙◌, string_bytes}
 use Rattle.std.specs.Prelude.{slice_get}
 use Rattle.std.proofs.lemmas.Option.{slice_get-get_or}
 use Rattle.luflow.specs.declared.message.Msg.{Msg}
 use Rattle.luworld.specs.declared.link.Link.{Link}
 use Rattle.luworld.specs.Needs.{Distribution}
-use Rattle.lusdist.specs.WorldText.{link_line, links_text, line_of, taken_of, queued_of}
+use Rattle.lusdist.specs.WorldText.{link_line, links_text, line_of}
 use Rattle.lusdist.proofs.Texts.{then_more, links_more}
 use Rattle.lusdist.proofs.text.put_links.Goals as goal
 

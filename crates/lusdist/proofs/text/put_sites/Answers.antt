@@ -1,4 +1,4 @@
-use Rattle.std.proofs.Common.{◌≡◌, ◌++◌, ℕ, [], List, sym, ap, ◌∙◌, subst, append-nil, string_bytes}
+use Rattle.std.proofs.Common.{◌≡◌, ◌++◌, [], sym, ap, ◌∙◌, subst, append-nil, string_bytes}
 use Rattle.luworld.specs.World.{done}
 use Rattle.luworld.specs.Needs.{Distribution}
 use Rattle.lusite.specs.Machine.{IsStanding}
