@@ -1,15 +1,13 @@
 -- Lists that are made in an order in which calls go backward.
-use Rattle.std.proofs.Common.{◌≡◌, ℕ, zero, suc, ◌+◌, ◌<◌, ◌≤◌, ◌⊎◌, inl, inr, ⊎_elim, List, [], ◌∷◌, ◌++◌, length, map, take, Option, Some, None, refl, sym, ap, ◌∙◌, subst, arith, Bool, get_or, set}
-use Rattle.std.specs.Prelude.{slice_get, option_map, unwrap_or, Contains, ◌≢◌}
+use Rattle.std.proofs.Common.{◌≡◌, ℕ, zero, suc, ◌+◌, ◌<◌, ◌≤◌, ◌⊎◌, inl, inr, ⊎_elim, List, [], ◌∷◌, length, take, Option, Some, None, refl, sym, ap, ◌∙◌, subst, arith, Bool, set}
+use Rattle.std.specs.Prelude.{slice_get, unwrap_or, Contains, ◌≢◌}
 use Rattle.std.proofs.lemmas.Bool.{cases_lt}
-use Rattle.std.proofs.lemmas.List.{get_or-take, length-take, get_or-set_other}
-use Rattle.std.proofs.lemmas.Option.{same_Some, slice_get-get_or, slice_get_within, slice_get_past}
-use Rattle.std.proofs.Math.ListN.{length-set}
+use Rattle.std.proofs.lemmas.List.{get_or-take, length-take}
+use Rattle.std.proofs.lemmas.Option.{same_Some, slice_get-get_or, slice_get_past}
 use Rattle.lutree.specs.Tree.{NodeTree, ProgramTree}
 use Rattle.luflow.specs.declared.form.Flow.{Flow}
 use Rattle.lurules.specs.Naming.{Call, calls_in, called_by, node_place, IsCallOrder}
 use Rattle.lugraph.specs.Search.{Has}
-use Rattle.lucall.specs.CallGraph.{places_called}
 use Rattle.lucall.proofs.Places.{found_in}
 use Rattle.lulayout.specs.Layout.{list_at, list_of, node_flows, node_owners, AreLists}
 use Rattle.lulayout.proofs.Names.{all_of}

@@ -1,6 +1,6 @@
 -- The flows of variables, looked up by their names.
-use Rattle.std.proofs.Common.{◌≡◌, ℕ, suc, ◌+◌, ◌<◌, Bool, true, false, ◌||◌, cond, List, [], ◌∷◌, ◌++◌, length, map, take, drop, get_or, replicate, Option, Some, None, refl, sym, ap, ◌∙◌, subst, arith, append_assoc, length-take}
-use Rattle.std.specs.Prelude.{option_map, if◌then◌else◌}
+use Rattle.std.proofs.Common.{◌≡◌, ℕ, suc, ◌+◌, ◌<◌, Bool, true, false, ◌||◌, cond, List, [], ◌∷◌, ◌++◌, length, map, take, drop, get_or, Option, Some, None, refl, sym, ap, ◌∙◌, arith, append_assoc, length-take}
+use Rattle.std.specs.Prelude.{option_map}
 use Rattle.std.specs.List.{list_any}
 use Rattle.std.specs.Str.{bytes_eq}
 use Rattle.std.proofs.lemmas.List.{length-map, map-append, take_more}
@@ -13,7 +13,7 @@ use Rattle.luflow.specs.declared.form.Form.TheVariants.{Input}
 use Rattle.luflow.specs.declared.form.Flow.{Flow}
 use Rattle.lusource.specs.Names.{names_of, place_of}
 use Rattle.lurules.specs.Scope.{lefts_of}
-use Rattle.luscope.specs.Places.{place_from, first_place}
+use Rattle.luscope.specs.Places.{first_place}
 use Rattle.luscope.proofs.Declared.{shifted_first, same_spellings}
 use Rattle.luscope.specs.Scopes.{spellings}
 use Rattle.lulayout.specs.Layout.{Root, clock_place, left_clock, walk_right, root_flow, variable_flow, input_flows, inner_flows, variable_count, node_flows}

@@ -9,7 +9,7 @@ use Rattle.lutree.specs.declared.program.Node.{Node}
 use Rattle.lutree.specs.Tree.{NodeTree, node_view}
 use Rattle.lusource.specs.Names.{place_of, clock_of, declarations_of, variables_of}
 use Rattle.lurules.specs.Scope as rules
-use Rattle.luscope.specs.Places.{place_from, first_place}
+use Rattle.luscope.specs.Places.{first_place}
 use Rattle.luscope.proofs.Declared.{shifted_first, names_in_view}
 use Rattle.luscope.specs.Scopes.{declared_in}
 use Rattle.lulayout.proofs.Names.{clock_cases, clock_named}

@@ -1,7 +1,6 @@
 -- What the main node reaches, by the links of the graph of calls.
-use Rattle.std.proofs.Common.{◌≡◌, ℕ, zero, suc, ◌+◌, ◌<◌, ◌≤◌, ◌⊎◌, inl, inr, ⊎_elim, List, [], ◌∷◌, ◌++◌, length, map, Option, Some, None, refl, sym, ap, ◌∙◌, subst, arith, All, Bool, get_or, ◌↔◌}
-use Rattle.std.specs.Prelude.{slice_get, option_map, Contains, Vec}
-use Rattle.std.specs.Global.{Global}
+use Rattle.std.proofs.Common.{◌≡◌, ℕ, zero, suc, ◌+◌, ◌<◌, ◌≤◌, ⊎_elim, List, [], ◌∷◌, length, map, Some, sym, ap, ◌∙◌, subst, arith, All, Bool, get_or, ◌↔◌}
+use Rattle.std.specs.Prelude.{slice_get, option_map, Contains}
 use Rattle.std.proofs.lemmas.Bool.{cases_lt}
 use Rattle.std.proofs.lemmas.List.Elements.{All-nil, All-cons, All-head, All-tail, All-append, Contains-append_left, Contains-append_right}
 use Rattle.std.proofs.lemmas.Option.{slice_get-map, slice_get-get_or, slice_get_within, slice_get_past}
@@ -9,8 +8,7 @@ use Rattle.lutree.specs.Tree.{NodeTree, ProgramTree}
 use Rattle.lurules.specs.Naming.{called_by, node_place}
 use Rattle.lugraph.specs.Graph.{Graph, row_of, items_of}
 use Rattle.lugraph.specs.Search.{Has}
-use Rattle.lureach.specs.declared.link.Link.{Link}
-use Rattle.lureach.specs.Reach.{link, IsWithin, IsReached, start, along}
+use Rattle.lureach.specs.Reach.{link, IsWithin, IsReached, along}
 use Rattle.lucall.specs.CallGraph.{places_called}
 use Rattle.lucall.proofs.Places.{means, found_of}
 use Rattle.lucall.proofs.Ways.{AreRows}

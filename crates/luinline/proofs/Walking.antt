@@ -1,9 +1,9 @@
 -- Walks put one behind the other.
-use Rattle.std.proofs.Common.{◌≡◌, ℕ, ◌+◌, List, [], ◌∷◌, ◌++◌, length, refl, sym, ap, ◌∙◌, subst, arith, append_assoc}
+use Rattle.std.proofs.Common.{◌≡◌, ℕ, ◌+◌, List, [], ◌∷◌, ◌++◌, length, refl, sym, ap, ◌∙◌, arith, append_assoc}
 use Rattle.std.proofs.lemmas.List.{append-nil, length-append}
 use Rattle.luflow.specs.declared.form.Flow.{Flow}
 use Rattle.lulayout.specs.Layout.{Root, Walking, leaf, after, made, place as place_in, behind, root_flows, root_place}
-use Rattle.lulayout.specs.Layout.Root.{own, at}
+use Rattle.lulayout.specs.Layout.Root.{own}
 use Rattle.luinline.specs.Walks.{IsWalked}
 
 -- an operand and all that it made, with its place

@@ -2,7 +2,6 @@
 use Rattle.std.specs.Prelude.{◌≡◌, ◌<◌, ℕ, suc, Bool, List, [], ◌∷◌, ◌++◌, map, Some, slice_get, Contains}
 use Rattle.lutree.specs.Tree.{NodeTree, ProgramTree}
 use Rattle.luflow.specs.declared.form.Flow.{Flow}
-use Rattle.luflow.specs.declared.variable.Variable.{Variable}
 use Rattle.lugraph.specs.Graph.{Graph}
 use Rattle.lugraph.specs.Search.{Has}
 use Rattle.lureach.specs.declared.link.Link.{Link}

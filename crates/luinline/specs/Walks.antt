@@ -1,5 +1,5 @@
 -- What the walk of an expression leaves behind.
-use Rattle.std.specs.Prelude.{◌≡◌, ℕ, List, [], ◌∷◌, ◌++◌, length, map, Option, Some, unwrap_or, Vec}
+use Rattle.std.specs.Prelude.{◌≡◌, ℕ, List, ◌++◌, length, map, Option, Some, unwrap_or, Vec}
 use Rattle.std.specs.Global.{Global}
 use Rattle.lutree.specs.declared.expr.Infix.{Infix}
 use Rattle.lutree.specs.declared.expr.Infix.TheVariants.{Data, Arrow as Starts, FollowedBy}
@@ -14,7 +14,7 @@ use Rattle.luflow.specs.declared.form.Form.{Form}
 use Rattle.luflow.specs.declared.form.Form.TheVariants.{Constant, Unary, Binary, Pre, Arrow}
 use Rattle.luflow.specs.declared.form.Flow.{Flow}
 use Rattle.lurules.specs.Typing.{agreed, single_kind, double_kind}
-use Rattle.lulayout.specs.Layout.{Root as LaidRoot, Walking, leaf, after, made, place}
+use Rattle.lulayout.specs.Layout.{Root as LaidRoot, Walking, leaf, after}
 use Rattle.lulayout.specs.Layout.Root.{own, at}
 use Rattle.luinline.specs.declared.root.Root.{Root}
 use Rattle.luinline.specs.declared.root.Root.TheVariants.{Own, At}

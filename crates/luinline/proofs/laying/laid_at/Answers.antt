@@ -1,15 +1,14 @@
-use Rattle.std.proofs.Common.{◌≡◌, ◌∙◌, ◌<◌, ℕ, List, length, map, sym, ap, subst, arith, refl, get_or, Vec, Global}
+use Rattle.std.proofs.Common.{◌≡◌, ◌∙◌, ◌<◌, List, length, map, sym, ap, subst, arith, refl, Vec, Global}
 use Rattle.std.specs.Prelude.{slice_get, Some}
 use Rattle.std.specs.Option.{option_map}
 use Rattle.std.proofs.lemmas.List.{length-map}
-use Rattle.std.proofs.lemmas.Option.{same_Some, slice_get-get_or, slice_get-map, slice_get_read}
+use Rattle.std.proofs.lemmas.Option.{same_Some, slice_get-map, slice_get_read}
 use Rattle.lutree.specs.declared.program.Node.{Node}
-use Rattle.lutree.specs.Tree.{NodeTree, ProgramTree, program_view, node_view}
+use Rattle.lutree.specs.Tree.{ProgramTree, program_view, node_view}
 use Rattle.luflow.specs.declared.form.Flow.{Flow}
-use Rattle.lugraph.specs.Search.{Has}
 use Rattle.lulayout.specs.Layout.{node_flows, node_owners, main_variables}
 use Rattle.luinline.specs.Walks.{plain}
-use Rattle.luinline.specs.Listed.{AreBuilt, AreClosed}
+use Rattle.luinline.specs.Listed.{AreBuilt}
 use Rattle.luinline.proofs.Building.{node_right}
 use Rattle.luinline.proofs.laying.laid_at.Goals as goal
 

@@ -1,8 +1,7 @@
-use Rattle.std.proofs.Common.{◌≡◌, ◌∙◌, ◌<◌, ℕ, length, sym, ap, subst, refl}
-use Rattle.std.specs.Prelude.{slice_get, Some, None}
+use Rattle.std.proofs.Common.{◌≡◌, ◌∙◌, sym, subst}
+use Rattle.std.specs.Prelude.{slice_get, Some}
 use Rattle.std.proofs.lemmas.Option.{same_Some, slice_get_within, none-some}
-use Rattle.lutree.specs.Tree.{NodeTree, ProgramTree, program_view}
-use Rattle.lurules.specs.Naming.{node_place}
+use Rattle.lutree.specs.Tree.{ProgramTree, program_view}
 use Rattle.lucall.proofs.Places.{means}
 use Rattle.lulayout.proofs.Names.{placed}
 use Rattle.luinline.proofs.laying.lay_out.Goals as goal

@@ -1,5 +1,5 @@
-use Rattle.std.proofs.Common.{◌≡◌, ◌∙◌, ◌<◌, ◌+◌, ℕ, [], List, length, map, sym, ap, subst, arith, refl, set, get_or, true≢false, Vec, Global}
-use Rattle.std.specs.Prelude.{slice_get, Some, ◌↔◌, IsTrue, false, true}
+use Rattle.std.proofs.Common.{◌≡◌, ◌∙◌, ◌<◌, ◌+◌, ℕ, [], List, length, sym, ap, subst, arith, refl, set, get_or, true≢false, Vec, Global}
+use Rattle.std.specs.Prelude.{slice_get, Some, IsTrue}
 use Rattle.std.proofs.lemmas.List.{length-map, map-set}
 use Rattle.std.proofs.lemmas.Option.{slice_get-get_or}
 use Rattle.std.proofs.Math.ListN.{length-set}

@@ -1,4 +1,4 @@
-use Rattle.std.proofs.Common.{◌≡◌, ◌≤◌, length}
+use Rattle.std.proofs.Common.{◌≡◌, length}
 use Rattle.lutree.specs.Tree.{program_view}
 use Rattle.luinline.specs.Walks.{plain}
 use Rattle.luinline.specs.Listed.{AreBuilt}

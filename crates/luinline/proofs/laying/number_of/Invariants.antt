@@ -1,4 +1,4 @@
-use Rattle.std.proofs.Common.{◌≡◌, ℕ, ◌<◌, Some}
+use Rattle.std.proofs.Common.{ℕ, ◌<◌, Some}
 use Rattle.std.specs.Prelude.{◌≢◌, slice_get}
 use Rattle.luinline.proofs.laying.number_of.Given as goal
 

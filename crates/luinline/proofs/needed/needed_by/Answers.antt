@@ -1,6 +1,5 @@
 use Rattle.std.proofs.Common.{◌≡◌, ◌∙◌, ℕ, List, [], ◌∷◌, length, sym, ap, subst, All, arith, refl, ◌↔◌}
 use Rattle.lutree.specs.Tree.{program_view}
-use Rattle.lugraph.specs.Graph.{Graph}
 use Rattle.lugraph.specs.Search.{Has}
 use Rattle.lureach.specs.declared.link.Link.{Link}
 use Rattle.lureach.specs.Reach.{IsWithin, IsReached, start}

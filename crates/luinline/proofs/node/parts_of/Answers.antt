@@ -1,9 +1,9 @@
-use Rattle.std.proofs.Common.{◌≡◌, ◌<◌, length, map, take, replicate, rules, sym, ap, subst, ◌∙◌, arith}
+use Rattle.std.proofs.Common.{◌≡◌, ◌<◌, length, map, take, replicate, ap, subst, ◌∙◌, arith}
 use Rattle.std.proofs.lemmas.List.{take_all}
 use Rattle.lutree.specs.declared.program.Node.{Node}
 use Rattle.lutree.specs.Tree.{equation_view, node_view, program_view}
 use Rattle.lulayout.specs.Layout.{variable_count}
-use Rattle.luinline.specs.Walks.{plain, vacant}
+use Rattle.luinline.specs.Walks.{plain}
 use Rattle.luinline.proofs.Gather.{Made, none_made, next_made}
 use Rattle.luinline.proofs.Named.{long as as_many}
 use Rattle.luinline.proofs.node.parts_of.Goals as goal

@@ -1,4 +1,4 @@
-use Rattle.std.proofs.Common.{◌≡◌, ◌++◌, length, map, drop, replicate, sym, ap, ◌∙◌}
+use Rattle.std.proofs.Common.{◌≡◌, ◌++◌, length, map, drop, replicate, ap, ◌∙◌}
 use Rattle.std.proofs.lemmas.List.{length-replicate}
 use Rattle.lutree.specs.declared.program.Node.{Node}
 use Rattle.lutree.specs.Tree.{equation_view, declarations_view, node_view, program_view}
@@ -6,7 +6,7 @@ use Rattle.lurules.specs.Scope.{lefts_of}
 use Rattle.lulayout.specs.Layout.{inner_flows, variable_count}
 use Rattle.luscope.specs.Scopes.{spellings}
 use Rattle.luinline.specs.Walks.{plain, vacant}
-use Rattle.luinline.specs.Nodes.{inputs_from, flows_found, leaders, owners_found}
+use Rattle.luinline.specs.Nodes.{inputs_from, flows_found, leaders}
 use Rattle.luinline.proofs.Named.{long}
 use Rattle.luinline.proofs.Found.{drop_front, assembled}
 use Rattle.luinline.proofs.Owned.{owners_assembled}

@@ -1,4 +1,4 @@
-use Rattle.std.proofs.Common.{◌≡◌, ◌<◌, ◌≤◌, true, false, Option, Some, List, pos, length, take, get_or, refl, sym, ap, subst, ◌∙◌, arith}
+use Rattle.std.proofs.Common.{◌≡◌, ◌<◌, true, false, Option, Some, List, pos, length, take, refl, sym, ap, subst, ◌∙◌, arith}
 use Rattle.std.proofs.lemmas.List.{take_all}
 use Rattle.std.proofs.lemmas.Result.{IfOk-weaker}
 use Rattle.lutree.specs.declared.expr.Infix.TheVariants.{Arrow as Starts}
@@ -15,14 +15,11 @@ use Rattle.lusource.specs.Names.{clock_of}
 use Rattle.lusource.specs.Source.{condition}
 use Rattle.lurules.specs.Scope.{node_called, kind_of}
 use Rattle.lurules.specs.Typing.{agreed, choice_kind, type_of, types_of, only, call_kinds}
-use Rattle.lulayout.specs.Layout.{Root as LaidRoot, clock_place, instance, variable_place, walk}
+use Rattle.lulayout.specs.Layout.{clock_place, instance, variable_place, walk}
 use Rattle.lulayout.specs.Layout.Root.{own, at}
 use Rattle.luscope.specs.ClockRefs.{the_clock}
-use Rattle.luinline.specs.declared.root.Operand.{Operand}
-use Rattle.luinline.specs.declared.root.Walked.{Walked}
 use Rattle.luinline.specs.Walks.{IsWalked, root_view, plain, flow_on, prefix_form, prefix_kind, places_of, kinds_of}
 use Rattle.luinline.proofs.Views.{viewed-Number, viewed-Truth, viewed-Variable, viewed-Current, viewed-Call, viewed-Unary, viewed-Binary, viewed-If, viewed-When, viewed-Merge}
-use Rattle.luinline.proofs.Walking.{IsMade}
 use Rattle.luinline.proofs.Forms.{AreMade, none_made, argument_made, argument_typed, operand_is, operand_typed, formed, number_is, truth_is, variable_is, current_is, unary_is, binary_is, choice_is, when_is, merge_is, prefix_typed, infix_typed, choice_typed}
 use Rattle.luinline.proofs.walk.+walk.Goals as goal
 
