@@ -65,7 +65,7 @@ fn numbers_shown(alloc: Global, numbers: &[usize]) -> Result<String, AllocError>
 
 /// What a program's flat program is to be.
 #[derive(Clone, Copy)]
-pub struct Listing<'a> {
+pub(crate) struct Listing<'a> {
     /// The program; its main node is `main`.
     pub text: &'a str,
     /// Its flows, a line each.
@@ -94,7 +94,7 @@ fn flat_in(alloc: Global, text: &str, main: &str) -> Result<Flat, Fail> {
 }
 
 /// Each listing is that of its text.
-pub fn are_listed(rt: &impl Abort, alloc: Global, listings: &[Listing]) -> Result<(), Fail> {
+pub(crate) fn are_listed(rt: &impl Abort, alloc: Global, listings: &[Listing]) -> Result<(), Fail> {
     for listing in listings {
         let flat = flat_in(alloc, listing.text, "main")?;
         assert_eq!(rt; flows_shown(alloc, &flat)?.as_str(), listing.flows);
@@ -116,7 +116,11 @@ fn cycle_in(alloc: Global, text: &str) -> Result<Option<Name>, Fail> {
 }
 
 /// Of each text the cycle of this variable is told.
-pub fn are_cyclic(rt: &impl Abort, alloc: Global, texts: &[(&str, &str)]) -> Result<(), Fail> {
+pub(crate) fn are_cyclic(
+    rt: &impl Abort,
+    alloc: Global,
+    texts: &[(&str, &str)],
+) -> Result<(), Fail> {
     for (text, variable) in texts {
         match cycle_in(alloc, *text)? {
             Some(name) => assert_eq!(rt; name.as_str(), *variable, "{text}"),
@@ -127,7 +131,7 @@ pub fn are_cyclic(rt: &impl Abort, alloc: Global, texts: &[(&str, &str)]) -> Res
 }
 
 /// Whether a text is told to be too large.
-pub fn is_too_large(alloc: Global, text: &str) -> Result<bool, Fail> {
+pub(crate) fn is_too_large(alloc: Global, text: &str) -> Result<bool, Fail> {
     match flat_from(alloc, text, "main")? {
         Err(CoreError::TooLarge) => Ok(true),
         _ => Ok(false),
@@ -135,6 +139,6 @@ pub fn is_too_large(alloc: Global, text: &str) -> Result<bool, Fail> {
 }
 
 /// How many flows the flat program of a text and its main node has.
-pub fn count_from(alloc: Global, text: &str, main: &str) -> Result<usize, Fail> {
+pub(crate) fn count_from(alloc: Global, text: &str, main: &str) -> Result<usize, Fail> {
     Ok(flat_in(alloc, text, main)?.flows().len())
 }
