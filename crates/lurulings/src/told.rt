@@ -14,7 +14,7 @@ use std::test::Fail;
 
 /// A stage of the static checks.
 #[derive(Clone, Copy)]
-pub enum Stage {
+pub(crate) enum Stage {
     /// Names and types, with the main node `main`.
     Names,
     /// Clocks, with the main node `main`.
@@ -54,7 +54,11 @@ fn fault_of_all(alloc: Global, program: &Program) -> Option<StatError> {
 }
 
 /// The fault that a stage tells of a program; none where the program keeps the rules of the stage.
-pub fn told(alloc: Global, stage: Stage, program: &Program) -> Result<Option<StatError>, Fail> {
+pub(crate) fn told(
+    alloc: Global,
+    stage: Stage,
+    program: &Program,
+) -> Result<Option<StatError>, Fail> {
     match stage {
         Stage::Names => Ok(fault_of_names(alloc, program)),
         Stage::Clocks => {
@@ -67,7 +71,7 @@ pub fn told(alloc: Global, stage: Stage, program: &Program) -> Result<Option<Sta
 }
 
 /// Each text is told its fault.
-pub fn are_told(
+pub(crate) fn are_told(
     rt: &impl Abort,
     alloc: Global,
     stage: Stage,
@@ -81,7 +85,12 @@ pub fn are_told(
 }
 
 /// Each text keeps the rules of a stage.
-pub fn are_kept(rt: &impl Abort, alloc: Global, stage: Stage, texts: &[&str]) -> Result<(), Fail> {
+pub(crate) fn are_kept(
+    rt: &impl Abort,
+    alloc: Global,
+    stage: Stage,
+    texts: &[&str],
+) -> Result<(), Fail> {
     for text in texts {
         let program = read_program(alloc, *text)?;
         assert_eq!(rt; told(alloc, stage, &program)?, None, "{text}");
