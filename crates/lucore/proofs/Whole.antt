@@ -1,27 +1,32 @@
 -- The list of an accepted program with its order of ranks is the flat program of its source.
-use Rattle.std.proofs.Common.{◌≡◌, ℕ, zero, suc, ◌<◌, ◌≤◌, List, [], ◌∷◌, length, map, Option, Some, None, sym, ap, subst, arith, true, refl}
+use Rattle.std.proofs.Common.{◌≡◌, ℕ, zero, suc, ◌<◌, ◌≤◌, List, [], ◌∷◌, length, map, Option, Some, None, sym, ap, ◌∙◌, subst, arith, true, refl}
 use Rattle.std.specs.Prelude.{slice_get, unwrap_or, All}
 use Rattle.std.specs.Option.{option_map}
 use Rattle.std.proofs.lemmas.List.{length-map}
 use Rattle.std.proofs.lemmas.List.Elements.{All-append, All-nil}
-use Rattle.std.proofs.lemmas.Option.{slice_get-map}
-use Rattle.lutree.specs.Tree.{ProgramTree}
+use Rattle.std.proofs.lemmas.Option.{same_Some, slice_get-map}
+use Rattle.lutree.specs.Tree.{NodeTree, ProgramTree}
 use Rattle.luflow.specs.declared.form.Form.{Form}
 use Rattle.luflow.specs.declared.form.Form.TheVariants.{Input, Constant, Copied, Unary, Binary, If, Pre, Arrow, When, Current, Merge}
 use Rattle.luflow.specs.declared.form.Flow.{Flow}
 use Rattle.luflow.specs.Program.{FlatProgram, Table, IsOrdered, flows_of, places, form_reads, clock_reads, reads}
 use Rattle.luflow.specs.Rank.{IsRankOrder, Chain, one, more, has, row, reads_of}
+use Rattle.luflow.specs.declared.variable.Role.TheVariants as role
+use Rattle.luflow.specs.Variables.{inputs_of}
+use Rattle.luflow.specs.Tables.{Fits}
 use Rattle.luflow.specs.Flats.{IsFlat}
+use Rattle.luflow.proofs.Fitting.{as_many}
 use Rattle.lusource.specs.Agreement.{Agrees}
 use Rattle.lusource.proofs.Meanings.{one_meaning}
 use Rattle.lurules.specs.Accepted.{Rule, IsAccepted}
-use Rattle.lulayout.specs.Layout.{IsLaidOut}
+use Rattle.lulayout.specs.Layout.{variables_as, IsLaidOut}
 use Rattle.lulayout.specs.Laws.{DefineSomething, IsClosed, HasColumns}
 use Rattle.lucause.specs.Laws.{HasCycle}
 use Rattle.lucause.proofs.ToFlat.{to_flat}
 use Rattle.lulayout.proofs.Closed as closing
 use Rattle.lulayout.proofs.Whole as meaning
 use Rattle.lusound.proofs.Flats as flats
+use Rattle.lusound.proofs.Roles.{variable_of, inputs_are}
 use Rattle.lurank.specs.Rank.{AreClosed}
 use Rattle.lucore.specs.Result.{IsFlatOf}
 use Rattle.lucore.proofs.RankOrders.{is_ordered}
@@ -90,6 +95,16 @@ module _ (p : ProgramTree) (main : List ℕ) (flat : FlatProgram) (accepted : Is
       let flows = to_flat p main flat accepted (define_something p main accepted) out cycle in
       straight flows.0 flows.1
 
+  -- a table of its inputs has their columns
+  columns : (inputs : Table) → Fits flat inputs → HasColumns p main inputs
+  columns inputs fits node is =
+      let same : out.node ≡ node = same_Some out.node node (sym out.is_main ∙ is) in
+      let many = as_many (inputs_of flat.variables) inputs.columns fits in
+      let are : inputs_of flat.variables ≡ variables_as role.Input out.node.inputs = ap inputs_of out.variables ∙ inputs_are out.node in
+      let long : length (variables_as role.Input out.node.inputs) ≡ length out.node.inputs = length-map out.node.inputs (variable_of role.Input) in
+      let count : length out.node.inputs ≡ length inputs.columns = sym long ∙ ap length (sym are) ∙ many in
+      subst (λ (n : NodeTree). length n.inputs ≤ length inputs.columns) same (omega (arith, count))
+
   pub whole : flows_of flat ≤ 4096 → IsRankOrder (reads_of flat) flat.order → ((x : ℕ) → ¬ Chain (reads_of flat) x x) → IsFlatOf p main flat
   whole few ranked straight =
       let something = define_something p main accepted in
@@ -100,6 +115,7 @@ module _ (p : ProgramTree) (main : List ℕ) (flat : FlatProgram) (accepted : Is
         causal = causal straight;
         laid_out = out;
         is_flat = is_flat;
+        columns = columns;
         agrees = agrees;
         one_meaning = λ inputs columns. one_meaning p main inputs flat is_flat.ordered is_flat.variables_first (agrees inputs columns);
       }

@@ -5,6 +5,7 @@ use Rattle.luflow.specs.declared.variable.Variable.{Variable}
 use Rattle.luflow.specs.Program.{FlatProgram, Table, flows_of}
 use Rattle.luflow.specs.Rank.{reads_of}
 use Rattle.luflow.specs.Flats.{IsFlat}
+use Rattle.luflow.specs.Tables.{Fits}
 use Rattle.lurank.specs.Rank.{IsLeastOnCycle}
 use Rattle.lusource.specs.Agreement.{Agrees, HasOneMeaning}
 use Rattle.lurules.specs.Accepted.{IsAccepted}
@@ -18,12 +19,13 @@ use Rattle.lucore.specs.declared.error.CoreError.TheVariants.{TooLarge, Cycle, O
 
 -- The flat program of a source that keeps all rules and has no cycle: its list is the one of the layout, it is sound and in order of
 -- rank, and at every table that has the inputs' columns it has the same solutions as the source, which has one and no other as to
--- its main variables.
+-- its main variables. A table that fits the flat program has these columns.
 pub record IsFlatOf (program : ProgramTree) (main : List ℕ) (flat : FlatProgram) : Type 0 where
   pub accepted : IsAccepted program main
   pub causal : ¬ HasCycle program main
   pub laid_out : IsLaidOut program main flat
   pub is_flat : IsFlat flat
+  pub columns : (inputs : Table) → Fits flat inputs → HasColumns program main inputs
   pub agrees : (inputs : Table) → HasColumns program main inputs → Agrees program main inputs flat
   pub one_meaning : (inputs : Table) → HasColumns program main inputs → HasOneMeaning program main inputs flat
 

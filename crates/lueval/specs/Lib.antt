@@ -1,1 +1,4 @@
 pub mod Frames
+pub mod Steps
+pub mod Whole
+pub mod Outputs

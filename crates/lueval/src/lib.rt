@@ -1,15 +1,27 @@
-//! The value of one flow at one instant: the kernel that every machine of the distributor shares.
+//! The value of one flow at one instant, the kernel that every machine of the distributor shares, and the evaluator of
+//! whole programs.
 //!
 //! - [`single`], [`double`], [`choice`]: the data operators and `if`, on data.
 //! - [`value`], [`clock_now`], [`kept`]: a flow's value and clock from what a machine holds, and what it keeps afterwards.
 //! - [`Past`]: what is kept of a flow from the instants before.
+//! - [`whole`], [`Streams`], [`EvalError`]: a program's only solution at a table, or its first fault.
 #![tactic(auto)]
 
+mod columns;
+mod error;
+mod evaluator;
 mod kernel;
 mod operators;
+mod outputs;
+#[cfg(test)]
+mod programs;
+mod streams;
 #[cfg(test)]
 mod tests;
 
+pub use error::EvalError;
+pub use evaluator::whole;
 pub use kernel::{Past, clock_now, datum_at, kept, value};
 pub use luflow::{Datum, Inputs, Status};
 pub use operators::{choice, double, single};
+pub use streams::Streams;

@@ -11,8 +11,7 @@ use Rattle.luflow.specs.declared.form.Form.{Form}
 use Rattle.luflow.specs.declared.form.Form.TheVariants.{Input, Constant, Copied, Unary, Binary, If, Pre, Arrow, When, Current, Merge}
 use Rattle.luflow.specs.declared.form.Flow.{Flow}
 use Rattle.luflow.specs.declared.form.FaultKind.{FaultKind}
-use Rattle.luflow.specs.declared.form.Outcome.{Outcome}
-use Rattle.luflow.specs.declared.form.Outcome.TheVariants.{Gives, Faults, Stuck}
+use Rattle.luflow.specs.declared.form.Outcome.TheVariants.{Gives, Faults}
 use Rattle.luflow.specs.Program.{FlatProgram, Table, flow_at}
 use Rattle.luflow.specs.Operators.{single_of, double_of, is_nil, picked_of, choice_of}
 use Rattle.luflow.specs.Streams.{Mark, Known, Broken, Streams, datum_of, clock_at}

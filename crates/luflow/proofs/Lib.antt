@@ -6,3 +6,5 @@ pub mod Tidied
 pub mod FaultsFound
 pub mod Worked
 pub mod Vectors
+pub mod Fitting
+pub mod Columns

@@ -55,7 +55,7 @@ abbrev IsInputThere : FlatProgram → ℕ → Flow → Type 0
 IsInputThere flat i flow = (c : ℕ) → flow.form ≡ Input c → (c ≡ i) × (x : Variable) × (slice_get flat.variables i ≡ Some x) × (x.role ≡ role.Input)
 
 abbrev IsInputFlow : FlatProgram → ℕ → Variable → Type 0
-IsInputFlow flat v x = x.role ≡ role.Input → (flow : Flow) × (flow_at flat v ≡ Some flow) × (flow.form ≡ Input v)
+IsInputFlow flat v x = x.role ≡ role.Input → (flow : Flow) × (flow_at flat v ≡ Some flow) × (flow.form ≡ Input v) × (flow.kind ≡ x.kind)
 
 -- `pre` and the sum may be nil at first
 abbrev counters_class : ℕ → Bool
@@ -117,6 +117,7 @@ counters_flat =
           i flow here c;
       input_is = each_at (IsInputFlow two_counters) two_counters.variables ((λ e. cc), ((λ e. cc), tt));
       variables_first = omega arith;
+      inputs_first = (_, refl);
     }
 
 pub counters_worked : IsWorked two_counters three
@@ -210,13 +211,14 @@ sum_flat =
       )
           i flow here c;
       input_is = each_at (IsInputFlow sampled_sum) sampled_sum.variables (
-        (λ e. (int_flow (Input 0), refl, refl)),
+        (λ e. (int_flow (Input 0), refl, refl, refl)),
         (
-          (λ e. (truth_flow (Input 1), refl, refl)),
+          (λ e. (truth_flow (Input 1), refl, refl, refl)),
           ((λ e. cc), ((λ e. cc), ((λ e. cc), tt))),
         ),
       );
       variables_first = omega arith;
+      inputs_first = (_, refl);
     }
 
 pub sum_worked : IsWorked sampled_sum four_samples
@@ -277,8 +279,9 @@ division_flat =
       )
           i flow here c;
       input_is = each_at (IsInputFlow division) division.variables
-          ((λ e. (int_flow (Input 0), refl, refl)), ((λ e. cc), ((λ e. cc), ((λ e. cc), tt))));
+          ((λ e. (int_flow (Input 0), refl, refl, refl)), ((λ e. cc), ((λ e. cc), ((λ e. cc), tt))));
       variables_first = omega arith;
+      inputs_first = (_, refl);
     }
 
 pub division_worked : IsWorked division one_zero
@@ -382,8 +385,9 @@ held_flat =
       )
           i flow here c;
       input_is = each_at (IsInputFlow held_sample) held_sample.variables
-          ((λ e. (int_flow (Input 0), refl, refl)), ((λ e. cc), ((λ e. cc), ((λ e. cc), ((λ e. cc), tt)))));
+          ((λ e. (int_flow (Input 0), refl, refl, refl)), ((λ e. cc), ((λ e. cc), ((λ e. cc), ((λ e. cc), tt)))));
       variables_first = omega arith;
+      inputs_first = (_, refl);
     }
 
 pub held_worked : IsWorked held_sample three_samples

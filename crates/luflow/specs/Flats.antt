@@ -1,10 +1,11 @@
 -- What every flat program of the product keeps.
-use Rattle.std.specs.Prelude.{◌≡◌, ℕ, ◌<◌, ◌≤◌, ◌⊎◌, ◌++◌, length, All, slice_get, slice_index, Some}
+use Rattle.std.specs.Prelude.{◌≡◌, ℕ, ◌<◌, ◌≤◌, ◌⊎◌, List, ◌++◌, length, All, slice_get, slice_index, Some}
 use Rattle.luflow.specs.declared.form.Flow.{Flow}
 use Rattle.luflow.specs.declared.form.Form.TheVariants.{Input}
 use Rattle.luflow.specs.declared.variable.Variable.{Variable}
 use Rattle.luflow.specs.declared.variable.Role.TheVariants as roles
 use Rattle.luflow.specs.Program.{FlatProgram, IsOrdered, flow_at, flows_of, places, clock_reads}
+use Rattle.luflow.specs.Variables.{inputs_of}
 use Rattle.luflow.specs.Rank.{IsRankOrder, reads_of}
 use Rattle.luflow.specs.Sound.{IsSound}
 
@@ -12,7 +13,7 @@ use Rattle.luflow.specs.Sound.{IsSound}
 abbrev pub IsWithin : FlatProgram → ℕ → ℕ → Type 0
 IsWithin flat i r = (r < length flat.variables) ⊎ (slice_index flat.owners r ≡ slice_index flat.owners i)
 
--- It is in order of rank and sound, small enough, and its main variables come first; the inputs among them are the flows that read the table, column by column. (profile: at most 4,096 flows)
+-- It is in order of rank and sound, small enough, and its main variables come first, and of these the inputs; the inputs are the flows that read the table, column by column. (profile: at most 4,096 flows)
 pub record IsFlat (flat : FlatProgram) : Type 0 where
   pub ordered : IsOrdered flat
   pub ranked : IsRankOrder (reads_of flat) flat.order
@@ -23,5 +24,6 @@ pub record IsFlat (flat : FlatProgram) : Type 0 where
   pub inner : (i : ℕ) (flow : Flow) → flow_at flat i ≡ Some flow → All (IsWithin flat i) (places flow.form ++ clock_reads flow.clock)
   pub main_clocks : (v : ℕ) (flow : Flow) → v < length flat.variables → flow_at flat v ≡ Some flow → All (λ c. c < length flat.variables) (clock_reads flow.clock)
   pub input_there : (i c : ℕ) (flow : Flow) → flow_at flat i ≡ Some flow → flow.form ≡ Input c → (c ≡ i) × (x : Variable) × (slice_get flat.variables i ≡ Some x) × (x.role ≡ roles.Input)
-  pub input_is : (v : ℕ) (x : Variable) → slice_get flat.variables v ≡ Some x → x.role ≡ roles.Input → (flow : Flow) × (flow_at flat v ≡ Some flow) × (flow.form ≡ Input v)
+  pub input_is : (v : ℕ) (x : Variable) → slice_get flat.variables v ≡ Some x → x.role ≡ roles.Input → (flow : Flow) × (flow_at flat v ≡ Some flow) × (flow.form ≡ Input v) × (flow.kind ≡ x.kind)
   pub variables_first : length flat.variables ≤ flows_of flat
+  pub inputs_first : (rest : List Variable) × (flat.variables ≡ inputs_of flat.variables ++ rest)

@@ -6,6 +6,7 @@ pub mod Values
 pub mod Solution
 pub mod Faults
 pub mod Sound
+pub mod Variables
 pub mod Messages
 pub mod Tables
 pub mod Flats

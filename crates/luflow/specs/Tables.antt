@@ -1,9 +1,14 @@
 -- Tables as the code has them.
-use Rattle.std.specs.Prelude.{◌≡◌, ◌≤◌, List, map, length, All, Vec, string_bytes}
+use Rattle.std.specs.Prelude.{◌≡◌, ℕ, ◌≤◌, List, [], ◌∷◌, map, length, All, Vec, string_bytes}
 use Rattle.std.specs.declared.string.String.{String}
 use Rattle.std.specs.declared.alloc.Global.{Global}
 use Rattle.luflow.specs.declared.data.Datum.{Datum}
-use Rattle.luflow.specs.Program.{Table, Column}
+use Rattle.luflow.specs.declared.data.Status.{Status}
+use Rattle.luflow.specs.declared.variable.Variable.{Variable}
+use Rattle.luflow.specs.Program.{FlatProgram, Table, Column}
+use Rattle.luflow.specs.Sound.{IsConstantOf, IsFit}
+use Rattle.luflow.specs.Flats.{IsFlat}
+use Rattle.luflow.specs.Variables.{inputs_of}
 
 abbrev pub column_view : String Global × Vec Datum Global → Column
 column_view x = record { name = string_bytes x.0; values = x.1.items }
@@ -15,3 +20,34 @@ columns_view xs = map column_view xs
 pub record IsTable (table : Table) : Type 0 where
   pub few : table.instants ≤ 1000000
   pub long : All (λ column. length column.values ≡ table.instants) table.columns
+
+-- The columns are those of these inputs, in order: of the input's name, and with a value of its type, never nil, at each instant.
+abbrev pub AreColumnsOf : List Variable → List Column → Type 0
+AreColumnsOf [] [] = Unit {0}
+AreColumnsOf [] (c ∷ cs) = ⊥
+AreColumnsOf (x ∷ xs) [] = ⊥
+AreColumnsOf (x ∷ xs) (c ∷ cs) = (c.name ≡ x.name) × All (IsConstantOf x.kind) c.values × AreColumnsOf xs cs
+
+-- a table of a flat program's inputs
+abbrev pub Fits : FlatProgram → Table → Type 0
+Fits flat inputs = AreColumnsOf (inputs_of flat.variables) inputs.columns
+
+-- what such a table gives to the flows that read it
+abbrev pub FitsLaw : Type 0
+FitsLaw = (flat : FlatProgram) (inputs : Table) → IsFlat flat → IsTable inputs → Fits flat inputs → IsFit flat inputs
+
+-- an output: its name, and what it has at each instant
+pub record OutputColumn : Type 0 where
+  pub name : List ℕ
+  pub statuses : List Status
+
+abbrev pub output_view : String Global × Vec Status Global → OutputColumn
+output_view x = record { name = string_bytes x.0; statuses = x.1.items }
+
+abbrev pub outputs_view : List (String Global × Vec Status Global) → List OutputColumn
+outputs_view xs = map output_view xs
+
+-- there is one at least, and all are as long as the first
+abbrev pub AreOutputs : List OutputColumn → Type 0
+AreOutputs [] = ⊥
+AreOutputs (c ∷ cs) = All (λ x. length x.statuses ≡ length c.statuses) (c ∷ cs)

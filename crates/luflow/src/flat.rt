@@ -1,12 +1,13 @@
 //! A whole flat program.
 
-ghost use Rattle.std.specs.Prelude.{◌≡◌, ◌<◌, length, slice_get, Some, slice_index};
+ghost use Rattle.std.specs.Prelude.{◌≡◌, ◌<◌, ◌≤◌, length, slice_get, Some, slice_index, take};
 ghost use Rattle.luflow.specs.Program.{FlatProgram};
 ghost use Rattle.luflow.specs.Flats.{IsFlat};
+ghost use Rattle.luflow.specs.Variables.{inputs_of};
 ghost use Rattle.luflow.specs.declared.form.Flow.{Flow};
 
 use crate::form::{Clock, Flow};
-use crate::variable::Variable;
+use crate::variable::{Variable, inputs_among};
 use lulist::Row;
 use std::marker::Model;
 
@@ -97,4 +98,21 @@ impl Flat {
     {
         self.variables.as_slice()
     }
+    /// The inputs among the main variables, in order of declaration: the first ones. Takes no memory; the time grows with the
+    /// number of main variables.
+    pub fn inputs(&self) -> &[Variable]
+        ensures inputs { result.now ≡ inputs_of self.now.variables }
+        ensures flat { IsFlat self.now }
+    {
+        let variables = self.variables.as_slice();
+        first_of(variables, inputs_among(variables))
+    }
+}
+
+/// The first of these variables, so many.
+fn first_of(variables: &[Variable], count: usize) -> &[Variable]
+    requires { count ≤ length variables.now }
+    ensures { result.now ≡ take count variables.now }
+{
+    &variables[..count]
 }

@@ -1,6 +1,7 @@
 //! What holds of the definitions, as contracts of functions that do nothing.
 
 ghost use Rattle.luflow.specs.FlatLaws.{SolutionLaw, TidyLaw, StuckLaw, FaultLaw};
+ghost use Rattle.luflow.specs.Tables.{FitsLaw};
 ghost use Rattle.luflow.specs.Vectors.{SolutionVectors};
 
 /// A flat program whose reads come first has exactly one solution, faults or not: every two give each flow the same
@@ -30,4 +31,9 @@ pub fn fault_law()
 /// rules of types, clocks and ranks can be met.
 pub fn solution_vectors_law()
     ensures { SolutionVectors }
+{}
+
+/// A table whose columns are the program's inputs in order gives each flow that reads it a value of its type at each instant.
+pub fn fits_law()
+    ensures { FitsLaw }
 {}

@@ -2,7 +2,7 @@
 //!
 //! - [`Datum`], [`Status`]: what a flow has at an instant.
 //! - [`Form`], [`Flow`], [`Clock`]: what a flow is made of; [`Outcome`], [`FaultKind`]: what its value may be.
-//! - [`Flat`], [`Variable`]: a whole flat program; [`Inputs`]: the table of its inputs.
+//! - [`Flat`], [`Variable`]: a whole flat program; [`Inputs`]: the table of its inputs; [`Outputs`]: that of its outputs.
 //! - [`Msg`], [`Body`]: what a link carries.
 //! - [`laws`]: exactly one solution, what every solution keeps, and worked programs.
 //!
@@ -15,6 +15,7 @@ mod flat;
 mod form;
 pub mod laws;
 mod message;
+mod outputs;
 mod table;
 mod variable;
 
@@ -22,5 +23,6 @@ pub use data::{Datum, Status};
 pub use flat::Flat;
 pub use form::{Clock, FaultKind, Flow, Form, Outcome};
 pub use message::{Body, Msg};
+pub use outputs::Outputs;
 pub use table::Inputs;
 pub use variable::{Role, Variable};

@@ -1,9 +1,13 @@
 //! The table of a program's inputs.
 
-ghost use Rattle.std.specs.Prelude.{◌≡◌, ◌↔◌, All, IfSome, IsSome, IsTrue, length};
-ghost use Rattle.luflow.specs.Tables.{IsTable, columns_view};
+ghost use Rattle.std.specs.Prelude.{◌≡◌, ◌↔◌, All, IfSome, IsSome, IsTrue, length, string_bytes};
+ghost use Rattle.luflow.specs.Sound.{IsConstantOf, IsFit};
+ghost use Rattle.luflow.specs.Tables.{IsTable, AreColumnsOf, Fits, columns_view};
 
 use crate::data::Datum;
+use crate::flat::Flat;
+use crate::variable::Variable;
+use lutree::Kind;
 use std::marker::Model;
 
 /// The most instants that a table may have.
@@ -43,6 +47,43 @@ fn is_table(instants: u32, columns: &[(String, Vec<Datum>)]) -> bool
     instants <= MOST_INSTANTS && are_long(columns, instants)
 }
 
+/// Whether a datum has a type, and isn't nil.
+fn is_constant_of(kind: Kind, datum: Datum) -> bool
+    ensures { IsTrue result ↔ IsConstantOf kind datum }
+{
+    match (kind, datum) {
+        (Kind::Int, Datum::Int(_)) => true,
+        (Kind::Bool, Datum::Bool(_)) => true,
+        _ => false,
+    }
+}
+
+fn are_constants_of(kind: Kind, values: &[Datum]) -> bool
+    ensures { IsTrue result ↔ All (λ d. IsConstantOf kind d) values.now }
+{
+    values.iter().all(|d| is_constant_of(kind, *d))
+}
+
+fn is_column_of(x: &Variable, column: &(String, Vec<Datum>)) -> bool
+    ensures { IsTrue result ↔ ((string_bytes column.now.0 ≡ x.now.name) × All (λ d. IsConstantOf x.now.kind d) column.now.1.items) }
+{
+    x.name.as_str() == column.0.as_str() && are_constants_of(x.kind, &column.1)
+}
+
+fn are_columns_of(variables: &[Variable], columns: &[(String, Vec<Datum>)]) -> bool
+    ensures { IsTrue result ↔ AreColumnsOf variables.now (columns_view columns.now) }
+{
+    if variables.len() != columns.len() {
+        return false;
+    }
+    for i in 0..variables.len() {
+        if !is_column_of(&variables[i], &columns[i]) {
+            return false;
+        }
+    }
+    true
+}
+
 impl Inputs {
     /// The table of these columns. None exactly for more than 1,000,000 instants, or where the length of a column is not
     /// the number of instants. Takes no memory.
@@ -70,5 +111,13 @@ impl Inputs {
         ensures { columns_view result.now ≡ self.now.columns }
     {
         self.columns.as_slice()
+    }
+    /// Whether the columns are the program's inputs in order of declaration, each of the input's name and with a value of its
+    /// type at each instant; nil is none. Takes no memory; the time grows with the number of values.
+    pub fn fits(&self, flat: &Flat) -> bool
+        ensures exact { IsTrue result ↔ Fits flat.now self.now }
+        ensures fit { IsTrue result → IsFit flat.now self.now }
+    {
+        are_columns_of(flat.inputs(), self.columns.as_slice())
     }
 }

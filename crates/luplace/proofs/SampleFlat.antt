@@ -100,8 +100,8 @@ module _ (x y : List ℕ) where
   inputs_there (suc zero) c flow here form = let e : Copied 0 ≡ Input c = ap (λ (f : Flow). f.form) (same_Some second flow here) ∙ form in cc
   inputs_there (suc (suc i)) c flow here form = absurd (none-some flow here)
 
-  inputs_are : (v : ℕ) (z : Variable) → slice_get (sample_variables x y) v ≡ Some z → z.role ≡ roles.Input → (flow : Flow) × (flow_at (sample x y) v ≡ Some flow) × (flow.form ≡ Input v)
-  inputs_are zero z here role = (first, refl, refl)
+  inputs_are : (v : ℕ) (z : Variable) → slice_get (sample_variables x y) v ≡ Some z → z.role ≡ roles.Input → (flow : Flow) × (flow_at (sample x y) v ≡ Some flow) × (flow.form ≡ Input v) × (flow.kind ≡ z.kind)
+  inputs_are zero z here role = (first, refl, refl, ap (λ (w : Variable). w.kind) (same_Some (record { name = x; role = roles.Input; kind = Whole }) z here))
   inputs_are (suc zero) z here role = let e : roles.Output ≡ roles.Input = ap (λ (w : Variable). w.role) (same_Some (record { name = y; role = roles.Output; kind = Whole }) z here) ∙ role in cc
   inputs_are (suc (suc v)) z here role = absurd (none-some z here)
 
@@ -119,6 +119,7 @@ module _ (x y : List ℕ) where
         input_there = inputs_there;
         input_is = inputs_are;
         variables_first = omega arith;
+        inputs_first = (_, refl);
       }
 
   pub parts_flat : (flows : List Flow) (order owners : List ℕ) (variables : List Variable) → flows ≡ sample_flows → order ≡ 0 ∷ 1 ∷ [] → owners ≡ 0 ∷ 1 ∷ [] → variables ≡ sample_variables x y → record { flows = flows; order = order; owners = owners; variables = variables } ≡ sample x y

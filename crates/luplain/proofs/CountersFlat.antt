@@ -202,6 +202,7 @@ module _ (large : Bool) (a b : List ℕ) where
     input_there = λ i c f here form. absurd (no_input i f here c form);
     input_is = λ v x here role. let e : roles.Output ≡ roles.Input = sym (roles_are v x here) ∙ role in cc;
     variables_first = omega arith;
+    inputs_first = (counter_variables a b, refl);
   }
 
 pub parts_flat : (large : Bool) (a b : List ℕ) (flows : List Flow) (order owners : List ℕ) (variables : List Variable) → flows ≡ counter_flows large → order ≡ counter_order → owners ≡ counter_owners → variables ≡ counter_variables a b → record { flows = flows; order = order; owners = owners; variables = variables } ≡ counters large a b

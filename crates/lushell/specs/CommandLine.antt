@@ -16,6 +16,10 @@ main_rule = record (new_rule (codes "main")) { long = Some (codes "main"); value
 abbrev pub check : App
 check = with_rule (with_rule (new_app (codes "check")) main_rule) (path_rule (codes "PROGRAM"))
 
+-- `eval PROGRAM TABLE [--main NAME]`
+abbrev pub eval : App
+eval = with_rule (with_rule (with_rule (new_app (codes "eval")) main_rule) (path_rule (codes "PROGRAM"))) (path_rule (codes "TABLE"))
+
 -- `replay PROGRAM PLACE TABLE SCHEDULE [--main NAME]`
 abbrev pub replay : App
 replay =
@@ -25,5 +29,5 @@ replay =
 -- `lusdist` and one of its commands
 abbrev pub lusdist : App
 lusdist =
-    with_subcommand (with_subcommand (on_top (λ top. record top { subcommand_required = true }) (new_app (codes "lusdist")))
-    check.top) replay.top
+    with_subcommand (with_subcommand (with_subcommand (on_top (λ top. record top { subcommand_required = true }) (new_app (codes "lusdist")))
+    check.top) eval.top) replay.top

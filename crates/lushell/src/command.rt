@@ -3,7 +3,7 @@
 ghost use Rattle.std.specs.Prelude.{◌≡◌, IfOk, false};
 ghost use Rattle.clap.specs.Words.{rule_of, app_of};
 ghost use Rattle.clap.specs.declared.builder.command.Command.TheViews.{out-Command};
-ghost use Rattle.lushell.specs.CommandLine.{path_rule, main_rule, check, replay, lusdist};
+ghost use Rattle.lushell.specs.CommandLine.{path_rule, main_rule, check, eval, replay, lusdist};
 
 use clap::{Arg, ArgAction, Command};
 use std::alloc::{AllocError, Global};
@@ -41,6 +41,17 @@ fn check<'a>(alloc: Global) -> Result<Command<'a>, AllocError>
         .arg(path(alloc, "PROGRAM", "The file of the program"))
 }
 
+fn eval<'a>(alloc: Global) -> Result<Command<'a>, AllocError>
+    ensures app { IfOk result (λ c. app_of c ≡ eval) }
+    ensures local { IfOk result (λ c. (out-Command c).has_globals ≡ false) }
+{
+    Command::new(alloc, "eval")
+        .about("Evaluates a program and prints the table of its outputs")
+        .arg(main_name(alloc))?
+        .arg(path(alloc, "PROGRAM", "The file of the program"))?
+        .arg(path(alloc, "TABLE", "The file of the input table"))
+}
+
 fn replay<'a>(alloc: Global) -> Result<Command<'a>, AllocError>
     ensures app { IfOk result (λ c. app_of c ≡ replay) }
     ensures local { IfOk result (λ c. (out-Command c).has_globals ≡ false) }
@@ -59,10 +70,12 @@ pub fn lusdist<'a>(alloc: Global) -> Result<Command<'a>, AllocError>
     ensures { IfOk result (λ c. app_of c ≡ lusdist) }
 {
     let check = check(alloc)?;
+    let eval = eval(alloc)?;
     let replay = replay(alloc)?;
     Command::new(alloc, "lusdist")
         .about("Spreads one Lustre program over several sites")
         .subcommand_required(true)
         .subcommand(check)?
+        .subcommand(eval)?
         .subcommand(replay)
 }

@@ -18,6 +18,6 @@ mod text;
 
 pub use files::{Files, ReadError, RealFiles};
 pub use put::{put_error_line, put_mistake, put_out};
-pub use request::{CheckRequest, ReplayRequest, Request, parse};
+pub use request::{CheckRequest, EvalRequest, ReplayRequest, Request, parse};
 pub use schedule::{ScheduleError, read_schedule};
 pub use text::text_of;

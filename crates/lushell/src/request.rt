@@ -4,7 +4,7 @@ ghost use Rattle.std.specs.Prelude.{◌≡◌, IfOk, IfErr, map, true, string_by
 ghost use Rattle.clap.specs.Words.{kind_of, takes, found_of, rows_of, subcommand_of, subcommand_rows_of, FailsBy, fault_of};
 ghost use Rattle.clap.specs.declared.error.kind.ErrorKind.TheVariants.{OutOfMemory};
 ghost use Rattle.lushell.specs.CommandLine.{lusdist};
-ghost use Rattle.lushell.specs.Request.{text_in, IsCommand, IsCheckIn, IsReplayIn, IsFoundIn, IsAskedBy};
+ghost use Rattle.lushell.specs.Request.{text_in, IsCommand, IsCheckIn, IsEvalIn, IsReplayIn, IsFoundIn, IsAskedBy};
 
 use crate::command::lusdist;
 use clap::{ArgMatches, Error};
@@ -17,6 +17,17 @@ pub struct CheckRequest<'a> {
     pub main: &'a str,
     /// The path of the program.
     pub program: &'a str,
+}
+
+/// What an evaluation is asked of.
+#[derive(Clone, Copy, Debug, PartialEq, Eq)]
+pub struct EvalRequest<'a> {
+    /// The name of the main node.
+    pub main: &'a str,
+    /// The path of the program.
+    pub program: &'a str,
+    /// The path of the input table.
+    pub table: &'a str,
 }
 
 /// What a replay is asked of.
@@ -39,6 +50,8 @@ pub struct ReplayRequest<'a> {
 pub enum Request<'a> {
     /// A check of a program.
     Check(CheckRequest<'a>),
+    /// An evaluation of a program at a table.
+    Eval(EvalRequest<'a>),
     /// A replay of these files.
     Replay(ReplayRequest<'a>),
 }
@@ -63,6 +76,17 @@ fn check_in<'a>(matches: &ArgMatches<'a>) -> CheckRequest<'a>
     }
 }
 
+/// What the matches of `eval` ask for.
+fn eval_in<'a>(matches: &ArgMatches<'a>) -> EvalRequest<'a>
+    ensures { IsEvalIn (Some (codes "eval", rows_of (found_of matches.now))) result }
+{
+    EvalRequest {
+        main: text(matches, "main"),
+        program: text(matches, "PROGRAM"),
+        table: text(matches, "TABLE"),
+    }
+}
+
 /// What the matches of `replay` ask for.
 fn replay_in<'a>(matches: &ArgMatches<'a>) -> ReplayRequest<'a>
     ensures { IsReplayIn (Some (codes "replay", rows_of (found_of matches.now))) result }
@@ -83,6 +107,7 @@ fn request_in<'a>(matches: &ArgMatches<'a>) -> Request<'a>
 {
     match matches.subcommand() {
         Some((name, found)) if name == "check" => Request::Check(check_in(found)),
+        Some((name, found)) if name == "eval" => Request::Eval(eval_in(found)),
         Some((_, found)) => Request::Replay(replay_in(found)),
         None => unreachable!(),
     }

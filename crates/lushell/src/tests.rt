@@ -135,6 +135,31 @@ fn replay_is_asked_for(rt: HostRuntime) -> Result<(), Fail> {
 }
 
 #[test]
+fn eval_is_asked_for(rt: HostRuntime) -> Result<(), Fail> {
+    for (all, main) in [
+        (["lusdist", "eval", "a", "b"].as_slice(), "main"),
+        (
+            ["lusdist", "eval", "a", "--main", "top", "b"].as_slice(),
+            "top",
+        ),
+        (
+            ["lusdist", "eval", "--main=top", "a", "b"].as_slice(),
+            "top",
+        ),
+    ] {
+        let words = words(rt.alloc(), all)?;
+        let request = parse(rt.alloc(), &words)?;
+        let wanted = EvalRequest {
+            main,
+            program: "a",
+            table: "b",
+        };
+        assert_eq!(rt; request, Request::Eval(wanted));
+    }
+    Ok(())
+}
+
+#[test]
 fn check_is_asked_for(rt: HostRuntime) -> Result<(), Fail> {
     for (all, main, program) in [
         (["lusdist", "check", "a"].as_slice(), "main", "a"),
@@ -164,10 +189,13 @@ fn help_is_status_0_and_a_mistake_is_status_2(rt: HostRuntime) -> Result<(), Fai
         (["lusdist", "help"].as_slice(), 0),
         (["lusdist", "replay", "--help"].as_slice(), 0),
         (["lusdist", "check", "--help"].as_slice(), 0),
+        (["lusdist", "eval", "--help"].as_slice(), 0),
         (["lusdist", "help", "check"].as_slice(), 0),
         (["lusdist"].as_slice(), 2),
         (["lusdist", "check"].as_slice(), 2),
         (["lusdist", "check", "a", "b"].as_slice(), 2),
+        (["lusdist", "eval", "a"].as_slice(), 2),
+        (["lusdist", "eval", "a", "b", "c"].as_slice(), 2),
         (["lusdist", "check", "a", "--main"].as_slice(), 2),
         (["lusdist", "help", "run"].as_slice(), 2),
         (["lusdist", "run", "a", "b", "c"].as_slice(), 2),

@@ -9,11 +9,12 @@ use Rattle.luflow.specs.declared.form.Flow.{Flow}
 use Rattle.luflow.specs.declared.variable.Variable.{Variable}
 use Rattle.luflow.specs.declared.variable.Role.TheVariants as role
 use Rattle.luflow.specs.Program.{FlatProgram, places, clock_reads}
+use Rattle.luflow.specs.Variables.{inputs_of}
 use Rattle.luflow.specs.Flats.{IsWithin}
 use Rattle.lusource.specs.Names.{node_of}
 use Rattle.lurules.specs.Naming.{Reaches}
 use Rattle.lurules.specs.Accepted.{IsAccepted}
-use Rattle.lulayout.specs.Layout.{IsLaidOut, variable_count, main_variables, list_of}
+use Rattle.lulayout.specs.Layout.{IsLaidOut, variable_count, variables_as, main_variables, list_of}
 use Rattle.lulayout.specs.Laws.{DefineSomething}
 use Rattle.lulayout.proofs.Names.{listed}
 use Rattle.lulayout.proofs.Roots.{input, get-input}
@@ -24,8 +25,9 @@ use Rattle.lulayout.proofs.Whole as whole
 use Rattle.lulayout.proofs.Closed.{closed}
 use Rattle.lusound.specs.Laws.{InsideLaw, FlatLaw}
 use Rattle.lusound.proofs.Owners.{FlowOwned, node_owned}
+use Rattle.std.proofs.lemmas.Option.{same_Some}
 use Rattle.lusound.proofs.Types.{declared}
-use Rattle.lusound.proofs.Roles.{input_at, input_variable}
+use Rattle.lusound.proofs.Roles.{variable_of, input_at, input_variable, declared_at, inputs_are}
 use Rattle.lusound.proofs.Programs.{sound}
 
 module _ (p : ProgramTree) (main : List ℕ) (flat : FlatProgram) (accepted : IsAccepted p main) (some : DefineSomething p) (out : IsLaidOut p main flat) where
@@ -63,15 +65,20 @@ module _ (p : ProgramTree) (main : List ℕ) (flat : FlatProgram) (accepted : Is
       let x = input_variable node c copy.1 in
       (sym same, x.0, ap (slice_get flat.variables) same ∙ ap (λ l. slice_get l c) out.variables ∙ x.1, x.2)
 
-  input_is : (v : ℕ) (x : Variable) → slice_get flat.variables v ≡ Some x → x.role ≡ role.Input → (flow : Flow) × (slice_get flat.flows v ≡ Some flow) × (flow.form ≡ Input v)
+  input_is : (v : ℕ) (x : Variable) → slice_get flat.variables v ≡ Some x → x.role ≡ role.Input → (flow : Flow) × (slice_get flat.flows v ≡ Some flow) × (flow.form ≡ Input v) × (flow.kind ≡ x.kind)
   input_is v x e is =
       let lt = input_at node v x (ap (λ l. slice_get l v) (sym out.variables) ∙ e) is in
       let d = declared node.inputs v lt in
-      (input p out.lists node v d.0.kind, ap (λ l. slice_get l v) out.flows ∙ get-input p out.lists node v d.0 d.1, refl)
+      (input p out.lists node v d.0.kind, ap (λ l. slice_get l v) out.flows ∙ get-input p out.lists node v d.0 d.1, refl, ap (λ (y : Variable). y.kind) (same_Some (variable_of role.Input d.0) x (sym (declared_at node v lt) ∙ ap (λ l. slice_get l v) (sym out.variables) ∙ e)))
+
+  inputs_first : (rest : List Variable) × (flat.variables ≡ inputs_of flat.variables ++ rest)
+  inputs_first =
+      let rest = variables_as role.Output node.outputs ++ variables_as role.Local node.locals in
+      (rest, out.variables ∙ ap (λ xs. xs ++ rest) (sym (ap inputs_of out.variables ∙ inputs_are node)))
 
 pub inside : InsideLaw
 inside p main flat accepted some out =
-    record { inner = inner p main flat accepted some out; input_there = input_there p main flat accepted some out; input_is = input_is p main flat accepted some out }
+    record { inner = inner p main flat accepted some out; input_there = input_there p main flat accepted some out; input_is = input_is p main flat accepted some out; inputs_first = inputs_first p main flat accepted some out }
 
 pub is_flat : FlatLaw
 is_flat p main flat accepted some out ordered ranked few =
@@ -88,4 +95,5 @@ is_flat p main flat accepted some out ordered ranked few =
       input_there = input_there p main flat accepted some out;
       input_is = input_is p main flat accepted some out;
       variables_first = is_closed.variables_first;
+      inputs_first = inputs_first p main flat accepted some out;
     }

@@ -1,18 +1,20 @@
 -- The roles of the main variables, by their places.
-use Rattle.std.proofs.Common.{◌≡◌, ℕ, ◌+◌, ◌-◌, ◌<◌, ◌≤◌, ◌⊎◌, inl, inr, ⊎_elim, List, ◌++◌, length, Some, refl, sym, ap, ◌∙◌, arith}
+use Rattle.std.proofs.Common.{◌≡◌, ℕ, Bool, ◌+◌, ◌-◌, ◌<◌, ◌≤◌, ◌⊎◌, inl, inr, ⊎_elim, List, [], ◌∷◌, ◌++◌, length, map, filter, Some, refl, sym, ap, ap₂, ◌∙◌, arith, append-nil}
 use Rattle.std.specs.Prelude.{slice_get, option_map}
 use Rattle.std.proofs.lemmas.Bool.{cases_lt}
 use Rattle.std.proofs.lemmas.List.{length-map}
+use Rattle.std.proofs.lemmas.List.Elements.{filter-append}
 use Rattle.std.proofs.lemmas.Option.{slice_get-map}
 use Rattle.lutree.specs.Tree.{DeclarationTree, NodeTree}
 use Rattle.luflow.specs.declared.variable.Variable.{Variable}
 use Rattle.luflow.specs.declared.variable.Role.{Role}
 use Rattle.luflow.specs.declared.variable.Role.TheVariants as role
+use Rattle.luflow.specs.Variables.{is_input, inputs_of}
 use Rattle.lulayout.specs.Layout.{variables_as, main_variables}
 use Rattle.lulayout.proofs.Names.{get-front, get-behind, mapped_some}
 use Rattle.lusound.proofs.Types.{declared}
 
-abbrev variable_of : Role → DeclarationTree → Variable
+abbrev pub variable_of : Role → DeclarationTree → Variable
 variable_of r d = record { name = d.name; role = r; kind = d.kind }
 
 role_of : (r : Role) (ds : List DeclarationTree) (v : ℕ) (x : Variable) → slice_get (variables_as r ds) v ≡ Some x → r ≡ x.role
@@ -78,3 +80,34 @@ module _ (node : NodeTree) where
             ∙ ap (option_map (variable_of role.Input)) d.1,
         refl,
       )
+
+  -- the variable of an input
+  pub declared_at : (v : ℕ) (lt : v < length node.inputs) → slice_get (main_variables node) v ≡ Some (variable_of role.Input (declared node.inputs v lt).0)
+  declared_at v lt =
+      let is = variables_as role.Input node.inputs in
+      let rest = variables_as role.Output node.outputs ++ variables_as role.Local node.locals in
+      let long : length is ≡ length node.inputs = length-map node.inputs (variable_of role.Input) in
+      get-front is rest v (omega arith) ∙ slice_get-map (variable_of role.Input) node.inputs v ∙ ap (option_map (variable_of role.Input)) (declared node.inputs v lt).1
+
+-- of variables of one role all are inputs, or none
+all_inputs : (ds : List DeclarationTree) → inputs_of (variables_as role.Input ds) ≡ variables_as role.Input ds
+all_inputs [] = refl
+all_inputs (d ∷ ds) = ap (λ xs. variable_of role.Input d ∷ xs) (all_inputs ds)
+
+no_outputs : (ds : List DeclarationTree) → inputs_of (variables_as role.Output ds) ≡ []
+no_outputs [] = refl
+no_outputs (d ∷ ds) = no_outputs ds
+
+no_locals : (ds : List DeclarationTree) → inputs_of (variables_as role.Local ds) ≡ []
+no_locals [] = refl
+no_locals (d ∷ ds) = no_locals ds
+
+-- the inputs are those of the node, and stand first
+pub inputs_are : (node : NodeTree) → inputs_of (main_variables node) ≡ variables_as role.Input node.inputs
+inputs_are node =
+    let p : Variable → Bool = λ x. is_input x.role in
+    let os = variables_as role.Output node.outputs in
+    let ls = variables_as role.Local node.locals in
+    filter-append p (variables_as role.Input node.inputs) (os ++ ls)
+    ∙ ap₂ (λ xs ys. xs ++ ys) (all_inputs node.inputs) (filter-append p os ls ∙ ap₂ (λ xs ys. xs ++ ys) (no_outputs node.outputs) (no_locals node.locals))
+    ∙ append-nil (variables_as role.Input node.inputs)

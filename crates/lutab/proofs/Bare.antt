@@ -7,7 +7,6 @@ use Rattle.luflow.specs.Program.{FlatProgram, IsOrdered}
 use Rattle.luflow.specs.Rank.{IsRankOrder, reads_of}
 use Rattle.luflow.specs.Sound.{IsSound}
 use Rattle.luflow.specs.Flats.{IsFlat}
-use Rattle.lutab.specs.Fit.{HasNoInputs}
 
 abbrev bare : FlatProgram
 bare = record { flows = []; order = []; owners = []; variables = [] }
@@ -49,6 +48,7 @@ bare_is_flat = record {
   input_there = λ i c flow there. absurd (nothing_there flow there);
   input_is = λ v x there. absurd (nothing_there x there);
   variables_first = omega arith;
+  inputs_first = (_, refl);
 }
 
 pub empty_is_flat : (flows : List Flow) (order owners : List ℕ) (variables : List Variable) → flows ≡ [] → order ≡ [] → owners ≡ [] → variables ≡ [] → IsFlat (record { flows = flows; order = order; owners = owners; variables = variables })
@@ -58,9 +58,3 @@ empty_is_flat flows order owners variables a b c d =
     let C : List ℕ → Type 0 = λ x. IsFlat (record { flows = []; order = []; owners = x; variables = variables }) in
     let D : List Variable → Type 0 = λ x. IsFlat (record { flows = []; order = []; owners = []; variables = x }) in
     subst A (sym a) (subst B (sym b) (subst C (sym c) (subst D (sym d) bare_is_flat)))
-
-pub empty_has_none : (flows : List Flow) (order owners : List ℕ) (variables : List Variable) → variables ≡ [] → HasNoInputs (record { flows = flows; order = order; owners = owners; variables = variables })
-empty_has_none flows order owners variables d =
-    let D : List Variable → Type 0 = λ x. HasNoInputs (record { flows = flows; order = order; owners = owners; variables = x }) in
-    let none : D [] = λ v x there. absurd (nothing_there x there) in
-    subst D (sym d) none

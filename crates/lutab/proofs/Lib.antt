@@ -1,2 +1,13 @@
+pub mod Values
+pub mod Lines
+pub mod Joins
+pub mod Fields
+pub mod Reached
+pub mod Headers
+pub mod Plain
+pub mod Told
+pub mod Texts
+pub mod Rowwise
+pub mod Written
+pub mod SampleFlat
 pub mod Bare
-pub mod Fitting

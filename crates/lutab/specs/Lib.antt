@@ -1,2 +1,6 @@
-pub mod Rows
-pub mod Fit
+pub mod Text
+pub mod Reading
+pub mod Table
+pub mod Filling
+pub mod Outputs
+pub mod Sample

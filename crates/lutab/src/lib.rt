@@ -1,15 +1,29 @@
-//! Tables of a program's inputs, as texts.
+//! Tables of a program's inputs and outputs, as texts.
 //!
-//! - [`read_inputs`] reads the text of a table into `Inputs`, or refuses it by a [`TabError`].
+//! - [`read_inputs`] reads the text of a table of inputs into `Inputs`, or refuses it by a [`TabError`].
+//! - [`write_outputs`] writes the text of a table of outputs.
 //!
-//! So far programs have no inputs, so a table has no columns and each of its lines is empty: the first is the header, and
-//! each further one is an instant.
+//! A text has a line of the names, the header, and then a line for each instant. Values and names are joined by commas, and
+//! each line ends by a line feed. The spelling of a table stands in `specs/Text.antt` and `specs/Outputs.antt`, what is
+//! told of a text that is no table in `specs/Table.antt`.
+//!
+//! - `field`: one value in a text.
+//! - `row`: one line, read into columns.
+//! - `rows`: all lines behind the header.
+//! - `reading`: the whole text of inputs.
+//! - `writing`: the whole text of outputs.
+//! - `error`: why a text is refused.
 #![tactic(auto)]
 
 mod error;
+mod field;
 mod reading;
+mod row;
+mod rows;
 #[cfg(test)]
 mod tests;
+mod writing;
 
 pub use error::TabError;
 pub use reading::read_inputs;
+pub use writing::write_outputs;

@@ -1,13 +1,20 @@
-//! From a text to a table.
+//! The text of a table of inputs.
 
-ghost use Rattle.std.specs.Prelude.{◌≡◌, ◌≤◌, [], MatchResult, IfOk, count_by, position};
-ghost use Rattle.luflow.specs.Sound.{IsFit};
-ghost use Rattle.lutab.specs.Rows.{is_feed, is_ink, bad_line, table_of_lines, table_of};
-ghost use Rattle.lutab.specs.Fit.{HasNoInputs};
+ghost use Rattle.std.specs.Prelude.{◌≡◌, ◌≢◌, ◌≤◌, ◌++◌, List, ℕ, length, false, Ok, Err, IfOk, IfErr, IfSome, IfNone, count_by, string_bytes};
+ghost use Rattle.luflow.specs.Program.{Table};
+ghost use Rattle.luflow.specs.Tables.{IsTable, Fits, columns_view};
+ghost use Rattle.luflow.specs.Variables.{inputs_of};
+ghost use Rattle.lutab.specs.declared.error.TabError.{TabError as Refusal};
+ghost use Rattle.lutab.specs.declared.error.TabError.TheVariants.{OutOfMemory};
+ghost use Rattle.lutab.specs.Table.{header_text, kinds_of, is_feed, is_too_long, IsTextOf, IsRefused, Answers};
+ghost use Rattle.lutab.specs.Filling.{AreEmptyOf, ReadsColumns, ReadsText};
 
 use crate::error::TabError;
-use luflow::{Flat, Inputs};
-use std::alloc::Global;
+use crate::rows::read_rows;
+use crate::writing::put_comma;
+use luflow::{Datum, Flat, Inputs, Variable};
+use lutree::Kind;
+use std::alloc::{AllocError, Global};
 
 /// The longest text of a table, in bytes.
 const LONGEST: usize = 67_108_864;
@@ -15,62 +22,129 @@ const LONGEST: usize = 67_108_864;
 /// The most lines of a table: its header, and 1,000,000 instants.
 const MOST_LINES: usize = 1_000_001;
 
-/// How many line feeds the text has.
-fn feeds_in(text: &[u8]) -> usize
-    ensures { result ≡ count_by is_feed text.now }
+/// The most instants of a table.
+const MOST_INSTANTS: usize = 1_000_000;
+
+fn feeds_in(bytes: &[u8]) -> usize
+    ensures { result ≡ count_by is_feed bytes.now }
 {
-    text.iter().filter(|byte| **byte == b'\n').count()
+    bytes.iter().filter(|b| **b == b'\n').count()
 }
 
-/// The place of the first byte that is no line feed.
-fn ink_in(text: &[u8]) -> Option<usize>
-    ensures { result ≡ position is_ink text.now }
+fn is_too_long(bytes: &[u8]) -> bool
+    ensures { result ≡ is_too_long bytes.now }
 {
-    text.iter().position(|byte| *byte != b'\n')
+    bytes.len() > LONGEST || feeds_in(bytes) > MOST_LINES
 }
 
-/// The refusal of the first line that isn't empty, behind so many empty ones.
-fn bad_line(before: usize) -> TabError
-    requires { before ≤ 67108864 }
-    ensures { result ≡ bad_line before }
+fn header_of(alloc: Global, inputs: &[Variable]) -> Result<String, AllocError>
+    ensures { IfOk result (λ s. string_bytes s ≡ header_text inputs.now) }
 {
-    if before == 0 {
-        TabError::BadHeader
+    let mut header = String::new(alloc);
+    for i in 0..inputs.len() {
+        put_comma(&mut header, i)?;
+        header.push_str(inputs[i].name.as_str())?;
+    }
+    header.push('\n')?;
+    Ok(header)
+}
+
+fn kinds(alloc: Global, inputs: &[Variable]) -> Result<Vec<Kind>, AllocError>
+    ensures { IfOk result (λ v. v.items ≡ kinds_of inputs.now) }
+{
+    inputs.iter().map(|x| x.kind).collect(alloc)
+}
+
+/// How many instants the lines may hold: a field has a byte at least, and one that ends it.
+fn room(bytes: &[u8], fields: usize) -> usize
+    ensures { result ≤ 1000000 }
+{
+    if fields == 0 {
+        0
     } else {
-        TabError::BadRow { line: before + 1 }
+        (bytes.len() / 2 / fields).min(MOST_INSTANTS)
     }
 }
 
-/// The table of so many empty lines.
-fn table_of_lines(alloc: Global, lines: usize) -> Result<Inputs, TabError>
-    requires { lines ≤ 1000001 }
-    ensures { MatchResult result (λ inputs. table_of_lines lines ≡ Ok inputs) (λ e. table_of_lines lines ≡ Err e) }
+/// A column for each input, with room for so many values.
+fn empty_columns(
+    alloc: Global,
+    inputs: &[Variable],
+    room: usize,
+) -> Result<Vec<(String, Vec<Datum>)>, AllocError>
+    ensures { IfOk result (λ v. AreEmptyOf inputs.now (columns_view v.items)) }
 {
-    if lines == 0 {
-        return Err(TabError::BadHeader);
+    let mut columns = Vec::new(alloc);
+    for input in inputs {
+        let name = String::from_str(alloc, input.name.as_str())?;
+        let values = Vec::with_capacity(alloc, room)?;
+        columns.push((name, values))?;
     }
-    match Inputs::new((lines - 1) as u32, Vec::new(alloc)) {
-        Some(inputs) => Ok(inputs),
+    Ok(columns)
+}
+
+/// Reads the lines behind the header into columns of these inputs.
+fn read_columns(
+    alloc: Global,
+    inputs: &[Variable],
+    body: &[u8],
+) -> Result<(usize, Vec<(String, Vec<Datum>)>), TabError>
+    requires { length body.now ≤ 67108864 }
+    ensures { ReadsColumns inputs.now body.now result }
+{
+    let kinds = kinds(alloc, inputs)?;
+    let mut columns = empty_columns(alloc, inputs, room(body, inputs.len()))?;
+    let instants = read_rows(&kinds, &mut columns, body)?;
+    Ok((instants, columns))
+}
+
+/// What follows the header.
+fn after_header<'a>(header: &[u8], bytes: &'a [u8]) -> Option<&'a [u8]>
+    ensures found { IfSome result (λ body. bytes.now ≡ header.now ++ body.now) }
+    ensures none { IfNone result ((body : List ℕ) → bytes.now ≡ header.now ++ body → ⊥) }
+{
+    bytes.strip_prefix(header)
+}
+
+/// The table of these columns.
+fn table_of(instants: usize, columns: Vec<(String, Vec<Datum>)>) -> Inputs
+    requires { IsTable (record { instants = instants; columns = columns_view columns.items }) }
+    ensures { result ≡ record { instants = instants; columns = columns_view columns.items } }
+{
+    match Inputs::new(instants as u32, columns) {
+        Some(table) => table,
         None => unreachable!(),
     }
 }
 
-/// Reads the text of a table for a program without inputs: an empty header, and an empty line for each instant. It takes
-/// no memory.
-pub fn read_inputs(alloc: Global, flat: &Flat, text: &str) -> Result<Inputs, TabError>
-    requires { HasNoInputs flat.now }
-    ensures exact { MatchResult result (λ inputs. table_of text.now ≡ Ok inputs) (λ e. table_of text.now ≡ Err e) }
-    ensures plain { IfOk result (λ inputs. inputs.columns ≡ []) }
-    ensures fit { IfOk result (λ inputs. IsFit flat.now inputs) }
+/// Reads the text of a table of these inputs.
+fn read_text(alloc: Global, inputs: &[Variable], text: &str) -> Result<Inputs, TabError>
+    ensures { ReadsText inputs.now text.now result }
 {
-    let _flows = flat.flows();
     let bytes = text.as_bytes();
-    let lines = feeds_in(bytes);
-    if bytes.len() > LONGEST || lines > MOST_LINES {
+    if is_too_long(bytes) {
         return Err(TabError::TooLong);
     }
-    match ink_in(bytes) {
-        Some(before) => Err(bad_line(before)),
-        None => table_of_lines(alloc, lines),
-    }
+    let header = header_of(alloc, inputs)?;
+    let Some(body) = after_header(header.as_bytes(), bytes) else {
+        return Err(TabError::BadHeader);
+    };
+    let (instants, columns) = read_columns(alloc, inputs, body)?;
+    Ok(table_of(instants, columns))
+}
+
+/// Reads the text of a table of a program's inputs. The columns are reserved once, for the instants that so many bytes can
+/// hold, and no line takes memory of its own; the time grows with the bytes.
+pub fn read_inputs(alloc: Global, flat: &Flat, text: &str) -> Result<Inputs, TabError>
+    // What is read is the table that the text spells.
+    ensures spelled { IfOk result (λ table. IsTextOf (inputs_of flat.now.variables) table text.now) }
+    // Each text that spells a table and isn't too long is read, and spells no other.
+    ensures only { (table : Table) → IsTextOf (inputs_of flat.now.variables) table text.now → is_too_long text.now ≡ false → Answers result (Ok table) }
+    // What is told is true of the text, and nothing before it in order is.
+    ensures refused { IfErr result (λ e. e ≢ OutOfMemory → IsRefused (inputs_of flat.now.variables) text.now e) }
+    // What is true of the text, and nothing before it in order, is told.
+    ensures refuses { (e : Refusal) → IsRefused (inputs_of flat.now.variables) text.now e → Answers result (Err e) }
+    ensures fits { IfOk result (λ table. Fits flat.now table) }
+{
+    read_text(alloc, flat.inputs(), text)
 }

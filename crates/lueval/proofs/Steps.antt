@@ -1,0 +1,268 @@
+-- One step of the evaluator, and what it keeps.
+use Rattle.std.proofs.Common.{◌≡◌, ◌≢◌, ℕ, zero, suc, ◌+◌, ◌<◌, ◌≤◌, inl, inr, Bool, true, false, cond, not, List, [], ◌∷◌, length, take, set, Option, Some, None, subst, refl, sym, ap, ap₂, ◌∙◌, arith, add-one}
+use Rattle.std.specs.Prelude.{slice_get, slice_index, All, Contains, unwrap_or, nat_lt}
+use Rattle.std.proofs.lemmas.List.Elements.{All-weaker}
+use Rattle.std.proofs.lemmas.List.{length-set}
+use Rattle.std.proofs.lemmas.Bool.{cases_lt}
+use Rattle.std.proofs.lemmas.Option.{slice_get_within, slice_get-get_or, get_or_from_slice_get}
+use Rattle.luflow.specs.declared.data.Datum.{Datum}
+use Rattle.luflow.specs.declared.data.Datum.TheVariants.{Int, Bool as Truth, Nil}
+use Rattle.luflow.specs.declared.data.Status.{Status}
+use Rattle.luflow.specs.declared.data.Status.TheVariants.{Absent, Present}
+use Rattle.luflow.specs.declared.form.Clock.{Clock}
+use Rattle.luflow.specs.declared.form.Clock.TheVariants.{Base, On}
+use Rattle.luflow.specs.declared.form.Form.{Form}
+use Rattle.luflow.specs.declared.form.Form.TheVariants.{Input}
+use Rattle.luflow.specs.declared.form.Flow.{Flow}
+use Rattle.luflow.specs.declared.form.FaultKind.{FaultKind}
+use Rattle.luflow.specs.declared.form.Outcome.{Outcome}
+use Rattle.luflow.specs.declared.form.Outcome.TheVariants.{Gives, Faults, Stuck}
+use Rattle.luflow.specs.Program.{FlatProgram, Table, flow_at, flows_of, column_of, places, clock_reads, form_reads, reads}
+use Rattle.luflow.specs.Operators.{single_of, double_of}
+use Rattle.luflow.specs.Streams.{Mark, Known, Broken, Streams, datum_of, truth_in, clock_at, either, ticked, newer, before}
+use Rattle.luflow.specs.Messages.{presents, once_if}
+use Rattle.luflow.specs.Values.{on_one, on_two, value_of, value_at, under}
+use Rattle.luflow.specs.Solution.{says, clock_of_flow, IsSolution}
+use Rattle.luflow.specs.Faults.{IsFaultOn, OnUnary, OnBinary, IsFault}
+use Rattle.luflow.specs.Sound.{IsFit}
+use Rattle.luflow.specs.Flats.{IsFlat}
+use Rattle.luflow.proofs.Solutions.{first_of_all, second_of_all, all_left, all_right, place_of, place_in, flow_there, clock-same, solutions_same}
+use Rattle.luflow.proofs.Faults.{fault_value, fault_value_one}
+use Rattle.luflow.proofs.Tidied.{stuck_broken}
+use Rattle.lueval.specs.declared.kernel.Past.{Past}
+use Rattle.lueval.specs.Frames.{ticked_in, later, view_in, clock_in, IsShown, IsPast}
+use Rattle.lueval.specs.Whole.{IsEarlier}
+use Rattle.lueval.specs.Steps.{AreShown, Stands, IsFresh}
+use Rattle.lueval.proofs.Reading.{clock_read, value_read}
+
+pub slice_get-set_other : {X : Type 0} (xs : List X) (i r : ℕ) (x : X) → r ≢ i → slice_get (set xs i x) r ≡ slice_get xs r
+slice_get-set_other [] i r x ne = refl
+slice_get-set_other (y ∷ xs) zero zero x ne = absurd (ne refl)
+slice_get-set_other (y ∷ xs) zero (suc r) x ne = refl
+slice_get-set_other (y ∷ xs) (suc i) zero x ne = refl
+slice_get-set_other (y ∷ xs) (suc i) (suc r) x ne = slice_get-set_other xs i r x (λ e. ne (ap suc e))
+
+pub slice_get-set_same : {X : Type 0} (xs : List X) (i : ℕ) (x : X) → i < length xs → slice_get (set xs i x) i ≡ Some x
+slice_get-set_same [] i x l = absurd (omega arith)
+slice_get-set_same (y ∷ xs) zero x l = refl
+slice_get-set_same (y ∷ xs) (suc i) x l = slice_get-set_same xs i x (omega arith)
+
+known_sound : (s : Status) (m : Mark) → m ≡ Known s → m ≢ Broken
+known_sound s m e h = cc
+
+truth_there : (sign : Bool) (status : Status) → (b : Bool) × (truth_in sign (Known status) ≡ Some b)
+truth_there sign Absent = (false, refl)
+truth_there sign (Present Nil) = (false, refl)
+truth_there sign (Present (Int n)) = (false, refl)
+truth_there sign (Present (Truth b)) = (cond sign b (not b), refl)
+
+clock_there : (inputs : Table) (σ : Streams) (shown : List Status) (clock : Clock) (t : ℕ) → All (IsShown σ shown t) (clock_reads clock) → (b : Bool) × (clock_at inputs σ clock t ≡ Some b)
+clock_there inputs σ shown Base t h = (nat_lt t inputs.instants, refl)
+clock_there inputs σ shown (On c sign) t h =
+    let w = first_of_all (IsShown σ shown t) c [] h in
+    let k = truth_there sign w.status in (k.0, ap (truth_in sign) w.is ∙ k.1)
+
+known_clock : (k o : Option Bool) (b : Bool) → k ≡ o → k ≡ Some b → k ≡ Some (unwrap_or o false)
+known_clock k o b e h = h ∙ ap (λ (o : Option Bool). Some (unwrap_or o false)) (sym h ∙ e)
+
+ticked_there : (o : Option Past) (past : Past) (k : Option Bool) → o ≡ Some past → k ≡ Some past.ticked → k ≡ ticked_in o
+ticked_there o past k e h = h ∙ sym (ap ticked_in e)
+
+under_absent : (c : Option Bool) (v : Outcome) → under c v ≡ Known Absent → c ≡ Some false
+under_absent None v h = cc
+under_absent (Some false) v h = refl
+under_absent (Some true) (Faults kind) h = cc
+under_absent (Some true) Stuck h = cc
+under_absent (Some true) (Gives d) h = cc
+
+under_present : (c : Option Bool) (v : Outcome) (d : Datum) → under c v ≡ Known (Present d) → c ≡ Some true
+under_present None v d h = cc
+under_present (Some false) v d h = cc
+under_present (Some true) v d h = refl
+
+-- what is kept after an instant, from the status and what was kept before
+last_later : (m : Mark) (status : Status) (o : Option Datum) (past : Past) → m ≡ Known status → o ≡ Some past.last → newer m o ≡ Some (later status past).last
+last_later m Absent o past e h = ap₂ newer e h
+last_later m (Present d) o past e h = ap₂ newer e h
+
+count_later : (m : Mark) (status : Status) (n : ℕ) (past : Past) → m ≡ Known status → n ≡ past.count → n + once_if m ≡ (later status past).count
+count_later m Absent n past e h = let f = ap once_if e in omega (arith, f)
+count_later m (Present d) n past e h = let f = ap once_if e in omega (arith, f)
+
+tick_later : (k w : Option Bool) (v : Outcome) (m : Mark) (status : Status) (past : Past) → m ≡ Known status → m ≡ under k v → w ≡ Some past.ticked → either k w ≡ Some (later status past).ticked
+tick_later k w v m Absent past e u h = ap₂ either (under_absent k v (sym u ∙ e)) h
+tick_later k w v m (Present d) past e u h = ap₂ either (under_present k v d (sym u ∙ e)) h
+
+pub count_one_more : (status : Status) (past : Past) (n : ℕ) → past.count ≤ n → (later status past).count ≤ n + 1
+count_one_more Absent past n h = omega arith
+count_one_more (Present d) past n h = omega arith
+
+-- an operator that is a fault has that fault for its value
+fault_on : (inputs : Table) (σ : Streams) (k : Clock) (t : ℕ) (form : Form) (kind : FaultKind) → IsFaultOn σ t form kind → value_at inputs σ k form t ≡ Faults kind
+fault_on inputs σ k t _ _ (OnBinary op a b x y kind ea eb f) = ap₂ (λ m n. on_two (double_of op) (datum_of m) (datum_of n)) ea eb ∙ fault_value op x y kind f
+fault_on inputs σ k t _ _ (OnUnary op a x kind ea f) = ap (λ m. on_one (single_of op) (datum_of m)) ea ∙ fault_value_one op x kind f
+
+-- where operands are the same, so are faults
+fault_moves : (σ σ' : Streams) (t : ℕ) (form : Form) (kind : FaultKind) → All (λ r. σ r t ≡ σ' r t) (places form) → IsFaultOn σ t form kind → IsFaultOn σ' t form kind
+fault_moves σ σ' t _ _ same (OnBinary op a b x y kind ea eb f) =
+    OnBinary op a b x y kind (sym (first_of_all (λ r. σ r t ≡ σ' r t) a (b ∷ []) same) ∙ ea) (sym (second_of_all (λ r. σ r t ≡ σ' r t) a b [] same) ∙ eb) f
+fault_moves σ σ' t _ _ same (OnUnary op a x kind ea f) = OnUnary op a x kind (sym (first_of_all (λ r. σ r t ≡ σ' r t) a [] same) ∙ ea) f
+
+module _ (flat : FlatProgram) (inputs : Table) (σ : Streams) (is_flat : IsFlat flat) (fit : IsFit flat inputs) (sol : IsSolution flat inputs σ) where
+  equation : (i t : ℕ) (flow : Flow) → flow_at flat i ≡ Some flow → σ i t ≡ under (clock_at inputs σ flow.clock t) (value_at inputs σ flow.clock flow.form t)
+  equation i t flow is = sol i t (slice_get_within flat.flows i flow is) ∙ ap (λ o. says inputs σ o t) is
+
+  -- a fault breaks its flow
+  pub fault_broken : (i t : ℕ) (kind : FaultKind) → IsFault flat inputs σ i t kind → σ i t ≡ Broken
+  fault_broken i t kind f = equation i t f.flow f.there ∙ ap₂ under f.clock (fault_on inputs σ f.flow.clock t f.flow.form kind f.fault)
+
+  fault_within : (i t : ℕ) (kind : FaultKind) → IsFault flat inputs σ i t kind → i < flows_of flat
+  fault_within i t kind f = slice_get_within flat.flows i f.flow f.there
+
+  same_at : (σ' : Streams) → IsSolution flat inputs σ' → (t r : ℕ) → r < flows_of flat → σ r t ≡ σ' r t
+  same_at σ' sol' t r l = solutions_same flat inputs σ σ' is_flat.ordered sol sol' r t l
+
+  -- a fault in one solution is a fault in each
+  pub fault_same : (σ' : Streams) → IsSolution flat inputs σ' → (i t : ℕ) (kind : FaultKind) → IsFault flat inputs σ i t kind → IsFault flat inputs σ' i t kind
+  fault_same σ' sol' i t kind f =
+      let all = λ (xs : List ℕ) (h : All (λ r. r < flows_of flat) xs). All-weaker (λ r. r < flows_of flat) (λ r. σ r t ≡ σ' r t) (same_at σ' sol' t) xs h in
+      record {
+        flow = f.flow;
+        there = f.there;
+        clock = sym (clock-same inputs σ σ' f.flow.clock t (all (clock_reads f.flow.clock) (is_flat.ordered.clocks_in i f.flow f.there))) ∙ f.clock;
+        fault = fault_moves σ σ' t f.flow.form kind (all (places f.flow.form) (is_flat.ordered.places_in i f.flow f.there)) f.fault;
+      }
+
+  module _ (shown : List Status) (pasts : List Past) (t p : ℕ) (stands : Stands flat inputs σ shown pasts t p) where
+    read_now : (r : ℕ) → Contains (take p flat.order) r → IsShown σ shown t r
+    read_now r c = let w = place_of flat.order p r c in subst (λ (i : ℕ). IsShown σ shown t i) w.3 (stands.now w.0 w.1 w.2)
+
+    reads_shown : (i : ℕ) (flow : Flow) → p < length flat.order → i ≡ slice_index flat.order p → flow_at flat i ≡ Some flow → All (IsShown σ shown t) (reads flow)
+    reads_shown i flow lp e is =
+        let is' : flow_at flat (slice_index flat.order p) ≡ Some flow = sym (ap (flow_at flat) e) ∙ is in
+        All-weaker (λ r. Contains (take p flat.order) r) (IsShown σ shown t) read_now (reads flow) (is_flat.ordered.reads_first p flow lp is')
+
+    pub clock_here : (i : ℕ) (flow : Flow) → p < length flat.order → i ≡ slice_index flat.order p → flow_at flat i ≡ Some flow → t < inputs.instants → clock_at inputs σ flow.clock t ≡ Some (unwrap_or (clock_in shown flow.clock) false)
+    clock_here i flow lp e is lt =
+        let all = all_right (IsShown σ shown t) (form_reads flow.form) (clock_reads flow.clock) (reads_shown i flow lp e is) in
+        let b = clock_there inputs σ shown flow.clock t all in
+        known_clock (clock_at inputs σ flow.clock t) (clock_in shown flow.clock) b.0 (clock_read inputs σ shown flow.clock t lt all) b.1
+
+    pub value_here : (i : ℕ) (flow : Flow) (given : Option Datum) → p < length flat.order → i ≡ slice_index flat.order p → flow_at flat i ≡ Some flow → ((c : ℕ) → flow.form ≡ Input c → given ≡ slice_get (column_of inputs c) t) → value_at inputs σ flow.clock flow.form t ≡ value_of flow.form (view_in given shown pasts i)
+    value_here i flow given lp e is input =
+        let mine = stands.kept i (slice_get_within flat.flows i flow is) in
+        value_read flat inputs σ flow.clock flow.form i t given shown pasts (record {
+          reads = all_left (IsShown σ shown t) (form_reads flow.form) (clock_reads flow.clock) (reads_shown i flow lp e is);
+          then = All-weaker (λ r. r < flows_of flat) (IsPast flat inputs σ pasts t) stands.kept (places flow.form) (is_flat.ordered.places_in i flow is);
+          was = ticked_there (slice_get pasts i) mine.past (ticked (clock_at inputs σ flow.clock) t) mine.there (sym (ap (λ o. ticked (clock_of_flow inputs σ o) t) is) ∙ mine.ticks);
+          input = input;
+        })
+
+    -- nothing that it looks at is broken, so its value is not stuck
+    pub not_stuck : (i : ℕ) (flow : Flow) → p < length flat.order → i ≡ slice_index flat.order p → flow_at flat i ≡ Some flow → t < inputs.instants → clock_at inputs σ flow.clock t ≡ Some true → value_at inputs σ flow.clock flow.form t ≡ Stuck → ⊥
+    not_stuck i flow lp e is lt on stuck =
+        let sound = λ (u : ℕ) (l : u < t) (xs : List ℕ) (h : All (λ r. r < flows_of flat) xs). All-weaker (λ r. r < flows_of flat) (λ r. σ r u ≢ Broken) (λ r lr. stands.sound r u lr l) xs h in
+        stuck_broken flat inputs σ is_flat.ordered is_flat.sound fit sol i t flow is lt on stuck (record {
+          now = All-weaker (IsShown σ shown t) (λ r. σ r t ≢ Broken) (λ r w. known_sound w.status (σ r t) w.is) (form_reads flow.form) (all_left (IsShown σ shown t) (form_reads flow.form) (clock_reads flow.clock) (reads_shown i flow lp e is));
+          then = λ u l. sound u l (places flow.form) (is_flat.ordered.places_in i flow is);
+          clock_then = λ u l. sound u l (clock_reads flow.clock) (is_flat.ordered.clocks_in i flow is);
+        })
+
+    -- the flow of rank p gets its status
+    advance : (i : ℕ) (flow : Flow) (s : Status) → p < length flat.order → i ≡ slice_index flat.order p → flow_at flat i ≡ Some flow → σ i t ≡ Known s → Stands flat inputs σ (set shown i s) pasts t (p + 1)
+    advance i flow s lp e is known =
+        let li : i < length shown = let l = slice_get_within flat.flows i flow is in let n = stands.shown_len in omega arith in
+        record {
+          shown_len = length-set shown i s ∙ stands.shown_len;
+          pasts_len = stands.pasts_len;
+          now = λ q l lq. elim (cases_lt q p) [
+            | inl lp' ↦
+                let w = stands.now q lp' lq in
+                let ne : slice_index flat.order q ≢ i = λ h. let same = is_flat.ordered.once q p lq lp (h ∙ e) in let g : q < p = lp' in absurd (omega arith) in
+                record { status = w.status; there = slice_get-set_other shown i (slice_index flat.order q) s ne ∙ w.there; is = w.is }
+            | inr ge ↦
+                let pq : p ≡ q = omega arith in
+                subst (λ (j : ℕ). IsShown σ (set shown i s) t j) (e ∙ ap (slice_index flat.order) pq) (record { status = s; there = slice_get-set_same shown i s li; is = known })
+          ];
+          kept = stands.kept;
+          counts = stands.counts;
+          sound = stands.sound;
+        }
+
+    pub step_absent : (i : ℕ) (flow : Flow) → p < length flat.order → i ≡ slice_index flat.order p → flow_at flat i ≡ Some flow → t < inputs.instants → unwrap_or (clock_in shown flow.clock) false ≡ false → Stands flat inputs σ (set shown i Absent) pasts t (p + 1)
+    step_absent i flow lp e is lt off =
+        let k = clock_here i flow lp e is lt ∙ ap (λ b. Some b) off in
+        advance i flow Absent lp e is (equation i t flow is ∙ ap (λ q. under q (value_at inputs σ flow.clock flow.form t)) k)
+
+    pub step_gives : (i : ℕ) (flow : Flow) (d : Datum) → p < length flat.order → i ≡ slice_index flat.order p → flow_at flat i ≡ Some flow → clock_at inputs σ flow.clock t ≡ Some true → value_at inputs σ flow.clock flow.form t ≡ Gives d → Stands flat inputs σ (set shown i (Present d)) pasts t (p + 1)
+    step_gives i flow d lp e is on v = advance i flow (Present d) lp e is (equation i t flow is ∙ ap₂ under on v)
+
+    -- there is no fault before where the evaluator stands
+    pub none_before : (u q i : ℕ) (kind : FaultKind) → slice_get flat.order q ≡ Some i → IsEarlier u q t p → IsFault flat inputs σ i u kind → ⊥
+    none_before u q i kind there (inl l) f = stands.sound i u (fault_within i u kind f) l (fault_broken i u kind f)
+    none_before u q i kind there (inr h) f =
+        let lq = slice_get_within flat.order q i there in
+        let e : slice_index flat.order q ≡ i = get_or_from_slice_get flat.order q i 0 there in
+        let w = stands.now q h.1 lq in
+        let b : σ i t ≡ Broken = subst (λ (v : ℕ). σ i v ≡ Broken) h.0 (fault_broken i u kind f) in
+        known_sound w.status (σ (slice_index flat.order q) t) w.is (ap (λ (j : ℕ). σ j t) e ∙ b)
+
+  module _ (shown : List Status) (pasts : List Past) (t : ℕ) (stands : Stands flat inputs σ shown pasts t (length flat.order)) where
+    now_at : (i : ℕ) → i < flows_of flat → IsShown σ shown t i
+    now_at i li = let w = place_in flat.order i (is_flat.ordered.all_flows i li) in subst (λ (k : ℕ). IsShown σ shown t k) w.2 (stands.now w.0 w.1 w.1)
+
+    pub all_shown : AreShown σ shown t
+    all_shown i l = let n = stands.shown_len in now_at i (omega arith)
+
+    -- the next instant
+    pub turn : (pasts' : List Past) → length pasts' ≡ length pasts → ((i : ℕ) (x : Status) (y : Past) → slice_get shown i ≡ Some x → slice_get pasts i ≡ Some y → slice_get pasts' i ≡ Some (later x y)) → All (λ x. x.count ≤ t + 1) pasts' → Stands flat inputs σ shown pasts' (t + 1) 0
+    turn pasts' len each counts =
+        record {
+          shown_len = stands.shown_len;
+          pasts_len = len ∙ stands.pasts_len;
+          now = λ q l lq. absurd (omega arith);
+          kept = λ i li.
+              let sh = now_at i li in
+              let old = stands.kept i li in
+              subst (λ (u : ℕ). IsPast flat inputs σ pasts' u i) (sym (add-one t)) (record {
+                past = later sh.status old.past;
+                there = each i sh.status old.past sh.there old.there;
+                last = last_later (σ i t) sh.status (before (σ i) t) old.past sh.is old.last;
+                ticks = ticks_next i li sh old;
+                count = count_later (σ i t) sh.status (presents (σ i) t) old.past sh.is old.count;
+              });
+          counts = counts;
+          sound = λ r u lr l. elim (cases_lt u t) [
+            | inl h ↦ stands.sound r u lr h
+            | inr h ↦
+                let e : t ≡ u = omega arith in
+                let n = now_at r lr in
+                subst (λ (v : ℕ). σ r v ≢ Broken) e (known_sound n.status (σ r t) n.is)
+          ];
+        }
+      where
+        ticks_next : (i : ℕ) → i < flows_of flat → (sh : IsShown σ shown t i) (old : IsPast flat inputs σ pasts t i) → ticked (clock_of_flow inputs σ (flow_at flat i)) (suc t) ≡ Some (later sh.status old.past).ticked
+        ticks_next i li sh old =
+            let w = place_in flat.order i (is_flat.ordered.all_flows i li) in
+            let f = flow_there flat is_flat.ordered w.0 w.1 in
+            let is : flow_at flat i ≡ Some f.0 = sym (ap (flow_at flat) w.2) ∙ f.1 in
+            let clock = ap (λ o. clock_of_flow inputs σ o t) is in
+            tick_later (clock_of_flow inputs σ (flow_at flat i) t) (ticked (clock_of_flow inputs σ (flow_at flat i)) t) (value_at inputs σ f.0.clock f.0.form t) (σ i t) sh.status old.past sh.is (equation i t f.0 is ∙ ap (λ c. under c (value_at inputs σ f.0.clock f.0.form t)) (sym clock)) old.ticks
+
+  pub begin : (shown : List Status) (pasts : List Past) → length shown ≡ flows_of flat → length pasts ≡ flows_of flat → All IsFresh pasts → Stands flat inputs σ shown pasts 0 0
+  begin shown pasts sl pl fresh =
+      let none : Past = record { last = Nil; ticked = false; count = 0 } in
+      record {
+        shown_len = sl;
+        pasts_len = pl;
+        now = λ q l lq. absurd (omega arith);
+        kept = λ i li. record {
+          past = none;
+          there = slice_get-get_or pasts i none (omega arith) ∙ ap (λ (x : Past). Some x) (fresh i none (omega arith));
+          last = refl;
+          ticks = refl;
+          count = refl;
+        };
+        counts = All-weaker IsFresh (λ x. x.count ≤ 0) (λ x e. let c = ap (λ (y : Past). y.count) e in omega arith) pasts fresh;
+        sound = λ r u lr l. absurd (omega arith);
+      }

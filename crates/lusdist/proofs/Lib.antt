@@ -1,5 +1,0 @@
-pub mod Inputless
-pub mod NewSites
-pub mod Worlds
-pub mod AskedFor
-pub mod Texts

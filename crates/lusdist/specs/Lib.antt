@@ -1,4 +1,0 @@
-pub mod Statuses
-pub mod Asked
-pub mod WorldText
-pub mod Refused

@@ -1,0 +1,57 @@
+-- What an evaluation gives, in the words of the source.
+use Rattle.std.proofs.Common.{◌≡◌, ℕ, ◌<◌, List, [], length, map, Some, sym, ap, ◌∙◌, subst}
+use Rattle.std.specs.Prelude.{slice_get}
+use Rattle.lutree.specs.Tree.{ProgramTree}
+use Rattle.luflow.specs.declared.data.Status.{Status}
+use Rattle.luflow.specs.declared.variable.Variable.{Variable}
+use Rattle.luflow.specs.Program.{FlatProgram, Table}
+use Rattle.luflow.specs.Messages.{marks}
+use Rattle.luflow.specs.Tables.{OutputColumn, Fits}
+use Rattle.luflow.specs.Variables.{inputs_of}
+use Rattle.lusyn.specs.Texts.{SpellsText}
+use Rattle.lucore.specs.Result.{IsFlatOf}
+use Rattle.lueval.specs.Whole.{AreStreams, AreMeant, HasNoFault}
+use Rattle.lueval.specs.Outputs.{outputs_in}
+use Rattle.lueval.proofs.Told.{Pairs, names, stream_at}
+use Rattle.lutab.specs.Table.{IsTextOf}
+use Rattle.lushell.specs.declared.request.EvalRequest.{EvalRequest}
+use Rattle.luserve.specs.declared.stop.Stop.{Stop}
+use Rattle.luserve.specs.declared.stop.Stop.TheVariants.{CannotRead, NotAscii, Syntax, Rules, NotYet, Flat, Place, Table as BadTable, Schedule, Fault, OutOfMemory}
+use Rattle.luserve.specs.Evaluated.{AreEvaluated, AreOutputsOf, IsPosed, IsPosedBy, IsStopped, IsFaultAsked}
+
+-- the outputs among the streams of the main variables
+pub are_evaluated : (flat : FlatProgram) (inputs : Table) (streams : List (List Status)) (outputs : List OutputColumn) → AreStreams flat inputs streams → AreMeant flat inputs streams → HasNoFault flat inputs → outputs ≡ outputs_in flat.variables streams → AreEvaluated flat inputs outputs
+are_evaluated flat inputs streams outputs are meant fine is =
+    let pairs : Pairs flat.variables streams = sym are.count in
+    record {
+      named = ap (map (λ (c : OutputColumn). c.name)) is ∙ names flat.variables streams pairs;
+      streams = λ tree main agrees σ solves k c there.
+          let w = stream_at flat.variables streams k c (ap (λ xs. slice_get xs k) (sym is) ∙ there) in
+          meant tree main agrees σ solves w.number w.variable c.statuses w.there w.stream ∙ ap (λ name. marks (σ [] name) inputs.instants) (sym w.named);
+      no_fault = fine;
+    }
+
+-- they are those of a source with which the flat program agrees
+pub of_source : (text main table : List ℕ) (tree : ProgramTree) (flat : FlatProgram) (inputs : Table) (outputs : List OutputColumn) → IsPosed text main table tree flat inputs → AreEvaluated flat inputs outputs → AreOutputsOf tree main flat inputs outputs
+of_source text main table tree flat inputs outputs posed are =
+    record { named = are.named; streams = are.streams tree main posed.agrees; no_fault = are.no_fault }
+
+-- a program and a table that are posed
+pub posed : (text main table : List ℕ) (tree : ProgramTree) (flat : FlatProgram) (inputs : Table) → SpellsText text tree → IsFlatOf tree main flat → IsTextOf (inputs_of flat.variables) inputs table → Fits flat inputs → IsPosed text main table tree flat inputs
+posed text main table tree flat inputs spelled flat_is table_is fits =
+    let columns = flat_is.columns inputs fits in
+    record { spelled = spelled; flat_is = flat_is; table_is = table_is; agrees = flat_is.agrees inputs columns; one_meaning = flat_is.one_meaning inputs columns }
+
+-- where an evaluation stops, it tells the fault of what was asked for
+pub fault_asked : (gives : List ℕ → List ℕ → Type 0) (request : EvalRequest) (flat : FlatProgram) (inputs : Table) → IsPosedBy gives request flat inputs → (stop : Stop) → IsStopped flat inputs stop → IsFaultAsked gives request stop
+fault_asked gives request flat inputs asked (CannotRead path) told = tt
+fault_asked gives request flat inputs asked NotAscii told = tt
+fault_asked gives request flat inputs asked (Syntax e) told = tt
+fault_asked gives request flat inputs asked (Rules e) told = tt
+fault_asked gives request flat inputs asked NotYet told = tt
+fault_asked gives request flat inputs asked (Flat e) told = tt
+fault_asked gives request flat inputs asked (Place e) told = tt
+fault_asked gives request flat inputs asked (BadTable e) told = tt
+fault_asked gives request flat inputs asked (Schedule e) told = tt
+fault_asked gives request flat inputs asked (Fault name instant kind) told = record { flat = flat; inputs = inputs; asked = asked; told = told }
+fault_asked gives request flat inputs asked OutOfMemory told = tt

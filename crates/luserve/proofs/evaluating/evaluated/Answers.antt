@@ -1,0 +1,17 @@
+use Rattle.std.proofs.Common.{subst}
+use Rattle.luflow.specs.Solution.{solution}
+use Rattle.lueval.specs.declared.error.EvalError.TheVariants.{Fault}
+use Rattle.lueval.specs.Whole.{IsAnswer}
+use Rattle.luserve.proofs.Outcomes.{are_evaluated}
+use Rattle.luserve.proofs.evaluating.evaluated.Goals as goal
+
+pub fault_stop-requires : goal.fault_stop-requires
+fault_stop-requires c =
+    let flat = c.args.flat.now in
+    let inputs = c.args.inputs.now in
+    let answer : IsAnswer flat inputs (Fault c.in-Err-Fault.variable c.in-Err-Fault.instant c.in-Err-Fault.kind) = subst (IsAnswer flat inputs) c.in-Err-Fault.field-0-is c.in-Err-Fault.ensures.fault in
+    (answer (solution flat inputs) c.in-Err-Fault.ensures.only.exists).inside
+
+pub returns-clause-outputs : goal.returns-clause-outputs
+returns-clause-outputs c =
+    are_evaluated c.args.flat.now c.args.inputs.now c.in-Ok.streams c.in_ok-outputs.outputs c.in-Ok.ensures.solution c.in-Ok.ensures.source c.in-Ok.ensures.no_fault c.in_ok-outputs.ensures

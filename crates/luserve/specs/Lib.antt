@@ -1,0 +1,5 @@
+pub mod Statuses
+pub mod Asked
+pub mod WorldText
+pub mod Refused
+pub mod Evaluated

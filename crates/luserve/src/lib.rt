@@ -1,0 +1,30 @@
+//! Calls of the program: from the words of a command line and the files that they name to what is printed.
+//!
+//! - [`serve_words`]: a call, from its words to its exit status.
+//! - [`sources`]: from the texts of the files to a program, its flat program, a plan, a job, its turns, a table.
+//! - [`evaluating`]: the table of a program's outputs.
+//! - [`sites`]: the new sites of a job; [`text`]: what a replay prints.
+//! - [`Stop`]: why a call stops, and with which status.
+//!
+//! It is a library, so that it is checked without the linking of a program; `lusdist` is its `main`.
+#![tactic(auto)]
+
+#[cfg(test)]
+mod checks;
+pub mod evaluating;
+#[cfg(test)]
+mod evaluations;
+#[cfg(test)]
+mod examples;
+#[cfg(test)]
+mod schedules;
+mod serve;
+pub mod sites;
+pub mod sources;
+mod stop;
+#[cfg(test)]
+mod tests;
+pub mod text;
+
+pub use serve::{replayed, serve_words};
+pub use stop::Stop;

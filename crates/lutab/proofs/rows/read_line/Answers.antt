@@ -1,0 +1,6 @@
+use Rattle.luflow.specs.Tables.{columns_view}
+use Rattle.lutab.proofs.Reached.{spelled}
+use Rattle.lutab.proofs.rows.read_line.Goals as goal
+
+pub returns : goal.returns
+returns c = spelled c.args.kinds.now c.args.bytes.now (columns_view c.args.columns.now) (columns_view c.read_row.new.columns) c.read_row.result c.read_row.ensures

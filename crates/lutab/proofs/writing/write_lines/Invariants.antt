@@ -1,0 +1,8 @@
+use Rattle.std.proofs.Common.{◌≡◌}
+use Rattle.std.specs.String.{string_bytes}
+use Rattle.luflow.specs.Tables.{outputs_view}
+use Rattle.lutab.specs.Outputs.{lines_text}
+use Rattle.lutab.proofs.writing.write_lines.Given as goal
+
+abbrev pub invariant-loop-instant : goal.invariant-loop-instant
+invariant-loop-instant l = string_bytes l.out ≡ lines_text (outputs_view l.outputs) l.instant
