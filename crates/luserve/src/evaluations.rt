@@ -538,20 +538,23 @@ fn fits(alloc: Global, columns: &[(&str, Datum)]) -> Result<bool, Fail> {
     Ok(table.fits(&flat))
 }
 
+const ONE: (&str, Datum) = ("x", Datum::Int(1));
+
+const TRUTH: (&str, Datum) = ("c", Datum::Bool(true));
+
 #[test]
-fn a_table_fits_by_names_and_types(rt: HostRuntime) -> Result<(), Fail> {
-    let (one, truth) = (Datum::Int(1), Datum::Bool(true));
-    for (columns, wanted) in [
-        ([("x", one), ("c", truth)].as_slice(), true),
-        ([("c", truth), ("x", one)].as_slice(), false),
-        ([("x", one)].as_slice(), false),
-        ([("x", one), ("c", truth), ("d", truth)].as_slice(), false),
-        ([("x", one), ("c", one)].as_slice(), false),
-        ([("x", Datum::Nil), ("c", truth)].as_slice(), false),
-        ([].as_slice(), false),
-    ] {
-        assert!(rt; fits(rt.alloc(), columns)? == wanted);
-    }
+fn a_table_fits_by_its_names(rt: HostRuntime) -> Result<(), Fail> {
+    assert!(rt; fits(rt.alloc(), &[ONE, TRUTH])?);
+    assert!(rt; !fits(rt.alloc(), &[TRUTH, ONE])?);
+    assert!(rt; !fits(rt.alloc(), &[ONE])?);
+    assert!(rt; !fits(rt.alloc(), &[ONE, TRUTH, TRUTH])?);
+    Ok(())
+}
+
+#[test]
+fn a_table_fits_by_its_types(rt: HostRuntime) -> Result<(), Fail> {
+    assert!(rt; !fits(rt.alloc(), &[ONE, ("c", Datum::Int(0))])?);
+    assert!(rt; !fits(rt.alloc(), &[("x", Datum::Nil), TRUTH])?);
     Ok(())
 }
 
