@@ -401,7 +401,7 @@ fn cut_line(line: usize) -> &'static str {
 
 /// Whether a cut of the table behind so many bytes is refused as it should be: at the ends of lines it is a table.
 fn is_cut_well(alloc: Global, whole: &[u8], bytes: usize) -> Result<bool, Fail> {
-    let cut = &whole[..bytes];
+    let cut = &whole[..bytes.min(whole.len())];
     match bytes {
         4 => gives(alloc, SAMPLES, cut, "y\n"),
         11 => gives(alloc, SAMPLES, cut, "y\n1\n"),
@@ -428,10 +428,10 @@ fn a_table_cut_at_every_byte(rt: HostRuntime) -> Result<(), Fail> {
     Ok(())
 }
 
-/// Whether the evaluation of a constant at so many instants prints so many lines.
-fn prints_lines(alloc: Global, instants: usize) -> Result<bool, Fail> {
+/// Whether the evaluation of a constant at a table of so many lines prints so many bytes, of which the last ones are its lines.
+fn prints_lines(alloc: Global, lines: usize, bytes: usize) -> Result<bool, Fail> {
     let program = b"node main() returns (a: bool); let a = true; tel";
-    let table = vec![in alloc; b'\n'; instants + 1]?;
+    let table = vec![in alloc; b'\n'; lines]?;
     let words = words(alloc, EVAL)?;
     let mut out = Vec::new(alloc);
     let mut err = Vec::new(alloc);
@@ -442,17 +442,12 @@ fn prints_lines(alloc: Global, instants: usize) -> Result<bool, Fail> {
         &mut out,
         &mut err,
     );
-    Ok(
-        status == 0
-            && out.len() == 2 + 5 * instants
-            && out.ends_with(b"true\ntrue\n")
-            && err.is_empty(),
-    )
+    Ok(status == 0 && out.len() == bytes && out.ends_with(b"true\ntrue\n") && err.is_empty())
 }
 
 #[test]
 fn a_million_instants(rt: HostRuntime) -> Result<(), Fail> {
-    assert!(rt; prints_lines(rt.alloc(), 1_000_000)?);
+    assert!(rt; prints_lines(rt.alloc(), 1_000_001, 5_000_002)?);
     Ok(())
 }
 
