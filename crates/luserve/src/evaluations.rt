@@ -370,10 +370,7 @@ fn tables_that_are_refused(rt: HostRuntime) -> Result<(), Fail> {
         ),
         (
             b"node main(x: int) returns (a: int); let a = x; tel".as_slice(),
-            b"x
-\n1
-\n"
-                .as_slice(),
+            b"x\r\n1\r\n".as_slice(),
             "T01 BadHeader\n",
         ),
         (
