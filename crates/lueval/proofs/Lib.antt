@@ -1,5 +1,11 @@
+pub mod Ageing
 pub mod Answering
+pub mod Keeping
+pub mod Lines
+pub mod Listing
 pub mod Noting
 pub mod Reading
+pub mod Seeing
 pub mod Steps
 pub mod Told
+pub mod Unders

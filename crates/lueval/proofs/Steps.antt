@@ -1,7 +1,7 @@
 -- One step of the evaluator, and what it keeps.
-use Rattle.std.proofs.Common.{◌≡◌, ◌≢◌, ℕ, zero, suc, ◌+◌, ◌<◌, ◌≤◌, inl, inr, Bool, true, false, cond, not, List, [], ◌∷◌, length, take, set, Option, Some, None, subst, refl, sym, ap, ap₂, ◌∙◌, arith, add-one}
+use Rattle.std.proofs.Common.{◌≡◌, ◌≢◌, ℕ, zero, suc, ◌+◌, ◌<◌, inl, inr, Bool, true, false, cond, not, List, [], ◌∷◌, length, take, set, get_or, Option, Some, subst, refl, sym, ap, ap₂, ◌∙◌, arith, add-one}
 use Rattle.std.specs.Prelude.{slice_get, slice_index, All, Contains, unwrap_or, nat_lt}
-use Rattle.std.proofs.lemmas.List.Elements.{All-weaker}
+use Rattle.std.proofs.lemmas.List.Elements.{All-weaker, All-get_or}
 use Rattle.std.proofs.lemmas.List.{length-set}
 use Rattle.std.proofs.lemmas.Bool.{cases_lt}
 use Rattle.std.proofs.lemmas.Option.{slice_get_within, slice_get-get_or, get_or_from_slice_get}
@@ -15,12 +15,10 @@ use Rattle.luflow.specs.declared.form.Form.{Form}
 use Rattle.luflow.specs.declared.form.Form.TheVariants.{Input}
 use Rattle.luflow.specs.declared.form.Flow.{Flow}
 use Rattle.luflow.specs.declared.form.FaultKind.{FaultKind}
-use Rattle.luflow.specs.declared.form.Outcome.{Outcome}
 use Rattle.luflow.specs.declared.form.Outcome.TheVariants.{Gives, Faults, Stuck}
 use Rattle.luflow.specs.Program.{FlatProgram, Table, flow_at, flows_of, column_of, places, clock_reads, form_reads, reads}
 use Rattle.luflow.specs.Operators.{single_of, double_of}
-use Rattle.luflow.specs.Streams.{Mark, Known, Broken, Streams, datum_of, truth_in, clock_at, either, ticked, newer, before}
-use Rattle.luflow.specs.Messages.{presents, once_if}
+use Rattle.luflow.specs.Streams.{Mark, Known, Broken, Streams, datum_of, truth_in, clock_at, ticked, before}
 use Rattle.luflow.specs.Values.{on_one, on_two, value_of, value_at, under}
 use Rattle.luflow.specs.Solution.{says, clock_of_flow, IsSolution}
 use Rattle.luflow.specs.Faults.{IsFaultOn, OnUnary, OnBinary, IsFault}
@@ -29,11 +27,15 @@ use Rattle.luflow.specs.Flats.{IsFlat}
 use Rattle.luflow.proofs.Solutions.{first_of_all, second_of_all, all_left, all_right, place_of, place_in, flow_there, clock-same, solutions_same}
 use Rattle.luflow.proofs.Faults.{fault_value, fault_value_one}
 use Rattle.luflow.proofs.Tidied.{stuck_broken}
-use Rattle.lueval.specs.declared.kernel.Past.{Past}
-use Rattle.lueval.specs.Frames.{ticked_in, later, view_in, clock_in, IsShown, IsPast}
+use Rattle.lueval.specs.declared.cell.Cell.{Cell}
+use Rattle.lueval.specs.declared.cell.Cell.TheVariants as cell
+use Rattle.lueval.specs.Frames.{clock_in, IsShown}
+use Rattle.lueval.specs.Cells.{status_of, statuses, view_of, looks_back, newest, AreLooked}
 use Rattle.lueval.specs.Whole.{IsEarlier}
-use Rattle.lueval.specs.Steps.{AreShown, Stands, IsFresh}
-use Rattle.lueval.proofs.Reading.{clock_read, value_read}
+use Rattle.lueval.specs.Steps.{AreShown, Stands, IsLast}
+use Rattle.lueval.proofs.Reading.{clock_read}
+use Rattle.lueval.proofs.Lines.{looked_inside}
+use Rattle.lueval.proofs.Seeing.{value_seen, cell_shown, last_newest, tick_newest}
 
 pub slice_get-set_other : {X : Type 0} (xs : List X) (i r : ℕ) (x : X) → r ≢ i → slice_get (set xs i x) r ≡ slice_get xs r
 slice_get-set_other [] i r x ne = refl
@@ -64,38 +66,6 @@ clock_there inputs σ shown (On c sign) t h =
 
 known_clock : (k o : Option Bool) (b : Bool) → k ≡ o → k ≡ Some b → k ≡ Some (unwrap_or o false)
 known_clock k o b e h = h ∙ ap (λ (o : Option Bool). Some (unwrap_or o false)) (sym h ∙ e)
-
-ticked_there : (o : Option Past) (past : Past) (k : Option Bool) → o ≡ Some past → k ≡ Some past.ticked → k ≡ ticked_in o
-ticked_there o past k e h = h ∙ sym (ap ticked_in e)
-
-under_absent : (c : Option Bool) (v : Outcome) → under c v ≡ Known Absent → c ≡ Some false
-under_absent None v h = cc
-under_absent (Some false) v h = refl
-under_absent (Some true) (Faults kind) h = cc
-under_absent (Some true) Stuck h = cc
-under_absent (Some true) (Gives d) h = cc
-
-under_present : (c : Option Bool) (v : Outcome) (d : Datum) → under c v ≡ Known (Present d) → c ≡ Some true
-under_present None v d h = cc
-under_present (Some false) v d h = cc
-under_present (Some true) v d h = refl
-
--- what is kept after an instant, from the status and what was kept before
-last_later : (m : Mark) (status : Status) (o : Option Datum) (past : Past) → m ≡ Known status → o ≡ Some past.last → newer m o ≡ Some (later status past).last
-last_later m Absent o past e h = ap₂ newer e h
-last_later m (Present d) o past e h = ap₂ newer e h
-
-count_later : (m : Mark) (status : Status) (n : ℕ) (past : Past) → m ≡ Known status → n ≡ past.count → n + once_if m ≡ (later status past).count
-count_later m Absent n past e h = let f = ap once_if e in omega (arith, f)
-count_later m (Present d) n past e h = let f = ap once_if e in omega (arith, f)
-
-tick_later : (k w : Option Bool) (v : Outcome) (m : Mark) (status : Status) (past : Past) → m ≡ Known status → m ≡ under k v → w ≡ Some past.ticked → either k w ≡ Some (later status past).ticked
-tick_later k w v m Absent past e u h = ap₂ either (under_absent k v (sym u ∙ e)) h
-tick_later k w v m (Present d) past e u h = ap₂ either (under_present k v d (sym u ∙ e)) h
-
-pub count_one_more : (status : Status) (past : Past) (n : ℕ) → past.count ≤ n → (later status past).count ≤ n + 1
-count_one_more Absent past n h = omega arith
-count_one_more (Present d) past n h = omega arith
 
 -- an operator that is a fault has that fault for its value
 fault_on : (inputs : Table) (σ : Streams) (k : Clock) (t : ℕ) (form : Form) (kind : FaultKind) → IsFaultOn σ t form kind → value_at inputs σ k form t ≡ Faults kind
@@ -133,7 +103,7 @@ module _ (flat : FlatProgram) (inputs : Table) (σ : Streams) (is_flat : IsFlat 
         fault = fault_moves σ σ' t f.flow.form kind (all (places f.flow.form) (is_flat.ordered.places_in i f.flow f.there)) f.fault;
       }
 
-  module _ (shown : List Status) (pasts : List Past) (t p : ℕ) (stands : Stands flat inputs σ shown pasts t p) where
+  module _ (shown : List Status) (lasts : List Cell) (t p : ℕ) (stands : Stands flat inputs σ shown lasts t p) where
     read_now : (r : ℕ) → Contains (take p flat.order) r → IsShown σ shown t r
     read_now r c = let w = place_of flat.order p r c in subst (λ (i : ℕ). IsShown σ shown t i) w.3 (stands.now w.0 w.1 w.2)
 
@@ -148,13 +118,12 @@ module _ (flat : FlatProgram) (inputs : Table) (σ : Streams) (is_flat : IsFlat 
         let b = clock_there inputs σ shown flow.clock t all in
         known_clock (clock_at inputs σ flow.clock t) (clock_in shown flow.clock) b.0 (clock_read inputs σ shown flow.clock t lt all) b.1
 
-    pub value_here : (i : ℕ) (flow : Flow) (given : Option Datum) → p < length flat.order → i ≡ slice_index flat.order p → flow_at flat i ≡ Some flow → ((c : ℕ) → flow.form ≡ Input c → given ≡ slice_get (column_of inputs c) t) → value_at inputs σ flow.clock flow.form t ≡ value_of flow.form (view_in given shown pasts i)
+    pub value_here : (i : ℕ) (flow : Flow) (given : Option Datum) → p < length flat.order → i ≡ slice_index flat.order p → flow_at flat i ≡ Some flow → ((c : ℕ) → flow.form ≡ Input c → given ≡ slice_get (column_of inputs c) t) → value_at inputs σ flow.clock flow.form t ≡ value_of flow.form (view_of given shown lasts i)
     value_here i flow given lp e is input =
-        let mine = stands.kept i (slice_get_within flat.flows i flow is) in
-        value_read flat inputs σ flow.clock flow.form i t given shown pasts (record {
+        value_seen flat inputs σ i t flow flow.form given shown lasts (record {
+          there = is;
           reads = all_left (IsShown σ shown t) (form_reads flow.form) (clock_reads flow.clock) (reads_shown i flow lp e is);
-          then = All-weaker (λ r. r < flows_of flat) (IsPast flat inputs σ pasts t) stands.kept (places flow.form) (is_flat.ordered.places_in i flow is);
-          was = ticked_there (slice_get pasts i) mine.past (ticked (clock_at inputs σ flow.clock) t) mine.there (sym (ap (λ o. ticked (clock_of_flow inputs σ o) t) is) ∙ mine.ticks);
+          back = stands.kept i flow is;
           input = input;
         })
 
@@ -169,12 +138,12 @@ module _ (flat : FlatProgram) (inputs : Table) (σ : Streams) (is_flat : IsFlat 
         })
 
     -- the flow of rank p gets its status
-    advance : (i : ℕ) (flow : Flow) (s : Status) → p < length flat.order → i ≡ slice_index flat.order p → flow_at flat i ≡ Some flow → σ i t ≡ Known s → Stands flat inputs σ (set shown i s) pasts t (p + 1)
+    advance : (i : ℕ) (flow : Flow) (s : Status) → p < length flat.order → i ≡ slice_index flat.order p → flow_at flat i ≡ Some flow → σ i t ≡ Known s → Stands flat inputs σ (set shown i s) lasts t (p + 1)
     advance i flow s lp e is known =
         let li : i < length shown = let l = slice_get_within flat.flows i flow is in let n = stands.shown_len in omega arith in
         record {
           shown_len = length-set shown i s ∙ stands.shown_len;
-          pasts_len = stands.pasts_len;
+          lasts_len = stands.lasts_len;
           now = λ q l lq. elim (cases_lt q p) [
             | inl lp' ↦
                 let w = stands.now q lp' lq in
@@ -185,16 +154,15 @@ module _ (flat : FlatProgram) (inputs : Table) (σ : Streams) (is_flat : IsFlat 
                 subst (λ (j : ℕ). IsShown σ (set shown i s) t j) (e ∙ ap (slice_index flat.order) pq) (record { status = s; there = slice_get-set_same shown i s li; is = known })
           ];
           kept = stands.kept;
-          counts = stands.counts;
           sound = stands.sound;
         }
 
-    pub step_absent : (i : ℕ) (flow : Flow) → p < length flat.order → i ≡ slice_index flat.order p → flow_at flat i ≡ Some flow → t < inputs.instants → unwrap_or (clock_in shown flow.clock) false ≡ false → Stands flat inputs σ (set shown i Absent) pasts t (p + 1)
+    pub step_absent : (i : ℕ) (flow : Flow) → p < length flat.order → i ≡ slice_index flat.order p → flow_at flat i ≡ Some flow → t < inputs.instants → unwrap_or (clock_in shown flow.clock) false ≡ false → Stands flat inputs σ (set shown i Absent) lasts t (p + 1)
     step_absent i flow lp e is lt off =
         let k = clock_here i flow lp e is lt ∙ ap (λ b. Some b) off in
         advance i flow Absent lp e is (equation i t flow is ∙ ap (λ q. under q (value_at inputs σ flow.clock flow.form t)) k)
 
-    pub step_gives : (i : ℕ) (flow : Flow) (d : Datum) → p < length flat.order → i ≡ slice_index flat.order p → flow_at flat i ≡ Some flow → clock_at inputs σ flow.clock t ≡ Some true → value_at inputs σ flow.clock flow.form t ≡ Gives d → Stands flat inputs σ (set shown i (Present d)) pasts t (p + 1)
+    pub step_gives : (i : ℕ) (flow : Flow) (d : Datum) → p < length flat.order → i ≡ slice_index flat.order p → flow_at flat i ≡ Some flow → clock_at inputs σ flow.clock t ≡ Some true → value_at inputs σ flow.clock flow.form t ≡ Gives d → Stands flat inputs σ (set shown i (Present d)) lasts t (p + 1)
     step_gives i flow d lp e is on v = advance i flow (Present d) lp e is (equation i t flow is ∙ ap₂ under on v)
 
     -- there is no fault before where the evaluator stands
@@ -207,62 +175,75 @@ module _ (flat : FlatProgram) (inputs : Table) (σ : Streams) (is_flat : IsFlat 
         let b : σ i t ≡ Broken = subst (λ (v : ℕ). σ i v ≡ Broken) h.0 (fault_broken i u kind f) in
         known_sound w.status (σ (slice_index flat.order q) t) w.is (ap (λ (j : ℕ). σ j t) e ∙ b)
 
-  module _ (shown : List Status) (pasts : List Past) (t : ℕ) (stands : Stands flat inputs σ shown pasts t (length flat.order)) where
-    now_at : (i : ℕ) → i < flows_of flat → IsShown σ shown t i
-    now_at i li = let w = place_in flat.order i (is_flat.ordered.all_flows i li) in subst (λ (k : ℕ). IsShown σ shown t k) w.2 (stands.now w.0 w.1 w.1)
+  module _ (shown : List Cell) (lasts : List Cell) (t : ℕ) (stands : Stands flat inputs σ (statuses shown) lasts t (length flat.order)) where
+    now_at : (i : ℕ) → i < flows_of flat → IsShown σ (statuses shown) t i
+    now_at i li = let w = place_in flat.order i (is_flat.ordered.all_flows i li) in subst (λ (k : ℕ). IsShown σ (statuses shown) t k) w.2 (stands.now w.0 w.1 w.1)
 
-    pub all_shown : AreShown σ shown t
+    pub all_shown : AreShown σ (statuses shown) t
     all_shown i l = let n = stands.shown_len in now_at i (omega arith)
 
-    -- the next instant
-    pub turn : (pasts' : List Past) → length pasts' ≡ length pasts → ((i : ℕ) (x : Status) (y : Past) → slice_get shown i ≡ Some x → slice_get pasts i ≡ Some y → slice_get pasts' i ≡ Some (later x y)) → All (λ x. x.count ≤ t + 1) pasts' → Stands flat inputs σ shown pasts' (t + 1) 0
-    turn pasts' len each counts =
-        record {
-          shown_len = stands.shown_len;
-          pasts_len = len ∙ stands.pasts_len;
-          now = λ q l lq. absurd (omega arith);
-          kept = λ i li.
-              let sh = now_at i li in
-              let old = stands.kept i li in
-              subst (λ (u : ℕ). IsPast flat inputs σ pasts' u i) (sym (add-one t)) (record {
-                past = later sh.status old.past;
-                there = each i sh.status old.past sh.there old.there;
-                last = last_later (σ i t) sh.status (before (σ i) t) old.past sh.is old.last;
-                ticks = ticks_next i li sh old;
-                count = count_later (σ i t) sh.status (presents (σ i) t) old.past sh.is old.count;
-              });
-          counts = counts;
-          sound = λ r u lr l. elim (cases_lt u t) [
-            | inl h ↦ stands.sound r u lr h
-            | inr h ↦
-                let e : t ≡ u = omega arith in
-                let n = now_at r lr in
-                subst (λ (v : ℕ). σ r v ≢ Broken) e (known_sound n.status (σ r t) n.is)
-          ];
-        }
-      where
-        ticks_next : (i : ℕ) → i < flows_of flat → (sh : IsShown σ shown t i) (old : IsPast flat inputs σ pasts t i) → ticked (clock_of_flow inputs σ (flow_at flat i)) (suc t) ≡ Some (later sh.status old.past).ticked
-        ticks_next i li sh old =
-            let w = place_in flat.order i (is_flat.ordered.all_flows i li) in
-            let f = flow_there flat is_flat.ordered w.0 w.1 in
-            let is : flow_at flat i ≡ Some f.0 = sym (ap (flow_at flat) w.2) ∙ f.1 in
-            let clock = ap (λ o. clock_of_flow inputs σ o t) is in
-            tick_later (clock_of_flow inputs σ (flow_at flat i) t) (ticked (clock_of_flow inputs σ (flow_at flat i)) t) (value_at inputs σ f.0.clock f.0.form t) (σ i t) sh.status old.past sh.is (equation i t f.0 is ∙ ap (λ c. under c (value_at inputs σ f.0.clock f.0.form t)) (sym clock)) old.ticks
+    -- the last values at the next instant
+    module _ (looked : List ℕ) (are : AreLooked flat looked) (lasts' : List Cell) (each : (j : ℕ) (x y : Cell) → j < length looked → slice_get shown (slice_index looked j) ≡ Some x → slice_get lasts (slice_index looked j) ≡ Some y → slice_get lasts' (slice_index looked j) ≡ Some (newest x y)) where
+      newest_at : (r : ℕ) → Contains looked r → r < flows_of flat → IsLast flat inputs σ lasts t r → IsLast flat inputs σ lasts' (t + 1) r
+      newest_at r among lr old =
+          let w = place_in looked r among in
+          let sh = now_at r lr in
+          let c = cell_shown shown r sh.status sh.there in
+          let known : σ r t ≡ Known (status_of c.0) = sh.is ∙ ap Known (sym c.2) in
+          let fl = flow_there_at r lr in
+          let clock = ap (λ o. clock_of_flow inputs σ o t) fl.1 in
+          subst (λ (u : ℕ). IsLast flat inputs σ lasts' u r) (sym (add-one t)) (record {
+            cell = newest c.0 old.cell;
+            there = subst (λ (k : ℕ). slice_get lasts' k ≡ Some (newest c.0 old.cell)) w.2 (each w.0 c.0 old.cell w.1 (ap (slice_get shown) w.2 ∙ c.1) (ap (slice_get lasts) w.2 ∙ old.there));
+            last = last_newest (σ r t) c.0 old.cell (before (σ r) t) known old.last;
+            ticks = tick_newest (clock_of_flow inputs σ (flow_at flat r) t) (ticked (clock_of_flow inputs σ (flow_at flat r)) t) (value_at inputs σ fl.0.clock fl.0.form t) (σ r t) c.0 old.cell known (equation r t fl.0 fl.1 ∙ ap (λ k. under k (value_at inputs σ fl.0.clock fl.0.form t)) (sym clock)) old.ticks;
+          })
+        where
+          flow_there_at : (i : ℕ) → i < flows_of flat → (flow : Flow) × (flow_at flat i ≡ Some flow)
+          flow_there_at i li =
+              let w = place_in flat.order i (is_flat.ordered.all_flows i li) in
+              let f = flow_there flat is_flat.ordered w.0 w.1 in
+              (f.0, sym (ap (flow_at flat) w.2) ∙ f.1)
 
-  pub begin : (shown : List Status) (pasts : List Past) → length shown ≡ flows_of flat → length pasts ≡ flows_of flat → All IsFresh pasts → Stands flat inputs σ shown pasts 0 0
-  begin shown pasts sl pl fresh =
-      let none : Past = record { last = Nil; ticked = false; count = 0 } in
+      -- the next instant
+      pub turn : length lasts' ≡ length lasts → Stands flat inputs σ (statuses shown) lasts' (t + 1) 0
+      turn len =
+          record {
+            shown_len = stands.shown_len;
+            lasts_len = len ∙ stands.lasts_len;
+            now = λ q l lq. absurd (omega arith);
+            kept = λ i flow is k d lk.
+                let r = get_or (looks_back i flow.form) k d in
+                let among = are.all i flow is k d lk in
+                let w = place_in looked r among in
+                let inside : r < flows_of flat = subst (λ (n : ℕ). n < flows_of flat) w.2 (All-get_or (λ n. n < flows_of flat) looked w.0 0 w.1 are.inside) in
+                newest_at r among inside (stands.kept i flow is k d lk);
+            sound = λ r u lr l. elim (cases_lt u t) [
+              | inl h ↦ stands.sound r u lr h
+              | inr h ↦
+                  let e : t ≡ u = omega arith in
+                  let n = now_at r lr in
+                  subst (λ (v : ℕ). σ r v ≢ Broken) e (known_sound n.status (σ r t) n.is)
+            ];
+          }
+
+  -- before the first instant
+  fresh_at : (lasts : List Cell) → length lasts ≡ flows_of flat → All (λ x. x ≡ cell.Absent) lasts → (r : ℕ) → r < flows_of flat → IsLast flat inputs σ lasts 0 r
+  fresh_at lasts len fresh r lr =
+      record {
+        cell = cell.Absent;
+        there = slice_get-get_or lasts r cell.Absent (omega arith) ∙ ap (λ (x : Cell). Some x) (fresh r cell.Absent (omega arith));
+        last = refl;
+        ticks = refl;
+      }
+
+  pub begin : (shown : List Status) (lasts : List Cell) → length shown ≡ flows_of flat → length lasts ≡ flows_of flat → All (λ x. x ≡ cell.Absent) lasts → Stands flat inputs σ shown lasts 0 0
+  begin shown lasts sl ll fresh =
       record {
         shown_len = sl;
-        pasts_len = pl;
+        lasts_len = ll;
         now = λ q l lq. absurd (omega arith);
-        kept = λ i li. record {
-          past = none;
-          there = slice_get-get_or pasts i none (omega arith) ∙ ap (λ (x : Past). Some x) (fresh i none (omega arith));
-          last = refl;
-          ticks = refl;
-          count = refl;
-        };
-        counts = All-weaker IsFresh (λ x. x.count ≤ 0) (λ x e. let c = ap (λ (y : Past). y.count) e in omega arith) pasts fresh;
+        kept = λ i flow is. All-weaker (λ r. r < flows_of flat) (IsLast flat inputs σ lasts 0) (fresh_at lasts ll fresh) (looks_back i flow.form)
+            (looked_inside i flow.form (flows_of flat) (slice_get_within flat.flows i flow is) (is_flat.ordered.places_in i flow is));
         sound = λ r u lr l. absurd (omega arith);
       }

@@ -1,5 +1,5 @@
 -- The outputs among the streams: taken one after the other, and all of one length.
-use Rattle.std.proofs.Common.{◌≡◌, ℕ, zero, suc, ◌+◌, ◌<◌, ◌≤◌, Bool, true, false, cond, Some, List, [], ◌∷◌, ◌++◌, length, map, drop, get_or, refl, sym, ap, ◌∙◌, subst, arith, append_assoc}
+use Rattle.std.proofs.Common.{◌≡◌, ℕ, zero, suc, ◌+◌, ◌<◌, ◌≤◌, Bool, true, false, cond, Some, List, [], ◌∷◌, ◌++◌, length, map, set, drop, get_or, add-one, refl, sym, ap, ◌∙◌, subst, arith, append_assoc}
 use Rattle.std.specs.Prelude.{All, slice_get}
 use Rattle.std.proofs.lemmas.List.{drop_more, drop_all}
 use Rattle.std.proofs.lemmas.List.Elements.{All-nil, All-cons, All-head, All-tail, All-append}
@@ -22,6 +22,15 @@ step xs cs v x c lx lc ex ec =
 
 pub done : (xs : List Variable) (cs : List Column) (v : ℕ) → length xs ≤ v → From xs cs v ≡ []
 done xs cs v le = ap (λ (a : List Variable). outputs_in a (lists_of (drop v cs))) (drop_all v xs le)
+
+past_suc : (cs : List Column) (v : ℕ) (c : Column) → drop (suc v) (set cs v c) ≡ drop (suc v) cs
+past_suc [] v c = refl
+past_suc (x ∷ cs) zero c = refl
+past_suc (x ∷ cs) (suc v) c = past_suc cs v c
+
+-- those behind a column that changes
+pub from_past : (xs : List Variable) (cs : List Column) (v : ℕ) (c : Column) → From xs (set cs v c) (v + 1) ≡ From xs cs (v + 1)
+from_past xs cs v c = ap (λ (ds : List Column). outputs_in (drop (v + 1) xs) (lists_of ds)) (subst (λ (n : ℕ). drop n (set cs v c) ≡ drop n cs) (sym (add-one v)) (past_suc cs v c))
 
 -- one more
 pub more : (old new one rest whole : List OutputColumn) → new ≡ old ++ one → old ++ (one ++ rest) ≡ whole → new ++ rest ≡ whole

@@ -1,21 +1,28 @@
 -- Where the whole evaluator stands.
-use Rattle.std.specs.Prelude.{◌≡◌, ◌≢◌, ℕ, ◌<◌, ◌≤◌, false, List, [], ◌∷◌, ◌++◌, map, length, All, Option, Some, slice_get, slice_index, slice_set, vec_capacity, Vec}
+use Rattle.std.specs.Prelude.{◌≡◌, ◌≢◌, ℕ, ◌<◌, ◌≤◌, Bool, true, false, List, [], ◌∷◌, ◌++◌, map, length, All as Each, Contains, Option, Some, slice_get, slice_index, slice_set, vec_capacity, Vec}
 use Rattle.std.specs.declared.alloc.Global.{Global}
 use Rattle.luflow.specs.declared.data.Datum.{Datum}
-use Rattle.luflow.specs.declared.data.Datum.TheVariants.{Nil}
 use Rattle.luflow.specs.declared.data.Status.{Status}
-use Rattle.luflow.specs.declared.form.Form.{Form}
-use Rattle.luflow.specs.declared.form.Form.TheVariants.{Input}
+use Rattle.luflow.specs.declared.form.Form.TheVariants.{Input as InputForm}
 use Rattle.luflow.specs.declared.form.Flow.{Flow}
-use Rattle.luflow.specs.declared.form.Outcome.{Outcome}
+use Rattle.luflow.specs.declared.variable.Variable.{Variable}
+use Rattle.luflow.specs.declared.variable.Role.{Role}
+use Rattle.luflow.specs.declared.variable.Role.TheVariants.{Input, Output, Local}
 use Rattle.luflow.specs.Program.{FlatProgram, Table, flow_at, flows_of, column_of}
-use Rattle.luflow.specs.Streams.{Known, Broken, Streams}
+use Rattle.luflow.specs.Streams.{Known, Broken, Streams, ticked, before}
 use Rattle.luflow.specs.Messages.{marks}
 use Rattle.luflow.specs.Values.{value_of}
-use Rattle.luflow.specs.Solution.{solution}
-use Rattle.lueval.specs.declared.kernel.Past.{Past}
-use Rattle.lueval.specs.declared.evaluator.Machine.{Machine}
-use Rattle.lueval.specs.Frames.{view_in, IsShown, IsPast}
+use Rattle.luflow.specs.Solution.{solution, clock_of_flow}
+use Rattle.lueval.specs.declared.cell.Cell.{Cell}
+use Rattle.lueval.specs.declared.cell.Cell.TheVariants.{Absent}
+use Rattle.lueval.specs.declared.cell.Answer.{Answer}
+use Rattle.lueval.specs.declared.line.Line.{Line}
+use Rattle.lueval.specs.declared.columns.Wanted.{Wanted}
+use Rattle.lueval.specs.declared.columns.Wanted.TheVariants.{All, Outputs}
+use Rattle.lueval.specs.declared.columns.Notes.{Notes}
+use Rattle.lueval.specs.declared.machine.Machine.{Machine}
+use Rattle.lueval.specs.Frames.{IsShown}
+use Rattle.lueval.specs.Cells.{statuses, outcome_of, last_of, ticks_of, view_of, form_of, looks_back}
 
 -- the column of one main variable
 abbrev pub Column : Type 0
@@ -27,23 +34,45 @@ items_of column = column.items
 abbrev pub lists_of : List Column → List (List Status)
 lists_of columns = map items_of columns
 
+-- whether the stream of a variable of this role is kept
+abbrev pub is_wanted : Wanted → Role → Bool
+is_wanted All Input = true
+is_wanted All Output = true
+is_wanted All Local = true
+is_wanted Outputs Input = false
+is_wanted Outputs Output = true
+is_wanted Outputs Local = false
+
+-- numbers of variables below this, each once
+pub record AreKept (count : ℕ) (kept : List ℕ) : Type 0 where
+  pub inside : Each (λ v. v < count) kept
+  pub once : (j k : ℕ) → j < length kept → k < length kept → slice_index kept j ≡ slice_index kept k → j ≡ k
+
+-- the number of each variable whose stream is wanted is among them
+abbrev pub AreAllKept : Wanted → List Variable → List ℕ → Type 0
+AreAllKept wanted variables kept = (v : ℕ) (x : Variable) → slice_get variables v ≡ Some x → is_wanted wanted x.role ≡ true → Contains kept v
+
 -- a column of no status, with room for all
 pub record IsEmpty (instants : ℕ) (column : Column) : Type 0 where
   pub empty : column.items ≡ []
   pub room : instants ≤ vec_capacity column
 
-pub record AreEmpty (count instants : ℕ) (columns : List Column) : Type 0 where
+pub record AreEmpty (count : ℕ) (kept : List ℕ) (instants : ℕ) (columns : List Column) : Type 0 where
   pub len : length columns ≡ count
-  pub each : All (IsEmpty instants) columns
+  pub each : (k : ℕ) (column : Column) → k < length kept → slice_get columns (slice_index kept k) ≡ Some column → IsEmpty instants column
+
+pub record AreNew (variables : List Variable) (instants : ℕ) (notes : Notes) : Type 0 where
+  pub kept : AreKept (length variables) notes.kept.items
+  pub columns : AreEmpty (length variables) notes.kept.items instants notes.columns.items
 
 -- the first t statuses of main variable v, with room for all
 pub record IsColumn (inputs : Table) (σ : Streams) (t v : ℕ) (column : Column) : Type 0 where
   pub known : map Known column.items ≡ marks (σ v) t
   pub room : inputs.instants ≤ vec_capacity column
 
-pub record AreColumns (flat : FlatProgram) (inputs : Table) (σ : Streams) (columns : List Column) (t : ℕ) : Type 0 where
-  pub len : length columns ≡ length flat.variables
-  pub each : (v : ℕ) (column : Column) → slice_get columns v ≡ Some column → IsColumn inputs σ t v column
+-- the columns of those that are kept
+abbrev pub AreColumns : Table → Streams → List ℕ → List Column → ℕ → Type 0
+AreColumns inputs σ kept columns t = (k : ℕ) (column : Column) → k < length kept → slice_get columns (slice_index kept k) ≡ Some column → IsColumn inputs σ t (slice_index kept k) column
 
 -- column v, that was x, has one status more
 pub record IsLonger (columns : List Column) (v : ℕ) (x : Column) (status : Status) (columns' : List Column) : Type 0 where
@@ -57,34 +86,43 @@ pub record IsRanked (flat : FlatProgram) (p i : ℕ) (flow : Flow) : Type 0 wher
   pub place : i ≡ slice_index flat.order p
   pub there : flow_at flat i ≡ Some flow
 
--- the value of flow i, from what the machine holds and, for an input, from the table
-pub record Computes (inputs : Table) (machine : Machine) (t i : ℕ) (form : Form) (outcome : Outcome) : Type 0 where
+-- the value of a line, from what the machine holds and, for an input, from the table
+pub record Computes (inputs : Table) (machine : Machine) (t : ℕ) (line : Line) (answer : Answer) : Type 0 where
   pub given : Option Datum
-  pub is_given : (c : ℕ) → form ≡ Input c → given ≡ slice_get (column_of inputs c) t
-  pub is : outcome ≡ value_of form (view_in given machine.shown.items machine.pasts.items i)
+  pub is_given : (c : ℕ) → form_of line.operation ≡ InputForm c → given ≡ slice_get (column_of inputs c) t
+  pub is : outcome_of answer ≡ value_of (form_of line.operation) (view_of given (statuses machine.shown.items) machine.lasts.items line.place)
 
 -- every flow is shown as it is at t
 abbrev pub AreShown : Streams → List Status → ℕ → Type 0
 AreShown σ shown t = (i : ℕ) → i < length shown → IsShown σ shown t i
 
+-- what is kept of flow r is its past at t
+pub record IsLast (flat : FlatProgram) (inputs : Table) (σ : Streams) (lasts : List Cell) (t r : ℕ) : Type 0 where
+  pub cell : Cell
+  pub there : slice_get lasts r ≡ Some cell
+  pub last : before (σ r) t ≡ Some (last_of cell)
+  pub ticks : ticked (clock_of_flow inputs σ (flow_at flat r)) t ≡ Some (ticks_of cell)
+
 -- all before instant t is computed, and at t the flows of rank below p
-pub record Stands (flat : FlatProgram) (inputs : Table) (σ : Streams) (shown : List Status) (pasts : List Past) (t p : ℕ) : Type 0 where
+pub record Stands (flat : FlatProgram) (inputs : Table) (σ : Streams) (shown : List Status) (lasts : List Cell) (t p : ℕ) : Type 0 where
   pub shown_len : length shown ≡ flows_of flat
-  pub pasts_len : length pasts ≡ flows_of flat
+  pub lasts_len : length lasts ≡ flows_of flat
   pub now : (q : ℕ) → q < p → q < length flat.order → IsShown σ shown t (slice_index flat.order q)
-  pub kept : (i : ℕ) → i < flows_of flat → IsPast flat inputs σ pasts t i
-  pub counts : All (λ x. x.count ≤ t) pasts
+  pub kept : (i : ℕ) (flow : Flow) → flow_at flat i ≡ Some flow → Each (IsLast flat inputs σ lasts t) (looks_back i flow.form)
   pub sound : (r u : ℕ) → r < flows_of flat → u < t → σ r u ≢ Broken
 
 abbrev pub StandsAt : FlatProgram → Table → Machine → ℕ → ℕ → Type 0
-StandsAt flat inputs machine t p = Stands flat inputs (solution flat inputs) machine.shown.items machine.pasts.items t p
+StandsAt flat inputs machine t p = Stands flat inputs (solution flat inputs) (statuses machine.shown.items) machine.lasts.items t p
 
--- a flow that was never present
-abbrev pub IsFresh : Past → Type 0
-IsFresh past = past ≡ record { last = Nil; ticked = false; count = 0 }
+-- before the first instant no flow was present
+pub record IsNew (flows : ℕ) (machine : Machine) : Type 0 where
+  pub shown_len : length machine.shown.items ≡ flows
+  pub lasts_len : length machine.lasts.items ≡ flows
+  pub fresh : Each (λ x. x ≡ Absent) machine.lasts.items
 
-pub record IsNew (flat : FlatProgram) (inputs : Table) (machine : Machine) : Type 0 where
-  pub shown_len : length machine.shown.items ≡ flows_of flat
-  pub pasts_len : length machine.pasts.items ≡ flows_of flat
-  pub fresh : All IsFresh machine.pasts.items
-  pub columns : AreEmpty (length flat.variables) inputs.instants machine.columns.items
+-- the whole streams of the variables that are wanted, in a solution that nothing breaks
+pub record AreWhole (wanted : Wanted) (flat : FlatProgram) (inputs : Table) (notes : Notes) : Type 0 where
+  pub all : AreAllKept wanted flat.variables notes.kept.items
+  pub len : length notes.columns.items ≡ length flat.variables
+  pub columns : AreColumns inputs (solution flat inputs) notes.kept.items notes.columns.items inputs.instants
+  pub sound : (r u : ℕ) → r < flows_of flat → u < inputs.instants → solution flat inputs r u ≢ Broken

@@ -6,6 +6,7 @@ use Rattle.luflow.specs.declared.form.Flow.{Flow}
 use Rattle.luflow.specs.declared.form.FaultKind.{FaultKind}
 use Rattle.luflow.specs.declared.variable.Variable.{Variable}
 use Rattle.luflow.specs.Program.{FlatProgram, Table, flow_at}
+use Rattle.luflow.specs.Tables.{OutputColumn}
 use Rattle.luflow.specs.Streams.{Known, Streams}
 use Rattle.luflow.specs.Messages.{marks}
 use Rattle.luflow.specs.Solution.{IsSolution}
@@ -13,6 +14,7 @@ use Rattle.luflow.specs.Faults.{IsFault}
 use Rattle.luflow.specs.FlatLaws.{KeepsTypes}
 use Rattle.lusource.specs.Source.{SourceStreams, IsSourceSolution}
 use Rattle.lusource.specs.Agreement.{Agrees}
+use Rattle.lueval.specs.Outputs.{outputs_in}
 use Rattle.lueval.specs.declared.error.EvalError.{EvalError}
 use Rattle.lueval.specs.declared.error.EvalError.TheVariants.{Fault, OutOfMemory}
 
@@ -26,6 +28,13 @@ abbrev pub AreMeant : FlatProgram → Table → List (List Status) → Type 0
 AreMeant flat inputs streams =
     (program : ProgramTree) (main : List ℕ) → Agrees program main inputs flat → (σ : SourceStreams) → IsSourceSolution program main inputs σ
     → (v : ℕ) (x : Variable) (statuses : List Status) → slice_get flat.variables v ≡ Some x → slice_get streams v ≡ Some statuses → map Known statuses ≡ marks (σ [] x.name) inputs.instants
+
+-- the outputs among the streams of all main variables
+pub record AreWholeOutputs (flat : FlatProgram) (inputs : Table) (outputs : List OutputColumn) : Type 0 where
+  pub streams : List (List Status)
+  pub solution : AreStreams flat inputs streams
+  pub source : AreMeant flat inputs streams
+  pub are : outputs ≡ outputs_in flat.variables streams
 
 -- no operator is a fault at an instant of the table
 abbrev pub HasNoFault : FlatProgram → Table → Type 0

@@ -8,6 +8,7 @@ ghost use Rattle.lueval.specs.Outputs.{output_in, outputs_in};
 
 use luflow::{Role, Status, Variable};
 use std::alloc::{AllocError, Global};
+use std::mem;
 
 fn is_output(role: Role) -> bool
     ensures { result ≡ is_output role }
@@ -60,6 +61,41 @@ pub fn output_columns(
     let mut outputs = Vec::new(alloc);
     for v in 0..variables.len() {
         push_output(alloc, &mut outputs, &variables[v], &columns[v])?;
+    }
+    Ok(outputs)
+}
+
+/// Takes the stream of a variable where the variable is an output.
+fn take_output(
+    alloc: Global,
+    outputs: &mut Vec<(String, Vec<Status>)>,
+    x: &Variable,
+    column: &mut Vec<Status>,
+) -> Result<(), AllocError>
+    ensures { OnOk result (outputs_view outputs.new.items ≡ outputs_view outputs.old.items ++ output_in x.now column.old.items) }
+{
+    if is_output(x.role) {
+        let name = String::from_str(alloc, x.name.as_str())?;
+        let statuses = mem::replace(column, Vec::new(alloc));
+        outputs.push((name, statuses))?;
+        return Ok(());
+    }
+    Ok(())
+}
+
+/// The outputs by name, in order of declaration, each with its stream, of which none is copied.
+pub fn taken_outputs(
+    alloc: Global,
+    variables: &[Variable],
+    columns: Vec<Vec<Status>>,
+) -> Result<Vec<(String, Vec<Status>)>, AllocError>
+    requires { length variables.now ≡ length columns.items }
+    ensures { IfOk result (λ x. outputs_view x.items ≡ outputs_in variables.now (lists_of columns.items)) }
+{
+    let mut left = columns;
+    let mut outputs = Vec::new(alloc);
+    for v in 0..variables.len() {
+        take_output(alloc, &mut outputs, &variables[v], &mut left[v])?;
     }
     Ok(outputs)
 }

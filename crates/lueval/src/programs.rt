@@ -6,7 +6,7 @@ ghost use Rattle.luflow.specs.Vectors.{int_flow, truth_flow, division, one_zero,
 
 use super::*;
 use luflow::laws::solution_vectors_law;
-use luflow::{Clock, FaultKind, Flat, Flow, Form, Role, Variable};
+use luflow::{Clock, FaultKind, Flat, Flow, Form, Outputs, Role, Variable};
 use lulist::{Name, Row};
 use lutree::{BinaryOperator, Kind, UnaryOperator};
 use std::alloc::{AllocError, Global};
@@ -215,6 +215,20 @@ fn run_held_sample(alloc: Global) -> Result<Result<Streams, EvalError>, Fail>
     Ok(whole(alloc, &flat, &inputs))
 }
 
+fn run_held_sample_outputs(alloc: Global) -> Result<Result<Outputs, EvalError>, Fail> {
+    let flat = held_sample(alloc)?;
+    let inputs = three_samples(alloc)?;
+    solution_vectors_law();
+    Ok(whole_outputs(alloc, &flat, &inputs))
+}
+
+fn run_division_outputs(alloc: Global) -> Result<Result<Outputs, EvalError>, Fail> {
+    let flat = division(alloc)?;
+    let inputs = one_zero(alloc)?;
+    solution_vectors_law();
+    Ok(whole_outputs(alloc, &flat, &inputs))
+}
+
 fn present(n: i64) -> Status {
     Status::Present(Datum::Int(n))
 }
@@ -241,6 +255,39 @@ fn are_samples(streams: &Streams) -> bool
         && is(streams.of(2), &[present(1), present(0), present(3)])
         && is(streams.of(3), &[yes, no, yes])
         && is(streams.of(4), &[present(1), Status::Absent, present(3)])
+}
+
+fn is_column(columns: &[(String, Vec<Status>)], k: usize, name: &str, want: &[Status]) -> bool {
+    match columns.get(k) {
+        Some(column) => column.0.as_str() == name && is(&column.1, want),
+        None => false,
+    }
+}
+
+fn are_sampled_outputs(outputs: &Outputs) -> bool {
+    let columns = outputs.columns();
+    columns.len() == 2
+        && is_column(columns, 0, "y", &[present(1), present(1), present(3)])
+        && is_column(columns, 1, "z", &[present(1), present(0), present(3)])
+}
+
+#[test]
+fn a_sampled_program_has_its_outputs(rt: HostRuntime) -> Result<(), Fail> {
+    let outputs = run_held_sample_outputs(rt.alloc())??;
+    assert!(rt; are_sampled_outputs(&outputs));
+    Ok(())
+}
+
+#[test]
+fn a_fault_is_told_in_place_of_outputs(rt: HostRuntime) -> Result<(), Fail> {
+    let fault = EvalError::Fault {
+        variable: 2,
+        instant: 1,
+        kind: FaultKind::DivZero,
+    };
+    let answer = run_division_outputs(rt.alloc())?;
+    assert!(rt; answer.err() == Some(fault));
+    Ok(())
 }
 
 #[test]

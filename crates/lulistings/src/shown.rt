@@ -2,30 +2,60 @@
 
 use lucore::{CoreError, flatten};
 use luflow::{Clock, Datum, Flat, Flow, Form};
-use lulist::Name;
-use lustat::check;
+use lustat::{Checked, check};
 use lusyn::read_program;
+use lutree::Program;
 use std::alloc::{AllocError, Global};
 use std::fmt::Write;
 use std::process::Abort;
 use std::test::Fail;
 
+/// A constant's value.
+fn put_datum(out: &mut String, datum: Datum) -> Result<(), AllocError> {
+    match datum {
+        Datum::Int(n) => write!(out, "{n}"),
+        Datum::Bool(b) => write!(out, "{b}"),
+        Datum::Nil => out.push_str("nil"),
+    }
+}
+
+/// A place, and what stands around it.
+fn put_place(out: &mut String, before: &str, place: usize, behind: &str) -> Result<(), AllocError> {
+    write!(out, "{before}@{place}{behind}")
+}
+
+/// Two places, and what stands before each.
+fn put_places(
+    out: &mut String,
+    before: &str,
+    first: usize,
+    between: &str,
+    second: usize,
+) -> Result<(), AllocError> {
+    put_place(out, before, first, between)?;
+    put_place(out, "", second, "")
+}
+
 /// A form, its operands as `@place`.
 fn put_form(out: &mut String, form: Form) -> Result<(), AllocError> {
     match form {
         Form::Input(r) => write!(out, "input {r}"),
-        Form::Constant(Datum::Int(n)) => write!(out, "{n}"),
-        Form::Constant(Datum::Bool(b)) => write!(out, "{b}"),
-        Form::Constant(Datum::Nil) => out.push_str("nil"),
-        Form::Copied(a) => write!(out, "@{a}"),
+        Form::Constant(datum) => put_datum(out, datum),
+        Form::Copied(a) => put_place(out, "", a, ""),
         Form::Unary(op, a) => write!(out, "{op:?} @{a}"),
         Form::Binary(op, a, b) => write!(out, "@{a} {op:?} @{b}"),
-        Form::If(c, a, b) => write!(out, "if @{c} then @{a} else @{b}"),
-        Form::Pre(a) => write!(out, "pre @{a}"),
-        Form::Arrow(a, b) => write!(out, "@{a} -> @{b}"),
-        Form::When(a) => write!(out, "@{a} when"),
-        Form::Current(a) => write!(out, "current @{a}"),
-        Form::Merge(c, a, b) => write!(out, "merge @{c} @{a} @{b}"),
+        Form::Pre(a) => put_place(out, "pre ", a, ""),
+        Form::Arrow(a, b) => put_places(out, "", a, " -> ", b),
+        Form::When(a) => put_place(out, "", a, " when"),
+        Form::Current(a) => put_place(out, "current ", a, ""),
+        Form::If(c, a, b) => {
+            put_place(out, "if ", c, " then ")?;
+            put_places(out, "", a, " else ", b)
+        }
+        Form::Merge(c, a, b) => {
+            put_place(out, "merge ", c, " ")?;
+            put_places(out, "", a, " ", b)
+        }
     }
 }
 
@@ -63,82 +93,92 @@ fn numbers_shown(alloc: Global, numbers: &[usize]) -> Result<String, AllocError>
     Ok(out)
 }
 
-/// What a program's flat program is to be.
-#[derive(Clone, Copy)]
-pub(crate) struct Listing<'a> {
-    /// The program; its main node is `main`.
-    pub text: &'a str,
-    /// Its flows, a line each.
-    pub flows: &'a str,
-    /// Their places in order of rank, each with a space behind it.
-    pub rank: &'a str,
-    /// For each flow the number of the main variable in whose equation it stands, likewise.
-    pub owners: &'a str,
+/// What is to be told of a program whose main node is `main`.
+#[derive(Clone, Copy, Drop)]
+pub(crate) enum Told {
+    /// Its flat program.
+    Listing {
+        /// Its flows, a line each.
+        flows: &'static str,
+        /// Their places in order of rank, each with a space behind it.
+        rank: &'static str,
+        /// For each flow the number of the main variable in whose equation it stands, likewise.
+        owners: &'static str,
+    },
+    /// The variable of a cycle.
+    Cycle(&'static str),
+    /// That it is too large.
+    TooLarge,
+    /// How many flows its flat program has.
+    Count(usize),
 }
 
-/// The flat program of a text and its main node, or why there is none.
-fn flat_from(alloc: Global, text: &str, main: &str) -> Result<Result<Flat, CoreError>, Fail> {
-    let program = read_program(alloc, text)?;
-    match check(alloc, &program, main) {
-        Ok(checked) => Ok(flatten(alloc, &checked)),
-        Err(_) => Err(Fail::new("a rule is broken")),
-    }
+/// Whether the flows are shown so.
+fn flows_are(alloc: Global, flat: &Flat, text: &str) -> Result<bool, AllocError> {
+    Ok(flows_shown(alloc, flat)?.as_str() == text)
 }
 
-/// The flat program of a text and its main node, which have one.
-fn flat_in(alloc: Global, text: &str, main: &str) -> Result<Flat, Fail> {
-    match flat_from(alloc, text, main)? {
-        Ok(flat) => Ok(flat),
-        Err(_) => Err(Fail::new("there is no flat program")),
-    }
+/// Whether the numbers are shown so.
+fn numbers_are(alloc: Global, numbers: &[usize], text: &str) -> Result<bool, AllocError> {
+    Ok(numbers_shown(alloc, numbers)?.as_str() == text)
 }
 
-/// Each listing is that of its text.
-pub(crate) fn are_listed(rt: &impl Abort, alloc: Global, listings: &[Listing]) -> Result<(), Fail> {
-    for listing in listings {
-        let flat = flat_in(alloc, listing.text, "main")?;
-        assert_eq!(rt; flows_shown(alloc, &flat)?.as_str(), listing.flows);
-        assert_eq!(rt; numbers_shown(alloc, flat.rank())?.as_str(), listing.rank);
-        assert_eq!(rt;
-            numbers_shown(alloc, flat.owners())?.as_str(),
-            listing.owners
-        );
-    }
-    Ok(())
-}
-
-/// The variable of the cycle that is told of a text; none where none is told.
-fn cycle_in(alloc: Global, text: &str) -> Result<Option<Name>, Fail> {
-    match flat_from(alloc, text, "main")? {
-        Err(CoreError::Cycle { variable }) => Ok(Some(variable)),
-        _ => Ok(None),
-    }
-}
-
-/// Of each text the cycle of this variable is told.
-pub(crate) fn are_cyclic(
-    rt: &impl Abort,
-    alloc: Global,
-    texts: &[(&str, &str)],
-) -> Result<(), Fail> {
-    for (text, variable) in texts {
-        match cycle_in(alloc, *text)? {
-            Some(name) => assert_eq!(rt; name.as_str(), *variable, "{text}"),
-            None => return Err(Fail::new("no cycle is told")),
+/// Whether a flat program is what is to be told.
+fn is_flat(alloc: Global, flat: &Flat, told: Told) -> Result<bool, AllocError> {
+    match told {
+        Told::Listing {
+            flows,
+            rank,
+            owners,
+        } => {
+            let flows = flows_are(alloc, flat, flows)?;
+            let rank = numbers_are(alloc, flat.rank(), rank)?;
+            let owners = numbers_are(alloc, flat.owners(), owners)?;
+            Ok(flows && rank && owners)
         }
-    }
-    Ok(())
-}
-
-/// Whether a text is told to be too large.
-pub(crate) fn is_too_large(alloc: Global, text: &str) -> Result<bool, Fail> {
-    match flat_from(alloc, text, "main")? {
-        Err(CoreError::TooLarge) => Ok(true),
+        Told::Count(count) => Ok(flat.flows().len() == count),
         _ => Ok(false),
     }
 }
 
-/// How many flows the flat program of a text and its main node has.
-pub(crate) fn count_from(alloc: Global, text: &str, main: &str) -> Result<usize, Fail> {
-    Ok(flat_in(alloc, text, main)?.flows().len())
+/// Whether the refusal is what is to be told.
+fn is_refusal(refusal: &CoreError, told: Told) -> bool {
+    match (refusal, told) {
+        (CoreError::Cycle { variable }, Told::Cycle(name)) => variable.as_str() == name,
+        (CoreError::TooLarge, Told::TooLarge) => true,
+        _ => false,
+    }
+}
+
+/// Whether a flat program, or why there is none, is what is to be told.
+fn is_told(alloc: Global, flat: &Result<Flat, CoreError>, told: Told) -> Result<bool, AllocError> {
+    match flat {
+        Ok(flat) => is_flat(alloc, flat, told),
+        Err(refusal) => Ok(is_refusal(refusal, told)),
+    }
+}
+
+/// Whether this is told of a program that keeps all rules.
+fn tells_checked(alloc: Global, checked: &Checked, told: Told) -> Result<bool, AllocError> {
+    is_told(alloc, &flatten(alloc, checked), told)
+}
+
+/// Whether this is told of a program and its main node.
+fn tells_program(alloc: Global, program: &Program, main: &str, told: Told) -> Result<bool, Fail> {
+    let checked = check(alloc, program, main)?;
+    Ok(tells_checked(alloc, &checked, told)?)
+}
+
+/// Whether this is told of a text and its main node.
+pub(crate) fn tells(alloc: Global, text: &str, main: &str, told: Told) -> Result<bool, Fail> {
+    let program = read_program(alloc, text)?;
+    tells_program(alloc, &program, main, told)
+}
+
+/// Of each text and its main node `main` this is told.
+pub(crate) fn are_told(rt: &impl Abort, alloc: Global, texts: &[(&str, Told)]) -> Result<(), Fail> {
+    for (text, told) in texts {
+        assert!(rt; tells(alloc, *text, "main", *told)?, "{text}");
+    }
+    Ok(())
 }

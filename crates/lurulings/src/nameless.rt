@@ -50,14 +50,6 @@ fn main_node(alloc: Global, right: Expr) -> Result<Node, AllocError> {
     })
 }
 
-/// The program of this one node.
-fn program(alloc: Global, right: Expr) -> Result<Program, AllocError> {
-    let node = main_node(alloc, right)?;
-    Ok(Program {
-        nodes: Row::new(vec![in alloc; node]?),
-    })
-}
-
 /// `x`
 fn input(alloc: Global) -> Result<Expr, AllocError> {
     Ok(Expr::Variable(Name::from_text(alloc, "x")?))
@@ -79,64 +71,91 @@ fn mixed(alloc: Global) -> Result<Expr, AllocError> {
     Ok(Expr::Binary(op, a, Box::new(alloc, sampled(alloc)?)?))
 }
 
-/// `pre e`
-fn before(alloc: Global, e: Expr) -> Result<Expr, AllocError> {
-    Ok(Expr::Unary(Prefix::Pre, Box::new(alloc, e)?))
+/// `pre x`
+fn before(alloc: Global) -> Result<Expr, AllocError> {
+    Ok(Expr::Unary(Prefix::Pre, Box::new(alloc, input(alloc)?)?))
 }
 
-#[test]
-fn a_value_for_no_variable_is_told(rt: HostRuntime) -> Result<(), Fail> {
-    let alloc = rt.alloc();
-    let found = told(alloc, Stage::Names, &program(alloc, input(alloc)?)?)?;
-    assert_eq!(rt; found, Some(StatError::WrongArity { byte: 7 }));
-    Ok(())
+/// `pre pre x`
+fn before_twice(alloc: Global) -> Result<Expr, AllocError> {
+    Ok(Expr::Unary(Prefix::Pre, Box::new(alloc, before(alloc)?)?))
 }
 
-#[test]
-fn no_value_for_no_variable_is_told(rt: HostRuntime) -> Result<(), Fail> {
-    let alloc = rt.alloc();
-    let right = Expr::Call(Name::from_text(alloc, "nothing")?, Vec::new(alloc));
+/// `nothing()`
+fn call(alloc: Global) -> Result<Expr, AllocError> {
+    Ok(Expr::Call(Name::from_text(alloc, "nothing")?, Vec::new(alloc)))
+}
+
+/// The right side of the equation.
+#[derive(Clone, Copy)]
+enum Right {
+    Input,
+    Sampled,
+    Mixed,
+    Before,
+    BeforeTwice,
+    Call,
+}
+
+fn expression(alloc: Global, right: Right) -> Result<Expr, AllocError> {
+    match right {
+        Right::Input => input(alloc),
+        Right::Sampled => sampled(alloc),
+        Right::Mixed => mixed(alloc),
+        Right::Before => before(alloc),
+        Right::BeforeTwice => before_twice(alloc),
+        Right::Call => call(alloc),
+    }
+}
+
+/// The main node, and behind it the one that it calls.
+fn program(alloc: Global, right: Right) -> Result<Program, AllocError> {
     let mut nodes = Vec::new(alloc);
-    nodes.push(main_node(alloc, right)?)?;
-    nodes.push(empty_node(alloc)?)?;
-    let program = Program {
+    nodes.push(main_node(alloc, expression(alloc, right)?)?)?;
+    if matches!(right, Right::Call) {
+        nodes.push(empty_node(alloc)?)?;
+    }
+    Ok(Program {
         nodes: Row::new(nodes),
-    };
-    let found = told(alloc, Stage::Names, &program)?;
-    assert_eq!(rt; found, Some(StatError::WrongArity { byte: 7 }));
-    Ok(())
+    })
 }
 
-#[test]
-fn a_right_side_of_any_clock_is_kept(rt: HostRuntime) -> Result<(), Fail> {
-    let alloc = rt.alloc();
-    let found = told(alloc, Stage::Clocks, &program(alloc, sampled(alloc)?)?)?;
-    assert_eq!(rt; found, None);
-    Ok(())
+/// Whether a stage tells this fault of the program.
+fn is_told(
+    alloc: Global,
+    stage: Stage,
+    right: Right,
+    fault: Option<StatError>,
+) -> Result<bool, Fail> {
+    let program = program(alloc, right)?;
+    Ok(told(alloc, stage, &program)? == fault)
 }
 
-#[test]
-fn a_right_side_of_no_clock_is_told(rt: HostRuntime) -> Result<(), Fail> {
-    let alloc = rt.alloc();
-    let found = told(alloc, Stage::Clocks, &program(alloc, mixed(alloc)?)?)?;
-    assert_eq!(rt; found, Some(StatError::ClockMismatch { byte: 7 }));
-    Ok(())
-}
+const WRONG_ARITY: Option<StatError> = Some(StatError::WrongArity { byte: 7 });
+
+const MISMATCH: Option<StatError> = Some(StatError::ClockMismatch { byte: 7 });
+
+const MAYBE_NIL: Option<StatError> = Some(StatError::MaybeNil { byte: 7 });
+
+const CASES: &[(Stage, Right, Option<StatError>)] = &[
+    // A value for no variable is told.
+    (Stage::Names, Right::Input, WRONG_ARITY),
+    // No value for no variable is told.
+    (Stage::Names, Right::Call, WRONG_ARITY),
+    // A right side of any clock is kept.
+    (Stage::Clocks, Right::Sampled, None),
+    // A right side of no clock is told.
+    (Stage::Clocks, Right::Mixed, MISMATCH),
+    // A right side of class 1 is kept.
+    (Stage::Classes, Right::Before, None),
+    // An unmet need is told.
+    (Stage::Classes, Right::BeforeTwice, MAYBE_NIL),
+];
 
 #[test]
-fn a_right_side_of_class_one_is_kept(rt: HostRuntime) -> Result<(), Fail> {
-    let alloc = rt.alloc();
-    let right = before(alloc, input(alloc)?)?;
-    let found = told(alloc, Stage::Classes, &program(alloc, right)?)?;
-    assert_eq!(rt; found, None);
-    Ok(())
-}
-
-#[test]
-fn an_unmet_need_is_told(rt: HostRuntime) -> Result<(), Fail> {
-    let alloc = rt.alloc();
-    let right = before(alloc, before(alloc, input(alloc)?)?)?;
-    let found = told(alloc, Stage::Classes, &program(alloc, right)?)?;
-    assert_eq!(rt; found, Some(StatError::MaybeNil { byte: 7 }));
+fn equations_without_variables_are_judged(rt: HostRuntime) -> Result<(), Fail> {
+    for (stage, right, fault) in CASES {
+        assert!(rt; is_told(rt.alloc(), *stage, *right, *fault)?);
+    }
     Ok(())
 }

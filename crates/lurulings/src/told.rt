@@ -70,6 +70,17 @@ pub(crate) fn told(
     }
 }
 
+/// Whether a text is told this fault.
+fn is_told(
+    alloc: Global,
+    stage: Stage,
+    text: &str,
+    fault: Option<StatError>,
+) -> Result<bool, Fail> {
+    let program = read_program(alloc, text)?;
+    Ok(told(alloc, stage, &program)? == fault)
+}
+
 /// Each text is told its fault.
 pub(crate) fn are_told(
     rt: &impl Abort,
@@ -78,8 +89,7 @@ pub(crate) fn are_told(
     texts: &[(&str, StatError)],
 ) -> Result<(), Fail> {
     for (text, fault) in texts {
-        let program = read_program(alloc, *text)?;
-        assert_eq!(rt; told(alloc, stage, &program)?, Some(*fault), "{text}");
+        assert!(rt; is_told(alloc, stage, text, Some(*fault))?, "{text}");
     }
     Ok(())
 }
@@ -92,8 +102,7 @@ pub(crate) fn are_kept(
     texts: &[&str],
 ) -> Result<(), Fail> {
     for text in texts {
-        let program = read_program(alloc, *text)?;
-        assert_eq!(rt; told(alloc, stage, &program)?, None, "{text}");
+        assert!(rt; is_told(alloc, stage, text, None)?, "{text}");
     }
     Ok(())
 }

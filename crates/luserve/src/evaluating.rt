@@ -6,7 +6,7 @@ ghost use Rattle.luflow.specs.Variables.{outputs_of};
 ghost use Rattle.luserve.specs.Evaluated.{AreEvaluated, IsStopped, IsStopFor, IsOutputTable};
 
 use crate::stop::Stop;
-use lueval::{EvalError, whole};
+use lueval::{EvalError, whole_outputs};
 use luflow::{FaultKind, Flat, Inputs, Outputs};
 use lutab::write_outputs;
 use std::alloc::Global;
@@ -33,19 +33,17 @@ pub fn evaluated(alloc: Global, flat: &Flat, inputs: &Inputs) -> Result<Outputs,
     ensures outputs { IfOk result (AreEvaluated flat.now inputs.now) }
     ensures fault { IfErr result (IsStopped flat.now inputs.now) }
 {
-    let streams = match whole(alloc, flat, inputs) {
-        Ok(streams) => streams,
-        Err(EvalError::OutOfMemory) => return Err(Stop::OutOfMemory),
+    match whole_outputs(alloc, flat, inputs) {
+        Ok(outputs) => Ok(outputs),
+        Err(EvalError::OutOfMemory) => Err(Stop::OutOfMemory),
         Err(
             EvalError::Fault {
                 variable,
                 instant,
                 kind,
             },
-        ) => return Err(fault_stop(alloc, flat, variable, instant, kind)),
-    };
-    let outputs = streams.outputs(alloc, flat)?;
-    Ok(outputs)
+        ) => Err(fault_stop(alloc, flat, variable, instant, kind)),
+    }
 }
 
 /// The table of a flat program's outputs at a table that fits it, as a text, or its first fault.

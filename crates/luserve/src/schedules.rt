@@ -5,6 +5,7 @@ ghost use Rattle.luplain.specs.Scripts.{AreScripts};
 
 use crate::serve::replayed;
 use crate::sources::{flat_of, job_of, plan_of};
+use crate::stop::Stop;
 use luflow::{Msg, Status};
 use lulist::Row;
 use luplace::Job;
@@ -21,10 +22,10 @@ const THREE_SITES: &[u8] =
     b"sites = [\"A\", \"B\", \"C\"]\ncapacity = 1\n[place]\na = \"A\"\nb = \"B\"\nc = \"C\"\n";
 
 /// The ring over two instants.
-fn ring(alloc: Global) -> Result<Job, Fail> {
+fn ring(alloc: Global) -> Result<Job, Stop> {
     let flat = flat_of(alloc, RING, "main")?;
     let plan = plan_of(alloc, flat, THREE_SITES)?;
-    Ok(job_of(alloc, plan, b"\n\n\n")?)
+    job_of(alloc, plan, b"\n\n\n")
 }
 
 /// These turns, and eight more: the digits of the number to the base 3.
@@ -45,11 +46,17 @@ struct Plain {
     marks: Vec<Marks>,
 }
 
-fn plain_of(alloc: Global, job: &Job) -> Result<Plain, AllocError> {
+/// The list of each link.
+fn lists_of(alloc: Global, job: &Job) -> Result<Vec<Vec<Msg>>, AllocError> {
     let mut lists = Vec::new(alloc);
     for link in 0..job.plan().links().len() {
         lists.push(list_of_link(alloc, job, link)?)?;
     }
+    Ok(lists)
+}
+
+fn plain_of(alloc: Global, job: &Job) -> Result<Plain, AllocError> {
+    let lists = lists_of(alloc, job)?;
     let marks = marks_of(alloc, job.plan().flat(), job.inputs(), job.instants())?;
     Ok(Plain { lists, marks })
 }
@@ -132,7 +139,7 @@ fn agrees(
     plain: &Plain,
     scripts: &[Row<Item>],
     turns: &[u8],
-) -> Result<bool, Fail>
+) -> Result<bool, Stop>
     requires { AreScripts job.now scripts.now }
 {
     let world = replayed(alloc, job, turns)?;
@@ -140,17 +147,30 @@ fn agrees(
     Ok(links_agree(job, plain, scripts, &world, &dones) && outputs_agree(plain, &world))
 }
 
-fn all_agree(alloc: Global, first: &[u8]) -> Result<bool, Fail> {
-    let job = ring(alloc)?;
-    let plain = plain_of(alloc, &job)?;
-    let scripts = scripts_of(alloc, &job)?;
+/// Whether the world after these turns and each eight more is the plain one.
+fn all_agree_after(
+    alloc: Global,
+    job: &Job,
+    plain: &Plain,
+    scripts: &[Row<Item>],
+    first: &[u8],
+) -> Result<bool, Stop>
+    requires { AreScripts job.now scripts.now }
+{
     for number in 0..6_561 {
         let turns = schedule(alloc, first, number)?;
-        if !agrees(alloc, &job, &plain, &scripts, &turns)? {
+        if !agrees(alloc, job, plain, scripts, &turns)? {
             return Ok(false);
         }
     }
     Ok(true)
+}
+
+fn all_agree(alloc: Global, first: &[u8]) -> Result<bool, Stop> {
+    let job = ring(alloc)?;
+    let plain = plain_of(alloc, &job)?;
+    let scripts = scripts_of(alloc, &job)?;
+    all_agree_after(alloc, &job, &plain, &scripts, first)
 }
 
 #[test]

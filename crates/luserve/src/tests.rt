@@ -2,13 +2,11 @@
 
 use crate::serve::serve_words;
 use lushell::{Files, ReadError};
-use std::alloc::Global;
+use std::alloc::{AllocError, Global};
 use std::io;
 use std::io::Write;
+use std::process::Abort;
 use std::test::Fail;
-
-const COUNTERS: &[u8] =
-    b"node main() returns (a: int; b: int); let a = 0 -> pre b + 1; b = 0 -> pre a + 1; tel";
 
 const TWO_SITES: &[u8] = b"sites = [\"A\", \"B\"]\ncapacity = 1\n[place]\na = \"A\"\nb = \"B\"\n";
 
@@ -17,7 +15,7 @@ const TURNS: &[u8] =
 
 /// The four files of a replay, in memory.
 #[derive(Clone, Copy, Drop)]
-pub struct Shelf<'a> {
+pub(crate) struct Shelf<'a> {
     pub program: &'a [u8],
     pub place: &'a [u8],
     pub table: &'a [u8],
@@ -49,7 +47,7 @@ impl Files for Shelf<'_> {
 
 /// A stream that takes nothing.
 #[derive(Drop)]
-pub struct Full;
+struct Full;
 
 impl Write for Full {
     fn write(&mut self, _buf: &[u8]) -> io::Result<usize> {
@@ -62,17 +60,15 @@ impl Write for Full {
 }
 
 /// Two counters that feed each other, and what a replay of them takes.
-pub fn counters() -> Shelf<'static> {
-    Shelf {
-        program: COUNTERS,
-        place: TWO_SITES,
-        table: b"\n\n\n\n",
-        turns: TURNS,
-    }
-}
+pub(crate) const COUNTERS: Shelf<'static> = Shelf {
+    program: b"node main() returns (a: int; b: int); let a = 0 -> pre b + 1; b = 0 -> pre a + 1; tel",
+    place: TWO_SITES,
+    table: b"\n\n\n\n",
+    turns: TURNS,
+};
 
 /// The words of a command line.
-pub fn words(alloc: Global, all: &[&str]) -> Result<Vec<String>, Fail> {
+fn words(alloc: Global, all: &[&str]) -> Result<Vec<String>, AllocError> {
     let mut words = Vec::new(alloc);
     for word in all {
         words.push(String::from_str(alloc, *word)?)?;
@@ -80,301 +76,487 @@ pub fn words(alloc: Global, all: &[&str]) -> Result<Vec<String>, Fail> {
     Ok(words)
 }
 
+/// What a call answers: its exit status, and what it writes to the two streams.
+#[derive(Drop)]
+pub(crate) struct Answer {
+    pub status: u8,
+    pub out: Vec<u8>,
+    pub err: Vec<u8>,
+}
+
+/// The answer of a call.
+pub(crate) fn answer_of(
+    alloc: Global,
+    all: &[&str],
+    shelf: &Shelf<'_>,
+) -> Result<Answer, AllocError> {
+    let words = words(alloc, all)?;
+    let mut out = Vec::new(alloc);
+    let mut err = Vec::new(alloc);
+    let status = serve_words(alloc, &words, shelf, &mut out, &mut err);
+    Ok(Answer { status, out, err })
+}
+
+/// Whether an answer has this status and these two texts.
+fn says(answer: &Answer, status: u8, text: &str, line: &str) -> bool {
+    answer.status == status
+        && answer.out.as_slice() == text.as_bytes()
+        && answer.err.as_slice() == line.as_bytes()
+}
+
 /// Whether the call answers this status and writes these two texts.
-pub fn answers(
+pub(crate) fn answers(
     alloc: Global,
     all: &[&str],
     shelf: &Shelf<'_>,
     status: u8,
     text: &str,
     line: &str,
-) -> Result<bool, Fail> {
-    let words = words(alloc, all)?;
-    let mut out = Vec::new(alloc);
-    let mut err = Vec::new(alloc);
-    let answered = serve_words(alloc, &words, shelf, &mut out, &mut err);
-    Ok(answered == status && out.as_slice() == text.as_bytes() && err.as_slice() == line.as_bytes())
+) -> Result<bool, AllocError> {
+    Ok(says(&answer_of(alloc, all, shelf)?, status, text, line))
 }
 
-const REPLAY: &[&str] = &["lusdist", "replay", "p.lus", "p.toml", "t.csv", "s.txt"];
+/// A call, and what it answers.
+#[derive(Clone, Copy, Drop)]
+pub(crate) struct Call {
+    pub words: &'static [&'static str],
+    pub shelf: Shelf<'static>,
+    pub status: u8,
+    pub text: &'static str,
+    pub line: &'static str,
+}
 
-fn refuses(alloc: Global, shelf: &Shelf<'_>, line: &str) -> Result<bool, Fail> {
+/// Each of these calls answers what it should.
+pub(crate) fn are_answered(rt: &impl Abort, alloc: Global, calls: &[Call]) -> Result<(), Fail> {
+    for call in calls {
+        let is_answered = answers(
+            alloc,
+            call.words,
+            &call.shelf,
+            call.status,
+            call.text,
+            call.line,
+        )?;
+        assert!(rt; is_answered, "{}{}", call.text, call.line);
+    }
+    Ok(())
+}
+
+/// The words of a replay.
+pub(crate) const REPLAY: &[&str] = &["lusdist", "replay", "p.lus", "p.toml", "t.csv", "s.txt"];
+
+/// Each of these shelves is replayed to its text.
+fn are_replayed(rt: &impl Abort, alloc: Global, replays: &[(Shelf<'_>, &str)]) -> Result<(), Fail> {
+    for (shelf, text) in replays {
+        assert!(rt; answers(alloc, REPLAY, shelf, 0, *text, "")?, "{text}");
+    }
+    Ok(())
+}
+
+/// Whether a replay is refused with this line, and prints nothing.
+pub(crate) fn refuses(alloc: Global, shelf: &Shelf<'_>, line: &str) -> Result<bool, AllocError> {
     answers(alloc, REPLAY, shelf, 1, "", line)
 }
 
-#[test]
-fn counters_feed_each_other(rt: HostRuntime) -> Result<(), Fail> {
-    let text =
-        "link a A B taken 0 1 2 close queued 0\nlink b B A taken 0 1 2 close queued 0\nsite A ended\nsite B ended\noutput a 0 1 2\noutput b 0 1 2\n";
-    assert!(rt; answers(rt.alloc(), REPLAY, &counters(), 0, text, "")?);
+/// The replay of each of these shelves is refused with its line.
+fn are_refused(rt: &impl Abort, alloc: Global, replays: &[(Shelf<'_>, &str)]) -> Result<(), Fail> {
+    for (shelf, line) in replays {
+        assert!(rt; refuses(alloc, shelf, *line)?, "{line}");
+    }
     Ok(())
 }
 
-#[test]
-fn a_site_faults(rt: HostRuntime) -> Result<(), Fail> {
-    let mut shelf = counters();
-    shelf.program =
-        b"node main() returns (a: int; b: int); let a = 9223372036854775807 -> pre b + 1; b = 0 -> pre a + 1; tel";
-    shelf.table = b"\n\n\n";
-    let text =
-        "link a A B taken 9223372036854775807 1 queued 0\nlink b B A taken 0 queued 0\nsite A open\nsite B faulted b 1 overflow\noutput a 9223372036854775807 1\noutput b 0\n";
-    assert!(rt; answers(rt.alloc(), REPLAY, &shelf, 0, text, "")?);
-    Ok(())
-}
+const REPLAYS: &[(Shelf<'_>, &str)] = &[
+    // each feeds the other
+    (
+        COUNTERS,
+        "link a A B taken 0 1 2 close queued 0\nlink b B A taken 0 1 2 close queued 0\nsite A ended\nsite B ended\noutput a 0 1 2\noutput b 0 1 2\n",
+    ),
+    // a site faults
+    (
+        Shelf {
+            program: b"node main() returns (a: int; b: int); let a = 9223372036854775807 -> pre b + 1; b = 0 -> pre a + 1; tel",
+            table: b"\n\n\n",
+            ..COUNTERS
+        },
+        "link a A B taken 9223372036854775807 1 queued 0\nlink b B A taken 0 queued 0\nsite A open\nsite B faulted b 1 overflow\noutput a 9223372036854775807 1\noutput b 0\n",
+    ),
+    // no instants
+    (
+        Shelf {
+            table: b"\n",
+            ..COUNTERS
+        },
+        "link a A B taken close queued 0\nlink b B A taken close queued 0\nsite A ended\nsite B ended\noutput a\noutput b\n",
+    ),
+    // the turns end before the run does
+    (
+        Shelf {
+            turns: b"0000000",
+            ..COUNTERS
+        },
+        "link a A B taken queued 1\nlink b B A taken queued 0\nsite A open\nsite B open\noutput a 0\noutput b\n",
+    ),
+];
 
 #[test]
-fn no_instants(rt: HostRuntime) -> Result<(), Fail> {
-    let mut shelf = counters();
-    shelf.table = b"\n";
-    let text =
-        "link a A B taken close queued 0\nlink b B A taken close queued 0\nsite A ended\nsite B ended\noutput a\noutput b\n";
-    assert!(rt; answers(rt.alloc(), REPLAY, &shelf, 0, text, "")?);
-    Ok(())
+fn two_counters_that_feed_each_other(rt: HostRuntime) -> Result<(), Fail> {
+    are_replayed(&rt, rt.alloc(), REPLAYS)
 }
 
-#[test]
-fn a_run_stands_open(rt: HostRuntime) -> Result<(), Fail> {
-    let mut shelf = counters();
-    shelf.turns = b"0000000";
-    let text =
-        "link a A B taken queued 1\nlink b B A taken queued 0\nsite A open\nsite B open\noutput a 0\noutput b\n";
-    assert!(rt; answers(rt.alloc(), REPLAY, &shelf, 0, text, "")?);
-    Ok(())
-}
+const REFUSED_PROGRAMS: &[(Shelf<'_>, &str)] = &[
+    (
+        Shelf {
+            program: b"node main() returns (a: int); let a = 0 tel",
+            ..COUNTERS
+        },
+        "E01 Syntax at 40\n",
+    ),
+    (
+        Shelf {
+            program: b"\xff",
+            ..COUNTERS
+        },
+        "E03 NotAscii\n",
+    ),
+    (
+        Shelf {
+            program: b"node main() returns (a, a: int); let a = 0 -> pre a + 1; tel",
+            ..COUNTERS
+        },
+        "E10 DuplicateName at 24\n",
+    ),
+    (
+        Shelf {
+            program: b"node main() returns (a: int); let a = 0 -> pre c + 1; tel",
+            ..COUNTERS
+        },
+        "E11 UnknownName at 34\n",
+    ),
+    (
+        Shelf {
+            program: b"node main() returns (a: int); let tel",
+            ..COUNTERS
+        },
+        "E15 Undefined at 21\n",
+    ),
+    (
+        Shelf {
+            program: b"node main() returns (a: int); let a = 0 -> pre a + 1; a = 0 -> pre a + 1; tel",
+            ..COUNTERS
+        },
+        "E16 DefinedTwice at 54\n",
+    ),
+    (
+        Shelf {
+            program: b"node other() returns (a: int); let a = 0 -> pre a + 1; tel",
+            ..COUNTERS
+        },
+        "E18 NoMain at 0\n",
+    ),
+];
 
 #[test]
 fn programs_that_are_refused(rt: HostRuntime) -> Result<(), Fail> {
-    for (program, line) in [
-        (
-            b"node main() returns (a: int); let a = 0 tel".as_slice(),
-            "E01 Syntax at 40\n",
-        ),
-        (b"\xff".as_slice(), "E03 NotAscii\n"),
-        (
-            b"node main() returns (a, a: int); let a = 0 -> pre a + 1; tel".as_slice(),
-            "E10 DuplicateName at 24\n",
-        ),
-        (
-            b"node main() returns (a: int); let a = 0 -> pre c + 1; tel".as_slice(),
-            "E11 UnknownName at 34\n",
-        ),
-        (
-            b"node main() returns (a: int); let tel".as_slice(),
-            "E15 Undefined at 21\n",
-        ),
-        (
-            b"node main() returns (a: int); let a = 0 -> pre a + 1; a = 0 -> pre a + 1; tel".as_slice(),
-            "E16 DefinedTwice at 54\n",
-        ),
-        (
-            b"node other() returns (a: int); let a = 0 -> pre a + 1; tel".as_slice(),
-            "E18 NoMain at 0\n",
-        ),
-    ] {
-        let mut shelf = counters();
-        shelf.program = program;
-        assert!(rt; refuses(rt.alloc(), &shelf, line)?, "{line}");
-    }
-    Ok(())
+    are_refused(&rt, rt.alloc(), REFUSED_PROGRAMS)
 }
+
+const REFUSED_PLACEMENTS: &[(Shelf<'_>, &str)] = &[
+    (
+        Shelf {
+            place: b"sites",
+            ..COUNTERS
+        },
+        "P01 NotToml\n",
+    ),
+    (
+        Shelf {
+            place: b"\xff",
+            ..COUNTERS
+        },
+        "P01 NotToml\n",
+    ),
+    (
+        Shelf {
+            place: b"capacity = 1\n",
+            ..COUNTERS
+        },
+        "P02 BadKey\n",
+    ),
+    (
+        Shelf {
+            place: b"sites = [\"A\"]\n[place]\na = \"A\"\nb = \"C\"\n",
+            ..COUNTERS
+        },
+        "P03 UnknownSite\n",
+    ),
+    (
+        Shelf {
+            place: b"sites = [\"A\"]\n[place]\na = \"A\"\nb = \"A\"\nc = \"A\"\n",
+            ..COUNTERS
+        },
+        "P04 UnknownVariable\n",
+    ),
+    (
+        Shelf {
+            place: b"sites = [\"A\"]\n[place]\na = \"A\"\n",
+            ..COUNTERS
+        },
+        "P05 Unplaced\n",
+    ),
+    (
+        Shelf {
+            place: b"sites = [\"A\", \"A\"]\n[place]\na = \"A\"\nb = \"A\"\n",
+            ..COUNTERS
+        },
+        "P06 DuplicateSite\n",
+    ),
+    (
+        Shelf {
+            place: b"sites = [\"A\"]\ncapacity = 0\n[place]\na = \"A\"\nb = \"A\"\n",
+            ..COUNTERS
+        },
+        "P07 OutOfRange\n",
+    ),
+];
 
 #[test]
 fn placements_that_are_refused(rt: HostRuntime) -> Result<(), Fail> {
-    for (place, line) in [
-        (b"sites".as_slice(), "P01 NotToml\n"),
-        (b"\xff".as_slice(), "P01 NotToml\n"),
-        (b"capacity = 1\n".as_slice(), "P02 BadKey\n"),
-        (
-            b"sites = [\"A\"]\n[place]\na = \"A\"\nb = \"C\"\n".as_slice(),
-            "P03 UnknownSite\n",
-        ),
-        (
-            b"sites = [\"A\"]\n[place]\na = \"A\"\nb = \"A\"\nc = \"A\"\n".as_slice(),
-            "P04 UnknownVariable\n",
-        ),
-        (
-            b"sites = [\"A\"]\n[place]\na = \"A\"\n".as_slice(),
-            "P05 Unplaced\n",
-        ),
-        (
-            b"sites = [\"A\", \"A\"]\n[place]\na = \"A\"\nb = \"A\"\n".as_slice(),
-            "P06 DuplicateSite\n",
-        ),
-        (
-            b"sites = [\"A\"]\ncapacity = 0\n[place]\na = \"A\"\nb = \"A\"\n".as_slice(),
-            "P07 OutOfRange\n",
-        ),
-    ] {
-        let mut shelf = counters();
-        shelf.place = place;
-        assert!(rt; refuses(rt.alloc(), &shelf, line)?, "{line}");
-    }
-    Ok(())
+    are_refused(&rt, rt.alloc(), REFUSED_PLACEMENTS)
 }
+
+const REFUSED_TABLES_AND_SCHEDULES: &[(Shelf<'_>, &str)] = &[
+    (
+        Shelf {
+            table: b"",
+            turns: b"01",
+            ..COUNTERS
+        },
+        "T01 BadHeader\n",
+    ),
+    (
+        Shelf {
+            table: b"\xff",
+            turns: b"01",
+            ..COUNTERS
+        },
+        "T01 BadHeader\n",
+    ),
+    (
+        Shelf {
+            table: b"x\n\n",
+            turns: b"01g",
+            ..COUNTERS
+        },
+        "T01 BadHeader\n",
+    ),
+    (
+        Shelf {
+            table: b"\n\n1\n",
+            turns: b"01",
+            ..COUNTERS
+        },
+        "T02 BadRow line 3\n",
+    ),
+    (
+        Shelf {
+            table: b"\n\n",
+            turns: b"01g",
+            ..COUNTERS
+        },
+        "S01 BadSchedule at 2\n",
+    ),
+];
 
 #[test]
 fn tables_and_schedules_that_are_refused(rt: HostRuntime) -> Result<(), Fail> {
-    for (table, turns, line) in [
-        (b"".as_slice(), b"01".as_slice(), "T01 BadHeader\n"),
-        (b"\xff".as_slice(), b"01".as_slice(), "T01 BadHeader\n"),
-        (b"x\n\n".as_slice(), b"01g".as_slice(), "T01 BadHeader\n"),
-        (
-            b"\n\n1\n".as_slice(),
-            b"01".as_slice(),
-            "T02 BadRow line 3\n",
-        ),
-        (
-            b"\n\n".as_slice(),
-            b"01g".as_slice(),
-            "S01 BadSchedule at 2\n",
-        ),
-    ] {
-        let mut shelf = counters();
-        shelf.table = table;
-        shelf.turns = turns;
-        assert!(rt; refuses(rt.alloc(), &shelf, line)?, "{line}");
-    }
-    Ok(())
+    are_refused(&rt, rt.alloc(), REFUSED_TABLES_AND_SCHEDULES)
 }
+
+/// A replay with a file that can't be read.
+const UNREAD: Call = Call {
+    words: REPLAY,
+    shelf: COUNTERS,
+    status: 2,
+    text: "",
+    line: "",
+};
+
+const UNREAD_FILES: &[Call] = &[
+    Call {
+        words: &["lusdist", "replay", "q", "p.toml", "t.csv", "s.txt"],
+        line: "F01 CannotRead q\n",
+        ..UNREAD
+    },
+    Call {
+        words: &["lusdist", "replay", "p.lus", "r", "t.csv", "s.txt"],
+        line: "F01 CannotRead r\n",
+        ..UNREAD
+    },
+    Call {
+        words: &["lusdist", "replay", "p.lus", "p.toml", "u", "s.txt"],
+        line: "F01 CannotRead u\n",
+        ..UNREAD
+    },
+    Call {
+        words: &["lusdist", "replay", "p.lus", "p.toml", "t.csv", "v"],
+        line: "F01 CannotRead v\n",
+        ..UNREAD
+    },
+];
 
 #[test]
 fn files_that_cannot_be_read(rt: HostRuntime) -> Result<(), Fail> {
-    for (all, line) in [
-        (
-            ["lusdist", "replay", "q", "p.toml", "t.csv", "s.txt"],
-            "F01 CannotRead q\n",
-        ),
-        (
-            ["lusdist", "replay", "p.lus", "r", "t.csv", "s.txt"],
-            "F01 CannotRead r\n",
-        ),
-        (
-            ["lusdist", "replay", "p.lus", "p.toml", "u", "s.txt"],
-            "F01 CannotRead u\n",
-        ),
-        (
-            ["lusdist", "replay", "p.lus", "p.toml", "t.csv", "v"],
-            "F01 CannotRead v\n",
-        ),
-    ] {
-        assert!(rt;
-            answers(rt.alloc(), &all, &counters(), 2, "", line)?,
-            "{line}"
-        );
-    }
-    Ok(())
+    are_answered(&rt, rt.alloc(), UNREAD_FILES)
 }
+
+const TOP: &[Call] = &[Call {
+    words: &[
+        "lusdist", "replay", "p.lus", "p.toml", "t.csv", "s.txt", "--main", "top",
+    ],
+    shelf: Shelf {
+        program: b"node top() returns (a: int); let a = 7 -> pre a + 2; tel",
+        place: b"sites = [\"here\"]\n[place]\na = \"here\"\n",
+        ..COUNTERS
+    },
+    status: 0,
+    text: "site here ended\noutput a 7 9 11\n",
+    line: "",
+}];
 
 #[test]
 fn another_main_node(rt: HostRuntime) -> Result<(), Fail> {
-    let mut shelf = counters();
-    shelf.program = b"node top() returns (a: int); let a = 7 -> pre a + 2; tel";
-    shelf.place = b"sites = [\"here\"]\n[place]\na = \"here\"\n";
-    let all = [
-        "lusdist", "replay", "p.lus", "p.toml", "t.csv", "s.txt", "--main", "top",
-    ];
-    let text = "site here ended\noutput a 7 9 11\n";
-    assert!(rt; answers(rt.alloc(), &all, &shelf, 0, text, "")?);
-    Ok(())
+    are_answered(&rt, rt.alloc(), TOP)
+}
+
+/// Whether a call whose output takes nothing answers 3, and says so.
+pub(crate) fn cannot_write(alloc: Global, all: &[&str]) -> Result<bool, AllocError> {
+    let words = words(alloc, all)?;
+    let mut err = Vec::new(alloc);
+    let status = serve_words(alloc, &words, &COUNTERS, &mut Full, &mut err);
+    Ok(status == 3 && err.as_slice() == b"F02 CannotWrite\n".as_slice())
 }
 
 #[test]
 fn output_that_cannot_be_written(rt: HostRuntime) -> Result<(), Fail> {
-    let words = words(rt.alloc(), REPLAY)?;
-    let mut err = Vec::new(rt.alloc());
-    assert_eq!(rt;
-        serve_words(rt.alloc(), &words, &counters(), &mut Full, &mut err),
-        3
-    );
-    assert_eq!(rt; err.as_slice(), b"F02 CannotWrite\n".as_slice());
+    assert!(rt; cannot_write(rt.alloc(), REPLAY)?);
     Ok(())
 }
 
-/// Whether the output of a replay that is done begins so.
-fn begins(alloc: Global, shelf: &Shelf<'_>, text: &str) -> Result<bool, Fail> {
-    let words = words(alloc, REPLAY)?;
-    let mut out = Vec::new(alloc);
-    let mut err = Vec::new(alloc);
-    let answered = serve_words(alloc, &words, shelf, &mut out, &mut err);
-    Ok(answered == 0 && out.starts_with(text.as_bytes()))
-}
-
+/// A producer that runs ahead as far as the link's capacity lets it.
 const PRODUCER: &[u8] =
     b"node main() returns (a: int; b: int); let a = 0 -> pre a + 1; b = 0 -> pre a + 1; tel";
 
-#[test]
-fn the_greatest_capacity_is_filled(rt: HostRuntime) -> Result<(), Fail> {
-    let table = vec![in rt.alloc(); b'\n'; 1_201]?;
-    let turns = vec![in rt.alloc(); b'0'; 12_000]?;
+/// Whether the output of a replay that is done begins so.
+fn begins(alloc: Global, shelf: &Shelf<'_>, text: &str) -> Result<bool, AllocError> {
+    let answer = answer_of(alloc, REPLAY, shelf)?;
+    Ok(answer.status == 0 && answer.out.starts_with(text.as_bytes()))
+}
+
+/// Whether a replay of the producer at this placement, with a table of so many lines and so many turns of its site, begins so.
+fn fills(
+    alloc: Global,
+    place: &[u8],
+    lines: usize,
+    turns: usize,
+    text: &str,
+) -> Result<bool, AllocError> {
+    let table = vec![in alloc; b'\n'; lines]?;
+    let turns = vec![in alloc; b'0'; turns]?;
     let shelf = Shelf {
         program: PRODUCER,
-        place: b"sites = [\"A\", \"B\"]\ncapacity = 1024\n[place]\na = \"A\"\nb = \"B\"\n",
+        place,
         table: &table,
         turns: &turns,
     };
+    begins(alloc, &shelf, text)
+}
+
+#[test]
+fn the_greatest_capacity_is_filled(rt: HostRuntime) -> Result<(), Fail> {
+    let place = b"sites = [\"A\", \"B\"]\ncapacity = 1024\n[place]\na = \"A\"\nb = \"B\"\n";
     let text = "link a A B taken queued 1024\nsite A open\nsite B open\noutput a 0 1 2 3 4 5 ";
-    assert!(rt; begins(rt.alloc(), &shelf, text)?);
+    assert!(rt; fills(rt.alloc(), place, 1_201, 12_000, text)?);
     Ok(())
 }
 
 #[test]
 fn a_link_of_one_message_is_filled(rt: HostRuntime) -> Result<(), Fail> {
-    let turns = vec![in rt.alloc(); b'0'; 100]?;
-    let shelf = Shelf {
-        program: PRODUCER,
-        place: TWO_SITES,
-        table: b"\n\n\n\n",
-        turns: &turns,
-    };
     let text = "link a A B taken queued 1\nsite A open\nsite B open\noutput a 0 1\noutput b\n";
-    assert!(rt; begins(rt.alloc(), &shelf, text)?);
+    assert!(rt; fills(rt.alloc(), TWO_SITES, 4, 100, text)?);
     Ok(())
+}
+
+/// The outputs after the first, of type int.
+fn put_outputs(text: &mut String, count: u32) -> Result<(), AllocError> {
+    for number in 1..count {
+        write!(text, "; v{number}: int")?;
+    }
+    Ok(())
+}
+
+/// An equation for each output, which reads the first.
+fn put_equations(text: &mut String, count: u32) -> Result<(), AllocError> {
+    for number in 0..count {
+        write!(text, "v{number} = 0 -> pre v0 + 1; ")?;
+    }
+    Ok(())
+}
+
+/// A program of so many outputs.
+fn put_program(text: &mut String, count: u32) -> Result<(), AllocError> {
+    text.push_str("node main() returns (v0: int")?;
+    put_outputs(text, count)?;
+    text.push_str("); let ")?;
+    put_equations(text, count)?;
+    text.push_str("tel")
+}
+
+/// Whether the replay of a program of so many outputs is refused as too large.
+fn is_too_large(alloc: Global, count: u32) -> Result<bool, AllocError> {
+    let mut text = String::new(alloc);
+    put_program(&mut text, count)?;
+    let shelf = Shelf {
+        program: text.as_bytes(),
+        ..COUNTERS
+    };
+    refuses(alloc, &shelf, "E50 TooLarge\n")
 }
 
 #[test]
 fn a_program_of_too_many_flows(rt: HostRuntime) -> Result<(), Fail> {
-    let mut text = String::new(rt.alloc());
-    text.push_str("node main() returns (v0: int")?;
-    for number in 1..820 {
-        write!(text, "; v{number}: int")?;
-    }
-    text.push_str("); let ")?;
-    for number in 0..820 {
-        write!(text, "v{number} = 0 -> pre v0 + 1; ")?;
-    }
-    text.push_str("tel")?;
-    let shelf = Shelf {
-        program: text.as_bytes(),
-        place: TWO_SITES,
-        table: b"\n\n\n\n",
-        turns: TURNS,
-    };
-    assert!(rt; refuses(rt.alloc(), &shelf, "E50 TooLarge\n")?);
+    assert!(rt; is_too_large(rt.alloc(), 820)?);
     Ok(())
+}
+
+/// Whether the replay of a table of so many lines is refused with this line.
+fn refuses_table(alloc: Global, lines: usize, line: &str) -> Result<bool, AllocError> {
+    let table = vec![in alloc; b'\n'; lines]?;
+    let shelf = Shelf {
+        table: &table,
+        ..COUNTERS
+    };
+    refuses(alloc, &shelf, line)
 }
 
 #[test]
 fn a_table_of_too_many_instants(rt: HostRuntime) -> Result<(), Fail> {
-    let table = vec![in rt.alloc(); b'\n'; 1_000_002]?;
-    let shelf = Shelf {
-        program: COUNTERS,
-        place: TWO_SITES,
-        table: &table,
-        turns: TURNS,
-    };
-    assert!(rt; refuses(rt.alloc(), &shelf, "T04 TooLong\n")?);
+    assert!(rt; refuses_table(rt.alloc(), 1_000_002, "T04 TooLong\n")?);
     Ok(())
+}
+
+/// Whether the replay of a schedule of so many turns is refused with this line.
+fn refuses_schedule(alloc: Global, turns: usize, line: &str) -> Result<bool, AllocError> {
+    let turns = vec![in alloc; b'0'; turns]?;
+    let shelf = Shelf {
+        turns: &turns,
+        ..COUNTERS
+    };
+    refuses(alloc, &shelf, line)
 }
 
 #[test]
 fn a_schedule_of_too_many_turns(rt: HostRuntime) -> Result<(), Fail> {
-    let turns = vec![in rt.alloc(); b'0'; 67_108_865]?;
-    let shelf = Shelf {
-        program: COUNTERS,
-        place: TWO_SITES,
-        table: b"\n\n\n\n",
-        turns: &turns,
-    };
-    assert!(rt; refuses(rt.alloc(), &shelf, "S02 LongSchedule\n")?);
+    assert!(rt; refuses_schedule(rt.alloc(), 67_108_865, "S02 LongSchedule\n")?);
     Ok(())
 }

@@ -1,10 +1,9 @@
-use Rattle.std.proofs.Common.{◌≤◌}
-use Rattle.std.specs.Prelude.{vec_capacity}
-use Rattle.lueval.specs.Steps.{AreEmpty}
+use Rattle.std.proofs.Common.{◌≡◌, ◌<◌, ℕ, length, Some, slice_get, slice_index}
+use Rattle.lueval.specs.Steps.{Column, IsEmpty}
 use Rattle.lueval.proofs.columns.new_columns.Given as goal
 
-abbrev pub invariant-loop-v : goal.invariant-loop-v
-invariant-loop-v l = record {
-  empty : AreEmpty l.v l.instants l.columns.items;
-  room : l.count ≤ vec_capacity l.columns;
+abbrev pub invariant-loop-k : goal.invariant-loop-k
+invariant-loop-k l = record {
+  len : length l.columns.items ≡ l.count;
+  done : (j : ℕ) (column : Column) → j < l.k → slice_get l.columns.items (slice_index l.kept j) ≡ Some column → IsEmpty l.instants column;
 }

@@ -12,6 +12,7 @@ fault_stop-requires c =
     let answer : IsAnswer flat inputs (Fault c.in-Err-Fault.variable c.in-Err-Fault.instant c.in-Err-Fault.kind) = subst (IsAnswer flat inputs) c.in-Err-Fault.field-0-is c.in-Err-Fault.ensures.fault in
     (answer (solution flat inputs) c.in-Err-Fault.ensures.only.exists).inside
 
-pub returns-clause-outputs : goal.returns-clause-outputs
-returns-clause-outputs c =
-    are_evaluated c.args.flat.now c.args.inputs.now c.in-Ok.streams c.in_ok-outputs.outputs c.in-Ok.ensures.solution c.in-Ok.ensures.source c.in-Ok.ensures.no_fault c.in_ok-outputs.ensures
+pub returns-in-Ok-clause-outputs : goal.returns-in-Ok-clause-outputs
+returns-in-Ok-clause-outputs c =
+    let are = c.in-Ok.ensures.outputs in
+    are_evaluated c.args.flat.now c.args.inputs.now are.streams c.in-Ok.outputs are.solution are.source c.in-Ok.ensures.no_fault are.are

@@ -1,0 +1,148 @@
+//! Statuses as the whole evaluator holds them: flat, in two words.
+
+ghost use Rattle.std.specs.Prelude.{◌≡◌, slice_get, unwrap_or, false, Some};
+ghost use Rattle.luflow.specs.Values.{gives};
+ghost use Rattle.lueval.specs.Frames.{datum_in, latest, clock_in};
+ghost use Rattle.lueval.specs.Cells.{status_of, statuses, held, last_in, ticked_in, clock_of, outcome_of, is_sign, newest};
+
+use crate::line::LineClock;
+use luflow::{Datum, FaultKind, Outcome, Status};
+
+/// A flow at one instant.
+#[derive(Clone, Copy, Debug, Drop, PartialEq, Eq)]
+pub enum Cell {
+    /// The flow's clock is false.
+    Absent,
+    /// Present, and nil.
+    Nil,
+    /// Present, with a truth value.
+    Truth(bool),
+    /// Present, with a whole number.
+    Number(i64),
+}
+
+/// What a flow's value is where its clock is true.
+#[derive(Clone, Copy, Debug, Drop, PartialEq, Eq)]
+pub enum Answer {
+    /// The value of a present cell; an absent one stands for none.
+    Gives(Cell),
+    Faults(FaultKind),
+    Stuck,
+}
+
+/// The cell of a present datum.
+#[inline(always)]
+pub fn cell_of(d: Datum) -> Cell
+    ensures { held result ≡ Some d }
+{
+    match d {
+        Datum::Nil => Cell::Nil,
+        Datum::Bool(b) => Cell::Truth(b),
+        Datum::Int(n) => Cell::Number(n),
+    }
+}
+
+/// The status that a cell stands for.
+#[inline(always)]
+pub fn status(cell: Cell) -> Status
+    ensures { result ≡ status_of cell }
+{
+    match cell {
+        Cell::Absent => Status::Absent,
+        Cell::Nil => Status::Present(Datum::Nil),
+        Cell::Truth(b) => Status::Present(Datum::Bool(b)),
+        Cell::Number(n) => Status::Present(Datum::Int(n)),
+    }
+}
+
+/// The outcome as an answer.
+#[inline(always)]
+pub fn answered(outcome: Outcome) -> Answer
+    ensures { outcome_of result ≡ outcome }
+{
+    match outcome {
+        Outcome::Gives(d) => Answer::Gives(cell_of(d)),
+        Outcome::Faults(kind) => Answer::Faults(kind),
+        Outcome::Stuck => Answer::Stuck,
+    }
+}
+
+/// The cell of this place; absent where there is none.
+#[inline(always)]
+pub fn cell_at(shown: &[Cell], place: u16) -> Cell
+    ensures { held result ≡ datum_in (statuses shown.now) place }
+{
+    match shown.get(place as usize).copied() {
+        Some(cell) => cell,
+        None => Cell::Absent,
+    }
+}
+
+/// The last value of the flow of this place before now: nil before its first; absent where there is no such place.
+#[inline(always)]
+pub fn last_at(lasts: &[Cell], place: u16) -> Cell
+    ensures { held result ≡ last_in (slice_get lasts.now place) }
+{
+    match lasts.get(place as usize).copied() {
+        Some(Cell::Absent) => Cell::Nil,
+        Some(cell) => cell,
+        None => Cell::Absent,
+    }
+}
+
+/// Whether the clock of the flow of this place was true before.
+#[inline(always)]
+pub fn ticked_at(lasts: &[Cell], place: u16) -> Option<bool>
+    ensures { result ≡ ticked_in (slice_get lasts.now place) }
+{
+    match lasts.get(place as usize).copied() {
+        Some(Cell::Absent) => Some(false),
+        Some(_) => Some(true),
+        None => None,
+    }
+}
+
+/// The last value up to now, from that now and that before.
+#[inline(always)]
+pub fn latest(now: Cell, last: Cell) -> Cell
+    ensures { held result ≡ latest (held now) (held last) }
+{
+    match now {
+        Cell::Absent => last,
+        cell => cell,
+    }
+}
+
+/// The last value after an instant, from what is shown at it and the last one before it.
+#[inline(always)]
+pub fn newest(now: Cell, before: Cell) -> Cell
+    ensures { result ≡ newest now before }
+{
+    match now {
+        Cell::Absent => before,
+        cell => cell,
+    }
+}
+
+/// Whether a clock is true now.
+#[inline(always)]
+pub fn is_on(shown: &[Cell], clock: LineClock) -> bool
+    ensures { result ≡ unwrap_or (clock_in (statuses shown.now) (clock_of clock)) false }
+{
+    match clock {
+        LineClock::Base => true,
+        LineClock::True(c) => is_truth(cell_at(shown, c), true),
+        LineClock::False(c) => is_truth(cell_at(shown, c), false),
+    }
+}
+
+/// Whether a cell is this truth value.
+#[inline(always)]
+fn is_truth(cell: Cell, sign: bool) -> bool
+    ensures { result ≡ is_sign sign (held cell) }
+{
+    match cell {
+        Cell::Truth(b) => b == sign,
+        _ => false,
+    }
+}
