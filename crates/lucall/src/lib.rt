@@ -9,8 +9,6 @@
 
 mod calls;
 mod order;
-#[cfg(test)]
-mod tests;
 
 pub use calls::graph_of;
 pub use order::{CallOrder, call_order};

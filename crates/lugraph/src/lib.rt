@@ -27,8 +27,6 @@ mod groups;
 pub mod laws;
 mod order;
 mod search;
-#[cfg(test)]
-mod tests;
 
 pub use chains::ends_of;
 pub use order::{Order, cycles_of, order_of};

@@ -7,4 +7,3 @@ pub mod Stepping
 pub mod Cycles
 pub mod Heaps
 pub mod Free
-pub mod Closing

@@ -19,7 +19,5 @@ mod ranking;
 mod readers;
 mod ready;
 mod release;
-#[cfg(test)]
-mod tests;
 
 pub use ranking::{Ranking, rank};

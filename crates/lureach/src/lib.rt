@@ -6,8 +6,6 @@
 
 mod link;
 mod search;
-#[cfg(test)]
-mod tests;
 
 pub use link::Link;
 pub use search::reached;

@@ -15,8 +15,6 @@
 mod error;
 pub mod laws;
 mod least;
-#[cfg(test)]
-mod tests;
 
 pub use error::StatError;
 pub use least::{is_told_before, lesser, told};

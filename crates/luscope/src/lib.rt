@@ -12,8 +12,6 @@ mod catalog;
 mod clock_ref;
 mod places;
 mod scope;
-#[cfg(test)]
-mod tests;
 
 pub use catalog::Catalog;
 pub use clock_ref::ClockRef;

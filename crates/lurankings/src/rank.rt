@@ -1,8 +1,10 @@
+//! Orders of ranks: the tests of `lurank`.
+
 ghost use Rattle.std.specs.Prelude.{◌<◌, All, IfOk};
 ghost use Rattle.lurank.specs.Rank.{AreClosed};
 
-use crate::{Ranking, rank};
 use lulist::Row;
+use lurank::{Ranking, rank};
 use std::alloc::{AllocError, Global};
 use std::test::Fail;
 
@@ -32,13 +34,17 @@ fn rows_of(alloc: Global, lists: &[Vec<usize>]) -> Result<Vec<Row<usize>>, Alloc
 }
 
 // The ranking of places with these reads.
-fn ranking_of(alloc: Global, lists: &[&[usize]]) -> Result<Ranking, AllocError> {
+fn ranking_by(alloc: Global, lists: &[Vec<usize>]) -> Result<Ranking, AllocError> {
+    let rows = rows_of(alloc, lists)?;
+    rank(alloc, &rows)
+}
+
+fn copied(alloc: Global, lists: &[&[usize]]) -> Result<Vec<Vec<usize>>, AllocError> {
     let mut copies = Vec::with_capacity(alloc, lists.len())?;
     for list in lists {
         copies.push(Vec::from_slice(alloc, list)?)?;
     }
-    let rows = rows_of(alloc, &copies)?;
-    rank(alloc, &rows)
+    Ok(copies)
 }
 
 // Whether a ranking has this order.
@@ -51,66 +57,53 @@ fn has_cycle(ranking: &Ranking, place: usize) -> bool {
     matches!(ranking, Ranking::Cyclic(found) if *found == place)
 }
 
+fn are_ordered(alloc: Global, lists: &[&[usize]], order: &[usize]) -> Result<bool, AllocError> {
+    let ranking = ranking_by(alloc, &copied(alloc, lists)?)?;
+    Ok(has_order(&ranking, order))
+}
+
+fn are_cyclic(alloc: Global, lists: &[&[usize]], place: usize) -> Result<bool, AllocError> {
+    let ranking = ranking_by(alloc, &copied(alloc, lists)?)?;
+    Ok(has_cycle(&ranking, place))
+}
+
+const ORDERED: &[(&[&[usize]], &[usize])] = &[
+    // Each place stands behind its reads.
+    (&[&[2], &[], &[1], &[0, 1]], &[1, 2, 0, 3]),
+    // The least ready place is next.
+    (&[&[3], &[], &[], &[1], &[2]], &[1, 2, 3, 0, 4]),
+    // Without reads places stand in their order.
+    (&[&[], &[], &[]], &[0, 1, 2]),
+    // Reads may repeat.
+    (&[&[1, 2, 1, 1], &[2, 2], &[]], &[2, 1, 0]),
+    // No places have an order.
+    (&[], &[]),
+];
+
 #[test]
-fn each_place_stands_behind_its_reads(rt: HostRuntime) -> Result<(), Fail> {
-    let ranking = ranking_of(rt.alloc(), &[&[2], &[], &[1], &[0, 1]])?;
-    assert!(rt; has_order(&ranking, &[1, 2, 0, 3]));
+fn the_least_ready_place_stands_behind_its_reads(rt: HostRuntime) -> Result<(), Fail> {
+    for (lists, order) in ORDERED {
+        assert!(rt; are_ordered(rt.alloc(), lists, order)?);
+    }
     Ok(())
 }
 
-#[test]
-fn the_least_ready_place_is_next(rt: HostRuntime) -> Result<(), Fail> {
-    let ranking = ranking_of(rt.alloc(), &[&[3], &[], &[], &[1], &[2]])?;
-    assert!(rt; has_order(&ranking, &[1, 2, 3, 0, 4]));
-    Ok(())
-}
+const CYCLIC: &[(&[&[usize]], usize)] = &[
+    // A place that reads itself.
+    (&[&[], &[0, 1], &[]], 1),
+    // Two places.
+    (&[&[], &[0], &[3], &[2]], 2),
+    // Three places.
+    (&[&[2], &[0], &[1]], 0),
+    // What only leads to a cycle is not told.
+    (&[&[1], &[3], &[2], &[4], &[3]], 2),
+];
 
 #[test]
-fn without_reads_places_stand_in_their_order(rt: HostRuntime) -> Result<(), Fail> {
-    let ranking = ranking_of(rt.alloc(), &[&[], &[], &[]])?;
-    assert!(rt; has_order(&ranking, &[0, 1, 2]));
-    Ok(())
-}
-
-#[test]
-fn reads_may_repeat(rt: HostRuntime) -> Result<(), Fail> {
-    let ranking = ranking_of(rt.alloc(), &[&[1, 2, 1, 1], &[2, 2], &[]])?;
-    assert!(rt; has_order(&ranking, &[2, 1, 0]));
-    Ok(())
-}
-
-#[test]
-fn no_places_have_an_order(rt: HostRuntime) -> Result<(), Fail> {
-    let ranking = ranking_of(rt.alloc(), &[])?;
-    assert!(rt; has_order(&ranking, &[]));
-    Ok(())
-}
-
-#[test]
-fn a_place_that_reads_itself_is_a_cycle(rt: HostRuntime) -> Result<(), Fail> {
-    let ranking = ranking_of(rt.alloc(), &[&[], &[0, 1], &[]])?;
-    assert!(rt; has_cycle(&ranking, 1));
-    Ok(())
-}
-
-#[test]
-fn two_places_are_a_cycle(rt: HostRuntime) -> Result<(), Fail> {
-    let ranking = ranking_of(rt.alloc(), &[&[], &[0], &[3], &[2]])?;
-    assert!(rt; has_cycle(&ranking, 2));
-    Ok(())
-}
-
-#[test]
-fn three_places_are_a_cycle(rt: HostRuntime) -> Result<(), Fail> {
-    let ranking = ranking_of(rt.alloc(), &[&[2], &[0], &[1]])?;
-    assert!(rt; has_cycle(&ranking, 0));
-    Ok(())
-}
-
-#[test]
-fn what_only_leads_to_a_cycle_is_not_told(rt: HostRuntime) -> Result<(), Fail> {
-    let ranking = ranking_of(rt.alloc(), &[&[1], &[3], &[2], &[4], &[3]])?;
-    assert!(rt; has_cycle(&ranking, 2));
+fn the_least_place_of_a_cycle_is_told(rt: HostRuntime) -> Result<(), Fail> {
+    for (lists, place) in CYCLIC {
+        assert!(rt; are_cyclic(rt.alloc(), lists, *place)?);
+    }
     Ok(())
 }
 
@@ -134,42 +127,39 @@ fn line_up(alloc: Global, count: usize) -> Result<Vec<Vec<usize>>, AllocError> {
     Ok(lists)
 }
 
-// The places from 0 up.
-fn places_up(alloc: Global, count: usize) -> Result<Vec<usize>, AllocError> {
-    let mut places = Vec::with_capacity(alloc, count)?;
-    for place in 0..count {
-        places.push(place)?;
+// Whether an order is that of so many places, or its reverse.
+fn is_line(order: &[usize], count: usize, is_turned: bool) -> bool {
+    for (i, place) in order.iter().enumerate() {
+        let mirrored = count.wrapping_sub(i).wrapping_sub(1);
+        if *place != (if is_turned { mirrored } else { i }) {
+            return false;
+        }
     }
-    Ok(places)
+    order.len() == count
+}
+
+fn has_line(ranking: &Ranking, count: usize, is_turned: bool) -> bool {
+    matches!(ranking, Ranking::Ordered(order) if is_line(order.as_slice(), count, is_turned))
 }
 
 #[test]
 fn a_long_line_stands_in_its_order(rt: HostRuntime) -> Result<(), Fail> {
     let lists = line_up(rt.alloc(), 4_096)?;
-    let rows = rows_of(rt.alloc(), &lists)?;
-    let ranking = rank(rt.alloc(), &rows)?;
-    let places = places_up(rt.alloc(), 4_096)?;
-    assert!(rt; has_order(&ranking, &places));
+    assert!(rt; has_line(&ranking_by(rt.alloc(), &lists)?, 4_096, false));
     Ok(())
 }
 
 #[test]
 fn a_long_line_back_stands_in_reverse(rt: HostRuntime) -> Result<(), Fail> {
     let lists = line_down(rt.alloc(), 4_096, &[])?;
-    let rows = rows_of(rt.alloc(), &lists)?;
-    let ranking = rank(rt.alloc(), &rows)?;
-    let mut places = places_up(rt.alloc(), 4_096)?;
-    places.reverse();
-    assert!(rt; has_order(&ranking, &places));
+    assert!(rt; has_line(&ranking_by(rt.alloc(), &lists)?, 4_096, true));
     Ok(())
 }
 
 #[test]
 fn the_least_place_of_a_long_cycle_is_told(rt: HostRuntime) -> Result<(), Fail> {
     let lists = line_down(rt.alloc(), 4_096, &[4_000, 5])?;
-    let rows = rows_of(rt.alloc(), &lists)?;
-    let ranking = rank(rt.alloc(), &rows)?;
-    assert!(rt; has_cycle(&ranking, 5));
+    assert!(rt; has_cycle(&ranking_by(rt.alloc(), &lists)?, 5));
     Ok(())
 }
 
@@ -212,21 +202,30 @@ fn slow_order(alloc: Global, rows: &[Row<usize>]) -> Result<Vec<usize>, AllocErr
     Ok(order)
 }
 
+// Whether the order is that of the slow program, of so many places.
+fn is_slow_order(alloc: Global, rows: &[Row<usize>], count: usize) -> Result<bool, AllocError>
+    requires { AreClosed rows.now }
+{
+    let ranking = rank(alloc, rows)?;
+    let slow = slow_order(alloc, rows)?;
+    Ok(slow.len() == count && has_order(&ranking, &slow))
+}
+
 #[test]
 fn the_order_is_that_of_a_slow_program(rt: HostRuntime) -> Result<(), Fail> {
     let lists = lists_by_chance(rt.alloc(), 200)?;
     let rows = rows_of(rt.alloc(), &lists)?;
-    let ranking = rank(rt.alloc(), &rows)?;
-    let slow = slow_order(rt.alloc(), &rows)?;
-    assert!(rt; slow.len() == 200 && has_order(&ranking, &slow));
+    assert!(rt; is_slow_order(rt.alloc(), &rows, 200)?);
     Ok(())
+}
+
+fn has_length(ranking: &Ranking, count: usize) -> bool {
+    matches!(ranking, Ranking::Ordered(order) if order.as_slice().len() == count)
 }
 
 #[test]
 fn many_places_with_many_reads_have_an_order(rt: HostRuntime) -> Result<(), Fail> {
     let lists = lists_by_chance(rt.alloc(), 4_096)?;
-    let rows = rows_of(rt.alloc(), &lists)?;
-    let ranking = rank(rt.alloc(), &rows)?;
-    assert!(rt; matches!(&ranking, Ranking::Ordered(order) if order.as_slice().len() == 4_096));
+    assert!(rt; has_length(&ranking_by(rt.alloc(), &lists)?, 4_096));
     Ok(())
 }

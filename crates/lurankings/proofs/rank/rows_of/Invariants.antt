@@ -1,6 +1,6 @@
 use Rattle.std.proofs.Common.{◌≡◌, length}
-use Rattle.lurank.proofs.Closing.{AreBelow}
-use Rattle.lurank.proofs.tests.rows_of.Given as goal
+use Rattle.lurankings.proofs.Closing.{AreBelow}
+use Rattle.lurankings.proofs.rank.rows_of.Given as goal
 
 abbrev pub invariant-loop-list : goal.invariant-loop-list
 invariant-loop-list l = record {

@@ -1,6 +1,8 @@
+//! What links lead to: the tests of `lureach`.
+
 ghost use Rattle.std.specs.Prelude.{◌≡◌};
 
-use crate::{Link, reached};
+use lureach::{Link, reached};
 use std::test::Fail;
 
 fn link(from: usize, to: usize) -> Link

@@ -1,6 +1,6 @@
 use Rattle.std.proofs.Common.{◌≡◌, length, arith}
-use Rattle.lurank.proofs.Closing.{closed_from_below}
-use Rattle.lurank.proofs.tests.rows_of.Goals as goal
+use Rattle.lurankings.proofs.Closing.{closed_from_below}
+use Rattle.lurankings.proofs.rank.rows_of.Goals as goal
 
 pub returns : goal.returns
 returns c =

@@ -1,4 +1,6 @@
-use crate::{CallOrder, call_order, graph_of};
+//! Orders of calls: the tests of `lucall`.
+
+use lucall::{CallOrder, call_order, graph_of};
 use lulist::{Name, Row};
 use luscope::Catalog;
 use lutree::{Equation, Expr, Node, Program};
@@ -116,44 +118,76 @@ fn is_recursive_at(order: &CallOrder, place: usize) -> bool {
     }
 }
 
+// Whether so many places stand in their own order.
+fn are_counted(places: &[usize], count: usize) -> bool {
+    for (i, place) in places.iter().enumerate() {
+        if *place != i {
+            return false;
+        }
+    }
+    places.len() == count
+}
+
 // Whether all places stand in their own order.
 fn is_in_order_of_text(order: &CallOrder, count: usize) -> bool {
     match order {
-        CallOrder::Sorted(sorted) => {
-            sorted.len() == count && sorted.iter().enumerate().all(|(i, place)| i == *place)
-        }
+        CallOrder::Sorted(sorted) => are_counted(sorted.as_slice(), count),
         CallOrder::Recursive(_) => false,
     }
 }
 
+// What is said of the order of a program's calls.
+#[derive(Clone, Copy)]
+enum Said {
+    // The nodes at these places stand so.
+    Sorted(&'static [usize]),
+    // There is no order, for the node at this place calls itself.
+    Recursive(usize),
+}
+
+fn is_so(order: &CallOrder, said: Said) -> bool {
+    match said {
+        Said::Sorted(places) => is_sorted_so(order, places),
+        Said::Recursive(place) => is_recursive_at(order, place),
+    }
+}
+
+fn has_order(alloc: Global, nodes: &[(&str, &[&str])], said: Said) -> Result<bool, AllocError> {
+    let program = program_of(alloc, nodes)?;
+    let order = order_in(alloc, &program)?;
+    Ok(is_so(&order, said))
+}
+
+const SORTED: &[(&[(&str, &[&str])], Said)] = &[
+    // Nodes without calls stand in order of text.
+    (&[("a", &[]), ("b", &[])], Said::Sorted(&[0, 1])),
+    // A caller stands behind what it calls.
+    (
+        &[("a", &["c", "b"]), ("b", &["c"]), ("c", &[])],
+        Said::Sorted(&[2, 1, 0]),
+    ),
+    // A call of no node is passed over.
+    (&[("a", &["z", "b"]), ("b", &["z"])], Said::Sorted(&[1, 0])),
+    // A call means the first node of the name: the second a calls b, and b the first a, which calls nothing.
+    (
+        &[("a", &[]), ("a", &["b"]), ("b", &["a"])],
+        Said::Sorted(&[0, 2, 1]),
+    ),
+];
+
 #[test]
-fn nodes_without_calls_stand_in_order_of_text(rt: HostRuntime) -> Result<(), Fail> {
-    let program = program_of(rt.alloc(), &[("a", &[]), ("b", &[])])?;
-    let order = order_in(rt.alloc(), &program)?;
-    assert!(rt; is_sorted_so(&order, &[0, 1]));
+fn callers_stand_behind_what_they_call(rt: HostRuntime) -> Result<(), Fail> {
+    for (nodes, said) in SORTED {
+        assert!(rt; has_order(rt.alloc(), nodes, *said)?);
+    }
     Ok(())
 }
 
-#[test]
-fn a_caller_stands_behind_what_it_calls(rt: HostRuntime) -> Result<(), Fail> {
-    let program = program_of(rt.alloc(), &[("a", &["c", "b"]), ("b", &["c"]), ("c", &[])])?;
-    let order = order_in(rt.alloc(), &program)?;
-    assert!(rt; is_sorted_so(&order, &[2, 1, 0]));
-    Ok(())
-}
-
-#[test]
-fn two_nodes_that_call_each_other_are_recursive(rt: HostRuntime) -> Result<(), Fail> {
-    let program = program_of(rt.alloc(), &[("a", &["b"]), ("b", &["a"])])?;
-    let order = order_in(rt.alloc(), &program)?;
-    assert!(rt; is_recursive_at(&order, 0));
-    Ok(())
-}
-
-#[test]
-fn a_caller_of_a_recursive_node_is_not_told(rt: HostRuntime) -> Result<(), Fail> {
-    let program = program_of(
-        rt.alloc(),
+const RECURSIVE: &[(&[(&str, &[&str])], Said)] = &[
+    // Two nodes that call each other are recursive.
+    (&[("a", &["b"]), ("b", &["a"])], Said::Recursive(0)),
+    // A caller of a recursive node is not told.
+    (
         &[
             ("m", &["c"]),
             ("c", &["a"]),
@@ -161,71 +195,61 @@ fn a_caller_of_a_recursive_node_is_not_told(rt: HostRuntime) -> Result<(), Fail>
             ("b", &["c", "d"]),
             ("d", &[]),
         ],
-    )?;
-    let order = order_in(rt.alloc(), &program)?;
-    assert!(rt; is_recursive_at(&order, 1));
+        Said::Recursive(1),
+    ),
+    // A later node of a recursive name is not told.
+    (
+        &[("b", &["a"]), ("a", &["a"]), ("a", &[])],
+        Said::Recursive(1),
+    ),
+];
+
+#[test]
+fn the_first_recursive_node_is_told(rt: HostRuntime) -> Result<(), Fail> {
+    for (nodes, said) in RECURSIVE {
+        assert!(rt; has_order(rt.alloc(), nodes, *said)?);
+    }
     Ok(())
 }
 
 #[test]
 fn a_call_inside_an_argument_is_a_call(rt: HostRuntime) -> Result<(), Fail> {
     let program = self_in_argument(rt.alloc())?;
-    let order = order_in(rt.alloc(), &program)?;
-    assert!(rt; is_recursive_at(&order, 1));
-    Ok(())
-}
-
-#[test]
-fn a_call_of_no_node_is_passed_over(rt: HostRuntime) -> Result<(), Fail> {
-    let program = program_of(rt.alloc(), &[("a", &["z", "b"]), ("b", &["z"])])?;
-    let order = order_in(rt.alloc(), &program)?;
-    assert!(rt; is_sorted_so(&order, &[1, 0]));
-    Ok(())
-}
-
-#[test]
-fn a_call_means_the_first_node_of_the_name(rt: HostRuntime) -> Result<(), Fail> {
-    // The second a calls b, and b the first a, which calls nothing.
-    let program = program_of(rt.alloc(), &[("a", &[]), ("a", &["b"]), ("b", &["a"])])?;
-    let order = order_in(rt.alloc(), &program)?;
-    assert!(rt; is_sorted_so(&order, &[0, 2, 1]));
-    Ok(())
-}
-
-#[test]
-fn a_later_node_of_a_recursive_name_is_not_told(rt: HostRuntime) -> Result<(), Fail> {
-    let program = program_of(rt.alloc(), &[("b", &["a"]), ("a", &["a"]), ("a", &[])])?;
-    let order = order_in(rt.alloc(), &program)?;
-    assert!(rt; is_recursive_at(&order, 1));
+    assert!(rt; is_recursive_at(&order_in(rt.alloc(), &program)?, 1));
     Ok(())
 }
 
 #[test]
 fn many_nodes_that_call_all_before_them_stand_in_order(rt: HostRuntime) -> Result<(), Fail> {
     let program = callers_of_all(rt.alloc(), 256)?;
-    let order = order_in(rt.alloc(), &program)?;
-    assert!(rt; is_in_order_of_text(&order, 256));
+    assert!(rt; is_in_order_of_text(&order_in(rt.alloc(), &program)?, 256));
     Ok(())
 }
 
-/// How many calls of nodes each node has.
-fn calls_counted(alloc: Global, program: &Program) -> Result<Vec<usize>, AllocError> {
+// Whether the nodes have so many calls of nodes each.
+fn have_lengths(graph: &[Vec<usize>], counts: &[usize]) -> bool {
+    if graph.len() != counts.len() {
+        return false;
+    }
+    for i in 0..graph.len() {
+        if graph[i].len() != counts[i] {
+            return false;
+        }
+    }
+    true
+}
+
+fn have_calls(alloc: Global, program: &Program, counts: &[usize]) -> Result<bool, AllocError> {
     let catalog = Catalog::new(alloc, program)?;
     let graph = graph_of(alloc, &catalog)?;
-    let mut counts = Vec::with_capacity(alloc, graph.len())?;
-    for row in graph.iter() {
-        counts.push(row.len())?;
-    }
-    Ok(counts)
+    Ok(have_lengths(&graph, counts))
 }
+
+const REPEATED_CALLS: &[(&str, &[&str])] = &[("a", &["b", "c", "b"]), ("b", &["d"]), ("c", &[])];
 
 #[test]
 fn each_call_of_a_node_is_an_edge(rt: HostRuntime) -> Result<(), Fail> {
-    let program = program_of(
-        rt.alloc(),
-        &[("a", &["b", "c", "b"]), ("b", &["d"]), ("c", &[])],
-    )?;
-    let counts = calls_counted(rt.alloc(), &program)?;
-    assert_eq!(rt; counts.as_slice(), [3, 0, 0].as_slice());
+    let program = program_of(rt.alloc(), REPEATED_CALLS)?;
+    assert!(rt; have_calls(rt.alloc(), &program, &[3, 0, 0])?);
     Ok(())
 }
