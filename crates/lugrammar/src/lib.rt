@@ -13,6 +13,3 @@ pub mod laws;
 mod levels;
 
 pub use levels::{Binding, binding_of, infix_of, prefix_of};
-
-#[cfg(test)]
-mod tests;

@@ -14,6 +14,3 @@ mod lexer;
 
 pub use error::LexError;
 pub use lexer::lex;
-
-#[cfg(test)]
-mod tests;

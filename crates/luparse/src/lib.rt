@@ -20,6 +20,3 @@ mod reader;
 pub use error::ParseError;
 pub use lutree::Program;
 pub use nodes::parse_tokens;
-
-#[cfg(test)]
-mod tests;

@@ -17,6 +17,3 @@ mod program;
 
 pub use lutree::Program;
 pub use program::print_program;
-
-#[cfg(test)]
-mod tests;

@@ -22,6 +22,3 @@ pub use error::SynError;
 pub use lutree::Program;
 pub use print::print_program;
 pub use text::read_program;
-
-#[cfg(test)]
-mod tests;

@@ -38,6 +38,3 @@ pub fn read_program(alloc: Global, text: &str) -> Result<Program, SynError>
     }
     Ok(program)
 }
-
-#[cfg(test)]
-mod tests;

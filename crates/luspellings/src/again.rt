@@ -1,7 +1,7 @@
 //! Programs that are read, printed and read again.
 
-use super::*;
-use lutree::{Declaration, Equation};
+use lusyn::{Program, print_program, read_program};
+use lutree::{Declaration, Equation, Node};
 use std::alloc::{AllocError, Global};
 use std::test::Fail;
 
@@ -120,24 +120,32 @@ fn describe_equations(out: &mut String, equations: &[Equation]) -> Result<(), Fa
     Ok(())
 }
 
-/// The tree of a text without its places, or the line of the refusal.
-fn described(alloc: Global, text: &str) -> Result<String, Fail> {
-    let program = match read_program(alloc, text) {
-        Ok(program) => program,
-        Err(error) => return Ok(format!(in alloc; "{error}")?),
-    };
+fn describe_node(out: &mut String, node: &Node) -> Result<(), Fail> {
+    write!(out, "{:?} inputs", node.name)?;
+    describe_declarations(out, node.inputs.as_slice())?;
+    write!(out, " outputs")?;
+    describe_declarations(out, node.outputs.as_slice())?;
+    write!(out, " locals")?;
+    describe_declarations(out, node.locals.as_slice())?;
+    write!(out, " equations")?;
+    describe_equations(out, node.equations.as_slice())
+}
+
+/// The tree of a program without its places.
+fn described_program(alloc: Global, program: &Program) -> Result<String, Fail> {
     let mut out = String::new(alloc);
     for node in program.nodes.as_slice() {
-        write!(out, "{:?} inputs", node.name)?;
-        describe_declarations(&mut out, node.inputs.as_slice())?;
-        write!(out, " outputs")?;
-        describe_declarations(&mut out, node.outputs.as_slice())?;
-        write!(out, " locals")?;
-        describe_declarations(&mut out, node.locals.as_slice())?;
-        write!(out, " equations")?;
-        describe_equations(&mut out, node.equations.as_slice())?;
+        describe_node(&mut out, node)?;
     }
     Ok(out)
+}
+
+/// The tree of a text without its places, or the line of the refusal.
+fn described(alloc: Global, text: &str) -> Result<String, Fail> {
+    match read_program(alloc, text) {
+        Ok(program) => described_program(alloc, &program),
+        Err(error) => Ok(format!(in alloc; "{error}")?),
+    }
 }
 
 /// A program whose one equation has this right side, as it is printed.
@@ -158,11 +166,14 @@ fn joined(alloc: Global, before: &str, inner: &str, after: &str) -> Result<Strin
     Ok(text)
 }
 
+/// Whether the text is printed so.
+fn is_printed(alloc: Global, source: &str, want: &str) -> Result<bool, Fail> {
+    Ok(printed(alloc, source)?.as_str() == want)
+}
+
 /// Whether the text is printed as the other, which is printed as it is.
 fn is_printed_as(alloc: Global, source: &str, want: &str) -> Result<bool, Fail> {
-    let first = printed(alloc, source)?;
-    let again = printed(alloc, want)?;
-    Ok(first.as_str() == want && again.as_str() == want)
+    Ok(is_printed(alloc, source, want)? && is_printed(alloc, want, want)?)
 }
 
 /// Whether both texts are read as one tree.
@@ -172,14 +183,16 @@ fn are_one_tree(alloc: Global, source: &str, other: &str) -> Result<bool, Fail> 
     Ok(first.as_str() == again.as_str())
 }
 
+/// Whether the text is printed as the other, which is printed as it is, and both are one tree.
+fn are_same(alloc: Global, source: &str, want: &str) -> Result<bool, Fail> {
+    Ok(is_printed_as(alloc, source, want)? && are_one_tree(alloc, source, want)?)
+}
+
 /// Whether a right side is printed as the other, and both are one tree.
 fn becomes(alloc: Global, right: &str, want: &str) -> Result<bool, Fail> {
     let source = of_right(alloc, right)?;
     let want = of_right(alloc, want)?;
-    Ok(
-        is_printed_as(alloc, source.as_str(), want.as_str())?
-            && are_one_tree(alloc, source.as_str(), want.as_str())?,
-    )
+    are_same(alloc, source.as_str(), want.as_str())
 }
 
 /// Whether a form in parentheses at a place keeps them exactly where they are needed.
@@ -214,44 +227,45 @@ fn each_form_is_printed_at_each_place(rt: HostRuntime) -> Result<(), Fail> {
     Ok(())
 }
 
+const RIGHT_SIDES: &[(&str, &str)] = &[
+    ("-(-1)", "- - 1"),
+    ("(1 -> 2) -> (3 -> (4))", "(1 -> 2) -> 3 -> 4"),
+    ("1 - (2 - 3) - 007", "1 - (2 - 3) - 7"),
+    ("a-(b-c)", "a - (b - c)"),
+    ("((a-b))-c", "a - b - c"),
+    ("(a=b)=c", "(a = b) = c"),
+    ("pre(a when b)", "pre a when b"),
+    ("(pre a)when b", "(pre a) when b"),
+    ("(a when b)when not c", "a when b when not c"),
+    ("(if a then b else c)+1", "(if a then b else c) + 1"),
+    ("1->(if a then b else c)", "1 -> if a then b else c"),
+    ("(a=>b)=>c", "(a => b) => c"),
+    ("a=>(b=>c)", "a => b => c"),
+];
+
 #[test]
 fn texts_become_canonical(rt: HostRuntime) -> Result<(), Fail> {
-    let cases = [
-        ("-(-1)", "- - 1"),
-        ("(1 -> 2) -> (3 -> (4))", "(1 -> 2) -> 3 -> 4"),
-        ("1 - (2 - 3) - 007", "1 - (2 - 3) - 7"),
-        ("a-(b-c)", "a - (b - c)"),
-        ("((a-b))-c", "a - b - c"),
-        ("(a=b)=c", "(a = b) = c"),
-        ("pre(a when b)", "pre a when b"),
-        ("(pre a)when b", "(pre a) when b"),
-        ("(a when b)when not c", "a when b when not c"),
-        ("(if a then b else c)+1", "(if a then b else c) + 1"),
-        ("1->(if a then b else c)", "1 -> if a then b else c"),
-        ("(a=>b)=>c", "(a => b) => c"),
-        ("a=>(b=>c)", "a => b => c"),
-    ];
-    for (right, want) in cases {
+    for (right, want) in RIGHT_SIDES {
         assert!(rt; becomes(rt.alloc(), right, want)?, "{right}");
     }
     Ok(())
 }
 
+const PROGRAMS: &[(&str, &str)] = &[
+    (
+        "node main(x: int; c: bool) returns (y: int; z: int when c) var s: int when c; let s = x when c; z = 2 * s; y = x -> pre y + x; tel",
+        "node main(x: int; c: bool) returns (y: int; z: int when c);\nvar s: int when c;\nlet\n  s = x when c;\n  z = 2 * s;\n  y = x -> pre y + x;\ntel\n",
+    ),
+    (
+        "node f(a, b: int; c: bool) returns (d, e: int when not c); var g, h: bool; k: int; let tel; -- the first\nnode main() returns (z: bool); let (x, y) = f(1, 2, true); (a, b, c) = g(); z = (1 < 2); tel",
+        "node f(a: int; b: int; c: bool) returns (d: int when not c; e: int when not c);\nvar g: bool; h: bool; k: int;\nlet\ntel\nnode main() returns (z: bool);\nlet\n  (x, y) = f(1, 2, true);\n  (a, b, c) = g();\n  z = 1 < 2;\ntel\n",
+    ),
+];
+
 #[test]
 fn programs_become_canonical(rt: HostRuntime) -> Result<(), Fail> {
-    let cases = [
-        (
-            "node main(x: int; c: bool) returns (y: int; z: int when c) var s: int when c; let s = x when c; z = 2 * s; y = x -> pre y + x; tel",
-            "node main(x: int; c: bool) returns (y: int; z: int when c);\nvar s: int when c;\nlet\n  s = x when c;\n  z = 2 * s;\n  y = x -> pre y + x;\ntel\n",
-        ),
-        (
-            "node f(a, b: int; c: bool) returns (d, e: int when not c); var g, h: bool; k: int; let tel; -- the first\nnode main() returns (z: bool); let (x, y) = f(1, 2, true); (a, b, c) = g(); z = (1 < 2); tel",
-            "node f(a: int; b: int; c: bool) returns (d: int when not c; e: int when not c);\nvar g: bool; h: bool; k: int;\nlet\ntel\nnode main() returns (z: bool);\nlet\n  (x, y) = f(1, 2, true);\n  (a, b, c) = g();\n  z = 1 < 2;\ntel\n",
-        ),
-    ];
-    for (text, want) in cases {
-        assert!(rt; is_printed_as(rt.alloc(), text, want)?, "{text}");
-        assert!(rt; are_one_tree(rt.alloc(), text, want)?, "{text}");
+    for (text, want) in PROGRAMS {
+        assert!(rt; are_same(rt.alloc(), text, want)?, "{text}");
     }
     Ok(())
 }

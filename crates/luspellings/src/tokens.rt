@@ -1,6 +1,6 @@
 //! What no clause says: that texts are read at all, how tokens are printed here, and the lines of the refusals.
 
-use super::*;
+use lulex::{LexError, lex};
 use lutoken::{Fixed, Lexeme, Token};
 use std::alloc::Global;
 use std::test::Fail;

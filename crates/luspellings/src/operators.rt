@@ -1,6 +1,6 @@
 //! The tables of operators, with values to look at.
 
-use super::*;
+use lugrammar::{binding_of, infix_of, prefix_of};
 use lutoken::Fixed;
 use lutree::{BinaryOperator, Infix, Prefix, UnaryOperator};
 use std::test::Fail;

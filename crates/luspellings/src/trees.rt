@@ -1,7 +1,7 @@
 //! What no clause says: that tokens are read at all, the places of what is read and of what is refused.
 
-use super::*;
 use lulex::lex;
+use luparse::parse_tokens;
 use lutree::{
     BinaryOperator, Condition, Declaration, Equation, Expr, Infix, Kind, Prefix, UnaryOperator,
 };
