@@ -8,7 +8,5 @@
 
 mod parts;
 mod shape;
-#[cfg(test)]
-mod shape_tests;
 
 pub use shape::is_first;

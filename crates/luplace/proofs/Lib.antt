@@ -3,4 +3,3 @@ pub mod Marked
 pub mod Linked
 pub mod Planned
 pub mod Sited
-pub mod SampleFlat

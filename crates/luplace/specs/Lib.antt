@@ -1,4 +1,3 @@
 pub mod SiteTables
 pub mod Placing
 pub mod Marks
-pub mod Sample

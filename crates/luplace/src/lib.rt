@@ -12,8 +12,6 @@ mod lookup;
 mod marking;
 mod placing;
 mod plan;
-#[cfg(test)]
-mod tests;
 
 pub use job::{Job, SiteInputs};
 pub use luplacefile::{Place, PlaceError, read_place};

@@ -12,8 +12,6 @@ mod place;
 mod read;
 mod rules;
 mod spelling;
-#[cfg(test)]
-mod tests;
 
 pub use error::PlaceError;
 pub use place::{Place, Placed};

@@ -1,5 +1,5 @@
 //! Plain programs beside the definitions: slow, with all marks in memory, and each with a definition as its contract. Tests
-//! compare the machines with them.
+//! compare the machines with them. Their own tests are those of `lurunnings`.
 //!
 //! - [`marks_of`]: what each flow has at the first instants; [`Mark`], [`Marks`].
 //! - [`list_of_link`]: all that a link carries.
@@ -17,8 +17,6 @@ mod mark;
 mod plans;
 mod scripts;
 mod streams;
-#[cfg(test)]
-mod tests;
 mod worlds;
 
 pub use item::Item;

@@ -12,8 +12,6 @@ mod files;
 mod put;
 mod request;
 mod schedule;
-#[cfg(test)]
-mod tests;
 mod text;
 
 pub use files::{Files, ReadError, RealFiles};

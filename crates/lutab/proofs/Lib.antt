@@ -9,5 +9,3 @@ pub mod Told
 pub mod Texts
 pub mod Rowwise
 pub mod Written
-pub mod SampleFlat
-pub mod Bare

@@ -3,4 +3,3 @@ pub mod Reading
 pub mod Table
 pub mod Filling
 pub mod Outputs
-pub mod Sample

@@ -20,8 +20,6 @@ mod field;
 mod reading;
 mod row;
 mod rows;
-#[cfg(test)]
-mod tests;
 mod writing;
 
 pub use error::TabError;

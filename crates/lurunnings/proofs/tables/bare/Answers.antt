@@ -1,6 +1,6 @@
 use Rattle.std.proofs.Common.{◌∙◌}
-use Rattle.lutab.proofs.Bare.{empty_is_flat}
-use Rattle.lutab.proofs.tests.bare.Goals as goal
+use Rattle.lurunnings.proofs.Bare.{empty_is_flat}
+use Rattle.lurunnings.proofs.tables.bare.Goals as goal
 
 pub new-requires-5 : goal.new-requires-5
 new-requires-5 c =

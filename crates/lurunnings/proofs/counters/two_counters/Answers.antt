@@ -1,7 +1,7 @@
 use Rattle.std.proofs.Common.{sym, subst, codes}
 use Rattle.luflow.specs.Flats.{IsFlat}
-use Rattle.luplain.proofs.CountersFlat.{is_flat, parts_flat}
-use Rattle.luplain.proofs.tests.two_counters.Goals as goal
+use Rattle.lurunnings.proofs.CountersFlat.{is_flat, parts_flat}
+use Rattle.lurunnings.proofs.counters.two_counters.Goals as goal
 
 pub new-requires : goal.new-requires
 new-requires c =

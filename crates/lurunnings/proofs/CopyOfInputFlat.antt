@@ -14,7 +14,7 @@ use Rattle.luflow.specs.Program.{Table, flow_at, places, clock_reads, reads, IsO
 use Rattle.luflow.specs.Rank.{IsRankOrder, IsNext, reads_of}
 use Rattle.luflow.specs.Sound.{IsSound, FormFits, ClockFits, IsFit, IsFitFor, IsConstantOf}
 use Rattle.luflow.specs.Flats.{IsFlat, IsWithin}
-use Rattle.luplace.specs.Sample.{sample, sample_flows, sample_variables, IsSampleTable}
+use Rattle.lurunnings.specs.CopyOfInput.{sample, sample_flows, sample_variables, IsSampleTable}
 
 all_none : {X : Type 0} (P : X → Type 0) → All P []
 all_none P k d l = absurd (omega arith)

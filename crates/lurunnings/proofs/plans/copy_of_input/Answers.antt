@@ -1,7 +1,7 @@
 use Rattle.std.proofs.Common.{sym, subst, codes}
 use Rattle.luflow.specs.Flats.{IsFlat}
-use Rattle.luplace.proofs.SampleFlat.{is_flat, parts_flat}
-use Rattle.luplace.proofs.tests.copy_of_input.Goals as goal
+use Rattle.lurunnings.proofs.CopyOfInputFlat.{is_flat, parts_flat}
+use Rattle.lurunnings.proofs.plans.copy_of_input.Goals as goal
 
 pub new-requires : goal.new-requires
 new-requires c =

@@ -2,9 +2,9 @@ use Rattle.std.proofs.Common.{Option, sym, subst, codes}
 use Rattle.std.specs.Prelude.{IfSome}
 use Rattle.luflow.specs.Program.{FlatProgram, Table}
 use Rattle.luflow.specs.Sound.{IsFit}
-use Rattle.luplace.specs.Sample.{IsSampleTable}
-use Rattle.luplace.proofs.SampleFlat.{is_fit}
-use Rattle.luplace.proofs.tests.job_at_two_sites.Goals as goal
+use Rattle.lurunnings.specs.CopyOfInput.{IsSampleTable}
+use Rattle.lurunnings.proofs.CopyOfInputFlat.{is_fit}
+use Rattle.lurunnings.proofs.plans.job_at_two_sites.Goals as goal
 
 pub new-requires : goal.new-requires
 new-requires c =

@@ -16,7 +16,7 @@ use Rattle.luflow.specs.Program.{flow_at, places, clock_reads, reads, IsOrdered}
 use Rattle.luflow.specs.Rank.{IsNext, reads_of, is_ready}
 use Rattle.luflow.specs.Sound.{IsSound, FormFits, ClockFits}
 use Rattle.luflow.specs.Flats.{IsFlat, IsWithin}
-use Rattle.luplain.specs.Counters.{step_of, counters, counter_flows, counter_order, counter_owners, counter_variables}
+use Rattle.lurunnings.specs.Counters.{step_of, counters, counter_flows, counter_order, counter_owners, counter_variables}
 
 -- a test of all numbers below one
 abbrev below : ℕ → (ℕ → Bool) → Bool

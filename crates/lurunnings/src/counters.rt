@@ -1,13 +1,14 @@
-//! The plain programs at two counters that feed each other, each at a site of its own, with a step of 1 and with one so large
-//! that the second sum has no value.
+//! The plain programs of `luplain` at two counters that feed each other, each at a site of its own, with a step of 1 and with
+//! one so large that the second sum has no value.
 
 ghost use Rattle.std.specs.Prelude.{◌≡◌, codes, IfOk};
-ghost use Rattle.luplain.specs.Counters.{counter_flows, counter_order, counter_owners, counter_variables, counters, flow, step_of};
+ghost use Rattle.lurunnings.specs.Counters.{counter_flows, counter_order, counter_owners, counter_variables, counters, flow, step_of};
 
-use super::*;
-use luflow::{Body, Clock, Datum, Flat, Flow, Form, Inputs, Msg, Role, Status, Variable};
-use lulist::{Name, Row};
+use crate::made;
+use luflow::{Body, Datum, Flat, Flow, Form, Inputs, Msg, Role, Status, Variable};
+use lulist::Row;
 use luplace::{Job, PlaceError, Plan, read_place};
+use luplain::{Item, Mark, Marks, list_of_link, marks_of, script_of, world_after};
 use lutree::{BinaryOperator, Kind};
 use std::alloc::{AllocError, Global};
 use std::test::Fail;
@@ -17,11 +18,7 @@ const TWO_SITES: &str = "sites = [\"A\", \"B\"]\ncapacity = 1\n[place]\na = \"A\
 fn flow(form: Form) -> Flow
     ensures { result ≡ flow form }
 {
-    Flow {
-        form,
-        clock: Clock::Base,
-        kind: Kind::Int,
-    }
+    made::flow(form, Kind::Int)
 }
 
 fn constant(n: i64) -> Flow
@@ -75,21 +72,11 @@ fn owners(alloc: Global) -> Result<Row<usize>, AllocError>
     Ok(Row::new(owners))
 }
 
-fn output(alloc: Global, name: &str) -> Result<Variable, AllocError>
-    ensures { IfOk result (λ x. x ≡ record { name = name.now; role = Role.Output; kind = Kind.Int }) }
-{
-    Ok(Variable {
-        name: Name::from_text(alloc, name)?,
-        role: Role::Output,
-        kind: Kind::Int,
-    })
-}
-
 fn variables(alloc: Global) -> Result<Row<Variable>, AllocError>
     ensures { IfOk result (λ row. row ≡ counter_variables (codes "a") (codes "b")) }
 {
-    let a = output(alloc, "a")?;
-    let b = output(alloc, "b")?;
+    let a = made::variable(alloc, "a", Role::Output, Kind::Int)?;
+    let b = made::variable(alloc, "b", Role::Output, Kind::Int)?;
     let variables = vec![in alloc; a, b]?;
     Ok(Row::new(variables))
 }

@@ -12,7 +12,7 @@ use Rattle.luflow.specs.Program.{flow_at, places, clock_reads, reads, IsOrdered}
 use Rattle.luflow.specs.Rank.{IsNext, reads_of, is_ready}
 use Rattle.luflow.specs.Sound.{IsSound, FormFits, ClockFits}
 use Rattle.luflow.specs.Flats.{IsFlat, IsWithin}
-use Rattle.lutab.specs.Sample.{sample, sample_flows, sample_variables}
+use Rattle.lurunnings.specs.TwoInputs.{sample, sample_flows, sample_variables}
 
 all_none : {X : Type 0} (P : X → Type 0) → All P []
 all_none P k d l = absurd (omega arith)

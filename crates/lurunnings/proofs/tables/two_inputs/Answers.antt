@@ -1,7 +1,7 @@
 use Rattle.std.proofs.Common.{sym, subst, codes}
 use Rattle.luflow.specs.Flats.{IsFlat}
-use Rattle.lutab.proofs.SampleFlat.{is_flat, parts_flat}
-use Rattle.lutab.proofs.tests.two_inputs.Goals as goal
+use Rattle.lurunnings.proofs.TwoInputsFlat.{is_flat, parts_flat}
+use Rattle.lurunnings.proofs.tables.two_inputs.Goals as goal
 
 pub new-requires : goal.new-requires
 new-requires c =

@@ -1,0 +1,4 @@
+pub mod CopyOfInputFlat
+pub mod TwoInputsFlat
+pub mod Bare
+pub mod CountersFlat

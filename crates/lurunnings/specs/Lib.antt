@@ -1,0 +1,3 @@
+pub mod CopyOfInput
+pub mod TwoInputs
+pub mod Counters
