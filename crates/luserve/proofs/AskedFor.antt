@@ -1,6 +1,6 @@
 -- The job of three texts.
 use Rattle.std.proofs.Common.{◌≡◌, ℕ, List, sym, ap, ◌∙◌, subst}
-use Rattle.luflow.specs.Program.{FlatProgram, Table}
+use Rattle.luflow.specs.Program.{FlatProgram}
 use Rattle.luflow.specs.Variables.{inputs_of}
 use Rattle.luflow.specs.Tables.{Fits}
 use Rattle.luworld.specs.Needs.{Distribution}

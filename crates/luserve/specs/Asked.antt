@@ -19,7 +19,6 @@ use Rattle.luflow.specs.Variables.{inputs_of}
 use Rattle.lutab.specs.Table.{IsTextOf}
 use Rattle.lushell.specs.ScheduleText.{schedule_of}
 use Rattle.lushell.specs.declared.request.CheckRequest.{CheckRequest}
-use Rattle.lushell.specs.declared.request.EvalRequest.{EvalRequest}
 use Rattle.lushell.specs.declared.request.ReplayRequest.{ReplayRequest}
 use Rattle.lushell.specs.declared.request.Request.{Request}
 use Rattle.lushell.specs.declared.request.Request.TheVariants.{Check, Eval, Replay}

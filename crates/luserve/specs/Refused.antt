@@ -1,13 +1,23 @@
 -- What a call that stops says of the program.
-use Rattle.std.specs.Prelude.{◌≡◌, ℕ, List}
+use Rattle.std.specs.Prelude.{◌≡◌, ◌≢◌, ◌⊎◌, ℕ, List, Some, Ok, Err, IsUtf8}
 use Rattle.lutree.specs.Tree.{ProgramTree}
 use Rattle.lurules.specs.Accepted.{IsAccepted}
 use Rattle.lurules.specs.Told.{Tells}
 use Rattle.lurules.specs.declared.error.StatError.{StatError}
 use Rattle.lucore.specs.declared.error.CoreError.{CoreError}
 use Rattle.lucore.specs.Result.{Refuses}
+use Rattle.luflow.specs.declared.variable.Variable.{Variable}
+use Rattle.lusyn.specs.declared.error.SynError.TheVariants as syntax
+use Rattle.lusyn.specs.Refusals.{IsRefused as IsRefusedProgram}
+use Rattle.luflow.specs.Program.{FlatProgram}
+use Rattle.luplacefile.specs.declared.place.Place.{Place}
+use Rattle.luplacefile.specs.declared.error.PlaceError.TheVariants as placing
+use Rattle.luplacefile.specs.Placement.{placement_of}
+use Rattle.luplace.specs.Placing.{refusal}
+use Rattle.lutab.specs.declared.error.TabError.TheVariants as table
+use Rattle.lutab.specs.Table.{IsRefused as IsRefusedTable}
 use Rattle.luserve.specs.declared.stop.Stop.{Stop}
-use Rattle.luserve.specs.declared.stop.Stop.TheVariants.{Rules, Flat, Fault}
+use Rattle.luserve.specs.declared.stop.Stop.TheVariants.{NotAscii, Syntax, Rules, Flat, Place as PlaceStop, Table, Fault}
 
 -- A rule that the program breaks, where all rules of the stages before it are kept; or, of a program that keeps all rules, why it
 -- has no flat program.
@@ -19,3 +29,21 @@ pub data IsToldOf (tree : ProgramTree) (main : List ℕ) (stop : Stop) : Type 0 
 abbrev pub IsNoFault : Stop → Type 0
 IsNoFault (Fault name instant kind) = ⊥
 IsNoFault _ = Unit {0}
+
+-- the bytes of a program's file are no text, or a text that is refused so
+abbrev pub IsProgramRefused : List ℕ → Stop → Type 0
+IsProgramRefused bytes NotAscii = ¬ IsUtf8 bytes
+IsProgramRefused bytes (Syntax e) = (e ≡ syntax.OutOfMemory) ⊎ IsRefusedProgram bytes e
+IsProgramRefused bytes _ = ⊥
+
+-- the bytes of a table's file are no text, which is told as a bad header, or a text that is refused so
+abbrev pub IsTableRefused : List Variable → List ℕ → Stop → Type 0
+IsTableRefused inputs bytes (Table e) = ((e ≡ table.BadHeader) × (¬ IsUtf8 bytes)) ⊎ (e ≢ table.OutOfMemory → IsRefusedTable inputs bytes e)
+IsTableRefused inputs bytes _ = ⊥
+
+-- the bytes of a placement's file are no text, which is told as no TOML, or a text that is refused so, or one whose placement is refused so for
+-- the program
+abbrev pub IsPlaceRefused : FlatProgram → List ℕ → Stop → Type 0
+IsPlaceRefused program bytes (PlaceStop e) =
+    ((e ≡ placing.NotToml) × (¬ IsUtf8 bytes)) ⊎ ((e ≡ placing.OutOfMemory) ⊎ ((placement_of bytes ≡ Err e) ⊎ ((place : Place) × (placement_of bytes ≡ Ok place) × (refusal program place ≡ Some e))))
+IsPlaceRefused program bytes _ = ⊥

@@ -12,7 +12,7 @@ ghost use Rattle.luflow.specs.Variables.{inputs_of};
 ghost use Rattle.lutab.specs.Table.{IsTextOf};
 ghost use Rattle.luserve.specs.declared.stop.Stop.TheVariants.{NotYet};
 ghost use Rattle.luserve.specs.Asked.{IsFlatOfText, IsPlanOfText};
-ghost use Rattle.luserve.specs.Refused.{IsToldOf, IsNoFault};
+ghost use Rattle.luserve.specs.Refused.{IsToldOf, IsNoFault, IsProgramRefused, IsPlaceRefused, IsTableRefused};
 
 use crate::stop::Stop;
 use lucore::flatten;
@@ -45,6 +45,7 @@ pub fn read<F: Files>(alloc: Global, files: &F, path: &str) -> Result<Vec<u8>, S
 /// The program that the bytes of a program's file spell.
 pub fn program_of(alloc: Global, bytes: &[u8]) -> Result<Program, Stop>
     ensures spelled { IfOk result (λ program. SpellsText bytes.now (program_view program)) }
+    ensures refused { IfErr result (IsProgramRefused bytes.now) }
     ensures no_fault { IfErr result IsNoFault }
 {
     let Some(text) = text_of(bytes) else {
@@ -99,6 +100,7 @@ pub fn flat_of(alloc: Global, bytes: &[u8], main: &str) -> Result<Flat, Stop>
 pub fn plan_of(alloc: Global, flat: Flat, bytes: &[u8]) -> Result<Plan, Stop>
     ensures flat { IfOk result (λ plan. plan.flat ≡ flat) }
     ensures plan { IfOk result (IsPlanOfText bytes.now) }
+    ensures refused { IfErr result (IsPlaceRefused flat bytes.now) }
 {
     let Some(text) = text_of(bytes) else {
         return Err(Stop::Place(PlaceError::NotToml));
@@ -118,6 +120,7 @@ pub fn inputs_in(alloc: Global, flat: &Flat, bytes: &[u8]) -> Result<Inputs, Sto
     ensures text { IfOk result (λ inputs. IsTextOf (inputs_of flat.now.variables) inputs bytes.now) }
     ensures fits { IfOk result (λ inputs. Fits flat.now inputs) }
     ensures fit { IfOk result (λ inputs. IsFit flat.now inputs) }
+    ensures refused { IfErr result (IsTableRefused (inputs_of flat.now.variables) bytes.now) }
     ensures no_fault { IfErr result IsNoFault }
 {
     let _flows = flat.flows();

@@ -1,4 +1,3 @@
-use Rattle.std.proofs.Common.{List, ℕ}
 use Rattle.std.proofs.lemmas.Result.{IfOk-weaker, IfErr-weaker}
 use Rattle.luserve.proofs.Outcomes.{of_source, fault_asked}
 use Rattle.luserve.proofs.serve.eval_text.Goals as goal
