@@ -7,13 +7,14 @@ use Rattle.std.proofs.lemmas.List.Elements.{All-nil, All-cons, All-append, All-w
 use Rattle.std.proofs.lemmas.Option.{same_Some}
 use Rattle.luflow.specs.declared.variable.Variable.{Variable}
 use Rattle.lueval.specs.declared.columns.Wanted.{Wanted}
-use Rattle.lueval.specs.Steps.{is_wanted, AreKept}
+use Rattle.lueval.specs.Steps.{is_wanted, AreKept, IsWantedAt}
 
--- of the variables below v, those that are wanted are kept, each once
+-- of the variables below v, those that are wanted are kept, in order, and no others
 pub record KeptTo (wanted : Wanted) (variables : List Variable) (kept : List ℕ) (v : ℕ) : Type 0 where
   pub few : length kept ≤ v
   pub inside : All (λ w. w < v) kept
-  pub once : (j k : ℕ) → j < length kept → k < length kept → slice_index kept j ≡ slice_index kept k → j ≡ k
+  pub ascending : (j k : ℕ) → j < k → k < length kept → slice_index kept j < slice_index kept k
+  pub only : All (λ w. IsWantedAt wanted variables w) kept
   pub all : (w : ℕ) (x : Variable) → w < v → slice_get variables w ≡ Some x → is_wanted wanted x.role ≡ true → Contains kept w
 
 pub kept_none : (wanted : Wanted) (variables : List Variable) (kept : List ℕ) → kept ≡ [] → KeptTo wanted variables kept 0
@@ -22,7 +23,8 @@ kept_none wanted variables kept e =
     record {
       few = omega (arith, n);
       inside = subst (All (λ w. w < 0)) (sym e) (All-nil (λ w. w < 0));
-      once = λ j k lj lk. absurd (omega (arith, n, lj));
+      ascending = λ j k l lk. absurd (omega (arith, n, lk));
+      only = subst (All (λ w. IsWantedAt wanted variables w)) (sym e) (All-nil (λ w. IsWantedAt wanted variables w));
       all = λ w x l. absurd (omega arith);
     }
 
@@ -34,7 +36,8 @@ kept_skip wanted variables kept v y there not_wanted h =
     record {
       few = let f = h.few in omega arith;
       inside = wider v kept h.inside;
-      once = h.once;
+      ascending = h.ascending;
+      only = h.only;
       all = λ w x l at yes. elim (cases_lt w v) [
         | inl low ↦ h.all w x low at yes
         | inr high ↦
@@ -44,8 +47,8 @@ kept_skip wanted variables kept v y there not_wanted h =
       ];
     }
 
-pub kept_more : (wanted : Wanted) (variables : List Variable) (kept : List ℕ) (v : ℕ) → KeptTo wanted variables kept v → KeptTo wanted variables (kept ++ v ∷ []) (v + 1)
-kept_more wanted variables kept v h =
+pub kept_more : (wanted : Wanted) (variables : List Variable) (kept : List ℕ) (v : ℕ) (y : Variable) → slice_get variables v ≡ Some y → is_wanted wanted y.role ≡ true → KeptTo wanted variables kept v → KeptTo wanted variables (kept ++ v ∷ []) (v + 1)
+kept_more wanted variables kept v y there is h =
     let long = length_push kept v in
     let last : (k : ℕ) → k ≡ length kept → slice_index (kept ++ v ∷ []) k ≡ v = λ k e. get_or_push kept v 0 k (sym e) in
     let low : (k : ℕ) → k < length kept → slice_index (kept ++ v ∷ []) k ≡ slice_index kept k = λ k l. get_or_append_left kept (v ∷ []) 0 k l in
@@ -53,22 +56,21 @@ kept_more wanted variables kept v h =
     record {
       few = let f = h.few in omega (arith, long);
       inside = All-append (λ w. w < v + 1) kept (v ∷ []) (wider v kept h.inside) (All-cons (λ w. w < v + 1) v [] (omega arith) (All-nil (λ w. w < v + 1)));
-      once = λ j k lj lk same. elim (cases_lt j (length kept)) [
-        | inl a ↦ elim (cases_lt k (length kept)) [
-          | inl b ↦ h.once j k a b (sym (low j a) ∙ same ∙ low k b)
-          | inr b ↦
-              let e : k ≡ length kept = omega (arith, long, lk) in
-              let u = under j a in
-              let f = sym (low j a) ∙ same ∙ last k e in absurd (omega (arith, u, f))
-        ]
-        | inr a ↦ elim (cases_lt k (length kept)) [
-          | inl b ↦
-              let e : j ≡ length kept = omega (arith, long, lj) in
-              let u = under k b in
-              let f = sym (low k b) ∙ sym same ∙ last j e in absurd (omega (arith, u, f))
-          | inr b ↦ omega (arith, long, lj, lk)
-        ]
+      ascending = λ j k l lk. elim (cases_lt k (length kept)) [
+        | inl b ↦
+            let a : j < length kept = omega arith in
+            let u = h.ascending j k l b in
+            let f = low j a in
+            let g = low k b in omega (arith, u, f, g)
+        | inr b ↦
+            let e : k ≡ length kept = omega (arith, long, lk) in
+            let a : j < length kept = omega (arith, e, l) in
+            let u = under j a in
+            let f = low j a in
+            let g = last k e in omega (arith, u, f, g)
       ];
+      only = All-append (λ w. IsWantedAt wanted variables w) kept (v ∷ []) h.only
+          (All-cons (λ w. IsWantedAt wanted variables w) v [] (record { variable = y; there = there; role = is }) (All-nil (λ w. IsWantedAt wanted variables w)));
       all = λ w x l at yes. elim (cases_lt w v) [
         | inl below ↦ Contains-append_left kept (v ∷ []) w (h.all w x below at yes)
         | inr above ↦ let e : v ≡ w = omega arith in subst (Contains (kept ++ v ∷ [])) e (Contains-push kept v)
@@ -76,4 +78,4 @@ kept_more wanted variables kept v h =
     }
 
 pub kept_done : (wanted : Wanted) (variables : List Variable) (kept : List ℕ) (v : ℕ) → v ≡ length variables → KeptTo wanted variables kept v → AreKept (length variables) kept
-kept_done wanted variables kept v e h = record { inside = subst (λ (n : ℕ). All (λ w. w < n) kept) e h.inside; once = h.once }
+kept_done wanted variables kept v e h = record { inside = subst (λ (n : ℕ). All (λ w. w < n) kept) e h.inside; ascending = h.ascending }

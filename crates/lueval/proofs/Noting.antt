@@ -57,12 +57,22 @@ note_begin inputs σ kept columns t are = record { noted = λ j column l. absurd
 pub note_end : (inputs : Table) (σ : Streams) (kept : List ℕ) (columns : List Column) (t k : ℕ) → length kept ≤ k → AreNoted inputs σ kept columns t k → AreColumns inputs σ kept columns (t + 1)
 note_end inputs σ kept columns t k over are j column lj there = are.noted j column (omega arith) lj there
 
+-- numbers in order are each there once
+once : (kept : List ℕ) → ((j k : ℕ) → j < k → k < length kept → slice_index kept j < slice_index kept k) → (j k : ℕ) → j < length kept → k < length kept → slice_index kept j ≡ slice_index kept k → j ≡ k
+once kept up j k lj lk same = elim (cases_lt j k) [
+  | inl l ↦ let u = up j k l lk in absurd (omega (arith, u, same))
+  | inr g ↦ elim (cases_lt k j) [
+    | inl l ↦ let u = up k j l lj in absurd (omega (arith, u, same))
+    | inr h ↦ omega arith
+  ]
+]
+
 pub note_one : (inputs : Table) (σ : Streams) (count : ℕ) (kept : List ℕ) (columns columns' : List Column) (t k : ℕ) (x : Column) (status : Status) → AreKept count kept → k < length kept → AreNoted inputs σ kept columns t k → slice_get columns (slice_index kept k) ≡ Some x → σ (slice_index kept k) t ≡ Known status → IsLonger columns (slice_index kept k) x status columns' → AreNoted inputs σ kept columns' t (k + 1)
 note_one inputs σ count kept columns columns' t k x status are_kept lk are there known longer =
     let v = slice_index kept k in
     let lv = slice_get_within columns v x there in
     let other : (j : ℕ) → j < length kept → j ≢ k → slice_get columns' (slice_index kept j) ≡ slice_get columns (slice_index kept j) = λ j lj ne.
-    ap (λ xs. slice_get xs (slice_index kept j)) longer.is ∙ slice_get-set_other columns v (slice_index kept j) longer.row (λ e. ne (are_kept.once j k lj lk e)) in
+    ap (λ xs. slice_get xs (slice_index kept j)) longer.is ∙ slice_get-set_other columns v (slice_index kept j) longer.row (λ e. ne (once kept are_kept.ascending j k lj lk e)) in
     record {
       noted = λ j column l lj at. elim (cases_lt j k) [
         | inl h ↦ are.noted j column h lj (sym (other j lj (λ e. let g : j < k = h in absurd (omega arith))) ∙ at)

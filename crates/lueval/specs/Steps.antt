@@ -43,10 +43,20 @@ is_wanted Outputs Input = false
 is_wanted Outputs Output = true
 is_wanted Outputs Local = false
 
--- numbers of variables below this, each once
+-- numbers of variables below this, in order
 pub record AreKept (count : ℕ) (kept : List ℕ) : Type 0 where
   pub inside : Each (λ v. v < count) kept
-  pub once : (j k : ℕ) → j < length kept → k < length kept → slice_index kept j ≡ slice_index kept k → j ≡ k
+  pub ascending : (j k : ℕ) → j < k → k < length kept → slice_index kept j < slice_index kept k
+
+-- the stream of the variable of this number is wanted
+pub record IsWantedAt (wanted : Wanted) (variables : List Variable) (v : ℕ) : Type 0 where
+  pub variable : Variable
+  pub there : slice_get variables v ≡ Some variable
+  pub role : is_wanted wanted variable.role ≡ true
+
+-- no number of another variable is among them
+abbrev pub AreOnlyWanted : Wanted → List Variable → List ℕ → Type 0
+AreOnlyWanted wanted variables kept = Each (λ v. IsWantedAt wanted variables v) kept
 
 -- the number of each variable whose stream is wanted is among them
 abbrev pub AreAllKept : Wanted → List Variable → List ℕ → Type 0

@@ -102,21 +102,11 @@ pub fn ticked_at(lasts: &[Cell], place: u16) -> Option<bool>
     }
 }
 
-/// The last value up to now, from that now and that before.
-#[inline(always)]
-pub fn latest(now: Cell, last: Cell) -> Cell
-    ensures { held result ≡ latest (held now) (held last) }
-{
-    match now {
-        Cell::Absent => last,
-        cell => cell,
-    }
-}
-
-/// The last value after an instant, from what is shown at it and the last one before it.
+/// The last value up to now, from what is shown now and the last value before.
 #[inline(always)]
 pub fn newest(now: Cell, before: Cell) -> Cell
-    ensures { result ≡ newest now before }
+    ensures cell { result ≡ newest now before }
+    ensures held { held result ≡ latest (held now) (held before) }
 {
     match now {
         Cell::Absent => before,

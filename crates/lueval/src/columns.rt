@@ -3,7 +3,7 @@
 ghost use Rattle.std.specs.Prelude.{◌≡◌, ◌<◌, ◌≤◌, ◌+◌, ℕ, [], All, IfOk, length, slice_get, Some, vec_capacity};
 ghost use Rattle.luflow.specs.Solution.{solution};
 ghost use Rattle.lueval.specs.Cells.{statuses};
-ghost use Rattle.lueval.specs.Steps.{Column, AreNew, AreEmpty, AreColumns, AreKept, AreAllKept, AreShown, IsLonger, is_wanted};
+ghost use Rattle.lueval.specs.Steps.{Column, AreNew, AreEmpty, AreColumns, AreKept, AreAllKept, AreOnlyWanted, AreShown, IsLonger, is_wanted};
 
 use crate::cell::{Cell, status};
 use luflow::{Flat, Inputs, Role, Status, Variable};
@@ -35,6 +35,7 @@ impl Notes {
     ) -> Result<Notes, AllocError>
         ensures new { IfOk result (AreNew variables.now instants) }
         ensures all { IfOk result (λ notes. AreAllKept wanted variables.now notes.kept.items) }
+        ensures only { IfOk result (λ notes. AreOnlyWanted wanted variables.now notes.kept.items) }
     {
         let kept = kept_of(alloc, variables, wanted)?;
         let columns = new_columns(alloc, variables.len(), kept.as_slice(), instants)?;
@@ -61,6 +62,7 @@ pub fn kept_of(
 ) -> Result<Vec<usize>, AllocError>
     ensures kept { IfOk result (λ kept. AreKept (length variables.now) kept.items) }
     ensures all { IfOk result (λ kept. AreAllKept wanted variables.now kept.items) }
+    ensures only { IfOk result (λ kept. AreOnlyWanted wanted variables.now kept.items) }
 {
     let mut kept = Vec::with_capacity(alloc, variables.len())?;
     for v in 0..variables.len() {

@@ -19,5 +19,5 @@ loop-k-preserved c =
     let ln : i < length now = let n = inv.len in let l = c.requires.lens in omega (arith, li) in
     let last = c.index.result.now in
     let has : slice_get now i ≡ Some last = slice_get-get_or now i last ln ∙ ap (λ (x : Cell). Some x) (sym c.index.ensures) in
-    subst (λ (x : Cell). AreAged looked shown c.args.lasts.now.items (set now i x) (k + 1)) (sym c.newest.ensures)
+    subst (λ (x : Cell). AreAged looked shown c.args.lasts.now.items (set now i x) (k + 1)) (sym c.newest.ensures.cell)
     (aged_more looked shown c.args.lasts.now.items now k inv (get_or shown i Absent) last (slice_get-get_or shown i Absent li) has)
