@@ -71,7 +71,7 @@ fn evaluation(rt: &HostRuntime, flat: &Flat, inputs: &Inputs) -> io::Result<()> 
 }
 
 /// Evaluates a program of about so many flows at so many instants, and prints what that takes.
-pub fn measure(rt: &HostRuntime, flows: u32, instants: u32) -> io::Result<()> {
+pub(crate) fn measure(rt: &HostRuntime, flows: u32, instants: u32) -> io::Result<()> {
     let text = programs::chain(rt.alloc(), flows)?;
     let Some(flat) = programs::flat(rt.alloc(), &text) else {
         return println!(rt; "no program");

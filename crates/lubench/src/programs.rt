@@ -36,7 +36,7 @@ var y0: int; d0: bool;
 const FLOWS_OF_STAGE: u32 = 68;
 
 /// The text of a program in which stages of about so many flows follow one another, of the inputs `x: int` and `c: bool`.
-pub fn chain(alloc: Global, flows: u32) -> Result<String, AllocError> {
+pub(crate) fn chain(alloc: Global, flows: u32) -> Result<String, AllocError> {
     let stages = (flows / FLOWS_OF_STAGE).max(1);
     let mut text = String::from_str(alloc, BEGINNING)?;
     for i in 1..=stages {
@@ -51,7 +51,7 @@ pub fn chain(alloc: Global, flows: u32) -> Result<String, AllocError> {
 }
 
 /// The flat program of a text; none where the text is none of the language, or memory runs out.
-pub fn flat(alloc: Global, text: &str) -> Option<Flat> {
+pub(crate) fn flat(alloc: Global, text: &str) -> Option<Flat> {
     let program = lusyn::read_program(alloc, text).ok()?;
     let checked = lustat::check(alloc, &program, "main").ok()?;
     lucore::flatten(alloc, &checked).ok()

@@ -90,7 +90,7 @@ fn writing(rt: &HostRuntime, outputs: &Outputs) -> io::Result<()> {
 }
 
 /// Reads and writes a table of so many lines and columns, and prints what that takes.
-pub fn measure(rt: &HostRuntime, lines: u32, columns: u32) -> io::Result<()> {
+pub(crate) fn measure(rt: &HostRuntime, lines: u32, columns: u32) -> io::Result<()> {
     let Some(flat) = programs::flat(rt.alloc(), &program(rt.alloc(), columns)?) else {
         return println!(rt; "no program");
     };

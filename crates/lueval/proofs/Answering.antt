@@ -29,7 +29,7 @@ use Rattle.lueval.specs.declared.cell.Answer.TheVariants as answer
 use Rattle.lueval.specs.declared.line.Line.{Line}
 use Rattle.lueval.specs.declared.machine.Machine.{Machine}
 use Rattle.lueval.specs.Frames.{clock_in}
-use Rattle.lueval.specs.Cells.{status_of, statuses, outcome_of, view_of, clock_of, IsLine}
+use Rattle.lueval.specs.Cells.{status_of, statuses, outcome_of, given_at, view_of, clock_of, IsLine}
 use Rattle.lueval.specs.Whole.{AreStreams, AreMeant, HasNoFault, IsFirstFault, KeepsAllTypes}
 use Rattle.lueval.specs.Steps.{Stands, StandsAt, Computes}
 use Rattle.lueval.proofs.Seeing.{statuses_set}
@@ -77,8 +77,8 @@ module _ (flat : FlatProgram) (inputs : Table) (machine : Machine) (t p : ℕ) (
 
   value_is : (a : Answer) → Computes inputs machine t line a → value_at inputs σ at.flow.clock at.flow.form t ≡ outcome_of a
   value_is a c =
-      value_here flat inputs σ is_flat fit one_is shown lasts t p stands line.place at.flow c.given lp at.place at.there (λ n e. c.is_given n (at.form ∙ e))
-      ∙ ap (λ (f : Form). value_of f (view_of c.given shown lasts line.place)) (sym at.form) ∙ sym c.is
+      value_here flat inputs σ is_flat fit one_is shown lasts t p stands line.place at.flow lp at.place at.there
+      ∙ ap (λ (f : Form). value_of f (view_of (given_at inputs t) shown lasts line.place)) (sym at.form) ∙ sym c
 
   pub absent_next : false ≡ unwrap_or (clock_in shown (clock_of line.clock)) false → Stands flat inputs σ (statuses (set machine.shown.items line.place cell.Absent)) lasts t (p + 1)
   absent_next off =

@@ -12,11 +12,10 @@ use Rattle.luflow.specs.declared.data.Status.TheVariants.{Absent, Present}
 use Rattle.luflow.specs.declared.form.Clock.{Clock}
 use Rattle.luflow.specs.declared.form.Clock.TheVariants.{Base, On}
 use Rattle.luflow.specs.declared.form.Form.{Form}
-use Rattle.luflow.specs.declared.form.Form.TheVariants.{Input}
 use Rattle.luflow.specs.declared.form.Flow.{Flow}
 use Rattle.luflow.specs.declared.form.FaultKind.{FaultKind}
 use Rattle.luflow.specs.declared.form.Outcome.TheVariants.{Gives, Faults, Stuck}
-use Rattle.luflow.specs.Program.{FlatProgram, Table, flow_at, flows_of, column_of, places, clock_reads, form_reads, reads}
+use Rattle.luflow.specs.Program.{FlatProgram, Table, flow_at, flows_of, places, clock_reads, form_reads, reads}
 use Rattle.luflow.specs.Operators.{single_of, double_of}
 use Rattle.luflow.specs.Streams.{Mark, Known, Broken, Streams, datum_of, truth_in, clock_at, ticked, before}
 use Rattle.luflow.specs.Values.{on_one, on_two, value_of, value_at, under}
@@ -30,7 +29,7 @@ use Rattle.luflow.proofs.Tidied.{stuck_broken}
 use Rattle.lueval.specs.declared.cell.Cell.{Cell}
 use Rattle.lueval.specs.declared.cell.Cell.TheVariants as cell
 use Rattle.lueval.specs.Frames.{clock_in, IsShown}
-use Rattle.lueval.specs.Cells.{status_of, statuses, view_of, looks_back, newest, AreLooked}
+use Rattle.lueval.specs.Cells.{status_of, statuses, given_at, view_of, looks_back, newest, AreLooked}
 use Rattle.lueval.specs.Whole.{IsEarlier}
 use Rattle.lueval.specs.Steps.{AreShown, Stands, IsLast}
 use Rattle.lueval.proofs.Reading.{clock_read}
@@ -118,13 +117,12 @@ module _ (flat : FlatProgram) (inputs : Table) (σ : Streams) (is_flat : IsFlat 
         let b = clock_there inputs σ shown flow.clock t all in
         known_clock (clock_at inputs σ flow.clock t) (clock_in shown flow.clock) b.0 (clock_read inputs σ shown flow.clock t lt all) b.1
 
-    pub value_here : (i : ℕ) (flow : Flow) (given : Option Datum) → p < length flat.order → i ≡ slice_index flat.order p → flow_at flat i ≡ Some flow → ((c : ℕ) → flow.form ≡ Input c → given ≡ slice_get (column_of inputs c) t) → value_at inputs σ flow.clock flow.form t ≡ value_of flow.form (view_of given shown lasts i)
-    value_here i flow given lp e is input =
-        value_seen flat inputs σ i t flow flow.form given shown lasts (record {
+    pub value_here : (i : ℕ) (flow : Flow) → p < length flat.order → i ≡ slice_index flat.order p → flow_at flat i ≡ Some flow → value_at inputs σ flow.clock flow.form t ≡ value_of flow.form (view_of (given_at inputs t) shown lasts i)
+    value_here i flow lp e is =
+        value_seen flat inputs σ i t flow flow.form shown lasts (record {
           there = is;
           reads = all_left (IsShown σ shown t) (form_reads flow.form) (clock_reads flow.clock) (reads_shown i flow lp e is);
           back = stands.kept i flow is;
-          input = input;
         })
 
     -- nothing that it looks at is broken, so its value is not stuck

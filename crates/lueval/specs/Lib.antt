@@ -1,4 +1,5 @@
 pub mod Frames
+pub mod Operations
 pub mod Cells
 pub mod Steps
 pub mod Whole

@@ -1,14 +1,12 @@
 -- Where the whole evaluator stands.
-use Rattle.std.specs.Prelude.{◌≡◌, ◌≢◌, ℕ, ◌<◌, ◌≤◌, Bool, true, false, List, [], ◌∷◌, ◌++◌, map, length, All as Each, Contains, Option, Some, slice_get, slice_index, slice_set, vec_capacity, Vec}
+use Rattle.std.specs.Prelude.{◌≡◌, ◌≢◌, ℕ, ◌<◌, ◌≤◌, Bool, true, false, List, [], ◌∷◌, ◌++◌, map, length, All as Each, Contains, Some, slice_get, slice_index, slice_set, vec_capacity, Vec}
 use Rattle.std.specs.declared.alloc.Global.{Global}
-use Rattle.luflow.specs.declared.data.Datum.{Datum}
 use Rattle.luflow.specs.declared.data.Status.{Status}
-use Rattle.luflow.specs.declared.form.Form.TheVariants.{Input as InputForm}
 use Rattle.luflow.specs.declared.form.Flow.{Flow}
 use Rattle.luflow.specs.declared.variable.Variable.{Variable}
 use Rattle.luflow.specs.declared.variable.Role.{Role}
 use Rattle.luflow.specs.declared.variable.Role.TheVariants.{Input, Output, Local}
-use Rattle.luflow.specs.Program.{FlatProgram, Table, flow_at, flows_of, column_of}
+use Rattle.luflow.specs.Program.{FlatProgram, Table, flow_at, flows_of}
 use Rattle.luflow.specs.Streams.{Known, Broken, Streams, ticked, before}
 use Rattle.luflow.specs.Messages.{marks}
 use Rattle.luflow.specs.Values.{value_of}
@@ -22,7 +20,8 @@ use Rattle.lueval.specs.declared.columns.Wanted.TheVariants.{All, Outputs}
 use Rattle.lueval.specs.declared.columns.Notes.{Notes}
 use Rattle.lueval.specs.declared.machine.Machine.{Machine}
 use Rattle.lueval.specs.Frames.{IsShown}
-use Rattle.lueval.specs.Cells.{statuses, outcome_of, last_of, ticks_of, view_of, form_of, looks_back}
+use Rattle.lueval.specs.Operations.{form_of}
+use Rattle.lueval.specs.Cells.{statuses, outcome_of, last_of, ticks_of, given_at, view_of, looks_back}
 
 -- the column of one main variable
 abbrev pub Column : Type 0
@@ -96,11 +95,9 @@ pub record IsRanked (flat : FlatProgram) (p i : ℕ) (flow : Flow) : Type 0 wher
   pub place : i ≡ slice_index flat.order p
   pub there : flow_at flat i ≡ Some flow
 
--- the value of a line, from what the machine holds and, for an input, from the table
-pub record Computes (inputs : Table) (machine : Machine) (t : ℕ) (line : Line) (answer : Answer) : Type 0 where
-  pub given : Option Datum
-  pub is_given : (c : ℕ) → form_of line.operation ≡ InputForm c → given ≡ slice_get (column_of inputs c) t
-  pub is : outcome_of answer ≡ value_of (form_of line.operation) (view_of given (statuses machine.shown.items) machine.lasts.items line.place)
+-- the value of a line, from the table and what the machine holds
+abbrev pub Computes : Table → Machine → ℕ → Line → Answer → Type 0
+Computes inputs machine t line answer = outcome_of answer ≡ value_of (form_of line.operation) (view_of (given_at inputs t) (statuses machine.shown.items) machine.lasts.items line.place)
 
 -- every flow is shown as it is at t
 abbrev pub AreShown : Streams → List Status → ℕ → Type 0

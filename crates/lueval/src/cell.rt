@@ -3,7 +3,7 @@
 ghost use Rattle.std.specs.Prelude.{◌≡◌, slice_get, unwrap_or, false, Some};
 ghost use Rattle.luflow.specs.Values.{gives};
 ghost use Rattle.lueval.specs.Frames.{datum_in, latest, clock_in};
-ghost use Rattle.lueval.specs.Cells.{status_of, statuses, held, last_in, ticked_in, clock_of, outcome_of, is_sign, newest};
+ghost use Rattle.lueval.specs.Cells.{status_of, statuses, held, last_in, ticked_in, clock_of, outcome_of, is_absent, is_datum, is_sign, newest};
 
 use crate::line::LineClock;
 use luflow::{Datum, FaultKind, Outcome, Status};
@@ -42,16 +42,46 @@ pub fn cell_of(d: Datum) -> Cell
     }
 }
 
-/// The status that a cell stands for.
+/// Whether a cell is of no flow that is present.
+#[inline(always)]
+pub fn is_absent(cell: Cell) -> bool
+    ensures { result ≡ is_absent cell }
+{
+    match cell {
+        Cell::Absent => true,
+        _ => false,
+    }
+}
+
+/// Whether a cell holds a number or a truth value.
+#[inline(always)]
+pub fn is_datum(cell: Cell) -> bool
+    ensures { result ≡ is_datum cell }
+{
+    match cell {
+        Cell::Absent => false,
+        Cell::Nil => false,
+        Cell::Truth(_) => true,
+        Cell::Number(_) => true,
+    }
+}
+
+/// The status that a cell stands for; not by a match of four, for the reason that [`crate::operation`] gives.
 #[inline(always)]
 pub fn status(cell: Cell) -> Status
     ensures { result ≡ status_of cell }
 {
-    match cell {
-        Cell::Absent => Status::Absent,
-        Cell::Nil => Status::Present(Datum::Nil),
-        Cell::Truth(b) => Status::Present(Datum::Bool(b)),
-        Cell::Number(n) => Status::Present(Datum::Int(n)),
+    if is_datum(cell) {
+        return match cell {
+            Cell::Number(n) => Status::Present(Datum::Int(n)),
+            Cell::Truth(b) => Status::Present(Datum::Bool(b)),
+            _ => Status::Absent,
+        };
+    }
+    if is_absent(cell) {
+        Status::Absent
+    } else {
+        Status::Present(Datum::Nil)
     }
 }
 

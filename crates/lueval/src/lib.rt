@@ -11,11 +11,13 @@
 mod answers;
 mod cell;
 mod columns;
+mod doubles;
 mod error;
 mod evaluator;
 mod kernel;
 mod line;
 mod machine;
+mod operation;
 mod operators;
 mod outputs;
 #[cfg(test)]
