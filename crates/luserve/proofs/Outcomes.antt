@@ -1,5 +1,5 @@
 -- What an evaluation gives, in the words of the source.
-use Rattle.std.proofs.Common.{◌≡◌, ℕ, List, [], map, sym, ap, ◌∙◌}
+use Rattle.std.proofs.Common.{◌≡◌, ℕ, List, [], map, refl, sym, ap, ◌∙◌}
 use Rattle.std.specs.Prelude.{slice_get}
 use Rattle.lutree.specs.Tree.{ProgramTree}
 use Rattle.luflow.specs.declared.data.Status.{Status}
@@ -16,7 +16,9 @@ use Rattle.lutab.specs.Table.{IsTextOf}
 use Rattle.lushell.specs.declared.request.EvalRequest.{EvalRequest}
 use Rattle.luserve.specs.declared.stop.Stop.{Stop}
 use Rattle.luserve.specs.declared.stop.Stop.TheVariants.{CannotRead, NotAscii, Syntax, Rules, NotYet, Flat, Place, Table as BadTable, Schedule, Fault, OutOfMemory}
-use Rattle.luserve.specs.Evaluated.{AreEvaluated, AreOutputsOf, IsPosed, IsPosedBy, IsStopped, IsFaultAsked}
+use Rattle.luserve.specs.Evaluated.{AreEvaluated, AreOutputsOf, IsPosed, IsPosedBy, IsStopped}
+use Rattle.luserve.specs.Stopped.{IsEvalStopped}
+use Rattle.luserve.specs.Stopped.IsEvalStopped.{eval_fault, eval_memory}
 
 -- the outputs among the streams of the main variables
 pub are_evaluated : (flat : FlatProgram) (inputs : Table) (streams : List (List Status)) (outputs : List OutputColumn) → AreStreams flat inputs streams → AreMeant flat inputs streams → HasNoFault flat inputs → outputs ≡ outputs_in flat.variables streams → AreEvaluated flat inputs outputs
@@ -41,16 +43,16 @@ posed text main table tree flat inputs spelled flat_is table_is fits =
     let columns = flat_is.columns inputs fits in
     record { spelled = spelled; flat_is = flat_is; table_is = table_is; agrees = flat_is.agrees inputs columns; one_meaning = flat_is.one_meaning inputs columns }
 
--- where an evaluation stops, it tells the fault of what was asked for
-pub fault_asked : (gives : List ℕ → List ℕ → Type 0) (request : EvalRequest) (flat : FlatProgram) (inputs : Table) → IsPosedBy gives request flat inputs → (stop : Stop) → IsStopped flat inputs stop → IsFaultAsked gives request stop
-fault_asked gives request flat inputs asked (CannotRead path) told = tt
-fault_asked gives request flat inputs asked NotAscii told = tt
-fault_asked gives request flat inputs asked (Syntax e) told = tt
-fault_asked gives request flat inputs asked (Rules e) told = tt
-fault_asked gives request flat inputs asked NotYet told = tt
-fault_asked gives request flat inputs asked (Flat e) told = tt
-fault_asked gives request flat inputs asked (Place e) told = tt
-fault_asked gives request flat inputs asked (BadTable e) told = tt
-fault_asked gives request flat inputs asked (Schedule e) told = tt
-fault_asked gives request flat inputs asked (Fault name instant kind) told = record { flat = flat; inputs = inputs; asked = asked; told = told }
-fault_asked gives request flat inputs asked OutOfMemory told = tt
+-- where an evaluation of them stops, what was asked for stops so
+pub eval_stop : (gives : List ℕ → List ℕ → Type 0) (request : EvalRequest) (flat : FlatProgram) (inputs : Table) → IsPosedBy gives request flat inputs → (stop : Stop) → IsStopped flat inputs stop → IsEvalStopped gives request stop
+eval_stop gives request flat inputs asked (CannotRead path) told = absurd told
+eval_stop gives request flat inputs asked NotAscii told = absurd told
+eval_stop gives request flat inputs asked (Syntax e) told = absurd told
+eval_stop gives request flat inputs asked (Rules e) told = absurd told
+eval_stop gives request flat inputs asked NotYet told = absurd told
+eval_stop gives request flat inputs asked (Flat e) told = absurd told
+eval_stop gives request flat inputs asked (Place e) told = absurd told
+eval_stop gives request flat inputs asked (BadTable e) told = absurd told
+eval_stop gives request flat inputs asked (Schedule e) told = absurd told
+eval_stop gives request flat inputs asked (Fault name instant kind) told = eval_fault name instant kind refl (record { flat = flat; inputs = inputs; asked = asked; told = told })
+eval_stop gives request flat inputs asked OutOfMemory told = eval_memory refl

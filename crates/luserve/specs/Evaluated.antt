@@ -92,8 +92,3 @@ pub record IsFaultOf (gives : List ℕ → List ℕ → Type 0) (request : EvalR
   pub inputs : Table
   pub asked : IsPosedBy gives request flat inputs
   pub told : IsFaultTold flat inputs name instant kind
-
--- where an evaluation that is asked for tells a fault, it is that one
-abbrev pub IsFaultAsked : (List ℕ → List ℕ → Type 0) → EvalRequest → Stop → Type 0
-IsFaultAsked gives request (Fault name instant kind) = IsFaultOf gives request name instant kind
-IsFaultAsked gives request _ = Unit {0}

@@ -17,18 +17,13 @@ use Rattle.luplace.specs.Placing.{refusal}
 use Rattle.lutab.specs.declared.error.TabError.TheVariants as table
 use Rattle.lutab.specs.Table.{IsRefused as IsRefusedTable}
 use Rattle.luserve.specs.declared.stop.Stop.{Stop}
-use Rattle.luserve.specs.declared.stop.Stop.TheVariants.{NotAscii, Syntax, Rules, Flat, Place as PlaceStop, Table, Fault}
+use Rattle.luserve.specs.declared.stop.Stop.TheVariants.{NotAscii, Syntax, Rules, Flat, Place as PlaceStop, Table}
 
 -- A rule that the program breaks, where all rules of the stages before it are kept; or, of a program that keeps all rules, why it
 -- has no flat program.
 pub data IsToldOf (tree : ProgramTree) (main : List ℕ) (stop : Stop) : Type 0 where
   rule : (refusal : StatError) → stop ≡ Rules refusal → Tells 3 tree main refusal → IsToldOf tree main stop
   flat : (refusal : CoreError) → stop ≡ Flat refusal → IsAccepted tree main → Refuses tree main refusal → IsToldOf tree main stop
-
--- a call stops for another cause than a fault
-abbrev pub IsNoFault : Stop → Type 0
-IsNoFault (Fault name instant kind) = ⊥
-IsNoFault _ = Unit {0}
 
 -- the bytes of a program's file are no text, or a text that is refused so
 abbrev pub IsProgramRefused : List ℕ → Stop → Type 0

@@ -8,8 +8,11 @@ ghost use Rattle.luweave.specs.Headline.{IsFaithful};
 ghost use Rattle.luserve.specs.Asked.{IsAskedFor, IsWorldOf, IsPrinted, IsReplayed, IsChecked, IsAnswer, IsDone};
 ghost use Rattle.luflow.specs.Sound.{IsFit};
 ghost use Rattle.luflow.specs.Variables.{outputs_of};
-ghost use Rattle.luserve.specs.Evaluated.{IsPosedBy, IsEvaluated, IsFaultAsked};
-ghost use Rattle.luserve.specs.Refused.{IsNoFault};
+ghost use Rattle.luserve.specs.Evaluated.{IsPosedBy, IsEvaluated};
+ghost use Rattle.luserve.specs.Stopped.{IsCheckStopped, IsEvalStopped, IsReplayStopped, IsRequestStopped, IsRefusal};
+ghost use Rattle.luserve.specs.Statuses.{status_of};
+ghost use Rattle.luserve.specs.declared.stop.Stop.{Stop};
+ghost use Rattle.luserve.specs.declared.stop.Stop.TheVariants.{OutOfMemory};
 
 use crate::evaluating::output_table;
 use crate::sites::new_sites;
@@ -33,7 +36,8 @@ fn job_and_turns<F: Files>(
     request: ReplayRequest<'_>,
     files: &F,
 ) -> Result<(Job, Vec<u8>), Stop>
-    ensures { IfOk result (λ found. IsAskedFor (F.gives files.now) request.entry found.0 found.1.items) }
+    ensures asked { IfOk result (λ found. IsAskedFor (F.gives files.now) request.entry found.0 found.1.items) }
+    ensures stopped { IfErr result (IsReplayStopped (F.gives files.now) request.entry) }
 {
     let program = read(alloc, files, request.program)?;
     let flat = flat_of(alloc, &program, request.main)?;
@@ -50,6 +54,7 @@ fn job_and_turns<F: Files>(
 pub fn replayed(alloc: Global, job: &Job, turns: &[u8]) -> Result<World, Stop>
     ensures world { IfOk result (IsWorldOf job.now turns.now) }
     ensures faithful { IfOk result (λ world. IsFaithful world.job world.dones) }
+    ensures memory { IfErr result (λ stop. stop ≡ OutOfMemory) }
 {
     let sites = new_sites(alloc, job)?;
     let world = replay(alloc, job.plan(), sites, turns)?;
@@ -58,7 +63,8 @@ pub fn replayed(alloc: Global, job: &Job, turns: &[u8]) -> Result<World, Stop>
 
 /// What a replay of a job prints.
 fn printed(alloc: Global, job: &Job, turns: &[u8]) -> Result<String, Stop>
-    ensures { IfOk result (λ text. IsPrinted job.now turns.now (string_bytes text)) }
+    ensures text { IfOk result (λ text. IsPrinted job.now turns.now (string_bytes text)) }
+    ensures memory { IfErr result (λ stop. stop ≡ OutOfMemory) }
 {
     let world = replayed(alloc, job, turns)?;
     Ok(text_of_world(alloc, job.plan(), &world)?)
@@ -70,7 +76,8 @@ fn replay_text<F: Files>(
     request: ReplayRequest<'_>,
     files: &F,
 ) -> Result<String, Stop>
-    ensures { IfOk result (λ text. IsReplayed (F.gives files.now) request.entry (string_bytes text)) }
+    ensures text { IfOk result (λ text. IsReplayed (F.gives files.now) request.entry (string_bytes text)) }
+    ensures stopped { IfErr result (IsReplayStopped (F.gives files.now) request.entry) }
 {
     let (job, turns) = job_and_turns(alloc, request, files)?;
     printed(alloc, &job, &turns)
@@ -78,7 +85,8 @@ fn replay_text<F: Files>(
 
 /// What a check prints: the canonical text of the program, which keeps all rules and has a flat program.
 fn check_text<F: Files>(alloc: Global, request: CheckRequest<'_>, files: &F) -> Result<String, Stop>
-    ensures { IfOk result (λ text. IsChecked (F.gives files.now) request.entry (string_bytes text)) }
+    ensures text { IfOk result (λ text. IsChecked (F.gives files.now) request.entry (string_bytes text)) }
+    ensures stopped { IfErr result (IsCheckStopped (F.gives files.now) request.entry) }
 {
     let bytes = read(alloc, files, request.program)?;
     let program = program_of(alloc, &bytes)?;
@@ -97,7 +105,7 @@ fn posed<F: Files>(
     ensures posed { IfOk result (λ found. IsPosedBy (F.gives files.now) request.entry found.0 found.1) }
     ensures fit { IfOk result (λ found. IsFit found.0 found.1) }
     ensures some { IfOk result (λ found. 0 < length (outputs_of found.0.variables)) }
-    ensures no_fault { IfErr result IsNoFault }
+    ensures stopped { IfErr result (IsEvalStopped (F.gives files.now) request.entry) }
 {
     let bytes = read(alloc, files, request.program)?;
     let program = program_of(alloc, &bytes)?;
@@ -110,7 +118,7 @@ fn posed<F: Files>(
 /// What an evaluation prints: the table of the outputs of the program at the input table.
 fn eval_text<F: Files>(alloc: Global, request: EvalRequest<'_>, files: &F) -> Result<String, Stop>
     ensures text { IfOk result (λ text. IsEvaluated (F.gives files.now) request.entry (string_bytes text)) }
-    ensures fault { IfErr result (IsFaultAsked (F.gives files.now) request.entry) }
+    ensures stopped { IfErr result (IsEvalStopped (F.gives files.now) request.entry) }
 {
     let (flat, inputs) = posed(alloc, request, files)?;
     output_table(alloc, &flat, &inputs)
@@ -118,7 +126,8 @@ fn eval_text<F: Files>(alloc: Global, request: EvalRequest<'_>, files: &F) -> Re
 
 /// What the command that is asked for prints.
 fn answer<F: Files>(alloc: Global, request: Request<'_>, files: &F) -> Result<String, Stop>
-    ensures { IfOk result (λ text. IsAnswer (F.gives files.now) request.entry (string_bytes text)) }
+    ensures text { IfOk result (λ text. IsAnswer (F.gives files.now) request.entry (string_bytes text)) }
+    ensures stopped { IfErr result (IsRequestStopped (F.gives files.now) request.entry) }
 {
     match request {
         Request::Check(request) => check_text(alloc, request, files),
@@ -138,6 +147,7 @@ fn perform<F: Files, W: Write, V: Write>(
     ensures done { result ≡ 0 → (text : List ℕ) × IsAnswer (F.gives files.now) request.entry text × Appends (W.contents out.old) (W.contents out.new) text }
     ensures refused { (result ≡ 1) ⊎ (result ≡ 2) → out.new ≡ out.old }
     ensures silent { result ≡ 0 → err.new ≡ err.old }
+    ensures stopped { (result ≡ 1) ⊎ (result ≡ 2) → (stop : Stop) × IsRequestStopped (F.gives files.now) request.entry stop × (result ≡ status_of stop) }
 {
     match answer(alloc, request, files) {
         Ok(text) => put_out(out, err, text.as_bytes()),
@@ -164,6 +174,11 @@ pub fn serve_words<F: Files, W: Write, V: Write>(
 
     // Where a text or a file is refused, or the words are, nothing goes to the output.
     ensures refused { (result ≡ 1) ⊎ (result ≡ 2) → out.new ≡ out.old }
+
+    // Where a text is refused, it is for what the text says; and where words that the command line takes end with status 2, a
+    // file can't be read.
+    ensures text { result ≡ 1 → IsRefusal (F.gives files.now) (map string_bytes words.entry.now) 1 }
+    ensures file { takes lusdist (map string_bytes words.entry.now) ≡ true → result ≡ 2 → IsRefusal (F.gives files.now) (map string_bytes words.entry.now) 2 }
 
     // Where the call is done, nothing goes to the error stream.
     ensures silent { result ≡ 0 → err.new ≡ err.old }

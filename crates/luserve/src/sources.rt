@@ -12,7 +12,8 @@ ghost use Rattle.luflow.specs.Variables.{inputs_of};
 ghost use Rattle.lutab.specs.Table.{IsTextOf};
 ghost use Rattle.luserve.specs.declared.stop.Stop.TheVariants.{NotYet};
 ghost use Rattle.luserve.specs.Asked.{IsFlatOfText, IsPlanOfText};
-ghost use Rattle.luserve.specs.Refused.{IsToldOf, IsNoFault, IsProgramRefused, IsPlaceRefused, IsTableRefused};
+ghost use Rattle.luserve.specs.Refused.{IsToldOf, IsProgramRefused, IsPlaceRefused, IsTableRefused};
+ghost use Rattle.luserve.specs.Stopped.{IsUnread, HasNoFirst, IsScheduleRefused};
 
 use crate::stop::Stop;
 use lucore::flatten;
@@ -31,7 +32,7 @@ use std::alloc::Global;
 /// The bytes of the file at the path.
 pub fn read<F: Files>(alloc: Global, files: &F, path: &str) -> Result<Vec<u8>, Stop>
     ensures given { IfOk result (λ bytes. F.gives files.now path.now bytes.items) }
-    ensures no_fault { IfErr result IsNoFault }
+    ensures unread { IfErr result (IsUnread path.now) }
 {
     match files.read(alloc, path) {
         Ok(bytes) => Ok(bytes),
@@ -46,7 +47,6 @@ pub fn read<F: Files>(alloc: Global, files: &F, path: &str) -> Result<Vec<u8>, S
 pub fn program_of(alloc: Global, bytes: &[u8]) -> Result<Program, Stop>
     ensures spelled { IfOk result (λ program. SpellsText bytes.now (program_view program)) }
     ensures refused { IfErr result (IsProgramRefused bytes.now) }
-    ensures no_fault { IfErr result IsNoFault }
 {
     let Some(text) = text_of(bytes) else {
         return Err(Stop::NotAscii);
@@ -61,7 +61,6 @@ pub fn program_of(alloc: Global, bytes: &[u8]) -> Result<Program, Stop>
 pub fn flattened(alloc: Global, program: &Program, main: &str) -> Result<Flat, Stop>
     ensures flat { IfOk result (IsFlatOf (program_view program.now) main.now) }
     ensures told { IfErr result (IsToldOf (program_view program.now) main.now) }
-    ensures no_fault { IfErr result IsNoFault }
 {
     let checked = match check(alloc, program, main) {
         Ok(checked) => checked,
@@ -89,7 +88,8 @@ fn first_alone(program: &Program, flat: Flat) -> Result<Flat, Stop>
 /// The flat program that the bytes of a program's file are, from its main node of this name, where the program is of the first
 /// language.
 pub fn flat_of(alloc: Global, bytes: &[u8], main: &str) -> Result<Flat, Stop>
-    ensures { IfOk result (IsFlatOfText bytes.now main.now) }
+    ensures flat { IfOk result (IsFlatOfText bytes.now main.now) }
+    ensures refused { IfErr result (HasNoFirst bytes.now main.now) }
 {
     let program = program_of(alloc, bytes)?;
     let flat = flattened(alloc, &program, main)?;
@@ -121,7 +121,6 @@ pub fn inputs_in(alloc: Global, flat: &Flat, bytes: &[u8]) -> Result<Inputs, Sto
     ensures fits { IfOk result (λ inputs. Fits flat.now inputs) }
     ensures fit { IfOk result (λ inputs. IsFit flat.now inputs) }
     ensures refused { IfErr result (IsTableRefused (inputs_of flat.now.variables) bytes.now) }
-    ensures no_fault { IfErr result IsNoFault }
 {
     let _flows = flat.flows();
     let Some(text) = text_of(bytes) else {
@@ -138,6 +137,7 @@ pub fn job_of(alloc: Global, plan: Plan, bytes: &[u8]) -> Result<Job, Stop>
     ensures plan { IfOk result (λ job. job.plan ≡ plan) }
     ensures text { IfOk result (λ job. IsTextOf (inputs_of plan.flat.variables) job.inputs bytes.now) }
     ensures fits { IfOk result (λ job. Fits plan.flat job.inputs) }
+    ensures refused { IfErr result (IsTableRefused (inputs_of plan.flat.variables) bytes.now) }
 {
     let inputs = inputs_in(alloc, plan.flat(), bytes)?;
     Ok(Job::new(plan, inputs))
@@ -145,7 +145,8 @@ pub fn job_of(alloc: Global, plan: Plan, bytes: &[u8]) -> Result<Job, Stop>
 
 /// The turns that the bytes of a schedule's file are.
 pub fn turns_of(alloc: Global, bytes: &[u8]) -> Result<Vec<u8>, Stop>
-    ensures { IfOk result (λ turns. schedule_of bytes.now ≡ Ok turns.items) }
+    ensures turns { IfOk result (λ turns. schedule_of bytes.now ≡ Ok turns.items) }
+    ensures refused { IfErr result (IsScheduleRefused bytes.now) }
 {
     match read_schedule(alloc, bytes) {
         Ok(turns) => Ok(turns),

@@ -1,9 +1,12 @@
 use Rattle.std.proofs.Common.{sym, subst}
 use Rattle.lutree.specs.Tree.{program_view}
+use Rattle.std.proofs.lemmas.Result.{err_from_is_err_and}
+use Rattle.luserve.specs.Stopped.HasNoFlat.{unspelled, unruled}
+use Rattle.luserve.specs.Stopped.IsCheckStopped.{check_program}
 use Rattle.luserve.proofs.serve.check_text.Goals as goal
 
-pub returns : goal.returns
-returns g c =
+pub returns-clause-text : goal.returns-clause-text
+returns-clause-text g c =
     let gives = g.F.Files.gives c.args.files.now in
     record {
       program = c.deref.result.now;
@@ -15,3 +18,15 @@ returns g c =
       text_is = c.in_ok-text.ensures.canonical;
       again = c.in_ok-text.ensures.again;
     }
+
+pub returns-in_err-program-clause-stopped : goal.returns-in_err-program-clause-stopped
+returns-in_err-program-clause-stopped g c =
+    let p = err_from_is_err_and c.from_residual-in_err-program.result c.from_residual-in_err-program.ensures.1 in
+    let gives = g.F.Files.gives c.args.files.now in
+    rw (p.1, p.2) (check_program c.deref.result.now (subst (gives c.args.request.program.now) (sym c.deref.ensures.value) c.in_ok-bytes.ensures.given) (unspelled c.in_err-program.ensures.refused))
+
+pub returns-in_err-_flat-clause-stopped : goal.returns-in_err-_flat-clause-stopped
+returns-in_err-_flat-clause-stopped g c =
+    let p = err_from_is_err_and c.from_residual-in_err-_flat.result c.from_residual-in_err-_flat.ensures.1 in
+    let gives = g.F.Files.gives c.args.files.now in
+    rw (p.1, p.2) (check_program c.deref.result.now (subst (gives c.args.request.program.now) (sym c.deref.ensures.value) c.in_ok-bytes.ensures.given) (unruled (program_view c.in_ok-program.program) c.in_ok-program.ensures.spelled c.in_err-_flat.ensures.told))

@@ -1,5 +1,5 @@
 use Rattle.std.proofs.lemmas.Result.{IfOk-weaker, IfErr-weaker}
-use Rattle.luserve.proofs.Outcomes.{of_source, fault_asked}
+use Rattle.luserve.proofs.Outcomes.{of_source, eval_stop}
 use Rattle.luserve.proofs.serve.eval_text.Goals as goal
 
 pub returns-clause-text : goal.returns-clause-text
@@ -19,8 +19,8 @@ returns-clause-text g c =
     })
     c.output_table.ensures.text
 
-pub returns-clause-fault : goal.returns-clause-fault
-returns-clause-fault g c =
+pub returns-clause-stopped : goal.returns-clause-stopped
+returns-clause-stopped g c =
     let gives = g.F.Files.gives c.args.files.now in
     IfErr-weaker c.output_table.result _ _
-    (λ stop h. fault_asked gives c.args.request c.in_ok-flat.flat c.in_ok-flat.inputs c.in_ok-flat.ensures.posed stop h) c.output_table.ensures.fault
+    (λ stop h. eval_stop gives c.args.request c.in_ok-flat.flat c.in_ok-flat.inputs c.in_ok-flat.ensures.posed stop h) c.output_table.ensures.fault

@@ -1,7 +1,10 @@
-use Rattle.std.proofs.Common.{sym, subst}
+use Rattle.std.proofs.Common.{refl, sym, subst, inl, inr}
 use Rattle.lutree.specs.Tree.{program_view}
 use Rattle.luserve.proofs.HasOutputs.{some_output}
 use Rattle.luserve.proofs.Outcomes.{posed}
+use Rattle.std.proofs.lemmas.Result.{err_from_is_err_and}
+use Rattle.luserve.specs.Stopped.HasNoFlat.{unspelled, unruled}
+use Rattle.luserve.specs.Stopped.IsEvalStopped.{eval_unread, eval_program, eval_table}
 use Rattle.luserve.proofs.serve.posed.Goals as goal
 
 pub returns-clause-posed : goal.returns-clause-posed
@@ -20,3 +23,31 @@ returns-clause-posed g c =
 pub returns-clause-some : goal.returns-clause-some
 returns-clause-some g c =
     some_output c.deref.result.now c.args.request.main.now (program_view c.in_ok-program.program) c.in_ok-flat.flat c.in_ok-program.ensures.spelled c.in_ok-flat.ensures.flat
+
+pub returns-in_err-bytes-clause-stopped : goal.returns-in_err-bytes-clause-stopped
+returns-in_err-bytes-clause-stopped g c =
+    let p = err_from_is_err_and c.from_residual.result c.from_residual.ensures.1 in
+    rw (p.1, p.2) (eval_unread c.args.request.program.now (inl refl) c.in_err-bytes.ensures.unread)
+
+pub returns-in_err-program-clause-stopped : goal.returns-in_err-program-clause-stopped
+returns-in_err-program-clause-stopped g c =
+    let p = err_from_is_err_and c.from_residual-in_err-program.result c.from_residual-in_err-program.ensures.1 in
+    let gives = g.F.Files.gives c.args.files.now in
+    rw (p.1, p.2) (eval_program c.deref.result.now (subst (gives c.args.request.program.now) (sym c.deref.ensures.value) c.in_ok-bytes.ensures.given) (unspelled c.in_err-program.ensures.refused))
+
+pub returns-in_err-flat-clause-stopped : goal.returns-in_err-flat-clause-stopped
+returns-in_err-flat-clause-stopped g c =
+    let p = err_from_is_err_and c.from_residual-in_err-flat.result c.from_residual-in_err-flat.ensures.1 in
+    let gives = g.F.Files.gives c.args.files.now in
+    rw (p.1, p.2) (eval_program c.deref.result.now (subst (gives c.args.request.program.now) (sym c.deref.ensures.value) c.in_ok-bytes.ensures.given) (unruled (program_view c.in_ok-program.program) c.in_ok-program.ensures.spelled c.in_err-flat.ensures.told))
+
+pub returns-in_err-table-clause-stopped : goal.returns-in_err-table-clause-stopped
+returns-in_err-table-clause-stopped g c =
+    let p = err_from_is_err_and c.from_residual-in_err-table.result c.from_residual-in_err-table.ensures.1 in
+    rw (p.1, p.2) (eval_unread c.args.request.table.now (inr refl) c.in_err-table.ensures.unread)
+
+pub returns-in_err-inputs-clause-stopped : goal.returns-in_err-inputs-clause-stopped
+returns-in_err-inputs-clause-stopped g c =
+    let p = err_from_is_err_and c.from_residual-in_err-inputs.result c.from_residual-in_err-inputs.ensures.1 in
+    let gives = g.F.Files.gives c.args.files.now in
+    rw (p.1, p.2) (eval_table c.deref.result.now c.deref-2.result.now c.in_ok-flat.flat (subst (gives c.args.request.program.now) (sym c.deref.ensures.value) c.in_ok-bytes.ensures.given) (subst (gives c.args.request.table.now) (sym c.deref-2.ensures.value) c.in_ok-table.ensures.given) (record { tree = program_view c.in_ok-program.program; spelled = c.in_ok-program.ensures.spelled; flat_is = c.in_ok-flat.ensures.flat }) c.in_err-inputs.ensures.refused)
