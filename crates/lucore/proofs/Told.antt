@@ -10,15 +10,15 @@ use Rattle.luflow.specs.declared.variable.Variable.{Variable}
 use Rattle.luflow.specs.Program.{FlatProgram, reads}
 use Rattle.luflow.specs.Rank.{IsRankOrder, Chain}
 use Rattle.luflow.proofs.Solutions.{some_at}
-use Rattle.lurules.specs.Accepted.{IsAccepted}
-use Rattle.lulayout.specs.Layout.{IsLaidOut}
-use Rattle.lulayout.specs.Laws.{IsClosed}
-use Rattle.lulayout.proofs.There.{flat_list_law}
-use Rattle.lucause.proofs.ToSource.{owners_own}
-use Rattle.lurank.specs.Rank.{AreClosed, IsLeastOnCycle}
-use Rattle.lusize.specs.Counted.{IsTooLong}
-use Rattle.luinline.specs.declared.laying.Laid.{Laid}
-use Rattle.luinline.specs.Listed.{IsListOf}
+use Rattle.lustat_rules.specs.Accepted.{IsAccepted}
+use Rattle.lucore_list.specs.Layout.{IsLaidOut}
+use Rattle.lucore_list.specs.Laws.{IsClosed}
+use Rattle.lucore_list.proofs.There.{flat_list_law}
+use Rattle.lucore_causality.proofs.ToSource.{owners_own}
+use Rattle.lucore_rank.specs.Rank.{AreClosed, IsLeastOnCycle}
+use Rattle.lucore_size.specs.Counted.{IsTooLong}
+use Rattle.lucore_inline.specs.declared.laying.Laid.{Laid}
+use Rattle.lucore_inline.specs.Listed.{IsListOf}
 use Rattle.lucore.specs.Result.{IsFlatOf, IsTooLarge, ReadsItself}
 use Rattle.lucore.proofs.Whole.{chain_inside, define_something, closed, rows_closed, whole}
 

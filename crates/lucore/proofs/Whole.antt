@@ -18,16 +18,16 @@ use Rattle.luflow.specs.Flats.{IsFlat}
 use Rattle.luflow.proofs.Fitting.{as_many}
 use Rattle.lusource.specs.Agreement.{Agrees}
 use Rattle.lusource.proofs.Meanings.{one_meaning}
-use Rattle.lurules.specs.Accepted.{Rule, IsAccepted}
-use Rattle.lulayout.specs.Layout.{variables_as, IsLaidOut}
-use Rattle.lulayout.specs.Laws.{DefineSomething, IsClosed, HasColumns}
-use Rattle.lucause.specs.Laws.{HasCycle}
-use Rattle.lucause.proofs.ToFlat.{to_flat}
-use Rattle.lulayout.proofs.Closed as closing
-use Rattle.lulayout.proofs.Whole as meaning
-use Rattle.lusound.proofs.Flats as flats
-use Rattle.lusound.proofs.Roles.{variable_of, inputs_are}
-use Rattle.lurank.specs.Rank.{AreClosed}
+use Rattle.lustat_rules.specs.Accepted.{Rule, IsAccepted}
+use Rattle.lucore_list.specs.Layout.{variables_as, IsLaidOut}
+use Rattle.lucore_list.specs.Laws.{DefineSomething, IsClosed, HasColumns}
+use Rattle.lucore_causality.specs.Laws.{HasCycle}
+use Rattle.lucore_causality.proofs.ToFlat.{to_flat}
+use Rattle.lucore_list.proofs.Closed as closing
+use Rattle.lucore_list.proofs.Whole as meaning
+use Rattle.lucore_sound.proofs.Flats as flats
+use Rattle.lucore_sound.proofs.Roles.{variable_of, inputs_are}
+use Rattle.lucore_rank.specs.Rank.{AreClosed}
 use Rattle.lucore.specs.Result.{IsFlatOf}
 use Rattle.lucore.proofs.RankOrders.{is_ordered}
 

@@ -6,14 +6,14 @@ use Rattle.luflow.specs.Program.{FlatProgram, Table, flows_of}
 use Rattle.luflow.specs.Rank.{reads_of}
 use Rattle.luflow.specs.Flats.{IsFlat}
 use Rattle.luflow.specs.Tables.{Fits}
-use Rattle.lurank.specs.Rank.{IsLeastOnCycle}
+use Rattle.lucore_rank.specs.Rank.{IsLeastOnCycle}
 use Rattle.lusource.specs.Agreement.{Agrees, HasOneMeaning}
-use Rattle.lurules.specs.Accepted.{IsAccepted}
-use Rattle.lulayout.specs.Layout.{IsLaidOut}
-use Rattle.lulayout.specs.Laws.{HasColumns}
-use Rattle.lucause.specs.Reads.{Occurrence, Leads}
-use Rattle.lucause.specs.Laws.{HasCycle}
-use Rattle.lucause.specs.Owners as owners
+use Rattle.lustat_rules.specs.Accepted.{IsAccepted}
+use Rattle.lucore_list.specs.Layout.{IsLaidOut}
+use Rattle.lucore_list.specs.Laws.{HasColumns}
+use Rattle.lucore_causality.specs.Reads.{Occurrence, Leads}
+use Rattle.lucore_causality.specs.Laws.{HasCycle}
+use Rattle.lucore_causality.specs.Owners as owners
 use Rattle.lucore.specs.declared.error.CoreError.{CoreError}
 use Rattle.lucore.specs.declared.error.CoreError.TheVariants.{TooLarge, Cycle, OutOfMemory}
 

@@ -4,18 +4,18 @@ ghost use Rattle.std.specs.Prelude.{◌≡◌, ◌<◌, ℕ, IfOk, IfErr, length
 ghost use Rattle.luflow.specs.declared.variable.Variable.{Variable};
 ghost use Rattle.luflow.specs.Program.{reads};
 ghost use Rattle.luflow.specs.Rank.{Chain, IsRankOrder};
-ghost use Rattle.lurank.specs.Answer.{IfOrdered, IfCyclic};
-ghost use Rattle.lurank.specs.Rank.{AreClosed, IsLeastOnCycle};
+ghost use Rattle.lucore_rank.specs.Answer.{IfOrdered, IfCyclic};
+ghost use Rattle.lucore_rank.specs.Rank.{AreClosed, IsLeastOnCycle};
 ghost use Rattle.lutree.specs.Tree.{program_view};
 ghost use Rattle.lucore.specs.Result.{IsFlatOf, Refuses};
 
 use crate::error::CoreError;
 use crate::reading::rows_in;
+use lucore_inline::lay_out;
+use lucore_rank::{Ranking, rank};
+use lucore_size::is_too_large;
 use luflow::{Flat, Flow, Variable};
-use luinline::lay_out;
 use lulist::{Name, Row};
-use lurank::{Ranking, rank};
-use lusize::is_too_large;
 use lustat::Checked;
 use std::alloc::{AllocError, Global};
 

@@ -9,3 +9,6 @@ pub mod Leaving
 pub mod Going
 pub mod Endings
 pub mod Loops
+pub mod LinkRows
+pub mod Entering
+pub mod Reaching

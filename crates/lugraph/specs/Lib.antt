@@ -5,3 +5,5 @@ pub mod Grouped
 pub mod States
 pub mod Chain
 pub mod Walk
+pub mod Reach
+pub mod ReachStates

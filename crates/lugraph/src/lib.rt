@@ -1,4 +1,4 @@
-//! Orders of directed graphs, cycles, and chains.
+//! Orders of directed graphs, cycles, chains, and what is reached.
 //!
 //! A graph is a list of lists: the vertices are its places, from 0, and the list at a place has the places that it points to, in any order and any number of times.
 //! A number that is no place of the graph is passed over. Where each vertex points to one other at most, a graph is a list of options: a chain goes on from each.
@@ -6,6 +6,7 @@
 //! - [`order_of`], [`Order`]: an order with each vertex behind those that it points to, or the least vertex that reaches itself. There is an order exactly where none does.
 //! - [`cycles_of`]: for each vertex whether it reaches itself.
 //! - [`ends_of`]: for each vertex whether the chain from it ends. Where it doesn't, it leads into a loop, and needn't be on it.
+//! - [`reached`], [`Link`]: a mark for each number that links lead to from where one starts.
 //! - [`laws`]: what holds of the definitions.
 //!
 //! The time grows with the number of vertices and edges, nothing recurses, and all memory is asked for before a search begins.
@@ -25,8 +26,12 @@
 mod chains;
 mod groups;
 pub mod laws;
+mod link;
 mod order;
+mod reach;
 mod search;
 
 pub use chains::ends_of;
+pub use link::Link;
 pub use order::{Order, cycles_of, order_of};
+pub use reach::reached;

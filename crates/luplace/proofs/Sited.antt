@@ -6,9 +6,9 @@ use Rattle.std.specs.Str.{bytes_eq}
 use Rattle.std.proofs.lemmas.Bool.{false≢true, true≢false}
 use Rattle.std.proofs.lemmas.List.Quantifiers.{position-Some}
 use Rattle.luflow.specs.declared.variable.Variable.{Variable}
-use Rattle.luplacefile.specs.declared.place.Place.{Place}
-use Rattle.luplacefile.specs.declared.error.PlaceError.{PlaceError}
-use Rattle.luplacefile.specs.declared.error.PlaceError.TheVariants.{UnknownVariable, Unplaced, SplitCall}
+use Rattle.luplace_file.specs.declared.place.Place.{Place}
+use Rattle.luplace_file.specs.declared.error.PlaceError.{PlaceError}
+use Rattle.luplace_file.specs.declared.error.PlaceError.TheVariants.{UnknownVariable, Unplaced, SplitCall}
 use Rattle.luplace.specs.Placing.{site_name, number_of, site_of, are_placed, sites_of_variables}
 
 pub placed_found : (f : Variable → Option ℕ) (xs : List Variable) → list_all (λ o. is_some o) (map f xs) ≡ list_all (λ x. is_some (f x)) xs

@@ -6,10 +6,10 @@ use Rattle.std.specs.Str.{bytes_eq}
 use Rattle.luflow.specs.declared.variable.Variable.{Variable}
 use Rattle.luflow.specs.Program.{FlatProgram}
 use Rattle.luworld.specs.Needs.{Distribution}
-use Rattle.luplacefile.specs.declared.place.Place.{Place}
-use Rattle.luplacefile.specs.declared.place.Placed.{Placed}
-use Rattle.luplacefile.specs.declared.error.PlaceError.{PlaceError}
-use Rattle.luplacefile.specs.declared.error.PlaceError.TheVariants.{UnknownVariable, Unplaced, SplitCall}
+use Rattle.luplace_file.specs.declared.place.Place.{Place}
+use Rattle.luplace_file.specs.declared.place.Placed.{Placed}
+use Rattle.luplace_file.specs.declared.error.PlaceError.{PlaceError}
+use Rattle.luplace_file.specs.declared.error.PlaceError.TheVariants.{UnknownVariable, Unplaced, SplitCall}
 
 -- the entry's site, or the default
 abbrev pub named_by : Option Placed → Option (List ℕ) → Option (List ℕ)

@@ -14,6 +14,6 @@ mod placing;
 mod plan;
 
 pub use job::{Job, SiteInputs};
-pub use luplacefile::{Place, PlaceError, read_place};
+pub use luplace_file::{Place, PlaceError, read_place};
 pub use luworld::Link;
 pub use plan::Plan;

@@ -8,7 +8,7 @@ ghost use Rattle.std.specs.List.{list_all};
 use crate::lookup::{number_at, site_at};
 use luflow::{Flat, Variable};
 use lulist::Name;
-use luplacefile::{Place, PlaceError, Placed};
+use luplace_file::{Place, PlaceError, Placed};
 use std::alloc::{AllocError, Global};
 
 fn is_variable(variables: &[Variable], name: &str) -> bool

@@ -2,7 +2,7 @@
 
 ghost use Rattle.std.specs.Prelude.{◌≡◌, ◌⊎◌, ◌<◌, true, length, slice_index, All, IfOk, IfErr};
 ghost use Rattle.luworld.specs.Needs.{Distribution, IsPlan, sites_of, row, stands, is_in};
-ghost use Rattle.luplacefile.specs.Lawful.{IsLawful};
+ghost use Rattle.luplace_file.specs.Lawful.{IsLawful};
 ghost use Rattle.luplace.specs.Placing.{refusal, are_together, IsPlanOf, IsPlanAt};
 
 use crate::assembly::{names_of, one_each};
@@ -12,7 +12,7 @@ use crate::marking::{all_marks, needs_of};
 use crate::placing::sites_for;
 use luflow::Flat;
 use lulist::{Name, Row};
-use luplacefile::{Place, PlaceError};
+use luplace_file::{Place, PlaceError};
 use luworld::Link;
 use std::alloc::{AllocError, Global};
 use std::marker::Model;

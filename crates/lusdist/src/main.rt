@@ -1,9 +1,9 @@
 //! The program `lusdist`: it checks one Lustre program, evaluates it, spreads it over several sites, and replays the run turn
-//! by turn. What it does stands in the library `luserve`.
+//! by turn. What it does stands in the library `lusdist_commands`.
 #![tactic(auto)]
 
-use luserve::serve_words;
-use lushell::RealFiles;
+use lusdist_commands::serve_words;
+use lusdist_shell::RealFiles;
 use std::process::ExitCode;
 use std::{env, io};
 

@@ -1,13 +1,13 @@
 -- What is told first.
 use Rattle.std.specs.Prelude.{◌≡◌, ◌/◌, ℕ, List}
 use Rattle.lutree.specs.declared.program.Program.{Program}
-use Rattle.lurules.specs.declared.error.StatError.{StatError}
-use Rattle.lurules.specs.declared.error.StatError.TheVariants.{OutOfMemory}
-use Rattle.lurules.specs.Told.{number_of}
-use Rattle.lurules.specs.Faults.{IsAtMost, IsFault}
+use Rattle.lustat_rules.specs.declared.error.StatError.{StatError}
+use Rattle.lustat_rules.specs.declared.error.StatError.TheVariants.{OutOfMemory}
+use Rattle.lustat_rules.specs.Told.{number_of}
+use Rattle.lustat_rules.specs.Faults.{IsAtMost, IsFault}
 use Rattle.lutype.specs.Asked.{is_asked as is_name_rule}
-use Rattle.luclock.specs.Asked.{is_asked as is_clock_rule}
-use Rattle.luinit.specs.Faults.{IsFault as IsClassFault}
+use Rattle.lustat_clocks.specs.Asked.{is_asked as is_clock_rule}
+use Rattle.lustat_classes.specs.Faults.{IsFault as IsClassFault}
 
 -- the first digit of a refusal's number
 abbrev pub stage_told : StatError → ℕ

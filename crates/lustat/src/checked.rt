@@ -2,14 +2,14 @@
 
 ghost use Rattle.std.specs.Prelude.{◌≡◌, ◌<◌, Some, length, slice_get};
 ghost use Rattle.lutree.specs.Tree.{NodeTree, program_view};
-ghost use Rattle.lurules.specs.Accepted.{IsAccepted};
-ghost use Rattle.lurules.specs.Naming.{IsCallOrder};
-ghost use Rattle.lurules.specs.Classes.{Meets};
-ghost use Rattle.luinit.specs.Assigned.{assigned};
-ghost use Rattle.luinit.specs.Rows.{plain, row_at};
+ghost use Rattle.lustat_rules.specs.Accepted.{IsAccepted};
+ghost use Rattle.lustat_rules.specs.Naming.{IsCallOrder};
+ghost use Rattle.lustat_rules.specs.Classes.{Meets};
+ghost use Rattle.lustat_classes.specs.Assigned.{assigned};
+ghost use Rattle.lustat_classes.specs.Rows.{plain, row_at};
 ghost use Rattle.lustat.specs.Whole.{IsSound};
 
-use luscope::Catalog;
+use lustat_scope::Catalog;
 use lutree::Program;
 use lutype::Typed;
 use std::marker::Model;
@@ -31,7 +31,7 @@ impl<'a> Model for Checked<'a> {
 
     ghost coded = { Prim.hlevel (codes, tree_row.the_row.coded) };
 
-    ghost use Rattle.luinit.specs.Rows.{plain};
+    ghost use Rattle.lustat_classes.specs.Rows.{plain};
     ghost use Rattle.lustat.specs.Whole.{IsSound};
 
     ghost view = { λ t. record { program = t.typed.program; main = t.typed.main; order = t.typed.order; classes = plain t.classes.items } };

@@ -3,7 +3,7 @@
 //! - [`check`]: whether a program keeps all rules, or a `StatError` that tells a rule that is broken.
 //! - [`Checked`]: a program that keeps all rules, with an order of its nodes and the classes of their variables.
 //!
-//! The rules are those of `lurules`.
+//! The rules are those of `lustat_rules`.
 #![tactic(auto)]
 
 mod checked;

@@ -2,16 +2,16 @@
 
 ghost use Rattle.std.specs.Prelude.{◌≡◌, IfOk, IfErr};
 ghost use Rattle.lutree.specs.Tree.{program_view};
-ghost use Rattle.lurules.specs.Accepted.{IsAccepted};
-ghost use Rattle.lurules.specs.Told.{Tells};
-ghost use Rattle.lurules.specs.Faults.{AreKept};
-ghost use Rattle.luclock.specs.Asked.{is_asked};
+ghost use Rattle.lustat_rules.specs.Accepted.{IsAccepted};
+ghost use Rattle.lustat_rules.specs.Told.{Tells};
+ghost use Rattle.lustat_rules.specs.Faults.{AreKept};
+ghost use Rattle.lustat_clocks.specs.Asked.{is_asked};
 ghost use Rattle.lustat.specs.First.{IsToldFirst};
 
 use crate::checked::Checked;
-use luclock::clock_fault;
-use luinit::{Initialised, initialise};
-use lurules::StatError;
+use lustat_classes::{Initialised, initialise};
+use lustat_clocks::clock_fault;
+use lustat_rules::StatError;
 use lutree::Program;
 use lutype::{Typed, names};
 use std::alloc::Global;

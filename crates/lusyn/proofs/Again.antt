@@ -1,8 +1,8 @@
 -- A canonical text is read back.
 use Rattle.std.proofs.Common.{◌≡◌, ◌≤◌, ℕ, length, List, Result, Ok, Err, IfOk, subst, sym}
 use Rattle.lutree.specs.Tree.{ProgramTree}
-use Rattle.luprint.specs.Canonical.{canonical}
-use Rattle.luprint.proofs.ReadBack.{read_back, ascii}
+use Rattle.lusyn_printer.specs.Canonical.{canonical}
+use Rattle.lusyn_printer.proofs.ReadBack.{read_back, ascii}
 use Rattle.lusyn.specs.Texts.{SpellsText, IsReadBack}
 
 canonical-again : (found : ProgramTree) → IsReadBack (canonical found) found

@@ -4,20 +4,20 @@ use Rattle.std.specs.Result.{IfErr}
 use Rattle.std.proofs.lemmas.List.{length-map}
 use Rattle.lutree.specs.Tree.{ProgramTree, program_view, node_view}
 use Rattle.lutree.specs.declared.program.Program.{Program}
-use Rattle.lutoken.specs.declared.token.Lexeme.{Lexeme}
-use Rattle.lutoken.specs.Tokens.{toks, located}
-use Rattle.lulex.specs.declared.error.LexError.{LexError}
-use Rattle.lulex.specs.declared.error.LexError.TheVariants as l
-use Rattle.lulex.specs.Gives.{Lexes}
-use Rattle.lulex.specs.Lexing.{Placed}
-use Rattle.lulex.specs.Refusals.{IsLexed}
-use Rattle.lulex.specs.Refusals as lexing
-use Rattle.lugrammar.specs.Grammar.{Spells}
-use Rattle.luparse.specs.declared.error.ParseError.{ParseError}
-use Rattle.luparse.specs.declared.error.ParseError.TheVariants as p
-use Rattle.luparse.specs.Refused.{IsWrongFrom, IsRefusedAt, unplaced}
-use Rattle.luparse.specs.Refused as parsing
-use Rattle.luparse.proofs.Whole.{toks-located}
+use Rattle.lusyn_tokens.specs.declared.token.Lexeme.{Lexeme}
+use Rattle.lusyn_tokens.specs.Tokens.{toks, located}
+use Rattle.lusyn_lexer.specs.declared.error.LexError.{LexError}
+use Rattle.lusyn_lexer.specs.declared.error.LexError.TheVariants as l
+use Rattle.lusyn_lexer.specs.Gives.{Lexes}
+use Rattle.lusyn_lexer.specs.Lexing.{Placed}
+use Rattle.lusyn_lexer.specs.Refusals.{IsLexed}
+use Rattle.lusyn_lexer.specs.Refusals as lexing
+use Rattle.lusyn_grammar.specs.Grammar.{Spells}
+use Rattle.lusyn_parser.specs.declared.error.ParseError.{ParseError}
+use Rattle.lusyn_parser.specs.declared.error.ParseError.TheVariants as p
+use Rattle.lusyn_parser.specs.Refused.{IsWrongFrom, IsRefusedAt, unplaced}
+use Rattle.lusyn_parser.specs.Refused as parsing
+use Rattle.lusyn_parser.proofs.Whole.{toks-located}
 use Rattle.lusyn.specs.declared.error.SynError.{SynError}
 use Rattle.lusyn.specs.declared.error.SynError.TheVariants as e
 use Rattle.lusyn.specs.Gives.{IsAnswered, Refuses, refusal, syntax_refusal}

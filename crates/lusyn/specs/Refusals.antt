@@ -1,11 +1,11 @@
 -- Which refusal is true of a text that spells no program.
 use Rattle.std.specs.Prelude.{◌⊎◌, ◌<◌, ℕ, List, length}
 use Rattle.lutree.specs.Tree.{ProgramTree}
-use Rattle.lulex.specs.declared.error.LexError.TheVariants as l
-use Rattle.lulex.specs.Lexing.{Placed}
-use Rattle.lulex.specs.Refusals.{IsLexed}
-use Rattle.lulex.specs.Refusals as lexing
-use Rattle.luparse.specs.Refused.{IsWrongFrom}
+use Rattle.lusyn_lexer.specs.declared.error.LexError.TheVariants as l
+use Rattle.lusyn_lexer.specs.Lexing.{Placed}
+use Rattle.lusyn_lexer.specs.Refusals.{IsLexed}
+use Rattle.lusyn_lexer.specs.Refusals as lexing
+use Rattle.lusyn_parser.specs.Refused.{IsWrongFrom}
 use Rattle.lusyn.specs.declared.error.SynError.{SynError}
 use Rattle.lusyn.specs.declared.error.SynError.TheVariants as e
 use Rattle.lusyn.specs.Texts.{HasProgram}

@@ -1,10 +1,10 @@
 -- Which text spells which program.
 use Rattle.std.specs.Prelude.{ℕ, ◌≤◌, List, length}
 use Rattle.lutree.specs.Tree.{ProgramTree}
-use Rattle.lulex.specs.Lexing.{Placed}
-use Rattle.lulex.specs.Refusals.{IsLexed}
-use Rattle.lugrammar.specs.Grammar.{Spells}
-use Rattle.luparse.specs.Refused.{unplaced}
+use Rattle.lusyn_lexer.specs.Lexing.{Placed}
+use Rattle.lusyn_lexer.specs.Refusals.{IsLexed}
+use Rattle.lusyn_grammar.specs.Grammar.{Spells}
+use Rattle.lusyn_parser.specs.Refused.{unplaced}
 
 -- a text that is accepted as tokens, which spell the program
 abbrev pub HasProgram : List ℕ → ProgramTree → Type 0

@@ -1,7 +1,7 @@
 //! Why a text is refused.
 
-use lulex::LexError;
-use luparse::ParseError;
+use lusyn_lexer::LexError;
+use lusyn_parser::ParseError;
 use std::alloc::{AllocError, AllocFailed};
 use thiserror::Error;
 

@@ -2,7 +2,7 @@
 
 ghost use Rattle.std.specs.Prelude.{◌≡◌, IfOk, string_bytes};
 ghost use Rattle.lutree.specs.Tree.{program_view};
-ghost use Rattle.luprint.specs.Canonical.{canonical};
+ghost use Rattle.lusyn_printer.specs.Canonical.{canonical};
 ghost use Rattle.lusyn.specs.Texts.{IsReadBack};
 
 use lutree::Program;
@@ -15,5 +15,5 @@ pub fn print_program(alloc: Global, program: &Program) -> Result<String, AllocEr
     // Where the program is that of a text, it is read back as the same program, places aside, if it isn't too long for a text.
     ensures again { IfOk result (λ text. IsReadBack (string_bytes text) (program_view program.now)) }
 {
-    luprint::print_program(alloc, program)
+    lusyn_printer::print_program(alloc, program)
 }

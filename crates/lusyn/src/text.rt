@@ -8,8 +8,8 @@ ghost use Rattle.lusyn.specs.Refusals.{IsRefused};
 ghost use Rattle.lusyn.specs.Texts.{SpellsText};
 
 use crate::error::SynError;
-use lulex::lex;
-use luparse::parse_tokens;
+use lusyn_lexer::lex;
+use lusyn_parser::parse_tokens;
 use lutree::Program;
 use std::alloc::Global;
 
@@ -18,7 +18,7 @@ const MAX_NODES: usize = 256;
 
 /// The program that a text spells.
 ///
-/// A text without tokens is refused as crate `lulex` refuses it. Any other text that spells no program is refused at the
+/// A text without tokens is refused as crate `lusyn_lexer` refuses it. Any other text that spells no program is refused at the
 /// first token with which no program goes on, or at its end where it ends too early. A program of more than 256 nodes is
 /// refused last.
 pub fn read_program(alloc: Global, text: &str) -> Result<Program, SynError>

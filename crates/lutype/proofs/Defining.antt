@@ -12,10 +12,10 @@ use Rattle.std.proofs.lemmas.Option.{slice_get-get_or, slice_get_within, get_or_
 use Rattle.lutree.specs.declared.program.Equation.{Equation}
 use Rattle.lutree.specs.declared.program.Node.{Node}
 use Rattle.lutree.specs.Tree.{EquationTree, NodeTree, equation_view, node_view}
-use Rattle.lurules.specs.Scope.{IsInput, lefts_of, AreDistinct}
-use Rattle.lurules.specs.Naming.{DefinesAnew}
-use Rattle.luscope.specs.Places.{first_place}
-use Rattle.luscope.proofs.Finding.{first_in_middle}
+use Rattle.lustat_rules.specs.Scope.{IsInput, lefts_of, AreDistinct}
+use Rattle.lustat_rules.specs.Naming.{DefinesAnew}
+use Rattle.lustat_scope.specs.Places.{first_place}
+use Rattle.lustat_scope.proofs.Finding.{first_in_middle}
 use Rattle.lutype.specs.Starts.{AreStarts, IsAnew}
 
 some_item : {A : Type 0} (x y : A) → Some x ≡ Some y → x ≡ y

@@ -6,7 +6,7 @@ use Rattle.std.proofs.lemmas.Bool.Decides.{nat_tests}
 use Rattle.lutree.specs.declared.program.Declaration.{Declaration}
 use Rattle.lutree.specs.declared.expr.Expr.{Expr}
 use Rattle.lutree.specs.Tree.{NodeTree, ProgramTree, views, trees_of, declarations_view}
-use Rattle.lurules.specs.Typing.{types_of, arguments_fit}
+use Rattle.lustat_rules.specs.Typing.{types_of, arguments_fit}
 
 fit_nil : (xs : List Declaration) → arguments_fit [] (declarations_view xs) ≡ eqb (length xs) 0
 fit_nil [] = refl

@@ -5,7 +5,7 @@ use Rattle.std.proofs.lemmas.List.Elements.{All-append, All-nil}
 use Rattle.lutree.specs.declared.expr.Expr.{Expr}
 use Rattle.lutree.specs.Tree.{Tree, Trees, list_of, trees_of, views, view}
 use Rattle.lutree.specs.Tree as tree
-use Rattle.lurules.specs.Naming.{Call, names_in, names_in_all, calls_in, calls_in_all, inner_calls}
+use Rattle.lustat_rules.specs.Naming.{Call, names_in, names_in_all, calls_in, calls_in_all, inner_calls}
 use Rattle.lutype.specs.Forms.{EachName, EachNameOf, EachCall, EachCallOf}
 
 -- ALL OF A LIST

@@ -5,3 +5,6 @@ pub mod Defining
 pub mod Places
 pub mod Standing
 pub mod Told
+pub mod CallPlaces
+pub mod CallsPushed
+pub mod CallWays

@@ -5,8 +5,8 @@ use Rattle.lutree.specs.declared.program.Kind.{Kind}
 use Rattle.lutree.specs.declared.program.Kind.TheVariants.{Int, Bool as Truths}
 use Rattle.lutree.specs.Tree.{Tree, Trees, DeclarationTree, NodeTree, ProgramTree}
 use Rattle.lutree.specs.Tree as tree
-use Rattle.lurules.specs.Typing.{arguments_fit, call_kinds, has_kind, right_types, type_of, types_of}
-use Rattle.lurules.specs.Scope.{node_called}
+use Rattle.lustat_rules.specs.Typing.{arguments_fit, call_kinds, has_kind, right_types, type_of, types_of}
+use Rattle.lustat_rules.specs.Scope.{node_called}
 
 abbrev pub kinds_of : List DeclarationTree → List Kind
 kinds_of = map (λ (d : DeclarationTree). d.kind)

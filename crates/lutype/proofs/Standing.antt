@@ -7,13 +7,13 @@ use Rattle.lutree.specs.declared.program.Declaration.{Declaration}
 use Rattle.lutree.specs.declared.program.Node.{Node}
 use Rattle.lutree.specs.declared.program.Program.{Program}
 use Rattle.lutree.specs.Tree.{NodeTree, node_view, program_view, declaration_view}
-use Rattle.lurules.specs.Scope.{declarations_of, names_of, IsNew}
-use Rattle.lurules.specs.Naming.{IsNewNode, IsNewVariable, node_place}
-use Rattle.lurules.specs.Faults.{declared_in}
-use Rattle.luscope.specs.Places.{first_place}
-use Rattle.luscope.specs.Scopes.{spellings}
-use Rattle.luscope.proofs.Finding.{stands_first}
-use Rattle.luscope.proofs.Declared.{names_of_nodes, place_of_node, names_in_view}
+use Rattle.lustat_rules.specs.Scope.{declarations_of, names_of, IsNew}
+use Rattle.lustat_rules.specs.Naming.{IsNewNode, IsNewVariable, node_place}
+use Rattle.lustat_rules.specs.Faults.{declared_in}
+use Rattle.lustat_scope.specs.Places.{first_place}
+use Rattle.lustat_scope.specs.Scopes.{spellings}
+use Rattle.lustat_scope.proofs.Finding.{stands_first}
+use Rattle.lustat_scope.proofs.Declared.{names_of_nodes, place_of_node, names_in_view}
 
 pub node_is_new : (p : Program) (place : ℕ) (n : Node) (found : Option ℕ) (b : Bool) → slice_get p.nodes place ≡ Some n → found ≡ node_place (program_view p) n.name
     → (IsTrue b ↔ (found ≡ Some place)) → IsTrue b ↔ IsNewNode (program_view p) place (node_view n)

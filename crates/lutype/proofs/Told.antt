@@ -6,15 +6,15 @@ use Rattle.std.proofs.lemmas.Option.{slice_get_within}
 use Rattle.lutree.specs.declared.program.Node.{Node}
 use Rattle.lutree.specs.declared.program.Program.{Program}
 use Rattle.lutree.specs.Tree.{NodeTree, ProgramTree, node_view, program_view}
-use Rattle.lurules.specs.Naming.{Reaches, IsCallOrder}
-use Rattle.lurules.specs.Accepted.{Rule, duplicate_name, unknown_name, unknown_node, type_mismatch, wrong_arity, undefined, defined_twice, recursive_node, no_main, clock_mismatch, not_a_clock, clocked_parameter, hidden_clock, maybe_nil, current_may_be_nil, stage, Keeps, Breaks, IsNamed, IsRefused}
-use Rattle.lurules.specs.declared.error.StatError.{StatError}
-use Rattle.lurules.specs.declared.error.StatError.TheVariants.{RecursiveNode}
-use Rattle.lurules.specs.Told.{byte_of, number_of, RuleTold, Tells}
-use Rattle.lurules.specs.Faults.{lesser_of, IsAtMost, IsJudged, IsFault, AreKept}
-use Rattle.lurules.proofs.Judging.{judged_joined}
-use Rattle.luscope.proofs.Keeping.{broken_somewhere}
-use Rattle.lucall.specs.CallGraph.{IsRecursive}
+use Rattle.lustat_rules.specs.Naming.{Reaches, IsCallOrder}
+use Rattle.lustat_rules.specs.Accepted.{Rule, duplicate_name, unknown_name, unknown_node, type_mismatch, wrong_arity, undefined, defined_twice, recursive_node, no_main, clock_mismatch, not_a_clock, clocked_parameter, hidden_clock, maybe_nil, current_may_be_nil, stage, Keeps, Breaks, IsNamed, IsRefused}
+use Rattle.lustat_rules.specs.declared.error.StatError.{StatError}
+use Rattle.lustat_rules.specs.declared.error.StatError.TheVariants.{RecursiveNode}
+use Rattle.lustat_rules.specs.Told.{byte_of, number_of, RuleTold, Tells}
+use Rattle.lustat_rules.specs.Faults.{lesser_of, IsAtMost, IsJudged, IsFault, AreKept}
+use Rattle.lustat_rules.proofs.Judging.{judged_joined}
+use Rattle.lustat_scope.proofs.Keeping.{broken_somewhere}
+use Rattle.lutype.specs.CallGraph.{IsRecursive}
 use Rattle.lutype.specs.Asked.{is_asked}
 use Rattle.lutype.specs.Named.{IsToldFirst}
 

@@ -1,8 +1,8 @@
 -- What the rules ask of a single call.
 use Rattle.std.specs.Prelude.{◌≡◌, ℕ, Option, None, Some, IfSome, IsSome, length}
 use Rattle.lutree.specs.Tree.{NodeTree, ProgramTree}
-use Rattle.lurules.specs.Scope.{node_called}
-use Rattle.lurules.specs.Naming.{Call}
+use Rattle.lustat_rules.specs.Scope.{node_called}
+use Rattle.lustat_rules.specs.Naming.{Call}
 use Rattle.lutype.specs.declared.calls.CallRule.{CallRule}
 use Rattle.lutype.specs.declared.calls.CallRule.TheVariants.{Known, Arguments, OneOutput}
 

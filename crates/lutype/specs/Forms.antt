@@ -2,7 +2,7 @@
 use Rattle.std.specs.Prelude.{ℕ, List, length}
 use Rattle.lutree.specs.Tree.{Tree, Trees, list_of}
 use Rattle.lutree.specs.Tree as tree
-use Rattle.lurules.specs.Naming.{Call}
+use Rattle.lustat_rules.specs.Naming.{Call}
 
 -- each name in an expression keeps P
 module _ (P : List ℕ → Type 0) where

@@ -4,3 +4,5 @@ pub mod CallRules
 pub mod Starts
 pub mod Tables
 pub mod Named
+pub mod CallGraph
+pub mod CallAnswer

@@ -2,11 +2,11 @@
 use Rattle.std.specs.Prelude.{◌≡◌, ◌⊎◌, ℕ, List}
 use Rattle.lutree.specs.declared.program.Program.{Program}
 use Rattle.lutree.specs.Tree.{program_view}
-use Rattle.lurules.specs.Naming.{IsCallOrder}
-use Rattle.lurules.specs.Accepted.{IsNamed}
-use Rattle.lurules.specs.declared.error.StatError.{StatError}
-use Rattle.lurules.specs.declared.error.StatError.TheVariants.{OutOfMemory}
-use Rattle.lurules.specs.Faults.{IsFault, IsAtMost}
+use Rattle.lustat_rules.specs.Naming.{IsCallOrder}
+use Rattle.lustat_rules.specs.Accepted.{IsNamed}
+use Rattle.lustat_rules.specs.declared.error.StatError.{StatError}
+use Rattle.lustat_rules.specs.declared.error.StatError.TheVariants.{OutOfMemory}
+use Rattle.lustat_rules.specs.Faults.{IsFault, IsAtMost}
 use Rattle.lutype.specs.Asked.{is_asked}
 
 -- a program, the name of its main node, and an order of its nodes by place

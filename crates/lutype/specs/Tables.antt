@@ -1,7 +1,7 @@
 -- What the tables of defined variables hold.
 use Rattle.std.specs.Prelude.{◌≡◌, length, map}
 use Rattle.lutree.specs.Tree.{equation_view}
-use Rattle.lurules.specs.Scope.{lefts_of}
+use Rattle.lustat_rules.specs.Scope.{lefts_of}
 use Rattle.lutype.specs.Starts.{AreStarts}
 use Rattle.lutype.specs.declared.defined.Definitions.TheInside.{Inside}
 

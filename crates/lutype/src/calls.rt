@@ -3,12 +3,12 @@
 ghost use Rattle.std.specs.Prelude.{◌≡◌, ◌↔◌, ◌<◌, ℕ, List, IsTrue, All, IfSome, IfNone, Option, length, map, option_map, slice_get};
 ghost use Rattle.lutree.specs.Tree.{Trees, list_of, view, views, trees_of, node_view, program_view, equation_view};
 ghost use Rattle.lutree.specs.Tree as tree;
-ghost use Rattle.lurules.specs.Naming.{Call, CallsKnown, AritiesRight, calls_in, inner_calls, value_count};
+ghost use Rattle.lustat_rules.specs.Naming.{Call, CallsKnown, AritiesRight, calls_in, inner_calls, value_count};
 ghost use Rattle.lutype.specs.Forms.{EachCall, EachCallOf};
 ghost use Rattle.lutype.specs.CallRules.{CallKeeps};
 
 use lulist::Name;
-use luscope::Catalog;
+use lustat_scope::Catalog;
 use lutree::{Equation, Expr};
 
 /// What is asked of a call.

@@ -2,16 +2,16 @@
 
 ghost use Rattle.std.specs.Prelude.{◌≡◌, ◌<◌, Some, IfOk, IfErr, length};
 ghost use Rattle.lutree.specs.Tree.{program_view};
-ghost use Rattle.lurules.specs.Accepted.{IsNamed};
-ghost use Rattle.lurules.specs.Told.{Tells};
-ghost use Rattle.lurules.specs.Faults.{lesser_of};
+ghost use Rattle.lustat_rules.specs.Accepted.{IsNamed};
+ghost use Rattle.lustat_rules.specs.Told.{Tells};
+ghost use Rattle.lustat_rules.specs.Faults.{lesser_of};
 ghost use Rattle.lutype.specs.Named.{IsToldFirst};
 
+use crate::order::{CallOrder, call_order};
 use crate::search::least_fault;
 use crate::typed::Typed;
-use lucall::{CallOrder, call_order};
-use lurules::{StatError, is_told_before};
-use luscope::Catalog;
+use lustat_rules::{StatError, is_told_before};
+use lustat_scope::Catalog;
 use lutree::Program;
 use std::alloc::Global;
 

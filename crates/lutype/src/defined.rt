@@ -2,13 +2,13 @@
 
 ghost use Rattle.std.specs.Prelude.{◌≡◌, ◌↔◌, ◌++◌, ◌+◌, ◌<◌, ℕ, List, [], Some, IsTrue, IfOk, OnOk, Contains, length, map, take, slice_get};
 ghost use Rattle.lutree.specs.Tree.{node_view, equation_view, declaration_view};
-ghost use Rattle.lurules.specs.Scope.{lefts_of, IsInput};
-ghost use Rattle.lurules.specs.Naming.{IsDefined, DefinesAnew};
-ghost use Rattle.luscope.specs.Places.{first_place};
+ghost use Rattle.lustat_rules.specs.Scope.{lefts_of, IsInput};
+ghost use Rattle.lustat_rules.specs.Naming.{IsDefined, DefinesAnew};
+ghost use Rattle.lustat_scope.specs.Places.{first_place};
 ghost use Rattle.lutype.specs.Starts.{AreStarts, IsAnew};
 
 use lulist::Name;
-use luscope::{Places, Scope};
+use lustat_scope::{Places, Scope};
 use lutree::{Declaration, Equation, Node};
 use std::alloc::{AllocError, Global};
 use std::marker::Model;

@@ -3,17 +3,17 @@
 ghost use Rattle.std.specs.Prelude.{◌≡◌, ◌↔◌, ℕ, List, Some, IsTrue, map, slice_get};
 ghost use Rattle.lutree.specs.declared.program.Program.{Program};
 ghost use Rattle.lutree.specs.Tree.{declaration_view, equation_view, node_view, program_view};
-ghost use Rattle.lurules.specs.Naming.{IsNewNode, IsNewVariable, HasMain, NamesKnown, CallsKnown, AritiesRight};
-ghost use Rattle.lurules.specs.Typing.{IsTyped};
-ghost use Rattle.lurules.specs.Faults.{declared_in, IsJudged, ProgramFault, ProgramKept, NodeFault, NodeKept, DeclarationFault, DeclarationKept, EquationFault, EquationKept};
+ghost use Rattle.lustat_rules.specs.Naming.{IsNewNode, IsNewVariable, HasMain, NamesKnown, CallsKnown, AritiesRight};
+ghost use Rattle.lustat_rules.specs.Typing.{IsTyped};
+ghost use Rattle.lustat_rules.specs.Faults.{declared_in, IsJudged, ProgramFault, ProgramKept, NodeFault, NodeKept, DeclarationFault, DeclarationKept, EquationFault, EquationKept};
 ghost use Rattle.lutype.specs.Asked.{is_asked};
 
 use crate::calls::{arities_are_right, calls_are_known};
 use crate::defined::{Definitions, defines_anew, is_defined};
 use crate::known::{clock_is_known, names_are_known};
 use crate::typing::is_well_typed;
-use lurules::{StatError, lesser, told};
-use luscope::{Catalog, Scope};
+use lustat_rules::{StatError, lesser, told};
+use lustat_scope::{Catalog, Scope};
 use lutree::{Declaration, Equation, Node};
 
 /// Whether a place that was found is another.

@@ -1,7 +1,7 @@
 //! The types of operators.
 
 ghost use Rattle.std.specs.Prelude.{◌≡◌};
-ghost use Rattle.lurules.specs.Typing.{agreed, has_kind, single_kind, operand_kind, result_kind, as_asked, double_kind, choice_kind};
+ghost use Rattle.lustat_rules.specs.Typing.{agreed, has_kind, single_kind, operand_kind, result_kind, as_asked, double_kind, choice_kind};
 
 use lutree::{BinaryOperator, Kind, UnaryOperator};
 

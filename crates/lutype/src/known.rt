@@ -2,12 +2,12 @@
 
 ghost use Rattle.std.specs.Prelude.{◌≡◌, ◌↔◌, IsTrue, All, IsSome, map};
 ghost use Rattle.lutree.specs.Tree.{view, views, trees_of, node_view, declaration_view, equation_view};
-ghost use Rattle.lurules.specs.Scope.{IsVariable};
-ghost use Rattle.lurules.specs.Naming.{NamesKnown, ClockKnown};
+ghost use Rattle.lustat_rules.specs.Scope.{IsVariable};
+ghost use Rattle.lustat_rules.specs.Naming.{NamesKnown, ClockKnown};
 ghost use Rattle.lutype.specs.Forms.{EachName, EachNameOf};
 
 use lulist::Name;
-use luscope::Scope;
+use lustat_scope::Scope;
 use lutree::{Declaration, Equation, Expr};
 
 /// Whether a name is a variable of a node.

@@ -4,19 +4,29 @@
 //! - [`Typed`]: a program whose names and types are in order.
 //! - [`least_fault`]: the fault that is told, by the rules that look at one place alone.
 //!
-//! The rules are those of `lurules`; which of them the search asks for stands in `specs/Asked.antt`.
+//! - [`graph_of`]: the places of the nodes that each node calls.
+//! - [`call_order`], [`CallOrder`]: all nodes, each behind those that it calls, or the first node in order of text that calls itself, directly or through others.
+//!
+//! A call means the first node of its name, and a call of no node is passed over: so there is an order or a recursion for any program, whatever other rules it breaks.
+//! The nodes are the vertices of a graph of calls (`specs/CallGraph.antt`), and the order is that of the graph.
+//!
+//! The rules are those of `lustat_rules`; which of them the search asks for stands in `specs/Asked.antt`.
 #![tactic(auto)]
 
 mod calls;
 mod checked;
 mod defined;
 mod faults;
+mod graph;
 mod kinds;
 mod known;
+mod order;
 mod search;
 mod typed;
 mod typing;
 
 pub use checked::names;
+pub use graph::graph_of;
+pub use order::{CallOrder, call_order};
 pub use search::least_fault;
 pub use typed::Typed;

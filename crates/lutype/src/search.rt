@@ -2,13 +2,13 @@
 
 ghost use Rattle.std.specs.Prelude.{◌≡◌, ℕ, List, Some, IfOk, slice_get};
 ghost use Rattle.lutree.specs.declared.program.Program.{Program};
-ghost use Rattle.lurules.specs.Faults.{declared_in, IsJudged, FaultAmong, KeptAmong, DeclarationFault, DeclarationKept, EquationFault, EquationKept, InNodeFault, AllOfNodeKept, IsFault, AreKept};
+ghost use Rattle.lustat_rules.specs.Faults.{declared_in, IsJudged, FaultAmong, KeptAmong, DeclarationFault, DeclarationKept, EquationFault, EquationKept, InNodeFault, AllOfNodeKept, IsFault, AreKept};
 ghost use Rattle.lutype.specs.Asked.{is_asked};
 
 use crate::defined::Definitions;
 use crate::faults::{declaration_fault, equation_fault, name_fault, program_fault};
-use lurules::{StatError, lesser};
-use luscope::{Catalog, Scope};
+use lustat_rules::{StatError, lesser};
+use lustat_scope::{Catalog, Scope};
 use std::alloc::{AllocError, Global};
 
 /// The least fault of the declarations of a node, whatever the program round it.

@@ -2,11 +2,11 @@
 
 ghost use Rattle.std.specs.Prelude.{◌≡◌};
 ghost use Rattle.lutree.specs.Tree.{program_view};
-ghost use Rattle.lurules.specs.Accepted.{IsNamed};
-ghost use Rattle.lurules.specs.Naming.{IsCallOrder};
+ghost use Rattle.lustat_rules.specs.Accepted.{IsNamed};
+ghost use Rattle.lustat_rules.specs.Naming.{IsCallOrder};
 ghost use Rattle.lutype.specs.Named.{AreInOrder};
 
-use luscope::Catalog;
+use lustat_scope::Catalog;
 use lutree::Program;
 use std::marker::Model;
 

@@ -3,13 +3,13 @@
 ghost use Rattle.std.specs.Prelude.{◌≡◌, ◌↔◌, ◌∷◌, [], List, Option, Some, IsTrue, map, option_map};
 ghost use Rattle.lutree.specs.declared.program.Kind.{Kind};
 ghost use Rattle.lutree.specs.Tree.{view, views, trees_of, node_view, program_view, equation_view, declarations_view};
-ghost use Rattle.lurules.specs.Scope.{node_called, kind_of};
-ghost use Rattle.lurules.specs.Typing.{type_of, types_of, arguments_fit, call_kinds, only, IsWellTyped};
+ghost use Rattle.lustat_rules.specs.Scope.{node_called, kind_of};
+ghost use Rattle.lustat_rules.specs.Typing.{type_of, types_of, arguments_fit, call_kinds, only, IsWellTyped};
 
 use crate::calls::call_in;
 use crate::kinds::{agreed_kind, is_of_kind, kind_of_binary, kind_of_choice, kind_of_unary};
 use lulist::Name;
-use luscope::{Catalog, Scope};
+use lustat_scope::{Catalog, Scope};
 use lutree::{Declaration, Equation, Expr, Infix, Kind, Prefix};
 
 /// The type of a node's one output.

@@ -1,14 +1,14 @@
 use Rattle.std.proofs.Common.{◌≡◌, ◌∙◌, List, ℕ, Some, All, refl, ap, sym, subst}
 use Rattle.lutree.specs.declared.program.Program.{Program}
 use Rattle.lutree.specs.Tree.{program_view}
-use Rattle.lurules.specs.Accepted.{Passes}
-use Rattle.lurules.specs.Naming.{IsCallOrder}
+use Rattle.lustat_rules.specs.Accepted.{Passes}
+use Rattle.lustat_rules.specs.Naming.{IsCallOrder}
 use Rattle.lutype.specs.Named.{Named}
-use Rattle.lurules.specs.Faults.{IsJudged}
-use Rattle.luinit.specs.Assigned.{LeftsKnown}
-use Rattle.luinit.specs.Faults.{AreKept, IsFault, TellsBroken}
-use Rattle.luinit.specs.Rows.{AreClasses, IfKept, IfBroken, fault_of, plain}
-use Rattle.luinit.proofs.Rowing.{lefts}
+use Rattle.lustat_rules.specs.Faults.{IsJudged}
+use Rattle.lustat_classes.specs.Assigned.{LeftsKnown}
+use Rattle.lustat_classes.specs.Faults.{AreKept, IsFault, TellsBroken}
+use Rattle.lustat_classes.specs.Rows.{AreClasses, IfKept, IfBroken, fault_of, plain}
+use Rattle.lustat_classes.proofs.Rowing.{lefts}
 use Rattle.lustat.proofs.Telling.{accepted_from, told_by_classes}
 use Rattle.lustat.proofs.First.{first_of_classes}
 use Rattle.lustat.proofs.stages.last_stage.Goals as goal

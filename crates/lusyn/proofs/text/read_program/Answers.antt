@@ -1,6 +1,6 @@
 use Rattle.std.proofs.Common.{Vec, Global, ◌∙◌, sym, arith}
 use Rattle.std.proofs.lemmas.Result.{err_from_is_err_and}
-use Rattle.lutoken.specs.declared.token.Lexeme.{Lexeme}
+use Rattle.lusyn_tokens.specs.declared.token.Lexeme.{Lexeme}
 use Rattle.lusyn.specs.declared.error.SynError.TheVariants.{TooLong}
 use Rattle.lusyn.proofs.Whole.{lexer-only, lexer-refuses, scanned, parser-only, parser-refuses, many-only, many-refused, found-refuses, few-spelled, few-only}
 use Rattle.lusyn.proofs.text.read_program.Goals as goal

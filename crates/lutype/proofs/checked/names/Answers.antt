@@ -1,12 +1,12 @@
 use Rattle.std.proofs.Common.{◌≡◌, ◌∙◌, ◌<◌, refl, ap, sym, subst, None, Some, Option, length, List, ℕ}
 use Rattle.lutree.specs.declared.program.Program.{Program}
 use Rattle.lutree.specs.Tree.{program_view}
-use Rattle.lurules.specs.Naming.{Reaches, IsCallOrder}
-use Rattle.lurules.specs.Told.{Tells}
-use Rattle.lurules.specs.declared.error.StatError.{StatError}
-use Rattle.lurules.specs.Faults.{IsJudged, IsFault, AreKept}
-use Rattle.lucall.specs.Answer.{IfSorted, IfRecursive}
-use Rattle.lucall.specs.CallGraph.{IsRecursive}
+use Rattle.lustat_rules.specs.Naming.{Reaches, IsCallOrder}
+use Rattle.lustat_rules.specs.Told.{Tells}
+use Rattle.lustat_rules.specs.declared.error.StatError.{StatError}
+use Rattle.lustat_rules.specs.Faults.{IsJudged, IsFault, AreKept}
+use Rattle.lutype.specs.CallAnswer.{IfSorted, IfRecursive}
+use Rattle.lutype.specs.CallGraph.{IsRecursive}
 use Rattle.lutype.specs.Asked.{is_asked}
 use Rattle.lutype.specs.Named.{IsToldFirst}
 use Rattle.lutype.proofs.Told.{named_from, told_alone, told_with, recursive_within}

@@ -2,7 +2,7 @@ use Rattle.std.proofs.Common.{◌≡◌, ◌∙◌, ◌↔◌, ◌+◌, ap, sym,
 use Rattle.std.specs.Prelude.{slice_get}
 use Rattle.lutree.specs.declared.program.Node.{Node}
 use Rattle.lutree.specs.Tree.{node_view, equation_view}
-use Rattle.lurules.specs.Scope.{lefts_of}
+use Rattle.lustat_rules.specs.Scope.{lefts_of}
 use Rattle.lutype.specs.Starts.{IsAnew}
 use Rattle.lutype.proofs.Defining.{anew_in}
 use Rattle.lutype.proofs.defined.defines_anew.Goals as goal

@@ -1,5 +1,5 @@
 use Rattle.std.proofs.Common.{◌≡◌, ◌∙◌, ◌++◌, ◌∷◌, [], ℕ, ap, sym, subst, arith, length, map, take, ◌+◌}
-use Rattle.lurules.specs.Scope.{lefts_of}
+use Rattle.lustat_rules.specs.Scope.{lefts_of}
 use Rattle.std.proofs.lemmas.Grind.{common_steps}
 use Rattle.lutree.specs.Tree.{equation_view}
 use Rattle.lutype.specs.Starts.{AreStarts}

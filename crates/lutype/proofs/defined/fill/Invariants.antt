@@ -1,6 +1,6 @@
 use Rattle.std.proofs.Common.{◌≡◌, map, take}
 use Rattle.lutree.specs.Tree.{equation_view}
-use Rattle.lurules.specs.Scope.{lefts_of}
+use Rattle.lustat_rules.specs.Scope.{lefts_of}
 use Rattle.lutype.specs.Starts.{AreStarts}
 use Rattle.lutype.proofs.defined.fill.Given as goal
 

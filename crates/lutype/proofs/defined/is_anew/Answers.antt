@@ -1,7 +1,7 @@
 use Rattle.std.proofs.Common.{◌≡◌, ◌∙◌, ◌+◌, ℕ, List, length, get_or, map, subst, sym, refl, arith, true≢false, Some}
 use Rattle.std.proofs.lemmas.Option.{slice_get_read, slice_get_within}
 use Rattle.lutree.specs.Tree.{node_view, equation_view}
-use Rattle.lurules.specs.Scope.{lefts_of}
+use Rattle.lustat_rules.specs.Scope.{lefts_of}
 use Rattle.lutype.specs.Starts.{IsAnew}
 use Rattle.lutype.proofs.Defining.{below_item}
 use Rattle.lutype.proofs.defined.is_anew.Goals as goal

@@ -1,7 +1,7 @@
 use Rattle.std.proofs.Common.{◌≡◌, ℕ, List, ◌<◌, ◌+◌, map, Some}
 use Rattle.std.specs.Prelude.{slice_get}
 use Rattle.lutree.specs.Tree.{node_view, equation_view}
-use Rattle.lurules.specs.Scope.{lefts_of}
+use Rattle.lustat_rules.specs.Scope.{lefts_of}
 use Rattle.lutype.specs.Starts.{IsAnew}
 use Rattle.lutype.proofs.defined.is_anew.Given as goal
 

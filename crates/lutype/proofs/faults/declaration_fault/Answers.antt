@@ -1,9 +1,9 @@
 use Rattle.std.proofs.Common.{◌≡◌, ◌∙◌, refl, ap, sym, subst}
 use Rattle.lutree.specs.Tree.{program_view, node_view, declaration_view}
-use Rattle.lurules.specs.Accepted.{Rule, DeclarationKeeps, duplicate_name, unknown_name, undefined}
-use Rattle.lurules.specs.declared.error.StatError.TheVariants.{DuplicateName, UnknownName, Undefined}
-use Rattle.lurules.specs.Faults.{lesser_of, IsJudged, DeclarationFault, DeclarationKept}
-use Rattle.lurules.proofs.Judging.{judged_told}
+use Rattle.lustat_rules.specs.Accepted.{Rule, DeclarationKeeps, duplicate_name, unknown_name, undefined}
+use Rattle.lustat_rules.specs.declared.error.StatError.TheVariants.{DuplicateName, UnknownName, Undefined}
+use Rattle.lustat_rules.specs.Faults.{lesser_of, IsJudged, DeclarationFault, DeclarationKept}
+use Rattle.lustat_rules.proofs.Judging.{judged_told}
 use Rattle.lutype.specs.Asked.{is_asked}
 use Rattle.lutype.proofs.Places.{declaration_judged}
 use Rattle.lutype.proofs.faults.declaration_fault.Goals as goal

@@ -1,9 +1,9 @@
 use Rattle.std.proofs.Common.{◌≡◌, ◌∙◌, refl, ap, sym, subst}
 use Rattle.lutree.specs.Tree.{program_view, node_view, equation_view}
-use Rattle.lurules.specs.Accepted.{Rule, EquationKeeps, unknown_name, unknown_node, type_mismatch, wrong_arity, defined_twice}
-use Rattle.lurules.specs.declared.error.StatError.TheVariants.{UnknownName, UnknownNode, TypeMismatch, WrongArity, DefinedTwice}
-use Rattle.lurules.specs.Faults.{lesser_of, IsJudged, EquationFault, EquationKept}
-use Rattle.lurules.proofs.Judging.{judged_told}
+use Rattle.lustat_rules.specs.Accepted.{Rule, EquationKeeps, unknown_name, unknown_node, type_mismatch, wrong_arity, defined_twice}
+use Rattle.lustat_rules.specs.declared.error.StatError.TheVariants.{UnknownName, UnknownNode, TypeMismatch, WrongArity, DefinedTwice}
+use Rattle.lustat_rules.specs.Faults.{lesser_of, IsJudged, EquationFault, EquationKept}
+use Rattle.lustat_rules.proofs.Judging.{judged_told}
 use Rattle.lutype.specs.Asked.{is_asked}
 use Rattle.lutype.proofs.Places.{equation_judged}
 use Rattle.lutype.proofs.faults.equation_fault.Goals as goal

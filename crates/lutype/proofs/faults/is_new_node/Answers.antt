@@ -1,6 +1,6 @@
 use Rattle.std.proofs.Common.{◌∙◌, ap}
 use Rattle.lutree.specs.Tree.{program_view}
-use Rattle.lurules.specs.Naming.{node_place}
+use Rattle.lustat_rules.specs.Naming.{node_place}
 use Rattle.lutype.proofs.Standing.{node_is_new}
 use Rattle.lutype.proofs.faults.is_new_node.Goals as goal
 

@@ -1,8 +1,8 @@
 use Rattle.std.proofs.Common.{refl}
 use Rattle.lutree.specs.Tree.{program_view, node_view}
-use Rattle.lurules.specs.Accepted.{Rule, NodeKeeps, duplicate_name}
-use Rattle.lurules.specs.declared.error.StatError.TheVariants.{DuplicateName}
-use Rattle.lurules.proofs.Judging.{judged_told}
+use Rattle.lustat_rules.specs.Accepted.{Rule, NodeKeeps, duplicate_name}
+use Rattle.lustat_rules.specs.declared.error.StatError.TheVariants.{DuplicateName}
+use Rattle.lustat_rules.proofs.Judging.{judged_told}
 use Rattle.lutype.proofs.Places.{node_judged}
 use Rattle.lutype.proofs.faults.name_fault.Goals as goal
 

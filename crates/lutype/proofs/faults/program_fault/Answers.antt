@@ -1,8 +1,8 @@
 use Rattle.std.proofs.Common.{refl}
 use Rattle.lutree.specs.Tree.{program_view}
-use Rattle.lurules.specs.Accepted.{ProgramKeeps, no_main}
-use Rattle.lurules.specs.declared.error.StatError.TheVariants.{NoMain}
-use Rattle.lurules.proofs.Judging.{judged_told}
+use Rattle.lustat_rules.specs.Accepted.{ProgramKeeps, no_main}
+use Rattle.lustat_rules.specs.declared.error.StatError.TheVariants.{NoMain}
+use Rattle.lustat_rules.proofs.Judging.{judged_told}
 use Rattle.lutype.proofs.Places.{program_judged}
 use Rattle.lutype.proofs.faults.program_fault.Goals as goal
 

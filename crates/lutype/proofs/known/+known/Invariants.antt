@@ -1,6 +1,6 @@
 use Rattle.std.proofs.Common.{◌↔◌, drop}
 use Rattle.lutree.specs.Tree.{views, trees_of, node_view}
-use Rattle.lurules.specs.Scope.{IsVariable}
+use Rattle.lustat_rules.specs.Scope.{IsVariable}
 use Rattle.lutype.specs.Forms.{EachNameOf}
 use Rattle.lutype.proofs.known.+known.Given as goal
 

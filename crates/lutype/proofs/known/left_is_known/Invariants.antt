@@ -1,6 +1,6 @@
 use Rattle.std.proofs.Common.{ℕ, List, ◌<◌, get_or}
 use Rattle.lutree.specs.Tree.{node_view}
-use Rattle.lurules.specs.Scope.{IsVariable}
+use Rattle.lustat_rules.specs.Scope.{IsVariable}
 use Rattle.lutype.proofs.known.left_is_known.Given as goal
 
 abbrev pub invariant-loop-x : goal.invariant-loop-x

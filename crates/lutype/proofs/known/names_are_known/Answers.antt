@@ -1,7 +1,7 @@
 use Rattle.std.proofs.Common.{◌≡◌, ap, subst, sym}
 use Rattle.std.specs.Prelude.{All}
 use Rattle.lutree.specs.Tree.{node_view, view}
-use Rattle.lurules.specs.Scope.{IsVariable}
+use Rattle.lustat_rules.specs.Scope.{IsVariable}
 use Rattle.lutype.proofs.Forms.{each_name}
 use Rattle.lutype.proofs.known.names_are_known.Goals as goal
 

@@ -3,9 +3,9 @@ use Rattle.std.specs.Prelude.{slice_get}
 use Rattle.std.proofs.lemmas.Option.{slice_get_read}
 use Rattle.std.proofs.lemmas.List.{length-map}
 use Rattle.lutree.specs.declared.program.Declaration.{Declaration}
-use Rattle.lurules.specs.Faults.{declared_in, DeclarationFault, DeclarationKept}
-use Rattle.lurules.proofs.Judging.{judged_step, judged_all}
-use Rattle.luscope.proofs.Keeping.{item_view}
+use Rattle.lustat_rules.specs.Faults.{declared_in, DeclarationFault, DeclarationKept}
+use Rattle.lustat_rules.proofs.Judging.{judged_step, judged_all}
+use Rattle.lustat_scope.proofs.Keeping.{item_view}
 use Rattle.lutype.specs.Asked.{is_asked}
 use Rattle.lutype.proofs.search.declarations_fault.Goals as goal
 

@@ -1,7 +1,7 @@
 use Rattle.std.proofs.Common.{ℕ, List}
 use Rattle.lutree.specs.declared.program.Program.{Program}
-use Rattle.lurules.specs.Faults.{declared_in, IsJudged, DeclarationFault, DeclarationKept}
-use Rattle.lurules.proofs.Judging.{FaultBefore, KeptBefore}
+use Rattle.lustat_rules.specs.Faults.{declared_in, IsJudged, DeclarationFault, DeclarationKept}
+use Rattle.lustat_rules.proofs.Judging.{FaultBefore, KeptBefore}
 use Rattle.lutype.specs.Asked.{is_asked}
 use Rattle.lutype.proofs.search.declarations_fault.Given as goal
 

@@ -2,8 +2,8 @@ use Rattle.std.proofs.Common.{◌≡◌, ◌∙◌, ◌≤◌, ℕ, List, refl, 
 use Rattle.std.specs.Prelude.{slice_get}
 use Rattle.std.proofs.lemmas.Option.{slice_get_read}
 use Rattle.lutree.specs.declared.program.Node.{Node}
-use Rattle.lurules.specs.Faults.{EquationFault, EquationKept}
-use Rattle.lurules.proofs.Judging.{judged_step, judged_all}
+use Rattle.lustat_rules.specs.Faults.{EquationFault, EquationKept}
+use Rattle.lustat_rules.proofs.Judging.{judged_step, judged_all}
 use Rattle.lutype.specs.Asked.{is_asked}
 use Rattle.lutype.proofs.search.equations_fault.Goals as goal
 

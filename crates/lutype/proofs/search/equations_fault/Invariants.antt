@@ -1,6 +1,6 @@
 use Rattle.std.proofs.Common.{ℕ, List}
-use Rattle.lurules.specs.Faults.{IsJudged, EquationFault, EquationKept}
-use Rattle.lurules.proofs.Judging.{FaultBefore, KeptBefore}
+use Rattle.lustat_rules.specs.Faults.{IsJudged, EquationFault, EquationKept}
+use Rattle.lustat_rules.proofs.Judging.{FaultBefore, KeptBefore}
 use Rattle.lutype.specs.Asked.{is_asked}
 use Rattle.lutype.proofs.search.equations_fault.Given as goal
 

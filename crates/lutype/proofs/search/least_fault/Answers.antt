@@ -1,8 +1,8 @@
 use Rattle.std.proofs.Common.{◌≡◌, ◌⊎◌}
-use Rattle.lurules.specs.declared.error.StatError.{StatError}
-use Rattle.lurules.specs.Faults.{FaultAmong, KeptAmong, ProgramFault, ProgramKept, InNodeFault, AllOfNodeKept, IsFault, AreKept}
-use Rattle.lurules.proofs.Judging.{judged_joined, judged_same}
-use Rattle.luscope.proofs.Keeping.{kept_everywhere}
+use Rattle.lustat_rules.specs.declared.error.StatError.{StatError}
+use Rattle.lustat_rules.specs.Faults.{FaultAmong, KeptAmong, ProgramFault, ProgramKept, InNodeFault, AllOfNodeKept, IsFault, AreKept}
+use Rattle.lustat_rules.proofs.Judging.{judged_joined, judged_same}
+use Rattle.lustat_scope.proofs.Keeping.{kept_everywhere}
 use Rattle.lutype.specs.Asked.{is_asked}
 use Rattle.lutype.proofs.search.least_fault.Goals as goal
 

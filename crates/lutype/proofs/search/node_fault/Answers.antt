@@ -1,8 +1,8 @@
 use Rattle.std.proofs.Common.{◌≡◌, ◌∙◌, ◌⊎◌, ℕ, List, refl, ap, sym, subst}
 use Rattle.lutree.specs.declared.program.Node.{Node}
-use Rattle.lurules.specs.declared.error.StatError.{StatError}
-use Rattle.lurules.specs.Faults.{declared_in, IsJudged, FaultAmong, KeptAmong, NodeFault, NodeKept, DeclarationFault, DeclarationKept, EquationFault, EquationKept, InNodeFault, AllOfNodeKept}
-use Rattle.lurules.proofs.Judging.{judged_joined, judged_same}
+use Rattle.lustat_rules.specs.declared.error.StatError.{StatError}
+use Rattle.lustat_rules.specs.Faults.{declared_in, IsJudged, FaultAmong, KeptAmong, NodeFault, NodeKept, DeclarationFault, DeclarationKept, EquationFault, EquationKept, InNodeFault, AllOfNodeKept}
+use Rattle.lustat_rules.proofs.Judging.{judged_joined, judged_same}
 use Rattle.lutype.specs.Asked.{is_asked}
 use Rattle.lutype.proofs.search.node_fault.Goals as goal
 

@@ -1,8 +1,8 @@
 use Rattle.std.proofs.Common.{◌≡◌, ◌∙◌, ◌≤◌, ℕ, List, refl, ap, sym, length, arith}
 use Rattle.std.specs.Prelude.{slice_get}
 use Rattle.std.proofs.lemmas.Option.{slice_get_read}
-use Rattle.lurules.specs.Faults.{InNodeFault, AllOfNodeKept}
-use Rattle.lurules.proofs.Judging.{judged_step, judged_all}
+use Rattle.lustat_rules.specs.Faults.{InNodeFault, AllOfNodeKept}
+use Rattle.lustat_rules.proofs.Judging.{judged_step, judged_all}
 use Rattle.lutype.specs.Asked.{is_asked}
 use Rattle.lutype.proofs.search.nodes_fault.Goals as goal
 

@@ -1,8 +1,8 @@
 use Rattle.std.proofs.Common.{◌≡◌, ◌∙◌, sym, ap, Some, map, true, arith}
 use Rattle.lutree.specs.Tree.{DeclarationTree, views, trees_of, node_view, program_view, declarations_view}
 use Rattle.lutree.specs.declared.program.Node.{Node}
-use Rattle.lurules.specs.Scope.{node_called}
-use Rattle.lurules.specs.Typing.{types_of, arguments_fit, only}
+use Rattle.lustat_rules.specs.Scope.{node_called}
+use Rattle.lustat_rules.specs.Typing.{types_of, arguments_fit, only}
 use Rattle.lutype.proofs.Fit.{fit_end}
 use Rattle.lutype.proofs.Lookups.{call_kinds_fit}
 use Rattle.lutype.proofs.typing.+types.Goals as goal

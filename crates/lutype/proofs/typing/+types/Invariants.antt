@@ -1,6 +1,6 @@
 use Rattle.std.proofs.Common.{◌≡◌, ◌≤◌, map, length, drop}
 use Rattle.lutree.specs.Tree.{views, trees_of, node_view, program_view, declarations_view}
-use Rattle.lurules.specs.Typing.{types_of, arguments_fit}
+use Rattle.lustat_rules.specs.Typing.{types_of, arguments_fit}
 use Rattle.lutype.proofs.typing.+types.Given as goal
 
 abbrev pub invariant-arguments_have_kinds-loop-i : goal.invariant-arguments_have_kinds-loop-i

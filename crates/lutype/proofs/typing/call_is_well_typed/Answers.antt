@@ -1,8 +1,8 @@
 use Rattle.std.proofs.Common.{◌≡◌, ◌∙◌, ap, sym, Some, map, true, arith}
 use Rattle.lutree.specs.declared.program.Node.{Node}
 use Rattle.lutree.specs.Tree.{node_view, program_view, views, trees_of, declarations_view}
-use Rattle.lurules.specs.Scope.{kind_of, node_called}
-use Rattle.lurules.specs.Typing.{types_of, arguments_fit}
+use Rattle.lustat_rules.specs.Scope.{kind_of, node_called}
+use Rattle.lustat_rules.specs.Typing.{types_of, arguments_fit}
 use Rattle.lutype.proofs.Lookups.{meet_call}
 use Rattle.lutype.proofs.typing.call_is_well_typed.Goals as goal
 

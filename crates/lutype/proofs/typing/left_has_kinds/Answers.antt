@@ -1,6 +1,6 @@
 use Rattle.std.proofs.Common.{◌∙◌, arith}
 use Rattle.lutree.specs.Tree.{node_view}
-use Rattle.lurules.specs.Scope.{kind_of}
+use Rattle.lustat_rules.specs.Scope.{kind_of}
 use Rattle.lutype.proofs.Fit.{left_end}
 use Rattle.lutype.proofs.typing.left_has_kinds.Goals as goal
 

@@ -1,7 +1,7 @@
 use Rattle.std.proofs.Common.{◌≡◌, ◌≤◌, map, length, drop}
 use Rattle.lutree.specs.Tree.{node_view, declarations_view}
-use Rattle.lurules.specs.Scope.{kind_of}
-use Rattle.lurules.specs.Typing.{arguments_fit}
+use Rattle.lustat_rules.specs.Scope.{kind_of}
+use Rattle.lustat_rules.specs.Typing.{arguments_fit}
 use Rattle.lutype.proofs.typing.left_has_kinds.Given as goal
 
 abbrev pub invariant-loop-i : goal.invariant-loop-i

@@ -1,8 +1,8 @@
 use Rattle.std.proofs.Common.{◌≡◌, ◌∙◌, ◌∷◌, [], map, ap, sym}
 use Rattle.std.specs.Prelude.{option_map}
 use Rattle.lutree.specs.Tree.{node_view}
-use Rattle.lurules.specs.Scope.{kind_of}
-use Rattle.lurules.specs.Typing.{has_kind}
+use Rattle.lustat_rules.specs.Scope.{kind_of}
+use Rattle.lustat_rules.specs.Typing.{has_kind}
 use Rattle.lutype.proofs.Forms.{one_item}
 use Rattle.lutype.proofs.Lookups.{meet_one}
 use Rattle.lutype.proofs.typing.value_is_well_typed.Goals as goal

@@ -1,6 +1,6 @@
 use Rattle.std.proofs.Common.{sym, subst}
 use Rattle.lutree.specs.Tree.{program_view}
-use Rattle.lurules.specs.Accepted.{IsAccepted}
+use Rattle.lustat_rules.specs.Accepted.{IsAccepted}
 use Rattle.lustat.specs.Whole.{Whole}
 use Rattle.lustat.proofs.checked.Checked.catalog.Goals as goal
 

@@ -1,6 +1,0 @@
-use Rattle.lutree.specs.Tree.{node_view}
-use Rattle.luclock.specs.Chains.{lent_view, AreClocked}
-use Rattle.luclock.proofs.chain.clocked.Given as goal
-
-abbrev pub invariant-loop-i : goal.invariant-loop-i
-invariant-loop-i l = AreClocked (node_view l.scope) (lent_view l.declarations) l.i l.links.items

@@ -1,9 +1,0 @@
-use Rattle.std.proofs.Common.{◌↔◌, drop}
-use Rattle.lutree.specs.Tree.{views, trees_of, node_view}
-use Rattle.lurules.specs.Clocks.{AllFitInside}
-use Rattle.luscope.specs.ClockRefs.{the_clock}
-use Rattle.luclock.proofs.fit.+fits.Given as goal
-
-abbrev pub invariant-all_fit-loop-a : goal.invariant-all_fit-loop-a
-invariant-all_fit-loop-a l =
-    AllFitInside (node_view l.scope) (trees_of (views (drop l.a-index l.arguments))) (the_clock l.k) ↔ AllFitInside (node_view l.scope) (trees_of (views l.arguments)) (the_clock l.k)

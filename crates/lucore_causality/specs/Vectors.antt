@@ -1,0 +1,65 @@
+-- Worked programs: cycles that pass a call and a clock, and one that a `pre` breaks.
+use Rattle.std.specs.Prelude.{ℕ, true, List, [], ◌∷◌, codes, Option, Some, None}
+use Rattle.lutree.specs.declared.expr.BinaryOperator.TheVariants.{Add, Equal}
+use Rattle.lutree.specs.declared.expr.Prefix.TheVariants.{Pre}
+use Rattle.lutree.specs.declared.expr.Infix.TheVariants.{Data as Data2, Arrow}
+use Rattle.lutree.specs.declared.expr.Condition.{Condition}
+use Rattle.lutree.specs.declared.program.Kind.TheVariants.{Int as Ints, Bool as Truths}
+use Rattle.lutree.specs.Tree.{Tree, DeclarationTree, NodeTree}
+use Rattle.lutree.specs.Tree as tree
+use Rattle.lucore_causality.specs.Laws.{HasCycle}
+
+abbrev pub where_c : Condition
+where_c = record { variable = codes "c"; sign = true }
+
+abbrev pub int_named : List ℕ → Option Condition → DeclarationTree
+int_named name clock = record { name = name; kind = Ints; clock = clock }
+
+-- node same(x: int) returns (y: int); let y = x; tel
+abbrev pub same : NodeTree
+same =
+    record {
+      name = codes "same";
+      inputs = int_named (codes "x") None ∷ [];
+      outputs = int_named (codes "y") None ∷ [];
+      locals = [];
+      equations = record { left = codes "y" ∷ []; right = tree.variable (codes "x") } ∷ [];
+    }
+
+-- node main() returns (a: int); let a = RIGHT; tel
+abbrev pub defines_a : Tree → NodeTree
+defines_a right =
+    record {
+      name = codes "main";
+      inputs = [];
+      outputs = int_named (codes "a") None ∷ [];
+      locals = [];
+      equations = record { left = codes "a" ∷ []; right = right } ∷ [];
+    }
+
+-- a = same(a);
+abbrev pub through_call : NodeTree
+through_call = defines_a (tree.call (codes "same") (tree.more (tree.variable (codes "a")) tree.none))
+
+-- a = 0 -> pre a + 1;
+abbrev pub counter : NodeTree
+counter =
+    defines_a (tree.binary Arrow (tree.number 0) (tree.binary (Data2 Add) (tree.unary Pre (tree.variable (codes "a"))) (tree.number 1)))
+
+-- node main() returns (c: bool); var s: int when c; let s = 1 when c; c = current(s) = 1; tel
+abbrev pub through_clock : NodeTree
+through_clock =
+    record {
+      name = codes "main";
+      inputs = [];
+      outputs = record { name = codes "c"; kind = Truths; clock = None } ∷ [];
+      locals = int_named (codes "s") (Some where_c) ∷ [];
+      equations =
+          record { left = codes "s" ∷ []; right = tree.when (tree.number 1) where_c }
+          ∷ record { left = codes "c" ∷ []; right = tree.binary (Data2 Equal) (tree.current (codes "s")) (tree.number 1) } ∷ [];
+    }
+
+pub record VectorsLaw : Type 0 where
+  pub call_closes : HasCycle (same ∷ through_call ∷ []) (codes "main")
+  pub clock_closes : HasCycle (through_clock ∷ []) (codes "main")
+  pub pre_breaks : ¬ HasCycle (counter ∷ []) (codes "main")

@@ -1,0 +1,232 @@
+//! The walk of an expression.
+
+ghost use Rattle.std.specs.Prelude.{◌≡◌, pos, length, map, IfOk, unwrap_or};
+ghost use Rattle.lutree.specs.Tree.{view, views, trees_of, node_view, program_view, declarations_view};
+ghost use Rattle.lutree.specs.Tree as tree;
+ghost use Rattle.lustat_rules.specs.Scope.{node_called};
+ghost use Rattle.lustat_rules.specs.Typing.{type_of, only, call_kinds, arguments_fit};
+ghost use Rattle.lucore_list.specs.Layout.{clock_place, instance, walk as walk_of};
+ghost use Rattle.lustat_scope.specs.ClockRefs.{the_clock};
+ghost use Rattle.lucore_inline.specs.Walks.{IsWalked, root_view, plain, prefix_form, prefix_kind, infix_walk, infix_kind, places_of, kinds_of};
+
+use crate::context::{
+    Context, called_list, flow_of, inputs_of, own, placed_clock, variable_clock, variable_place,
+};
+use crate::kinds::{agreed_kind, is_of_kind, kind_of_binary, kind_of_choice, kind_of_unary};
+use crate::moved::push_moved;
+use crate::root::{Operand, Root, Walked, settled, sum_of};
+use luflow::{Datum, Flow, Form};
+use lulist::Number;
+use lustat_scope::{Catalog, ClockRef, Scope};
+use lutree::{Declaration, Expr, Infix, Kind, Prefix};
+use std::alloc::{AllocError, Global};
+
+// The datum of a number.
+fn constant(number: &Number) -> Datum
+    ensures { result ≡ Datum.Int (pos number.now) }
+{
+    Datum::Int(number.value() as i64)
+}
+
+// An operator before its operand.
+fn prefix(op: Prefix, place: usize) -> Form
+    ensures { result ≡ prefix_form op place }
+{
+    match op {
+        Prefix::Data(op) => Form::Unary(op, place),
+        Prefix::Pre => Form::Pre(place),
+    }
+}
+
+// The type of an operator before its operand.
+fn kind_of_prefix(op: Prefix, kind: Option<Kind>) -> Option<Kind>
+    ensures { result ≡ prefix_kind op kind }
+{
+    match op {
+        Prefix::Data(op) => agreed_kind(Some(kind_of_unary(op)), kind),
+        Prefix::Pre => kind,
+    }
+}
+
+// Two operands and what stands between them.
+fn infix(
+    scope: &Scope,
+    flows: &mut Vec<Flow>,
+    op: Infix,
+    x: Operand,
+    y: Operand,
+    clock: ClockRef,
+) -> Result<Walked, AllocError>
+    ensures walked { IfOk result (λ w. IsWalked (infix_walk (clock_place (node_view scope.now) (the_clock clock.entry)) op x y) flows.old.items flows.new.items (root_view w.root)) }
+    ensures kind { IfOk result (λ w. w.kind ≡ infix_kind op x.kind y.kind) }
+{
+    match op {
+        Infix::Data(op) => {
+            let kind = kind_of_binary(op, x.kind, y.kind);
+            Ok(own(scope, clock, kind, Form::Binary(op, x.place, y.place)))
+        }
+        Infix::Arrow => {
+            let kind = agreed_kind(x.kind, y.kind);
+            Ok(own(scope, clock, kind, Form::Arrow(x.place, y.place)))
+        }
+        Infix::FollowedBy => {
+            let before = flows.len();
+            flows.push(flow_of(scope, clock, y.kind, Form::Pre(y.place)))?;
+            let kind = agreed_kind(x.kind, y.kind);
+            Ok(own(scope, clock, kind, Form::Arrow(x.place, before)))
+        }
+    }
+}
+
+// Whether the arguments of a call are those that a node takes.
+fn arguments_have_kinds(arguments: &[Operand], inputs: &[Declaration]) -> bool
+    ensures { result ≡ arguments_fit (kinds_of arguments.now) (declarations_view inputs.now) }
+{
+    for (i, a) in arguments.iter().enumerate() {
+        if i >= inputs.len() || !is_of_kind(a.kind, inputs[i].kind) {
+            return false;
+        }
+    }
+    arguments.len() == inputs.len()
+}
+
+// The type of a node's one output.
+fn only_kind(outputs: &[Declaration]) -> Option<Kind>
+    ensures { result ≡ only (Some (map (λ d. d.kind) (declarations_view outputs.now))) }
+{
+    match outputs {
+        [d] => Some(d.kind),
+        _ => None,
+    }
+}
+
+// The type of a call.
+fn kind_of_call(catalog: &Catalog, name: &str, arguments: &[Operand]) -> Option<Kind>
+    ensures { result ≡ only (call_kinds (node_called (program_view catalog.now) name.now) (kinds_of arguments.now)) }
+{
+    let node = catalog.find(name)?.node();
+    if arguments_have_kinds(arguments, node.inputs.as_slice()) {
+        only_kind(node.outputs.as_slice())
+    } else {
+        None
+    }
+}
+
+// A copy of the called node's list, with its arguments in place.
+fn instance_of(
+    context: &Context,
+    flows: &mut Vec<Flow>,
+    name: &str,
+    arguments: &[Operand],
+    clock: ClockRef,
+) -> Result<Walked, AllocError>
+    ensures walked { IfOk result (λ w. IsWalked (instance (program_view context.now.catalog.now) (plain context.now.lists.now) name.now (clock_place (node_view context.now.scope.now) (the_clock clock.entry)) (places_of arguments.now)) flows.old.items flows.new.items (root_view w.root)) }
+    ensures kind { IfOk result (λ w. w.kind ≡ only (call_kinds (node_called (program_view context.now.catalog.now) name.now) (kinds_of arguments.now))) }
+{
+    let outputs = sum_of(flows.len(), inputs_of(context.catalog, name))?;
+    let list = called_list(context.catalog, context.lists, name);
+    push_moved(flows, placed_clock(context.scope, clock), arguments, list)?;
+    Ok(Walked {
+        root: Root::At(outputs),
+        kind: kind_of_call(context.catalog, name, arguments),
+    })
+}
+
+/// The walk of an expression of a node, on a clock: puts its inner flows behind those before.
+///
+/// The expected time grows with the length of the expression and of the lists that it calls.
+///
+/// # Errors
+///
+/// An error means that memory ran out.
+#[cycle(walk)]
+pub fn walk(
+    alloc: Global,
+    context: &Context,
+    flows: &mut Vec<Flow>,
+    e: &Expr,
+    clock: ClockRef,
+) -> Result<Walked, AllocError>
+    ensures walked { IfOk result (λ w. IsWalked (walk_of (program_view context.now.catalog.now) (plain context.now.lists.now) (node_view context.now.scope.now) (view e.now) (the_clock clock.entry)) flows.old.items flows.new.items (root_view w.root)) }
+    ensures kind { IfOk result (λ w. w.kind ≡ type_of (program_view context.now.catalog.now) (node_view context.now.scope.now) (view e.now)) }
+{
+    let scope = context.scope;
+    match e {
+        Expr::Number(n) => Ok(own(scope, clock, Some(Kind::Int), Form::Constant(constant(n)))),
+        Expr::Truth(b) => {
+            let form = Form::Constant(Datum::Bool(*b));
+            Ok(own(scope, clock, Some(Kind::Bool), form))
+        }
+        Expr::Variable(x) => Ok(Walked {
+            root: Root::At(variable_place(scope, x.as_str())),
+            kind: scope.kind(x.as_str()),
+        }),
+        Expr::Current(x) => {
+            let form = Form::Current(variable_place(scope, x.as_str()));
+            Ok(own(scope, clock, scope.kind(x.as_str()), form))
+        }
+        Expr::Unary(op, a) => {
+            let x = settled(walk(alloc, context, flows, a, clock)?, flows)?;
+            Ok(own(
+                scope,
+                clock,
+                kind_of_prefix(*op, x.kind),
+                prefix(*op, x.place),
+            ))
+        }
+        Expr::Binary(op, a, b) => {
+            let x = settled(walk(alloc, context, flows, a, clock)?, flows)?;
+            let y = settled(walk(alloc, context, flows, b, clock)?, flows)?;
+            infix(scope, flows, *op, x, y, clock)
+        }
+        Expr::If(c, a, b) => {
+            let z = settled(walk(alloc, context, flows, c, clock)?, flows)?;
+            let x = settled(walk(alloc, context, flows, a, clock)?, flows)?;
+            let y = settled(walk(alloc, context, flows, b, clock)?, flows)?;
+            let kind = kind_of_choice(z.kind, x.kind, y.kind);
+            Ok(own(scope, clock, kind, Form::If(z.place, x.place, y.place)))
+        }
+        Expr::When(a, c) => {
+            let name = c.variable.as_str();
+            let inside = variable_clock(scope, name);
+            let x = settled(walk(alloc, context, flows, a, inside)?, flows)?;
+            let sampled = ClockRef::On(name, c.sign);
+            Ok(own(scope, sampled, x.kind, Form::When(x.place)))
+        }
+        Expr::Merge(c, a, b) => {
+            let name = c.as_str();
+            let x = settled(
+                walk(alloc, context, flows, a, ClockRef::On(name, true))?,
+                flows,
+            )?;
+            let y = settled(
+                walk(alloc, context, flows, b, ClockRef::On(name, false))?,
+                flows,
+            )?;
+            let form = Form::Merge(variable_place(scope, name), x.place, y.place);
+            Ok(own(scope, clock, agreed_kind(x.kind, y.kind), form))
+        }
+        Expr::Call(f, arguments) => call(alloc, context, flows, f.as_str(), arguments, clock),
+    }
+}
+
+// The walk of a call: its arguments from left to right, then the called node's list.
+#[cycle(walk)]
+fn call(
+    alloc: Global,
+    context: &Context,
+    flows: &mut Vec<Flow>,
+    name: &str,
+    arguments: &[Expr],
+    clock: ClockRef,
+) -> Result<Walked, AllocError>
+    ensures walked { IfOk result (λ w. IsWalked (walk_of (program_view context.now.catalog.now) (plain context.now.lists.now) (node_view context.now.scope.now) (tree.call name.now (trees_of (views arguments.now))) (the_clock clock.entry)) flows.old.items flows.new.items (root_view w.root)) }
+    ensures kind { IfOk result (λ w. w.kind ≡ type_of (program_view context.now.catalog.now) (node_view context.now.scope.now) (tree.call name.now (trees_of (views arguments.now)))) }
+{
+    let mut operands = Vec::with_capacity(alloc, arguments.len())?;
+    for a in arguments {
+        let x = settled(walk(alloc, context, flows, a, clock)?, flows)?;
+        operands.push(x)?;
+    }
+    instance_of(context, flows, name, operands.as_slice(), clock)
+}

@@ -1,0 +1,256 @@
+-- A solution of a node gives a solution of its open list.
+use Rattle.std.proofs.Common.{◌≡◌, ℕ, suc, ◌+◌, ◌<◌, List, [], ◌∷◌, ◌++◌, length, map, Option, Some, None, refl, sym, ap, ◌∙◌, subst, arith, length-append}
+use Rattle.std.specs.Prelude.{slice_get, true, false, pos}
+use Rattle.std.proofs.lemmas.List.{append-nil, length-map}
+use Rattle.lutree.specs.declared.expr.Condition.{Condition}
+use Rattle.lutree.specs.declared.expr.Prefix.TheVariants.{Data as Data1, Pre as Before}
+use Rattle.lutree.specs.declared.expr.Infix.TheVariants.{Data as Data2, Arrow as Starts, FollowedBy}
+use Rattle.lutree.specs.Tree.{Tree, Trees, list_of as trees_in, EquationTree, NodeTree, ProgramTree}
+use Rattle.lutree.specs.Tree as tree
+use Rattle.luflow.specs.declared.data.Datum.TheVariants.{Int, Bool as Truth}
+use Rattle.luflow.specs.declared.form.Flow.{Flow}
+use Rattle.luflow.specs.declared.form.Form.TheVariants.{Constant, Unary, Binary, If, Pre, Arrow, When, Current, Merge}
+use Rattle.luflow.specs.Streams.{Stream, Ticks, truth_in}
+use Rattle.lusource.specs.Names.{variables_of, place_of, node_of, clock_of, name_at, outputs_in, output_name, AreDistinct}
+use Rattle.lusource.specs.StreamOperators.{constant_stream, unary_stream, binary_stream, choice_stream, pre_stream, arrow_stream, when_stream, current_stream, merge_stream}
+use Rattle.lusource.specs.Source.{Named, Site, Path, SourceStreams, HoldsAt, condition, ticks, calls, calls_in, value, values, output, sites, sites_in}
+use Rattle.lucore_list.specs.Layout.{Root, Walking, root_flows, made, root_place, place, behind, leaf, after, list_of, inputs_in, instance, moved, clock_place, flow_of, variable_place, walk, walk_all}
+use Rattle.lucore_list.specs.Layout.Root.{own, at}
+use Rattle.lucore_list.proofs.Each.{Each, each_left, each_right, each_join, each_shift, mapped}
+use Rattle.lucore_list.proofs.Open.{Model, clock_ticks, flow_stream, FlowHolds, Hold, Solves, root_stream, moved_model, solved_instance}
+use Rattle.lucore_list.proofs.Spots.{length-sites, length-sites_in, place_named}
+use Rattle.lucore_list.proofs.Well.{Known, IsWell, AllWell, CallIs}
+use Rattle.lucore_list.proofs.ToSource.{output_value, output_place, output_there}
+use Rattle.lucore_list.proofs.Names.{place_in}
+
+-- the model has these streams from place s on
+abbrev pub Has : Model → ℕ → List Stream → Type 0
+Has m s l = Each (λ x t. m.on x ≡ t) s l
+
+-- There are streams for these flows from place s on: wherever A holds and they stand there, the flows hold, and Q.
+abbrev pub Makes : Ticks → (Model → Type 0) → ℕ → List Flow → (Model → Type 0) → Type 0
+Makes base A s flows Q =
+    (l : List Stream) × (length l ≡ length flows) × ((m : Model) → A m → Has m s l → Hold base m s flows × Q m)
+
+module _ (base : Ticks) where
+  pub makes_none : (A Q : Model → Type 0) (s : ℕ) → ((m : Model) → A m → Q m) → Makes base A s [] Q
+  makes_none A Q s q = ([], refl, λ m a h. (tt, q m a))
+
+  makes_flow : (A Q : Model → Type 0) (s : ℕ) (f : Flow) (v : Stream) → ((m : Model) → A m → m.on s ≡ v → FlowHolds base m s f × Q m) → Makes base A s (f ∷ []) Q
+  makes_flow A Q s f v q = (v ∷ [], refl, λ m a h. (((q m a h.0).0, tt), (q m a h.0).1))
+
+  pub makes_join : (A Q R : Model → Type 0) (s : ℕ) (xs ys : List Flow) → Makes base A s xs Q → Makes base (λ m. A m × Q m) (s + length xs) ys R → Makes base A s (xs ++ ys) (λ m. Q m × R m)
+  makes_join A Q R s xs ys f g = (
+    f.0 ++ g.0,
+    (let e = f.1 in let e' = g.1 in omega (arith, length-append f.0 g.0, length-append xs ys)),
+    λ m a h.
+        let x = f.2 m a (each_left _ s f.0 g.0 h) in
+        let z : s + length f.0 ≡ s + length xs = ap (λ n. s + n) f.1 in
+        let y = g.2 m (a, x.1) (subst (λ n. Has m n g.0) z (each_right _ s f.0 g.0 h)) in
+        (each_join (FlowHolds base m) s xs ys x.0 y.0, (x.1, y.1)),
+  )
+
+  pub makes_imp : (A Q R : Model → Type 0) (s : ℕ) (xs : List Flow) → ((m : Model) → A m → Q m → R m) → Makes base A s xs Q → Makes base A s xs R
+  makes_imp A Q R s xs q f = (f.0, f.1, λ m a h. let x = f.2 m a h in (x.0, q m a x.1))
+
+  pub makes_under : (A B Q : Model → Type 0) (s : ℕ) (xs : List Flow) → ((m : Model) → B m → A m) → Makes base A s xs Q → Makes base B s xs Q
+  makes_under A B Q s xs q f = (f.0, f.1, λ m b h. f.2 m (q m b) h)
+
+  -- wherever a walk begins, its inner flows have streams with which the root has these streams
+  abbrev pub RootMakes : (Model → Type 0) → Walking → ℕ → (ℕ → Stream) → Type 0
+  RootMakes A w width val =
+      (s : ℕ) → Makes base A s (w s).inner (λ m. (j : ℕ) → j < width → root_stream base m (w s).root j ≡ val j)
+
+  roots_under : (A B : Model → Type 0) (w : Walking) (width : ℕ) (val : ℕ → Stream) → ((m : Model) → B m → A m) → RootMakes A w width val → RootMakes B w width val
+  roots_under A B w width val q f s = makes_under A B _ s (w s).inner q (f s)
+
+  makes_leaf : (A : Model → Type 0) (f : Flow) (w : ℕ) (val : ℕ → Stream) → ((m : Model) → A m → (j : ℕ) → flow_stream base m f ≡ val j) → RootMakes A (leaf f) w val
+  makes_leaf A f w val h s = makes_none A _ s (λ m a j lt. h m a j)
+
+  makes_operand : (A : Model → Type 0) (s : ℕ) (inner : List Flow) (root : Root) (v : Stream) → Makes base A s inner (λ m. root_stream base m root 0 ≡ v) → Makes base A s (inner ++ root_flows root) (λ m. m.on (root_place (s + length inner) root) ≡ v)
+  makes_operand A s inner (own f) v h =
+      makes_imp A _ _ s (inner ++ f ∷ []) (λ m a q. q.1)
+      (makes_join A (λ m. flow_stream base m f ≡ v) (λ m. m.on (s + length inner) ≡ v) s inner (f ∷ []) h
+      (makes_flow (λ m. A m × (flow_stream base m f ≡ v)) (λ m. m.on (s + length inner) ≡ v) (s + length inner) f v (λ m a e. (e ∙ sym a.1, e))))
+  makes_operand A s inner (at x) v h =
+      let z : x ≡ x + 0 = omega arith in
+      subst (λ l. Makes base A s l (λ m. m.on x ≡ v)) (sym (append-nil inner)) (makes_imp A _ _ s inner (λ m a q. ap m.on z ∙ q) h)
+
+  makes_after : (A : Model → Type 0) (a : Walking) (rest : ℕ → Walking) (w : ℕ) (va val : ℕ → Stream) → RootMakes A a 1 va → ((x : ℕ) → RootMakes (λ m. A m × (m.on x ≡ va 0)) (rest x) w val) → RootMakes A (after a rest) w val
+  makes_after A a rest w va val first then s =
+      let r = rest (place s (a s)) (behind s (a s)) in
+      let f = makes_operand A s (a s).inner (a s).root (va 0) (makes_imp A _ _ s (a s).inner (λ m a q. q 0 (omega arith)) (first s)) in
+      makes_imp A _ _ s (made (a s) ++ r.inner) (λ m a q. q.1)
+      (makes_join A (λ m. m.on (place s (a s)) ≡ va 0) (λ m. (j : ℕ) → j < w → root_stream base m r.root j ≡ val j) s (made (a s)) r.inner f (then (place s (a s)) (behind s (a s))))
+
+  makes_one : (A : Model → Type 0) (a : Walking) (operator : ℕ → Flow) (w : ℕ) (va val : ℕ → Stream) → RootMakes A a 1 va → ((x : ℕ) (m : Model) → A m → m.on x ≡ va 0 → (j : ℕ) → flow_stream base m (operator x) ≡ val j) → RootMakes A (after a (λ x. leaf (operator x))) w val
+  makes_one A a operator w va val first h =
+      makes_after A a (λ x. leaf (operator x)) w va val first (λ x. makes_leaf (λ m. A m × (m.on x ≡ va 0)) (operator x) w val (λ m q j. h x m q.0 q.1 j))
+
+  makes_two : (A : Model → Type 0) (a b : Walking) (operator : ℕ → ℕ → Flow) (w : ℕ) (va vb val : ℕ → Stream) → RootMakes A a 1 va → RootMakes A b 1 vb → ((x y : ℕ) (m : Model) → A m → m.on x ≡ va 0 → m.on y ≡ vb 0 → (j : ℕ) → flow_stream base m (operator x y) ≡ val j) → RootMakes A (after a (λ x. after b (λ y. leaf (operator x y)))) w val
+  makes_two A a b operator w va vb val first second h =
+      makes_after A a (λ x. after b (λ y. leaf (operator x y))) w va val first
+      (λ x. makes_one (λ m. A m × (m.on x ≡ va 0)) b (operator x) w vb val (roots_under A (λ m. A m × (m.on x ≡ va 0)) b 1 vb (λ m q. q.0) second) (λ y m q e j. h x y m q.0 q.1 e j))
+
+-- what a node's list gives for each of its solutions
+abbrev pub Gives : ProgramTree → List (List Flow) → List ℕ → Type 0
+Gives p lists f =
+    (n : NodeTree) → node_of p f ≡ Some n → (base : Ticks) (given : List Stream) (σ : SourceStreams) → ((path : Path) → HoldsAt p f base given σ path)
+    → (l : List Stream) × (length l ≡ length (list_of p lists f)) × ((m : Model) → Has m 0 l → ((r : ℕ) (s : Stream) → slice_get given r ≡ Some s → m.given r ≡ s)
+    → Solves base m (list_of p lists f) × ((x : List ℕ) → place_of (variables_of n) x < length (variables_of n) → m.on (place_of (variables_of n) x) ≡ σ [] x))
+
+module _ (p : ProgramTree) (lists : List (List Flow)) (node : NodeTree) (Below : List ℕ → Type 0) (base : Ticks) (σ : SourceStreams) (apart : (f : List ℕ) (n : NodeTree) → node_of p f ≡ Some n → AreDistinct (variables_of n)) (gives : (f : List ℕ) → Below f → Gives p lists f) where
+  abbrev pub KnownClock : Option Condition → Type 0
+  KnownClock None = Unit {0}
+  KnownClock (Some c) = Known p node Below c.variable
+
+  -- the model has the instance's own streams
+  abbrev pub Agree : Model → Type 0
+  Agree m = (x : List ℕ) → Known p node Below x → m.on (variable_place p lists node x) ≡ σ [] x
+
+  abbrev pub var : Named
+  var = σ []
+
+  abbrev pub below : ℕ → Named
+  below i = σ (i ∷ [])
+
+  abbrev pub Solved : ℕ → List Site → Type 0
+  Solved i xs = Each (λ j c. (path : Path) → HoldsAt p c.node c.base c.arguments (λ ρ. σ (j ∷ ρ)) path) i xs
+
+  pub solved_then : (i : ℕ) (a b : List Site) (n : ℕ) → length a ≡ n → Solved i (a ++ b) → Solved (i + n) b
+  solved_then i a b n e h = subst (λ n. Solved (i + n) b) e (each_right _ i a b h)
+
+  ticks_agree : (m : Model) (k : Option Condition) → KnownClock k → Agree m → clock_ticks base m.on (clock_place node k) ≡ ticks base var k
+  ticks_agree m None known agree = refl
+  ticks_agree m (Some c) known agree = ap {B = Ticks} (λ (s : Stream) t. truth_in c.sign (s t)) (agree c.variable known)
+
+  makes_instance : (A : Model → Type 0) (f : List ℕ) (k : Option Condition) (xs : List ℕ) (i w : ℕ) (arguments : List Stream) → ((m : Model) → A m → Agree m × (map m.on xs ≡ arguments)) → KnownClock k → CallIs p node Below f (length xs) w
+      → ((path : Path) → HoldsAt p f (ticks base var k) arguments (λ ρ. σ (i ∷ ρ)) path) → RootMakes base A (instance p lists f (clock_place node k) xs) w (λ j. below i (output_name p f j))
+  makes_instance A f k xs i w arguments agree known is sol s =
+      let g = gives f is.below is.callee is.found (ticks base var k) arguments (λ ρ. σ (i ∷ ρ)) sol in
+      let fl = list_of p lists f in
+      let ck = clock_place node k in (
+        g.0,
+        (let e = g.1 in omega (arith, length-map fl (moved s ck xs))),
+        λ m a h.
+            let z : s ≡ s + 0 = omega arith in
+            let ag = agree m a in
+            let mm = moved_model m s xs in
+            let r = g.2 mm (each_shift (λ x t. m.on x ≡ t) s 0 g.0 (subst (λ n. Has m n g.0) z h))
+            (λ r t e. mapped m.on xs r t (ap (λ l. slice_get l r) ag.1 ∙ e)) in
+            let solves = subst (λ c. Solves c mm fl) (sym (ticks_agree m k known ag.0)) r.0 in (
+              solved_instance base m s ck xs fl solves,
+              λ j lt.
+                  let lo : j < length is.callee.outputs = (let e = is.outputs_are in omega arith) in
+                  let here = output_place p f is.callee j is.found (apart f is.callee is.found) lo in
+                  let y : s + inputs_in (node_of p f) + j ≡ s + (inputs_in (node_of p f) + j) = omega arith in
+                  let name : place_named (node_of p f) (output_name p f j) ≡ place_of (variables_of is.callee) (output_name p f j) = ap (λ o. place_named o (output_name p f j)) is.found in
+                  let there = subst (λ o. slice_get (variables_of is.callee) (length is.callee.inputs + j) ≡ Some (name_at (outputs_in o) j)) (sym is.found) (output_there is.callee j lo) in
+                  ap m.on y ∙ ap (λ n. m.on (s + n)) (sym here ∙ name) ∙ r.1 (output_name p f j) (place_in (variables_of is.callee) (output_name p f j) (length is.callee.inputs + j) there),
+            ),
+      )
+
+  abbrev K : Option Condition → Ticks
+  K k = ticks base var k
+
+  abbrev val : Tree → Option Condition → ℕ → Stream
+  val e k i = value p node base var below e k i
+
+  is_value : (e : Tree) (k : Option Condition) (i x : ℕ) (m : Model) → m.on x ≡ output p node base var below e k i 0 → m.on x ≡ val e k i
+  is_value e k i x m h = h ∙ output_value p node base var below e k i
+
+  module _ (clock_known : (x : List ℕ) → KnownClock (clock_of node x)) where
+    mutual
+      pub makes : (A : Model → Type 0) → ((m : Model) → A m → Agree m) → (e : Tree) (k : Option Condition) (i w : ℕ) → KnownClock k → IsWell p node Below e w → Solved i (sites p node base var below e k i) → RootMakes base A (walk p lists node e k) w (output p node base var below e k i)
+      makes A ag (tree.number n) k i w known well sol =
+          makes_leaf base A (flow_of p lists node (tree.number n) k (Constant (Int (pos n)))) w (λ j. val (tree.number n) k i) (λ m a j. ap (constant_stream (Int (pos n))) (ticks_agree m k known (ag m a)))
+      makes A ag (tree.truth b) k i w known well sol =
+          makes_leaf base A (flow_of p lists node (tree.truth b) k (Constant (Truth b))) w (λ j. val (tree.truth b) k i) (λ m a j. ap (constant_stream (Truth b)) (ticks_agree m k known (ag m a)))
+      makes A ag (tree.variable x) k i w known well sol = λ s.
+          makes_none base A _ s (λ m a j lt. let e = well.0 in let z : variable_place p lists node x + j ≡ variable_place p lists node x = omega arith in ap m.on z ∙ ag m a x well.1)
+      makes A ag (tree.unary (Data1 op) a) k i w known well sol =
+          makes_one base A (walk p lists node a k) (λ x. flow_of p lists node (tree.unary (Data1 op) a) k (Unary op x)) w (output p node base var below a k i) (λ j. val (tree.unary (Data1 op) a) k i) (makes A ag a k i 1 known well sol)
+          (λ x m q e j. ap (λ c. unary_stream op c (m.on x)) (ticks_agree m k known (ag m q)) ∙ ap (unary_stream op (K k)) (is_value a k i x m e))
+      makes A ag (tree.unary Before a) k i w known well sol =
+          makes_one base A (walk p lists node a k) (λ x. flow_of p lists node (tree.unary Before a) k (Pre x)) w (output p node base var below a k i) (λ j. val (tree.unary Before a) k i) (makes A ag a k i 1 known well sol)
+          (λ x m q e j. ap (λ c. pre_stream c (m.on x)) (ticks_agree m k known (ag m q)) ∙ ap (pre_stream (K k)) (is_value a k i x m e))
+      makes A ag (tree.binary (Data2 op) a b) k i w known well sol =
+          let sa = each_left _ i (sites p node base var below a k i) (sites p node base var below b k (i + calls a)) sol in
+          let sb = solved_then i (sites p node base var below a k i) (sites p node base var below b k (i + calls a)) (calls a) (length-sites p node base var below a k i) sol in
+          makes_two base A (walk p lists node a k) (walk p lists node b k) (λ x y. flow_of p lists node (tree.binary (Data2 op) a b) k (Binary op x y)) w (output p node base var below a k i) (output p node base var below b k (i + calls a)) (λ j. val (tree.binary (Data2 op) a b) k i)
+          (makes A ag a k i 1 known well.0 sa) (makes A ag b k (i + calls a) 1 known well.1 sb)
+          (λ x y m q e e' j. ap (λ c. binary_stream op c (m.on x) (m.on y)) (ticks_agree m k known (ag m q)) ∙ ap (λ u. binary_stream op (K k) u (m.on y)) (is_value a k i x m e) ∙ ap (binary_stream op (K k) (val a k i)) (is_value b k (i + calls a) y m e'))
+      makes A ag (tree.binary Starts a b) k i w known well sol =
+          let sa = each_left _ i (sites p node base var below a k i) (sites p node base var below b k (i + calls a)) sol in
+          let sb = solved_then i (sites p node base var below a k i) (sites p node base var below b k (i + calls a)) (calls a) (length-sites p node base var below a k i) sol in
+          makes_two base A (walk p lists node a k) (walk p lists node b k) (λ x y. flow_of p lists node (tree.binary Starts a b) k (Arrow x y)) w (output p node base var below a k i) (output p node base var below b k (i + calls a)) (λ j. val (tree.binary Starts a b) k i)
+          (makes A ag a k i 1 known well.0 sa) (makes A ag b k (i + calls a) 1 known well.1 sb)
+          (λ x y m q e e' j. ap (λ c. arrow_stream c (m.on x) (m.on y)) (ticks_agree m k known (ag m q)) ∙ ap (λ u. arrow_stream (K k) u (m.on y)) (is_value a k i x m e) ∙ ap (arrow_stream (K k) (val a k i)) (is_value b k (i + calls a) y m e'))
+      makes A ag (tree.binary FollowedBy a b) k i w known well sol =
+          let sa = each_left _ i (sites p node base var below a k i) (sites p node base var below b k (i + calls a)) sol in
+          let sb = solved_then i (sites p node base var below a k i) (sites p node base var below b k (i + calls a)) (calls a) (length-sites p node base var below a k i) sol in
+          let pre = λ (y : ℕ). flow_of p lists node (tree.unary Before b) k (Pre y) in
+          let root = λ (x z : ℕ). flow_of p lists node (tree.binary FollowedBy a b) k (Arrow x z) in
+          let vb = output p node base var below b k (i + calls a) in
+          let vp = λ (j : ℕ). pre_stream (K k) (val b k (i + calls a)) in
+          let va = output p node base var below a k i in
+          makes_after base A (walk p lists node a k) (λ x. after (walk p lists node b k) (λ y. after (leaf (pre y)) (λ z. leaf (root x z)))) w va (λ j. val (tree.binary FollowedBy a b) k i) (makes A ag a k i 1 known well.0 sa)
+          (λ x. makes_after base (λ m. A m × (m.on x ≡ va 0)) (walk p lists node b k) (λ y. after (leaf (pre y)) (λ z. leaf (root x z))) w vb (λ j. val (tree.binary FollowedBy a b) k i) (makes (λ m. A m × (m.on x ≡ va 0)) (λ m q. ag m q.0) b k (i + calls a) 1 known well.1 sb)
+          (λ y. makes_one base (λ m. (A m × (m.on x ≡ va 0)) × (m.on y ≡ vb 0)) (leaf (pre y)) (root x) w vp (λ j. val (tree.binary FollowedBy a b) k i)
+          (makes_leaf base (λ m. (A m × (m.on x ≡ va 0)) × (m.on y ≡ vb 0)) (pre y) 1 vp (λ m q j. ap (λ c. pre_stream c (m.on y)) (ticks_agree m k known (ag m q.0.0)) ∙ ap (pre_stream (K k)) (is_value b k (i + calls a) y m q.1)))
+          (λ z m q e j. ap (λ c. arrow_stream c (m.on x) (m.on z)) (ticks_agree m k known (ag m q.0.0)) ∙ ap (λ u. arrow_stream (K k) u (m.on z)) (is_value a k i x m q.0.1) ∙ ap (arrow_stream (K k) (val a k i)) e)))
+      makes A ag (tree.choice c a b) k i w known well sol =
+          let C = sites p node base var below c k i in
+          let ia = i + calls c in
+          let ib = i + calls c + calls a in
+          let SA = sites p node base var below a k ia in
+          let SB = sites p node base var below b k ib in
+          let sc = each_left _ i C (SA ++ SB) sol in
+          let sr = solved_then i C (SA ++ SB) (calls c) (length-sites p node base var below c k i) sol in
+          let sa = each_left _ ia SA SB sr in
+          let sb = solved_then ia SA SB (calls a) (length-sites p node base var below a k ia) sr in
+          let root = λ (x y z : ℕ). flow_of p lists node (tree.choice c a b) k (If x y z) in
+          let vc = output p node base var below c k i in
+          makes_after base A (walk p lists node c k) (λ x. after (walk p lists node a k) (λ y. after (walk p lists node b k) (λ z. leaf (root x y z)))) w vc (λ j. val (tree.choice c a b) k i) (makes A ag c k i 1 known well.0 sc)
+          (λ x. makes_two base (λ m. A m × (m.on x ≡ vc 0)) (walk p lists node a k) (walk p lists node b k) (root x) w (output p node base var below a k ia) (output p node base var below b k ib) (λ j. val (tree.choice c a b) k i)
+          (makes (λ m. A m × (m.on x ≡ vc 0)) (λ m q. ag m q.0) a k ia 1 known well.1 sa) (makes (λ m. A m × (m.on x ≡ vc 0)) (λ m q. ag m q.0) b k ib 1 known well.2 sb)
+          (λ y z m q e e' j. ap (λ t. choice_stream t (m.on x) (m.on y) (m.on z)) (ticks_agree m k known (ag m q.0)) ∙ ap (λ u. choice_stream (K k) u (m.on y) (m.on z)) (is_value c k i x m q.1) ∙ ap (λ u. choice_stream (K k) (val c k i) u (m.on z)) (is_value a k ia y m e) ∙ ap (choice_stream (K k) (val c k i) (val a k ia)) (is_value b k ib z m e')))
+      makes A ag (tree.when a c) k i w known well sol =
+          let kc = clock_of node c.variable in
+          makes_one base A (walk p lists node a kc) (λ x. flow_of p lists node (tree.when a c) (Some c) (When x)) w (output p node base var below a kc i) (λ j. val (tree.when a c) k i) (makes A ag a kc i 1 (clock_known c.variable) well.1 sol)
+          (λ x m q e j. ap (λ t. when_stream t (m.on x)) (ticks_agree m (Some c) well.0 (ag m q)) ∙ ap (when_stream (K (Some c))) (is_value a kc i x m e))
+      makes A ag (tree.current x) k i w known well sol =
+          makes_leaf base A (flow_of p lists node (tree.current x) k (Current (variable_place p lists node x))) w (λ j. val (tree.current x) k i)
+          (λ m a j. ap (λ c. current_stream c (m.on (variable_place p lists node x))) (ticks_agree m k known (ag m a)) ∙ ap (current_stream (K k)) (ag m a x well))
+      makes A ag (tree.merge c a b) k i w known well sol =
+          let ka = condition c true in
+          let kb = condition c false in
+          let sa = each_left _ i (sites p node base var below a ka i) (sites p node base var below b kb (i + calls a)) sol in
+          let sb = solved_then i (sites p node base var below a ka i) (sites p node base var below b kb (i + calls a)) (calls a) (length-sites p node base var below a ka i) sol in
+          let cp = variable_place p lists node c in
+          makes_two base A (walk p lists node a ka) (walk p lists node b kb) (λ x y. flow_of p lists node (tree.merge c a b) k (Merge cp x y)) w (output p node base var below a ka i) (output p node base var below b kb (i + calls a)) (λ j. val (tree.merge c a b) k i)
+          (makes A ag a ka i 1 well.0 well.1 sa) (makes A ag b kb (i + calls a) 1 well.0 well.2 sb)
+          (λ x y m q e e' j. ap (λ t. merge_stream t (m.on cp) (m.on x) (m.on y)) (ticks_agree m k known (ag m q)) ∙ ap (λ u. merge_stream (K k) u (m.on x) (m.on y)) (ag m q c well.0) ∙ ap (λ u. merge_stream (K k) (var c) u (m.on y)) (is_value a ka i x m e) ∙ ap (merge_stream (K k) (var c) (val a ka i)) (is_value b kb (i + calls a) y m e'))
+      makes A ag (tree.call f all) k i w known well sol =
+          let SA = sites_in p node base var below all k i in
+          let site : Site = record { node = f; base = K k; arguments = values p node base var below all k i } in
+          let last = (solved_then i SA (site ∷ []) (calls_in all) (length-sites_in p node base var below all k i) sol).0 in
+          makes_all A ag all k i w (λ xs. instance p lists f (clock_place node k) xs) (output p node base var below (tree.call f all) k i) known well.1 (each_left _ i SA (site ∷ []) sol)
+          (λ xs l. makes_instance (λ m. A m × (map m.on xs ≡ values p node base var below all k i)) f k xs (i + calls_in all) w (values p node base var below all k i) (λ m q. (ag m q.0, q.1)) known (subst (λ n. CallIs p node Below f n w) (sym l) well.0) last)
+
+      -- the arguments of a call, and the rest
+      pub makes_all : (A : Model → Type 0) → ((m : Model) → A m → Agree m) → (all : Trees) (k : Option Condition) (i w : ℕ) (rest : List ℕ → Walking) (result : ℕ → Stream) → KnownClock k → AllWell p node Below all → Solved i (sites_in p node base var below all k i)
+          → ((xs : List ℕ) → length xs ≡ length (trees_in all) → RootMakes base (λ m. A m × (map m.on xs ≡ values p node base var below all k i)) (rest xs) w result)
+          → RootMakes base A (walk_all p lists node all k rest) w result
+      makes_all A ag tree.none k i w rest result known well sol h =
+          roots_under base (λ m. A m × (map m.on [] ≡ values p node base var below tree.none k i)) A (rest []) w result (λ m a. (a, refl)) (h [] refl)
+      makes_all A ag (tree.more a all) k i w rest result known well sol h =
+          let SA = sites p node base var below a k i in
+          let SR = sites_in p node base var below all k (i + calls a) in
+          let sa = each_left _ i SA SR sol in
+          let sr = solved_then i SA SR (calls a) (length-sites p node base var below a k i) sol in
+          let va = output p node base var below a k i in
+          makes_after base A (walk p lists node a k) (λ x. walk_all p lists node all k (λ xs. rest (x ∷ xs))) w va result (makes A ag a k i 1 known well.0 sa)
+          (λ x. makes_all (λ m. A m × (m.on x ≡ va 0)) (λ m q. ag m q.0) all k (i + calls a) w (λ xs. rest (x ∷ xs)) result known well.1 sr
+          (λ xs l. roots_under base (λ m. A m × (map m.on (x ∷ xs) ≡ values p node base var below (tree.more a all) k i)) (λ m. (A m × (m.on x ≡ va 0)) × (map m.on xs ≡ values p node base var below all k (i + calls a))) (rest (x ∷ xs)) w result
+          (λ m q. (q.0.0, ap (λ y. y ∷ map m.on xs) (is_value a k i x m q.0.1) ∙ ap (λ ys. val a k i ∷ ys) q.1)) (h (x ∷ xs) (ap suc l))))

@@ -1,0 +1,150 @@
+-- When a flow of an open list fits the others, and that it does where the list is moved to.
+use Rattle.std.proofs.Common.{◌≡◌, ℕ, ◌+◌, ◌<◌, Bool, true, false, List, length, Some, refl, sym, ap, ◌∙◌, subst}
+use Rattle.std.specs.Prelude.{slice_get, slice_index}
+use Rattle.std.proofs.lemmas.Option.{slice_get_within}
+use Rattle.lutree.specs.declared.program.Kind.{Kind}
+use Rattle.lutree.specs.declared.program.Kind.TheVariants.{Bool as Truths}
+use Rattle.lutree.specs.Tree.{DeclarationTree}
+use Rattle.luflow.specs.declared.data.Datum.TheVariants.{Bool as Truth}
+use Rattle.luflow.specs.declared.form.Clock.{Clock}
+use Rattle.luflow.specs.declared.form.Clock.TheVariants.{Base, On as Sampled}
+use Rattle.luflow.specs.declared.form.Form.{Form}
+use Rattle.luflow.specs.declared.form.Form.TheVariants.{Input, Constant, Copied, Unary, Binary, If, Pre, Arrow, When, Current, Merge}
+use Rattle.luflow.specs.declared.form.Flow.{Flow}
+use Rattle.luflow.specs.Sound.{AtMost, IsConstantOf, single_sort, takes, makes}
+use Rattle.lucore_list.specs.Layout.{moved_form, moved_clock, moved}
+
+-- CLASSES
+
+pub no_more : (b c : Bool) → b ≡ false → AtMost b c
+no_more b c z h = let no : false ≡ true = sym z ∙ h in cc
+
+pub zero_class : (b : Bool) → AtMost b false → b ≡ false
+zero_class true h = let no : false ≡ true = h refl in cc
+zero_class false h = refl
+
+pub same_class : (b c : Bool) → b ≡ c → AtMost b c
+same_class b c e h = sym e ∙ h
+
+-- A FLOW AMONG OTHERS
+
+-- the flow at place r stands on this clock, with this type
+pub record On (L : List Flow) (k : Clock) (s : Kind) (r : ℕ) : Type 0 where
+  pub form : Form
+  pub there : slice_get L r ≡ Some (record { form = form; clock = k; kind = s })
+
+-- the flow at place c begins with a constant of this sign
+pub record Begins (L : List Flow) (k : Clock) (sign : Bool) (c : ℕ) : Type 0 where
+  pub first : ℕ
+  pub then : ℕ
+  pub there : slice_get L c ≡ Some (record { form = Arrow first then; clock = k; kind = Truths })
+  pub constant : slice_get L first ≡ Some (record { form = Constant (Truth sign); clock = k; kind = Truths })
+
+-- the rules of a form, where an input is one of those that are declared
+abbrev pub FormSound : List Flow → List DeclarationTree → (ℕ → Bool) → Clock → Kind → Bool → Form → Type 0
+FormSound L ins class k s e (Input r) = (k ≡ Base) × (d : DeclarationTree) × (slice_get ins r ≡ Some d) × (s ≡ d.kind)
+FormSound L ins class k s e (Constant d) = IsConstantOf s d
+FormSound L ins class k s e (Copied a) = On L k s a × AtMost (class a) e
+FormSound L ins class k s e (Unary op a) = (s ≡ single_sort op) × On L k s a × AtMost (class a) e
+FormSound L ins class k s e (Binary op a b) = (u : Kind) × (takes op u ≡ true) × (s ≡ makes op) × On L k u a × On L k u b × AtMost (class a) e × AtMost (class b) e
+FormSound L ins class k s e (If c a b) = On L k Truths c × On L k s a × On L k s b × AtMost (class c) e × AtMost (class a) e × AtMost (class b) e
+FormSound L ins class k s e (Pre a) = On L k s a × (class a ≡ false) × (e ≡ true)
+FormSound L ins class k s e (Arrow a b) = On L k s a × On L k s b × AtMost (class a) e
+FormSound L ins class k s e (When a) = (c : ℕ) × (sign : Bool) × (j : Clock) × (k ≡ Sampled c sign) × On L j Truths c × On L j s a × AtMost (class a) e
+FormSound L ins class k s e (Current a) = (c : ℕ) × (sign : Bool) × On L (Sampled c sign) s a × (class a ≡ false) × Begins L k sign c
+FormSound L ins class k s e (Merge c a b) = On L k Truths c × On L (Sampled c true) s a × On L (Sampled c false) s b × (class c ≡ false) × (class a ≡ false) × (class b ≡ false)
+
+abbrev pub ClockSound : List Flow → (ℕ → Bool) → Clock → Type 0
+ClockSound L class Base = Unit {0}
+ClockSound L class (Sampled c sign) = (j : Clock) × On L j Truths c × (class c ≡ false)
+
+pub record FlowSound (L : List Flow) (ins : List DeclarationTree) (class : ℕ → Bool) (e : Bool) (f : Flow) : Type 0 where
+  pub form : FormSound L ins class f.clock f.kind e f.form
+  pub clock : ClockSound L class f.clock
+
+pub on_there : (L : List Flow) (r : ℕ) (f : Flow) (k : Clock) (s : Kind) → slice_get L r ≡ Some f → f.clock ≡ k → f.kind ≡ s → On L k s r
+on_there L r f k s there clock kind =
+    subst (λ k. On L k s r) clock (subst (λ s. On L f.clock s r) kind (record { form = f.form; there = there }))
+
+-- a flow fits at any class that isn't lower
+raised_form : (L : List Flow) (ins : List DeclarationTree) (class : ℕ → Bool) (k : Clock) (s : Kind) (e e' : Bool) (form : Form) → AtMost e e' → FormSound L ins class k s e form → FormSound L ins class k s e' form
+raised_form L ins class k s e e' (Input r) le h = h
+raised_form L ins class k s e e' (Constant d) le h = h
+raised_form L ins class k s e e' (Copied a) le h = (h.0, λ x. le (h.1 x))
+raised_form L ins class k s e e' (Unary op a) le h = (h.0, h.1, λ x. le (h.2 x))
+raised_form L ins class k s e e' (Binary op a b) le h = (h.0, h.1, h.2, h.3, h.4, λ x. le (h.5 x), λ x. le (h.6 x))
+raised_form L ins class k s e e' (If c a b) le h = (h.0, h.1, h.2, λ x. le (h.3 x), λ x. le (h.4 x), λ x. le (h.5 x))
+raised_form L ins class k s e e' (Pre a) le h = (h.0, h.1, le h.2)
+raised_form L ins class k s e e' (Arrow a b) le h = (h.0, h.1, λ x. le (h.2 x))
+raised_form L ins class k s e e' (When a) le h = (h.0, h.1, h.2, h.3, h.4, h.5, λ x. le (h.6 x))
+raised_form L ins class k s e e' (Current a) le h = h
+raised_form L ins class k s e e' (Merge c a b) le h = h
+
+pub raised : (L : List Flow) (ins : List DeclarationTree) (class : ℕ → Bool) (e e' : Bool) (f : Flow) → AtMost e e' → FlowSound L ins class e f → FlowSound L ins class e' f
+raised L ins class e e' f le h = record { form = raised_form L ins class f.clock f.kind e e' f.form le h.form; clock = h.clock }
+
+-- A MOVED LIST
+
+module _ (L fl : List Flow) (ins ins' : List DeclarationTree) (class cls : ℕ → Bool) (s : ℕ) (k : Clock) (xs : List ℕ)
+    (here : (x : ℕ) (f : Flow) → slice_get fl x ≡ Some f → slice_get L (s + x) ≡ Some (moved s k xs f))
+    (same : (x : ℕ) → x < length fl → class (s + x) ≡ cls x) (clock : ClockSound L class k)
+    (arguments : (r : ℕ) (d : DeclarationTree) → slice_get ins r ≡ Some d → On L k d.kind (slice_index xs r))
+    (zeros : (r : ℕ) (d : DeclarationTree) → slice_get ins r ≡ Some d → class (slice_index xs r) ≡ false) where
+  moved_on : (a : ℕ) (c : Clock) (t : Kind) → On fl c t a → On L (moved_clock s k c) t (s + a)
+  moved_on a c t o = record { form = moved_form s xs o.form; there = here a (record { form = o.form; clock = c; kind = t }) o.there }
+
+  moved_class : (a : ℕ) (c : Clock) (t : Kind) → On fl c t a → class (s + a) ≡ cls a
+  moved_class a c t o = same a (slice_get_within fl a (record { form = o.form; clock = c; kind = t }) o.there)
+
+  moved_most : (a : ℕ) (c : Clock) (t : Kind) (e : Bool) → On fl c t a → AtMost (cls a) e → AtMost (class (s + a)) e
+  moved_most a c t e o le h = le (sym (moved_class a c t o) ∙ h)
+
+  moved_zero : (a : ℕ) (c : Clock) (t : Kind) → On fl c t a → cls a ≡ false → class (s + a) ≡ false
+  moved_zero a c t o z = moved_class a c t o ∙ z
+
+  moved_begins : (c : Clock) (sign : Bool) (v : ℕ) → Begins fl c sign v → Begins L (moved_clock s k c) sign (s + v)
+  moved_begins c sign v b =
+      record {
+        first = s + b.first;
+        then = s + b.then;
+        there = here v (record { form = Arrow b.first b.then; clock = c; kind = Truths }) b.there;
+        constant = here b.first (record { form = Constant (Truth sign); clock = c; kind = Truths }) b.constant;
+      }
+
+  moved_form_sound : (f : Form) (c : Clock) (t : Kind) (e : Bool) → FormSound fl ins cls c t e f → FormSound L ins' class (moved_clock s k c) t e (moved_form s xs f)
+  moved_form_sound (Input r) c t e h =
+      let on = arguments r h.1 h.2 in
+      let on' = subst (λ t. On L k t (slice_index xs r)) (sym h.3) on in
+      (subst (λ c. On L (moved_clock s k c) t (slice_index xs r)) (sym h.0) on', no_more (class (slice_index xs r)) e (zeros r h.1 h.2))
+  moved_form_sound (Constant d) c t e h = h
+  moved_form_sound (Copied a) c t e h = (moved_on a c t h.0, moved_most a c t e h.0 h.1)
+  moved_form_sound (Unary op a) c t e h = (h.0, moved_on a c t h.1, moved_most a c t e h.1 h.2)
+  moved_form_sound (Binary op a b) c t e h =
+      (h.0, h.1, h.2, moved_on a c h.0 h.3, moved_on b c h.0 h.4, moved_most a c h.0 e h.3 h.5, moved_most b c h.0 e h.4 h.6)
+  moved_form_sound (If v a b) c t e h =
+      (moved_on v c Truths h.0, moved_on a c t h.1, moved_on b c t h.2, moved_most v c Truths e h.0 h.3, moved_most a c t e h.1 h.4, moved_most b c t e h.2 h.5)
+  moved_form_sound (Pre a) c t e h = (moved_on a c t h.0, moved_zero a c t h.0 h.1, h.2)
+  moved_form_sound (Arrow a b) c t e h = (moved_on a c t h.0, moved_on b c t h.1, moved_most a c t e h.0 h.2)
+  moved_form_sound (When a) c t e h =
+      (s + h.0, h.1, moved_clock s k h.2, ap (moved_clock s k) h.3, moved_on h.0 h.2 Truths h.4, moved_on a h.2 t h.5, moved_most a h.2 t e h.5 h.6)
+  moved_form_sound (Current a) c t e h =
+      (s + h.0, h.1, moved_on a (Sampled h.0 h.1) t h.2, moved_zero a (Sampled h.0 h.1) t h.2 h.3, moved_begins c h.1 h.0 h.4)
+  moved_form_sound (Merge v a b) c t e h = (
+    moved_on v c Truths h.0,
+    moved_on a (Sampled v true) t h.1,
+    moved_on b (Sampled v false) t h.2,
+    moved_zero v c Truths h.0 h.3,
+    moved_zero a (Sampled v true) t h.1 h.4,
+    moved_zero b (Sampled v false) t h.2 h.5,
+  )
+
+  moved_clock_sound : (c : Clock) → ClockSound fl cls c → ClockSound L class (moved_clock s k c)
+  moved_clock_sound Base h = clock
+  moved_clock_sound (Sampled v sign) h = (moved_clock s k h.0, moved_on v h.0 Truths h.1, moved_zero v h.0 Truths h.1 h.2)
+
+  pub moved_sound : (e : Bool) (f : Flow) → FlowSound fl ins cls e f → FlowSound L ins' class e (moved s k xs f)
+  moved_sound e f h = record { form = moved_form_sound f.form f.clock f.kind e h.form; clock = moved_clock_sound f.clock h.clock }
+
+-- the same without classes
+pub moved_output : (L fl : List Flow) (s : ℕ) (k : Clock) (xs : List ℕ) → ((x : ℕ) (f : Flow) → slice_get fl x ≡ Some f → slice_get L (s + x) ≡ Some (moved s k xs f)) → (a : ℕ) (t : Kind) → On fl Base t a → On L k t (s + a)
+moved_output L fl s k xs here a t o = record { form = moved_form s xs o.form; there = here a (record { form = o.form; clock = Base; kind = t }) o.there }

@@ -1,0 +1,59 @@
+-- The flat list of an accepted program is sound.
+use Rattle.std.proofs.Common.{◌≡◌, ℕ, Bool, true, false, List, length, sym, ap, ◌∙◌, subst}
+use Rattle.std.specs.Prelude.{slice_get}
+use Rattle.lutree.specs.declared.program.Kind.{Kind}
+use Rattle.lutree.specs.Tree.{DeclarationTree}
+use Rattle.luflow.specs.declared.form.Clock.{Clock}
+use Rattle.luflow.specs.declared.form.Clock.TheVariants.{Base, On as Sampled}
+use Rattle.luflow.specs.declared.form.Form.{Form}
+use Rattle.luflow.specs.declared.form.Form.TheVariants.{Input, Constant, Copied, Unary, Binary, If, Pre, Arrow, When, Current, Merge}
+use Rattle.luflow.specs.Program.{FlatProgram}
+use Rattle.luflow.specs.Sound.{IsOn, BeginsWith, FormFits, ClockFits}
+use Rattle.lucore_list.specs.Layout.{list_of}
+use Rattle.lucore_list.proofs.Names.{listed}
+use Rattle.lucore_list.proofs.Facts.{facts, never_round}
+use Rattle.lucore_sound.specs.Laws.{SoundLaw}
+use Rattle.lucore_sound.proofs.Fitting.{On, Begins, FormSound, ClockSound}
+use Rattle.lucore_sound.proofs.Walks.{class_in, OpenSound}
+use Rattle.lucore_sound.proofs.Ruling.{ruling}
+use Rattle.lucore_sound.proofs.Nodes.{lists_sound}
+use Rattle.lucore_sound.proofs.Roles.{output_at}
+
+module _ (flat : FlatProgram) (ins : List DeclarationTree) (class : ℕ → Bool) where
+  is_on : (k : Clock) (s : Kind) (r : ℕ) → On flat.flows k s r → IsOn flat k s r
+  is_on k s r o = record { form = o.form; there = o.there }
+
+  begins_with : (k : Clock) (sign : Bool) (c : ℕ) → Begins flat.flows k sign c → BeginsWith flat k sign c
+  begins_with k sign c b = record { first = b.first; then = b.then; there = b.there; constant = b.constant }
+
+  form_fits : (k : Clock) (s : Kind) (e : Bool) (form : Form) → FormSound flat.flows ins class k s e form → FormFits flat class k s e form
+  form_fits k s e (Input r) h = h.0
+  form_fits k s e (Constant d) h = h
+  form_fits k s e (Copied a) h = (is_on k s a h.0, h.1)
+  form_fits k s e (Unary op a) h = (h.0, is_on k s a h.1, h.2)
+  form_fits k s e (Binary op a b) h = (h.0, h.1, h.2, is_on k h.0 a h.3, is_on k h.0 b h.4, h.5, h.6)
+  form_fits k s e (If c a b) h = (is_on k _ c h.0, is_on k s a h.1, is_on k s b h.2, h.3, h.4, h.5)
+  form_fits k s e (Pre a) h = (is_on k s a h.0, h.1, h.2)
+  form_fits k s e (Arrow a b) h = (is_on k s a h.0, is_on k s b h.1, h.2)
+  form_fits k s e (When a) h = (h.0, h.1, h.2, h.3, is_on h.2 _ h.0 h.4, is_on h.2 s a h.5, h.6)
+  form_fits k s e (Current a) h = (h.0, h.1, is_on (Sampled h.0 h.1) s a h.2, h.3, begins_with k h.1 h.0 h.4)
+  form_fits k s e (Merge c a b) h = (is_on k _ c h.0, is_on (Sampled c true) s a h.1, is_on (Sampled c false) s b h.2, h.3, h.4, h.5)
+
+  clock_fits : (k : Clock) → ClockSound flat.flows class k → ClockFits flat class k
+  clock_fits Base h = tt
+  clock_fits (Sampled c sign) h = (h.0, is_on h.0 _ c h.1, h.2)
+
+pub sound : SoundLaw
+sound p main flat accepted some out =
+    let node = out.node in
+    let same : list_of p out.lists main ≡ flat.flows = listed p out.lists out.are_lists main node out.is_main ∙ sym out.flows in
+    let open_sound = lists_sound p out.lists out.are_lists (λ f n e. facts p main accepted some f n e) (λ f n e. ruling p main accepted f n e) (λ f. never_round p main accepted some f) main node out.is_main in
+    let is = subst (λ l. OpenSound l node.inputs (length node.outputs)) same open_sound in
+    record {
+      class = class_in is.classes;
+      forms = λ i flow e. form_fits flat node.inputs (class_in is.classes) flow.clock flow.kind (class_in is.classes i) flow.form (is.flows i flow e).form;
+      clocks = λ i flow e. clock_fits flat node.inputs (class_in is.classes) flow.clock (is.flows i flow e).clock;
+      outputs = λ v x e role_is.
+          let j = output_at node v x (ap (λ l. slice_get l v) (sym out.variables) ∙ e) role_is in
+          ap (class_in is.classes) j.2 ∙ is.outputs j.0 j.1;
+    }

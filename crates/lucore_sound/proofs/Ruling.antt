@@ -1,0 +1,58 @@
+-- What acceptance gives of a node's types, clocks and classes.
+use Rattle.std.proofs.Common.{◌≡◌, ℕ, false, List, Option, Some, subst}
+use Rattle.std.specs.Prelude.{slice_get, All, IfSome}
+use Rattle.std.proofs.lemmas.Option.{same_Some}
+use Rattle.lutree.specs.declared.expr.Condition.{Condition}
+use Rattle.lutree.specs.Tree.{DeclarationTree, EquationTree, NodeTree, ProgramTree}
+use Rattle.lusource.specs.Names.{declarations_of, variables_of, place_of, node_of}
+use Rattle.lustat_rules.specs.Scope as rules
+use Rattle.lustat_rules.specs.Typing.{IsWellTyped}
+use Rattle.lustat_rules.specs.Clocks.{HasClock, IsTruth, Ends, clocks_in}
+use Rattle.lustat_rules.specs.Classes.{Classes, Meets, IsHeld, ClockIsTrueAtFirst, currents_in}
+use Rattle.lustat_rules.specs.Accepted.{Rule, IsAccepted}
+use Rattle.lucore_list.proofs.Names.{all_at, mapped_some, first_at, placed}
+
+pub record Ruling (p : ProgramTree) (n : NodeTree) : Type 0 where
+  pub class : Classes
+  pub meets : Meets class n
+  pub typed : (j : ℕ) (q : EquationTree) → slice_get n.equations j ≡ Some q → IsWellTyped p n q
+  pub truths : (j : ℕ) (q : EquationTree) → slice_get n.equations j ≡ Some q → All (IsTruth n) (clocks_in q.right)
+  pub starts : (j : ℕ) (q : EquationTree) → slice_get n.equations j ≡ Some q → All (ClockIsTrueAtFirst n) (currents_in q.right)
+  pub truth : (x : List ℕ) (c : Condition) → HasClock n x (Some c) → IsTruth n c.variable
+  pub above : (x : List ℕ) (c : Condition) → HasClock n x (Some c) → (j : Option Condition) × HasClock n c.variable j
+  pub zero : (x : List ℕ) (c : Condition) → HasClock n x (Some c) → class c.variable ≡ false
+
+-- the clock variable of a chain has a clock
+ends_clock : (n : NodeTree) (k : Option Condition) → Ends n k → (c : Condition) → k ≡ Some c → (j : Option Condition) × HasClock n c.variable j
+ends_clock n _ Ends.at_base c e = cc
+ends_clock n _ (Ends.after d k has rest) c e = (k, subst (λ (c : Condition). HasClock n c.variable k) (same_Some d c e) has)
+
+some_at : {A : Type 0} (o : Option A) (P : A → Type 0) (x : A) → o ≡ Some x → IfSome o P → P x
+some_at o P x e h = subst (λ o. IfSome o P) e h
+
+-- the declaration of a variable with a clock
+declared : (n : NodeTree) (x : List ℕ) (c : Condition) → HasClock n x (Some c) → (d : DeclarationTree) × (slice_get (declarations_of n) (place_of (variables_of n) x) ≡ Some d) × (d.clock ≡ Some c)
+declared n x c h =
+    let d = mapped_some (λ (d : DeclarationTree). d.clock) (rules.meaning n x) (Some c) h in
+    (d.0, first_at (declarations_of n) x d.0 d.1, d.2)
+
+pub node_ruling : (p : ProgramTree) (main : List ℕ) → IsAccepted p main → (i : ℕ) (n : NodeTree) → slice_get p i ≡ Some n → Ruling p n
+node_ruling p main accepted i n here =
+    let classes = (accepted Rule.maybe_nil).nodes i n here in
+    let is_clock = λ (x : List ℕ) (c : Condition) (h : HasClock n x (Some c)). (accepted Rule.not_a_clock).declarations i (place_of (variables_of n) x) n (declared n x c h).0 here (declared n x c h).1 in
+    record {
+      class = classes.0;
+      meets = classes.1;
+      typed = λ j q e.
+          (accepted Rule.type_mismatch).equations i j n q here e ((accepted Rule.unknown_name).equations i j n q here e) ((accepted Rule.unknown_node).equations i j n q here e) ((accepted Rule.wrong_arity).equations i j n q here e);
+      truths = λ j q e. (accepted Rule.not_a_clock).equations i j n q here e;
+      starts = λ j q e. (accepted Rule.current_may_be_nil).equations i j n q here e;
+      truth = λ x c h. some_at (declared n x c h).0.clock (λ (c : Condition). IsTruth n c.variable) c (declared n x c h).2 (is_clock x c h).truth;
+      above = λ x c h. ends_clock n (declared n x c h).0.clock (is_clock x c h).ends c (declared n x c h).2;
+      zero = λ x c h.
+          let d = declared n x c h in
+          some_at d.0.clock (λ (c : Condition). classes.0 c.variable ≡ false) c d.2 (all_at (IsHeld classes.0 n) (declarations_of n) (place_of (variables_of n) x) d.0 classes.1.held d.1).clock;
+    }
+
+pub ruling : (p : ProgramTree) (main : List ℕ) → IsAccepted p main → (f : List ℕ) (n : NodeTree) → node_of p f ≡ Some n → Ruling p n
+ruling p main accepted f n e = let at = placed p f n e in node_ruling p main accepted at.place n at.node

@@ -1,5 +1,0 @@
-use Rattle.lugrammar.proofs.ViablePrograms.{refused_goes_on}
-use Rattle.lugrammar.proofs.laws.beginning_law.Goals as goal
-
-pub returns : goal.returns
-returns c = refused_goes_on

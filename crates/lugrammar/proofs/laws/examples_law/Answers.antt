@@ -1,5 +1,0 @@
-use Rattle.lugrammar.proofs.Examples.{expressions, one_program, refusals}
-use Rattle.lugrammar.proofs.laws.examples_law.Goals as goal
-
-pub returns : goal.returns
-returns c = (expressions, one_program, refusals)

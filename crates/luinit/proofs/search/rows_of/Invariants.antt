@@ -1,5 +1,0 @@
-use Rattle.luinit.specs.Rows.{plain, GiveLeastBelow}
-use Rattle.luinit.proofs.search.rows_of.Given as goal
-
-abbrev pub invariant-loop-scope : goal.invariant-loop-scope
-invariant-loop-scope l = GiveLeastBelow l.scope-index l.scopes (plain l.rows.items)

@@ -1,6 +1,0 @@
-use Rattle.std.proofs.Common.{◌≡◌, take}
-use Rattle.luparse.specs.Gives.{names_view}
-use Rattle.luparse.proofs.pieces.plain.Given as goal
-
-abbrev pub invariant-loop-placed : goal.invariant-loop-placed
-invariant-loop-placed l = l.found.items ≡ names_view (take l.placed-index l.names)

@@ -1,0 +1,40 @@
+-- Keys, names and pairs, read one after the other.
+use Rattle.std.proofs.Common.{◌≡◌, ℕ, ◌+◌, ◌<◌, List, [], ◌∷◌, ◌++◌, length, get_or, drop, map, Option, Some, None, Ok, refl, sym, ap, ◌∙◌, append_assoc, string_bytes}
+use Rattle.std.specs.Prelude.{◌&&◌}
+use Rattle.std.specs.List.{list_all}
+use Rattle.toml.specs.declared.value.Value.{Value}
+use Rattle.toml.specs.View.{view, items_view, members_view}
+use Rattle.toml.proofs.Views.{items_view-drop, Entry}
+use Rattle.luplace_file.specs.Answers.{or_bad_key}
+use Rattle.luplace_file.specs.Keys.{◌>>=◌, is_key, are_keys, name_in, names_in}
+
+-- the keys of the entries are those of the members
+pub are_keys_is : (es : List Entry) → list_all (λ key. is_key (string_bytes key)) (map (λ e. e.0) es) ≡ are_keys (members_view es)
+are_keys_is [] = refl
+are_keys_is (e ∷ es) = ap (λ b. is_key (string_bytes e.0) && b) (are_keys_is es)
+
+-- what was read before, and what is still read
+abbrev pub with_front : {A : Type 0} → List A → Option (List A) → Option (List A)
+with_front front read = read >>= λ rest. Some (front ++ rest)
+
+pub with_front-none : {A : Type 0} (front : List A) (x : A) (read : Option (List A)) → with_front front (read >>= λ rest. Some (x ∷ rest)) ≡ with_front (front ++ x ∷ []) read
+with_front-none front x (Some rest) = ap Some (simp append_assoc)
+with_front-none front x None = refl
+
+pub with_front-nil : {A : Type 0} (read : Option (List A)) → with_front [] read ≡ read
+with_front-nil (Some rest) = refl
+with_front-nil None = refl
+
+-- a value that was told is there
+pub told_some : {A : Type 0} (o : Option A) (x : A) → or_bad_key o ≡ Ok x → o ≡ Some x
+told_some None x e = absurd cc
+told_some (Some y) x e = cc
+
+-- one value here, and then the others
+pub one_more : {A B : Type 0} (front : List A) (here : Option B) (x : B) (a : A) (rest : B → Option (List A)) (after total : Option (List A)) → or_bad_key here ≡ Ok x → rest x ≡ (after >>= λ others. Some (a ∷ others)) → with_front front (here >>= rest) ≡ total → with_front (front ++ a ∷ []) after ≡ total
+one_more front here x a rest after total told is so =
+    let one : (here >>= rest) ≡ (after >>= λ others. Some (a ∷ others)) = rw (told_some here x told) is in
+    sym (ap (with_front front) one ∙ with_front-none front a after) ∙ so
+
+pub next_name : (values : List Value) (i : ℕ) (d : Value) → i < length values → names_in (items_view (drop i values)) ≡ (name_in (view (get_or values i d)) >>= λ name. names_in (items_view (drop (i + 1) values)) >>= λ names. Some (name ∷ names))
+next_name values i d lt = rw (items_view-drop values i d lt) refl

@@ -1,9 +1,0 @@
-use Rattle.std.proofs.Common.{string_bytes}
-use Rattle.lutree.specs.Tree.{equation_view}
-use Rattle.luprint.specs.Canonical.{equation}
-use Rattle.luprint.proofs.Joined.{each_loop}
-use Rattle.luprint.proofs.program.put_equations.Goals as goal
-
-pub returns : goal.returns
-returns c =
-    each_loop equation equation_view c.args.equations.now c.loop-defined.defined-index (string_bytes c.args.text.now) (string_bytes c.loop-defined.text) c.loop-defined-test.false c.loop-defined.invariant

@@ -1,6 +1,0 @@
-use Rattle.std.proofs.Common.{◌≡◌, ◌++◌, take, string_bytes, codes}
-use Rattle.std.specs.List.{flat_map}
-use Rattle.luprint.proofs.program.put_names.Given as goal
-
-abbrev pub invariant-loop-other : goal.invariant-loop-other
-invariant-loop-other l = string_bytes l.text ≡ string_bytes l.initial.text ++ flat_map (λ x. codes ", " ++ x) (take l.other-index l.others)

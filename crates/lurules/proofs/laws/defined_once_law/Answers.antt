@@ -1,5 +1,0 @@
-use Rattle.lurules.proofs.Once.{defined_once}
-use Rattle.lurules.proofs.laws.defined_once_law.Goals as goal
-
-pub returns : goal.returns
-returns c = λ n anew. defined_once n anew

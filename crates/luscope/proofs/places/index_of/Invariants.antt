@@ -1,8 +1,0 @@
-use Rattle.std.proofs.Common.{◌≡◌, ℕ, List, drop}
-use Rattle.indexmap.specs.IndexMap.{get_by_text}
-use Rattle.luscope.specs.Places.{place_from}
-use Rattle.luscope.proofs.Finding.{texts}
-use Rattle.luscope.proofs.places.index_of.Given as goal
-
-abbrev pub invariant-loop-i : goal.invariant-loop-i
-invariant-loop-i l = (x : List ℕ) → get_by_text l.index x ≡ place_from l.i (texts (drop l.i l.names)) x

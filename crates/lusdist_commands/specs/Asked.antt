@@ -1,0 +1,108 @@
+-- What the texts of a check and of a replay say, and what their files gave.
+use Rattle.std.specs.Prelude.{◌≡◌, ℕ, List, Ok}
+use Rattle.lutree.specs.Tree.{ProgramTree}
+use Rattle.luflow.specs.Program.{FlatProgram}
+use Rattle.luworld.specs.Needs.{Distribution}
+use Rattle.luworld.specs.World.{reached}
+use Rattle.luworld.specs.Runs.{Run, system_of}
+use Rattle.lusource.specs.Source.{SourceStreams, IsSourceSolution}
+use Rattle.lusource.specs.Agreement.{HasOneMeaning}
+use Rattle.lumeaning.specs.Meaning.{IsMeant}
+use Rattle.lusource.specs.First.{IsFirstShape}
+use Rattle.lusyn.specs.Texts.{SpellsText, IsReadBack}
+use Rattle.lusyn_printer.specs.Canonical.{canonical}
+use Rattle.lucore.specs.Result.{IsFlatOf}
+use Rattle.luplace_file.specs.declared.place.Place.{Place}
+use Rattle.luplace_file.specs.Placement.{placement_of}
+use Rattle.luplace.specs.Placing.{IsPlanOf}
+use Rattle.luflow.specs.Variables.{inputs_of}
+use Rattle.lutab.specs.Table.{IsTextOf}
+use Rattle.lusdist_shell.specs.ScheduleText.{schedule_of}
+use Rattle.lusdist_shell.specs.declared.request.CheckRequest.{CheckRequest}
+use Rattle.lusdist_shell.specs.declared.request.ReplayRequest.{ReplayRequest}
+use Rattle.lusdist_shell.specs.declared.request.Request.{Request}
+use Rattle.lusdist_shell.specs.declared.request.Request.TheVariants.{Check, Eval, Replay}
+use Rattle.lusdist_shell.specs.Request.{IsAskedBy}
+use Rattle.luweave.specs.Worlds.{Progress}
+use Rattle.luweave.specs.Headline.{IsFaithful}
+use Rattle.lusdist_commands.specs.WorldText.{IsWorldText}
+use Rattle.lusdist_commands.specs.Evaluated.{IsEvaluated}
+
+-- the flat program of the program of the first language that a text spells
+pub record IsFlatOfText (text main : List ℕ) (flat : FlatProgram) : Type 0 where
+  pub tree : ProgramTree
+  pub spelled : SpellsText text tree
+  pub first : IsFirstShape tree
+  pub flat_is : IsFlatOf tree main flat
+
+-- the plan of its flat program and the placement that a text says
+pub record IsPlanOfText (text : List ℕ) (plan : Distribution) : Type 0 where
+  pub place : Place
+  pub says : placement_of text ≡ Ok place
+  pub plan_is : IsPlanOf plan.flat place plan
+
+-- The job of three texts: the plan of the program that the first spells and the placement that the second says, with the
+-- table that the third says. The program has one meaning at the table, and what is said of the job in its source's words is
+-- said of the program's solutions.
+pub record IsJobOf (program place table main : List ℕ) (job : Run) : Type 0 where
+  pub flat : IsFlatOfText program main job.plan.flat
+  pub plan : IsPlanOfText place job.plan
+  pub inputs : IsTextOf (inputs_of job.plan.flat.variables) job.inputs table
+  pub one_meaning : HasOneMeaning flat.tree main job.inputs job.plan.flat
+  pub is_meant : (σ : SourceStreams) → IsSourceSolution flat.tree main job.inputs σ → IsMeant job σ
+
+-- a job and its turns are those of texts that the files of a request gave
+pub record IsAskedFor (gives : List ℕ → List ℕ → Type 0) (request : ReplayRequest) (job : Run) (turns : List ℕ) : Type 0 where
+  pub program : List ℕ
+  pub place : List ℕ
+  pub table : List ℕ
+  pub schedule : List ℕ
+  pub program_given : gives request.program.now program
+  pub place_given : gives request.place.now place
+  pub table_given : gives request.table.now table
+  pub schedule_given : gives request.schedule.now schedule
+  pub job_is : IsJobOf program place table request.main.now job
+  pub turns_are : schedule_of schedule ≡ Ok turns
+
+-- the world that a job's turns make of its new sites
+pub record IsWorldOf (job : Run) (turns : List ℕ) (world : Progress) : Type 0 where
+  pub job_is : world.job ≡ job
+  pub dones_are : world.dones ≡ reached (system_of job) turns
+
+-- the text of the world of a job after its turns, which keeps what the source says
+pub record IsPrinted (job : Run) (turns text : List ℕ) : Type 0 where
+  pub world : Progress
+  pub world_is : IsWorldOf job turns world
+  pub faithful : IsFaithful world.job world.dones
+  pub text_is : IsWorldText world text
+
+-- the text of a replay of what a request asks for
+pub record IsReplayed (gives : List ℕ → List ℕ → Type 0) (request : ReplayRequest) (text : List ℕ) : Type 0 where
+  pub job : Run
+  pub turns : List ℕ
+  pub asked_for : IsAskedFor gives request job turns
+  pub printed : IsPrinted job turns text
+
+-- the text of a check of what a request asks for: the program that the file's bytes spell keeps all rules and has a flat program,
+-- and the text is its canonical one, which spells that program too if it isn't longer than a text may be
+pub record IsChecked (gives : List ℕ → List ℕ → Type 0) (request : CheckRequest) (text : List ℕ) : Type 0 where
+  pub program : List ℕ
+  pub tree : ProgramTree
+  pub program_given : gives request.program.now program
+  pub spelled : SpellsText program tree
+  pub flat : FlatProgram
+  pub flat_is : IsFlatOf tree request.main.now flat
+  pub text_is : text ≡ canonical tree
+  pub again : IsReadBack text tree
+
+-- the text of what a request asks for
+abbrev pub IsAnswer : (List ℕ → List ℕ → Type 0) → Request → List ℕ → Type 0
+IsAnswer gives (Check request) text = IsChecked gives request text
+IsAnswer gives (Eval request) text = IsEvaluated gives request text
+IsAnswer gives (Replay request) text = IsReplayed gives request text
+
+-- the text of what the words ask for
+pub record IsDone (gives : List ℕ → List ℕ → Type 0) (words : List (List ℕ)) (text : List ℕ) : Type 0 where
+  pub request : Request
+  pub asked : IsAskedBy words request
+  pub answer : IsAnswer gives request text

@@ -1,0 +1,94 @@
+-- What an evaluation prints, and what it says of a fault.
+use Rattle.std.specs.Prelude.{◌≡◌, ℕ, List, [], map, Some, slice_get}
+use Rattle.lutree.specs.Tree.{ProgramTree}
+use Rattle.luflow.specs.declared.form.FaultKind.{FaultKind}
+use Rattle.luflow.specs.declared.variable.Variable.{Variable}
+use Rattle.luflow.specs.Program.{FlatProgram, Table}
+use Rattle.luflow.specs.Streams.{Known, Streams}
+use Rattle.luflow.specs.Messages.{marks}
+use Rattle.luflow.specs.Solution.{IsSolution}
+use Rattle.luflow.specs.Tables.{OutputColumn}
+use Rattle.luflow.specs.Variables.{inputs_of, outputs_of}
+use Rattle.lusource.specs.Source.{SourceStreams, IsSourceSolution}
+use Rattle.lusource.specs.Agreement.{Agrees, HasOneMeaning}
+use Rattle.lusyn.specs.Texts.{SpellsText}
+use Rattle.lucore.specs.Result.{IsFlatOf}
+use Rattle.lueval.specs.Whole.{IsFirstFault, HasNoFault}
+use Rattle.lutab.specs.Table.{IsTextOf}
+use Rattle.lutab.specs.Outputs.{output_text}
+use Rattle.lusdist_shell.specs.declared.request.EvalRequest.{EvalRequest}
+use Rattle.lusdist_commands.specs.declared.stop.Stop.{Stop}
+use Rattle.lusdist_commands.specs.declared.stop.Stop.TheVariants.{Fault, OutOfMemory}
+
+-- The program that a text spells, with its flat program and the table that another text says, which fits it. At that table
+-- the program has one meaning.
+pub record IsPosed (text main table : List ℕ) (tree : ProgramTree) (flat : FlatProgram) (inputs : Table) : Type 0 where
+  pub spelled : SpellsText text tree
+  pub flat_is : IsFlatOf tree main flat
+  pub table_is : IsTextOf (inputs_of flat.variables) inputs table
+  pub agrees : Agrees tree main inputs flat
+  pub one_meaning : HasOneMeaning tree main inputs flat
+
+-- The outputs of the main node by name, in order of declaration, each with what every solution of the program gives that
+-- variable at all instants of the table; and no operator is a fault.
+pub record AreOutputsOf (tree : ProgramTree) (main : List ℕ) (flat : FlatProgram) (inputs : Table) (outputs : List OutputColumn) : Type 0 where
+  pub named : map (λ (c : OutputColumn). c.name) outputs ≡ map (λ (x : Variable). x.name) (outputs_of flat.variables)
+  pub streams : (σ : SourceStreams) → IsSourceSolution tree main inputs σ → (k : ℕ) (c : OutputColumn) → slice_get outputs k ≡ Some c → map Known c.statuses ≡ marks (σ [] c.name) inputs.instants
+  pub no_fault : HasNoFault flat inputs
+
+-- the outputs of a flat program in the words of each source with which it agrees
+pub record AreEvaluated (flat : FlatProgram) (inputs : Table) (outputs : List OutputColumn) : Type 0 where
+  pub named : map (λ (c : OutputColumn). c.name) outputs ≡ map (λ (x : Variable). x.name) (outputs_of flat.variables)
+  pub streams : (tree : ProgramTree) (main : List ℕ) → Agrees tree main inputs flat → (σ : SourceStreams) → IsSourceSolution tree main inputs σ → (k : ℕ) (c : OutputColumn) → slice_get outputs k ≡ Some c → map Known c.statuses ≡ marks (σ [] c.name) inputs.instants
+  pub no_fault : HasNoFault flat inputs
+
+-- their table, as a text
+pub record IsOutputTable (flat : FlatProgram) (inputs : Table) (text : List ℕ) : Type 0 where
+  pub outputs : List OutputColumn
+  pub are_outputs : AreEvaluated flat inputs outputs
+  pub text_is : text ≡ output_text outputs
+
+-- the program and the table that the files of a request gave
+pub record IsPosedBy (gives : List ℕ → List ℕ → Type 0) (request : EvalRequest) (flat : FlatProgram) (inputs : Table) : Type 0 where
+  pub program : List ℕ
+  pub table : List ℕ
+  pub program_given : gives request.program.now program
+  pub table_given : gives request.table.now table
+  pub tree : ProgramTree
+  pub posed : IsPosed program request.main.now table tree flat inputs
+
+-- the text of an evaluation: the table of the outputs of the program and the table that the files of a request gave
+pub record IsEvaluated (gives : List ℕ → List ℕ → Type 0) (request : EvalRequest) (text : List ℕ) : Type 0 where
+  pub flat : FlatProgram
+  pub inputs : Table
+  pub asked : IsPosedBy gives request flat inputs
+  pub outputs : List OutputColumn
+  pub are_outputs : AreOutputsOf asked.tree request.main.now flat inputs outputs
+  pub text_is : text ≡ output_text outputs
+
+-- the fault of the least instant, and there of the least rank, by the name of the main variable in whose equation it stands
+pub record IsFaultTold (flat : FlatProgram) (inputs : Table) (name : List ℕ) (instant : ℕ) (kind : FaultKind) : Type 0 where
+  pub variable : ℕ
+  pub is : Variable
+  pub there : slice_get flat.variables variable ≡ Some is
+  pub named : name ≡ is.name
+  pub first : (σ : Streams) → IsSolution flat inputs σ → IsFirstFault flat inputs σ variable instant kind
+
+-- a stop tells this fault, of the variable of this number, or that memory ran out
+abbrev pub IsStopFor : FlatProgram → ℕ → ℕ → FaultKind → Stop → Type 0
+IsStopFor flat variable instant kind (Fault name t k) = (x : Variable) × (slice_get flat.variables variable ≡ Some x) × (name ≡ x.name) × (t ≡ instant) × (k ≡ kind)
+IsStopFor flat variable instant kind OutOfMemory = Unit {0}
+IsStopFor flat variable instant kind _ = ⊥
+
+-- an evaluation of a flat program stops at its first fault, or where memory ran out
+abbrev pub IsStopped : FlatProgram → Table → Stop → Type 0
+IsStopped flat inputs (Fault name instant kind) = IsFaultTold flat inputs name instant kind
+IsStopped flat inputs OutOfMemory = Unit {0}
+IsStopped flat inputs _ = ⊥
+
+-- the first fault of the program and the table that the files of a request gave
+pub record IsFaultOf (gives : List ℕ → List ℕ → Type 0) (request : EvalRequest) (name : List ℕ) (instant : ℕ) (kind : FaultKind) : Type 0 where
+  pub flat : FlatProgram
+  pub inputs : Table
+  pub asked : IsPosedBy gives request flat inputs
+  pub told : IsFaultTold flat inputs name instant kind

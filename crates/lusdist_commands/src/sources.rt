@@ -1,0 +1,155 @@
+//! From the texts of the files to a plan, a job and its turns.
+
+ghost use Rattle.std.specs.Prelude.{◌≡◌, IfOk, IfErr, Ok};
+ghost use Rattle.lutree.specs.Tree.{program_view};
+ghost use Rattle.lusource.specs.First.{IsFirstShape};
+ghost use Rattle.lucore.specs.Result.{IsFlatOf};
+ghost use Rattle.lusdist_shell.specs.ScheduleText.{schedule_of};
+ghost use Rattle.lusyn.specs.Texts.{SpellsText};
+ghost use Rattle.luflow.specs.Sound.{IsFit};
+ghost use Rattle.luflow.specs.Tables.{Fits};
+ghost use Rattle.luflow.specs.Variables.{inputs_of};
+ghost use Rattle.lutab.specs.Table.{IsTextOf};
+ghost use Rattle.lusdist_commands.specs.declared.stop.Stop.TheVariants.{NotYet};
+ghost use Rattle.lusdist_commands.specs.Asked.{IsFlatOfText, IsPlanOfText};
+ghost use Rattle.lusdist_commands.specs.Refused.{IsToldOf, IsProgramRefused, IsPlaceRefused, IsTableRefused};
+ghost use Rattle.lusdist_commands.specs.Stopped.{IsUnread, HasNoFirst, IsScheduleRefused};
+
+use crate::stop::Stop;
+use lucore::flatten;
+use lufirst::is_first;
+use luflow::{Flat, Inputs};
+use lulist::Name;
+use luplace::{Job, Plan};
+use luplace_file::{PlaceError, read_place};
+use lusdist_shell::{Files, ReadError, read_schedule, text_of};
+use lustat::check;
+use lusyn::read_program;
+use lutab::{TabError, read_inputs};
+use lutree::Program;
+use std::alloc::Global;
+
+/// The bytes of the file at the path.
+pub fn read<F: Files>(alloc: Global, files: &F, path: &str) -> Result<Vec<u8>, Stop>
+    ensures given { IfOk result (λ bytes. F.gives files.now path.now bytes.items) }
+    ensures unread { IfErr result (IsUnread path.now) }
+{
+    match files.read(alloc, path) {
+        Ok(bytes) => Ok(bytes),
+        Err(ReadError::OutOfMemory) => Err(Stop::OutOfMemory),
+        Err(ReadError::CannotRead) => Err(Stop::CannotRead {
+            path: Name::from_text(alloc, path)?,
+        }),
+    }
+}
+
+/// The program that the bytes of a program's file spell.
+pub fn program_of(alloc: Global, bytes: &[u8]) -> Result<Program, Stop>
+    ensures spelled { IfOk result (λ program. SpellsText bytes.now (program_view program)) }
+    ensures refused { IfErr result (IsProgramRefused bytes.now) }
+{
+    let Some(text) = text_of(bytes) else {
+        return Err(Stop::NotAscii);
+    };
+    match read_program(alloc, text) {
+        Ok(program) => Ok(program),
+        Err(e) => Err(Stop::Syntax(e)),
+    }
+}
+
+/// The flat program of a program, from its main node of this name, where the program keeps all rules.
+pub fn flattened(alloc: Global, program: &Program, main: &str) -> Result<Flat, Stop>
+    ensures flat { IfOk result (IsFlatOf (program_view program.now) main.now) }
+    ensures told { IfErr result (IsToldOf (program_view program.now) main.now) }
+{
+    let checked = match check(alloc, program, main) {
+        Ok(checked) => checked,
+        Err(e) => return Err(Stop::Rules(e)),
+    };
+    match flatten(alloc, &checked) {
+        Ok(flat) => Ok(flat),
+        Err(e) => Err(Stop::Flat(e)),
+    }
+}
+
+/// The flat program of a program of the first language.
+fn first_alone(program: &Program, flat: Flat) -> Result<Flat, Stop>
+    ensures flat { IfOk result (λ same. same ≡ flat) }
+    ensures first { IfOk result (λ _. IsFirstShape (program_view program.now)) }
+    ensures not_yet { IfErr result (λ stop. (stop ≡ NotYet) × (¬ IsFirstShape (program_view program.now))) }
+{
+    if is_first(program) {
+        Ok(flat)
+    } else {
+        Err(Stop::NotYet)
+    }
+}
+
+/// The flat program that the bytes of a program's file are, from its main node of this name, where the program is of the first
+/// language.
+pub fn flat_of(alloc: Global, bytes: &[u8], main: &str) -> Result<Flat, Stop>
+    ensures flat { IfOk result (IsFlatOfText bytes.now main.now) }
+    ensures refused { IfErr result (HasNoFirst bytes.now main.now) }
+{
+    let program = program_of(alloc, bytes)?;
+    let flat = flattened(alloc, &program, main)?;
+    first_alone(&program, flat)
+}
+
+/// The plan of a flat program and the bytes of a placement's file.
+pub fn plan_of(alloc: Global, flat: Flat, bytes: &[u8]) -> Result<Plan, Stop>
+    ensures flat { IfOk result (λ plan. plan.flat ≡ flat) }
+    ensures plan { IfOk result (IsPlanOfText bytes.now) }
+    ensures refused { IfErr result (IsPlaceRefused flat bytes.now) }
+{
+    let Some(text) = text_of(bytes) else {
+        return Err(Stop::Place(PlaceError::NotToml));
+    };
+    let place = match read_place(alloc, text) {
+        Ok(place) => place,
+        Err(e) => return Err(Stop::Place(e)),
+    };
+    match Plan::make(alloc, flat, &place) {
+        Ok(plan) => Ok(plan),
+        Err(e) => Err(Stop::Place(e)),
+    }
+}
+
+/// The table of a flat program's inputs that the bytes of a table's file are.
+pub fn inputs_in(alloc: Global, flat: &Flat, bytes: &[u8]) -> Result<Inputs, Stop>
+    ensures text { IfOk result (λ inputs. IsTextOf (inputs_of flat.now.variables) inputs bytes.now) }
+    ensures fits { IfOk result (λ inputs. Fits flat.now inputs) }
+    ensures fit { IfOk result (λ inputs. IsFit flat.now inputs) }
+    ensures refused { IfErr result (IsTableRefused (inputs_of flat.now.variables) bytes.now) }
+{
+    let _flows = flat.flows();
+    let Some(text) = text_of(bytes) else {
+        return Err(Stop::Table(TabError::BadHeader));
+    };
+    match read_inputs(alloc, flat, text) {
+        Ok(inputs) => Ok(inputs),
+        Err(e) => Err(Stop::Table(e)),
+    }
+}
+
+/// The job of a plan and the bytes of a table's file.
+pub fn job_of(alloc: Global, plan: Plan, bytes: &[u8]) -> Result<Job, Stop>
+    ensures plan { IfOk result (λ job. job.plan ≡ plan) }
+    ensures text { IfOk result (λ job. IsTextOf (inputs_of plan.flat.variables) job.inputs bytes.now) }
+    ensures fits { IfOk result (λ job. Fits plan.flat job.inputs) }
+    ensures refused { IfErr result (IsTableRefused (inputs_of plan.flat.variables) bytes.now) }
+{
+    let inputs = inputs_in(alloc, plan.flat(), bytes)?;
+    Ok(Job::new(plan, inputs))
+}
+
+/// The turns that the bytes of a schedule's file are.
+pub fn turns_of(alloc: Global, bytes: &[u8]) -> Result<Vec<u8>, Stop>
+    ensures turns { IfOk result (λ turns. schedule_of bytes.now ≡ Ok turns.items) }
+    ensures refused { IfErr result (IsScheduleRefused bytes.now) }
+{
+    match read_schedule(alloc, bytes) {
+        Ok(turns) => Ok(turns),
+        Err(e) => Err(Stop::Schedule(e)),
+    }
+}

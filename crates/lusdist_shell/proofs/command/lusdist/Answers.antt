@@ -1,0 +1,14 @@
+use Rattle.std.proofs.Common.{◌≡◌, ◌∙◌, ap, ap₂, true, codes}
+use Rattle.std.proofs.lemmas.Result.{IfOk-weaker}
+use Rattle.clap.specs.Simple.{App, app_of_fields, new_app, on_top, with_subcommand}
+use Rattle.lusdist_shell.proofs.command.lusdist.Goals as goal
+
+pub returns : goal.returns
+returns c =
+    let new = ap app_of_fields c.about.ensures ∙ c.new.ensures.app in
+    let base = ap app_of_fields c.subcommand_required.ensures ∙ ap (on_top (λ top. record top { subcommand_required = true })) new in
+    let top : App → _ = λ a. a.top in
+    let one = c.in_ok-subcommand.ensures.shape c.in_ok-check.ensures.local ∙ ap₂ with_subcommand base (ap top c.in_ok-check.ensures.app) in
+    let two = c.in_ok-subcommand-2.ensures.shape c.in_ok-eval.ensures.local ∙ ap₂ with_subcommand one (ap top c.in_ok-eval.ensures.app) in
+    IfOk-weaker c.subcommand-3.result _ _
+    (λ r added. added.shape c.in_ok-replay.ensures.local ∙ ap₂ with_subcommand two (ap top c.in_ok-replay.ensures.app)) c.subcommand-3.ensures

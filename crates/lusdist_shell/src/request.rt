@@ -1,0 +1,139 @@
+//! What the command line asks for.
+
+ghost use Rattle.std.specs.Prelude.{◌≡◌, IfOk, IfErr, map, true, string_bytes, codes, Some};
+ghost use Rattle.clap.specs.Words.{kind_of, takes, found_of, rows_of, subcommand_of, subcommand_rows_of, FailsBy, fault_of};
+ghost use Rattle.clap.specs.declared.error.kind.ErrorKind.TheVariants.{OutOfMemory};
+ghost use Rattle.lusdist_shell.specs.CommandLine.{lusdist};
+ghost use Rattle.lusdist_shell.specs.Request.{text_in, IsCommand, IsCheckIn, IsEvalIn, IsReplayIn, IsFoundIn, IsAskedBy};
+
+use crate::command::lusdist;
+use clap::{ArgMatches, Error};
+use std::alloc::Global;
+
+/// What a check is asked of.
+#[derive(Clone, Copy, Debug, PartialEq, Eq)]
+pub struct CheckRequest<'a> {
+    /// The name of the main node.
+    pub main: &'a str,
+    /// The path of the program.
+    pub program: &'a str,
+}
+
+/// What an evaluation is asked of.
+#[derive(Clone, Copy, Debug, PartialEq, Eq)]
+pub struct EvalRequest<'a> {
+    /// The name of the main node.
+    pub main: &'a str,
+    /// The path of the program.
+    pub program: &'a str,
+    /// The path of the input table.
+    pub table: &'a str,
+}
+
+/// What a replay is asked of.
+#[derive(Clone, Copy, Debug, PartialEq, Eq)]
+pub struct ReplayRequest<'a> {
+    /// The name of the main node.
+    pub main: &'a str,
+    /// The path of the program.
+    pub program: &'a str,
+    /// The path of the placement.
+    pub place: &'a str,
+    /// The path of the input table.
+    pub table: &'a str,
+    /// The path of the schedule.
+    pub schedule: &'a str,
+}
+
+/// What the command line asks for.
+#[derive(Clone, Copy, Debug, PartialEq, Eq)]
+pub enum Request<'a> {
+    /// A check of a program.
+    Check(CheckRequest<'a>),
+    /// An evaluation of a program at a table.
+    Eval(EvalRequest<'a>),
+    /// A replay of these files.
+    Replay(ReplayRequest<'a>),
+}
+
+/// The text of an argument, which is empty where it has none.
+fn text<'a>(matches: &ArgMatches<'a>, argument: &str) -> &'a str
+    ensures { result.now ≡ text_in (rows_of (found_of matches.now)) argument.now }
+{
+    match matches.get_str(argument) {
+        Some(text) => text,
+        None => "",
+    }
+}
+
+/// What the matches of `check` ask for.
+fn check_in<'a>(matches: &ArgMatches<'a>) -> CheckRequest<'a>
+    ensures { IsCheckIn (Some (codes "check", rows_of (found_of matches.now))) result }
+{
+    CheckRequest {
+        main: text(matches, "main"),
+        program: text(matches, "PROGRAM"),
+    }
+}
+
+/// What the matches of `eval` ask for.
+fn eval_in<'a>(matches: &ArgMatches<'a>) -> EvalRequest<'a>
+    ensures { IsEvalIn (Some (codes "eval", rows_of (found_of matches.now))) result }
+{
+    EvalRequest {
+        main: text(matches, "main"),
+        program: text(matches, "PROGRAM"),
+        table: text(matches, "TABLE"),
+    }
+}
+
+/// What the matches of `replay` ask for.
+fn replay_in<'a>(matches: &ArgMatches<'a>) -> ReplayRequest<'a>
+    ensures { IsReplayIn (Some (codes "replay", rows_of (found_of matches.now))) result }
+{
+    ReplayRequest {
+        main: text(matches, "main"),
+        program: text(matches, "PROGRAM"),
+        place: text(matches, "PLACE"),
+        table: text(matches, "TABLE"),
+        schedule: text(matches, "SCHEDULE"),
+    }
+}
+
+/// What the matches of the one command ask for.
+fn request_in<'a>(matches: &ArgMatches<'a>) -> Request<'a>
+    requires { IsCommand (subcommand_rows_of matches.now) }
+    ensures { IsFoundIn (subcommand_rows_of matches.now) result }
+{
+    match matches.subcommand() {
+        Some((name, found)) if name == "check" => Request::Check(check_in(found)),
+        Some((name, found)) if name == "eval" => Request::Eval(eval_in(found)),
+        Some((_, found)) => Request::Replay(replay_in(found)),
+        None => unreachable!(),
+    }
+}
+
+/// What the words match.
+fn matches_in<'a>(alloc: Global, words: &'a [String]) -> Result<ArgMatches<'a>, Error>
+    ensures command { IfOk result (λ m. IsCommand (subcommand_rows_of m)) }
+    ensures matches { IfOk result (λ m. subcommand_rows_of m ≡ subcommand_of lusdist (map string_bytes words.entry.now)) }
+    ensures taken { IfErr result (λ e. takes lusdist (map string_bytes words.entry.now) ≡ true → kind_of e ≡ OutOfMemory) }
+    ensures refused { FailsBy (fault_of lusdist (map string_bytes words.entry.now)) result }
+{
+    lusdist(alloc)?.try_get_matches_from(words)
+}
+
+/// Reads the words of the command line, the program's own name first. What the parser says instead, help included, is
+/// shown by `put_mistake`.
+pub fn parse<'a>(alloc: Global, words: &'a [String]) -> Result<Request<'a>, Error>
+    ensures asked { IfOk result (IsAskedBy (map string_bytes words.entry.now)) }
+
+    // Words that the command line takes are refused for want of memory alone.
+    ensures taken { IfErr result (λ e. takes lusdist (map string_bytes words.entry.now) ≡ true → kind_of e ≡ OutOfMemory) }
+
+    // Other words are refused for what is wrong with them.
+    ensures refused { FailsBy (fault_of lusdist (map string_bytes words.entry.now)) result }
+{
+    let matches = matches_in(alloc, words)?;
+    Ok(request_in(&matches))
+}

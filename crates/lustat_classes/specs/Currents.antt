@@ -1,0 +1,42 @@
+-- Uses of `current`, form by form.
+use Rattle.std.specs.Prelude.{◌≡◌, ◌↔◌, ℕ, Bool, List, [], ◌∷◌, Contains}
+use Rattle.lutree.specs.declared.expr.Infix.TheVariants.{Arrow, FollowedBy}
+use Rattle.lutree.specs.Tree.{Tree, Trees, EquationTree, NodeTree}
+use Rattle.lutree.specs.Tree as tree
+use Rattle.lustat_rules.specs.Classes.{StartsWith, ClockIsTrueAtFirst}
+
+-- what is true of each name after `current`
+abbrev mutual
+  pub EachCurrent : (List ℕ → Type 0) → Tree → Type 0
+  EachCurrent P (tree.number n) = Unit {0}
+  EachCurrent P (tree.truth b) = Unit {0}
+  EachCurrent P (tree.variable x) = Unit {0}
+  EachCurrent P (tree.unary op a) = EachCurrent P a
+  EachCurrent P (tree.binary op a b) = EachCurrent P a × EachCurrent P b
+  EachCurrent P (tree.choice c a b) = EachCurrent P c × EachCurrent P a × EachCurrent P b
+  EachCurrent P (tree.when a c) = EachCurrent P a
+  EachCurrent P (tree.current x) = P x
+  EachCurrent P (tree.merge c a b) = EachCurrent P a × EachCurrent P b
+  EachCurrent P (tree.call f all) = EachCurrentOfAll P all
+
+  pub EachCurrentOfAll : (List ℕ → Type 0) → Trees → Type 0
+  EachCurrentOfAll P tree.none = Unit {0}
+  EachCurrentOfAll P (tree.more a all) = EachCurrent P a × EachCurrentOfAll P all
+
+-- an equation defines a variable alone, and begins with a truth value
+abbrev pub Begins : Bool → EquationTree → List ℕ → Type 0
+Begins sign q x = (q.left ≡ x ∷ []) × StartsWith sign q.right
+
+-- the names that equations of a list begin with a truth value
+abbrev pub AreBegun : Bool → List EquationTree → List (List ℕ) → Type 0
+AreBegun sign qs names = (x : List ℕ) → Contains names x ↔ ((q : EquationTree) × Contains qs q × Begins sign q x)
+
+-- an expression begins with a truth value, form by form
+abbrev pub StartsInside : Bool → Tree → Type 0
+StartsInside sign (tree.binary Arrow a e) = a ≡ tree.truth sign
+StartsInside sign (tree.binary FollowedBy a e) = a ≡ tree.truth sign
+StartsInside sign e = ⊥
+
+-- the clock of a variable, if it has one, is true at first
+pub record IsStarted (n : NodeTree) (x : List ℕ) : Type 0 where
+  pub clock : ClockIsTrueAtFirst n x

@@ -1,0 +1,41 @@
+-- Where a node has no classes, by equation.
+use Rattle.std.specs.Prelude.{ℕ, List, [], ◌∷◌, ◌++◌, map, Some, None, IsTrue, All, Contains}
+use Rattle.std.specs.Borrow.{Bor}
+use Rattle.lutree.specs.declared.program.Declaration.{Declaration}
+use Rattle.lutree.specs.Tree.{DeclarationTree, EquationTree, NodeTree, declaration_view}
+use Rattle.lustat_rules.specs.Scope.{Clock, declarations_of, IsInput, IsOutput}
+use Rattle.lustat_rules.specs.Classes.{Classes, is_one, NeedsMet, Meets, HasClasses, IsLeast}
+use Rattle.lustat_classes.specs.Assigned.{IsCaused}
+
+abbrev pub clock_names_of : Clock → List (List ℕ)
+clock_names_of None = []
+clock_names_of (Some c) = c.variable ∷ []
+
+-- the names in declared clocks
+abbrev pub clock_names : List DeclarationTree → List (List ℕ)
+clock_names [] = []
+clock_names (d ∷ ds) = clock_names_of d.clock ++ clock_names ds
+
+-- declarations that are lent
+abbrev pub lent_view : List (Bor Declaration) → List DeclarationTree
+lent_view = map (λ d. declaration_view d.now)
+
+-- a variable is no input, no output and in no declared clock
+pub record IsFree (n : NodeTree) (x : List ℕ) : Type 0 where
+  pub input : ¬ IsInput n x
+  pub output : ¬ IsOutput n x
+  pub clock : ¬ Contains (clock_names (declarations_of n)) x
+
+-- An equation keeps the rules of classes: what its right side needs is there, and where it is of class 1 it defines no input,
+-- no output and no variable of a clock.
+pub record KeepsClasses (a : Classes) (n : NodeTree) (q : EquationTree) : Type 0 where
+  pub needs : NeedsMet a q.right
+  pub held : IsTrue (is_one a q.right) → All (IsFree n) q.left
+
+-- with the least classes, a node has classes exactly where all its equations keep the rules
+pub record LeastTells (n : NodeTree) (a : Classes) : Type 0 where
+  pub kept : All (KeepsClasses a n) n.equations → Meets a n
+  pub broken : (q : EquationTree) → Contains n.equations q → (¬ KeepsClasses a n q) → ¬ HasClasses n
+
+abbrev pub LeastTellsLaw : Type 0
+LeastTellsLaw = (n : NodeTree) (a : Classes) → IsLeast a n → IsCaused a n → LeastTells n a

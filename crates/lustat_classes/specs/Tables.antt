@@ -1,0 +1,9 @@
+-- What the tables of a node hold.
+use Rattle.std.specs.Prelude.{true, false, map}
+use Rattle.lutree.specs.Tree.{equation_view}
+use Rattle.lustat_classes.specs.declared.current.Firsts.TheInside.{Inside}
+use Rattle.lustat_classes.specs.Currents.{AreBegun}
+
+pub record AreFirsts (s : Inside) : Type 0 where
+  pub truths : AreBegun true (map equation_view s.node.now.equations) s.truths
+  pub falses : AreBegun false (map equation_view s.node.now.equations) s.falses

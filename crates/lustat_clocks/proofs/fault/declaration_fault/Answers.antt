@@ -1,0 +1,32 @@
+use Rattle.std.proofs.Common.{◌≡◌, ◌∙◌, refl, ap, sym, subst}
+use Rattle.std.specs.Prelude.{slice_get}
+use Rattle.lutree.specs.Tree.{program_view, node_view, declaration_view}
+use Rattle.lustat_rules.specs.Accepted.{Rule, DeclarationKeeps, not_a_clock, clocked_parameter, hidden_clock}
+use Rattle.lustat_rules.specs.declared.error.StatError.TheVariants.{NotAClock, ClockedParameter, HiddenClock}
+use Rattle.lustat_rules.specs.Faults.{declared_in, lesser_of, IsJudged, DeclarationFault, DeclarationKept}
+use Rattle.lustat_rules.proofs.Judging.{judged_told}
+use Rattle.lustat_scope.proofs.Declared.{view_of_declared}
+use Rattle.lustat_scope.proofs.Keeping.{item_view}
+use Rattle.lustat_clocks.specs.Asked.{is_asked}
+use Rattle.lustat_clocks.proofs.Places.{declaration_judged}
+use Rattle.lustat_clocks.proofs.fault.declaration_fault.Goals as goal
+
+pub is_clock-is_clock-requires-clause-place : goal.is_clock-is_clock-requires-clause-place
+is_clock-is_clock-requires-clause-place c =
+    sym (ap (λ l. slice_get l c.args.place) (view_of_declared c.args.scope.now)) ∙ item_view declaration_view (declared_in c.args.scope.now) c.args.place c.args.declaration.now c.requires.at
+
+pub returns : goal.returns
+returns c = λ program.
+    let main = c.args.main.now in
+    let n = c.args.scope.now in
+    let d = c.args.declaration.now in
+    let K : Rule → Type 0 = λ rule. DeclarationKeeps (program_view program) main rule (node_view n) c.args.place (declaration_view d) in
+    let a = c.told-clock.result in
+    let b = c.told-parameter.result in
+    let e = c.told-hidden.result in
+    let all : c.lesser-2.result ≡ lesser_of a (lesser_of b e) = c.lesser-2.ensures ∙ ap (lesser_of a) c.lesser.ensures in
+    subst (IsJudged (DeclarationFault is_asked program main n c.args.place d) (DeclarationKept is_asked program main n c.args.place d)) (sym all)
+    (declaration_judged d.byte K a b e tt
+    (judged_told not_a_clock d.byte (K not_a_clock) c.is_clock-is_clock.result (NotAClock d.byte) a c.told-clock.ensures refl refl c.is_clock-is_clock.ensures)
+    (judged_told clocked_parameter d.byte (K clocked_parameter) c.is_unclocked-is_unclocked.result (ClockedParameter d.byte) b c.told-parameter.ensures refl refl c.is_unclocked-is_unclocked.ensures)
+    (judged_told hidden_clock d.byte (K hidden_clock) c.is_visible-is_visible.result (HiddenClock d.byte) e c.told-hidden.ensures refl refl c.is_visible-is_visible.ensures))

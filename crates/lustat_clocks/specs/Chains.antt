@@ -1,0 +1,40 @@
+-- Chains of clocks, by place of declaration.
+use Rattle.std.specs.Prelude.{◌≡◌, ◌↔◌, ◌<◌, ℕ, Bool, List, Option, Some, None, slice_get, map, Contains}
+use Rattle.std.specs.Borrow.{Bor}
+use Rattle.lutree.specs.declared.program.Declaration.{Declaration}
+use Rattle.lutree.specs.Tree.{DeclarationTree, NodeTree, declaration_view}
+use Rattle.lustat_rules.specs.Scope.{Clock, declarations_of, names_of}
+use Rattle.lustat_rules.specs.Clocks.{Ends}
+use Rattle.lugraph.specs.Search.{Has}
+use Rattle.lustat_scope.specs.Places.{first_place}
+use Rattle.lugraph.specs.declared.link.Link.{Link}
+use Rattle.lugraph.specs.Reach.{link}
+
+-- marks of those declarations whose clocks end at the base clock
+abbrev pub MarksEnds : NodeTree → List Bool → Type 0
+MarksEnds n marks = (i : ℕ) (d : DeclarationTree) → slice_get (declarations_of n) i ≡ Some d → Has marks i ↔ Ends n d.clock
+
+-- declarations that are lent
+abbrev pub lent_view : List (Bor Declaration) → List DeclarationTree
+lent_view = map (λ d. declaration_view d.now)
+
+-- the place of the variable that a clock names
+abbrev pub place_before : NodeTree → Clock → Option ℕ
+place_before n None = None
+place_before n (Some c) = first_place (names_of (declarations_of n)) c.variable
+
+-- the declaration at a place has no clock
+abbrev pub IsBased : List DeclarationTree → ℕ → Type 0
+IsBased ds i = (d : DeclarationTree) × (slice_get ds i ≡ Some d) × (d.clock ≡ None)
+
+-- the declaration at a place has a clock, which names the variable at another
+abbrev pub IsClockedBy : NodeTree → List DeclarationTree → ℕ → ℕ → Type 0
+IsClockedBy n ds u v = (d : DeclarationTree) × (slice_get ds v ≡ Some d) × (place_before n d.clock ≡ Some u)
+
+-- the places on the base clock, of those below a number
+abbrev pub AreBased : List DeclarationTree → ℕ → List ℕ → Type 0
+AreBased ds k starts = (i : ℕ) → Contains starts i ↔ ((i < k) × IsBased ds i)
+
+-- the links to places below a number
+abbrev pub AreClocked : NodeTree → List DeclarationTree → ℕ → List Link → Type 0
+AreClocked n ds k links = (u v : ℕ) → Contains links (link u v) ↔ ((v < k) × IsClockedBy n ds u v)

@@ -1,0 +1,63 @@
+//! The faults of clocks at single places.
+
+ghost use Rattle.std.specs.Prelude.{◌≡◌, ◌↔◌, Some, IsTrue, IfSome, slice_get};
+ghost use Rattle.lutree.specs.declared.program.Program.{Program};
+ghost use Rattle.lutree.specs.Tree.{node_view, program_view};
+ghost use Rattle.lustat_rules.specs.Scope.{node_called};
+ghost use Rattle.lustat_rules.specs.Clocks.{HasUnclockedOutputs};
+ghost use Rattle.lustat_rules.specs.Faults.{declared_in, IsJudged, DeclarationFault, DeclarationKept, EquationFault, EquationKept};
+ghost use Rattle.lustat_clocks.specs.Chains.{MarksEnds};
+ghost use Rattle.lustat_clocks.specs.Asked.{is_asked};
+
+use crate::agree::agrees;
+use crate::chain::{is_clock, names_truths};
+use crate::parameter::{calls_unclocked, is_unclocked, is_visible};
+use lustat_rules::{StatError, lesser, told};
+use lustat_scope::{Catalog, Scope};
+use lutree::{Declaration, Equation};
+
+/// The least fault of a declaration, whatever the program round its node.
+pub fn declaration_fault(
+    scope: &Scope,
+    ends: &[bool],
+    main: &str,
+    place: usize,
+    declaration: &Declaration,
+) -> Option<StatError>
+    requires ends { MarksEnds (node_view scope.now) ends.now }
+    requires at { slice_get (declared_in scope.now) place ≡ Some declaration.now }
+    ensures { (program : Program) → IsJudged (DeclarationFault is_asked program main.now scope.now place declaration.now)
+        (DeclarationKept is_asked program main.now scope.now place declaration.now) result }
+{
+    let byte = declaration.byte;
+    let is_clock = is_clock(scope, declaration, place, ends);
+    let is_unclocked = is_unclocked(scope, declaration, main);
+    let is_visible = is_visible(scope, declaration, main);
+    let clock = told(is_clock, StatError::NotAClock { byte });
+    let parameter = told(is_unclocked, StatError::ClockedParameter { byte });
+    let hidden = told(is_visible, StatError::HiddenClock { byte });
+    lesser(clock, lesser(parameter, hidden))
+}
+
+/// The least fault of an equation. `unclocked` is what [`crate::main_is_unclocked`] tells.
+pub fn equation_fault(
+    catalog: &Catalog,
+    scope: &Scope,
+    main: &str,
+    unclocked: bool,
+    place: usize,
+    equation: &Equation,
+) -> Option<StatError>
+    requires { IsTrue unclocked ↔ IfSome (node_called (program_view catalog.now) main.now) HasUnclockedOutputs }
+    ensures { IsJudged (EquationFault is_asked catalog.now main.now scope.now place equation.now)
+        (EquationKept is_asked catalog.now main.now scope.now place equation.now) result }
+{
+    let byte = equation.byte;
+    let agrees = agrees(scope, equation);
+    let names_truths = names_truths(scope, equation);
+    let calls_unclocked = calls_unclocked(equation, main, unclocked);
+    let mismatch = told(agrees, StatError::ClockMismatch { byte });
+    let clock = told(names_truths, StatError::NotAClock { byte });
+    let parameter = told(calls_unclocked, StatError::ClockedParameter { byte });
+    lesser(mismatch, lesser(clock, parameter))
+}

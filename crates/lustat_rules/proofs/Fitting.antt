@@ -1,0 +1,41 @@
+-- Fitting, by its cases and form by form.
+use Rattle.std.proofs.Common.{true, false, refl, sym, subst}
+use Rattle.lutree.specs.Tree.{Tree, Trees, NodeTree}
+use Rattle.lutree.specs.Tree as tree
+use Rattle.lustat_rules.specs.Scope.{Clock}
+use Rattle.lustat_rules.specs.Clocks.{on, Fits, AllFit, FitsInside, AllFitInside}
+
+mutual
+  pub inside : {n : NodeTree} {e : Tree} {k : Clock} → Fits n e k → FitsInside n e k
+  inside (Fits.number a k) = tt
+  inside (Fits.truth b k) = tt
+  inside (Fits.variable x k h) = h
+  inside (Fits.unary op a k f) = inside f
+  inside (Fits.binary op a b k f g) = (inside f, inside g)
+  inside (Fits.choice c a b k e f g) = (inside e, inside f, inside g)
+  inside (Fits.when a c j h f) = (refl, (j, h, inside f))
+  inside (Fits.current x c k h g) = (c, h, g)
+  inside (Fits.merge c a b k h f g) = (h, inside f, inside g)
+  inside (Fits.call f all k g) = all_inside g
+
+  pub all_inside : {n : NodeTree} {all : Trees} {k : Clock} → AllFit n all k → AllFitInside n all k
+  all_inside (AllFit.none k) = tt
+  all_inside (AllFit.more a all k f g) = (inside f, all_inside g)
+
+mutual
+  pub outside : (n : NodeTree) (e : Tree) (k : Clock) → FitsInside n e k → Fits n e k
+  outside n (tree.number a) k f = Fits.number a k
+  outside n (tree.truth b) k f = Fits.truth b k
+  outside n (tree.variable x) k f = Fits.variable x k f
+  outside n (tree.unary op a) k f = Fits.unary op a k (outside n a k f)
+  outside n (tree.binary op a b) k f = Fits.binary op a b k (outside n a k f.0) (outside n b k f.1)
+  outside n (tree.choice c a b) k f = Fits.choice c a b k (outside n c k f.0) (outside n a k f.1) (outside n b k f.2)
+  outside n (tree.when a c) k f =
+      subst (λ i. Fits n (tree.when a c) i) (sym f.0) (Fits.when a c f.1.0 f.1.1 (outside n a f.1.0 f.1.2))
+  outside n (tree.current x) k f = Fits.current x f.0 k f.1 f.2
+  outside n (tree.merge c a b) k f = Fits.merge c a b k f.0 (outside n a (on c true) f.1) (outside n b (on c false) f.2)
+  outside n (tree.call g all) k f = Fits.call g all k (all_outside n all k f)
+
+  pub all_outside : (n : NodeTree) (all : Trees) (k : Clock) → AllFitInside n all k → AllFit n all k
+  all_outside n tree.none k f = AllFit.none k
+  all_outside n (tree.more a all) k f = AllFit.more a all k (outside n a k f.0) (all_outside n all k f.1)

@@ -1,0 +1,16 @@
+use Rattle.std.proofs.Common.{refl, sym, ◌∙◌, [], true≢false, arith}
+use Rattle.std.specs.Prelude.{codes}
+use Rattle.lustat_rules.specs.Clocks.{base}
+use Rattle.lustat_rules.specs.Vectors.{defines, int_variable, x}
+use Rattle.lustat_rules.proofs.Worked.{zero_less, one_less, zero_less_two}
+use Rattle.lustat_rules.proofs.laws.needed_vectors_law.Goals as goal
+
+pub returns : goal.returns
+returns c =
+    let q = defines (codes "y") x in
+    record {
+      branch_of_merge = λ h. true≢false (h.1.needs 0 q zero_less).1;
+      other_branch = λ h. true≢false (h.1.needs 0 q zero_less).3;
+      variable_of_current = λ h. true≢false (sym (h.1.raised 0 q zero_less_two refl 0 [] zero_less) ∙ h.1.needs 1 q one_less);
+      clock_variable = λ h. true≢false (sym (h.1.raised 0 q (omega arith) refl 0 [] zero_less) ∙ (h.1.held 4 (int_variable (codes "y") base) (omega arith)).clock);
+    }

@@ -1,0 +1,123 @@
+-- The rules of clocks.
+use Rattle.std.specs.Prelude.{◌≡◌, ◌⊎◌, ◌↔◌, ℕ, Bool, true, false, List, [], ◌∷◌, ◌++◌, Some, None, IfSome, All}
+use Rattle.lutree.specs.declared.expr.Condition.{Condition}
+use Rattle.lutree.specs.declared.expr.Prefix.{Prefix}
+use Rattle.lutree.specs.declared.expr.Infix.{Infix}
+use Rattle.lutree.specs.declared.program.Kind.TheVariants.{Bool as Truths}
+use Rattle.lutree.specs.Tree.{Tree, Trees, DeclarationTree, EquationTree, NodeTree, ProgramTree}
+use Rattle.lutree.specs.Tree as tree
+use Rattle.lustat_rules.specs.Scope.{Clock, clock_of, kind_of, node_called, IsInput, IsOutput}
+use Rattle.lustat_rules.specs.Naming.{Call, calls_in}
+
+-- FITTING
+
+abbrev pub base : Clock
+base = None
+
+-- the clock of a variable with a sign
+abbrev pub on : List ℕ → Bool → Clock
+on c sign = Some (record { variable = c; sign = sign })
+
+-- the variable has the clock
+abbrev pub HasClock : NodeTree → List ℕ → Clock → Type 0
+HasClock n x k = clock_of n x ≡ Some k
+
+-- An expression fits a clock by these cases, and by no other. A clock variable has the one clock of its declaration, so two
+-- clocks are the same chain of variables and signs where their first variables and signs are the same.
+mutual
+  pub data Fits (n : NodeTree) : Tree → Clock → Type 0 where
+    number : (a : ℕ) (k : Clock) → Fits n (tree.number a) k
+    truth : (b : Bool) (k : Clock) → Fits n (tree.truth b) k
+    variable : (x : List ℕ) (k : Clock) → HasClock n x k → Fits n (tree.variable x) k
+    unary : (op : Prefix) (a : Tree) (k : Clock) → Fits n a k → Fits n (tree.unary op a) k
+    binary : (op : Infix) (a b : Tree) (k : Clock) → Fits n a k → Fits n b k → Fits n (tree.binary op a b) k
+    choice : (c a b : Tree) (k : Clock) → Fits n c k → Fits n a k → Fits n b k → Fits n (tree.choice c a b) k
+    when : (a : Tree) (c : Condition) (j : Clock) → HasClock n c.variable j → Fits n a j → Fits n (tree.when a c) (Some c)
+    current : (x : List ℕ) (c : Condition) (k : Clock) → HasClock n x (Some c) → HasClock n c.variable k → Fits n (tree.current x) k
+    merge : (c : List ℕ) (a b : Tree) (k : Clock) → HasClock n c k → Fits n a (on c true) → Fits n b (on c false) → Fits n (tree.merge c a b) k
+    call : (f : List ℕ) (all : Trees) (k : Clock) → AllFit n all k → Fits n (tree.call f all) k
+
+  -- each argument fits the clock
+  pub data AllFit (n : NodeTree) : Trees → Clock → Type 0 where
+    none : (k : Clock) → AllFit n tree.none k
+    more : (a : Tree) (all : Trees) (k : Clock) → Fits n a k → AllFit n all k → AllFit n (tree.more a all) k
+
+-- what fitting asks of an expression, form by form
+abbrev mutual
+  pub FitsInside : NodeTree → Tree → Clock → Type 0
+  FitsInside n (tree.number a) k = Unit {0}
+  FitsInside n (tree.truth b) k = Unit {0}
+  FitsInside n (tree.variable x) k = HasClock n x k
+  FitsInside n (tree.unary op a) k = FitsInside n a k
+  FitsInside n (tree.binary op a b) k = FitsInside n a k × FitsInside n b k
+  FitsInside n (tree.choice c a b) k = FitsInside n c k × FitsInside n a k × FitsInside n b k
+  FitsInside n (tree.when a c) k = (k ≡ Some c) × ((j : Clock) × HasClock n c.variable j × FitsInside n a j)
+  FitsInside n (tree.current x) k = (c : Condition) × HasClock n x (Some c) × HasClock n c.variable k
+  FitsInside n (tree.merge c a b) k = HasClock n c k × FitsInside n a (on c true) × FitsInside n b (on c false)
+  FitsInside n (tree.call f all) k = AllFitInside n all k
+
+  pub AllFitInside : NodeTree → Trees → Clock → Type 0
+  AllFitInside n tree.none k = Unit {0}
+  AllFitInside n (tree.more a all) k = FitsInside n a k × AllFitInside n all k
+
+-- the two say the same
+abbrev pub FitsLaw : Type 0
+FitsLaw = (n : NodeTree) (e : Tree) (k : Clock) → Fits n e k ↔ FitsInside n e k
+
+-- E20: the variables on the left have one clock, and the right side fits it
+abbrev pub ClocksAgree : NodeTree → EquationTree → Type 0
+ClocksAgree n q = (k : Clock) × All (λ x. HasClock n x k) q.left × Fits n q.right k
+
+-- E21: what a clock names is a bool, and its chain of clocks ends
+
+-- from variable to clock the base clock is reached
+pub data Ends (n : NodeTree) : Clock → Type 0 where
+  at_base : Ends n base
+  after : (c : Condition) (k : Clock) → HasClock n c.variable k → Ends n k → Ends n (Some c)
+
+abbrev pub IsTruth : NodeTree → List ℕ → Type 0
+IsTruth n x = kind_of n x ≡ Some Truths
+
+-- the names that stand after `when` or `merge` in an expression
+abbrev mutual
+  pub clocks_in : Tree → List (List ℕ)
+  clocks_in (tree.number n) = []
+  clocks_in (tree.truth b) = []
+  clocks_in (tree.variable x) = []
+  clocks_in (tree.unary op a) = clocks_in a
+  clocks_in (tree.binary op a b) = clocks_in a ++ clocks_in b
+  clocks_in (tree.choice c a b) = clocks_in c ++ (clocks_in a ++ clocks_in b)
+  clocks_in (tree.when a c) = clocks_in a ++ c.variable ∷ []
+  clocks_in (tree.current x) = []
+  clocks_in (tree.merge c a b) = c ∷ clocks_in a ++ clocks_in b
+  clocks_in (tree.call f all) = clocks_in_all all
+
+  pub clocks_in_all : Trees → List (List ℕ)
+  clocks_in_all tree.none = []
+  clocks_in_all (tree.more a all) = clocks_in a ++ clocks_in_all all
+
+-- a declared clock is one
+pub record IsClock (n : NodeTree) (d : DeclarationTree) : Type 0 where
+  pub truth : IfSome d.clock (λ c. IsTruth n c.variable)
+  pub ends : Ends n d.clock
+
+-- the clock variables of an equation are bools
+abbrev pub ClocksAreTruths : EquationTree → NodeTree → Type 0
+ClocksAreTruths q n = All (IsTruth n) (clocks_in q.right)
+
+-- E22: inputs, and outputs of a node that isn't the main one, are on the base clock; and a main node with a clocked output isn't called
+
+abbrev pub IsUnclocked : List ℕ → NodeTree → DeclarationTree → Type 0
+IsUnclocked main n d =
+    (IsInput n d.name → d.clock ≡ base) × (IsOutput n d.name → (¬ (n.name ≡ main)) → d.clock ≡ base)
+
+abbrev pub HasUnclockedOutputs : NodeTree → Type 0
+HasUnclockedOutputs n = All (λ (d : DeclarationTree). d.clock ≡ base) n.outputs
+
+-- a node that is called has its outputs on its base clock
+abbrev pub CallsAreUnclocked : ProgramTree → List ℕ → EquationTree → Type 0
+CallsAreUnclocked p main q = All (λ (c : Call). c.node ≡ main → IfSome (node_called p c.node) HasUnclockedOutputs) (calls_in q.right)
+
+-- E23: an output of the main node is on no clock that a local names
+abbrev pub IsVisible : List ℕ → NodeTree → DeclarationTree → Type 0
+IsVisible main n d = n.name ≡ main → IsOutput n d.name → IfSome d.clock (λ c. IsInput n c.variable ⊎ IsOutput n c.variable)

@@ -1,0 +1,127 @@
+//! Why the static checks refuse a program.
+
+ghost use Rattle.std.specs.Prelude.{◌≡◌};
+ghost use Rattle.lustat_rules.specs.declared.error.StatError.TheVariants.{OutOfMemory};
+ghost use Rattle.lustat_rules.specs.Told.{byte_of, number_of};
+
+use std::alloc::{AllocError, AllocFailed};
+use thiserror::Error;
+
+/// Why the static checks refuse a program. What it displays is the line that the program prints. A byte is a place in the
+/// text, counted from 0.
+#[derive(Clone, Copy, Debug, PartialEq, Eq, Error)]
+pub enum StatError {
+    /// Two nodes, or two variables of a node, have one name. Told at the later name.
+    #[error("E10 DuplicateName at {byte}")]
+    DuplicateName { byte: usize },
+    /// A name is no variable of the node. Told at the equation, or at the variable whose clock it is.
+    #[error("E11 UnknownName at {byte}")]
+    UnknownName { byte: usize },
+    /// A call is of no node. Told at the equation.
+    #[error("E12 UnknownNode at {byte}")]
+    UnknownNode { byte: usize },
+    /// An equation whose names, calls and arities are in order is ill typed. Told at the equation.
+    #[error("E13 TypeMismatch at {byte}")]
+    TypeMismatch { byte: usize },
+    /// A call has another number of arguments, or of outputs, than it needs. Told at the equation.
+    #[error("E14 WrongArity at {byte}")]
+    WrongArity { byte: usize },
+    /// An output or a local has no equation. Told at its declaration.
+    #[error("E15 Undefined at {byte}")]
+    Undefined { byte: usize },
+    /// An equation defines a variable that another one defines, one twice, or an input. Told at the later equation.
+    #[error("E16 DefinedTwice at {byte}")]
+    DefinedTwice { byte: usize },
+    /// A node reaches itself by calls. Told at its name.
+    #[error("E17 RecursiveNode at {byte}")]
+    RecursiveNode { byte: usize },
+    /// No node has the name of the main node.
+    #[error("E18 NoMain at 0")]
+    NoMain,
+    /// A right side doesn't fit the clock of what it defines. Told at the equation.
+    #[error("E20 ClockMismatch at {byte}")]
+    ClockMismatch { byte: usize },
+    /// A clock is named by no bool, or its chain of clocks doesn't end. Told at the equation or the declaration.
+    #[error("E21 NotAClock at {byte}")]
+    NotAClock { byte: usize },
+    /// A parameter has a clock where it may have none. Told at its declaration, or at the equation that calls.
+    #[error("E22 ClockedParameter at {byte}")]
+    ClockedParameter { byte: usize },
+    /// An output of the main node has a clock that a local names. Told at its declaration.
+    #[error("E23 HiddenClock at {byte}")]
+    HiddenClock { byte: usize },
+    /// A value may be missing where it is needed. Told at the equation that needs it.
+    #[error("E30 MaybeNil at {byte}")]
+    MaybeNil { byte: usize },
+    /// `current` of a variable whose clock may be false at first. Told at the equation.
+    #[error("E31 CurrentMayBeNil at {byte}")]
+    CurrentMayBeNil { byte: usize },
+    /// Memory ran out, which says nothing of the program.
+    #[error("R2 OutOfMemory")]
+    OutOfMemory,
+}
+
+impl StatError {
+    /// The place of the fault; 0 where there is none.
+    pub fn byte(&self) -> usize
+        ensures { result ≡ byte_of self.now }
+    {
+        match self {
+            StatError::DuplicateName { byte }
+            | StatError::UnknownName { byte }
+            | StatError::UnknownNode { byte }
+            | StatError::TypeMismatch { byte }
+            | StatError::WrongArity { byte }
+            | StatError::Undefined { byte }
+            | StatError::DefinedTwice { byte }
+            | StatError::RecursiveNode { byte }
+            | StatError::ClockMismatch { byte }
+            | StatError::NotAClock { byte }
+            | StatError::ClockedParameter { byte }
+            | StatError::HiddenClock { byte }
+            | StatError::MaybeNil { byte }
+            | StatError::CurrentMayBeNil { byte } => *byte,
+            StatError::NoMain | StatError::OutOfMemory => 0,
+        }
+    }
+
+    /// The number of the rule; 0 where no rule is told.
+    pub fn number(&self) -> u8
+        ensures { result ≡ number_of self.now }
+    {
+        match self {
+            StatError::DuplicateName { .. } => 10,
+            StatError::UnknownName { .. } => 11,
+            StatError::UnknownNode { .. } => 12,
+            StatError::TypeMismatch { .. } => 13,
+            StatError::WrongArity { .. } => 14,
+            StatError::Undefined { .. } => 15,
+            StatError::DefinedTwice { .. } => 16,
+            StatError::RecursiveNode { .. } => 17,
+            StatError::NoMain => 18,
+            StatError::ClockMismatch { .. } => 20,
+            StatError::NotAClock { .. } => 21,
+            StatError::ClockedParameter { .. } => 22,
+            StatError::HiddenClock { .. } => 23,
+            StatError::MaybeNil { .. } => 30,
+            StatError::CurrentMayBeNil { .. } => 31,
+            StatError::OutOfMemory => 0,
+        }
+    }
+}
+
+impl From<AllocError> for StatError {
+    ghost from_gives = { λ _ e. e ≡ OutOfMemory };
+
+    fn from(_e: AllocError) -> StatError {
+        StatError::OutOfMemory
+    }
+}
+
+impl<T: Drop> From<AllocFailed<T>> for StatError {
+    ghost from_gives = { λ _ e. e ≡ OutOfMemory };
+
+    fn from(_e: AllocFailed<T>) -> StatError {
+        StatError::OutOfMemory
+    }
+}

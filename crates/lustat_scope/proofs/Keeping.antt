@@ -1,0 +1,84 @@
+-- From what is kept and broken in memory to what the view of a program keeps and breaks.
+use Rattle.std.proofs.Common.{◌≡◌, ◌∙◌, ℕ, zero, suc, Bool, List, [], ◌∷◌, ◌⊎◌, inl, inr, map, Option, Some, None, IsTrue, refl, sym, ap, subst}
+use Rattle.std.specs.Prelude.{slice_get}
+use Rattle.std.specs.Option.{option_map}
+use Rattle.std.proofs.lemmas.Option.{slice_get-map}
+use Rattle.lutree.specs.declared.program.Declaration.{Declaration}
+use Rattle.lutree.specs.declared.program.Equation.{Equation}
+use Rattle.lutree.specs.declared.program.Node.{Node}
+use Rattle.lutree.specs.declared.program.Program.{Program}
+use Rattle.lutree.specs.Tree.{DeclarationTree, EquationTree, NodeTree, declaration_view, equation_view, node_view, program_view}
+use Rattle.lustat_rules.specs.Scope.{declarations_of}
+use Rattle.lustat_rules.specs.Accepted.{Rule, ProgramKeeps, NodeKeeps, DeclarationKeeps, EquationKeeps, Keeps, Breaks}
+use Rattle.lustat_rules.specs.declared.error.StatError.{StatError}
+use Rattle.lustat_rules.specs.Told.{rule_of}
+use Rattle.lustat_rules.specs.Faults.{declared_in, FaultAt, FaultAmong, KeptAmong, ProgramKept, ProgramFault, NodeKept, NodeFault, DeclarationKept, DeclarationFault, EquationKept, EquationFault, AllOfNodeKept, InNodeFault, IsFault, AreKept}
+use Rattle.lustat_scope.proofs.Declared.{view_of_declared}
+
+-- the item that is seen so
+pub view_item : {A B : Type 0} (f : A → B) (xs : List A) (i : ℕ) (y : B) → slice_get (map f xs) i ≡ Some y → (x : A) × (slice_get xs i ≡ Some x) × (f x ≡ y)
+view_item f [] i y h = absurd (cc)
+view_item f (x ∷ xs) zero y h = (x, refl, (let same : f x ≡ y = cc in same))
+view_item f (x ∷ xs) (suc i) y h = view_item f xs i y h
+
+pub item_view : {A B : Type 0} (f : A → B) (xs : List A) (i : ℕ) (x : A) → slice_get xs i ≡ Some x → slice_get (map f xs) i ≡ Some (f x)
+item_view f xs i x h = slice_get-map f xs i ∙ ap (option_map f) h
+
+-- what is kept in memory is kept
+pub kept_everywhere : (asked : Rule → Bool) (p : Program) (main : List ℕ) → ProgramKept asked p main → KeptAmong p.nodes (AllOfNodeKept asked p main) → AreKept asked p main
+kept_everywhere asked p main whole nodes rule one =
+    record {
+      program = whole rule one;
+      nodes = λ i n at. node_kept i n (view_item node_view p.nodes i n at);
+      declarations = λ i j n d at there. declaration_kept i j n d (view_item node_view p.nodes i n at) there;
+      equations = λ i j n q at there. equation_kept i j n q (view_item node_view p.nodes i n at) there;
+    }
+  where
+    node_kept : (i : ℕ) (n : NodeTree) → (m : Node) × (slice_get p.nodes i ≡ Some m) × (node_view m ≡ n) → NodeKeeps (program_view p) main rule i n
+    node_kept i n v = subst (λ n. NodeKeeps (program_view p) main rule i n) v.2 ((nodes i v.0 v.1).node rule one)
+
+    declaration_kept : (i j : ℕ) (n : NodeTree) (d : DeclarationTree) → (m : Node) × (slice_get p.nodes i ≡ Some m) × (node_view m ≡ n) → slice_get (declarations_of n) j ≡ Some d → DeclarationKeeps (program_view p) main rule n j d
+    declaration_kept i j n d v there =
+        let here : slice_get (declarations_of (node_view v.0)) j ≡ Some d = subst (λ m. slice_get (declarations_of m) j ≡ Some d) (sym v.2) there in
+        let w = view_item declaration_view (declared_in v.0) j d (ap (λ l. slice_get l j) (view_of_declared v.0) ∙ here) in
+        subst (λ m. DeclarationKeeps (program_view p) main rule m j d) v.2
+        (subst (λ d. DeclarationKeeps (program_view p) main rule (node_view v.0) j d) w.2 ((nodes i v.0 v.1).declarations j w.0 w.1 rule one))
+
+    equation_kept : (i j : ℕ) (n : NodeTree) (q : EquationTree) → (m : Node) × (slice_get p.nodes i ≡ Some m) × (node_view m ≡ n) → slice_get n.equations j ≡ Some q → EquationKeeps (program_view p) main rule n j q
+    equation_kept i j n q v there =
+        let here : slice_get (map equation_view v.0.equations) j ≡ Some q = subst (λ (m : NodeTree). slice_get m.equations j ≡ Some q) (sym v.2) there in
+        let w = view_item equation_view v.0.equations j q here in
+        subst (λ m. EquationKeeps (program_view p) main rule m j q) v.2
+        (subst (λ q. EquationKeeps (program_view p) main rule (node_view v.0) j q) w.2 ((nodes i v.0 v.1).equations j w.0 w.1 rule one))
+
+-- a rule that a refusal tells, of those that were asked for, is broken
+pub record IsBroken (asked : Rule → Bool) (p : Program) (main : List ℕ) (e : StatError) : Type 0 where
+  pub rule : Rule
+  pub told : rule_of e ≡ Some rule
+  pub one : IsTrue (asked rule)
+  pub broken : Breaks (program_view p) main rule
+
+-- a fault in memory breaks its rule
+pub broken_somewhere : (asked : Rule → Bool) (p : Program) (main : List ℕ) (e : StatError) → IsFault asked p main e → IsBroken asked p main e
+broken_somewhere asked p main e (inl f) = record { rule = f.rule; told = f.told; one = f.one; broken = Breaks.program f.broken }
+broken_somewhere asked p main e (inr h) = inside h.0 h.1 h.2 h.3
+  where
+    inside : (i : ℕ) (n : Node) → slice_get p.nodes i ≡ Some n → InNodeFault asked p main i n e → IsBroken asked p main e
+    inside i n at (inl f) = record { rule = f.rule; told = f.told; one = f.one; broken = Breaks.node i (node_view n) (item_view node_view p.nodes i n at) f.broken }
+    inside i n at (inr (inl g)) =
+        let f = g.3 in
+        record {
+          rule = f.rule;
+          told = f.told;
+          one = f.one;
+          broken = Breaks.declaration i g.0 (node_view n) (declaration_view g.1) (item_view node_view p.nodes i n at)
+              (sym (ap (λ l. slice_get l g.0) (view_of_declared n)) ∙ item_view declaration_view (declared_in n) g.0 g.1 g.2) f.broken;
+        }
+    inside i n at (inr (inr g)) =
+        let f = g.3 in
+        record {
+          rule = f.rule;
+          told = f.told;
+          one = f.one;
+          broken = Breaks.equation i g.0 (node_view n) (equation_view g.1) (item_view node_view p.nodes i n at) (item_view equation_view n.equations g.0 g.1 g.2) f.broken;
+        }

@@ -1,0 +1,172 @@
+//! A node with the tables of its variables.
+
+ghost use Rattle.std.specs.Prelude.{◌≡◌, ◌↔◌, ◌++◌, map, option_map, option_copied, IfOk, OnOk, IsTrue, slice_get};
+ghost use Rattle.lutree.specs.Tree.{declaration_view, node_view};
+ghost use Rattle.lustat_rules.specs.Scope.{declarations_of, names_of, meaning, kind_of, clock_of, IsInput, IsOutput};
+ghost use Rattle.lustat_scope.specs.Places.{first_place};
+ghost use Rattle.lustat_scope.specs.Scopes.{declared_in, spellings};
+ghost use Rattle.lustat_scope.specs.ClockRefs.{the_clock};
+
+use crate::clock_ref::ClockRef;
+use crate::places::Places;
+use lutree::{Declaration, Kind, Node};
+use std::alloc::{AllocError, Global};
+use std::marker::Model;
+
+/// A node, lent, with the tables of its variables. A contract sees the node.
+#[derive(Drop)]
+pub struct Scope<'a> {
+    node: &'a Node,
+    declarations: Vec<&'a Declaration>,
+    variables: Places<'a>,
+    inputs: Places<'a>,
+    outputs: Places<'a>,
+}
+
+impl<'a> Model for Scope<'a> {
+    ghost use Rattle.lutree.specs.declared.program.Node.{Node};
+    ghost use Rattle.std.specs.Coded.{codes};
+    ghost use Rattle.lutree.specs.contracts.expr.Expr as tree_row;
+
+    ghost Value = { Node };
+
+    ghost coded = { Prim.hlevel (codes, tree_row.the_row.coded) };
+
+    ghost use Rattle.lustat_scope.specs.Tables.{AreTables};
+
+    ghost view = { λ s. s.node.now };
+
+    ghost invariant = { AreTables };
+}
+
+// Declarations, behind those before.
+fn push_all<'a>(
+    all: &mut Vec<&'a Declaration>,
+    declarations: &'a [Declaration],
+) -> Result<(), AllocError>
+    ensures { OnOk result (map (λ d. d.now) all.new.items ≡ map (λ d. d.now) all.old.items ++ declarations.now) }
+{
+    for d in declarations {
+        all.push(d)?;
+    }
+    Ok(())
+}
+
+// The declarations of a node, in order.
+fn declarations_in(alloc: Global, node: &Node) -> Result<Vec<&Declaration>, AllocError>
+    ensures { IfOk result (λ v. map (λ d. d.now) v.items ≡ declared_in node.now) }
+{
+    let mut all = Vec::new(alloc);
+    push_all(&mut all, node.inputs.as_slice())?;
+    push_all(&mut all, node.outputs.as_slice())?;
+    push_all(&mut all, node.locals.as_slice())?;
+    Ok(all)
+}
+
+// The table of the names of declarations.
+fn places_of<'a>(alloc: Global, declarations: &'a [Declaration]) -> Result<Places<'a>, AllocError>
+    ensures { IfOk result (λ places. places ≡ spellings declarations.now) }
+{
+    let mut names = Vec::with_capacity(alloc, declarations.len())?;
+    for d in declarations {
+        names.push(d.name.as_str())?;
+    }
+    Places::new(alloc, names)
+}
+
+// The table of the names of declarations that are lent.
+fn places_of_lent<'a>(
+    alloc: Global,
+    declarations: &[&'a Declaration],
+) -> Result<Places<'a>, AllocError>
+    ensures { IfOk result (λ places. places ≡ spellings (map (λ d. d.now) declarations.now)) }
+{
+    let mut names = Vec::with_capacity(alloc, declarations.len())?;
+    for d in declarations {
+        names.push(d.name.as_str())?;
+    }
+    Places::new(alloc, names)
+}
+
+impl<'a> Scope<'a> {
+    /// The tables of a node. Their expected time grows with the length of its names.
+    pub fn new(alloc: Global, node: &'a Node) -> Result<Scope<'a>, AllocError>
+        ensures { IfOk result (λ scope. scope ≡ node.now) }
+    {
+        let declarations = declarations_in(alloc, node)?;
+        let variables = places_of_lent(alloc, &declarations)?;
+        let inputs = places_of(alloc, node.inputs.as_slice())?;
+        let outputs = places_of(alloc, node.outputs.as_slice())?;
+        Ok(Scope {
+            node,
+            declarations,
+            variables,
+            inputs,
+            outputs,
+        })
+    }
+
+    /// The node.
+    pub fn node(&self) -> &'a Node
+        ensures { result.now ≡ self.now }
+    {
+        self.node
+    }
+
+    /// The variables of the node: inputs, outputs and locals, each in order of declaration.
+    pub fn declarations(&self) -> &[&'a Declaration]
+        ensures { map (λ d. d.now) result.now ≡ declared_in self.now }
+    {
+        self.declarations.as_slice()
+    }
+
+    /// Where the first declaration of a name stands, counted from 0 over inputs, outputs and locals.
+    pub fn place(&self, name: &str) -> Option<usize>
+        ensures { result ≡ first_place (names_of (declarations_of (node_view self.now))) name.now }
+    {
+        self.variables.find(name)
+    }
+
+    /// What a name means: the first declaration of it.
+    pub fn find(&self, name: &str) -> Option<&'a Declaration>
+        ensures { option_map declaration_view (option_copied result) ≡ meaning (node_view self.now) name.now }
+    {
+        match self.place(name) {
+            None => None,
+            Some(place) => Some(self.declarations[place]),
+        }
+    }
+
+    /// The type of a variable.
+    pub fn kind(&self, name: &str) -> Option<Kind>
+        ensures { result ≡ kind_of (node_view self.now) name.now }
+    {
+        let d = self.find(name)?;
+        Some(d.kind)
+    }
+
+    /// The clock of a variable.
+    pub fn clock(&self, name: &str) -> Option<ClockRef<'a>>
+        ensures { option_map the_clock result ≡ clock_of (node_view self.now) name.now }
+    {
+        let d = self.find(name)?;
+        match &d.clock {
+            None => Some(ClockRef::Base),
+            Some(c) => Some(ClockRef::On(c.variable.as_str(), c.sign)),
+        }
+    }
+
+    /// Whether a name is declared as an input.
+    pub fn is_input(&self, name: &str) -> bool
+        ensures { IsTrue result ↔ IsInput (node_view self.now) name.now }
+    {
+        self.inputs.has(name)
+    }
+
+    /// Whether a name is declared as an output, perhaps beside other declarations of it.
+    pub fn is_output(&self, name: &str) -> bool
+        ensures { IsTrue result ↔ IsOutput (node_view self.now) name.now }
+    {
+        self.outputs.has(name)
+    }
+}

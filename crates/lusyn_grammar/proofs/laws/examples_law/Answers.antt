@@ -1,0 +1,5 @@
+use Rattle.lusyn_grammar.proofs.Examples.{expressions, one_program, refusals}
+use Rattle.lusyn_grammar.proofs.laws.examples_law.Goals as goal
+
+pub returns : goal.returns
+returns c = (expressions, one_program, refusals)

@@ -1,0 +1,79 @@
+use Rattle.std.proofs.Common.{arith, sym, ap, refl, ◌∙◌, ◌-◌, ◌+◌}
+use Rattle.std.proofs.lemmas.Result.{err_from_is_err_and}
+use Rattle.lutree.specs.Tree.{view}
+use Rattle.lusyn_grammar.specs.Reading.{expr}
+use Rattle.lusyn_parser.specs.Gives.{ahead}
+use Rattle.lusyn_parser.proofs.Loops.{Gives-along, Fails-along, operands-continue, operands-stop, operands-fail, one-less, views-more}
+use Rattle.lusyn_parser.proofs.Atoms.{no-depth, operator-is-something, clock-is-something, operator-unfit, operator-taken, operator-fails, clock-taken, clock-fails}
+use Rattle.lusyn_parser.proofs.reader.Reader.+parser.Goals as goal
+
+pub expr-returns-then-depth-eq0-clause-expr : goal.expr-returns-then-depth-eq0-clause-expr
+expr-returns-then-depth-eq0-clause-expr t c = no-depth _ _ _ c.if-depth-eq0.true
+
+pub expr-returns-then-is_atom-clause-expr : goal.expr-returns-then-is_atom-clause-expr
+expr-returns-then-is_atom-clause-expr t c =
+    Gives-along _ _ _ _ _ (ap (λ n. expr n c.args.least (ahead c.args.self.now.tokens.now c.args.at)) (one-less _ c.if-depth-eq0.false) ∙ c.if-is_atom.ensures refl (c.args.depth - 1)) c.atom.ensures.atom
+
+pub climb-returns-then-binding-level-clause-climb : goal.climb-returns-then-binding-level-clause-climb
+climb-returns-then-binding-level-clause-climb t c =
+    sym c.loop.invariant.same
+    ∙ operator-unfit (expr c.args.depth) _ (c.args.turns - (c.loop.counter + 1)) c.args.least c.loop.level (view c.loop.found) c.in-Operator.op _ _
+    (omega (arith, c.loop-test.true)) c.in-Operator.ensures.next (c.in-Operator.ensures.past (operator-is-something _)) (omega (arith, c.if-least-binding.false, c.binding_of-binding.ensures.level)) (omega (arith, c.if-binding-level.true, c.binding_of-binding.ensures.left))
+
+pub climb-returns-in_err-right-in-Operator-clause-climb : goal.climb-returns-in_err-right-in-Operator-clause-climb
+climb-returns-in_err-right-in-Operator-clause-climb t c =
+    let p = err_from_is_err_and c.from_residual.result c.from_residual.ensures.1 in
+    rw (p.1, p.2)
+    (Fails-along _ _ _ _ (sym c.loop.invariant.same)
+    (operator-fails (expr c.args.depth) _ (c.args.turns - (c.loop.counter + 1)) c.args.least c.loop.level (view c.loop.found) c.in-Operator.op _ _
+    (omega (arith, c.loop-test.true)) c.in-Operator.ensures.next (c.in-Operator.ensures.past (operator-is-something _)) (omega (arith, c.if-least-binding.false, c.binding_of-binding.ensures.level)) (omega (arith, c.if-binding-level.false, c.binding_of-binding.ensures.left))
+    _ _ _ c.binding_of-binding.ensures.right c.in_err-right-in-Operator.ensures.expr))
+
+pub climb-returns-in_err-clock-in-Clock-clause-climb : goal.climb-returns-in_err-clock-in-Clock-clause-climb
+climb-returns-in_err-clock-in-Clock-clause-climb t c =
+    let p = err_from_is_err_and c.from_residual-in_err-clock-in-Clock.result c.from_residual-in_err-clock-in-Clock.ensures.1 in
+    rw (p.1, p.2)
+    (Fails-along _ _ _ _ (sym c.loop.invariant.same)
+    (clock-fails (expr c.args.depth) _ (c.args.turns - (c.loop.counter + 1)) c.args.least c.loop.level (view c.loop.found) _ _
+    (omega (arith, c.loop-test.true)) c.in-Clock.ensures.next (c.in-Clock.ensures.past clock-is-something) (omega (arith, c.if-least-gt9.false)) (omega (arith, c.if-level-lt9.false))
+    _ _ c.in_err-clock-in-Clock.ensures.condition))
+
+pub climb-loop-preserved-in-Operator : goal.climb-loop-preserved-in-Operator
+climb-loop-preserved-in-Operator t c = record {
+  same =
+      operator-taken (expr c.args.depth) _ (c.args.turns - (c.loop.counter + 1)) c.args.least c.loop.level (view c.loop.found) c.in-Operator.op _ _
+      (omega (arith, c.loop-test.true)) c.in-Operator.ensures.next (c.in-Operator.ensures.past (operator-is-something _)) (omega (arith, c.if-least-binding.false, c.binding_of-binding.ensures.level)) (omega (arith, c.if-binding-level.false, c.binding_of-binding.ensures.left))
+      _ _ _ _ _ c.binding_of-binding.ensures.right c.in_ok-right-in-Operator.ensures.expr c.binding_of-binding.ensures.level c.in_ok-found-in-Operator.ensures
+      ∙ c.loop.invariant.same;
+  more = omega (arith, c.in_ok-right-in-Operator.ensures.within, c.loop.invariant.more);
+}
+
+pub climb-loop-preserved : goal.climb-loop-preserved
+climb-loop-preserved t c = record {
+  same =
+      clock-taken (expr c.args.depth) _ (c.args.turns - (c.loop.counter + 1)) c.args.least c.loop.level (view c.loop.found) _ _
+      (omega (arith, c.loop-test.true)) c.in-Clock.ensures.next (c.in-Clock.ensures.past clock-is-something) (omega (arith, c.if-least-gt9.false)) (omega (arith, c.if-level-lt9.false))
+      _ _ _ c.in_ok-clock-in-Clock.ensures.condition c.in_ok-found-in-Clock.ensures
+      ∙ c.loop.invariant.same;
+  more = omega (arith, c.in_ok-clock-in-Clock.ensures.within, c.loop.invariant.more);
+}
+
+pub further_operands-returns-in_default-clause-operands : goal.further_operands-returns-in_default-clause-operands
+further_operands-returns-in_default-clause-operands t c =
+    sym c.loop.invariant.same
+    ∙ operands-stop (expr c.args.depth) _ (c.args.turns - (c.loop.counter + 1)) _ _ _ (omega (arith, c.loop-test.true)) c.in_default.ensures.after
+
+pub further_operands-returns-in_err-operand-clause-operands : goal.further_operands-returns-in_err-operand-clause-operands
+further_operands-returns-in_err-operand-clause-operands t c =
+    let p = err_from_is_err_and c.from_residual.result c.from_residual.ensures.1 in
+    rw (p.1, p.2)
+    (Fails-along _ _ _ _ (sym c.loop.invariant.same)
+    (operands-fail (expr c.args.depth) _ (c.args.turns - (c.loop.counter + 1)) _ _ _ _ _ (omega (arith, c.loop-test.true)) c.in-Some.ensures.after c.in_err-operand.ensures.expr))
+
+pub further_operands-loop-preserved : goal.further_operands-loop-preserved
+further_operands-loop-preserved t c = record {
+  same =
+      sym (operands-continue (expr c.args.depth) _ (c.args.turns - (c.loop.counter + 1)) _ _ _ _ _ _ (omega (arith, c.loop-test.true)) c.in-Some.ensures.after c.in_ok-operand.ensures.expr (views-more c.loop.found.items _ c.in_ok-operand.operand c.in_ok-push.ensures.items))
+      ∙ c.loop.invariant.same;
+  more = omega (arith, c.in_ok-operand.ensures.within, c.in-Some.ensures.within.0, c.loop.invariant.more);
+}

@@ -1,0 +1,24 @@
+use Rattle.std.proofs.Common.{arith, suc, length, ◌∙◌}
+use Rattle.std.proofs.lemmas.Result.{err_from_is_err_and}
+use Rattle.lusyn_tokens.specs.declared.token.Fixed.TheVariants as f
+use Rattle.lusyn_grammar.specs.Reading.{declaration}
+use Rattle.lusyn_parser.proofs.Loops.{goes_after, refuses_after, stops_after, Fails-along, declarations-continues}
+use Rattle.lusyn_parser.proofs.reader.Reader.declarations.Goals as goal
+
+pub loop-after-preserved : goal.loop-after-preserved
+loop-after-preserved c = record {
+  continues = goes_after f.Semicolon (declaration (suc (length c.args.self.now.tokens.now))) _ _ _ _ _ _ _ c.loop-after.invariant.continues c.in-Some.ensures.after c.in-Some.ensures.within c.in_ok-next-2.ensures.within c.in_ok-next-2.ensures.declaration;
+  more = omega (arith, c.in-Some.ensures.within.0, c.in_ok-next-2.ensures.within, c.loop-after.invariant.more);
+}
+
+pub returns-in_err-next-2-clause-declarations : goal.returns-in_err-next-2-clause-declarations
+returns-in_err-next-2-clause-declarations c =
+    let p = err_from_is_err_and c.from_residual-in_err-next-2.result c.from_residual-in_err-next-2.ensures.1 in
+    let first = rw c.new-found.ensures.items at c.in_ok-next.ensures.declaration in
+    rw (p.1, p.2) (Fails-along _ _ _ _ (declarations-continues _ _ _ _ first)
+    (refuses_after f.Semicolon (declaration (suc (length c.args.self.now.tokens.now))) _ _ _ _ _ _ c.loop-after.invariant.continues c.in-Some.ensures.after c.in_err-next-2.ensures.declaration))
+
+pub returns-clause-declarations : goal.returns-clause-declarations
+returns-clause-declarations c =
+    let first = rw c.new-found.ensures.items at c.in_ok-next.ensures.declaration in
+    declarations-continues _ _ _ _ first ∙ stops_after f.Semicolon (declaration (suc (length c.args.self.now.tokens.now))) _ _ _ _ _ c.loop-after.invariant.continues c.in_default.ensures.after

@@ -1,0 +1,18 @@
+use Rattle.std.proofs.Common.{suc, ◌-◌, ◌≤◌, length}
+use Rattle.lutree.specs.Tree.{declarations_view}
+use Rattle.lusyn_grammar.specs.Reading.{many, begins_name, ended_declaration}
+use Rattle.lusyn_parser.specs.Gives.{ahead}
+use Rattle.lusyn_parser.proofs.Loops.{Continues}
+use Rattle.lusyn_parser.proofs.reader.Reader.locals.Given as goal
+
+abbrev pub invariant-loop-found : goal.invariant-loop-found
+invariant-loop-found l =
+    record {
+      continues : Continues begins_name (ended_declaration (suc (length l.self.tokens.now)))
+          (many begins_name (ended_declaration (suc (length l.self.tokens.now))) (suc (length l.self.tokens.now)) (declarations_view l.initial.found.items) (ahead l.self.tokens.now l.initial.next))
+          (declarations_view l.found.items) l.self.tokens.now l.next;
+      more : l.fn.at ≤ l.next;
+    }
+
+abbrev pub decreases-loop-found : goal.decreases-loop-found
+decreases-loop-found l = length l.self.tokens.now - l.next

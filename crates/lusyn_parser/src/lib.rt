@@ -1,0 +1,22 @@
+//! The parser of the whole language: from tokens to the syntax tree that they spell.
+//!
+//! [`parse_tokens`] reads tokens from left to right, by the levels of the operators, as crate `lusyn_grammar` defines it, or
+//! tells by a [`ParseError`] the first token with which no program goes on.
+//!
+//! - `pieces`: what is handed on while tokens are read.
+//! - `reader`: from tokens to expressions, declarations and equations.
+//! - `nodes`: from tokens to nodes and programs.
+//! - `error`: why tokens are refused.
+//!
+//! `specs/Gives.antt` says what a reading function of the code answers, against the reading of `lusyn_grammar`, and
+//! `specs/Refused.antt` what a refusal tells.
+#![tactic(auto)]
+
+mod error;
+mod nodes;
+mod pieces;
+mod reader;
+
+pub use error::ParseError;
+pub use lutree::Program;
+pub use nodes::parse_tokens;

@@ -1,0 +1,134 @@
+//! Nodes and whole programs, from the tokens.
+
+ghost use Rattle.std.specs.Prelude.{ℕ, ◌<◌, suc, length, IfOk};
+ghost use Rattle.std.specs.Result.{IfErr};
+ghost use Rattle.lutree.specs.Tree.{ProgramTree, node_view, program_view};
+ghost use Rattle.lusyn_tokens.specs.Tokens.{toks, located};
+ghost use Rattle.lusyn_grammar.specs.Grammar.{Spells};
+ghost use Rattle.lusyn_grammar.specs.Reading as reading;
+ghost use Rattle.lusyn_parser.specs.Gives.{Gives, ahead, equations_view, nodes_view, heading_view};
+ghost use Rattle.lusyn_parser.specs.Refused.{IsAnswered, IsRefused, IsRefusedAt, IsWrongFrom};
+
+use crate::error::{ParseError, Stop};
+use crate::pieces::{Heading, byte_of};
+use crate::reader::Reader;
+use lulist::Row;
+use lusyn_tokens::{Fixed, Lexeme};
+use lutree::{Equation, Node, Program};
+use std::alloc::Global;
+
+/// Nodes.
+impl<'t> Reader<'t> {
+    /// `"node" ident "(" [ decls ] ")" "returns" "(" decls ")" [ ";" ]`
+    #[tactic(auto, unfolding(lusyn_grammar::specs::Reading::heading))]
+    fn heading(&self, at: usize) -> Result<(Heading, usize), Stop>
+        ensures heading { Gives self.now.tokens.now (λ x. (heading_view x.0, ahead self.now.tokens.now x.1)) result (reading.heading (suc (length self.now.tokens.now)) (ahead self.now.tokens.now at)) }
+        ensures within { IfOk result (λ x. at < x.1) }
+    {
+        let next = self.after(Fixed::Node, at)?;
+        let byte = self.byte(next);
+        let (name, next) = self.name(next)?;
+        let next = self.after(Fixed::Open, next)?;
+        let (inputs, next) = self.inputs(next)?;
+        let next = self.after(Fixed::Close, next)?;
+        let next = self.after(Fixed::Returns, next)?;
+        let next = self.after(Fixed::Open, next)?;
+        let (outputs, next) = self.declarations(next)?;
+        let next = self.after(Fixed::Close, next)?;
+        let heading = Heading {
+            name,
+            byte,
+            inputs,
+            outputs,
+        };
+        Ok((heading, self.past_semicolon(next)))
+    }
+
+    /// `"let" { equation ";" } "tel" [ ";" ]`
+    #[tactic(auto, unfolding(lusyn_grammar::specs::Reading::body))]
+    fn body(&self, at: usize) -> Result<(Vec<Equation>, usize), Stop>
+        ensures body { Gives self.now.tokens.now (λ x. (equations_view x.0.items, ahead self.now.tokens.now x.1)) result (reading.body (suc (length self.now.tokens.now)) (ahead self.now.tokens.now at)) }
+        ensures within { IfOk result (λ x. at < x.1) }
+    {
+        let next = self.after(Fixed::Let, at)?;
+        let (equations, next) = self.equations(next)?;
+        let next = self.after(Fixed::Tel, next)?;
+        Ok((equations, self.past_semicolon(next)))
+    }
+
+    #[tactic(auto, unfolding(lusyn_grammar::specs::Reading::node))]
+    fn node(&self, at: usize) -> Result<(Node, usize), Stop>
+        ensures node { Gives self.now.tokens.now (λ x. (node_view x.0, ahead self.now.tokens.now x.1)) result (reading.node (suc (length self.now.tokens.now)) (ahead self.now.tokens.now at)) }
+        ensures within { IfOk result (λ x. at < x.1) }
+    {
+        let (heading, next) = self.heading(at)?;
+        let (locals, next) = self.locals(next)?;
+        let (equations, next) = self.body(next)?;
+        let node = Node {
+            name: heading.name,
+            byte: heading.byte,
+            inputs: Row::new(heading.inputs),
+            outputs: Row::new(heading.outputs),
+            locals: Row::new(locals),
+            equations: Row::new(equations),
+        };
+        Ok((node, next))
+    }
+
+    fn further_node(&self, found: &mut Vec<Node>, at: usize) -> Result<usize, Stop>
+        ensures node { Gives self.now.tokens.now (λ next. (nodes_view found.new.items, ahead self.now.tokens.now next)) result (reading.further_node (suc (length self.now.tokens.now)) (nodes_view found.old.items) (ahead self.now.tokens.now at)) }
+        ensures within { IfOk result (λ next. at < next) }
+    {
+        let (node, next) = self.node(at)?;
+        found.push(node)?;
+        Ok(next)
+    }
+
+    /// `node { node }`
+    #[tactic(auto, unfolding(lusyn_grammar::specs::Reading::program))]
+    fn program(&self, at: usize) -> Result<(Vec<Node>, usize), Stop>
+        ensures { Gives self.now.tokens.now (λ x. (nodes_view x.0.items, ahead self.now.tokens.now x.1)) result (reading.program (suc (length self.now.tokens.now)) (ahead self.now.tokens.now at)) }
+    {
+        let mut found = Vec::new(self.alloc);
+        let mut next = self.further_node(&mut found, at)?;
+        while self.begins(Fixed::Node, next) {
+            next = self.further_node(&mut found, next)?;
+        }
+        Ok((found, next))
+    }
+}
+
+#[tactic(auto, unfolding(lusyn_grammar::specs::Reading::all_of))]
+fn all(alloc: Global, tokens: &[Lexeme<'_>], end: usize) -> Result<Program, Stop>
+    ensures { Gives tokens.now program_view result (reading.all_of (toks tokens.now)) }
+{
+    let reader = Reader { alloc, tokens, end };
+    let (nodes, next) = reader.program(0)?;
+    match reader.token(next) {
+        None => Ok(Program {
+            nodes: Row::new(nodes),
+        }),
+        Some(_) => Err(Stop::Refused(next)),
+    }
+}
+
+/// The program that all of the tokens spell. The text ends at the given place.
+#[tactic(auto, using(crate::proofs::Whole::spelled_by))]
+pub fn parse_tokens(alloc: Global, tokens: &[Lexeme<'_>], end: usize) -> Result<Program, ParseError>
+    // What is answered is spelled so.
+    ensures spelled { IfOk result (λ found. Spells (toks tokens.now) (program_view found)) }
+    // What is spelled so is answered, unless memory runs out. So no tokens spell two programs.
+    ensures only { (tree : ProgramTree) → Spells (toks tokens.now) tree → IsAnswered result tree }
+    // The tokens before the one that is told begin a program, and no program goes on with it.
+    ensures refused { IfErr result (IsRefused (located tokens.now) end) }
+    // Where that is so at a place, it is told, unless memory runs out.
+    ensures refuses { (byte : ℕ) → IsWrongFrom (located tokens.now) end byte → IsRefusedAt result byte }
+{
+    match all(alloc, tokens, end) {
+        Ok(program) => Ok(program),
+        Err(Stop::Refused(at)) => Err(ParseError::Syntax {
+            byte: byte_of(tokens, end, at),
+        }),
+        Err(Stop::OutOfMemory) => Err(ParseError::OutOfMemory),
+    }
+}

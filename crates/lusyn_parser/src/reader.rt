@@ -1,0 +1,728 @@
+//! From tokens to the tree, from left to right. A place here is an index into the tokens.
+
+ghost use Rattle.std.specs.Prelude.{◌≡◌, ◌≢◌, ◌+◌, ◌<◌, ◌++◌, ◌≤◌, ℕ, suc, true, Ok, [], ◌∷◌, length, map, MatchOption, IfOk};
+ghost use Rattle.std.specs.Result.{IfErr};
+ghost use Rattle.lutree.specs.Tree.{view, views, declarations_view, equation_view};
+ghost use Rattle.lutree.specs.Tree as t;
+ghost use Rattle.lusyn_tokens.specs.Tokens.{tok};
+ghost use Rattle.lusyn_grammar.specs.Grammar.{declared};
+ghost use Rattle.lusyn_grammar.specs.Reading as reading;
+ghost use Rattle.lusyn_parser.specs.Gives.{Gives, GivesPlace, EndsOperand, atom, ahead, next_view, operand_view, name_behind, names_view, equations_view};
+
+use crate::error::Stop;
+use crate::pieces::{Next, Operand, PlacedName, byte_of, copied, operand_of, plain};
+use lulist::{Name, Number, Row};
+use lusyn_grammar::{binding_of, infix_of, prefix_of};
+use lusyn_tokens::{Fixed, Lexeme, Token};
+use lutree::{Condition, Declaration, Equation, Expr, Infix, Kind, Prefix};
+use std::alloc::Global;
+
+#[derive(Clone, Copy)]
+pub(crate) struct Reader<'t> {
+    pub(crate) alloc: Global,
+    pub(crate) tokens: &'t [Lexeme<'t>],
+    /// The length of the text.
+    pub(crate) end: usize,
+}
+
+/// Tokens.
+impl<'t> Reader<'t> {
+    pub(crate) fn token(&self, at: usize) -> Option<Token<'t>>
+        ensures { MatchOption result (ahead self.now.tokens.now at ≡ []) (λ x. (ahead self.now.tokens.now at ≡ tok x ∷ ahead self.now.tokens.now (at + 1)) × (at < length self.now.tokens.now)) }
+    {
+        match self.tokens.get(at) {
+            Some(lexeme) => Some(lexeme.token),
+            None => None,
+        }
+    }
+
+    /// The place in the text of this token, or the text's end.
+    pub(crate) fn byte(&self, at: usize) -> usize {
+        byte_of(self.tokens, self.end, at)
+    }
+
+    /// A number above that of the tokens, which no nesting and no repetition reaches.
+    fn bound(&self) -> usize
+        ensures { result ≡ (suc (length self.now.tokens.now)) }
+    {
+        self.tokens.len() + 1
+    }
+
+    /// The place after this token, if it stands here.
+    fn passed(&self, wanted: Fixed, at: usize) -> Option<usize>
+        ensures after { GivesPlace self.now.tokens.now at result (reading.after wanted (ahead self.now.tokens.now at)) }
+        ensures within { MatchOption result (Unit {0}) (λ next. (next ≡ at + 1) × (at < length self.now.tokens.now)) }
+    {
+        match self.token(at) {
+            Some(Token::Fixed(found)) if found == wanted => Some(at + 1),
+            _ => None,
+        }
+    }
+
+    pub(crate) fn begins(&self, wanted: Fixed, at: usize) -> bool
+        ensures begins { result ≡ reading.begins wanted (ahead self.now.tokens.now at) }
+        ensures within { result ≡ true → at < length self.now.tokens.now }
+    {
+        self.passed(wanted, at).is_some()
+    }
+
+    /// The place after this token, which has to stand here.
+    pub(crate) fn after(&self, wanted: Fixed, at: usize) -> Result<usize, Stop>
+        ensures after { Gives self.now.tokens.now (ahead self.now.tokens.now) result (reading.after wanted (ahead self.now.tokens.now at)) }
+        ensures within { IfOk result (λ next. next ≡ at + 1) }
+    {
+        match self.passed(wanted, at) {
+            Some(next) => Ok(next),
+            None => Err(Stop::Refused(at)),
+        }
+    }
+
+    /// The place after a semicolon that may be left out.
+    pub(crate) fn past_semicolon(&self, at: usize) -> usize
+        ensures past { ahead self.now.tokens.now result ≡ reading.past Fixed.Semicolon (ahead self.now.tokens.now at) }
+        ensures within { at ≤ result }
+    {
+        match self.passed(Fixed::Semicolon, at) {
+            Some(next) => next,
+            None => at,
+        }
+    }
+
+    fn begins_name(&self, at: usize) -> bool
+        ensures begins { result ≡ reading.begins_name (ahead self.now.tokens.now at) }
+        ensures within { result ≡ true → at < length self.now.tokens.now }
+    {
+        matches!(self.token(at), Some(Token::Name(_)))
+    }
+
+    pub(crate) fn name(&self, at: usize) -> Result<(Name, usize), Stop>
+        ensures name { Gives self.now.tokens.now (λ x. (x.0, ahead self.now.tokens.now x.1)) result (reading.name (ahead self.now.tokens.now at)) }
+        ensures within { IfOk result (λ x. x.1 ≡ at + 1) }
+    {
+        match self.token(at) {
+            Some(Token::Name(name)) => Ok((Name::from_text(self.alloc, name)?, at + 1)),
+            _ => Err(Stop::Refused(at)),
+        }
+    }
+
+    /// The clock of this sign on the variable that is named here.
+    fn signed(&self, sign: bool, at: usize) -> Result<(Condition, usize), Stop>
+        ensures condition { Gives self.now.tokens.now (λ x. (x.0, ahead self.now.tokens.now x.1)) result (reading.signed sign (reading.name (ahead self.now.tokens.now at))) }
+        ensures within { IfOk result (λ x. at < x.1) }
+    {
+        let (variable, next) = self.name(at)?;
+        Ok((Condition { variable, sign }, next))
+    }
+
+    /// `[ "not" ] ident`
+    fn condition(&self, at: usize) -> Result<(Condition, usize), Stop>
+        ensures condition { Gives self.now.tokens.now (λ x. (x.0, ahead self.now.tokens.now x.1)) result (reading.condition (ahead self.now.tokens.now at)) }
+        ensures within { IfOk result (λ x. at < x.1) }
+    {
+        match self.passed(Fixed::Not, at) {
+            Some(next) => self.signed(false, next),
+            None => self.signed(true, at),
+        }
+    }
+
+    fn next_of(&self, at: usize) -> Next
+        ensures next { next_view result ≡ reading.next (ahead self.now.tokens.now at) }
+        ensures past { result ≢ Next.Nothing → ahead self.now.tokens.now (at + 1) ≡ reading.tail (ahead self.now.tokens.now at) }
+        ensures within { result ≢ Next.Nothing → at < length self.now.tokens.now }
+    {
+        match self.token(at) {
+            Some(Token::Fixed(Fixed::When)) => Next::Clock,
+            Some(Token::Fixed(Fixed::Open)) => Next::Parenthesis,
+            Some(Token::Fixed(fixed)) => match infix_of(fixed) {
+                Some(op) => Next::Operator(op),
+                None => Next::Nothing,
+            },
+            _ => Next::Nothing,
+        }
+    }
+}
+
+/// Expressions from their operands.
+impl<'t> Reader<'t> {
+    fn unary(&self, op: Prefix, a: Expr) -> Result<Expr, Stop>
+        ensures { Gives self.now.tokens.now view result (Ok (t.unary op (view a))) }
+    {
+        Ok(Expr::Unary(op, Box::new(self.alloc, a)?))
+    }
+
+    fn binary(&self, op: Infix, a: Expr, b: Expr) -> Result<Expr, Stop>
+        ensures { Gives self.now.tokens.now view result (Ok (t.binary op (view a) (view b))) }
+    {
+        let a = Box::new(self.alloc, a)?;
+        Ok(Expr::Binary(op, a, Box::new(self.alloc, b)?))
+    }
+
+    fn choice_of(&self, test: Expr, a: Expr, b: Expr) -> Result<Expr, Stop>
+        ensures { Gives self.now.tokens.now view result (Ok (t.choice (view test) (view a) (view b))) }
+    {
+        let test = Box::new(self.alloc, test)?;
+        let a = Box::new(self.alloc, a)?;
+        Ok(Expr::If(test, a, Box::new(self.alloc, b)?))
+    }
+
+    fn when(&self, a: Expr, clock: Condition) -> Result<Expr, Stop>
+        ensures { Gives self.now.tokens.now view result (Ok (t.when (view a) clock)) }
+    {
+        Ok(Expr::When(Box::new(self.alloc, a)?, clock))
+    }
+
+    fn merge_of(&self, variable: Name, a: Expr, b: Expr) -> Result<Expr, Stop>
+        ensures { Gives self.now.tokens.now view result (Ok (t.merge variable (view a) (view b))) }
+    {
+        let a = Box::new(self.alloc, a)?;
+        Ok(Expr::Merge(variable, a, Box::new(self.alloc, b)?))
+    }
+
+    /// What was read, and the closing parenthesis after it.
+    fn closed(&self, read: (Expr, usize)) -> Result<(Expr, usize), Stop>
+        ensures closed { Gives self.now.tokens.now (λ x. (view x.0, ahead self.now.tokens.now x.1)) result (reading.closed (Ok (view read.0, ahead self.now.tokens.now read.1))) }
+        ensures within { IfOk result (λ x. read.1 ≤ x.1) }
+    {
+        let (found, next) = read;
+        Ok((found, self.after(Fixed::Close, next)?))
+    }
+
+    /// After `current`.
+    fn current(&self, at: usize) -> Result<(Expr, usize), Stop>
+        ensures within { IfOk result (λ x. at ≤ x.1) }
+        ensures current { Gives self.now.tokens.now (λ x. (view x.0, ahead self.now.tokens.now x.1)) result (reading.current (ahead self.now.tokens.now at)) }
+    {
+        let (variable, next) = self.name(at)?;
+        Ok((Expr::Current(variable), next))
+    }
+}
+
+/// Names and constants.
+impl<'t> Reader<'t> {
+    /// Whether a name or a constant before this place is not called, and no operator of this level or above follows it.
+    fn ends_at(&self, least: u8, at: usize) -> bool
+        ensures { result ≡ true → EndsOperand least (ahead self.now.tokens.now at) }
+    {
+        if self.begins(Fixed::Open, at) {
+            return false;
+        }
+        match self.next_of(at) {
+            Next::Operator(op) => {
+                let binding = binding_of(op);
+                if least <= binding.level {
+                    return false;
+                }
+                true
+            }
+            Next::Clock | Next::Parenthesis => false,
+            Next::Nothing => true,
+        }
+    }
+
+    /// Whether an expression of this level or above is a name or a constant alone.
+    fn is_atom(&self, least: u8, at: usize) -> bool
+        ensures { result ≡ true → (depth : ℕ) → reading.expr (suc depth) least (ahead self.now.tokens.now at) ≡ atom (ahead self.now.tokens.now at) }
+    {
+        match self.token(at) {
+            Some(Token::Name(_)) => self.ends_at(least, at + 1),
+            Some(Token::Number(_)) => self.ends_at(least, at + 1),
+            Some(Token::Fixed(Fixed::True)) => self.ends_at(least, at + 1),
+            Some(Token::Fixed(Fixed::False)) => self.ends_at(least, at + 1),
+            _ => false,
+        }
+    }
+
+    /// A name or a constant alone.
+    fn atom(&self, at: usize) -> Result<(Expr, usize), Stop>
+        ensures atom { Gives self.now.tokens.now (λ x. (view x.0, ahead self.now.tokens.now x.1)) result (atom (ahead self.now.tokens.now at)) }
+        ensures within { IfOk result (λ x. at ≤ x.1) }
+    {
+        match self.token(at) {
+            Some(Token::Name(name)) => {
+                Ok((Expr::Variable(Name::from_text(self.alloc, name)?), at + 1))
+            }
+            Some(Token::Number(n)) => Ok((Expr::Number(Number::at_most(n)), at + 1)),
+            Some(Token::Fixed(Fixed::True)) => Ok((Expr::Truth(true), at + 1)),
+            Some(Token::Fixed(Fixed::False)) => Ok((Expr::Truth(false), at + 1)),
+            _ => Err(Stop::Refused(at)),
+        }
+    }
+}
+
+/// Expressions. A depth bounds how deeply they are nested.
+impl<'t> Reader<'t> {
+    /// An expression of this level or above, and the place after it.
+    #[cycle(parser)]
+    fn expr(&self, depth: usize, least: u8, at: usize) -> Result<(Expr, usize), Stop>
+        ensures expr { Gives self.now.tokens.now (λ x. (view x.0, ahead self.now.tokens.now x.1)) result (reading.expr depth least (ahead self.now.tokens.now at)) }
+        ensures within { IfOk result (λ x. at ≤ x.1) }
+    {
+        if depth == 0 {
+            return Err(Stop::Refused(at));
+        }
+        if self.is_atom(least, at) {
+            return self.atom(at);
+        }
+        self.compound(depth - 1, least, at)
+    }
+
+    /// An operand, and the operators after it.
+    #[cycle(parser)]
+    #[tactic(auto, unfolding(lusyn_grammar::specs::Reading::expr, lusyn_grammar::specs::Reading::whole))]
+    fn compound(&self, depth: usize, least: u8, at: usize) -> Result<(Expr, usize), Stop>
+        ensures expr { Gives self.now.tokens.now (λ x. (view x.0, ahead self.now.tokens.now x.1)) result (reading.expr (suc depth) least (ahead self.now.tokens.now at)) }
+        ensures within { IfOk result (λ x. at ≤ x.1) }
+    {
+        let operand = self.head(depth, least, at)?;
+        self.climb(depth, depth, least, operand)
+    }
+
+    /// An operand before any operator follows it.
+    #[cycle(parser)]
+    #[tactic(auto, unfolding(lusyn_grammar::specs::Reading::head, lusyn_grammar::specs::Reading::inside))]
+    fn head(&self, depth: usize, least: u8, at: usize) -> Result<Operand, Stop>
+        ensures head { Gives self.now.tokens.now (operand_view self.now.tokens.now) result (reading.head (reading.expr depth) depth least (ahead self.now.tokens.now at)) }
+        ensures within { IfOk result (λ x. at ≤ x.next) }
+    {
+        match self.token(at) {
+            Some(Token::Name(name)) => Ok(operand_of(10, self.named(depth, name, at + 1)?)),
+            Some(Token::Number(n)) => {
+                Ok(operand_of(10, (Expr::Number(Number::at_most(n)), at + 1)))
+            },
+            Some(Token::Fixed(Fixed::True)) => Ok(operand_of(10, (Expr::Truth(true), at + 1))),
+            Some(Token::Fixed(Fixed::False)) => Ok(operand_of(10, (Expr::Truth(false), at + 1))),
+            Some(Token::Fixed(Fixed::Merge)) => Ok(operand_of(10, self.merge(depth, at + 1)?)),
+            Some(Token::Fixed(Fixed::Open)) => {
+                let inner = self.expr(depth, 0, at + 1)?;
+                Ok(operand_of(10, self.closed(inner)?))
+            }
+            Some(Token::Fixed(Fixed::If)) => {
+                if least > 0 {
+                    return Err(Stop::Refused(at));
+                }
+                Ok(operand_of(0, self.choice(depth, at + 1)?))
+            }
+            Some(Token::Fixed(Fixed::Current)) => {
+                if least > 8 {
+                    return Err(Stop::Refused(at));
+                }
+                Ok(operand_of(8, self.current(at + 1)?))
+            }
+            Some(Token::Fixed(fixed)) => {
+                let Some(op) = prefix_of(fixed) else {
+                    return Err(Stop::Refused(at));
+                };
+                if least > 8 {
+                    return Err(Stop::Refused(at));
+                }
+                let (found, next) = self.expr(depth, 8, at + 1)?;
+                Ok(operand_of(8, (self.unary(op, found)?, next)))
+            }
+            None => Err(Stop::Refused(at)),
+        }
+    }
+
+    /// After `if`.
+    #[cycle(parser)]
+    #[tactic(auto, unfolding(lusyn_grammar::specs::Reading::choice))]
+    fn choice(&self, depth: usize, at: usize) -> Result<(Expr, usize), Stop>
+        ensures choice { Gives self.now.tokens.now (λ x. (view x.0, ahead self.now.tokens.now x.1)) result (reading.choice (reading.expr depth) (ahead self.now.tokens.now at)) }
+        ensures within { IfOk result (λ x. at ≤ x.1) }
+    {
+        let (test, next) = self.expr(depth, 0, at)?;
+        let next = self.after(Fixed::Then, next)?;
+        let (first, next) = self.expr(depth, 0, next)?;
+        let next = self.after(Fixed::Else, next)?;
+        let (second, next) = self.expr(depth, 0, next)?;
+        Ok((self.choice_of(test, first, second)?, next))
+    }
+
+    /// A branch of `merge`, with the truth that it begins with.
+    #[cycle(parser)]
+    #[tactic(auto, unfolding(lusyn_grammar::specs::Reading::branch, lusyn_grammar::specs::Reading::inside))]
+    fn branch(&self, depth: usize, sign: Fixed, at: usize) -> Result<(Expr, usize), Stop>
+        ensures branch { Gives self.now.tokens.now (λ x. (view x.0, ahead self.now.tokens.now x.1)) result (reading.branch (reading.expr depth) sign (ahead self.now.tokens.now at)) }
+        ensures within { IfOk result (λ x. at ≤ x.1) }
+    {
+        let next = self.after(Fixed::Open, at)?;
+        let next = self.after(sign, next)?;
+        let next = self.after(Fixed::Arrow, next)?;
+        let inner = self.expr(depth, 0, next)?;
+        self.closed(inner)
+    }
+
+    /// After `merge`.
+    #[cycle(parser)]
+    #[tactic(auto, unfolding(lusyn_grammar::specs::Reading::merge))]
+    fn merge(&self, depth: usize, at: usize) -> Result<(Expr, usize), Stop>
+        ensures merge { Gives self.now.tokens.now (λ x. (view x.0, ahead self.now.tokens.now x.1)) result (reading.merge (reading.expr depth) (ahead self.now.tokens.now at)) }
+        ensures within { IfOk result (λ x. at ≤ x.1) }
+    {
+        let (variable, next) = self.name(at)?;
+        let (first, next) = self.branch(depth, Fixed::True, next)?;
+        let (second, next) = self.branch(depth, Fixed::False, next)?;
+        Ok((self.merge_of(variable, first, second)?, next))
+    }
+
+    /// After a name.
+    #[cycle(parser)]
+    #[tactic(auto, unfolding(lusyn_grammar::specs::Reading::named))]
+    fn named(&self, depth: usize, name: &str, at: usize) -> Result<(Expr, usize), Stop>
+        ensures named { Gives self.now.tokens.now (λ x. (view x.0, ahead self.now.tokens.now x.1)) result (reading.named (reading.expr depth) depth name.now (ahead self.now.tokens.now at)) }
+        ensures within { IfOk result (λ x. at ≤ x.1) }
+    {
+        let name = Name::from_text(self.alloc, name)?;
+        let Some(next) = self.passed(Fixed::Open, at) else {
+            return Ok((Expr::Variable(name), at));
+        };
+        let (operands, next) = self.operands(depth, next)?;
+        Ok((Expr::Call(name, operands), next))
+    }
+
+    /// `[ expr { "," expr } ] ")"`
+    #[cycle(parser)]
+    #[tactic(auto, unfolding(lusyn_grammar::specs::Reading::operands))]
+    fn operands(&self, depth: usize, at: usize) -> Result<(Vec<Expr>, usize), Stop>
+        ensures operands { Gives self.now.tokens.now (λ x. (views x.0.items, ahead self.now.tokens.now x.1)) result (reading.operands (reading.expr depth) depth (ahead self.now.tokens.now at)) }
+        ensures within { IfOk result (λ x. at ≤ x.1) }
+    {
+        let mut found = Vec::new(self.alloc);
+        if let Some(next) = self.passed(Fixed::Close, at) {
+            return Ok((found, next));
+        }
+        let (first, next) = self.expr(depth, 0, at)?;
+        found.push(first)?;
+        let (found, next) = self.further_operands(depth, depth, found, next)?;
+        Ok((found, self.after(Fixed::Close, next)?))
+    }
+
+    /// The operands after those found, each with a comma before it, fewer than so many.
+    #[cycle(parser)]
+    #[tactic(auto, unfolding(lusyn_grammar::specs::Reading::many))]
+    fn further_operands(
+        &self,
+        depth: usize,
+        turns: usize,
+        mut found: Vec<Expr>,
+        at: usize,
+    ) -> Result<(Vec<Expr>, usize), Stop>
+        ensures operands { Gives self.now.tokens.now (λ x. (views x.0.items, ahead self.now.tokens.now x.1)) result (reading.many (reading.begins Fixed.Comma) (reading.further_operand (reading.expr depth)) turns (views found.items) (ahead self.now.tokens.now at)) }
+        ensures within { IfOk result (λ x. at ≤ x.1) }
+    {
+        let mut at = at;
+        for _ in 0..turns {
+            let Some(next) = self.passed(Fixed::Comma, at) else {
+                return Ok((found, at));
+            };
+            let (operand, next) = self.expr(depth, 0, next)?;
+            found.push(operand)?;
+            at = next;
+        }
+        Err(Stop::Refused(at))
+    }
+
+    /// The operators after an operand, at most so many.
+    #[cycle(parser)]
+    #[tactic(auto, unfolding(lusyn_grammar::specs::Reading::climb))]
+    fn climb(
+        &self,
+        depth: usize,
+        turns: usize,
+        least: u8,
+        operand: Operand,
+    ) -> Result<(Expr, usize), Stop>
+        ensures climb { Gives self.now.tokens.now (λ x. (view x.0, ahead self.now.tokens.now x.1)) result (reading.climb (reading.expr depth) turns least operand.level (view operand.found) (ahead self.now.tokens.now operand.next)) }
+        ensures within { IfOk result (λ x. operand.next ≤ x.1) }
+    {
+        let Operand {
+            mut level,
+            mut found,
+            mut next,
+        } = operand;
+        for _ in 0..turns {
+            match self.next_of(next) {
+                Next::Operator(op) => {
+                    let binding = binding_of(op);
+                    if least > binding.level {
+                        return Ok((found, next));
+                    }
+                    if binding.left > level {
+                        return Ok((found, next));
+                    }
+                    let (right, after) = self.expr(depth, binding.right, next + 1)?;
+                    found = self.binary(op, found, right)?;
+                    level = binding.level;
+                    next = after;
+                    continue;
+                }
+                Next::Clock => {
+                    if least > 9 {
+                        return Ok((found, next));
+                    }
+                    if level < 9 {
+                        return Ok((found, next));
+                    }
+                    let (clock, after) = self.condition(next + 1)?;
+                    found = self.when(found, clock)?;
+                    level = 9;
+                    next = after;
+                    continue;
+                }
+                Next::Parenthesis | Next::Nothing => return Ok((found, next)),
+            }
+        }
+        Ok((found, next))
+    }
+}
+
+/// Declarations.
+impl<'t> Reader<'t> {
+    /// Reads one more name, and gives the place after it.
+    fn name_behind(&self, found: &mut Vec<PlacedName>, at: usize) -> Result<usize, Stop>
+        ensures name { Gives self.now.tokens.now (λ next. (names_view found.new.items, ahead self.now.tokens.now next)) result (name_behind (names_view found.old.items) (ahead self.now.tokens.now at)) }
+        ensures within { IfOk result (λ next. at < next) }
+    {
+        let byte = self.byte(at);
+        let (name, next) = self.name(at)?;
+        found.push(PlacedName { name, byte })?;
+        Ok(next)
+    }
+
+    /// `{ "," ident }` after the names found
+    fn further_names(&self, found: &mut Vec<PlacedName>, at: usize) -> Result<usize, Stop>
+        ensures names { Gives self.now.tokens.now (λ next. (names_view found.new.items, ahead self.now.tokens.now next)) result (reading.many (reading.begins Fixed.Comma) reading.further_name (suc (length self.now.tokens.now)) (names_view found.old.items) (ahead self.now.tokens.now at)) }
+        ensures within { IfOk result (λ next. at ≤ next) }
+    {
+        let mut next = at;
+        while let Some(after) = self.passed(Fixed::Comma, next) {
+            next = self.name_behind(found, after)?;
+        }
+        Ok(next)
+    }
+
+    /// `ident { "," ident }`
+    #[tactic(auto, unfolding(lusyn_grammar::specs::Reading::names))]
+    fn names(&self, at: usize) -> Result<(Vec<PlacedName>, usize), Stop>
+        ensures names { Gives self.now.tokens.now (λ x. (names_view x.0.items, ahead self.now.tokens.now x.1)) result (reading.names (suc (length self.now.tokens.now)) (ahead self.now.tokens.now at)) }
+        ensures within { IfOk result (λ x. at < x.1) }
+    {
+        let byte = self.byte(at);
+        let (name, next) = self.name(at)?;
+        let mut found = vec![in self.alloc; PlacedName { name, byte }]?;
+        let next = self.further_names(&mut found, next)?;
+        Ok((found, next))
+    }
+
+    fn kind(&self, at: usize) -> Result<(Kind, usize), Stop>
+        ensures kind { Gives self.now.tokens.now (λ x. (x.0, ahead self.now.tokens.now x.1)) result (reading.kind (ahead self.now.tokens.now at)) }
+        ensures within { IfOk result (λ x. x.1 ≡ at + 1) }
+    {
+        match self.token(at) {
+            Some(Token::Fixed(Fixed::Int)) => Ok((Kind::Int, at + 1)),
+            Some(Token::Fixed(Fixed::Bool)) => Ok((Kind::Bool, at + 1)),
+            _ => Err(Stop::Refused(at)),
+        }
+    }
+
+    /// `[ "when" [ "not" ] ident ]`
+    fn clocked(&self, at: usize) -> Result<(Option<Condition>, usize), Stop>
+        ensures clock { Gives self.now.tokens.now (λ x. (x.0, ahead self.now.tokens.now x.1)) result (reading.clocked (ahead self.now.tokens.now at)) }
+        ensures within { IfOk result (λ x. at ≤ x.1) }
+    {
+        let Some(next) = self.passed(Fixed::When, at) else {
+            return Ok((None, at));
+        };
+        let (condition, next) = self.condition(next)?;
+        Ok((Some(condition), next))
+    }
+
+    /// Declares these names after those found.
+    fn declare(
+        &self,
+        found: &mut Vec<Declaration>,
+        names: &[PlacedName],
+        kind: Kind,
+        clock: &Option<Condition>,
+    ) -> Result<(), Stop>
+        ensures ok { IfOk result (λ _. declarations_view found.new.items ≡ declarations_view found.old.items ++ map (declared kind clock.now) (names_view names.now)) }
+        ensures err { IfErr result (λ e. e ≡ Stop.OutOfMemory) }
+    {
+        for placed in names {
+            let name = placed.name.copied(self.alloc)?;
+            let clock = copied(self.alloc, clock)?;
+            let byte = placed.byte;
+            found.push(Declaration {
+                name,
+                kind,
+                clock,
+                byte,
+            })?;
+        }
+        Ok(())
+    }
+
+    /// `ident { "," ident } ":" ( "int" | "bool" ) [ "when" [ "not" ] ident ]`
+    #[tactic(auto, unfolding(lusyn_grammar::specs::Reading::declaration))]
+    fn declaration(&self, found: &mut Vec<Declaration>, at: usize) -> Result<usize, Stop>
+        ensures declaration { Gives self.now.tokens.now (λ next. (declarations_view found.new.items, ahead self.now.tokens.now next)) result (reading.declaration (suc (length self.now.tokens.now)) (declarations_view found.old.items) (ahead self.now.tokens.now at)) }
+        ensures within { IfOk result (λ next. at < next) }
+    {
+        let (names, next) = self.names(at)?;
+        let next = self.after(Fixed::Colon, next)?;
+        let (kind, next) = self.kind(next)?;
+        let (clock, next) = self.clocked(next)?;
+        self.declare(found, names.as_slice(), kind, &clock)?;
+        Ok(next)
+    }
+
+    /// `decl { ";" decl }`
+    #[tactic(auto, unfolding(lusyn_grammar::specs::Reading::declarations))]
+    pub(crate) fn declarations(&self, at: usize) -> Result<(Vec<Declaration>, usize), Stop>
+        ensures declarations { Gives self.now.tokens.now (λ x. (declarations_view x.0.items, ahead self.now.tokens.now x.1)) result (reading.declarations (suc (length self.now.tokens.now)) (ahead self.now.tokens.now at)) }
+        ensures within { IfOk result (λ x. at ≤ x.1) }
+    {
+        let mut found = Vec::new(self.alloc);
+        let mut next = self.declaration(&mut found, at)?;
+        while let Some(after) = self.passed(Fixed::Semicolon, next) {
+            next = self.declaration(&mut found, after)?;
+        }
+        Ok((found, next))
+    }
+
+    /// `[ decls ]`
+    #[tactic(auto, unfolding(lusyn_grammar::specs::Reading::inputs))]
+    pub(crate) fn inputs(&self, at: usize) -> Result<(Vec<Declaration>, usize), Stop>
+        ensures declarations { Gives self.now.tokens.now (λ x. (declarations_view x.0.items, ahead self.now.tokens.now x.1)) result (reading.inputs (suc (length self.now.tokens.now)) (ahead self.now.tokens.now at)) }
+        ensures within { IfOk result (λ x. at ≤ x.1) }
+    {
+        if self.begins(Fixed::Close, at) {
+            return Ok((Vec::new(self.alloc), at));
+        }
+        self.declarations(at)
+    }
+
+    /// `decl ";"`
+    fn ended_declaration(&self, found: &mut Vec<Declaration>, at: usize) -> Result<usize, Stop>
+        ensures declaration { Gives self.now.tokens.now (λ next. (declarations_view found.new.items, ahead self.now.tokens.now next)) result (reading.ended_declaration (suc (length self.now.tokens.now)) (declarations_view found.old.items) (ahead self.now.tokens.now at)) }
+        ensures within { IfOk result (λ next. at < next) }
+    {
+        let next = self.declaration(found, at)?;
+        self.after(Fixed::Semicolon, next)
+    }
+
+    /// `[ "var" decl ";" { decl ";" } ]`
+    #[tactic(auto, unfolding(lusyn_grammar::specs::Reading::locals))]
+    pub(crate) fn locals(&self, at: usize) -> Result<(Vec<Declaration>, usize), Stop>
+        ensures declarations { Gives self.now.tokens.now (λ x. (declarations_view x.0.items, ahead self.now.tokens.now x.1)) result (reading.locals (suc (length self.now.tokens.now)) (ahead self.now.tokens.now at)) }
+        ensures within { IfOk result (λ x. at ≤ x.1) }
+    {
+        let mut found = Vec::new(self.alloc);
+        let Some(after) = self.passed(Fixed::Var, at) else {
+            return Ok((found, at));
+        };
+        let mut next = self.ended_declaration(&mut found, after)?;
+        while self.begins_name(next) {
+            next = self.ended_declaration(&mut found, next)?;
+        }
+        Ok((found, next))
+    }
+}
+
+/// Equations.
+impl<'t> Reader<'t> {
+    /// `ident "=" expr`
+    #[tactic(auto, unfolding(lusyn_grammar::specs::Reading::single))]
+    fn single(&self, at: usize) -> Result<(Equation, usize), Stop>
+        ensures equation { Gives self.now.tokens.now (λ x. (equation_view x.0, ahead self.now.tokens.now x.1)) result (reading.single (suc (length self.now.tokens.now)) (ahead self.now.tokens.now at)) }
+        ensures within { IfOk result (λ x. at < x.1) }
+    {
+        let byte = self.byte(at);
+        let (name, next) = self.name(at)?;
+        let next = self.after(Fixed::Equal, next)?;
+        let (right, next) = self.expr(self.bound(), 0, next)?;
+        let left = Row::new(vec![in self.alloc; name]?);
+        Ok((Equation { left, right, byte }, next))
+    }
+
+    /// `ident "(" [ expr { "," expr } ] ")"`
+    #[tactic(auto, unfolding(lusyn_grammar::specs::Reading::call))]
+    fn call(&self, at: usize) -> Result<(Expr, usize), Stop>
+        ensures call { Gives self.now.tokens.now (λ x. (view x.0, ahead self.now.tokens.now x.1)) result (reading.call (suc (length self.now.tokens.now)) (ahead self.now.tokens.now at)) }
+        ensures within { IfOk result (λ x. at < x.1) }
+    {
+        let (name, next) = self.name(at)?;
+        let next = self.after(Fixed::Open, next)?;
+        let (operands, next) = self.operands(self.bound(), next)?;
+        Ok((Expr::Call(name, operands), next))
+    }
+
+    /// After the parenthesis that opens them, two names and more, up to the one that closes them.
+    #[tactic(auto, unfolding(lusyn_grammar::specs::Reading::tuple_names))]
+    fn tuple_names(&self, at: usize) -> Result<(Vec<PlacedName>, usize), Stop>
+        ensures names { Gives self.now.tokens.now (λ x. (names_view x.0.items, ahead self.now.tokens.now x.1)) result (reading.tuple_names (suc (length self.now.tokens.now)) (ahead self.now.tokens.now at)) }
+        ensures within { IfOk result (λ x. at < x.1) }
+    {
+        let byte = self.byte(at);
+        let (name, next) = self.name(at)?;
+        let mut found = vec![in self.alloc; PlacedName { name, byte }]?;
+        let next = self.after(Fixed::Comma, next)?;
+        let next = self.name_behind(&mut found, next)?;
+        let next = self.further_names(&mut found, next)?;
+        Ok((found, self.after(Fixed::Close, next)?))
+    }
+
+    /// After the parenthesis that opens the names: `ident "," ident { "," ident } ")" "=" call`
+    #[tactic(auto, unfolding(lusyn_grammar::specs::Reading::tuple))]
+    fn tuple(&self, at: usize, byte: usize) -> Result<(Equation, usize), Stop>
+        ensures equation { Gives self.now.tokens.now (λ x. (equation_view x.0, ahead self.now.tokens.now x.1)) result (reading.tuple (suc (length self.now.tokens.now)) (ahead self.now.tokens.now at)) }
+        ensures within { IfOk result (λ x. at < x.1) }
+    {
+        let (names, next) = self.tuple_names(at)?;
+        let next = self.after(Fixed::Equal, next)?;
+        let (right, next) = self.call(next)?;
+        let left = plain(self.alloc, names.as_slice())?;
+        Ok((Equation { left, right, byte }, next))
+    }
+
+    #[tactic(auto, unfolding(lusyn_grammar::specs::Reading::equation))]
+    fn equation(&self, at: usize) -> Result<(Equation, usize), Stop>
+        ensures equation { Gives self.now.tokens.now (λ x. (equation_view x.0, ahead self.now.tokens.now x.1)) result (reading.equation (suc (length self.now.tokens.now)) (ahead self.now.tokens.now at)) }
+        ensures within { IfOk result (λ x. at < x.1) }
+    {
+        match self.passed(Fixed::Open, at) {
+            Some(next) => self.tuple(next, self.byte(at)),
+            None => self.single(at),
+        }
+    }
+
+    /// `equation ";"`
+    fn ended_equation(&self, found: &mut Vec<Equation>, at: usize) -> Result<usize, Stop>
+        ensures equation { Gives self.now.tokens.now (λ next. (equations_view found.new.items, ahead self.now.tokens.now next)) result (reading.ended_equation (suc (length self.now.tokens.now)) (equations_view found.old.items) (ahead self.now.tokens.now at)) }
+        ensures within { IfOk result (λ next. at < next) }
+    {
+        let (equation, next) = self.equation(at)?;
+        let next = self.after(Fixed::Semicolon, next)?;
+        found.push(equation)?;
+        Ok(next)
+    }
+
+    fn begins_equation(&self, at: usize) -> bool
+        ensures begins { result ≡ reading.begins_equation (ahead self.now.tokens.now at) }
+        ensures within { result ≡ true → at < length self.now.tokens.now }
+    {
+        self.begins_name(at) || self.begins(Fixed::Open, at)
+    }
+
+    #[tactic(auto, unfolding(lusyn_grammar::specs::Reading::equations))]
+    pub(crate) fn equations(&self, at: usize) -> Result<(Vec<Equation>, usize), Stop>
+        ensures equations { Gives self.now.tokens.now (λ x. (equations_view x.0.items, ahead self.now.tokens.now x.1)) result (reading.equations (suc (length self.now.tokens.now)) (ahead self.now.tokens.now at)) }
+        ensures within { IfOk result (λ x. at ≤ x.1) }
+    {
+        let mut found = Vec::new(self.alloc);
+        let mut next = at;
+        while self.begins_equation(next) {
+            next = self.ended_equation(&mut found, next)?;
+        }
+        Ok((found, next))
+    }
+}

@@ -1,0 +1,10 @@
+use Rattle.std.proofs.Common.{◌++◌, ℕ, List, ap, ◌∙◌, string_bytes, codes}
+use Rattle.lusyn_printer.proofs.Joined.{joined_loop}
+use Rattle.lusyn_printer.proofs.Operands.{operand, operands_each}
+use Rattle.lusyn_printer.proofs.expr.+printing.Goals as goal
+
+pub put_operands-returns-after-loop-other : goal.put_operands-returns-after-loop-other
+put_operands-returns-after-loop-other t c =
+    joined_loop (codes ", ") operand c.first-item.result c.args.arguments.now c.loop-other.other-index (string_bytes c.args.text.now) (string_bytes c.put_expr.new.text) (string_bytes c.loop-other.text)
+    c.in-len1-up.len_at_least c.first-item.is c.loop-other-test.false c.in_ok-put_expr-in-len1-up.ensures c.loop-other.invariant
+    ∙ ap (λ (text : List ℕ). string_bytes c.args.text.now ++ text) (operands_each c.args.arguments.now)

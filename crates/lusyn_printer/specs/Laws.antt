@@ -1,0 +1,17 @@
+-- What holds of the canonical text of every program that a text spells.
+use Rattle.std.specs.Prelude.{ℕ, List, map}
+use Rattle.std.specs.Str.{IsAscii}
+use Rattle.lutree.specs.Tree.{ProgramTree}
+use Rattle.lusyn_lexer.specs.Lexing.{Placed, HasTokens}
+use Rattle.lusyn_lexer.specs.Runs.{HasShortRuns}
+use Rattle.lusyn_grammar.specs.Grammar.{Spells}
+use Rattle.lusyn_printer.specs.Canonical.{canonical}
+
+-- it has tokens, they spell the same program, and no run of them is too long where none of the text was
+abbrev pub ReadBackLaw : Type 0
+ReadBackLaw = (text : List ℕ) (ts : List Placed) (p : ProgramTree) → HasTokens text ts → Spells (map (λ x. x.1) ts) p
+    → (us : List Placed) × HasTokens (canonical p) us × Spells (map (λ x. x.1) us) p × (HasShortRuns ts → HasShortRuns us)
+
+-- all its bytes are below 128
+abbrev pub AsciiLaw : Type 0
+AsciiLaw = (text : List ℕ) (ts : List Placed) (p : ProgramTree) → HasTokens text ts → Spells (map (λ x. x.1) ts) p → IsAscii (canonical p)

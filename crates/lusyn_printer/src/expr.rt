@@ -1,0 +1,105 @@
+//! Expressions.
+
+ghost use Rattle.std.specs.Prelude.{◌≡◌, ◌++◌, ◌≤◌, IfOk, string_bytes};
+ghost use Rattle.lutree.specs.Tree.{view, views, trees_of};
+ghost use Rattle.lusyn_grammar.specs.Printing.{written, writtens, placed};
+ghost use Rattle.lusyn_printer.specs.Canonical.{expression, operands, further, when_text};
+
+use crate::levels::{infix_text, level_of, prefix_text};
+use lusyn_grammar::binding_of;
+use lutree::{Condition, Expr};
+use std::alloc::AllocError;
+
+/// ` when c` or ` when not c`.
+pub(crate) fn put_when(text: &mut String, condition: &Condition) -> Result<(), AllocError>
+    ensures { IfOk result (λ _. string_bytes text.new ≡ string_bytes text.old ++ when_text condition.now) }
+{
+    text.push_str(" when ")?;
+    if !condition.sign {
+        text.push_str("not ")?;
+    }
+    text.push_str(condition.variable.as_str())
+}
+
+/// An expression in a place that asks for this level, in parentheses where it binds less tightly.
+#[cycle(printing)]
+fn put_operand(text: &mut String, e: &Expr, least: u8) -> Result<(), AllocError>
+    ensures { IfOk result (λ _. string_bytes text.new ≡ string_bytes text.old ++ expression (placed least (written (view e.now)))) }
+{
+    if least <= level_of(e) {
+        return put_expr(text, e);
+    }
+    text.push('(')?;
+    put_expr(text, e)?;
+    text.push(')')
+}
+
+/// An expression.
+#[cycle(printing)]
+pub(crate) fn put_expr(text: &mut String, e: &Expr) -> Result<(), AllocError>
+    ensures { IfOk result (λ _. string_bytes text.new ≡ string_bytes text.old ++ expression (written (view e.now))) }
+{
+    match e {
+        Expr::Number(n) => write!(text, "{}", n.value()),
+        Expr::Truth(truth) => write!(text, "{truth}"),
+        Expr::Variable(x) => text.push_str(x.as_str()),
+        Expr::Current(x) => {
+            text.push_str("current ")?;
+            text.push_str(x.as_str())
+        }
+        Expr::Unary(op, a) => {
+            text.push_str(prefix_text(*op))?;
+            text.push(' ')?;
+            put_operand(text, a, 8)
+        }
+        Expr::Binary(op, a, b) => {
+            let binding = binding_of(*op);
+            put_operand(text, a, binding.left)?;
+            text.push_str(infix_text(*op))?;
+            put_operand(text, b, binding.right)
+        }
+        Expr::If(a, b, c) => {
+            text.push_str("if ")?;
+            put_expr(text, a)?;
+            text.push_str(" then ")?;
+            put_expr(text, b)?;
+            text.push_str(" else ")?;
+            put_expr(text, c)
+        }
+        Expr::When(a, condition) => {
+            put_operand(text, a, 9)?;
+            put_when(text, condition)
+        }
+        Expr::Merge(x, a, b) => {
+            write!(text, "merge {} (true -> ", x.as_str())?;
+            put_expr(text, a)?;
+            text.push_str(") (false -> ")?;
+            put_expr(text, b)?;
+            text.push_str(")")
+        }
+        Expr::Call(f, arguments) => {
+            text.push_str(f.as_str())?;
+            text.push_str("(")?;
+            put_operands(text, arguments)?;
+            text.push_str(")")
+        }
+    }
+}
+
+/// `a, b`
+#[cycle(printing)]
+fn put_operands(text: &mut String, arguments: &[Expr]) -> Result<(), AllocError>
+    ensures { IfOk result (λ _. string_bytes text.new ≡ string_bytes text.old ++ operands (writtens (trees_of (views arguments.now)))) }
+{
+    match arguments {
+        [] => Ok(()),
+        [first, others @ ..] => {
+            put_expr(text, first)?;
+            for other in others {
+                text.push_str(", ")?;
+                put_expr(text, other)?;
+            }
+            Ok(())
+        }
+    }
+}
