@@ -1,5 +1,6 @@
 -- What flattening gives.
 use Rattle.std.specs.Prelude.{◌≡◌, ℕ, ◌<◌, ◌≤◌, List, Some, slice_get, slice_index}
+use Rattle.lulimits.specs.Limits.{most_flows}
 use Rattle.lutree.specs.Tree.{ProgramTree}
 use Rattle.luflow.specs.declared.variable.Variable.{Variable}
 use Rattle.luflow.specs.Program.{FlatProgram, Table, flows_of}
@@ -33,14 +34,14 @@ pub record IsFlatOf (program : ProgramTree) (main : List ℕ) (flat : FlatProgra
 pub record IsTooLarge (program : ProgramTree) (main : List ℕ) : Type 0 where
   pub flat : FlatProgram
   pub laid_out : IsLaidOut program main flat
-  pub large : 4096 < flows_of flat
+  pub large : most_flows < flows_of flat
 
 -- The list of the source isn't too large, and the least flow of it that reads itself through a chain of reads stands in the
 -- equation of the variable of this name. So does an occurrence of the source that reads itself through a chain.
 pub record ReadsItself (program : ProgramTree) (main : List ℕ) (name : List ℕ) : Type 0 where
   pub flat : FlatProgram
   pub laid_out : IsLaidOut program main flat
-  pub few : flows_of flat ≤ 4096
+  pub few : flows_of flat ≤ most_flows
   pub place : ℕ
   pub least : IsLeastOnCycle (reads_of flat) place
   pub owner : Variable

@@ -5,11 +5,9 @@ ghost use Rattle.lutree.specs.Tree.{program_view};
 ghost use Rattle.lucore_size.specs.Counted.{AreCounted, IsTooLarge, IsTooLong};
 
 use crate::count::{count_of, node_count};
+use lulimits::limits::MOST_FLOWS;
 use lustat::Checked;
 use std::alloc::{AllocError, Global};
-
-/// The most flows that a flat list may have.
-const MOST_FLOWS: usize = 4096;
 
 /// The sizes of a program's nodes, by place in the text, each counted up to 4,097.
 ///

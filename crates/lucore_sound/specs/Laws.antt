@@ -1,5 +1,6 @@
 -- What the flat list of an accepted program keeps.
 use Rattle.std.specs.Prelude.{◌≡◌, ◌≤◌, ℕ, List, ◌++◌, Some, slice_get, All}
+use Rattle.lulimits.specs.Limits.{most_flows}
 use Rattle.lutree.specs.Tree.{ProgramTree}
 use Rattle.luflow.specs.declared.form.Flow.{Flow}
 use Rattle.luflow.specs.declared.form.Form.TheVariants.{Input}
@@ -35,4 +36,4 @@ InsideLaw = (p : ProgramTree) (main : List ℕ) (flat : FlatProgram) → IsAccep
 abbrev pub FlatLaw : Type 0
 FlatLaw =
     (p : ProgramTree) (main : List ℕ) (flat : FlatProgram)
-    → IsAccepted p main → DefineSomething p → IsLaidOut p main flat → IsOrdered flat → IsRankOrder (reads_of flat) flat.order → flows_of flat ≤ 4096 → IsFlat flat
+    → IsAccepted p main → DefineSomething p → IsLaidOut p main flat → IsOrdered flat → IsRankOrder (reads_of flat) flat.order → flows_of flat ≤ most_flows → IsFlat flat

@@ -1,5 +1,6 @@
 -- What every flat program of the product keeps.
 use Rattle.std.specs.Prelude.{◌≡◌, ℕ, ◌<◌, ◌≤◌, ◌⊎◌, List, ◌++◌, length, All, slice_get, slice_index, Some}
+use Rattle.lulimits.specs.Limits.{most_flows}
 use Rattle.luflow.specs.declared.form.Flow.{Flow}
 use Rattle.luflow.specs.declared.form.Form.TheVariants.{Input}
 use Rattle.luflow.specs.declared.variable.Variable.{Variable}
@@ -13,12 +14,12 @@ use Rattle.luflow.specs.Sound.{IsSound}
 abbrev pub IsWithin : FlatProgram → ℕ → ℕ → Type 0
 IsWithin flat i r = (r < length flat.variables) ⊎ (slice_index flat.owners r ≡ slice_index flat.owners i)
 
--- It is in order of rank and sound, small enough, and its main variables come first, and of these the inputs; the inputs are the flows that read the table, column by column. (profile: at most 4,096 flows)
+-- It is in order of rank and sound, small enough, and its main variables come first, and of these the inputs; the inputs are the flows that read the table, column by column.
 pub record IsFlat (flat : FlatProgram) : Type 0 where
   pub ordered : IsOrdered flat
   pub ranked : IsRankOrder (reads_of flat) flat.order
   pub sound : IsSound flat
-  pub few : flows_of flat ≤ 4096
+  pub few : flows_of flat ≤ most_flows
   pub owners_len : length flat.owners ≡ flows_of flat
   pub owners_in : All (λ v. v < length flat.variables) flat.owners
   pub inner : (i : ℕ) (flow : Flow) → flow_at flat i ≡ Some flow → All (IsWithin flat i) (places flow.form ++ clock_reads flow.clock)

@@ -2,6 +2,7 @@
 use Rattle.std.specs.Prelude.{◌≡◌, ℕ, ◌≤◌, List, [], ◌∷◌, map, length, All, Vec, string_bytes}
 use Rattle.std.specs.declared.string.String.{String}
 use Rattle.std.specs.declared.alloc.Global.{Global}
+use Rattle.lulimits.specs.Limits.{most_instants}
 use Rattle.luflow.specs.declared.data.Datum.{Datum}
 use Rattle.luflow.specs.declared.data.Status.{Status}
 use Rattle.luflow.specs.declared.variable.Variable.{Variable}
@@ -16,9 +17,9 @@ column_view x = record { name = string_bytes x.0; values = x.1.items }
 abbrev pub columns_view : List (String Global × Vec Datum Global) → List Column
 columns_view xs = map column_view xs
 
--- at most 1,000,000 instants, and each column has a value for each of them
+-- at most as many instants as a table may have, and each column has a value for each of them
 pub record IsTable (table : Table) : Type 0 where
-  pub few : table.instants ≤ 1000000
+  pub few : table.instants ≤ most_instants
   pub long : All (λ column. length column.values ≡ table.instants) table.columns
 
 -- The columns are those of these inputs, in order: of the input's name, and with a value of its type, never nil, at each instant.

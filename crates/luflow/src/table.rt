@@ -7,11 +7,9 @@ ghost use Rattle.luflow.specs.Tables.{IsTable, AreColumnsOf, Fits, columns_view}
 use crate::data::Datum;
 use crate::flat::Flat;
 use crate::variable::Variable;
+use lulimits::limits::MOST_INSTANTS;
 use lutree::Kind;
 use std::marker::Model;
-
-/// The most instants that a table may have.
-pub const MOST_INSTANTS: u32 = 1_000_000;
 
 /// The table of the main node's inputs: the number of instants, and for each input, in order of declaration, a name and a
 /// value for each instant. A contract sees the `Table` of `specs/Program.antt`.

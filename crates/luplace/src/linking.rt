@@ -1,6 +1,7 @@
 //! The links of a plan.
 
 ghost use Rattle.std.specs.Prelude.{◌≡◌, ◌≤◌, ◌++◌, length, slice_index, IfOk};
+ghost use Rattle.lulimits.specs.Limits.{most_sites};
 ghost use Rattle.luplace.specs.Marks.{marks_at, is_marked, sites_at, is_taken, some_links, links_below};
 
 use crate::lookup::number_at;
@@ -43,7 +44,7 @@ fn push_links(
     sites: &[u8],
     variable: usize,
 ) -> Result<(), AllocError>
-    requires { length rows.now ≤ 16 }
+    requires { length rows.now ≤ most_sites }
     ensures { IfOk result (λ _. links.new.items ≡ links.old.items ++ some_links rows.now owners.now sites.now variable (length rows.now)) }
 {
     let count = rows.len() as u8;
@@ -68,7 +69,7 @@ pub fn links_of(
     sites: &[u8],
     variables: usize,
 ) -> Result<Vec<Link>, AllocError>
-    requires { length rows.now ≤ 16 }
+    requires { length rows.now ≤ most_sites }
     ensures { IfOk result (λ links. links.items ≡ links_below rows.now owners.now sites.now variables) }
 {
     let mut links = Vec::new(alloc);

@@ -4,6 +4,7 @@ ghost use Rattle.std.specs.Prelude.{◌≡◌, ◌≤◌, ◌⊎◌, ◌==◌, t
 ghost use Rattle.luplace.specs.Placing.{site_name, number_of, site_of, is_variable, are_known, sites_of_variables, are_placed, are_together, refusal};
 ghost use Rattle.std.specs.Str.{bytes_eq};
 ghost use Rattle.std.specs.List.{list_all};
+ghost use Rattle.lulimits.specs.Limits.{most_sites};
 
 use crate::lookup::{number_at, site_at};
 use luflow::{Flat, Variable};
@@ -48,7 +49,7 @@ fn place_of(sites: &[Name], name: &str) -> Option<usize>
 }
 
 fn number_of(sites: &[Name], name: &str) -> Option<u8>
-    requires { length sites.now ≤ 16 }
+    requires { length sites.now ≤ most_sites }
     ensures { result ≡ number_of sites.now name.now }
 {
     match place_of(sites, name) {
@@ -59,7 +60,7 @@ fn number_of(sites: &[Name], name: &str) -> Option<u8>
 
 /// The number of the site at which a placement puts a variable.
 fn site_of(place: &Place, variable: &str) -> Option<u8>
-    requires { length place.now.sites ≤ 16 }
+    requires { length place.now.sites ≤ most_sites }
     ensures { result ≡ site_of place.now variable.now }
 {
     match site_name(place, variable) {
@@ -74,7 +75,7 @@ fn found_sites(
     variables: &[Variable],
     place: &Place,
 ) -> Result<Vec<Option<u8>>, AllocError>
-    requires { length place.now.sites ≤ 16 }
+    requires { length place.now.sites ≤ most_sites }
     ensures { IfOk result (λ found. found.items ≡ map (λ x. site_of place.now x.name) variables.now) }
 {
     variables
@@ -106,7 +107,7 @@ fn are_together(owners: &[usize], sites: &[u8]) -> bool
 
 /// The site of each main variable, or the refusal of the placement.
 pub fn sites_for(alloc: Global, flat: &Flat, place: &Place) -> Result<Vec<u8>, PlaceError>
-    requires { length place.now.sites ≤ 16 }
+    requires { length place.now.sites ≤ most_sites }
     ensures accepted { IfOk result (λ _. refusal flat.now place.now ≡ None) }
     ensures sites { IfOk result (λ sites. sites.items ≡ sites_of_variables flat.now.variables place.now) }
     ensures placed { IfOk result (λ _. are_placed flat.now.variables place.now ≡ true) }

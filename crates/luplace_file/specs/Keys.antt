@@ -1,6 +1,7 @@
 -- The keys of a placement's table, and the value that each may have. None stands where there is no such value.
 use Rattle.std.specs.Prelude.{ℕ, ℤ, pos, List, [], ◌∷◌, Bool, true, ◌&&◌, ◌||◌, codes, Option, Some, None, if◌then◌else◌}
 use Rattle.std.specs.Str.{bytes_eq}
+use Rattle.lulimits.specs.Limits.{usual_capacity}
 use Rattle.toml.specs.Data.{Data, Items, no_items, item, Members, no_members, member, as_str, as_integer, as_array, as_table}
 use Rattle.luplace_file.specs.declared.place.Placed.{Placed}
 use Rattle.luplace_file.specs.SiteName.{is_site_name}
@@ -48,9 +49,9 @@ abbrev pub default_in : Option Data → Option (Option (List ℕ))
 default_in None = Some None
 default_in (Some value) = text_in value >>= λ text. Some (Some text)
 
--- `capacity`, which is 16 where it is missing
+-- `capacity`, which is the usual one where it is missing
 abbrev pub capacity_in : Option Data → Option ℤ
-capacity_in None = Some (pos 16)
+capacity_in None = Some (pos usual_capacity)
 capacity_in (Some value) = as_integer value
 
 -- `place`, which is empty where it is missing

@@ -1,5 +1,6 @@
 -- What the text of a placement says, and which refusal comes where it says nothing.
 use Rattle.std.specs.Prelude.{ℕ, List, length, nat_lt, Option, Some, None, Result, Err, if◌then◌else◌}
+use Rattle.lulimits.specs.Limits.{longest_placement}
 use Rattle.toml.specs.Data.{Members}
 use Rattle.toml.specs.Parse.{parse_document}
 use Rattle.luplace_file.specs.declared.draft.Draft.{Draft}
@@ -21,4 +22,4 @@ placement_of_table (Some table) = placement_of_draft (draft_of table)
 
 -- a text of at most 1,048,576 bytes that is TOML
 abbrev pub placement_of : List ℕ → Result Place PlaceError
-placement_of text = if nat_lt 1048576 (length text) then Err OutOfRange else placement_of_table (parse_document text)
+placement_of text = if nat_lt longest_placement (length text) then Err OutOfRange else placement_of_table (parse_document text)

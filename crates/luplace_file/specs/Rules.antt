@@ -2,6 +2,7 @@
 use Rattle.std.specs.Prelude.{ℕ, ℤ, pos, negsuc, List, [], ◌∷◌, length, Bool, true, false, not, ◌&&◌, nat_le, Option, Some, None, Result, Ok, Err, if◌then◌else◌}
 use Rattle.std.specs.List.{list_all, list_any}
 use Rattle.std.specs.Str.{bytes_eq}
+use Rattle.lulimits.specs.Limits.{most_sites, most_capacity}
 use Rattle.luplace_file.specs.declared.draft.Draft.{Draft}
 use Rattle.luplace_file.specs.declared.place.Place.{Place}
 use Rattle.luplace_file.specs.declared.place.Placed.{Placed}
@@ -10,12 +11,12 @@ use Rattle.luplace_file.specs.declared.error.PlaceError.TheVariants.{UnknownSite
 
 -- from 1 to 1,024 messages
 abbrev pub is_capacity : ℤ → Bool
-is_capacity (pos n) = nat_le 1 n && nat_le n 1024
+is_capacity (pos n) = nat_le 1 n && nat_le n most_capacity
 is_capacity (negsuc n) = false
 
 -- from 1 to 16 sites
 abbrev pub is_site_count : ℕ → Bool
-is_site_count n = nat_le 1 n && nat_le n 16
+is_site_count n = nat_le 1 n && nat_le n most_sites
 
 -- one of the sites has the name
 abbrev pub is_site : List (List ℕ) → List ℕ → Bool

@@ -12,6 +12,7 @@ ghost use Rattle.luplace_file.specs.Draft.{draft_of};
 use crate::error::PlaceError;
 use crate::place::Placed;
 use crate::spelling::{is_key, is_site_name};
+use lulimits::limits::USUAL_CAPACITY;
 use lulist::{Name, Row};
 use std::alloc::Global;
 use toml::{Table, Value};
@@ -116,7 +117,7 @@ fn capacity_in(value: Option<&Value>) -> Result<i64, PlaceError>
 {
     match value {
         Some(value) => value.as_integer().ok_or(PlaceError::BadKey),
-        None => Ok(16),
+        None => Ok(USUAL_CAPACITY as i64),
     }
 }
 

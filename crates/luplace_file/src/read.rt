@@ -11,11 +11,9 @@ use crate::draft::draft_of;
 use crate::error::PlaceError;
 use crate::place::Place;
 use crate::rules::ruled;
+use lulimits::limits::LONGEST_PLACEMENT;
 use std::alloc::Global;
 use toml::Table;
-
-/// The longest text of a placement, in bytes.
-const LONGEST: usize = 1_048_576;
 
 /// The table that the text is, if it is TOML.
 fn table_in(alloc: Global, text: &str) -> Result<Table, PlaceError>
@@ -39,7 +37,7 @@ pub fn read_place(alloc: Global, text: &str) -> Result<Place, PlaceError>
     ensures exact { Gives (placement_of text.now) result }
     ensures lawful { IfOk result IsLawful }
 {
-    if text.len() > LONGEST {
+    if text.len() > LONGEST_PLACEMENT {
         return Err(PlaceError::OutOfRange);
     }
     let table = table_in(alloc, text)?;

@@ -7,6 +7,7 @@ ghost use Rattle.luplace_file.specs.Rules.{is_site, all_differ, is_default, are_
 use crate::draft::Draft;
 use crate::error::PlaceError;
 use crate::place::{Place, Placed};
+use lulimits::limits::{MOST_CAPACITY, MOST_SITES};
 use lulist::Name;
 
 /// Whether a site has the name.
@@ -56,7 +57,7 @@ pub fn ruled(draft: Draft) -> Result<Place, PlaceError>
         place,
     } = draft;
     let count = sites.as_slice().len();
-    if capacity < 1 || capacity > 1024 || count < 1 || count > 16 {
+    if capacity < 1 || capacity > MOST_CAPACITY as i64 || count < 1 || count > MOST_SITES {
         return Err(PlaceError::OutOfRange);
     }
     if !all_differ(sites.as_slice()) {

@@ -5,6 +5,8 @@ ghost use Rattle.std.specs.List.{list_all};
 ghost use Rattle.luplace_file.specs.SiteName.{is_name_byte, is_site_name};
 ghost use Rattle.luplace_file.specs.Keys.{is_key};
 
+use lulimits::limits::LONGEST_SITE_NAME;
+
 fn is_name_byte(byte: u8) -> bool
     ensures { result ≡ is_name_byte byte }
 {
@@ -26,7 +28,7 @@ pub fn is_site_name(name: &[u8]) -> bool
         [first, rest @ ..] => {
             (first.is_ascii_alphabetic() || *first == b'_')
                 && are_name_bytes(rest)
-                && rest.len() < 32
+                && rest.len() < LONGEST_SITE_NAME
         }
     }
 }

@@ -1,5 +1,6 @@
 -- How much of a grid has the solution's marks.
 use Rattle.std.specs.Prelude.{◌≡◌, ℕ, ◌<◌, ◌≤◌, slice_index}
+use Rattle.lulimits.specs.Limits.{most_instants}
 use Rattle.luflow.specs.Program.{FlatProgram, Table, flows_of}
 use Rattle.luflow.specs.Solution.{solution}
 use Rattle.luworld.specs.Runs.{Run}
@@ -20,4 +21,4 @@ pub record IsFilledTo (flat : FlatProgram) (inputs : Table) (grid : Grid) (t q :
 pub record IsWhole (job : Run) (grid : Grid) : Type 0 where
   pub filled : IsFilled job.plan.flat job.inputs grid job.inputs.instants
   pub sized : grid.instants ≡ job.inputs.instants
-  pub few : job.inputs.instants ≤ 1000000
+  pub few : job.inputs.instants ≤ most_instants

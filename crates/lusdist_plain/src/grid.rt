@@ -1,6 +1,7 @@
 //! A grid of marks: a cell for each flow and instant.
 
 ghost use Rattle.std.specs.Prelude.{◌≡◌, ◌≤◌, ◌*◌, length};
+ghost use Rattle.lulimits.specs.Limits.{most_flows};
 
 use crate::mark::{Mark, Marks};
 use std::alloc::{AllocError, Global};
@@ -11,7 +12,7 @@ pub struct Grid {
     pub width: usize,
     pub instants: u32,
     pub cells: Vec<Mark>,
-    ghost few: { width ≤ 4096 },
+    ghost few: { width ≤ most_flows },
     ghost long: { length cells.items ≡ instants * width },
 }
 
@@ -23,7 +24,7 @@ impl Grid {
 
     /// A grid that is broken everywhere.
     pub fn new(alloc: Global, width: usize, instants: u32) -> Result<Grid, AllocError>
-        requires { width ≤ 4096 }
+        requires { width ≤ most_flows }
         ensures { IfOk result (IsSized width instants) }
     {
         let cells = vec![in alloc; Mark::Broken; instants as usize * width]?;

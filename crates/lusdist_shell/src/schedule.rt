@@ -1,14 +1,13 @@
 //! The schedule: whose turn it is, turn by turn.
 
 ghost use Rattle.std.specs.Prelude.{◌≡◌, ◌⊎◌, ◌<◌, MatchResult, IfOk, All, ℕ};
+ghost use Rattle.lulimits.specs.Limits.{most_sites};
 ghost use Rattle.lusdist_shell.specs.Schedule.{turn_of, is_turn, is_blank};
 ghost use Rattle.lusdist_shell.specs.ScheduleText.{schedule_of};
 
+use lulimits::limits::LONGEST_SCHEDULE;
 use std::alloc::Global;
 use thiserror::Error;
-
-/// The longest text of a schedule, in bytes.
-const LONGEST: usize = 67_108_864;
 
 /// Why a schedule is refused. What it displays is the line that the program prints, with no line feed.
 #[derive(Clone, Copy, Debug, PartialEq, Eq, Error)]
@@ -47,9 +46,9 @@ pub fn read_schedule(alloc: Global, text: &[u8]) -> Result<Vec<u8>, ScheduleErro
     ensures exact { MatchResult result
         (λ turns. schedule_of text.now ≡ Ok turns.items)
         (λ e. (e ≡ ScheduleError.OutOfMemory) ⊎ (schedule_of text.now ≡ Err e)) }
-    ensures sites { IfOk result (λ turns. All (λ site. site < 16) turns.items) }
+    ensures sites { IfOk result (λ turns. All (λ site. site < most_sites) turns.items) }
 {
-    if text.len() > LONGEST {
+    if text.len() > LONGEST_SCHEDULE {
         return Err(ScheduleError::LongSchedule);
     }
     let Ok(mut turns) = Vec::with_capacity(alloc, text.len()) else {

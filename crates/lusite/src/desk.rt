@@ -2,6 +2,7 @@
 
 ghost use Rattle.std.specs.Prelude.{◌≡◌, ℕ, ◌+◌, ◌<◌, ◌≤◌, ◌==◌, ◌&&◌, List, length, All, true, false, Option, Some, slice_get, slice_set, slice_index, unwrap_or};
 ghost use Rattle.std.specs.Option.{option_copied};
+ghost use Rattle.lulimits.specs.Limits.{most_instants};
 ghost use Rattle.luflow.specs.declared.data.Status.{Status};
 ghost use Rattle.luflow.specs.Program.{flow_at, column_of};
 ghost use Rattle.luworld.specs.Needs.{stands};
@@ -42,7 +43,7 @@ pub struct Desk {
 fn age(now: &[Status], pasts: &mut Vec<Past>, instant: u32)
     requires lens { length now.now ≡ length pasts.old.items }
     requires counts { All (λ x. x.count ≤ instant) pasts.old.items }
-    requires few { instant < 1000000 }
+    requires few { instant < most_instants }
     ensures each { (i : ℕ) (x : Status) (y : Past) → slice_get now.now i ≡ Some x → slice_get pasts.old.items i ≡ Some y → slice_get pasts.new.items i ≡ Some (later x y) }
     ensures len { length pasts.new.items ≡ length pasts.old.items }
     ensures counts { All (λ x. x.count ≤ instant + 1) pasts.new.items }

@@ -1,5 +1,6 @@
 -- Which text spells which program.
 use Rattle.std.specs.Prelude.{ℕ, ◌≤◌, List, length}
+use Rattle.lulimits.specs.Limits.{longest_program, most_nodes}
 use Rattle.lutree.specs.Tree.{ProgramTree}
 use Rattle.lusyn_lexer.specs.Lexing.{Placed}
 use Rattle.lusyn_lexer.specs.Refusals.{IsLexed}
@@ -12,8 +13,8 @@ HasProgram text found = (ts : List Placed) × IsLexed text ts × Spells (unplace
 
 -- and the program has at most 256 nodes
 abbrev pub SpellsText : List ℕ → ProgramTree → Type 0
-SpellsText text found = HasProgram text found × (length found ≤ 256)
+SpellsText text found = HasProgram text found × (length found ≤ most_nodes)
 
 -- This text spells the program again, if some text spells it and this one isn't longer than a text may be.
 abbrev pub IsReadBack : List ℕ → ProgramTree → Type 0
-IsReadBack text found = (source : List ℕ) → SpellsText source found → length text ≤ 1048576 → SpellsText text found
+IsReadBack text found = (source : List ℕ) → SpellsText source found → length text ≤ longest_program → SpellsText text found

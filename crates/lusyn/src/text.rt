@@ -8,19 +8,17 @@ ghost use Rattle.lusyn.specs.Refusals.{IsRefused};
 ghost use Rattle.lusyn.specs.Texts.{SpellsText};
 
 use crate::error::SynError;
+use lulimits::limits::MOST_NODES;
 use lusyn_lexer::lex;
 use lusyn_parser::parse_tokens;
 use lutree::Program;
 use std::alloc::Global;
 
-/// The greatest number of nodes of a program.
-const MAX_NODES: usize = 256;
-
 /// The program that a text spells.
 ///
 /// A text without tokens is refused as crate `lusyn_lexer` refuses it. Any other text that spells no program is refused at the
-/// first token with which no program goes on, or at its end where it ends too early. A program of more than 256 nodes is
-/// refused last.
+/// first token with which no program goes on, or at its end where it ends too early. A program of more than [`MOST_NODES`]
+/// nodes is refused last.
 pub fn read_program(alloc: Global, text: &str) -> Result<Program, SynError>
     // What is read is spelled so.
     ensures spelled { IfOk result (λ found. SpellsText text.now (program_view found)) }
@@ -33,7 +31,7 @@ pub fn read_program(alloc: Global, text: &str) -> Result<Program, SynError>
 {
     let tokens = lex(alloc, text)?;
     let program = parse_tokens(alloc, &tokens, text.len())?;
-    if program.nodes.as_slice().len() > MAX_NODES {
+    if program.nodes.as_slice().len() > MOST_NODES {
         return Err(SynError::TooLong);
     }
     Ok(program)

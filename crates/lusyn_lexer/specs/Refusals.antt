@@ -1,6 +1,7 @@
 -- What a text has to be, and which refusal is true of any other.
 use Rattle.std.specs.Prelude.{◌≡◌, ◌≢◌, ◌<◌, ◌≤◌, ◌^◌, ℕ, List, ◌∷◌, ◌++◌, length, Option, Some}
 use Rattle.std.specs.Str.{IsAscii, IsNotAscii}
+use Rattle.lulimits.specs.Limits.{longest_program}
 use Rattle.lusyn_tokens.specs.Tokens.{Tok, number}
 use Rattle.lusyn_lexer.specs.declared.error.LexError.{LexError}
 use Rattle.lusyn_lexer.specs.declared.error.LexError.TheVariants as e
@@ -9,7 +10,7 @@ use Rattle.lusyn_lexer.specs.Runs.{HasShortRuns, IsTooMany}
 
 -- at most 1,048,576 bytes, all of them below 128
 abbrev pub IsPlain : List ℕ → Type 0
-IsPlain text = (length text ≤ 1048576) × IsAscii text
+IsPlain text = (length text ≤ longest_program) × IsAscii text
 
 -- a text that is accepted, and its tokens
 abbrev pub IsLexed : List ℕ → List Placed → Type 0
@@ -36,8 +37,8 @@ HasLongRun text byte = (ts : List Placed) × HasTokens text ts × IsTooMany ts b
 
 -- this refusal is true of the text, and none of those before it in order; want of memory is none of a text
 abbrev pub IsRefused : List ℕ → LexError → Type 0
-IsRefused text e.TooLong = 1048576 < length text
-IsRefused text e.NotAscii = (length text ≤ 1048576) × IsNotAscii text
+IsRefused text e.TooLong = longest_program < length text
+IsRefused text e.NotAscii = (length text ≤ longest_program) × IsNotAscii text
 IsRefused text (e.NoToken byte) = IsPlain text × HasNoToken text byte
 IsRefused text (e.NumberTooLarge byte) = IsPlain text × HasLargeNumber text byte
 IsRefused text (e.LongRun byte) = IsPlain text × HasLongRun text byte

@@ -4,6 +4,7 @@ use Rattle.std.specs.Char.{is_ascii_digit}
 use Rattle.std.specs.List.{prefix_len}
 use Rattle.std.specs.Str.{bytes_eq}
 use Rattle.std.specs.Str.Parse.{digits_value}
+use Rattle.lulimits.specs.Limits.{longest_run}
 use Rattle.lusyn_lexer.specs.declared.error.LexError.{LexError}
 use Rattle.lusyn_lexer.specs.declared.error.LexError.TheVariants.{NoToken, NumberTooLarge, LongRun}
 use Rattle.lusyn_tokens.specs.declared.token.Fixed.{Fixed}
@@ -99,7 +100,7 @@ first (Some place) at = Some place
 
 -- one token more
 abbrev pub counted : Count → Placed → Count
-counted c x = if is_of_run x.1 then (if nat_lt c.0 1000 then (c.0 + 1, c.1) else (c.0, first c.1 x.0)) else (0, c.1)
+counted c x = if is_of_run x.1 then (if nat_lt c.0 longest_run then (c.0 + 1, c.1) else (c.0, first c.1 x.0)) else (0, c.1)
 
 abbrev pub count : Count → List Placed → Count
 count c [] = c

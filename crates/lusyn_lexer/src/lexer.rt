@@ -15,6 +15,7 @@ ghost use Rattle.lusyn_lexer.specs.Lexing as lexing;
 ghost use Rattle.lusyn_lexer.specs.Scanning as scanning;
 
 use crate::error::LexError;
+use lulimits::limits::{LONGEST_PROGRAM, LONGEST_RUN};
 use lusyn_tokens::{Fixed, Lexeme, Token};
 use std::alloc::Global;
 
@@ -220,14 +221,12 @@ struct Count {
     too_many: Option<usize>,
 }
 
-const MAX_RUN: usize = 1_000;
-
 /// Counts a token at a place.
 fn counted(count: Count, token: &Token<'_>, place: usize) -> Count
     ensures { count_view result ≡ scanning.counted (count_view count) (place, tok token.now) }
 {
     if is_of_run(token) {
-        if count.in_run < MAX_RUN {
+        if count.in_run < LONGEST_RUN {
             return Count {
                 in_run: count.in_run + 1,
                 too_many: count.too_many,
@@ -304,9 +303,6 @@ fn scan(alloc: Global, text: &str) -> Result<Vec<Lexeme<'_>>, LexError>
     limited(found)
 }
 
-/// The greatest length of a text, in bytes.
-const MAX_TEXT: usize = 1_048_576;
-
 /// The tokens of a text, with their places.
 pub fn lex(alloc: Global, text: &str) -> Result<Vec<Lexeme<'_>>, LexError>
     // What is answered are the text's tokens, and the text is one that is accepted.
@@ -318,7 +314,7 @@ pub fn lex(alloc: Global, text: &str) -> Result<Vec<Lexeme<'_>>, LexError>
     // A refusal that is true of the text is answered, unless memory runs out. So no text has two.
     ensures refuses { (error : LexError) → IsRefused text.now error → Lexes (λ v. v.items) result (Err error) }
 {
-    if text.len() > MAX_TEXT {
+    if text.len() > LONGEST_PROGRAM {
         return Err(LexError::TooLong);
     }
     if text.is_ascii() {

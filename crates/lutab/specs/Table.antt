@@ -2,6 +2,7 @@
 use Rattle.std.specs.Prelude.{◌≡◌, ◌⊎◌, ℕ, zero, suc, ◌+◌, ◌<◌, List, [], ◌∷◌, ◌++◌, length, map, All, Bool, true, false, not, ◌||◌, nat_lt, nat_eq, count_by, position, take, Result, Err, slice_index_or}
 use Rattle.std.specs.List.{flat_map}
 use Rattle.std.specs.Option.{option_map_or}
+use Rattle.lulimits.specs.Limits.{longest_table, most_instants}
 use Rattle.lutree.specs.declared.program.Kind.{Kind}
 use Rattle.luflow.specs.declared.data.Datum.{Datum}
 use Rattle.luflow.specs.declared.data.Datum.TheVariants.{Nil}
@@ -47,7 +48,7 @@ is_comma byte = nat_eq byte 44
 
 -- more than 67,108,864 bytes, or more than a header and 1,000,000 instants
 abbrev pub is_too_long : List ℕ → Bool
-is_too_long text = nat_lt 67108864 (length text) || nat_lt 1000001 (count_by is_feed text)
+is_too_long text = nat_lt longest_table (length text) || nat_lt (most_instants + 1) (count_by is_feed text)
 
 -- A line has one field more than it has commas; but where there are no inputs, an empty line has no field.
 abbrev pub has_other_count : ℕ → List ℕ → Bool

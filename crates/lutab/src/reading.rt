@@ -1,6 +1,7 @@
 //! The text of a table of inputs.
 
 ghost use Rattle.std.specs.Prelude.{◌≡◌, ◌≢◌, ◌≤◌, ◌++◌, List, ℕ, length, false, Ok, Err, IfOk, IfErr, IfSome, IfNone, count_by, string_bytes};
+ghost use Rattle.lulimits.specs.Limits.{longest_table, most_instants};
 ghost use Rattle.luflow.specs.Program.{Table};
 ghost use Rattle.luflow.specs.Tables.{IsTable, Fits, columns_view};
 ghost use Rattle.luflow.specs.Variables.{inputs_of};
@@ -13,17 +14,9 @@ use crate::error::TabError;
 use crate::rows::read_rows;
 use crate::writing::put_comma;
 use luflow::{Datum, Flat, Inputs, Variable};
+use lulimits::limits::{LONGEST_TABLE, MOST_INSTANTS};
 use lutree::Kind;
 use std::alloc::{AllocError, Global};
-
-/// The longest text of a table, in bytes.
-const LONGEST: usize = 67_108_864;
-
-/// The most lines of a table: its header, and 1,000,000 instants.
-const MOST_LINES: usize = 1_000_001;
-
-/// The most instants of a table.
-const MOST_INSTANTS: usize = 1_000_000;
 
 fn feeds_in(bytes: &[u8]) -> usize
     ensures { result ≡ count_by is_feed bytes.now }
@@ -34,7 +27,7 @@ fn feeds_in(bytes: &[u8]) -> usize
 fn is_too_long(bytes: &[u8]) -> bool
     ensures { result ≡ is_too_long bytes.now }
 {
-    bytes.len() > LONGEST || feeds_in(bytes) > MOST_LINES
+    bytes.len() > LONGEST_TABLE || feeds_in(bytes) > MOST_INSTANTS as usize + 1
 }
 
 fn header_of(alloc: Global, inputs: &[Variable]) -> Result<String, AllocError>
@@ -57,12 +50,12 @@ fn kinds(alloc: Global, inputs: &[Variable]) -> Result<Vec<Kind>, AllocError>
 
 /// How many instants the lines may hold: a field has a byte at least, and one that ends it.
 fn room(bytes: &[u8], fields: usize) -> usize
-    ensures { result ≤ 1000000 }
+    ensures { result ≤ most_instants }
 {
     if fields == 0 {
         0
     } else {
-        (bytes.len() / 2 / fields).min(MOST_INSTANTS)
+        (bytes.len() / 2 / fields).min(MOST_INSTANTS as usize)
     }
 }
 
@@ -89,7 +82,7 @@ fn read_columns(
     inputs: &[Variable],
     body: &[u8],
 ) -> Result<(usize, Vec<(String, Vec<Datum>)>), TabError>
-    requires { length body.now ≤ 67108864 }
+    requires { length body.now ≤ longest_table }
     ensures { ReadsColumns inputs.now body.now result }
 {
     let kinds = kinds(alloc, inputs)?;

@@ -1,6 +1,7 @@
 //! The lines of a table behind its header.
 
 ghost use Rattle.std.specs.Prelude.{◌≡◌, ◌<◌, ◌≤◌, length, List, ℕ, IfSome, count_by, position};
+ghost use Rattle.lulimits.specs.Limits.{longest_table};
 ghost use Rattle.luflow.specs.Tables.{columns_view};
 ghost use Rattle.lutab.specs.Table.{is_feed, is_comma, has_other_count, is_bad_row, IsNoRow};
 ghost use Rattle.lutab.specs.Filling.{ReadsLine, ReadsLines, AreFilled, IsReached, IsLineFault};
@@ -75,7 +76,7 @@ pub fn read_rows(
     bytes: &[u8],
 ) -> Result<usize, TabError>
     requires empty { AreFilled 0 kinds.now (columns_view columns.old) }
-    requires short { length bytes.now ≤ 67108864 }
+    requires short { length bytes.now ≤ longest_table }
     ensures { ReadsLines kinds.now bytes.now (columns_view columns.old) (columns_view columns.new) result }
 {
     let mut rest = bytes;

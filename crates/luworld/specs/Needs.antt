@@ -1,6 +1,7 @@
 -- A plan of a flat program: where its flows stand, what a site needs, and which links there are.
 use Rattle.std.specs.Prelude.{◌≡◌, ◌↔◌, ℕ, ◌<◌, ◌≤◌, Bool, true, not, ◌&&◌, ◌==◌, List, [], length, map, filter, flat_map, Some, slice_get, slice_index, Contains, unwrap_or}
 use Rattle.std.specs.List.{range_with_len, list_any}
+use Rattle.lulimits.specs.Limits.{most_sites, most_capacity}
 use Rattle.luflow.specs.declared.form.Flow.{Flow}
 use Rattle.luflow.specs.Program.{FlatProgram, flow_at, places, clock_reads}
 use Rattle.luflow.specs.Flats.{IsFlat}
@@ -62,13 +63,13 @@ pub record IsPlacedAt (sites : ℕ) (xs : List ℕ) : Type 0 where
   pub inside : (k : ℕ) → k < length xs → slice_index xs k < sites
   pub in_order : (j k : ℕ) → j < k → k < length xs → slice_index xs j < slice_index xs k
 
--- The plan's parts are what they are said to be. (profile: 1 to 16 sites, capacity 1 to 1,024)
+-- The plan's parts are what they are said to be.
 pub record IsPlan (plan : Distribution) : Type 0 where
   pub flat_is : IsFlat plan.flat
   pub some_sites : 0 < sites_of plan
-  pub few_sites : sites_of plan ≤ 16
+  pub few_sites : sites_of plan ≤ most_sites
   pub room : 1 ≤ plan.capacity
-  pub small : plan.capacity ≤ 1024
+  pub small : plan.capacity ≤ most_capacity
   pub placed_len : length plan.placed ≡ length plan.flat.variables
   pub placed_is : (v : ℕ) → v < length plan.flat.variables → IsPlacedAt (sites_of plan) (row plan.placed v)
   pub together : (v : ℕ) → v < length plan.flat.variables → flow_sites plan v ≡ row plan.placed v

@@ -2,6 +2,7 @@
 use Rattle.std.specs.Prelude.{◌≡◌, ◌≢◌, ℕ, ◌+◌, ◌<◌, ◌≤◌, Bool, true, false, ◌||◌, ◌&&◌, ◌==◌, nat_lt, nat_eq, filter, flat_map, cond, List, [], ◌∷◌, length, Option, Some, None, is_some, slice_get, take, All, unwrap_or, position}
 use Rattle.std.specs.List.{range_with_len}
 use Rattle.std.specs.Option.{option_map}
+use Rattle.lulimits.specs.Limits.{most_instants}
 use Rattle.luflow.specs.declared.message.Msg.{Msg}
 use Rattle.luflow.specs.declared.form.Form.TheVariants as forms
 use Rattle.luflow.specs.declared.form.Flow.{Flow}
@@ -170,5 +171,5 @@ owns plan s i = stands plan i s
 -- what the machines of a run rest on
 pub record IsJob (job : Run) : Type 0 where
   pub is_plan : Fits job.plan
-  pub few : job.inputs.instants ≤ 1000000
+  pub few : job.inputs.instants ≤ most_instants
   pub fit : IsFit job.plan.flat job.inputs
