@@ -1,7 +1,6 @@
 -- What a link carries of a flow.
 use Rattle.std.specs.Prelude.{ℕ, zero, suc, ◌+◌, List, [], ◌∷◌, map}
 use Rattle.std.specs.List.{range_with_len}
-use Rattle.luflow.specs.declared.data.Datum.{Datum}
 use Rattle.luflow.specs.declared.data.Status.TheVariants.{Absent, Present}
 use Rattle.luflow.specs.declared.message.Msg.{Msg}
 use Rattle.luflow.specs.declared.message.Body.TheVariants.{Value, Close}
@@ -11,14 +10,8 @@ use Rattle.luflow.specs.Streams.{Mark, Known, Broken, Stream}
 abbrev pub marks : Stream → ℕ → List Mark
 marks s n = map s (range_with_len 0 n)
 
--- the clean list: the data that are present before the first broken mark, in order
-abbrev pub clean_list : List Mark → List Datum
-clean_list [] = []
-clean_list (Broken ∷ ms) = []
-clean_list (Known Absent ∷ ms) = clean_list ms
-clean_list (Known (Present d) ∷ ms) = d ∷ clean_list ms
-
--- the link list: the clean list numbered from n, and a close that is numbered with the count, only where no mark is broken
+-- the link list: the data that are present before the first broken mark, in order and numbered from n, and a close that is
+-- numbered with their count, only where no mark is broken
 abbrev pub messages : ℕ → List Mark → List Msg
 messages n [] = record { no = n; body = Close } ∷ []
 messages n (Broken ∷ ms) = []

@@ -1,10 +1,9 @@
 -- What the source of a run says of its links and outputs.
-use Rattle.std.specs.Prelude.{◌≡◌, ℕ, ◌<◌, ◌≤◌, false, List, [], length, map, slice_get, unwrap_or}
-use Rattle.std.specs.Option.{option_map}
+use Rattle.std.specs.Prelude.{◌≡◌, ℕ, ◌<◌, ◌≤◌, false, List, [], length, map}
 use Rattle.lutree.specs.Tree.{ProgramTree}
 use Rattle.luflow.specs.declared.data.Status.{Status}
 use Rattle.luflow.specs.declared.message.Msg.{Msg}
-use Rattle.luflow.specs.declared.variable.Variable.{Variable}
+use Rattle.luflow.specs.Variables.{variable_name}
 use Rattle.luflow.specs.Streams.{Stream, Known, is_broken}
 use Rattle.luflow.specs.Messages.{marks, messages}
 use Rattle.luworld.specs.Needs.{Distribution}
@@ -20,13 +19,9 @@ pub record IsMeant (job : Run) (σ : SourceStreams) : Type 0 where
   pub agrees : Agrees program main job.inputs job.plan.flat
   pub solves : IsSourceSolution program main job.inputs σ
 
--- the name of a main variable, by its number
-abbrev pub variable_name : Distribution → ℕ → List ℕ
-variable_name plan v = unwrap_or (option_map (λ (x : Variable). x.name) (slice_get plan.flat.variables v)) []
-
 -- what a solution of the source gives to a main variable
 abbrev pub source_stream : Run → SourceStreams → ℕ → Stream
-source_stream job σ v = σ [] (variable_name job.plan v)
+source_stream job σ v = σ [] (variable_name job.plan.flat v)
 
 -- the list of a link in the source's words: the present values of its variable before the first broken one, each numbered,
 -- and the close where nothing is broken

@@ -11,10 +11,11 @@ use Rattle.luflow.specs.declared.form.Flow.{Flow}
 use Rattle.luflow.specs.Program.{FlatProgram, flow_at}
 use Rattle.luflow.specs.Flats.{IsFlat}
 use Rattle.luworld.specs.declared.link.Link.{Link}
-use Rattle.luworld.specs.Needs.{Distribution, IsPlacedAt, IsPlan, IsNeeded, read_there, clock_there, clock_needed, row, is_in, stands, is_linked, links_of_variable, all_links}
+use Rattle.luworld.specs.Needs.{Distribution, IsPlacedAt, IsPlan, IsNeeded, read_there, clock_there, clock_needed, is_in, stands, is_linked, links_of_variable, all_links}
 use Rattle.luworld.proofs.Parts.{flat_map_same}
 use Rattle.luplace.specs.Placing.{are_together, one_each, bare}
 use Rattle.luplace.specs.Marks.{is_marked, marks_at, AreAllMarks, marked_places, sites_at, is_taken, link_of, some_links, links_below}
+use Rattle.luflow.specs.Rank.{row}
 
 both_ways : (x y : Bool) → (x ≡ true → y ≡ true) → (y ≡ true → x ≡ true) → x ≡ y
 both_ways true true f g = refl

@@ -4,8 +4,9 @@ use Rattle.std.specs.List.{range_with_len}
 use Rattle.luflow.specs.declared.form.Flow.{Flow}
 use Rattle.luflow.specs.Program.{flows_of, flow_at, places, clock_reads}
 use Rattle.luworld.specs.declared.link.Link.{Link}
-use Rattle.luworld.specs.Needs.{Distribution, IsNeeded, stands, row, is_in}
+use Rattle.luworld.specs.Needs.{Distribution, IsNeeded, stands, is_in}
 use Rattle.luplace.specs.Placing.{one_each}
+use Rattle.luflow.specs.Rank.{row}
 
 abbrev pub is_set : Option Bool → Bool
 is_set None = false

@@ -1,9 +1,10 @@
 //! Plans: where the flows of a program stand, what each site needs, and which links there are.
 
 ghost use Rattle.std.specs.Prelude.{◌≡◌, ◌⊎◌, ◌<◌, true, length, slice_index, All, IfOk, IfErr};
-ghost use Rattle.luworld.specs.Needs.{Distribution, IsPlan, sites_of, row, stands, is_in};
+ghost use Rattle.luworld.specs.Needs.{Distribution, IsPlan, sites_of, stands, is_in};
 ghost use Rattle.luplace_file.specs.Lawful.{IsLawful};
 ghost use Rattle.luplace.specs.Placing.{refusal, are_together, IsPlanOf, IsPlanAt};
+ghost use Rattle.luflow.specs.Rank.{row};
 
 use crate::assembly::{names_of, one_each};
 use crate::linking::links_of;

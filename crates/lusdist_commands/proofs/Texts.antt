@@ -4,12 +4,13 @@ use Rattle.std.specs.Prelude.{slice_get}
 use Rattle.std.specs.List.{range_with_len}
 use Rattle.std.proofs.lemmas.Bool.{false≢true}
 use Rattle.luflow.specs.declared.data.Status.{Status}
-use Rattle.luworld.specs.Runs.{is_told, outputs_of}
+use Rattle.luworld.specs.Runs.{outputs_of}
 use Rattle.luworld.proofs.Rounds.{range_more, one_more}
 use Rattle.luworld.specs.declared.link.Link.{Link}
 use Rattle.lusite.proofs.Ranges.{filter_more}
 use Rattle.luweave.specs.Worlds.{Progress, IsCollected}
-use Rattle.lusdist_commands.specs.WorldText.{AreOutputLines, NoOutput, OneOutputMore, output_line, name_of, links_text, line_of}
+use Rattle.lusdist_commands.specs.WorldText.{AreOutputLines, NoOutput, OneOutputMore, output_line, links_text, line_of}
+use Rattle.luflow.specs.Variables.{is_output_of, variable_name}
 
 -- what passes a test in a range stands behind those before it that do
 found_next : (p : ℕ → Bool) (a n v d : ℕ) (b : Bool) → slice_get (filter p (range_with_len (a + 1) n)) (length (filter p (range_with_len (a + 1) d))) ≡ Some v
@@ -30,10 +31,10 @@ found_at p a (suc n) (suc d) lt e =
     let m : a + 1 + d ≡ a + suc d = omega arith in
     found_next p a n (a + suc d) d (p a) (found_at p (a + 1) n d (omega (arith, lt)) (ap p m ∙ e) ∙ ap Some m)
 
-module _ (w : Progress) (v k : ℕ) (lines : List ℕ) (are : AreOutputLines w v k lines) (count : k ≡ length (filter (is_told w.job.plan) (range_with_len 0 v))) where
-  counted : (b : Bool) → is_told w.job.plan v ≡ b → length (filter (is_told w.job.plan) (range_with_len 0 (v + 1))) ≡ k + cond b 1 0
+module _ (w : Progress) (v k : ℕ) (lines : List ℕ) (are : AreOutputLines w v k lines) (count : k ≡ length (filter (is_output_of w.job.plan.flat) (range_with_len 0 v))) where
+  counted : (b : Bool) → is_output_of w.job.plan.flat v ≡ b → length (filter (is_output_of w.job.plan.flat) (range_with_len 0 (v + 1))) ≡ k + cond b 1 0
   counted b is =
-      let e = ap length (filter_more (is_told w.job.plan) v) ∙ length-append (filter (is_told w.job.plan) (range_with_len 0 v)) (cond (is_told w.job.plan v) (v ∷ []) []) in
+      let e = ap length (filter_more (is_output_of w.job.plan.flat) v) ∙ length-append (filter (is_output_of w.job.plan.flat) (range_with_len 0 v)) (cond (is_output_of w.job.plan.flat v) (v ∷ []) []) in
       let f = ap (λ c. length (cond c (v ∷ []) [])) is in
       omega (arith, e, f, count, sizes b)
     where
@@ -41,19 +42,19 @@ module _ (w : Progress) (v k : ℕ) (lines : List ℕ) (are : AreOutputLines w v
       sizes true = refl
       sizes false = refl
 
-  pub count_told : is_told w.job.plan v ≡ true → k + 1 ≡ length (filter (is_told w.job.plan) (range_with_len 0 (v + 1)))
+  pub count_told : is_output_of w.job.plan.flat v ≡ true → k + 1 ≡ length (filter (is_output_of w.job.plan.flat) (range_with_len 0 (v + 1)))
   count_told is = sym (counted true is)
 
-  pub count_other : is_told w.job.plan v ≡ false → k ≡ length (filter (is_told w.job.plan) (range_with_len 0 (v + 1)))
+  pub count_other : is_output_of w.job.plan.flat v ≡ false → k ≡ length (filter (is_output_of w.job.plan.flat) (range_with_len 0 (v + 1)))
   count_other is = let c = counted false is in omega (arith, c)
 
-  pub told_more : v < length w.job.plan.flat.variables → is_told w.job.plan v ≡ true → (statuses : List Status) → IsCollected w.job w.dones k statuses → AreOutputLines w (v + 1) (k + 1) (lines ++ output_line (name_of w.job.plan.flat v) statuses)
+  pub told_more : v < length w.job.plan.flat.variables → is_output_of w.job.plan.flat v ≡ true → (statuses : List Status) → IsCollected w.job w.dones k statuses → AreOutputLines w (v + 1) (k + 1) (lines ++ output_line (variable_name w.job.plan.flat v) statuses)
   told_more lv is statuses collected =
       let z : 0 + v ≡ v = omega arith in
-      let at = ap (slice_get (outputs_of w.job.plan)) count ∙ found_at (is_told w.job.plan) 0 (length w.job.plan.flat.variables) v lv (ap (is_told w.job.plan) z ∙ is) ∙ ap Some z in
+      let at = ap (slice_get (outputs_of w.job.plan)) count ∙ found_at (is_output_of w.job.plan.flat) 0 (length w.job.plan.flat.variables) v lv (ap (is_output_of w.job.plan.flat) z ∙ is) ∙ ap Some z in
       OneOutputMore v k lines statuses are at collected
 
-  pub other_more : is_told w.job.plan v ≡ false → AreOutputLines w (v + 1) k lines
+  pub other_more : is_output_of w.job.plan.flat v ≡ false → AreOutputLines w (v + 1) k lines
   other_more is = NoOutput v k lines are is
 
 -- the line of one link more

@@ -17,11 +17,12 @@ use Rattle.luflow.specs.Program.{FlatProgram}
 use Rattle.luworld.specs.declared.link.Link.{Link}
 use Rattle.luworld.specs.Needs.{Distribution, sites_of}
 use Rattle.luworld.specs.World.{done, put_count, taken_count}
-use Rattle.luworld.specs.Runs.{link_list, streams_of, system_of, is_output, is_told, outputs_of}
+use Rattle.luworld.specs.Runs.{link_list, streams_of, system_of, outputs_of}
 use Rattle.lusite.specs.Machine.{IsStanding}
 use Rattle.lusite.specs.declared.report.Standing.{Standing}
 use Rattle.lusite.specs.declared.report.Standing.TheVariants.{Ended, Faulted, Cut}
 use Rattle.luweave.specs.Worlds.{Progress, IsCollected}
+use Rattle.luflow.specs.Variables.{is_output_of, is_output, variable_name}
 
 -- a space and a datum
 abbrev pub datum_text : Datum → List ℕ
@@ -40,10 +41,7 @@ abbrev pub status_text : Status → List ℕ
 status_text Absent = codes " -"
 status_text (Present d) = datum_text d
 
--- the name of a main variable, and of a site
-abbrev pub name_of : FlatProgram → ℕ → List ℕ
-name_of flat v = unwrap_or (option_map (λ (x : Variable). x.name) (slice_get flat.variables v)) []
-
+-- the name of a site
 abbrev pub site_name : List (List ℕ) → ℕ → List ℕ
 site_name names s = unwrap_or (slice_get names s) []
 
@@ -54,7 +52,7 @@ messages_text = flat_map (λ (m : Msg). body_text m.body)
 -- `link FLOW FROM TO taken`, what was taken, and how many messages wait
 abbrev pub link_line : Distribution → Link → List Msg → ℕ → List ℕ
 link_line plan link taken waiting =
-    codes "link " ++ (name_of plan.flat link.flow ++ (codes " " ++ (site_name plan.names link.from ++ (codes " " ++ (site_name plan.names link.to ++ codes " taken")))))
+    codes "link " ++ (variable_name plan.flat link.flow ++ (codes " " ++ (site_name plan.names link.from ++ (codes " " ++ (site_name plan.names link.to ++ codes " taken")))))
     ++ (messages_text taken ++ (codes " queued " ++ (decimal waiting ++ 10 ∷ [])))
 
 -- `site NAME`, and how the site stands
@@ -65,7 +63,7 @@ kind_text DivZero = codes "div-zero"
 abbrev pub standing_text : FlatProgram → Standing → List ℕ
 standing_text flat Ended = codes "ended"
 standing_text flat Cut = codes "open"
-standing_text flat (Faulted fault) = codes "faulted " ++ (name_of flat fault.variable ++ (codes " " ++ (decimal fault.instant ++ (codes " " ++ kind_text fault.kind))))
+standing_text flat (Faulted fault) = codes "faulted " ++ (variable_name flat fault.variable ++ (codes " " ++ (decimal fault.instant ++ (codes " " ++ kind_text fault.kind))))
 
 abbrev pub site_line : Distribution → ℕ → Standing → List ℕ
 site_line plan s standing = codes "site " ++ (site_name plan.names s ++ codes " ") ++ (standing_text plan.flat standing ++ 10 ∷ [])
@@ -76,10 +74,6 @@ statuses_text = flat_map status_text
 
 abbrev pub output_line : List ℕ → List Status → List ℕ
 output_line name statuses = codes "output " ++ name ++ (statuses_text statuses ++ 10 ∷ [])
-
--- whether a main variable is an output
-abbrev pub is_output_of : FlatProgram → ℕ → Bool
-is_output_of flat v = unwrap_or (option_map (λ (x : Variable). is_output x.role) (slice_get flat.variables v)) false
 
 -- what was taken from link l in a world, and what waits in it
 abbrev pub taken_of : Progress → ℕ → List Msg
@@ -105,9 +99,9 @@ pub data AreSiteLines (w : Progress) : ℕ → List ℕ → Type 0 where
 -- the lines of the outputs among the first v main variables, which are the first k outputs, each as far as it was passed
 pub data AreOutputLines (w : Progress) : ℕ → ℕ → List ℕ → Type 0 where
   NoVariables : AreOutputLines w 0 0 []
-  NoOutput : (v k : ℕ) (lines : List ℕ) → AreOutputLines w v k lines → is_told w.job.plan v ≡ false → AreOutputLines w (v + 1) k lines
+  NoOutput : (v k : ℕ) (lines : List ℕ) → AreOutputLines w v k lines → is_output_of w.job.plan.flat v ≡ false → AreOutputLines w (v + 1) k lines
   OneOutputMore : (v k : ℕ) (lines : List ℕ) (statuses : List Status) → AreOutputLines w v k lines → slice_get (outputs_of w.job.plan) k ≡ Some v → IsCollected w.job w.dones k statuses
-      → AreOutputLines w (v + 1) (k + 1) (lines ++ output_line (name_of w.job.plan.flat v) statuses)
+      → AreOutputLines w (v + 1) (k + 1) (lines ++ output_line (variable_name w.job.plan.flat v) statuses)
 
 -- the text of a world: its links, its sites and its outputs, each in order
 pub record IsWorldText (w : Progress) (text : List ℕ) : Type 0 where

@@ -1,8 +1,9 @@
 //! What a replay prints.
 
 ghost use Rattle.std.specs.Prelude.{◌≡◌, ◌++◌, ℕ, List, IfOk, length, string_bytes};
-ghost use Rattle.lusdist_commands.specs.WorldText.{datum_text, body_text, status_text, name_of, site_name, messages_text, link_line, links_text, kind_text, standing_text, site_line, AreSiteLines, output_line, statuses_text, is_output_of, AreOutputLines, IsWorldText};
+ghost use Rattle.lusdist_commands.specs.WorldText.{datum_text, body_text, status_text, site_name, messages_text, link_line, links_text, kind_text, standing_text, site_line, AreSiteLines, output_line, statuses_text, AreOutputLines, IsWorldText};
 ghost use Rattle.luworld.specs.Needs.{sites_of};
+ghost use Rattle.luflow.specs.Variables.{is_output_of, variable_name};
 
 use luflow::{Body, Datum, FaultKind, Flat, Msg, Role, Status};
 use lulist::Name;
@@ -44,7 +45,7 @@ fn put_status(text: &mut String, status: Status) -> Result<(), AllocError>
 
 /// The name of a main variable.
 fn variable_name(flat: &Flat, variable: usize) -> &str
-    ensures { result.now ≡ name_of flat.now variable }
+    ensures { result.now ≡ variable_name flat.now variable }
 {
     match flat.variables().get(variable) {
         Some(found) => found.name.as_str(),

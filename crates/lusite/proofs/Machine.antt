@@ -12,7 +12,7 @@ use Rattle.luflow.specs.declared.data.Status.TheVariants.{Absent, Present}
 use Rattle.luflow.specs.declared.form.Clock.{Clock}
 use Rattle.luflow.specs.declared.form.Clock.TheVariants.{Base, On}
 use Rattle.luflow.specs.declared.form.Flow.{Flow}
-use Rattle.luworld.specs.Runs.{Run, streams_of, owns, knows, link_into, listed, cell, endless, script, outline, is_open, IsFree, HasNoStop, items_before, IsJob, Fits, sends}
+use Rattle.luworld.specs.Runs.{Run, streams_of, knows, link_into, listed, cell, endless, script, outline, is_open, IsFree, HasNoStop, items_before, IsJob, Fits, sends}
 use Rattle.lueval.specs.declared.kernel.Past.{Past}
 use Rattle.luflow.specs.Streams.{Mark, Known, Streams, clock_at, either, ticked, newer, before, truth_in}
 use Rattle.luflow.specs.declared.form.Outcome.{Outcome}
@@ -31,6 +31,7 @@ use Rattle.lusite.specs.Machine.{Stands, in_cell, clock_there, cell_size_of}
 use Rattle.luflow.proofs.Solutions.{IsSolution-solution, place_of, place_in, flow_there, all_right}
 use Rattle.lueval.proofs.Reading.{clock_read as machine_clock}
 use Rattle.luworld.proofs.Cursor.{item_at, before_next_flow, before_next_instant, before_end, before_step}
+use Rattle.luworld.specs.Needs.{stands}
 
 pub slice_get-set_other : {X : Type 0} (xs : List X) (i r : ℕ) (x : X) → r ≢ i → slice_get (set xs i x) r ≡ slice_get xs r
 slice_get-set_other [] i r x ne = refl
@@ -74,12 +75,12 @@ size_of true false (Some true) c None x ps h = none_size c (length ps)
 size_of true false (Some false) c None x ps h = none_size c (length ps)
 
 -- the number of items of a flow, by the clock that the machine reads
-pub cell_length : (job : Run) (ok : Fits job.plan) (s t i : ℕ) (c : Option Bool) → i < flows_of job.plan.flat → (knows job.plan s i ≡ true → nat_lt t job.inputs.instants ≡ true → c ≡ clock_of_flow job.inputs (streams_of job) (flow_at job.plan.flat i) t) → length (cell job (streams_of job) s t i) ≡ in_cell (not (nat_lt t job.inputs.instants) || is_open c) (owns job.plan s i) (nat_lt t job.inputs.instants) (length (sends job.plan s i)) (is_some (link_into job.plan s i))
+pub cell_length : (job : Run) (ok : Fits job.plan) (s t i : ℕ) (c : Option Bool) → i < flows_of job.plan.flat → (knows job.plan s i ≡ true → nat_lt t job.inputs.instants ≡ true → c ≡ clock_of_flow job.inputs (streams_of job) (flow_at job.plan.flat i) t) → length (cell job (streams_of job) s t i) ≡ in_cell (not (nat_lt t job.inputs.instants) || is_open c) (stands job.plan i s) (nat_lt t job.inputs.instants) (length (sends job.plan s i)) (is_some (link_into job.plan s i))
 cell_length job ok s t i c li h =
     let σ = streams_of job in
     ap length (cell_is job σ ok s t i li)
-    ∙ size_of (nat_lt t job.inputs.instants) (owns job.plan s i) (clock_of_flow job.inputs σ (flow_at job.plan.flat i) t) c (link_into job.plan s i) (Compute i t) (map Puts (sends job.plan s i)) h
-    ∙ ap (λ n. in_cell (not (nat_lt t job.inputs.instants) || is_open c) (owns job.plan s i) (nat_lt t job.inputs.instants) n (is_some (link_into job.plan s i))) (length-map (sends job.plan s i) Puts)
+    ∙ size_of (nat_lt t job.inputs.instants) (stands job.plan i s) (clock_of_flow job.inputs σ (flow_at job.plan.flat i) t) c (link_into job.plan s i) (Compute i t) (map Puts (sends job.plan s i)) h
+    ∙ ap (λ n. in_cell (not (nat_lt t job.inputs.instants) || is_open c) (stands job.plan i s) (nat_lt t job.inputs.instants) n (is_some (link_into job.plan s i))) (length-map (sends job.plan s i) Puts)
 
 under_absent : (c : Option Bool) (v : Outcome) → under c v ≡ Known Absent → c ≡ Some false
 under_absent None v h = cc
@@ -198,7 +199,7 @@ module _ (job : Run) (s : ℕ) (ij : IsJob job) where
               let r = clock_read now t p lt lp known' (st.shown lt) in
               let size = cell_length job ij.is_plan s t i (clock_there now (flow_at job.plan.flat i)) f.2 (λ _ _. r.0) in
               let empty : length (cell job (streams_of job) s t i) ≡ 0 = omega arith in
-              let shut = closed_clock (nat_lt t job.inputs.instants) (clock_there now (flow_at job.plan.flat i)) (owns job.plan s i) (length (sends job.plan s i)) (is_some (link_into job.plan s i)) (lt-ltb t job.inputs.instants lt) known' (sym size ∙ empty) in
+              let shut = closed_clock (nat_lt t job.inputs.instants) (clock_there now (flow_at job.plan.flat i)) (stands job.plan i s) (length (sends job.plan s i)) (is_some (link_into job.plan s i)) (lt-ltb t job.inputs.instants lt) known' (sym size ∙ empty) in
               let no : clock_of_flow job.inputs (streams_of job) (flow_at job.plan.flat i) t ≡ Some false = r.2 ∙ ap Some (open_is r.1 (ap is_open (sym (r.0 ∙ r.2)) ∙ shut)) in
               let e = equation i t f.0 f.1 f.2 lt in
               let clock : clock_at job.inputs (streams_of job) f.0.clock t ≡ Some false = sym (ap (λ o. clock_of_flow job.inputs (streams_of job) o t) f.1) ∙ no in

@@ -28,7 +28,7 @@ use Rattle.luworld.specs.declared.link.Link.{Link}
 use Rattle.luworld.specs.World.{Item, Compute, Puts, Takes, puts, takes, puts_before, takes_before}
 use Rattle.luworld.specs.Outline.{shows}
 use Rattle.luworld.specs.Needs.{Distribution, stands, home}
-use Rattle.luworld.specs.Runs.{Run, Fits, streams_of, owns, knows, sends, link_into, is_into, listed, carried, receiver_of, flow_of_link, is_open, cell, script, outline, system_of, items_before, link_list, messages_of}
+use Rattle.luworld.specs.Runs.{Run, Fits, streams_of, knows, sends, link_into, is_into, listed, carried, receiver_of, flow_of_link, is_open, cell, script, outline, system_of, items_before, link_list, messages_of}
 use Rattle.luworld.proofs.Outlines.{bool_cases, cell_is, carrier_is, flow_of_carried, is_outline, shows_is}
 use Rattle.luworld.proofs.Cursor.{puts_done, takes_done}
 use Rattle.luworld.proofs.Messages.{newer_back, message_at, close_at}
@@ -55,21 +55,21 @@ module _ (job : Run) (σ : Streams) (ok : Fits job.plan) (s t i : ℕ) (li : i <
   abbrev list_at : Bool → Bool → List Item
   list_at early own = cond early (cond (is_open (clock_of_flow job.inputs σ (flow_at job.plan.flat i) t)) (cond own (Compute i t ∷ []) [] ++ cond own (map Puts (sends job.plan s i)) (map Takes (listed (link_into job.plan s i)))) []) (cond own (map Puts (sends job.plan s i)) (map Takes (listed (link_into job.plan s i))))
 
-  pub own_early : nat_lt t job.inputs.instants ≡ true → owns job.plan s i ≡ true → 0 < length (cell job σ s t i) → (clock_of_flow job.inputs σ (flow_at job.plan.flat i) t ≡ Some true) × (cell job σ s t i ≡ Compute i t ∷ map Puts (sends job.plan s i))
+  pub own_early : nat_lt t job.inputs.instants ≡ true → stands job.plan i s ≡ true → 0 < length (cell job σ s t i) → (clock_of_flow job.inputs σ (flow_at job.plan.flat i) t ≡ Some true) × (cell job σ s t i ≡ Compute i t ∷ map Puts (sends job.plan s i))
   own_early early own l =
       let e = cell_is job σ ok s t i li ∙ ap₂ list_at early own in
       let n = ap length e in
       let w = open_items (clock_of_flow job.inputs σ (flow_at job.plan.flat i) t) (Compute i t ∷ map Puts (sends job.plan s i)) (omega (arith, n)) in
       (w.0, e ∙ w.1)
 
-  pub own_late : nat_lt t job.inputs.instants ≡ false → owns job.plan s i ≡ true → cell job σ s t i ≡ map Puts (sends job.plan s i)
+  pub own_late : nat_lt t job.inputs.instants ≡ false → stands job.plan i s ≡ true → cell job σ s t i ≡ map Puts (sends job.plan s i)
   own_late late own = cell_is job σ ok s t i li ∙ ap₂ list_at late own
 
   one_take : (o : Option ℕ) → 0 < length (map Takes (listed o)) → (o ≡ Some (unwrap_or o 0)) × (map Takes (listed o) ≡ Takes (unwrap_or o 0) ∷ [])
   one_take None l = absurd (omega arith)
   one_take (Some x) l = (refl, refl)
 
-  pub taken_early : nat_lt t job.inputs.instants ≡ true → owns job.plan s i ≡ false → 0 < length (cell job σ s t i) → (clock_of_flow job.inputs σ (flow_at job.plan.flat i) t ≡ Some true) × (link_into job.plan s i ≡ Some (unwrap_or (link_into job.plan s i) 0)) × (cell job σ s t i ≡ Takes (unwrap_or (link_into job.plan s i) 0) ∷ [])
+  pub taken_early : nat_lt t job.inputs.instants ≡ true → stands job.plan i s ≡ false → 0 < length (cell job σ s t i) → (clock_of_flow job.inputs σ (flow_at job.plan.flat i) t ≡ Some true) × (link_into job.plan s i ≡ Some (unwrap_or (link_into job.plan s i) 0)) × (cell job σ s t i ≡ Takes (unwrap_or (link_into job.plan s i) 0) ∷ [])
   taken_early early own l =
       let e = cell_is job σ ok s t i li ∙ ap₂ list_at early own in
       let ys = map Takes (listed (link_into job.plan s i)) in
@@ -79,7 +79,7 @@ module _ (job : Run) (σ : Streams) (ok : Fits job.plan) (s t i : ℕ) (li : i <
       let v = one_take (link_into job.plan s i) (omega (arith, n, m)) in
       (w.0, v.0, e ∙ w.1 ∙ v.1)
 
-  pub taken_late : nat_lt t job.inputs.instants ≡ false → owns job.plan s i ≡ false → 0 < length (cell job σ s t i) → (link_into job.plan s i ≡ Some (unwrap_or (link_into job.plan s i) 0)) × (cell job σ s t i ≡ Takes (unwrap_or (link_into job.plan s i) 0) ∷ [])
+  pub taken_late : nat_lt t job.inputs.instants ≡ false → stands job.plan i s ≡ false → 0 < length (cell job σ s t i) → (link_into job.plan s i ≡ Some (unwrap_or (link_into job.plan s i) 0)) × (cell job σ s t i ≡ Takes (unwrap_or (link_into job.plan s i) 0) ∷ [])
   taken_late early own l =
       let e = cell_is job σ ok s t i li ∙ ap₂ list_at early own in
       let n = ap length e in
@@ -93,7 +93,7 @@ put_there outs j l =
     let lj : j < length outs = omega (arith, n) in
     (slice_get-map Puts outs j ∙ ap (option_map Puts) (slice_get-get_or outs j 0 lj), lj)
 
-pub known_of_own : (plan : Distribution) (s i : ℕ) → owns plan s i ≡ true → knows plan s i ≡ true
+pub known_of_own : (plan : Distribution) (s i : ℕ) → stands plan i s ≡ true → knows plan s i ≡ true
 known_of_own plan s i own = ap (λ b. b || is_some (link_into plan s i)) own
 
 or_true : (a b : Bool) → b ≡ true → (a || b) ≡ true
@@ -101,7 +101,7 @@ or_true true b h = refl
 or_true false b h = h
 
 pub known_of_link : (plan : Distribution) (s i l : ℕ) → link_into plan s i ≡ Some l → knows plan s i ≡ true
-known_of_link plan s i l e = or_true (owns plan s i) (is_some (link_into plan s i)) (ap is_some e)
+known_of_link plan s i l e = or_true (stands plan i s) (is_some (link_into plan s i)) (ap is_some e)
 
 reads_places : (P : ℕ → Type 0) (form : Form) → All P (places form) → All P (form_reads form)
 reads_places P (Input c) h = h
@@ -143,7 +143,7 @@ pub record WorksOut (job : Run) (i t : ℕ) (o : Outcome) : Type 0 where
   pub mark : streams_of job i t ≡ mark_of o
 
 -- what is computed is what the equation says
-pub computed_is : (a : Desk) (i : ℕ) (o : Outcome) → Going a → a.place < length a.inputs.job.plan.flat.order → slice_index a.inputs.job.plan.flat.order a.place ≡ i → owns a.inputs.job.plan a.inputs.site i ≡ true → a.instant < a.inputs.job.inputs.instants → clock_of_flow a.inputs.job.inputs (streams_of a.inputs.job) (flow_at a.inputs.job.plan.flat i) a.instant ≡ Some true → Computes a i (flow_at a.program.plan.flat i) o → WorksOut a.inputs.job i a.instant o
+pub computed_is : (a : Desk) (i : ℕ) (o : Outcome) → Going a → a.place < length a.inputs.job.plan.flat.order → slice_index a.inputs.job.plan.flat.order a.place ≡ i → stands a.inputs.job.plan i a.inputs.site ≡ true → a.instant < a.inputs.job.inputs.instants → clock_of_flow a.inputs.job.inputs (streams_of a.inputs.job) (flow_at a.inputs.job.plan.flat i) a.instant ≡ Some true → Computes a i (flow_at a.program.plan.flat i) o → WorksOut a.inputs.job i a.instant o
 computed_is a i o g lp ei own lt open' c =
     let job = a.inputs.job in
     let σ = streams_of job in
@@ -187,13 +187,13 @@ computed_is a i o g lp ei own lt open' c =
 
 -- the item that is at hand
 pub data AtHand (a : Desk) (i : ℕ) : Type 0 where
-  ComputeAt : owns a.inputs.job.plan a.inputs.site i ≡ true → a.instant < a.inputs.job.inputs.instants → a.step ≡ 0 → clock_of_flow a.inputs.job.inputs (streams_of a.inputs.job) (flow_at a.inputs.job.plan.flat i) a.instant ≡ Some true → slice_get (cell a.inputs.job (streams_of a.inputs.job) a.inputs.site a.instant i) a.step ≡ Some (Compute i a.instant) → AtHand a i
-  PutEarly : owns a.inputs.job.plan a.inputs.site i ≡ true → a.instant < a.inputs.job.inputs.instants → (k : ℕ) → a.step ≡ suc k → clock_of_flow a.inputs.job.inputs (streams_of a.inputs.job) (flow_at a.inputs.job.plan.flat i) a.instant ≡ Some true → slice_get (cell a.inputs.job (streams_of a.inputs.job) a.inputs.site a.instant i) a.step ≡ Some (Puts (slice_index (sends a.inputs.job.plan a.inputs.site i) k)) → k < length (sends a.inputs.job.plan a.inputs.site i) → AtHand a i
-  PutLate : owns a.inputs.job.plan a.inputs.site i ≡ true → a.instant ≡ a.inputs.job.inputs.instants → slice_get (cell a.inputs.job (streams_of a.inputs.job) a.inputs.site a.instant i) a.step ≡ Some (Puts (slice_index (sends a.inputs.job.plan a.inputs.site i) a.step)) → a.step < length (sends a.inputs.job.plan a.inputs.site i) → AtHand a i
-  TakeEarly : owns a.inputs.job.plan a.inputs.site i ≡ false → a.instant < a.inputs.job.inputs.instants → a.step ≡ 0 → clock_of_flow a.inputs.job.inputs (streams_of a.inputs.job) (flow_at a.inputs.job.plan.flat i) a.instant ≡ Some true → link_into a.inputs.job.plan a.inputs.site i ≡ Some (unwrap_or (link_into a.inputs.job.plan a.inputs.site i) 0) → slice_get (cell a.inputs.job (streams_of a.inputs.job) a.inputs.site a.instant i) a.step ≡ Some (Takes (unwrap_or (link_into a.inputs.job.plan a.inputs.site i) 0)) → AtHand a i
-  TakeLate : owns a.inputs.job.plan a.inputs.site i ≡ false → a.instant ≡ a.inputs.job.inputs.instants → link_into a.inputs.job.plan a.inputs.site i ≡ Some (unwrap_or (link_into a.inputs.job.plan a.inputs.site i) 0) → slice_get (cell a.inputs.job (streams_of a.inputs.job) a.inputs.site a.instant i) a.step ≡ Some (Takes (unwrap_or (link_into a.inputs.job.plan a.inputs.site i) 0)) → AtHand a i
+  ComputeAt : stands a.inputs.job.plan i a.inputs.site ≡ true → a.instant < a.inputs.job.inputs.instants → a.step ≡ 0 → clock_of_flow a.inputs.job.inputs (streams_of a.inputs.job) (flow_at a.inputs.job.plan.flat i) a.instant ≡ Some true → slice_get (cell a.inputs.job (streams_of a.inputs.job) a.inputs.site a.instant i) a.step ≡ Some (Compute i a.instant) → AtHand a i
+  PutEarly : stands a.inputs.job.plan i a.inputs.site ≡ true → a.instant < a.inputs.job.inputs.instants → (k : ℕ) → a.step ≡ suc k → clock_of_flow a.inputs.job.inputs (streams_of a.inputs.job) (flow_at a.inputs.job.plan.flat i) a.instant ≡ Some true → slice_get (cell a.inputs.job (streams_of a.inputs.job) a.inputs.site a.instant i) a.step ≡ Some (Puts (slice_index (sends a.inputs.job.plan a.inputs.site i) k)) → k < length (sends a.inputs.job.plan a.inputs.site i) → AtHand a i
+  PutLate : stands a.inputs.job.plan i a.inputs.site ≡ true → a.instant ≡ a.inputs.job.inputs.instants → slice_get (cell a.inputs.job (streams_of a.inputs.job) a.inputs.site a.instant i) a.step ≡ Some (Puts (slice_index (sends a.inputs.job.plan a.inputs.site i) a.step)) → a.step < length (sends a.inputs.job.plan a.inputs.site i) → AtHand a i
+  TakeEarly : stands a.inputs.job.plan i a.inputs.site ≡ false → a.instant < a.inputs.job.inputs.instants → a.step ≡ 0 → clock_of_flow a.inputs.job.inputs (streams_of a.inputs.job) (flow_at a.inputs.job.plan.flat i) a.instant ≡ Some true → link_into a.inputs.job.plan a.inputs.site i ≡ Some (unwrap_or (link_into a.inputs.job.plan a.inputs.site i) 0) → slice_get (cell a.inputs.job (streams_of a.inputs.job) a.inputs.site a.instant i) a.step ≡ Some (Takes (unwrap_or (link_into a.inputs.job.plan a.inputs.site i) 0)) → AtHand a i
+  TakeLate : stands a.inputs.job.plan i a.inputs.site ≡ false → a.instant ≡ a.inputs.job.inputs.instants → link_into a.inputs.job.plan a.inputs.site i ≡ Some (unwrap_or (link_into a.inputs.job.plan a.inputs.site i) 0) → slice_get (cell a.inputs.job (streams_of a.inputs.job) a.inputs.site a.instant i) a.step ≡ Some (Takes (unwrap_or (link_into a.inputs.job.plan a.inputs.site i) 0)) → AtHand a i
 
-hand_own : (a : Desk) (i j : ℕ) → Going a → i < flows_of a.inputs.job.plan.flat → j ≡ a.step → j < length (cell a.inputs.job (streams_of a.inputs.job) a.inputs.site a.instant i) → owns a.inputs.job.plan a.inputs.site i ≡ true → a.instant < a.inputs.job.inputs.instants → AtHand a i
+hand_own : (a : Desk) (i j : ℕ) → Going a → i < flows_of a.inputs.job.plan.flat → j ≡ a.step → j < length (cell a.inputs.job (streams_of a.inputs.job) a.inputs.site a.instant i) → stands a.inputs.job.plan i a.inputs.site ≡ true → a.instant < a.inputs.job.inputs.instants → AtHand a i
 hand_own a i zero g li ej lj own lt =
     let w = own_early a.inputs.job (streams_of a.inputs.job) g.set.is_job.is_plan a.inputs.site a.instant i li (lt-ltb a.instant a.inputs.job.inputs.instants lt) own (omega arith) in
     ComputeAt own lt (sym ej) w.0 (ap (slice_get (cell a.inputs.job (streams_of a.inputs.job) a.inputs.site a.instant i)) (sym ej) ∙ ap (λ xs. slice_get xs 0) w.1)
@@ -207,7 +207,7 @@ pub at_hand : (a : Desk) (i : ℕ) → Going a → i < flows_of a.inputs.job.pla
 at_hand a i g li lj =
     let job = a.inputs.job in
     let σ = streams_of job in
-    elim (bool_cases (owns job.plan a.inputs.site i)) [
+    elim (bool_cases (stands job.plan i a.inputs.site)) [
       | inl own ↦ elim (cases_lt a.instant job.inputs.instants) [
         | inl lt ↦ hand_own a i a.step g li refl lj own lt
         | inr ge ↦
@@ -269,7 +269,7 @@ datum_here a h lt some open' =
     let same : datum_shown a.shown.items i ≡ d.0 = ap (λ o. unwrap_or (datum_there o) Nil) there' in
     w.is ∙ ap Known d.1 ∙ ap (λ x. Known (Present x)) (sym same)
 
-pub put_early : (a : Desk) (h : Here a) (k : ℕ) → owns a.inputs.job.plan a.inputs.site (slice_index a.inputs.job.plan.flat.order a.place) ≡ true → a.instant < a.inputs.job.inputs.instants → a.step ≡ suc k → clock_of_flow a.inputs.job.inputs (streams_of a.inputs.job) (flow_at a.inputs.job.plan.flat (slice_index a.inputs.job.plan.flat.order a.place)) a.instant ≡ Some true → k < length (sends a.inputs.job.plan a.inputs.site (slice_index a.inputs.job.plan.flat.order a.place)) → slice_get (link_list a.inputs.job (streams_of a.inputs.job) (slice_index (sends a.inputs.job.plan a.inputs.site (slice_index a.inputs.job.plan.flat.order a.place)) k)) (presents (streams_of a.inputs.job (slice_index a.inputs.job.plan.flat.order a.place)) a.instant) ≡ Some (record { no = presents (streams_of a.inputs.job (slice_index a.inputs.job.plan.flat.order a.place)) a.instant; body = Value (datum_shown a.shown.items (slice_index a.inputs.job.plan.flat.order a.place)) })
+pub put_early : (a : Desk) (h : Here a) (k : ℕ) → stands a.inputs.job.plan (slice_index a.inputs.job.plan.flat.order a.place) a.inputs.site ≡ true → a.instant < a.inputs.job.inputs.instants → a.step ≡ suc k → clock_of_flow a.inputs.job.inputs (streams_of a.inputs.job) (flow_at a.inputs.job.plan.flat (slice_index a.inputs.job.plan.flat.order a.place)) a.instant ≡ Some true → k < length (sends a.inputs.job.plan a.inputs.site (slice_index a.inputs.job.plan.flat.order a.place)) → slice_get (link_list a.inputs.job (streams_of a.inputs.job) (slice_index (sends a.inputs.job.plan a.inputs.site (slice_index a.inputs.job.plan.flat.order a.place)) k)) (presents (streams_of a.inputs.job (slice_index a.inputs.job.plan.flat.order a.place)) a.instant) ≡ Some (record { no = presents (streams_of a.inputs.job (slice_index a.inputs.job.plan.flat.order a.place)) a.instant; body = Value (datum_shown a.shown.items (slice_index a.inputs.job.plan.flat.order a.place)) })
 put_early a h k own lt ek open' within =
     let job = a.inputs.job in
     let σ = streams_of job in
@@ -281,7 +281,7 @@ put_early a h k own lt ek open' within =
     ap (λ xs. slice_get xs (presents (σ i) a.instant)) (link_is job l i (let c = carrier_is job.plan a.inputs.site i k within in flow_of_carried job.plan l i c.0 c.1))
     ∙ message_at (σ i) job.inputs.instants a.instant w.past.last (datum_shown a.shown.items i) lt w.last (datum_here a h lt (omega arith) open')
 
-pub put_late : (a : Desk) (h : Here a) (k : ℕ) → owns a.inputs.job.plan a.inputs.site (slice_index a.inputs.job.plan.flat.order a.place) ≡ true → a.instant ≡ a.inputs.job.inputs.instants → k < length (sends a.inputs.job.plan a.inputs.site (slice_index a.inputs.job.plan.flat.order a.place)) → slice_get (link_list a.inputs.job (streams_of a.inputs.job) (slice_index (sends a.inputs.job.plan a.inputs.site (slice_index a.inputs.job.plan.flat.order a.place)) k)) (presents (streams_of a.inputs.job (slice_index a.inputs.job.plan.flat.order a.place)) a.instant) ≡ Some (record { no = presents (streams_of a.inputs.job (slice_index a.inputs.job.plan.flat.order a.place)) a.instant; body = Close })
+pub put_late : (a : Desk) (h : Here a) (k : ℕ) → stands a.inputs.job.plan (slice_index a.inputs.job.plan.flat.order a.place) a.inputs.site ≡ true → a.instant ≡ a.inputs.job.inputs.instants → k < length (sends a.inputs.job.plan a.inputs.site (slice_index a.inputs.job.plan.flat.order a.place)) → slice_get (link_list a.inputs.job (streams_of a.inputs.job) (slice_index (sends a.inputs.job.plan a.inputs.site (slice_index a.inputs.job.plan.flat.order a.place)) k)) (presents (streams_of a.inputs.job (slice_index a.inputs.job.plan.flat.order a.place)) a.instant) ≡ Some (record { no = presents (streams_of a.inputs.job (slice_index a.inputs.job.plan.flat.order a.place)) a.instant; body = Close })
 put_late a h k own end within =
     let job = a.inputs.job in
     let σ = streams_of job in
@@ -295,7 +295,7 @@ put_late a h k own end within =
     ∙ close_at (σ i) job.inputs.instants w.past.last (subst (λ (t : ℕ). before (σ i) t ≡ Some w.past.last) end w.last)
     ∙ ap (λ t. Some (record { no = presents (σ i) t; body = Close })) (sym end)
 
-count_here : (a : Desk) (h : Here a) → owns a.inputs.job.plan a.inputs.site (slice_index a.inputs.job.plan.flat.order a.place) ≡ true → count_kept a.pasts.items (slice_index a.inputs.job.plan.flat.order a.place) ≡ presents (streams_of a.inputs.job (slice_index a.inputs.job.plan.flat.order a.place)) a.instant
+count_here : (a : Desk) (h : Here a) → stands a.inputs.job.plan (slice_index a.inputs.job.plan.flat.order a.place) a.inputs.site ≡ true → count_kept a.pasts.items (slice_index a.inputs.job.plan.flat.order a.place) ≡ presents (streams_of a.inputs.job (slice_index a.inputs.job.plan.flat.order a.place)) a.instant
 count_here a h own =
     let job = a.inputs.job in
     let i = slice_index job.plan.flat.order a.place in
@@ -303,7 +303,7 @@ count_here a h own =
     count_is job.plan.flat job.inputs (streams_of job) a.pasts.items a.instant i (h.going_on.stands.kept i f.2 (known_of_own job.plan a.inputs.site i own))
 
 -- the number of puts before the one at hand
-put_no : (a : Desk) (h : Here a) (k : ℕ) → owns a.inputs.job.plan a.inputs.site (slice_index a.inputs.job.plan.flat.order a.place) ≡ true → k < length (sends a.inputs.job.plan a.inputs.site (slice_index a.inputs.job.plan.flat.order a.place)) → slice_get (cell a.inputs.job (streams_of a.inputs.job) a.inputs.site a.instant (slice_index a.inputs.job.plan.flat.order a.place)) a.step ≡ Some (Puts (slice_index (sends a.inputs.job.plan a.inputs.site (slice_index a.inputs.job.plan.flat.order a.place)) k)) → puts_before (system_of a.inputs.job) (slice_index (sends a.inputs.job.plan a.inputs.site (slice_index a.inputs.job.plan.flat.order a.place)) k) a.inputs.site (done_of a) ≡ presents (streams_of a.inputs.job (slice_index a.inputs.job.plan.flat.order a.place)) a.instant
+put_no : (a : Desk) (h : Here a) (k : ℕ) → stands a.inputs.job.plan (slice_index a.inputs.job.plan.flat.order a.place) a.inputs.site ≡ true → k < length (sends a.inputs.job.plan a.inputs.site (slice_index a.inputs.job.plan.flat.order a.place)) → slice_get (cell a.inputs.job (streams_of a.inputs.job) a.inputs.site a.instant (slice_index a.inputs.job.plan.flat.order a.place)) a.step ≡ Some (Puts (slice_index (sends a.inputs.job.plan a.inputs.site (slice_index a.inputs.job.plan.flat.order a.place)) k)) → puts_before (system_of a.inputs.job) (slice_index (sends a.inputs.job.plan a.inputs.site (slice_index a.inputs.job.plan.flat.order a.place)) k) a.inputs.site (done_of a) ≡ presents (streams_of a.inputs.job (slice_index a.inputs.job.plan.flat.order a.place)) a.instant
 put_no a h k own within item =
     let job = a.inputs.job in
     let σ = streams_of job in

@@ -10,7 +10,7 @@ use Rattle.luflow.specs.Streams.{Known}
 use Rattle.luflow.specs.Program.{flows_of}
 use Rattle.luflow.proofs.Solutions.{some_at, place_in}
 use Rattle.luworld.specs.Needs.{Distribution, home, stands}
-use Rattle.luworld.specs.Runs.{streams_of, cell, script, is_told, outputs_of}
+use Rattle.luworld.specs.Runs.{streams_of, cell, script, outputs_of}
 use Rattle.lusite.specs.declared.desk.Desk.{Desk}
 use Rattle.lusite.specs.declared.program.Part.{Part}
 use Rattle.lusite.specs.Machine.{is_faulted, IsSet, StandsAt, IsReadyAt, Ready, Over, done_of}
@@ -19,6 +19,7 @@ use Rattle.lusite.proofs.Desks.{Going, going, part_here}
 use Rattle.lusite.proofs.Offers.{Here, hand_next}
 use Rattle.lusite.proofs.Told.{lt-false, both, first_len}
 use Rattle.lusite.proofs.Passed.{told, told_passed, passed_told}
+use Rattle.luflow.specs.Variables.{is_output_of}
 
 -- a site that has done its script stands after the last instant, if it holds no stop
 at_end : (a : Desk) → Going a → IsReadyAt a → done_of a ≡ length (script a.inputs.job (streams_of a.inputs.job) a.inputs.site) → a.instant ≡ a.inputs.job.inputs.instants
@@ -53,20 +54,20 @@ filtered p a (suc n) k i e = go (p a) refl k e (filtered p (a + 1) n)
     go true e (suc k) is rest = let w = rest k i is in (let l = w.0 in omega (arith, l), w.1)
     go false e k is rest = let w = rest k i is in (let l = w.0 in omega (arith, l), w.1)
 
-pub output_there : (plan : Distribution) (k i : ℕ) → slice_get (outputs_of plan) k ≡ Some i → (i < length plan.flat.variables) × (is_told plan i ≡ true)
-output_there plan k i e = let w = filtered (is_told plan) 0 (length plan.flat.variables) k i e in (let l = w.0 in omega (arith, l), w.1)
+pub output_there : (plan : Distribution) (k i : ℕ) → slice_get (outputs_of plan) k ≡ Some i → (i < length plan.flat.variables) × (is_output_of plan.flat i ≡ true)
+output_there plan k i e = let w = filtered (is_output_of plan.flat) 0 (length plan.flat.variables) k i e in (let l = w.0 in omega (arith, l), w.1)
 
 -- what a site tells of an output
 pub output_is : (a : Desk) → IsSet a → StandsAt a → IsLoggedAt a → (is_faulted a ≡ false → IsReadyAt a) → (k : ℕ) (xs : List Status) → xs ≡ log_at a (slice_get (outputs_of a.program.plan) k) → IsOutput a.inputs.job a.inputs.site (done_of a) k xs
 output_is a set st logged ready k xs e =
     let job = a.inputs.job in
     let ok = set.is_job.is_plan in
-    let inside : (i : ℕ) → slice_get (outputs_of job.plan) k ≡ Some i → (i < flows_of job.plan.flat) × (is_told job.plan i ≡ true) = λ i out. let o = output_there job.plan k i out in let v = ok.variables_first in let l = o.0 in (omega (arith, v, l), o.1) in
+    let inside : (i : ℕ) → slice_get (outputs_of job.plan) k ≡ Some i → (i < flows_of job.plan.flat) × (is_output_of job.plan.flat i ≡ true) = λ i out. let o = output_there job.plan k i out in let v = ok.variables_first in let l = o.0 in (omega (arith, v, l), o.1) in
     let log = λ (i : ℕ) (out : slice_get (outputs_of job.plan) k ≡ Some i). e ∙ ap (λ (q : Distribution). log_at a (slice_get (outputs_of q) k)) set.plan_is ∙ ap (log_at a) out ∙ ap (λ (x : Part). cond x.told (row_items (slice_get a.logs.items i)) []) (part_here a i set (inside i out).0) in
     record {
       told = λ i out at_home.
           let o = inside i out in
-          let wanted : is_wanted job a.inputs.site i ≡ true = both (nat_eq (home job.plan i) a.inputs.site) (is_told job.plan i) (eq-eqb (home job.plan i) a.inputs.site at_home) o.1 in
+          let wanted : is_wanted job a.inputs.site i ≡ true = both (nat_eq (home job.plan i) a.inputs.site) (is_output_of job.plan.flat i) (eq-eqb (home job.plan i) a.inputs.site at_home) o.1 in
           let w = place_in job.plan.flat.order i (ok.ordered.all_flows i o.0) in
           let b = nat_lt w.0 (passed_to a) in
           let m = a.instant + add_if (nat_lt a.instant job.inputs.instants && b) in
@@ -93,7 +94,7 @@ output_is a set st logged ready k xs e =
             ];
           };
       elsewhere = λ i out away.
-          let off : is_wanted job a.inputs.site i ≡ false = ap (λ (b : Bool). b && is_told job.plan i) (ne_eqb (home job.plan i) a.inputs.site away) in
+          let off : is_wanted job a.inputs.site i ≡ false = ap (λ (b : Bool). b && is_output_of job.plan.flat i) (ne_eqb (home job.plan i) a.inputs.site away) in
           log i out ∙ ap (λ (t : Bool). cond t (row_items (slice_get a.logs.items i)) []) off;
       beyond = λ none. e ∙ ap (λ (q : Distribution). log_at a (slice_get (outputs_of q) k)) set.plan_is ∙ ap (log_at a) none;
     }

@@ -15,13 +15,14 @@ use Rattle.luflow.specs.Program.{flows_of}
 use Rattle.luflow.specs.Messages.{marks}
 use Rattle.luflow.proofs.Solutions.{some_at}
 use Rattle.luworld.specs.Needs.{Distribution, stands, home}
-use Rattle.luworld.specs.Runs.{Run, streams_of, owns, knows, is_told, IsJob, link_into}
+use Rattle.luworld.specs.Runs.{Run, streams_of, knows, IsJob, link_into}
 use Rattle.lusite.specs.Logs.{Log, add_if, IsFirst, IsRow, IsLogged, IsLoggedAt, is_wanted, is_noted, passed_to, IsNoted, IsNewRow}
 use Rattle.lusite.specs.Machine.{Stands, is_faulted}
 use Rattle.lusite.specs.declared.desk.Desk.{Desk}
 use Rattle.lusite.specs.declared.program.Part.{Part}
 use Rattle.lusite.proofs.Machine.{slice_get-set_same, slice_get-set_other}
 use Rattle.lusite.proofs.Desks.{Going, no_step, part_here, here_in, place_in_job, flow_same}
+use Rattle.luflow.specs.Variables.{is_output_of}
 
 pub lt-false : (m n : ℕ) → n ≤ m → nat_lt m n ≡ false
 lt-false m n le = elim (bool_cases (nat_lt m n)) [ inl e ↦ let h = ltb-true m n e in absurd (omega arith) | inr e ↦ e ]
@@ -140,7 +141,7 @@ logged_new job s logs len inside each q lq wanted =
 -- a flow that a site reports is one that it knows
 pub wanted_known : (job : Run) (s i : ℕ) → IsJob job → i < flows_of job.plan.flat → is_wanted job s i ≡ true → stands job.plan i s ≡ true
 wanted_known job s i ok li wanted =
-    subst (λ (h : ℕ). stands job.plan i h ≡ true) (eqb-true (home job.plan i) s (and_parts (nat_eq (home job.plan i) s) (is_told job.plan i) wanted).0) (ok.is_plan.stands_home i li)
+    subst (λ (h : ℕ). stands job.plan i h ≡ true) (eqb-true (home job.plan i) s (and_parts (nat_eq (home job.plan i) s) (is_output_of job.plan.flat i) wanted).0) (ok.is_plan.stands_home i li)
 
 -- for the desk
 passed_some : (a : Desk) → Going a → 0 < a.step → passed_to a ≡ a.place + 1
@@ -250,7 +251,7 @@ pub noted_step : (a : Desk) (logs : List Log) → Going a → IsLogged a.inputs.
 noted_step a logs g h = subst (λ (k : ℕ). IsLogged a.inputs.job a.inputs.site logs a.instant k) (step_one a g) h
 
 -- a flow that was taken is not reported
-pub note_given : (a : Desk) → Going a → IsLoggedAt a → a.step ≡ 0 → a.place < length a.inputs.job.plan.flat.order → owns a.inputs.job.plan a.inputs.site (slice_index a.inputs.job.plan.flat.order a.place) ≡ false → IsLogged a.inputs.job a.inputs.site a.logs.items a.instant (a.place + add_if (nat_lt 0 1 && not (is_faulted a)))
+pub note_given : (a : Desk) → Going a → IsLoggedAt a → a.step ≡ 0 → a.place < length a.inputs.job.plan.flat.order → stands a.inputs.job.plan (slice_index a.inputs.job.plan.flat.order a.place) a.inputs.site ≡ false → IsLogged a.inputs.job a.inputs.site a.logs.items a.instant (a.place + add_if (nat_lt 0 1 && not (is_faulted a)))
 note_given a g logged z lp other =
     let job = a.inputs.job in
     let i = slice_index job.plan.flat.order a.place in

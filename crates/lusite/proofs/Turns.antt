@@ -26,8 +26,8 @@ use Rattle.luflow.proofs.FaultsFound.{is_fault}
 use Rattle.luworld.specs.declared.link.Link.{Link}
 use Rattle.luworld.specs.World.{Item, Compute, Puts, Takes, takes, takes_before}
 use Rattle.luworld.specs.Outline.{messages_from}
-use Rattle.luworld.specs.Needs.{Distribution, home}
-use Rattle.luworld.specs.Runs.{Run, Fits, streams_of, owns, sends, link_into, carried, carriers, flow_of_link, cell, endless, script, outline, system_of, items_before, link_list, messages_of}
+use Rattle.luworld.specs.Needs.{Distribution, home, stands}
+use Rattle.luworld.specs.Runs.{Run, Fits, streams_of, sends, link_into, carried, carriers, flow_of_link, cell, endless, script, outline, system_of, items_before, link_list, messages_of}
 use Rattle.luworld.proofs.Cuts.{cut_at}
 use Rattle.luworld.proofs.Outlines.{broken_is, not_broken, list_long, flow_of_carried}
 use Rattle.luworld.proofs.Cursor.{before_step, before_end}
@@ -68,7 +68,7 @@ hand_of a h = at_hand a (slice_index a.inputs.job.plan.flat.order a.place) h.goi
 pub record WorkAt (a : Desk) (o : Outcome) : Type 0 where
   pub first : a.step ≡ 0
   pub early : a.instant < a.inputs.job.inputs.instants
-  pub own : owns a.inputs.job.plan a.inputs.site (slice_index a.inputs.job.plan.flat.order a.place) ≡ true
+  pub own : stands a.inputs.job.plan (slice_index a.inputs.job.plan.flat.order a.place) a.inputs.site ≡ true
   pub item : slice_get (cell a.inputs.job (streams_of a.inputs.job) a.inputs.site a.instant (slice_index a.inputs.job.plan.flat.order a.place)) a.step ≡ Some (Compute (slice_index a.inputs.job.plan.flat.order a.place) a.instant)
   pub works : WorksOut a.inputs.job (slice_index a.inputs.job.plan.flat.order a.place) a.instant o
 
@@ -156,7 +156,7 @@ work_stuck a g ready next c =
     stuck_broken job.plan.flat job.inputs (streams_of job) ij.is_plan.ordered ij.is_plan.sound ij.fit (IsSolution-solution job.plan.flat job.inputs ij.is_plan.ordered) (slice_index job.plan.flat.order a.place) a.instant w.works.flow w.works.there w.early w.works.clock w.works.value w.works.unbroken
 
 -- how long an own flow's cell is
-put_size : (a : Desk) (ok : Fits a.inputs.job.plan) (i : ℕ) → i < flows_of a.inputs.job.plan.flat → owns a.inputs.job.plan a.inputs.site i ≡ true → (a.instant < a.inputs.job.inputs.instants) ⊎ (a.instant ≡ a.inputs.job.inputs.instants) → length (cell a.inputs.job (streams_of a.inputs.job) a.inputs.site a.instant i) ≤ length (sends a.inputs.job.plan a.inputs.site i) + 1
+put_size : (a : Desk) (ok : Fits a.inputs.job.plan) (i : ℕ) → i < flows_of a.inputs.job.plan.flat → stands a.inputs.job.plan i a.inputs.site ≡ true → (a.instant < a.inputs.job.inputs.instants) ⊎ (a.instant ≡ a.inputs.job.inputs.instants) → length (cell a.inputs.job (streams_of a.inputs.job) a.inputs.site a.instant i) ≤ length (sends a.inputs.job.plan a.inputs.site i) + 1
 put_size a ok i li own (inl lt) = elim (cases_lt 0 (length (cell a.inputs.job (streams_of a.inputs.job) a.inputs.site a.instant i))) [
   | inl l ↦
       let w = own_early a.inputs.job (streams_of a.inputs.job) ok a.inputs.site a.instant i li (lt-ltb a.instant a.inputs.job.inputs.instants lt) own l in
@@ -170,7 +170,7 @@ put_size a ok i li own (inr end) =
     let k = length-map (sends a.inputs.job.plan a.inputs.site i) Puts in
     omega (arith, n, k)
 
-late_step : (a : Desk) (ok : Fits a.inputs.job.plan) (i : ℕ) → i < flows_of a.inputs.job.plan.flat → owns a.inputs.job.plan a.inputs.site i ≡ false → a.instant ≡ a.inputs.job.inputs.instants → a.step < length (cell a.inputs.job (streams_of a.inputs.job) a.inputs.site a.instant i) → a.step ≡ 0
+late_step : (a : Desk) (ok : Fits a.inputs.job.plan) (i : ℕ) → i < flows_of a.inputs.job.plan.flat → stands a.inputs.job.plan i a.inputs.site ≡ false → a.instant ≡ a.inputs.job.inputs.instants → a.step < length (cell a.inputs.job (streams_of a.inputs.job) a.inputs.site a.instant i) → a.step ≡ 0
 late_step a ok i li other end l =
     let w = taken_late a.inputs.job (streams_of a.inputs.job) ok a.inputs.site a.instant i li (lt-false a.instant a.inputs.job.inputs.instants (omega arith)) other (omega arith) in
     let n = ap length w.1 in
@@ -252,7 +252,7 @@ taken_mark s n t d (Gives x) m lt h e at =
     let g : record { no = presents s t; body = Value x } ≡ m = same_Some (record { no = presents s t; body = Value x }) m f in
     (x, e, sym (ap (λ (k : Msg). k.body) g))
 
-take_here : (a : Desk) (h : Here a) → (l : ℕ) (m : Msg) → slice_get (script a.inputs.job (streams_of a.inputs.job) a.inputs.site) (done_of a) ≡ Some (Takes l) → slice_get (link_list a.inputs.job (streams_of a.inputs.job) l) (takes_before (system_of a.inputs.job) l a.inputs.site (done_of a)) ≡ Some m → AtHand a (slice_index a.inputs.job.plan.flat.order a.place) → (a.step ≡ 0) × (owns a.inputs.job.plan a.inputs.site (slice_index a.inputs.job.plan.flat.order a.place) ≡ false) × (a.instant < a.inputs.job.inputs.instants → (x : Datum) × (streams_of a.inputs.job (slice_index a.inputs.job.plan.flat.order a.place) a.instant ≡ Known (Present x)) × (m.body ≡ Value x))
+take_here : (a : Desk) (h : Here a) → (l : ℕ) (m : Msg) → slice_get (script a.inputs.job (streams_of a.inputs.job) a.inputs.site) (done_of a) ≡ Some (Takes l) → slice_get (link_list a.inputs.job (streams_of a.inputs.job) l) (takes_before (system_of a.inputs.job) l a.inputs.site (done_of a)) ≡ Some m → AtHand a (slice_index a.inputs.job.plan.flat.order a.place) → (a.step ≡ 0) × (stands a.inputs.job.plan (slice_index a.inputs.job.plan.flat.order a.place) a.inputs.site ≡ false) × (a.instant < a.inputs.job.inputs.instants → (x : Datum) × (streams_of a.inputs.job (slice_index a.inputs.job.plan.flat.order a.place) a.instant ≡ Known (Present x)) × (m.body ≡ Value x))
 take_here a h l m e at (ComputeAt own lt z open' item) = let n = sym item ∙ sym (hand_next a h) ∙ e in absurd cc
 take_here a h l m e at (PutEarly own lt j ej open' item within) = let n = sym item ∙ sym (hand_next a h) ∙ e in absurd cc
 take_here a h l m e at (PutLate own end item within) = let n = sym item ∙ sym (hand_next a h) ∙ e in absurd cc
@@ -312,7 +312,7 @@ sent_at a is st go ready next =
     elim (cases_lt a.instant a.inputs.job.inputs.instants) [ inl lt ↦ inl (w.0 lt) | inr ge ↦ inr ge ]
 
 -- where the next item is a take, the flow is none of the site's own
-pub given_at : (a : Desk) (m : Msg) → IsSet a → StandsAt a → (is_faulted a) ≡ false → IsReadyAt a → IsTakeNext a.inputs.job a.inputs.site (done_of a) m → (a.step ≡ 0) × (a.place < length a.inputs.job.plan.flat.order) × (owns a.inputs.job.plan a.inputs.site (slice_index a.inputs.job.plan.flat.order a.place) ≡ false)
+pub given_at : (a : Desk) (m : Msg) → IsSet a → StandsAt a → (is_faulted a) ≡ false → IsReadyAt a → IsTakeNext a.inputs.job a.inputs.site (done_of a) m → (a.step ≡ 0) × (a.place < length a.inputs.job.plan.flat.order) × (stands a.inputs.job.plan (slice_index a.inputs.job.plan.flat.order a.place) a.inputs.site ≡ false)
 given_at a m is st go ready next =
     let g = going a is st go in
     let h = here_from a (Takes next.0) g ready next.1 in

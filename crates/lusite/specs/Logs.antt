@@ -7,10 +7,11 @@ use Rattle.luflow.specs.Messages.{marks}
 use Rattle.luworld.specs.Needs.{home}
 use Rattle.luflow.specs.Program.{flow_at}
 use Rattle.luflow.specs.Solution.{clock_of_flow}
-use Rattle.luworld.specs.Runs.{Run, script, endless, items_before, is_open, IsFree, HasNoStop, is_told, outputs_of, streams_of}
+use Rattle.luworld.specs.Runs.{Run, script, endless, items_before, is_open, IsFree, HasNoStop, outputs_of, streams_of}
 use Rattle.lusite.specs.declared.desk.Desk.{Desk}
 use Rattle.lusite.specs.Programs.{part_at}
 use Rattle.lusite.specs.Machine.{is_faulted}
+use Rattle.luflow.specs.Variables.{is_output_of}
 
 abbrev pub add_if : Bool → ℕ
 add_if b = cond b 1 0
@@ -58,7 +59,7 @@ pub record IsOutput (job : Run) (s n k : ℕ) (xs : List Status) : Type 0 where
 
 -- whether a site reports a flow
 abbrev pub is_wanted : Run → ℕ → ℕ → Bool
-is_wanted job s i = nat_eq (home job.plan i) s && is_told job.plan i
+is_wanted job s i = nat_eq (home job.plan i) s && is_output_of job.plan.flat i
 
 -- the log of flow i has its first m statuses, and room for all
 pub record IsRow (job : Run) (i : ℕ) (logs : List Log) (m : ℕ) : Type 0 where

@@ -4,11 +4,12 @@ use Rattle.std.specs.List.{range_with_len}
 use Rattle.luflow.specs.declared.form.Flow.{Flow}
 use Rattle.luflow.specs.Program.{flows_of}
 use Rattle.luworld.specs.Needs.{Distribution, IsPlan, stands, home}
-use Rattle.luworld.specs.Runs.{link_into, sends, is_output, is_told, outputs_of}
+use Rattle.luworld.specs.Runs.{link_into, sends, outputs_of}
 use Rattle.luworld.specs.declared.link.Link.{Link}
 use Rattle.luflow.specs.declared.variable.Variable.{Variable}
 use Rattle.std.specs.Option.{option_map}
 use Rattle.lusite.specs.declared.program.Part.{Part}
+use Rattle.luflow.specs.Variables.{is_output_of, is_output}
 
 -- the plan and the site that a site's program is of
 pub record SitePlan : Type 0 where
@@ -17,7 +18,7 @@ pub record SitePlan : Type 0 where
 
 -- a site's part in a flow: whether it computes it, whether it reports it, the link by which it takes it, and those by which it sends it
 abbrev pub part_of : Distribution → ℕ → ℕ → Part
-part_of plan s i = record { own = stands plan i s; told = nat_eq (home plan i) s && is_told plan i; from = link_into plan s i; to = sends plan s i }
+part_of plan s i = record { own = stands plan i s; told = nat_eq (home plan i) s && is_output_of plan.flat i; from = link_into plan s i; to = sends plan s i }
 
 abbrev pub parts_of : Distribution → ℕ → List Part
 parts_of plan s = map (part_of plan s) (range_with_len 0 (flows_of plan.flat))

@@ -4,8 +4,9 @@ ghost use Rattle.std.specs.Prelude.{◌≡◌, ℕ, ◌+◌, ◌<◌, ◌&&◌, 
 ghost use Rattle.std.specs.List.{range_with_len};
 ghost use Rattle.luworld.specs.declared.link.Link.{Link};
 ghost use Rattle.luworld.specs.Needs.{sites_of, home, stands};
-ghost use Rattle.luworld.specs.Runs.{is_into, is_told, is_output, outputs_of};
+ghost use Rattle.luworld.specs.Runs.{is_into, outputs_of};
 ghost use Rattle.lusite.specs.Programs.{part_of, parts_of, carrier_at, role_at};
+ghost use Rattle.luflow.specs.Variables.{is_output_of, is_output};
 
 use crate::next::LinkNo;
 use crate::program::{Part, SiteProgram};

@@ -12,10 +12,11 @@ use Rattle.luflow.specs.declared.form.Flow.{Flow}
 use Rattle.luflow.specs.Program.{FlatProgram, flow_at, flows_of, places, clock_reads}
 use Rattle.luflow.specs.Flats.{IsFlat, IsWithin}
 use Rattle.luworld.specs.declared.link.Link.{Link}
-use Rattle.luworld.specs.Needs.{Distribution, sites_of, row, flow_sites, is_in, stands, home, IsNeeded, read_there, clock_there, clock_needed, is_linked, links_of_variable, all_links, IsPlacedAt, IsPlan}
+use Rattle.luworld.specs.Needs.{Distribution, sites_of, flow_sites, is_in, stands, home, IsNeeded, read_there, clock_there, clock_needed, is_linked, links_of_variable, all_links, IsPlacedAt, IsPlan}
 use Rattle.luworld.specs.Runs.{Run, IsRun, Fits, IsJob, flow_of_link, carried, receiver_of, carriers, is_into, link_into, knows, listed}
 use Rattle.luflow.proofs.Solutions.{some_at}
 use Rattle.luworld.proofs.Wired.{Each, each_append, each_at}
+use Rattle.luflow.specs.Rank.{row}
 
 -- the test fails at each element
 abbrev Never : {X : Type 0} → (X → Bool) → List X → Type 0

@@ -9,10 +9,10 @@ use Rattle.luflow.specs.declared.form.Flow.{Flow}
 use Rattle.luflow.specs.declared.form.Form.TheVariants.{When}
 use Rattle.luflow.specs.Vectors.{sampled_flow}
 use Rattle.luflow.specs.Program.{flow_at, flows_of, places, clock_reads}
-use Rattle.luflow.specs.Rank.{has}
+use Rattle.luflow.specs.Rank.{has, row}
 use Rattle.luflow.proofs.Worked.{passes, pass_at, on_flow, flow_passes, all_where, contains_from_has, implied}
 use Rattle.luflow.proofs.Vectors.{counters_worked, sum_worked, division_worked, quotient_worked, held_worked}
-use Rattle.luworld.specs.Needs.{Distribution, row, flow_sites, stands, IsNeeded, read_there, clock_there, clock_needed, IsPlacedAt}
+use Rattle.luworld.specs.Needs.{Distribution, flow_sites, stands, IsNeeded, read_there, clock_there, clock_needed, IsPlacedAt}
 use Rattle.luworld.specs.Runs.{IsRun}
 use Rattle.luworld.specs.RunVectors.{counters_run, sampled_run, shared_run, spread_run, division_run, quotient_run, returned_run, held_run}
 

@@ -5,6 +5,7 @@ use Rattle.lulimits.specs.Limits.{most_sites, most_capacity}
 use Rattle.luflow.specs.declared.form.Flow.{Flow}
 use Rattle.luflow.specs.Program.{FlatProgram, flow_at, places, clock_reads}
 use Rattle.luflow.specs.Flats.{IsFlat}
+use Rattle.luflow.specs.Rank.{row}
 use Rattle.luworld.specs.declared.link.Link.{Link}
 
 -- A flat program, the names of the sites, for each main variable the sites at which it stands, in order, what each site needs,
@@ -19,9 +20,6 @@ pub record Distribution : Type 0 where
 
 abbrev pub sites_of : Distribution → ℕ
 sites_of plan = length plan.names
-
-abbrev pub row : List (List ℕ) → ℕ → List ℕ
-row rows i = unwrap_or (slice_get rows i) []
 
 -- the sites of a flow are those of the main variable in whose equation it stands
 abbrev pub flow_sites : Distribution → ℕ → List ℕ

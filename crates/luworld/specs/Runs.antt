@@ -6,9 +6,7 @@ use Rattle.lulimits.specs.Limits.{most_instants}
 use Rattle.luflow.specs.declared.message.Msg.{Msg}
 use Rattle.luflow.specs.declared.form.Form.TheVariants as forms
 use Rattle.luflow.specs.declared.form.Flow.{Flow}
-use Rattle.luflow.specs.declared.variable.Role.{Role}
-use Rattle.luflow.specs.declared.variable.Role.TheVariants.{Input, Output, Local}
-use Rattle.luflow.specs.declared.variable.Variable.{Variable}
+use Rattle.luflow.specs.Variables.{is_output_of}
 use Rattle.luflow.specs.Program.{Table, flow_at, flows_of, IsOrdered, places, clock_reads}
 use Rattle.luflow.specs.Streams.{Streams, is_broken}
 use Rattle.luflow.specs.Solution.{solution, clock_of_flow}
@@ -129,16 +127,8 @@ abbrev pub NoFault : Run → Type 0
 NoFault job = (i t : ℕ) → i < flows_of job.plan.flat → t < job.inputs.instants → is_broken (streams_of job i t) ≡ false
 
 -- the main variables that are outputs, in order of declaration
-abbrev pub is_output : Role → Bool
-is_output Input = false
-is_output Output = true
-is_output Local = false
-
-abbrev pub is_told : Distribution → ℕ → Bool
-is_told plan i = unwrap_or (option_map (λ (x : Variable). is_output x.role) (slice_get plan.flat.variables i)) false
-
 abbrev pub outputs_of : Distribution → List ℕ
-outputs_of plan = filter (is_told plan) (range_with_len 0 (length plan.flat.variables))
+outputs_of plan = filter (is_output_of plan.flat) (range_with_len 0 (length plan.flat.variables))
 
 abbrev pub listed : Option ℕ → List ℕ
 listed None = []
@@ -163,10 +153,6 @@ pub record Fits (plan : Distribution) : Type 0 where
   pub input_there : (i c : ℕ) (flow : Flow) → flow_at plan.flat i ≡ Some flow → flow.form ≡ forms.Input c → c ≡ i
   pub needs_clock : (s i : ℕ) (flow : Flow) → flow_at plan.flat i ≡ Some flow → knows plan s i ≡ true → All (λ r. knows plan s r ≡ true) (clock_reads flow.clock)
   pub needs_operands : (s i : ℕ) (flow : Flow) → flow_at plan.flat i ≡ Some flow → stands plan i s ≡ true → All (λ r. knows plan s r ≡ true) (places flow.form)
-
--- whether a flow is one of a site's own
-abbrev pub owns : Distribution → ℕ → ℕ → Bool
-owns plan s i = stands plan i s
 
 -- what the machines of a run rest on
 pub record IsJob (job : Run) : Type 0 where

@@ -27,27 +27,27 @@ returns-in_err-program-clause-refuses c =
     let s = scanned (λ (v : Vec Lexeme Global). v.items) c.in_ok-tokens.tokens c.args.text.now c.deref.result.now c.deref.ensures.value c.in_ok-tokens.ensures.tokens c.in_ok-tokens.ensures.only c.in_ok-tokens.ensures.refuses in
     rw (p.1, p.2) (λ error h. parser-refuses c.args.text.now c.deref.result.now c.in_err-program.field-0.0 error s c.in_err-program.ensures.only c.in_err-program.ensures.refuses h)
 
-pub returns-then-as_slice-gt-MAX_NODES-clause-only : goal.returns-then-as_slice-gt-MAX_NODES-clause-only
-returns-then-as_slice-gt-MAX_NODES-clause-only c = λ tree h.
+pub returns-then-as_slice-gt-MOST_NODES-clause-only : goal.returns-then-as_slice-gt-MOST_NODES-clause-only
+returns-then-as_slice-gt-MOST_NODES-clause-only c = λ tree h.
     let s = scanned (λ (v : Vec Lexeme Global). v.items) c.in_ok-tokens.tokens c.args.text.now c.deref.result.now c.deref.ensures.value c.in_ok-tokens.ensures.tokens c.in_ok-tokens.ensures.only c.in_ok-tokens.ensures.refuses in
-    let many = rw c.as_slice.ensures at c.if-as_slice-gt-MAX_NODES.true in
+    let many = rw c.as_slice.ensures at c.if-as_slice-gt-MOST_NODES.true in
     many-only c.args.text.now c.deref.result.now c.in_ok-program.program tree s c.in_ok-program.ensures.only many h
 
-pub returns-then-as_slice-gt-MAX_NODES-clause-refused : goal.returns-then-as_slice-gt-MAX_NODES-clause-refused
-returns-then-as_slice-gt-MAX_NODES-clause-refused c =
+pub returns-then-as_slice-gt-MOST_NODES-clause-refused : goal.returns-then-as_slice-gt-MOST_NODES-clause-refused
+returns-then-as_slice-gt-MOST_NODES-clause-refused c =
     let s = scanned (λ (v : Vec Lexeme Global). v.items) c.in_ok-tokens.tokens c.args.text.now c.deref.result.now c.deref.ensures.value c.in_ok-tokens.ensures.tokens c.in_ok-tokens.ensures.only c.in_ok-tokens.ensures.refuses in
-    let many = rw c.as_slice.ensures at c.if-as_slice-gt-MAX_NODES.true in
+    let many = rw c.as_slice.ensures at c.if-as_slice-gt-MOST_NODES.true in
     many-refused c.args.text.now c.deref.result.now c.in_ok-program.program s c.in_ok-program.ensures.spelled many
 
-pub returns-then-as_slice-gt-MAX_NODES-clause-refuses : goal.returns-then-as_slice-gt-MAX_NODES-clause-refuses
-returns-then-as_slice-gt-MAX_NODES-clause-refuses c = λ error h.
+pub returns-then-as_slice-gt-MOST_NODES-clause-refuses : goal.returns-then-as_slice-gt-MOST_NODES-clause-refuses
+returns-then-as_slice-gt-MOST_NODES-clause-refuses c = λ error h.
     let s = scanned (λ (v : Vec Lexeme Global). v.items) c.in_ok-tokens.tokens c.args.text.now c.deref.result.now c.deref.ensures.value c.in_ok-tokens.ensures.tokens c.in_ok-tokens.ensures.only c.in_ok-tokens.ensures.refuses in
     sym (found-refuses c.args.text.now c.deref.result.now c.in_ok-program.program error s c.in_ok-program.ensures.only c.in_ok-program.ensures.refuses h).0
 
 pub returns-clause-spelled : goal.returns-clause-spelled
 returns-clause-spelled c =
     let s = scanned (λ (v : Vec Lexeme Global). v.items) c.in_ok-tokens.tokens c.args.text.now c.deref.result.now c.deref.ensures.value c.in_ok-tokens.ensures.tokens c.in_ok-tokens.ensures.only c.in_ok-tokens.ensures.refuses in
-    let few = rw c.as_slice.ensures at c.if-as_slice-gt-MAX_NODES.false in
+    let few = rw c.as_slice.ensures at c.if-as_slice-gt-MOST_NODES.false in
     few-spelled c.args.text.now c.deref.result.now c.in_ok-program.program s c.in_ok-program.ensures.spelled few
 
 pub returns-clause-only : goal.returns-clause-only
@@ -58,6 +58,6 @@ returns-clause-only c = λ tree h.
 pub returns-clause-refuses : goal.returns-clause-refuses
 returns-clause-refuses c = λ error h.
     let s = scanned (λ (v : Vec Lexeme Global). v.items) c.in_ok-tokens.tokens c.args.text.now c.deref.result.now c.deref.ensures.value c.in_ok-tokens.ensures.tokens c.in_ok-tokens.ensures.only c.in_ok-tokens.ensures.refuses in
-    let few = rw c.as_slice.ensures at c.if-as_slice-gt-MAX_NODES.false in
+    let few = rw c.as_slice.ensures at c.if-as_slice-gt-MOST_NODES.false in
     let many = (found-refuses c.args.text.now c.deref.result.now c.in_ok-program.program error s c.in_ok-program.ensures.only c.in_ok-program.ensures.refuses h).1 in
     absurd (omega (arith, few, many))
