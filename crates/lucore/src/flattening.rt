@@ -1,6 +1,7 @@
 //! From a program that keeps all rules to its flat program.
 
 ghost use Rattle.std.specs.Prelude.{◌≡◌, ◌<◌, ℕ, IfOk, IfErr, length, map, slice_get, slice_index, Some, All};
+ghost use Rattle.std.specs.Option.{ForSome};
 ghost use Rattle.luflow.specs.declared.variable.Variable.{Variable};
 ghost use Rattle.luflow.specs.Program.{reads};
 ghost use Rattle.luflow.specs.Rank.{Chain, IsRankOrder};
@@ -28,7 +29,8 @@ fn owner_name(
 ) -> Result<Name, AllocError>
     requires inside { place < length owners.now }
     requires owners_in { All (λ v. v < length variables.now) owners.now }
-    ensures { (x : Variable) → slice_get variables.now (slice_index owners.now place) ≡ Some x → IfOk result (λ name. name ≡ x.name) }
+    ensures { ForSome (slice_get variables.now (slice_index owners.now place))
+        (λ x. IfOk result (λ name. name ≡ x.name)) }
 {
     variables[owners[place]].name.copied(alloc)
 }
@@ -37,7 +39,8 @@ fn owner_name(
 fn ranking(alloc: Global, flows: &[Flow]) -> Result<Ranking, AllocError>
     requires { AreClosed (map reads flows.now) }
     ensures order { IfOk result (λ found. IfOrdered found (IsRankOrder (map reads flows.now))) }
-    ensures straight { IfOk result (λ found. IfOrdered found (λ _. (x : ℕ) → ¬ Chain (map reads flows.now) x x)) }
+    ensures straight { IfOk result (λ found. IfOrdered found
+        (λ _. (x : ℕ) → ¬ Chain (map reads flows.now) x x)) }
     ensures cycle { IfOk result (λ found. IfCyclic found (IsLeastOnCycle (map reads flows.now))) }
 {
     let rows = rows_in(alloc, flows)?;

@@ -1,6 +1,6 @@
 //! Flattening: from a program that keeps all rules to its flat program.
 //!
-//! - [`flatten`]: the flat program, with its order of ranks.
+//! - [`flatten`]: the flat program ([`Flat`]), with its order of ranks.
 //! - [`CoreError`]: why there is none.
 //!
 //! The list is that of `lucore_list`; what else holds of the result is said in `specs/Result.antt`.
@@ -12,3 +12,4 @@ mod reading;
 
 pub use error::CoreError;
 pub use flattening::flatten;
+pub use luflow::Flat;

@@ -10,7 +10,8 @@ use Rattle.lutree.specs.Tree as tree
 use Rattle.luflow.specs.declared.data.Datum.TheVariants.{Int, Bool as Truth}
 use Rattle.luflow.specs.declared.form.Flow.{Flow}
 use Rattle.luflow.specs.declared.form.Form.TheVariants.{Constant, Unary, Binary, If, Pre, Arrow, When, Current, Merge}
-use Rattle.lusource.specs.Names.{variables_of, place_of, node_of, clock_of, name_at, outputs_in, output_name, AreDistinct}
+use Rattle.lusource.specs.Names.{variables_of, place_of, clock_of, name_at, outputs_in, output_name, AreDistinct}
+use Rattle.lustat_rules.specs.Scope.{node_called}
 use Rattle.lusource.specs.Source.{condition}
 use Rattle.lucore_list.specs.Layout.{node_owners, Walking, leaf, after, list_of, inputs_in, instance, moved, clock_place, flow_of, variable_place, walk, walk_all}
 use Rattle.lucore_list.proofs.Each.{each_shift}
@@ -34,7 +35,7 @@ ItemHolds G I (calling a) = I a
 -- the list of an instance's node, with occurrences as vertices
 abbrev pub Gives : (Occurrence → Occurrence → Type 0) → ProgramTree → List (List Flow) → Instance → Type 0
 Gives G p lists a =
-    (n : NodeTree) → node_of p a.node ≡ Some n
+    (n : NodeTree) → node_called p a.node ≡ Some n
     → (l : List Occurrence) × (length l ≡ length (list_of p lists a.node)) × Every (Belongs a.path) l × (a.path ≡ [] → map (owner n) l ≡ node_owners p lists n) × ((m : Model Occurrence) → Has m 0 l → m.base ≡ a.clock → ((r : ℕ) → r < length n.inputs → m.given r ≡ if_there (slice_get a.arguments r))
     → Solves G m (list_of p lists a.node) × ((x : List ℕ) → place_of (variables_of n) x < length (variables_of n) → m.on (place_of (variables_of n) x) ≡ variable a.path x))
 
@@ -47,7 +48,7 @@ arguments_at on xs arguments r e lt = go xs r lt ∙ ap (λ l. if_there (slice_g
     go (x ∷ xs) (suc r) lt = go xs r (omega (arith, lt))
 
 module _ (G : Occurrence → Occurrence → Type 0) (I : Instance → Type 0) (p : ProgramTree) (lists : List (List Flow)) (node : NodeTree) (Below : List ℕ → Type 0) (here : Instance)
-    (apart : (f : List ℕ) (n : NodeTree) → node_of p f ≡ Some n → AreDistinct (variables_of n)) (gives : (a : Instance) → Below a.node → I a → Gives G p lists a) where
+    (apart : (f : List ℕ) (n : NodeTree) → node_called p f ≡ Some n → AreDistinct (variables_of n)) (gives : (a : Instance) → Below a.node → I a → Gives G p lists a) where
   abbrev pub KnownClock : Option Condition → Type 0
   KnownClock None = Unit {0}
   KnownClock (Some c) = Known p node Below c.variable
@@ -105,8 +106,8 @@ module _ (G : Occurrence → Occurrence → Type 0) (I : Instance → Type 0) (p
               λ j lt.
                   let lo : j < length is.callee.outputs = (let e = is.outputs_are in omega arith) in
                   let here' = output_place p f is.callee j is.found (apart f is.callee is.found) lo in
-                  let y : s + inputs_in (node_of p f) + j ≡ s + (inputs_in (node_of p f) + j) = omega arith in
-                  let name : place_named (node_of p f) (output_name p f j) ≡ place_of (variables_of is.callee) (output_name p f j) = ap (λ o. place_named o (output_name p f j)) is.found in
+                  let y : s + inputs_in (node_called p f) + j ≡ s + (inputs_in (node_called p f) + j) = omega arith in
+                  let name : place_named (node_called p f) (output_name p f j) ≡ place_of (variables_of is.callee) (output_name p f j) = ap (λ o. place_named o (output_name p f j)) is.found in
                   let there = subst (λ o. slice_get (variables_of is.callee) (length is.callee.inputs + j) ≡ Some (name_at (outputs_in o) j)) (sym is.found) (output_there is.callee j lo) in
                   ap m.on y ∙ ap (λ n. m.on (s + n)) (sym here' ∙ name) ∙ r.1 (output_name p f j) (place_in (variables_of is.callee) (output_name p f j) (length is.callee.inputs + j) there),
             ),

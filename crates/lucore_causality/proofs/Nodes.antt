@@ -6,7 +6,8 @@ use Rattle.std.proofs.lemmas.Option.{slice_get_within, slice_get-map}
 use Rattle.lutree.specs.declared.expr.Condition.{Condition}
 use Rattle.lutree.specs.Tree.{DeclarationTree, EquationTree, NodeTree, ProgramTree}
 use Rattle.luflow.specs.declared.form.Flow.{Flow}
-use Rattle.lusource.specs.Names.{variables_of, declarations_of, place_of, node_of, name_at, clock_of, AreDistinct}
+use Rattle.lusource.specs.Names.{variables_of, place_of, name_at, clock_of, AreDistinct}
+use Rattle.lustat_rules.specs.Scope.{declarations_of, node_called}
 use Rattle.lustat_rules.specs.Scope as rules
 use Rattle.lustat_rules.specs.Clocks.{HasClock}
 use Rattle.lucore_list.specs.Layout.{node_owners, Root, walk_right, root_flow, inner_flows, variable_flow, variable_place, variable_count, input_flows, node_flows}
@@ -45,7 +46,7 @@ left_same p here node facts n q e i x named =
     clock_named (declarations_of node) x a.0 each ∙ sym (clock_named (declarations_of node) (name_at q.left 0) a.0 first)
 
 module _ (G : Occurrence → Occurrence → Type 0) (through : (x y z : Occurrence) → G x y → G y z → G x z) (I : Instance → Type 0) (p : ProgramTree) (lists : List (List Flow)) (node : NodeTree) (facts : NodeFacts p node) (here : Instance)
-    (apart : (f : List ℕ) (n : NodeTree) → node_of p f ≡ Some n → AreDistinct (variables_of n)) (gives : (a : Instance) → Below node a.node → I a → Gives G p lists a) where
+    (apart : (f : List ℕ) (n : NodeTree) → node_called p f ≡ Some n → AreDistinct (variables_of n)) (gives : (a : Instance) → Below node a.node → I a → Gives G p lists a) where
   abbrev var : List ℕ → Occurrence
   var x = variable here.path x
 

@@ -9,7 +9,8 @@ use Rattle.lutree.specs.Tree as tree
 use Rattle.luflow.specs.declared.form.Flow.{Flow}
 use Rattle.luflow.specs.Program.{FlatProgram}
 use Rattle.luflow.specs.Rank.{has, row, reads_of}
-use Rattle.lusource.specs.Names.{node_of, clock_of, name_at}
+use Rattle.lusource.specs.Names.{clock_of, name_at}
+use Rattle.lustat_rules.specs.Scope.{node_called}
 use Rattle.lusource.specs.Source.{condition}
 use Rattle.lucore_list.specs.Layout.{place, behind, list_of, variable_place, variable_count, walk, walk_right, left_clock}
 use Rattle.lucore_list.proofs.Spots.{place_named}
@@ -113,7 +114,7 @@ module _ (p : ProgramTree) (lists : List (List Flow)) (main : List ℕ) where
 
   abbrev pub find : Path → Found
   find [] = record { node = main; on = λ x. x }
-  find (t ∷ path) = found_in (find path) t (node_of p (find path).node)
+  find (t ∷ path) = found_in (find path) t (node_called p (find path).node)
 
   abbrev pub operator_named : Option NodeTree → Position → ℕ
   operator_named None t = 0
@@ -121,8 +122,8 @@ module _ (p : ProgramTree) (lists : List (List Flow)) (main : List ℕ) where
 
   -- the place of an occurrence
   abbrev pub spotted : Occurrence → ℕ
-  spotted (variable path x) = (find path).on (place_named (node_of p (find path).node) x)
-  spotted (operator path t) = (find path).on (operator_named (node_of p (find path).node) t)
+  spotted (variable path x) = (find path).on (place_named (node_called p (find path).node) x)
+  spotted (operator path t) = (find path).on (operator_named (node_called p (find path).node) t)
 
   abbrev pub IsVariable : Occurrence → Type 0
   IsVariable (variable path x) = Unit {0}
@@ -147,5 +148,5 @@ module _ (p : ProgramTree) (lists : List (List Flow)) (main : List ℕ) where
       pub model : Model ℕ
       pub found : find a.path ≡ record { node = a.node; on = model.on }
       pub base_is : model.base ≡ map spotted a.clock
-      pub given_are : (n : NodeTree) → node_of p a.node ≡ Some n → (r : ℕ) → r < length n.inputs → model.given r ≡ map spotted (if_there (slice_get a.arguments r))
+      pub given_are : (n : NodeTree) → node_called p a.node ≡ Some n → (r : ℕ) → r < length n.inputs → model.given r ≡ map spotted (if_there (slice_get a.arguments r))
       pub solves : Solves FlatReads model (list_of p lists a.node)

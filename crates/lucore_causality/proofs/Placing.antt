@@ -11,7 +11,8 @@ use Rattle.lutree.specs.Tree as tree
 use Rattle.luflow.specs.declared.form.Flow.{Flow}
 use Rattle.luflow.specs.declared.form.Form.TheVariants.{Pre}
 use Rattle.luflow.specs.Program.{FlatProgram}
-use Rattle.lusource.specs.Names.{variables_of, node_of, clock_of, output_name, AreDistinct}
+use Rattle.lusource.specs.Names.{variables_of, clock_of, output_name, AreDistinct}
+use Rattle.lustat_rules.specs.Scope.{node_called}
 use Rattle.lusource.specs.Source.{condition}
 use Rattle.lucore_list.specs.Layout.{Root, Walking, Walk, root_flows, made, root_place, place, list_of, inputs_in, instance, clock_place, flow_of, variable_place, walk, walk_all}
 use Rattle.lucore_list.specs.Layout.Root.{own, at}
@@ -42,8 +43,8 @@ lone_there f (v ∷ vs) (suc r) = lone_there f vs r
 same_given : (f : Occurrence → ℕ) (on : ℕ → ℕ) (xs : List ℕ) (vs : List Occurrence) (r : ℕ) → map f vs ≡ map on xs → r < length xs → on (slice_index xs r) ∷ [] ≡ map f (if_there (slice_get vs r))
 same_given f on xs vs r e lt = lone_on on xs r lt ∙ ap (λ l. lone (slice_get l r)) (sym e) ∙ lone_there f vs r
 
-module _ (p : ProgramTree) (lists : List (List Flow)) (main : List ℕ) (flat : FlatProgram) (node : NodeTree) (Below : List ℕ → Type 0) (here : Instance) (apart : (f : List ℕ) (n : NodeTree) → node_of p f ≡ Some n → AreDistinct (variables_of n))
-    (node_is : node_of p here.node ≡ Some node) (m : Model ℕ) (found : find p lists main here.path ≡ record { node = here.node; on = m.on }) (base_is : m.base ≡ map (spotted p lists main) here.clock) where
+module _ (p : ProgramTree) (lists : List (List Flow)) (main : List ℕ) (flat : FlatProgram) (node : NodeTree) (Below : List ℕ → Type 0) (here : Instance) (apart : (f : List ℕ) (n : NodeTree) → node_called p f ≡ Some n → AreDistinct (variables_of n))
+    (node_is : node_called p here.node ≡ Some node) (m : Model ℕ) (found : find p lists main here.path ≡ record { node = here.node; on = m.on }) (base_is : m.base ≡ map (spotted p lists main) here.clock) where
   abbrev G : ℕ → ℕ → Type 0
   G = FlatReads p lists main flat
 
@@ -64,11 +65,11 @@ module _ (p : ProgramTree) (lists : List (List Flow)) (main : List ℕ) (flat : 
 
   pub variable_spot : (x : List ℕ) → at_place (variable here.path x) ≡ m.on (variable_place p lists node x)
   variable_spot x =
-      ap (λ (a : Found). a.on (place_named (node_of p a.node) x)) found ∙ ap (λ o. m.on (place_named o x)) node_is
+      ap (λ (a : Found). a.on (place_named (node_called p a.node) x)) found ∙ ap (λ o. m.on (place_named o x)) node_is
 
   pub operator_spot : (t : Position) → at_place (op t) ≡ m.on (operator_place p lists node t.operands t.equation)
   operator_spot t =
-      ap (λ (a : Found). a.on (operator_named p lists main (node_of p a.node) t)) found ∙ ap (λ o. m.on (operator_named p lists main o t)) node_is
+      ap (λ (a : Found). a.on (operator_named p lists main (node_called p a.node) t)) found ∙ ap (λ o. m.on (operator_named p lists main o t)) node_is
 
   pub steps : (x : Occurrence) (y : ℕ) (vs : List Occurrence) (ts : List ℕ) → at_place x ≡ y → map at_place vs ≡ ts → Every (G y) ts → Every (Steps x) vs
   steps x y vs ts e same h = go vs (subst (Every (G y)) (sym same) h)
@@ -129,7 +130,7 @@ module _ (p : ProgramTree) (lists : List (List Flow)) (main : List ℕ) (flat : 
 
   -- an instance on the clock k
   instance_good : (f : List ℕ) (k : Option Condition) (t : Position) (xs : List ℕ) (b w : ℕ) (arguments : List Occurrence) → CallIs p node Below f (length xs) w → find p lists main (t ∷ here.path) ≡ record { node = f; on = λ y. m.on (b + y) } → map at_place arguments ≡ map m.on xs → H b (instance p lists f (clock_place node k) xs b).inner
-      → Placed p lists main flat (record { path = t ∷ here.path; node = f; clock = clocked p here node k; arguments = arguments }) × ((j : ℕ) → j < w → at_place (variable (t ∷ here.path) (output_name p f j)) ≡ m.on (b + inputs_in (node_of p f) + j))
+      → Placed p lists main flat (record { path = t ∷ here.path; node = f; clock = clocked p here node k; arguments = arguments }) × ((j : ℕ) → j < w → at_place (variable (t ∷ here.path) (output_name p f j)) ≡ m.on (b + inputs_in (node_called p f) + j))
   instance_good f k t xs b w arguments is there given hold = (
     record {
       model = moved_model m b (clock_place node k) xs;
@@ -144,13 +145,13 @@ module _ (p : ProgramTree) (lists : List (List Flow)) (main : List ℕ) (flat : 
     },
     λ j lt.
         let o = output_place p f is.callee j is.found (apart f is.callee is.found) (let e = is.outputs_are in omega (arith, lt, e)) in
-        let z : b + (inputs_in (node_of p f) + j) ≡ b + inputs_in (node_of p f) + j = omega arith in
-        ap (λ (a : Found). a.on (place_named (node_of p a.node) (output_name p f j))) there ∙ ap (λ n. m.on (b + n)) o ∙ ap m.on z,
+        let z : b + (inputs_in (node_called p f) + j) ≡ b + inputs_in (node_called p f) + j = omega arith in
+        ap (λ (a : Found). a.on (place_named (node_called p a.node) (output_name p f j))) there ∙ ap (λ n. m.on (b + n)) o ∙ ap m.on z,
   )
 
   find_call : (t : Position) (f : List ℕ) (all : Trees) (k : Option Condition) (s : ℕ) → IsAt t (tree.call f all) k s → find p lists main (t ∷ here.path) ≡ record { node = f; on = λ y. m.on (arguments_end p lists node all k s + y) }
   find_call t f all k s h =
-      ap (λ (a : Found). found_in p lists main a t (node_of p a.node)) found
+      ap (λ (a : Found). found_in p lists main a t (node_called p a.node)) found
       ∙ ap (found_in p lists main (record { node = here.node; on = m.on }) t) node_is
       ∙ ap {B = Found} (λ (a : Spot). record { node = called_name p lists node a.tree; on = λ y. m.on (called_start p lists node a.tree a.clock a.start + y) }) h
 

@@ -7,7 +7,7 @@ use Rattle.luflow.specs.declared.form.Flow.{Flow}
 use Rattle.luflow.specs.Program.{FlatProgram, reads}
 use Rattle.luflow.specs.Rank.{has, row, reads_of, Chain}
 use Rattle.lucore_rank.proofs.Orders.{has_from_contains}
-use Rattle.lusource.specs.Names.{node_of}
+use Rattle.lustat_rules.specs.Scope.{node_called}
 use Rattle.lustat_rules.specs.Naming.{value_count}
 use Rattle.lustat_rules.specs.Accepted.{Rule, IsAccepted}
 use Rattle.lucore_list.specs.Layout.{list_of, IsLaidOut}
@@ -61,13 +61,13 @@ module _ (p : ProgramTree) (main : List ℕ) (flat : FlatProgram) (accepted : Is
         solves = subst (Solves G (outer (λ x. x))) (sym flows_are) reads_there;
       }
 
-  values : (f : List ℕ) (node : NodeTree) → node_of p f ≡ Some node → (n : ℕ) (q : EquationTree) → slice_get node.equations n ≡ Some q → IfSome (value_count p q.right) (λ count. length q.left ≡ count)
+  values : (f : List ℕ) (node : NodeTree) → node_called p f ≡ Some node → (n : ℕ) (q : EquationTree) → slice_get node.equations n ≡ Some q → IfSome (value_count p q.right) (λ count. length q.left ≡ count)
   values f node e n q at = let here = placed p f node e in ((accepted Rule.wrong_arity).equations here.place n node q here.node at).values
 
   items_good : (a : Instance) → IsPlaced a → Every Good (items_of p a)
-  items_good a is = go (node_of p a.node) refl
+  items_good a is = go (node_called p a.node) refl
     where
-      go : (o : Option NodeTree) → node_of p a.node ≡ o → Every Good (items_in_node p a o)
+      go : (o : Option NodeTree) → node_called p a.node ≡ o → Every Good (items_in_node p a o)
       go None e = tt
       go (Some node) e =
           node_good p out.lists main flat node (facts p main accepted some a.node node e) a (λ f n e. (facts p main accepted some f n e).apart) e is.model is.found is.base_is (λ r lt. is.given_are node e r lt) (values a.node node e)

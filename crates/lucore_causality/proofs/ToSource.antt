@@ -10,12 +10,13 @@ use Rattle.luflow.specs.declared.form.Form.TheVariants.{Input, Constant, Copied,
 use Rattle.luflow.specs.declared.form.Flow.{Flow}
 use Rattle.luflow.specs.Program.{FlatProgram, reads, form_reads, clock_reads}
 use Rattle.luflow.specs.Rank.{has, row, reads_of, Chain}
-use Rattle.lusource.specs.Names.{variables_of, place_of, node_of}
+use Rattle.lusource.specs.Names.{variables_of, place_of}
+use Rattle.lustat_rules.specs.Scope.{node_called}
 use Rattle.lustat_rules.specs.Naming.{Calls, Reaches}
 use Rattle.lustat_rules.specs.Accepted.{IsAccepted}
 use Rattle.lucore_list.specs.Layout.{node_owners, list_of, AreLists, IsLaidOut}
 use Rattle.lucore_list.specs.Laws.{DefineSomething}
-use Rattle.lucore_list.proofs.Names.{listed, node_same}
+use Rattle.lucore_list.proofs.Names.{listed}
 use Rattle.lucore_list.proofs.Facts.{Below, NodeFacts, facts, never_round}
 use Rattle.lucore_list.proofs.ByCalls.{by_calls}
 use Rattle.lucore_rank.proofs.Orders.{contains_from_has}
@@ -94,16 +95,16 @@ module _ (p : ProgramTree) (main : List ℕ) where
   item_holds a is (reading x all) c = every_of (Leads p main x) all (λ y among. Leads.one x y (record { instance = a; is_instance = is; all = all; there = c; among = among }))
   item_holds a is (calling b) c = IsInstance.called a b is c
 
-  module _ (lists : List (List Flow)) (are : AreLists p lists) (facts : (f : List ℕ) (n : NodeTree) → node_of p f ≡ Some n → NodeFacts p n) (never : (f : List ℕ) → ¬ Reaches p f f) where
+  module _ (lists : List (List Flow)) (are : AreLists p lists) (facts : (f : List ℕ) (n : NodeTree) → node_called p f ≡ Some n → NodeFacts p n) (never : (f : List ℕ) → ¬ Reaches p f f) where
     abbrev GivesAll : List ℕ → Type 0
     GivesAll f = (a : Instance) → a.node ≡ f → IsInstance p main a → Gives (Leads p main) p lists a
 
     step : (f : List ℕ) → ((g : List ℕ) → Calls p f g → GivesAll g) → GivesAll f
     step f rest a named is n found =
-        let found' : node_of p f ≡ Some n = ap (node_of p) (sym named) ∙ found in
+        let found' : node_called p f ≡ Some n = ap (node_called p) (sym named) ∙ found in
         let items : Every (ItemHolds (Leads p main) (IsInstance p main)) (node_items p a n) =
         subst (λ o. Every (ItemHolds (Leads p main) (IsInstance p main)) (items_in_node p a o)) found (every_of (ItemHolds (Leads p main) (IsInstance p main)) (items_of p a) (item_holds a is)) in
-        let below : (b : Instance) → Below n b.node → IsInstance p main b → Gives (Leads p main) p lists b = λ b under is'. rest b.node (n, sym (node_same p f) ∙ found', under) b refl is' in
+        let below : (b : Instance) → Below n b.node → IsInstance p main b → Gives (Leads p main) p lists b = λ b under is'. rest b.node (n, found', under) b refl is' in
         let g = node_gives (Leads p main) leads_on (IsInstance p main) p lists n (facts a.node n found) a (λ f n e. (facts f n e).apart) below items in
         subst (λ L. (l : List Occurrence) × (length l ≡ length L) × Every (Belongs a.path) l × (a.path ≡ [] → map (owner n) l ≡ node_owners p lists n) × ((m : Model Occurrence) → Has m 0 l → m.base ≡ a.clock → ((r : ℕ) → r < length n.inputs → m.given r ≡ if_there (slice_get a.arguments r))
         → Solves (Leads p main) m L × ((x : List ℕ) → place_of (variables_of n) x < length (variables_of n) → m.on (place_of (variables_of n) x) ≡ variable a.path x))) (sym (listed p lists are a.node n found)) g

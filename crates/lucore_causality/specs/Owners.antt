@@ -3,7 +3,8 @@ use Rattle.std.specs.Prelude.{◌≡◌, ℕ, List, [], ◌∷◌, Option, Some,
 use Rattle.lutree.specs.Tree.{EquationTree, NodeTree, ProgramTree}
 use Rattle.luflow.specs.Program.{FlatProgram}
 use Rattle.luflow.specs.Rank.{reads_of, Chain}
-use Rattle.lusource.specs.Names.{variables_of, place_of, name_at, node_of}
+use Rattle.lusource.specs.Names.{variables_of, place_of, name_at}
+use Rattle.lustat_rules.specs.Scope.{node_called}
 use Rattle.lustat_rules.specs.Accepted.{IsAccepted}
 use Rattle.lucore_list.specs.Layout.{owner_of, IsLaidOut}
 use Rattle.lucore_list.specs.Laws.{DefineSomething}
@@ -30,5 +31,5 @@ owner node (operator path t) = first_left node (slice_get node.equations (outerm
 -- where a flow of the flat list lies on a cycle, its owner owns an occurrence that lies on one
 abbrev pub OwnerLaw : Type 0
 OwnerLaw =
-    (p : ProgramTree) (main : List ℕ) (flat : FlatProgram) (node : NodeTree) → IsAccepted p main → DefineSomething p → IsLaidOut p main flat → node_of p main ≡ Some node
+    (p : ProgramTree) (main : List ℕ) (flat : FlatProgram) (node : NodeTree) → IsAccepted p main → DefineSomething p → IsLaidOut p main flat → node_called p main ≡ Some node
     → (x v : ℕ) → Chain (reads_of flat) x x → slice_get flat.owners x ≡ Some v → (o : Occurrence) × Leads p main o o × (owner node o ≡ v)

@@ -5,7 +5,8 @@ use Rattle.lutree.specs.declared.expr.Infix.TheVariants.{Data as Data2, Arrow, F
 use Rattle.lutree.specs.declared.expr.Condition.{Condition}
 use Rattle.lutree.specs.Tree.{Tree, Trees, DeclarationTree, EquationTree, NodeTree, ProgramTree}
 use Rattle.lutree.specs.Tree as tree
-use Rattle.lusource.specs.Names.{clock_of, name_at, node_of, output_name}
+use Rattle.lusource.specs.Names.{clock_of, name_at, output_name}
+use Rattle.lustat_rules.specs.Scope.{node_called}
 use Rattle.lusource.specs.Source.{condition}
 
 -- Where an expression stands in the text of a node: the number of the equation, and the numbers of the operands on the way to
@@ -137,7 +138,7 @@ items_in_node program here (Some node) = node_items program here node
 
 -- all that stands in the text of an instance
 abbrev pub items_of : ProgramTree → Instance → List Item
-items_of program here = items_in_node program here (node_of program here.node)
+items_of program here = items_in_node program here (node_called program here.node)
 
 abbrev pub main_instance : List ℕ → Instance
 main_instance main = record { path = []; node = main; clock = []; arguments = [] }

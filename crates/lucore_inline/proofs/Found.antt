@@ -11,8 +11,8 @@ use Rattle.luflow.specs.declared.form.Clock.{Clock}
 use Rattle.luflow.specs.declared.form.Clock.TheVariants.{Base}
 use Rattle.luflow.specs.declared.form.Form.TheVariants.{Input}
 use Rattle.luflow.specs.declared.form.Flow.{Flow}
-use Rattle.lusource.specs.Names.{names_of, place_of}
-use Rattle.lustat_rules.specs.Scope.{lefts_of}
+use Rattle.lusource.specs.Names.{place_of}
+use Rattle.lustat_rules.specs.Scope.{lefts_of, names_of}
 use Rattle.lustat_scope.specs.Places.{first_place}
 use Rattle.lustat_scope.proofs.Declared.{shifted_first, same_spellings}
 use Rattle.lustat_scope.specs.Scopes.{spellings}

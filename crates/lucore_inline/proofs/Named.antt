@@ -7,7 +7,8 @@ use Rattle.lutree.specs.declared.expr.Condition.{Condition}
 use Rattle.lutree.specs.declared.program.Declaration.{Declaration}
 use Rattle.lutree.specs.declared.program.Node.{Node}
 use Rattle.lutree.specs.Tree.{NodeTree, node_view}
-use Rattle.lusource.specs.Names.{place_of, clock_of, declarations_of, variables_of}
+use Rattle.lusource.specs.Names.{place_of, clock_of, variables_of}
+use Rattle.lustat_rules.specs.Scope.{declarations_of}
 use Rattle.lustat_rules.specs.Scope as rules
 use Rattle.lustat_scope.specs.Places.{first_place}
 use Rattle.lustat_scope.proofs.Declared.{shifted_first, names_in_view}

@@ -7,8 +7,8 @@ use Rattle.lutree.specs.declared.program.Node.{Node}
 use Rattle.lutree.specs.declared.program.Declaration.{Declaration}
 use Rattle.lutree.specs.Tree.{EquationTree, NodeTree, ProgramTree, node_view}
 use Rattle.luflow.specs.declared.form.Flow.{Flow}
-use Rattle.lusource.specs.Names.{names_of, variables_of, place_of, name_at}
-use Rattle.lustat_rules.specs.Scope.{lefts_of}
+use Rattle.lusource.specs.Names.{variables_of, place_of, name_at}
+use Rattle.lustat_rules.specs.Scope.{lefts_of, names_of}
 use Rattle.lustat_scope.specs.Places.{first_place}
 use Rattle.lustat_scope.specs.Scopes.{declared_in, spellings}
 use Rattle.lustat_scope.proofs.Declared.{shifted_first, same_spellings, view_of_declared}

@@ -7,7 +7,7 @@ use Rattle.lugraph.specs.Search.{Has}
 use Rattle.lugraph.specs.declared.link.Link.{Link}
 use Rattle.lugraph.specs.Reach.{link}
 use Rattle.lutype.specs.CallGraph.{places_called}
-use Rattle.lusource.specs.Names.{node_of}
+use Rattle.lustat_rules.specs.Scope.{node_called}
 use Rattle.lucore_list.specs.Layout.{AreLists, node_flows, node_owners, main_variables}
 use Rattle.lucore_inline.specs.declared.laying.Laid.{Laid}
 
@@ -31,4 +31,4 @@ IsNodeList p n flows owners = (lists : List (List Flow)) → AreLists p lists �
 
 -- what is laid out is the list of the main node, with its owners and variables
 abbrev pub IsListOf : ProgramTree → List ℕ → Laid → Type 0
-IsListOf p main laid = (n : NodeTree) → node_of p main ≡ Some n → IsNodeList p n laid.flows.items laid.owners.items × (laid.variables.items ≡ main_variables n)
+IsListOf p main laid = (n : NodeTree) → node_called p main ≡ Some n → IsNodeList p n laid.flows.items laid.owners.items × (laid.variables.items ≡ main_variables n)

@@ -2,8 +2,8 @@
 
 ghost use Rattle.std.specs.Prelude.{◌≡◌, length, option_map, unwrap_or, ◌∷◌, [], map};
 ghost use Rattle.lutree.specs.Tree.{node_view, program_view};
-ghost use Rattle.lusource.specs.Names.{variables_of, place_of, node_of, clock_of};
-ghost use Rattle.lustat_rules.specs.Scope.{kind_of};
+ghost use Rattle.lusource.specs.Names.{variables_of, place_of, clock_of};
+ghost use Rattle.lustat_rules.specs.Scope.{kind_of, node_called};
 ghost use Rattle.lucore_list.specs.Layout.{clock_place, inputs_in, list_of};
 ghost use Rattle.lustat_scope.specs.ClockRefs.{the_clock};
 ghost use Rattle.lucore_inline.specs.Walks.{flow_on, plain};
@@ -53,7 +53,8 @@ pub fn placed_clock(scope: &Scope, clock: ClockRef) -> Clock
 
 /// A flow on a clock; its type is int where it has none.
 pub fn flow_of(scope: &Scope, clock: ClockRef, kind: Option<Kind>, form: Form) -> Flow
-    ensures { result ≡ flow_on (clock_place (node_view scope.now) (the_clock clock.entry)) kind form }
+    ensures { result ≡ flow_on (clock_place (node_view scope.now) (the_clock clock.entry)) kind
+        form }
 {
     Flow {
         form,
@@ -64,7 +65,8 @@ pub fn flow_of(scope: &Scope, clock: ClockRef, kind: Option<Kind>, form: Form) -
 
 /// A root that is a flow of its own.
 pub fn own(scope: &Scope, clock: ClockRef, kind: Option<Kind>, form: Form) -> Walked
-    ensures root { result.root ≡ Root.Own (flow_on (clock_place (node_view scope.now) (the_clock clock.entry)) kind form) }
+    ensures root { result.root ≡ Root.Own (flow_on (clock_place (node_view scope.now)
+        (the_clock clock.entry)) kind form) }
     ensures kind { result.kind ≡ kind }
 {
     Walked {
@@ -75,7 +77,7 @@ pub fn own(scope: &Scope, clock: ClockRef, kind: Option<Kind>, form: Form) -> Wa
 
 /// How many inputs the node has that a call means; 0 where it means none.
 pub fn inputs_of(catalog: &Catalog, name: &str) -> usize
-    ensures { result ≡ inputs_in (node_of (program_view catalog.now) name.now) }
+    ensures { result ≡ inputs_in (node_called (program_view catalog.now) name.now) }
 {
     match catalog.find(name) {
         Some(scope) => scope.node().inputs.as_slice().len(),

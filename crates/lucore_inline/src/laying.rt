@@ -1,6 +1,7 @@
 //! The lists of a program's nodes, up to that of the main node.
 
 ghost use Rattle.std.specs.Prelude.{◌≡◌, ◌<◌, ◌≤◌, ◌↔◌, IsTrue, ℕ, Some, length, slice_get, map, replicate, [], IfOk, Contains};
+ghost use Rattle.std.specs.Option.{ForSome};
 ghost use Rattle.lutree.specs.Tree.{NodeTree, node_view, program_view};
 ghost use Rattle.lustat_rules.specs.Naming.{IsCallOrder};
 ghost use Rattle.lugraph.specs.Search.{Has};
@@ -43,8 +44,10 @@ fn list_at(
     place: usize,
 ) -> Result<NodeList, AllocError>
     requires { place < length (program_view catalog.now) }
-    ensures flows { IfOk result (λ list. (n : NodeTree) → slice_get (program_view catalog.now) place ≡ Some n → list.flows.items ≡ node_flows (program_view catalog.now) (plain lists.now) n) }
-    ensures owners { IfOk result (λ list. (n : NodeTree) → slice_get (program_view catalog.now) place ≡ Some n → list.owners.items ≡ node_owners (program_view catalog.now) (plain lists.now) n) }
+    ensures flows { IfOk result (λ list. ForSome (slice_get (program_view catalog.now) place)
+        (λ n. list.flows.items ≡ node_flows (program_view catalog.now) (plain lists.now) n)) }
+    ensures owners { IfOk result (λ list. ForSome (slice_get (program_view catalog.now) place)
+        (λ n. list.owners.items ≡ node_owners (program_view catalog.now) (plain lists.now) n)) }
 {
     let scope = &catalog.scopes()[place];
     let context = Context {
@@ -77,7 +80,8 @@ fn lists_before(
     requires closed { AreClosed (program_view catalog.now) marks.now }
     requires inside { end ≤ length order.now }
     ensures long { IfOk result (λ lists. length lists.items ≡ length (program_view catalog.now)) }
-    ensures built { IfOk result (λ lists. AreBuilt (program_view catalog.now) order.now marks.now end (plain lists.items)) }
+    ensures built { IfOk result (λ lists. AreBuilt (program_view catalog.now) order.now marks.now
+        end (plain lists.items)) }
 {
     let count = catalog.scopes().len();
     let mut lists = no_lists(alloc, count)?;
@@ -113,8 +117,10 @@ fn laid_at(
 ) -> Result<Laid, AllocError>
     requires calls { IsCallOrder (program_view catalog.now) order.now }
     requires inside { place < length (program_view catalog.now) }
-    ensures list { IfOk result (λ laid. (n : NodeTree) → slice_get (program_view catalog.now) place ≡ Some n → IsNodeList (program_view catalog.now) n laid.flows.items laid.owners.items) }
-    ensures variables { IfOk result (λ laid. (n : NodeTree) → slice_get (program_view catalog.now) place ≡ Some n → laid.variables.items ≡ main_variables n) }
+    ensures list { IfOk result (λ laid. ForSome (slice_get (program_view catalog.now) place)
+        (λ n. IsNodeList (program_view catalog.now) n laid.flows.items laid.owners.items)) }
+    ensures variables { IfOk result (λ laid. ForSome (slice_get (program_view catalog.now) place)
+        (λ n. laid.variables.items ≡ main_variables n)) }
 {
     let marks = needed_by(alloc, catalog, place)?;
     let end = number_of(order, place);

@@ -74,7 +74,8 @@ pub fn push_moved(
     arguments: &[Operand],
     list: &[Flow],
 ) -> Result<(), AllocError>
-    ensures { OnOk result (flows.new.items ≡ flows.old.items ++ map (moved (length flows.old.items) call (places_of arguments.now)) list.now) }
+    ensures { OnOk result (flows.new.items ≡ flows.old.items
+        ++ map (moved (length flows.old.items) call (places_of arguments.now)) list.now) }
 {
     let base = flows.len();
     for flow in list {

@@ -34,7 +34,9 @@ fn defined_flow(
     number: usize,
     name: &str,
 ) -> Result<Flow, AllocError>
-    ensures { IfOk result (λ f. f ≡ flow_named (node_view scope.now) (clock_place (node_view scope.now) (the_clock clock.entry)) (root_view root) number name.now) }
+    ensures { IfOk result (λ f. f ≡ flow_named (node_view scope.now)
+        (clock_place (node_view scope.now) (the_clock clock.entry)) (root_view root) number
+        name.now) }
 {
     match root {
         Root::Own(flow) => Ok(flow),
@@ -53,7 +55,9 @@ fn push_defined(
     left: &[Name],
     defined: &mut Vec<Flow>,
 ) -> Result<(), AllocError>
-    ensures { OnOk result (defined.new.items ≡ defined.old.items ++ flows_named (node_view scope.now) (clock_place (node_view scope.now) (the_clock clock.entry)) (root_view root) 0 left.now) }
+    ensures { OnOk result (defined.new.items ≡ defined.old.items
+        ++ flows_named (node_view scope.now) (clock_place (node_view scope.now)
+        (the_clock clock.entry)) (root_view root) 0 left.now) }
 {
     for (number, name) in left.iter().enumerate() {
         defined.push(defined_flow(scope, clock, root, number, name.as_str())?)?;
@@ -88,9 +92,23 @@ fn push_equation(
     parts: &mut Parts,
     equation: &Equation,
 ) -> Result<(), AllocError>
-    ensures flows { OnOk result (parts.new.flows.items ≡ parts.old.flows.items ++ (walk_right (program_view context.now.catalog.now) (plain context.now.lists.now) (node_view context.now.scope.now) (equation_view equation.now) (length parts.old.flows.items)).inner) }
-    ensures owners { OnOk result (parts.new.owners.items ≡ parts.old.owners.items ++ replicate (length (walk_right (program_view context.now.catalog.now) (plain context.now.lists.now) (node_view context.now.scope.now) (equation_view equation.now) (length parts.old.flows.items)).inner) (place_of (variables_of (node_view context.now.scope.now)) (name_at equation.now.left 0))) }
-    ensures defined { OnOk result (parts.new.defined.items ≡ parts.old.defined.items ++ flows_named (node_view context.now.scope.now) (clock_place (node_view context.now.scope.now) (left_clock (program_view context.now.catalog.now) (plain context.now.lists.now) (node_view context.now.scope.now) (equation_view equation.now))) (walk_right (program_view context.now.catalog.now) (plain context.now.lists.now) (node_view context.now.scope.now) (equation_view equation.now) (length parts.old.flows.items)).root 0 equation.now.left) }
+    ensures flows { OnOk result (parts.new.flows.items ≡ parts.old.flows.items
+        ++ (walk_right (program_view context.now.catalog.now) (plain context.now.lists.now)
+        (node_view context.now.scope.now) (equation_view equation.now)
+        (length parts.old.flows.items)).inner) }
+    ensures owners { OnOk result (parts.new.owners.items ≡ parts.old.owners.items
+        ++ replicate (length (walk_right (program_view context.now.catalog.now)
+        (plain context.now.lists.now) (node_view context.now.scope.now)
+        (equation_view equation.now) (length parts.old.flows.items)).inner)
+        (place_of (variables_of (node_view context.now.scope.now)) (name_at equation.now.left 0))) }
+    ensures defined { OnOk result (parts.new.defined.items ≡ parts.old.defined.items
+        ++ flows_named (node_view context.now.scope.now)
+        (clock_place (node_view context.now.scope.now)
+        (left_clock (program_view context.now.catalog.now) (plain context.now.lists.now)
+        (node_view context.now.scope.now) (equation_view equation.now)))
+        (walk_right (program_view context.now.catalog.now) (plain context.now.lists.now)
+        (node_view context.now.scope.now) (equation_view equation.now)
+        (length parts.old.flows.items)).root 0 equation.now.left) }
 {
     let scope = context.scope;
     let left = equation.left.as_slice();
@@ -120,9 +138,23 @@ pub fn vacant_flow() -> Flow
 ///
 /// An error means that memory ran out.
 pub fn parts_of(alloc: Global, context: &Context) -> Result<Parts, AllocError>
-    ensures flows { IfOk result (λ parts. parts.flows.items ≡ replicate (variable_count (program_view context.now.catalog.now) (plain context.now.lists.now) (node_view context.now.scope.now)) vacant ++ inner_flows (program_view context.now.catalog.now) (plain context.now.lists.now) (node_view context.now.scope.now) (node_view context.now.scope.now).equations (variable_count (program_view context.now.catalog.now) (plain context.now.lists.now) (node_view context.now.scope.now))) }
-    ensures owners { IfOk result (λ parts. parts.owners.items ≡ inner_owners (program_view context.now.catalog.now) (plain context.now.lists.now) (node_view context.now.scope.now) (node_view context.now.scope.now).equations (variable_count (program_view context.now.catalog.now) (plain context.now.lists.now) (node_view context.now.scope.now))) }
-    ensures defined { IfOk result (λ parts. parts.defined.items ≡ defined_flows (program_view context.now.catalog.now) (plain context.now.lists.now) (node_view context.now.scope.now) (node_view context.now.scope.now).equations (variable_count (program_view context.now.catalog.now) (plain context.now.lists.now) (node_view context.now.scope.now))) }
+    ensures flows { IfOk result (λ parts. parts.flows.items
+        ≡ replicate (variable_count (program_view context.now.catalog.now)
+        (plain context.now.lists.now) (node_view context.now.scope.now)) vacant
+        ++ inner_flows (program_view context.now.catalog.now) (plain context.now.lists.now)
+        (node_view context.now.scope.now) (node_view context.now.scope.now).equations
+        (variable_count (program_view context.now.catalog.now) (plain context.now.lists.now)
+        (node_view context.now.scope.now))) }
+    ensures owners { IfOk result (λ parts. parts.owners.items
+        ≡ inner_owners (program_view context.now.catalog.now) (plain context.now.lists.now)
+        (node_view context.now.scope.now) (node_view context.now.scope.now).equations
+        (variable_count (program_view context.now.catalog.now) (plain context.now.lists.now)
+        (node_view context.now.scope.now))) }
+    ensures defined { IfOk result (λ parts. parts.defined.items
+        ≡ defined_flows (program_view context.now.catalog.now) (plain context.now.lists.now)
+        (node_view context.now.scope.now) (node_view context.now.scope.now).equations
+        (variable_count (program_view context.now.catalog.now) (plain context.now.lists.now)
+        (node_view context.now.scope.now))) }
 {
     let mut parts = Parts {
         flows: vec![in alloc; vacant_flow(); context.scope.declarations().len()]?,

@@ -16,7 +16,8 @@ use std::alloc::{AllocError, Global};
 
 // The names of a left side, behind those before.
 fn push_names<'a>(names: &mut Vec<&'a str>, left: &'a [Name]) -> Result<(), AllocError>
-    ensures { OnOk result (map (λ n. n.now) names.new.items ≡ map (λ n. n.now) names.old.items ++ left.now) }
+    ensures { OnOk result (map (λ n. n.now) names.new.items ≡ map (λ n. n.now) names.old.items
+        ++ left.now) }
 {
     for name in left {
         names.push(name.as_str())?;
@@ -26,7 +27,8 @@ fn push_names<'a>(names: &mut Vec<&'a str>, left: &'a [Name]) -> Result<(), Allo
 
 /// The names on the left sides of equations, in order.
 pub fn left_names(alloc: Global, equations: &[Equation]) -> Result<Vec<&str>, AllocError>
-    ensures { IfOk result (λ names. map (λ n. n.now) names.items ≡ lefts_of (map equation_view equations.now)) }
+    ensures { IfOk result (λ names. map (λ n. n.now) names.items
+        ≡ lefts_of (map equation_view equations.now)) }
 {
     let mut names = Vec::with_capacity(alloc, equations.len())?;
     for equation in equations {
@@ -47,7 +49,8 @@ fn flow_found(places: &Places, defined: &[Flow], name: &str) -> Flow
 
 /// The flows of inputs, open, behind those before.
 pub fn push_inputs(flows: &mut Vec<Flow>, inputs: &[Declaration]) -> Result<(), AllocError>
-    ensures { OnOk result (flows.new.items ≡ flows.old.items ++ inputs_from 0 (declarations_view inputs.now)) }
+    ensures { OnOk result (flows.new.items ≡ flows.old.items
+        ++ inputs_from 0 (declarations_view inputs.now)) }
 {
     for (number, input) in inputs.iter().enumerate() {
         flows.push(Flow {
@@ -66,7 +69,8 @@ pub fn push_variables(
     defined: &[Flow],
     declarations: &[Declaration],
 ) -> Result<(), AllocError>
-    ensures { OnOk result (flows.new.items ≡ flows.old.items ++ flows_found places.now defined.now (spellings declarations.now)) }
+    ensures { OnOk result (flows.new.items ≡ flows.old.items
+        ++ flows_found places.now defined.now (spellings declarations.now)) }
 {
     for d in declarations {
         flows.push(flow_found(places, defined, d.name.as_str()))?;

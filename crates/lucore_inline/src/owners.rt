@@ -31,7 +31,8 @@ fn leaders_of(
     scope: &Scope,
     equations: &[Equation],
 ) -> Result<Vec<usize>, AllocError>
-    ensures { IfOk result (λ owners. owners.items ≡ leaders (node_view scope.now) (map equation_view equations.now)) }
+    ensures { IfOk result (λ owners. owners.items ≡ leaders (node_view scope.now)
+        (map equation_view equations.now)) }
 {
     let mut owners = Vec::with_capacity(alloc, equations.len())?;
     for equation in equations {
@@ -44,7 +45,8 @@ fn leaders_of(
 
 // The owner of a variable, looked up by its name.
 fn owner_found(scope: &Scope, places: &Places, owners: &[usize], name: &str) -> usize
-    ensures { result ≡ number_at owners.now (place_of (variables_of (node_view scope.now)) name.now) (first_place places.now name.now) }
+    ensures { result ≡ number_at owners.now (place_of (variables_of (node_view scope.now))
+        name.now) (first_place places.now name.now) }
 {
     match places.find(name) {
         Some(place) if place < owners.len() => owners[place],
@@ -60,7 +62,9 @@ fn push_owners(
     known: &[usize],
     declarations: &[&Declaration],
 ) -> Result<(), AllocError>
-    ensures { OnOk result (owners.new.items ≡ owners.old.items ++ owners_found (node_view scope.now) places.now known.now (spellings (map (λ d. d.now) declarations.now))) }
+    ensures { OnOk result (owners.new.items ≡ owners.old.items
+        ++ owners_found (node_view scope.now) places.now known.now
+        (spellings (map (λ d. d.now) declarations.now))) }
 {
     for d in declarations {
         owners.push(owner_found(scope, places, known, d.name.as_str()))?;
@@ -76,8 +80,12 @@ fn push_owners(
 ///
 /// An error means that memory ran out.
 pub fn node_list(alloc: Global, context: &Context) -> Result<NodeList, AllocError>
-    ensures flows { IfOk result (λ list. list.flows.items ≡ node_flows (program_view context.now.catalog.now) (plain context.now.lists.now) (node_view context.now.scope.now)) }
-    ensures owners { IfOk result (λ list. list.owners.items ≡ node_owners (program_view context.now.catalog.now) (plain context.now.lists.now) (node_view context.now.scope.now)) }
+    ensures flows { IfOk result (λ list. list.flows.items
+        ≡ node_flows (program_view context.now.catalog.now) (plain context.now.lists.now)
+        (node_view context.now.scope.now)) }
+    ensures owners { IfOk result (λ list. list.owners.items
+        ≡ node_owners (program_view context.now.catalog.now) (plain context.now.lists.now)
+        (node_view context.now.scope.now)) }
 {
     let node = context.scope.node();
     let variables = context.scope.declarations();

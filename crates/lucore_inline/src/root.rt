@@ -42,8 +42,10 @@ pub fn sum_of(a: usize, b: usize) -> Result<usize, AllocError>
 
 /// The walked expression as an operand: a flow of its own is put behind those before.
 pub fn settled(walked: Walked, flows: &mut Vec<Flow>) -> Result<Operand, AllocError>
-    ensures flows { OnOk result (flows.new.items ≡ flows.old.items ++ root_flows (root_view walked.root)) }
-    ensures place { IfOk result (λ x. x.place ≡ root_place (length flows.old.items) (root_view walked.root)) }
+    ensures flows { OnOk result (flows.new.items ≡ flows.old.items
+        ++ root_flows (root_view walked.root)) }
+    ensures place { IfOk result (λ x. x.place ≡ root_place (length flows.old.items)
+        (root_view walked.root)) }
     ensures kind { IfOk result (λ x. x.kind ≡ walked.kind) }
 {
     let kind = walked.kind;

@@ -15,7 +15,8 @@ fn push_variables(
     role: Role,
     declarations: &[Declaration],
 ) -> Result<(), AllocError>
-    ensures { OnOk result (variables.new.items ≡ variables.old.items ++ variables_as role (declarations_view declarations.now)) }
+    ensures { OnOk result (variables.new.items ≡ variables.old.items
+        ++ variables_as role (declarations_view declarations.now)) }
 {
     for declaration in declarations {
         let name = declaration.name.copied(alloc)?;

@@ -57,7 +57,9 @@ fn infix(
     y: Operand,
     clock: ClockRef,
 ) -> Result<Walked, AllocError>
-    ensures walked { IfOk result (λ w. IsWalked (infix_walk (clock_place (node_view scope.now) (the_clock clock.entry)) op x y) flows.old.items flows.new.items (root_view w.root)) }
+    ensures walked { IfOk result (λ w. IsWalked (infix_walk
+        (clock_place (node_view scope.now) (the_clock clock.entry)) op x y) flows.old.items
+        flows.new.items (root_view w.root)) }
     ensures kind { IfOk result (λ w. w.kind ≡ infix_kind op x.kind y.kind) }
 {
     match op {
@@ -102,7 +104,8 @@ fn only_kind(outputs: &[Declaration]) -> Option<Kind>
 
 // The type of a call.
 fn kind_of_call(catalog: &Catalog, name: &str, arguments: &[Operand]) -> Option<Kind>
-    ensures { result ≡ only (call_kinds (node_called (program_view catalog.now) name.now) (kinds_of arguments.now)) }
+    ensures { result ≡ only (call_kinds (node_called (program_view catalog.now) name.now)
+        (kinds_of arguments.now)) }
 {
     let node = catalog.find(name)?.node();
     if arguments_have_kinds(arguments, node.inputs.as_slice()) {
@@ -120,8 +123,12 @@ fn instance_of(
     arguments: &[Operand],
     clock: ClockRef,
 ) -> Result<Walked, AllocError>
-    ensures walked { IfOk result (λ w. IsWalked (instance (program_view context.now.catalog.now) (plain context.now.lists.now) name.now (clock_place (node_view context.now.scope.now) (the_clock clock.entry)) (places_of arguments.now)) flows.old.items flows.new.items (root_view w.root)) }
-    ensures kind { IfOk result (λ w. w.kind ≡ only (call_kinds (node_called (program_view context.now.catalog.now) name.now) (kinds_of arguments.now))) }
+    ensures walked { IfOk result (λ w. IsWalked (instance (program_view context.now.catalog.now)
+        (plain context.now.lists.now) name.now (clock_place (node_view context.now.scope.now)
+        (the_clock clock.entry)) (places_of arguments.now)) flows.old.items flows.new.items
+        (root_view w.root)) }
+    ensures kind { IfOk result (λ w. w.kind ≡ only (call_kinds
+        (node_called (program_view context.now.catalog.now) name.now) (kinds_of arguments.now))) }
 {
     let outputs = sum_of(flows.len(), inputs_of(context.catalog, name))?;
     let list = called_list(context.catalog, context.lists, name);
@@ -147,8 +154,11 @@ pub fn walk(
     e: &Expr,
     clock: ClockRef,
 ) -> Result<Walked, AllocError>
-    ensures walked { IfOk result (λ w. IsWalked (walk_of (program_view context.now.catalog.now) (plain context.now.lists.now) (node_view context.now.scope.now) (view e.now) (the_clock clock.entry)) flows.old.items flows.new.items (root_view w.root)) }
-    ensures kind { IfOk result (λ w. w.kind ≡ type_of (program_view context.now.catalog.now) (node_view context.now.scope.now) (view e.now)) }
+    ensures walked { IfOk result (λ w. IsWalked (walk_of (program_view context.now.catalog.now)
+        (plain context.now.lists.now) (node_view context.now.scope.now) (view e.now)
+        (the_clock clock.entry)) flows.old.items flows.new.items (root_view w.root)) }
+    ensures kind { IfOk result (λ w. w.kind ≡ type_of (program_view context.now.catalog.now)
+        (node_view context.now.scope.now) (view e.now)) }
 {
     let scope = context.scope;
     match e {
@@ -220,8 +230,12 @@ fn call(
     arguments: &[Expr],
     clock: ClockRef,
 ) -> Result<Walked, AllocError>
-    ensures walked { IfOk result (λ w. IsWalked (walk_of (program_view context.now.catalog.now) (plain context.now.lists.now) (node_view context.now.scope.now) (tree.call name.now (trees_of (views arguments.now))) (the_clock clock.entry)) flows.old.items flows.new.items (root_view w.root)) }
-    ensures kind { IfOk result (λ w. w.kind ≡ type_of (program_view context.now.catalog.now) (node_view context.now.scope.now) (tree.call name.now (trees_of (views arguments.now)))) }
+    ensures walked { IfOk result (λ w. IsWalked (walk_of (program_view context.now.catalog.now)
+        (plain context.now.lists.now) (node_view context.now.scope.now)
+        (tree.call name.now (trees_of (views arguments.now))) (the_clock clock.entry))
+        flows.old.items flows.new.items (root_view w.root)) }
+    ensures kind { IfOk result (λ w. w.kind ≡ type_of (program_view context.now.catalog.now)
+        (node_view context.now.scope.now) (tree.call name.now (trees_of (views arguments.now)))) }
 {
     let mut operands = Vec::with_capacity(alloc, arguments.len())?;
     for a in arguments {

@@ -8,7 +8,7 @@ use Rattle.lutree.specs.Tree.{NodeTree, ProgramTree}
 use Rattle.lustat_rules.specs.Scope.{node_called}
 use Rattle.lustat_rules.specs.Naming.{Calls, Reaches, IsNotRecursive}
 use Rattle.lustat_rules.proofs.Calling as calling
-use Rattle.lucore_list.proofs.Names.{contains_get, node_name, node_same}
+use Rattle.lucore_list.proofs.Names.{contains_get, node_name}
 
 without : List ℕ → List (List ℕ) → List (List ℕ)
 without f [] = []
@@ -68,7 +68,7 @@ names p = map (λ (n : NodeTree). n.name) p
 named : (p : ProgramTree) (f : List ℕ) (n : NodeTree) → node_called p f ≡ Some n → Contains (names p) f
 named p f n e =
     let here = calling.place_of p f n e in
-    let name = node_name p f n (node_same p f ∙ e) in
+    let name = node_name p f n (e) in
     contains_get (names p) f here.place (slice_get-map (λ (n : NodeTree). n.name) p here.place ∙ ap (option_map (λ (n : NodeTree). n.name)) here.node ∙ ap Some name)
 
 module _ (p : ProgramTree) (sound : (f : List ℕ) → ¬ Reaches p f f) (P : List ℕ → Type 0) (step : (f : List ℕ) → ((g : List ℕ) → Calls p f g → P g) → P f) where
@@ -94,5 +94,5 @@ pub none_reaches : (p : ProgramTree) → ((i : ℕ) (n : NodeTree) → slice_get
 none_reaches p h f way =
     let n = caller p f f way in
     let here = calling.place_of p f n.0 n.1 in
-    let name = node_name p f n.0 (node_same p f ∙ n.1) in
+    let name = node_name p f n.0 (n.1) in
     h here.place n.0 here.node (subst (λ g. Reaches p g g) (sym name) way)

@@ -11,7 +11,8 @@ use Rattle.lutree.specs.Tree.{DeclarationTree, EquationTree, NodeTree, ProgramTr
 use Rattle.luflow.specs.declared.form.Flow.{Flow}
 use Rattle.luflow.specs.Program.{clock_reads}
 use Rattle.luflow.specs.declared.variable.Variable.{Variable}
-use Rattle.lusource.specs.Names.{variables_of, declarations_of, name_at, place_of}
+use Rattle.lusource.specs.Names.{variables_of, name_at, place_of}
+use Rattle.lustat_rules.specs.Scope.{declarations_of}
 use Rattle.lustat_rules.specs.Clocks.{HasClock}
 use Rattle.lucore_list.specs.Layout.{walk_right, inner_flows, inner_owners, variable_place, variable_count, clock_place, node_flows, node_owners, variables_as, main_variables, owner_of}
 use Rattle.lucore_list.specs.Laws.{ClosedLaw}

@@ -10,12 +10,13 @@ use Rattle.lutree.specs.Tree.{Tree, Trees, list_of as trees_in, EquationTree, No
 use Rattle.lutree.specs.Tree as tree
 use Rattle.luflow.specs.declared.form.Form.TheVariants.{Unary, Binary, If, Pre, Arrow, When, Merge}
 use Rattle.luflow.specs.declared.form.Flow.{Flow}
-use Rattle.lusource.specs.Names.{node_of, clock_of}
+use Rattle.lusource.specs.Names.{clock_of}
+use Rattle.lustat_rules.specs.Scope.{node_called}
 use Rattle.lusource.specs.Source.{condition}
 use Rattle.lustat_rules.specs.Naming.{Call, Calls, Reaches, calls_in, calls_in_all}
 use Rattle.lucore_list.specs.Layout.{Walking, root_flows, made, place, behind, leaf, after, moved, instance, list_at, list_of, clock_place, flow_of, variable_place, walk, walk_all, walk_right, left_clock, inner_flows, variable_count, node_flows, AreLists}
 use Rattle.lucore_list.specs.Sizes.{size_at, size_of, root_size, made_size, all_size, equations_size, node_size, AreSizes, CountLaw}
-use Rattle.lucore_list.proofs.Names.{all_left, all_right, all_head, all_of, listed, node_same, placed}
+use Rattle.lucore_list.proofs.Names.{all_left, all_right, all_head, all_of, listed, placed}
 use Rattle.lucore_list.proofs.Roots.{parts, front, length-front}
 use Rattle.lucore_list.proofs.Same.{no_place, called_in}
 use Rattle.lucore_list.proofs.ByCalls.{by_calls, none_reaches}
@@ -130,13 +131,13 @@ module _ (p : ProgramTree) (lists : List (List Flow)) (sizes : List ℕ) (are : 
   IsCounted f = length (list_of p lists f) ≡ size_of p sizes f
 
   step : (f : List ℕ) → ((g : List ℕ) → Calls p f g → IsCounted g) → IsCounted f
-  step f h = go (node_of p f) refl
+  step f h = go (node_called p f) refl
     where
-      go : (o : Option NodeTree) → node_of p f ≡ o → IsCounted f
+      go : (o : Option NodeTree) → node_called p f ≡ o → IsCounted f
       go None e = ap (λ o. length (list_at lists o)) (no_place p f e) ∙ sym (ap (size_at sizes) (no_place p f e))
       go (Some n) e =
           let here = placed p f n e in
-          let calls = λ (j : ℕ) (q : EquationTree) (at_j : slice_get n.equations j ≡ Some q). all_of (Counts p lists sizes n) (calls_in q.right) (λ k c there. h c.node (n, sym (node_same p f) ∙ e, called_in n.equations j k q c at_j there)) in
+          let calls = λ (j : ℕ) (q : EquationTree) (at_j : slice_get n.equations j ≡ Some q). all_of (Counts p lists sizes n) (calls_in q.right) (λ k c there. h c.node (n, e, called_in n.equations j k q c at_j there)) in
           ap length (listed p lists are f n e) ∙ node_counted p lists sizes n calls
           ∙ sym (ap (size_at sizes) here.at_place ∙ get_or_from_slice_get sizes here.place (node_size p sizes n) 0 (sizes_are.each here.place n here.node))
 

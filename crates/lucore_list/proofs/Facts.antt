@@ -7,13 +7,14 @@ use Rattle.std.proofs.lemmas.Option.{slice_get_within, slice_get-get_or, slice_g
 use Rattle.std.proofs.lemmas.Slice.Eq.{bytes_eq-Decides}
 use Rattle.lutree.specs.declared.expr.Condition.{Condition}
 use Rattle.lutree.specs.Tree.{DeclarationTree, EquationTree, NodeTree, ProgramTree}
-use Rattle.lusource.specs.Names.{names_of, variables_of, declarations_of, node_of, AreDistinct}
+use Rattle.lusource.specs.Names.{variables_of, AreDistinct}
+use Rattle.lustat_rules.specs.Scope.{names_of, declarations_of, node_called}
 use Rattle.lustat_rules.specs.Scope as rules
 use Rattle.lustat_rules.specs.Naming.{Call, names_in, calls_in, called_by, DefinesAnew, Reaches}
 use Rattle.lustat_rules.specs.Clocks.{HasClock, ClocksAgree, HasUnclockedOutputs}
 use Rattle.lustat_rules.specs.Accepted.{Rule, IsAccepted}
 use Rattle.lucore_list.specs.Laws.{DefineSomething}
-use Rattle.lucore_list.proofs.Names.{get-front, get-behind, contains_at, contains_get, all_at, all_imp, distinct, get-names, mapped_some, first_at, known_in, node_same, node_name, placed}
+use Rattle.lucore_list.proofs.Names.{get-front, get-behind, contains_at, contains_get, all_at, all_imp, distinct, get-names, mapped_some, first_at, known_in, node_name, placed}
 use Rattle.lucore_list.proofs.Well.{Known, IsWell, Ruled, right_well}
 use Rattle.lucore_list.proofs.ByCalls.{none_reaches}
 
@@ -31,7 +32,7 @@ pub record NodeFacts (p : ProgramTree) (n : NodeTree) : Type 0 where
   pub agree : (j : ℕ) (q : EquationTree) → slice_get n.equations j ≡ Some q → ClocksAgree n q
   pub clocks : (x : List ℕ) (c : Condition) → HasClock n x (Some c) → Known p n (Below n) c.variable
   pub inputs : (j : ℕ) (d : DeclarationTree) → slice_get n.inputs j ≡ Some d → d.clock ≡ None
-  pub outputs : (f : List ℕ) (callee : NodeTree) → Below n f → node_of p f ≡ Some callee → (j : ℕ) (d : DeclarationTree) → slice_get callee.outputs j ≡ Some d → d.clock ≡ None
+  pub outputs : (f : List ℕ) (callee : NodeTree) → Below n f → node_called p f ≡ Some callee → (j : ℕ) (d : DeclarationTree) → slice_get callee.outputs j ≡ Some d → d.clock ≡ None
 
 called_here : (qs : List EquationTree) (j : ℕ) (q : EquationTree) (g : List ℕ) → slice_get qs j ≡ Some q → Contains (map (λ (c : Call). c.node) (calls_in q.right)) g → Contains (flat_map (λ (q : EquationTree). map (λ (c : Call). c.node) (calls_in q.right)) qs) g
 called_here [] j q g e c = cc
@@ -99,7 +100,7 @@ module _ (p : ProgramTree) (main : List ℕ) (accepted : IsAccepted p main) (som
         (contains_get (names_of n.outputs) d.name j (get-names n.outputs j ∙ ap (option_map (λ (d : DeclarationTree). d.name)) e))
         other
 
-  outputs : (i : ℕ) (n : NodeTree) → slice_get p i ≡ Some n → (f : List ℕ) (callee : NodeTree) → Below n f → node_of p f ≡ Some callee → (j : ℕ) (d : DeclarationTree) → slice_get callee.outputs j ≡ Some d → d.clock ≡ None
+  outputs : (i : ℕ) (n : NodeTree) → slice_get p i ≡ Some n → (f : List ℕ) (callee : NodeTree) → Below n f → node_called p f ≡ Some callee → (j : ℕ) (d : DeclarationTree) → slice_get callee.outputs j ≡ Some d → d.clock ≡ None
   outputs i n here f callee below found j d e =
       ⊎_elim
       (λ (same : f ≡ main).
@@ -107,7 +108,7 @@ module _ (p : ProgramTree) (main : List ℕ) (accepted : IsAccepted p main) (som
       let at = contains_at (map (λ (c : Call). c.node) (calls_in w.1.right)) f w.3 in
       let c = mapped_some (λ (c : Call). c.node) (slice_get (calls_in w.1.right) at.0) f (sym (slice_get-map (λ (c : Call). c.node) (calls_in w.1.right) at.0) ∙ at.1) in
       let h = all_at (λ (c : Call). c.node ≡ main → IfSome (rules.node_called p c.node) HasUnclockedOutputs) (calls_in w.1.right) at.0 c.0 ((accepted Rule.clocked_parameter).equations i w.0 n w.1 here w.2) c.1 in
-      let h' = subst (λ o. IfSome o HasUnclockedOutputs) (ap (rules.node_called p) c.2 ∙ sym (node_same p f) ∙ found) (h (c.2 ∙ same)) in
+      let h' = subst (λ o. IfSome o HasUnclockedOutputs) (ap (rules.node_called p) c.2 ∙ found) (h (c.2 ∙ same)) in
       all_at (λ (d : DeclarationTree). d.clock ≡ None) callee.outputs j d h' e)
       (λ (other : ¬ (f ≡ main)).
       let at = placed p f callee found in
@@ -135,5 +136,5 @@ module _ (p : ProgramTree) (main : List ℕ) (accepted : IsAccepted p main) (som
         outputs = outputs i n here;
       }
 
-  pub facts : (f : List ℕ) (n : NodeTree) → node_of p f ≡ Some n → NodeFacts p n
+  pub facts : (f : List ℕ) (n : NodeTree) → node_called p f ≡ Some n → NodeFacts p n
   facts f n e = let at = placed p f n e in node_facts at.place n at.node

@@ -9,7 +9,8 @@ use Rattle.std.proofs.lemmas.Slice.Eq.{bytes_eq-Decides}
 use Rattle.lutree.specs.declared.expr.Condition.{Condition}
 use Rattle.lutree.specs.Tree.{DeclarationTree, NodeTree, ProgramTree}
 use Rattle.luflow.specs.declared.form.Flow.{Flow}
-use Rattle.lusource.specs.Names.{names_of, variables_of, declarations_of, place_of, node_of, clock_in, AreDistinct}
+use Rattle.lusource.specs.Names.{variables_of, place_of, clock_in, AreDistinct}
+use Rattle.lustat_rules.specs.Scope.{names_of, declarations_of, node_called}
 use Rattle.lustat_rules.specs.Scope as rules
 use Rattle.lustat_rules.proofs.Calling as calling
 use Rattle.lucore_list.specs.Layout.{list_at, list_of, node_flows, AreLists}
@@ -146,17 +147,10 @@ clock_cases (d ∷ ds) x = clock_case d (rules.first_declared ds x) (clock_in ds
 
 -- NODES
 
-node_step : (n : NodeTree) (a b : Option NodeTree) (t : Bool) → a ≡ b → cond t (Some n) a ≡ cond t (Some n) b
-node_step n a b t e = ap (cond t (Some n)) e
+pub placed : (p : ProgramTree) (f : List ℕ) (n : NodeTree) → node_called p f ≡ Some n → calling.PlaceOf p f n
+placed p f n e = calling.place_of p f n (e)
 
-pub node_same : (p : ProgramTree) (f : List ℕ) → node_of p f ≡ rules.node_called p f
-node_same [] f = refl
-node_same (n ∷ p) f = node_step n (node_of p f) (rules.node_called p f) (bytes_eq n.name f) (node_same p f)
-
-pub placed : (p : ProgramTree) (f : List ℕ) (n : NodeTree) → node_of p f ≡ Some n → calling.PlaceOf p f n
-placed p f n e = calling.place_of p f n (sym (node_same p f) ∙ e)
-
-pub listed : (p : ProgramTree) (lists : List (List Flow)) → AreLists p lists → (f : List ℕ) (n : NodeTree) → node_of p f ≡ Some n → list_of p lists f ≡ node_flows p lists n
+pub listed : (p : ProgramTree) (lists : List (List Flow)) → AreLists p lists → (f : List ℕ) (n : NodeTree) → node_called p f ≡ Some n → list_of p lists f ≡ node_flows p lists n
 listed p lists are f n e =
     let here = placed p f n e in
     ap (list_at lists) here.at_place ∙ ap (λ (o : Option (List Flow)). unwrap_or o []) (are.each here.place n here.node)
@@ -165,6 +159,6 @@ pub name_step : (m n : NodeTree) (rest : Option NodeTree) (f : List ℕ) (b : Bo
 name_step m n rest f true e h g = let same : m ≡ n = same_Some m n g in ap (λ (n : NodeTree). n.name) (sym same) ∙ (bytes_eq-Decides m.name f).0 e
 name_step m n rest f false e h g = h g
 
-pub node_name : (p : ProgramTree) (f : List ℕ) (n : NodeTree) → node_of p f ≡ Some n → n.name ≡ f
+pub node_name : (p : ProgramTree) (f : List ℕ) (n : NodeTree) → node_called p f ≡ Some n → n.name ≡ f
 node_name [] f n e = cc
-node_name (m ∷ p) f n e = name_step m n (node_of p f) f (bytes_eq m.name f) refl (node_name p f n) e
+node_name (m ∷ p) f n e = name_step m n (node_called p f) f (bytes_eq m.name f) refl (node_name p f n) e

@@ -15,7 +15,8 @@ use Rattle.luflow.specs.declared.form.Form.{Form}
 use Rattle.luflow.specs.declared.form.Form.TheVariants.{Input, Constant, Copied, Unary, Binary, If, Pre, Arrow, When, Current, Merge}
 use Rattle.luflow.specs.declared.form.Flow.{Flow}
 use Rattle.luflow.specs.Program.{clock_reads}
-use Rattle.lusource.specs.Names.{names_of, variables_of, declarations_of, place_of, node_of, name_at, clock_of}
+use Rattle.lusource.specs.Names.{variables_of, place_of, name_at, clock_of}
+use Rattle.lustat_rules.specs.Scope.{names_of, declarations_of, node_called}
 use Rattle.lustat_rules.specs.Scope as rules
 use Rattle.lustat_rules.specs.Naming.{Calls, Reaches}
 use Rattle.lustat_rules.specs.Clocks.{HasClock, FitsInside}
@@ -23,7 +24,7 @@ use Rattle.lustat_rules.proofs.Fitting.{inside}
 use Rattle.lucore_list.specs.Layout.{Root, Walking, walk, walk_all, walk_right, left_clock, root_flow, inner_flows, variable_flow, variable_place, variable_count, clock_place, input_flows, list_of, node_flows, AreLists}
 use Rattle.lucore_list.specs.Layout.Root.{own, at}
 use Rattle.lucore_list.proofs.Each.{Each, each_left, each_right, each_join, each_all, each_at, each_map, each_imp}
-use Rattle.lucore_list.proofs.Names.{get-front, get-behind, all_at, mapped_some, get-names, get_place, place_at, first_at, clock_named, clock_cases, listed, node_same}
+use Rattle.lucore_list.proofs.Names.{get-front, get-behind, all_at, mapped_some, get-names, get_place, place_at, first_at, clock_named, clock_cases, listed}
 use Rattle.lucore_list.proofs.Roots.{Roots, rooted, parts, length-front, front, others, name_cases, get-input, get-other}
 use Rattle.lucore_list.proofs.ToSource.{name_there}
 use Rattle.lucore_list.proofs.Facts.{Below, NodeFacts}
@@ -136,8 +137,8 @@ module _ (p : ProgramTree) (lists : List (List Flow)) (node : NodeTree) (facts :
       let has : HasClock node d.name None = ap (option_map (λ (d : DeclarationTree). d.clock)) (first_is (declarations_of node) d.name ∙ ap (slice_get (declarations_of node)) place ∙ at) ∙ ap Some none in
       ap (clock_on L) (sym place) ∙ variables d.name None has
 
-  module _ (callee_fits : (f : List ℕ) → Below node f → (callee : NodeTree) → node_of p f ≡ Some callee → AreFit (list_of p lists f) (length callee.inputs))
-      (callee_outputs : (f : List ℕ) → Below node f → (callee : NodeTree) → node_of p f ≡ Some callee → (j : ℕ) → j < length callee.outputs → clock_on (list_of p lists f) (length callee.inputs + j) ≡ Some Base) where
+  module _ (callee_fits : (f : List ℕ) → Below node f → (callee : NodeTree) → node_called p f ≡ Some callee → AreFit (list_of p lists f) (length callee.inputs))
+      (callee_outputs : (f : List ℕ) → Below node f → (callee : NodeTree) → node_called p f ≡ Some callee → (j : ℕ) → j < length callee.outputs → clock_on (list_of p lists f) (length callee.inputs + j) ≡ Some Base) where
     long : nv ≤ length L
     long = let a = ap length (parts p lists node) in let b = length-front p lists node in omega (arith, length-append (front p lists node) (inner_flows p lists node node.equations nv))
 
@@ -231,18 +232,18 @@ module _ (p : ProgramTree) (lists : List (List Flow)) (node : NodeTree) (facts :
         let y : 0 + x ≡ x = omega arith in
         subst (λ x. At x f) y (each_at At 0 L x f (subst (Each At 0) (sym (parts p lists node)) all) e)
 
-module _ (p : ProgramTree) (lists : List (List Flow)) (are : AreLists p lists) (facts : (f : List ℕ) (n : NodeTree) → node_of p f ≡ Some n → NodeFacts p n) (never : (f : List ℕ) → ¬ Reaches p f f) where
+module _ (p : ProgramTree) (lists : List (List Flow)) (are : AreLists p lists) (facts : (f : List ℕ) (n : NodeTree) → node_called p f ≡ Some n → NodeFacts p n) (never : (f : List ℕ) → ¬ Reaches p f f) where
   -- the list of a node fits, and its inputs stand at their numbers
   abbrev pub ListFits : List ℕ → Type 0
   ListFits f =
-      (node : NodeTree) → node_of p f ≡ Some node → (x : ℕ) (g : Flow) → slice_get (list_of p lists f) x ≡ Some g
+      (node : NodeTree) → node_called p f ≡ Some node → (x : ℕ) (g : Flow) → slice_get (list_of p lists f) x ≡ Some g
       → FlowFits (list_of p lists f) (length node.inputs) g × ((r : ℕ) → g.form ≡ Input r → x ≡ r)
 
   step : (f : List ℕ) → ((g : List ℕ) → Calls p f g → ListFits g) → ListFits f
   step f rest node found =
       subst (λ l. (x : ℕ) (g : Flow) → slice_get l x ≡ Some g → FlowFits l (length node.inputs) g × ((r : ℕ) → g.form ≡ Input r → x ≡ r)) (sym (listed p lists are f node found))
       (node_fits p lists node (facts f node found)
-      (λ g b callee e x h at. (rest g (node, sym (node_same p f) ∙ found, b) callee e x h at).0)
+      (λ g b callee e x h at. (rest g (node, found, b) callee e x h at).0)
       (λ g b callee e j lt.
       let d = declared callee.outputs j lt in
       subst (λ l. clock_on l (length callee.inputs + j) ≡ Some Base) (sym (listed p lists are g callee e)) (output_on p lists callee (facts g callee e) j d.0 d.1 ((facts f node found).outputs g callee b e j d.0 d.1))))

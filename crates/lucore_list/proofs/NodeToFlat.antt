@@ -7,13 +7,14 @@ use Rattle.lutree.specs.declared.expr.Condition.{Condition}
 use Rattle.lutree.specs.Tree.{DeclarationTree, EquationTree, NodeTree, ProgramTree}
 use Rattle.luflow.specs.declared.form.Flow.{Flow}
 use Rattle.luflow.specs.Streams.{Stream, Ticks}
-use Rattle.lusource.specs.Names.{names_of, variables_of, declarations_of, place_of, node_of, name_at, clock_of, AreDistinct}
+use Rattle.lusource.specs.Names.{variables_of, place_of, name_at, clock_of, AreDistinct}
+use Rattle.lustat_rules.specs.Scope.{names_of, declarations_of, node_called}
 use Rattle.lusource.specs.Source.{Named, Site, calls, output, LeftHolds, EquationsHold, all_sites, sites, InstanceHolds, Path, SourceStreams, If, sites_of, HoldsAt}
 use Rattle.lustat_rules.specs.Scope as rules
 use Rattle.lustat_rules.specs.Naming.{Calls, Reaches}
 use Rattle.lucore_list.specs.Layout.{Root, walk_right, left_clock, root_flow, inner_flows, variable_flow, variable_place, variable_count, input_flows, node_flows, AreLists}
 use Rattle.lucore_list.proofs.Each.{Each, each_left, each_right, each_join, each_at, each_all, each_map}
-use Rattle.lucore_list.proofs.Names.{get-front, get-behind, contains_at, mapped_some, get-names, get_place, clock_cases, listed, node_same}
+use Rattle.lucore_list.proofs.Names.{get-front, get-behind, contains_at, mapped_some, get-names, get_place, clock_cases, listed}
 use Rattle.lucore_list.proofs.Open.{Model, flow_stream, FlowHolds, Hold, Solves, hold_solves, root_stream}
 use Rattle.lucore_list.proofs.Spots.{length-sites}
 use Rattle.lucore_list.proofs.Well.{IsWell}
@@ -41,7 +42,7 @@ module _ (p : ProgramTree) (lists : List (List Flow)) (node : NodeTree) (facts :
       (λ (h : Contains (rules.lefts_of node.equations) x). h)
       (facts.defined (length node.inputs + j) x there)
 
-module _ (p : ProgramTree) (lists : List (List Flow)) (node : NodeTree) (facts : NodeFacts p node) (base : Ticks) (σ : SourceStreams) (apart : (f : List ℕ) (n : NodeTree) → node_of p f ≡ Some n → AreDistinct (variables_of n)) (gives : (f : List ℕ) → Below node f → Gives p lists f) where
+module _ (p : ProgramTree) (lists : List (List Flow)) (node : NodeTree) (facts : NodeFacts p node) (base : Ticks) (σ : SourceStreams) (apart : (f : List ℕ) (n : NodeTree) → node_called p f ≡ Some n → AreDistinct (variables_of n)) (gives : (f : List ℕ) → Below node f → Gives p lists f) where
   abbrev var : Named
   var = σ []
 
@@ -148,22 +149,22 @@ module _ (p : ProgramTree) (lists : List (List Flow)) (node : NodeTree) (facts :
             (hold_solves base m (node_flows p lists node) (subst (Hold base m 0) (sym (parts p lists node)) all), agree),
       )
 
-module _ (p : ProgramTree) (lists : List (List Flow)) (are : AreLists p lists) (facts : (f : List ℕ) (n : NodeTree) → node_of p f ≡ Some n → NodeFacts p n) (never : (f : List ℕ) → ¬ Reaches p f f) where
-  apart : (f : List ℕ) (n : NodeTree) → node_of p f ≡ Some n → AreDistinct (variables_of n)
+module _ (p : ProgramTree) (lists : List (List Flow)) (are : AreLists p lists) (facts : (f : List ℕ) (n : NodeTree) → node_called p f ≡ Some n → NodeFacts p n) (never : (f : List ℕ) → ¬ Reaches p f f) where
+  apart : (f : List ℕ) (n : NodeTree) → node_called p f ≡ Some n → AreDistinct (variables_of n)
   apart f n e = (facts f n e).apart
 
   step : (f : List ℕ) → ((g : List ℕ) → Calls p f g → Gives p lists g) → Gives p lists f
   step f rest node found base given σ sol =
       let fs = facts f node found in
-      let below : (g : List ℕ) → Below node g → Gives p lists g = λ g b. rest g (node, sym (node_same p f) ∙ found, b) in
+      let below : (g : List ℕ) → Below node g → Gives p lists g = λ g b. rest g (node, found, b) in
       let var = σ [] in
       let inner = λ (i : ℕ). σ (i ∷ []) in
       let here = subst (λ o. If o (λ node. InstanceHolds p node base given var inner)) found (sol []) in
       let ss = sites_of p (Some node) base var inner in
-      let es : sites_of p (node_of p f) base var inner ≡ ss = ap (λ o. sites_of p o base var inner) found in
+      let es : sites_of p (node_called p f) base var inner ≡ ss = ap (λ o. sites_of p o base var inner) found in
       let solved = each_all (λ j c. (path : Path) → HoldsAt p c.node c.base c.arguments (λ ρ. σ (j ∷ ρ)) path) 0 ss (λ j c e path.
       let z : j ≡ 0 + j = omega arith in
-      let e' : slice_get (sites_of p (node_of p f) base var inner) j ≡ Some c = ap (λ s. slice_get s j) es ∙ e in
+      let e' : slice_get (sites_of p (node_called p f) base var inner) j ≡ Some c = ap (λ s. slice_get s j) es ∙ e in
       let h = subst (λ o. If o (λ c. HoldsAt p c.node c.base c.arguments (λ ρ. σ (j ∷ ρ)) path)) e' (sol (j ∷ path)) in
       subst (λ j. HoldsAt p c.node c.base c.arguments (λ ρ. σ (j ∷ ρ)) path) z h) in
       let g = node_gives p lists node fs base σ apart below given here solved in

@@ -5,14 +5,15 @@ use Rattle.std.proofs.lemmas.Option.{slice_get_within}
 use Rattle.lutree.specs.Tree.{DeclarationTree, EquationTree, NodeTree, ProgramTree}
 use Rattle.luflow.specs.declared.form.Flow.{Flow}
 use Rattle.luflow.specs.Streams.{Stream, Ticks}
-use Rattle.lusource.specs.Names.{variables_of, declarations_of, node_of, AreDistinct}
+use Rattle.lusource.specs.Names.{variables_of, AreDistinct}
+use Rattle.lustat_rules.specs.Scope.{declarations_of, node_called}
 use Rattle.lusource.specs.Source.{Named, Site, calls, output, LeftHolds, EquationsHold, all_sites, sites, InstanceHolds, Path, If, sites_of, HoldsAt}
 use Rattle.lustat_rules.specs.Scope as rules
 use Rattle.lustat_rules.specs.Naming.{Calls, Reaches}
 use Rattle.lucore_list.specs.Layout.{Root, walk_right, left_clock, root_flow, inner_flows, variable_flow, variable_place, variable_count, list_of, node_flows, AreLists}
 use Rattle.lucore_list.specs.Layout.Root.{own, at}
 use Rattle.lucore_list.proofs.Each.{Each, each_left, each_right, each_join, each_at, each_all}
-use Rattle.lucore_list.proofs.Names.{get-front, all_at, get-names, place_at, listed, node_same}
+use Rattle.lucore_list.proofs.Names.{get-front, all_at, get-names, place_at, listed}
 use Rattle.lucore_list.proofs.Open.{Model, flow_stream, FlowHolds, Hold, Solves, solves_hold, root_stream}
 use Rattle.lucore_list.proofs.Spots.{Spot, spots, equation_spots, node_spots, spots_in, streams_of, place_named, of_spot, length-spots, length-sites}
 use Rattle.lucore_list.proofs.Well.{IsWell, Known}
@@ -26,7 +27,7 @@ pub root_flow_stream : (p : ProgramTree) (lists : List (List Flow)) (node : Node
 root_flow_stream p lists node base m q (own f) j x = refl
 root_flow_stream p lists node base m q (at i) j x = refl
 
-module _ (p : ProgramTree) (lists : List (List Flow)) (node : NodeTree) (facts : NodeFacts p node) (base : Ticks) (m : Model) (apart : (f : List ℕ) (n : NodeTree) → node_of p f ≡ Some n → AreDistinct (variables_of n)) where
+module _ (p : ProgramTree) (lists : List (List Flow)) (node : NodeTree) (facts : NodeFacts p node) (base : Ticks) (m : Model) (apart : (f : List ℕ) (n : NodeTree) → node_called p f ≡ Some n → AreDistinct (variables_of n)) where
   abbrev all_spots : List Spot
   all_spots = node_spots p lists node
 
@@ -108,20 +109,20 @@ module _ (p : ProgramTree) (lists : List (List Flow)) (node : NodeTree) (facts :
         r.1,
       )
 
-module _ (p : ProgramTree) (lists : List (List Flow)) (are : AreLists p lists) (facts : (f : List ℕ) (n : NodeTree) → node_of p f ≡ Some n → NodeFacts p n) (never : (f : List ℕ) → ¬ Reaches p f f) where
-  apart : (f : List ℕ) (n : NodeTree) → node_of p f ≡ Some n → AreDistinct (variables_of n)
+module _ (p : ProgramTree) (lists : List (List Flow)) (are : AreLists p lists) (facts : (f : List ℕ) (n : NodeTree) → node_called p f ≡ Some n → NodeFacts p n) (never : (f : List ℕ) → ¬ Reaches p f f) where
+  apart : (f : List ℕ) (n : NodeTree) → node_called p f ≡ Some n → AreDistinct (variables_of n)
   apart f n e = (facts f n e).apart
 
   -- what is shown of each name, along calls
   abbrev Reads : List ℕ → Type 0
   Reads f =
-      (node : NodeTree) → node_of p f ≡ Some node → (base : Ticks) (given : List Stream) (m : Model) → Solves base m (list_of p lists f) → ((r : ℕ) → r < length node.inputs → slice_get given r ≡ Some (m.given r)) → (path : Path) → HoldsAt p f base given (streams_of p lists f m.on) path
+      (node : NodeTree) → node_called p f ≡ Some node → (base : Ticks) (given : List Stream) (m : Model) → Solves base m (list_of p lists f) → ((r : ℕ) → r < length node.inputs → slice_get given r ≡ Some (m.given r)) → (path : Path) → HoldsAt p f base given (streams_of p lists f m.on) path
 
   abbrev own_streams : Option NodeTree → Model → Named
   own_streams o m x = m.on (place_named o x)
 
   abbrev inner_streams : Option NodeTree → Model → ℕ → Named
-  inner_streams o m i x = of_spot (slice_get (spots_in p lists o) i) (λ spot. m.on (spot.at + place_named (node_of p spot.node) x))
+  inner_streams o m i x = of_spot (slice_get (spots_in p lists o) i) (λ spot. m.on (spot.at + place_named (node_called p spot.node) x))
 
   abbrev HereHolds : Ticks → List Stream → Model → Option NodeTree → Type 0
   HereHolds base given m o = If o (λ node. InstanceHolds p node base given (own_streams o m) (inner_streams o m))
@@ -154,7 +155,7 @@ module _ (p : ProgramTree) (lists : List (List Flow)) (are : AreLists p lists) (
       at_path path h.0 h.1
     where
       below : (g : List ℕ) → Below node g → Reads g
-      below g b = rest g (node, sym (node_same p f) ∙ found, b)
+      below g b = rest g (node, found, b)
 
       at_path : (path : Path) → HereHolds base given m (Some node) → Each (Served p lists node (Below node) base m (node_spots p lists node) apart) 0 (sites_of p (Some node) base (own_streams (Some node) m) (inner_streams (Some node) m)) → HoldsAt p f base given (streams_of p lists f m.on) path
       at_path [] here served = subst (HereHolds base given m) (sym found) here

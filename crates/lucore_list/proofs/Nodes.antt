@@ -5,7 +5,8 @@ use Rattle.std.proofs.lemmas.Option.{slice_get_within, slice_get-get_or, get_or_
 use Rattle.lutree.specs.Tree.{NodeTree, ProgramTree}
 use Rattle.luflow.specs.declared.form.Flow.{Flow}
 use Rattle.luflow.specs.Streams.{Stream, Ticks}
-use Rattle.lusource.specs.Names.{variables_of, place_of, node_of}
+use Rattle.lusource.specs.Names.{variables_of, place_of}
+use Rattle.lustat_rules.specs.Scope.{node_called}
 use Rattle.lusource.specs.Source.{If, InstanceHolds, Path, SourceStreams, HoldsAt}
 use Rattle.lustat_rules.specs.Naming.{Reaches}
 use Rattle.lustat_rules.specs.Accepted.{IsAccepted}
@@ -21,8 +22,8 @@ use Rattle.lucore_list.proofs.NodeToFlat.{gives_all}
 use Rattle.lucore_list.proofs.Closed.{declared}
 use Rattle.lucore_list.proofs.Whole.{has_itself}
 
-module _ (p : ProgramTree) (main : List ℕ) (lists : List (List Flow)) (accepted : IsAccepted p main) (some : DefineSomething p) (are : AreLists p lists) (f : List ℕ) (node : NodeTree) (found : node_of p f ≡ Some node) where
-  fs : (g : List ℕ) (n : NodeTree) → node_of p g ≡ Some n → NodeFacts p n
+module _ (p : ProgramTree) (main : List ℕ) (lists : List (List Flow)) (accepted : IsAccepted p main) (some : DefineSomething p) (are : AreLists p lists) (f : List ℕ) (node : NodeTree) (found : node_called p f ≡ Some node) where
+  fs : (g : List ℕ) (n : NodeTree) → node_called p g ≡ Some n → NodeFacts p n
   fs g n e = facts p main accepted some g n e
 
   never : (g : List ℕ) → ¬ Reaches p g g

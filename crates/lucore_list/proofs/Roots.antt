@@ -13,7 +13,8 @@ use Rattle.lutree.specs.Tree.{DeclarationTree, EquationTree, NodeTree, ProgramTr
 use Rattle.luflow.specs.declared.form.Clock.TheVariants.{Base}
 use Rattle.luflow.specs.declared.form.Form.TheVariants.{Input}
 use Rattle.luflow.specs.declared.form.Flow.{Flow}
-use Rattle.lusource.specs.Names.{names_of, variables_of, declarations_of, place_of, AreDistinct}
+use Rattle.lusource.specs.Names.{variables_of, place_of, AreDistinct}
+use Rattle.lustat_rules.specs.Scope.{names_of, declarations_of}
 use Rattle.lustat_rules.specs.Scope as rules
 use Rattle.lustat_rules.specs.Naming.{DefinesAnew}
 use Rattle.lucore_list.specs.Layout.{Root, walk_right, root_flow, inner_flows, variable_flow, variable_place, variable_count, input_flows, node_flows}

@@ -13,13 +13,14 @@ use Rattle.lutree.specs.Tree.{Tree, Trees, list_of as trees_in, DeclarationTree,
 use Rattle.lutree.specs.Tree as tree
 use Rattle.luflow.specs.declared.form.Form.TheVariants.{Unary, Binary, If, Pre, Arrow, When, Merge}
 use Rattle.luflow.specs.declared.form.Flow.{Flow}
-use Rattle.lusource.specs.Names.{variables_of, names_of, node_of, place_of, name_at, clock_of}
+use Rattle.lusource.specs.Names.{variables_of, place_of, name_at, clock_of}
+use Rattle.lustat_rules.specs.Scope.{names_of, node_called}
 use Rattle.lusource.specs.Source.{condition}
 use Rattle.lustat_rules.specs.Naming.{Call, Calls, Reaches, calls_in, calls_in_all, node_place}
 use Rattle.lucore_list.specs.Layout.{Walking, leaf, after, moved, instance, inputs_in, list_at, list_of, clock_place, flow_of, variable_place, walk, walk_all, walk_right, left_clock, root_flow, inner_flows, variable_flow, inner_owners, owner_of, variable_count, input_flows, node_flows, node_owners, AreLists, main_variables}
 use Rattle.lucore_list.specs.Layout.Root.{at}
 use Rattle.lucore_list.specs.Laws.{OneListLaw}
-use Rattle.lucore_list.proofs.Names.{all_left, all_right, all_head, all_of, contains_get, listed, node_same}
+use Rattle.lucore_list.proofs.Names.{all_left, all_right, all_head, all_of, contains_get, listed}
 use Rattle.lucore_list.proofs.Roots.{input}
 use Rattle.lucore_list.proofs.ByCalls.{by_calls, none_reaches}
 
@@ -65,7 +66,7 @@ module _ (p : ProgramTree) (a b : List (List Flow)) (node : NodeTree) where
         let same = all_head Same c [] (all_right Same (calls_in_all all) (c ∷ []) h) in
         let ck = clock_place node k in
         walk_all_same all k (λ xs. instance p a f ck xs) (λ xs. instance p b f ck xs)
-        (ap {B = List ℕ → Walking} (λ (l : List Flow) xs s. record { inner = map (moved s ck xs) l; root = at (s + inputs_in (node_of p f)) }) same)
+        (ap {B = List ℕ → Walking} (λ (l : List Flow) xs s. record { inner = map (moved s ck xs) l; root = at (s + inputs_in (node_called p f)) }) same)
         (all_left Same (calls_in_all all) (c ∷ []) h)
 
     walk_all_same : (all : Trees) (k : Option Condition) (rest rest' : List ℕ → Walking) → rest ≡ rest' → All Same (calls_in_all all) → walk_all p a node all k rest ≡ walk_all p b node all k rest'
@@ -123,9 +124,9 @@ place_step : (t : Bool) (n : NodeTree) (rest : Option NodeTree) (place : Option 
 place_step true n rest place h e = cc
 place_step false n rest place h e = ap (option_map suc) (h e)
 
-pub no_place : (p : ProgramTree) (f : List ℕ) → node_of p f ≡ None → node_place p f ≡ None
+pub no_place : (p : ProgramTree) (f : List ℕ) → node_called p f ≡ None → node_place p f ≡ None
 no_place [] f e = refl
-no_place (n ∷ p) f e = place_step (bytes_eq n.name f) n (node_of p f) (node_place p f) (no_place p f) e
+no_place (n ∷ p) f e = place_step (bytes_eq n.name f) n (node_called p f) (node_place p f) (no_place p f) e
 
 pub called_in : (qs : List EquationTree) (j k : ℕ) (q : EquationTree) (c : Call) → slice_get qs j ≡ Some q → slice_get (calls_in q.right) k ≡ Some c → Contains (flat_map (λ (q : EquationTree). map (λ (c : Call). c.node) (calls_in q.right)) qs) c.node
 called_in [] j k q c e f = cc
@@ -139,20 +140,20 @@ module _ (p : ProgramTree) (a b : List (List Flow)) (are_a : AreLists p a) (are_
   abbrev SameLists : List ℕ → Type 0
   SameLists f = list_of p a f ≡ list_of p b f
 
-  calls_same : (f : List ℕ) (n : NodeTree) → node_of p f ≡ Some n → ((g : List ℕ) → Calls p f g → SameLists g) → AllSame p a b n n.equations
-  calls_same f n e h j q here = all_of (Same p a b n) (calls_in q.right) (λ k c there. h c.node (n, sym (node_same p f) ∙ e, called_in n.equations j k q c here there))
+  calls_same : (f : List ℕ) (n : NodeTree) → node_called p f ≡ Some n → ((g : List ℕ) → Calls p f g → SameLists g) → AllSame p a b n n.equations
+  calls_same f n e h j q here = all_of (Same p a b n) (calls_in q.right) (λ k c there. h c.node (n, e, called_in n.equations j k q c here there))
 
   step : (f : List ℕ) → ((g : List ℕ) → Calls p f g → SameLists g) → SameLists f
-  step f h = go (node_of p f) refl
+  step f h = go (node_called p f) refl
     where
-      go : (o : Option NodeTree) → node_of p f ≡ o → SameLists f
+      go : (o : Option NodeTree) → node_called p f ≡ o → SameLists f
       go None e = ap (list_at a) (no_place p f e) ∙ sym (ap (list_at b) (no_place p f e))
       go (Some n) e = listed p a are_a f n e ∙ (nodes_same p a b n (calls_same f n e h)).0 ∙ sym (listed p b are_b f n e)
 
   pub lists_same : (f : List ℕ) → SameLists f
   lists_same = by_calls p never SameLists step
 
-  pub main_same : (f : List ℕ) (n : NodeTree) → node_of p f ≡ Some n → (node_flows p a n ≡ node_flows p b n) × (node_owners p a n ≡ node_owners p b n)
+  pub main_same : (f : List ℕ) (n : NodeTree) → node_called p f ≡ Some n → (node_flows p a n ≡ node_flows p b n) × (node_owners p a n ≡ node_owners p b n)
   main_same f n e = nodes_same p a b n (calls_same f n e (λ g call. lists_same g))
 
 pub one_list : OneListLaw

@@ -7,7 +7,8 @@ use Rattle.lutree.specs.Tree.{Tree, Trees, EquationTree, NodeTree, ProgramTree}
 use Rattle.lutree.specs.Tree as tree
 use Rattle.luflow.specs.declared.form.Flow.{Flow}
 use Rattle.luflow.specs.Streams.{Stream, Ticks}
-use Rattle.lusource.specs.Names.{variables_of, place_of, node_of, clock_of}
+use Rattle.lusource.specs.Names.{variables_of, place_of, clock_of}
+use Rattle.lustat_rules.specs.Scope.{node_called}
 use Rattle.lusource.specs.Source.{Named, SourceStreams, condition, calls, calls_in, sites, sites_in}
 use Rattle.lucore_list.specs.Layout.{Walking, behind, walk, walk_right, left_clock, variable_count}
 use Rattle.lucore_list.proofs.Open.{nothing}
@@ -152,6 +153,6 @@ of_spot None f = nothing
 of_spot (Some spot) f = f spot
 
 abbrev pub streams_of : ProgramTree → List (List Flow) → List ℕ → (ℕ → Stream) → SourceStreams
-streams_of p lists f τ [] x = τ (place_named (node_of p f) x)
+streams_of p lists f τ [] x = τ (place_named (node_called p f) x)
 streams_of p lists f τ (i ∷ path) x =
-    of_spot (slice_get (spots_in p lists (node_of p f)) i) (λ spot. streams_of p lists spot.node (λ y. τ (spot.at + y)) path x)
+    of_spot (slice_get (spots_in p lists (node_called p f)) i) (λ spot. streams_of p lists spot.node (λ y. τ (spot.at + y)) path x)

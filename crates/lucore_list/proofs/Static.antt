@@ -16,7 +16,8 @@ use Rattle.luflow.specs.declared.form.Form.{Form}
 use Rattle.luflow.specs.declared.form.Form.TheVariants.{Input, Constant, Copied, Unary, Binary, If, Pre, Arrow, When, Current, Merge}
 use Rattle.luflow.specs.declared.form.Flow.{Flow}
 use Rattle.luflow.specs.Program.{places, clock_reads}
-use Rattle.lusource.specs.Names.{declarations_of, node_of, clock_of}
+use Rattle.lusource.specs.Names.{clock_of}
+use Rattle.lustat_rules.specs.Scope.{declarations_of, node_called}
 use Rattle.lusource.specs.Source.{condition}
 use Rattle.lustat_rules.specs.Clocks.{HasClock, FitsInside, AllFitInside}
 use Rattle.lucore_list.specs.Layout.{Root, Walking, root_flows, made, root_place, place, behind, leaf, after, moved_form, moved_clock, moved, list_of, inputs_in, instance, clock_place, flow_of, variable_place, variable_count, walk, walk_all}
@@ -161,8 +162,8 @@ module _ (L fl : List Flow) (n m s : ℕ) (k : Clock) (xs : List ℕ) (here : (x
 
 module _ (p : ProgramTree) (lists : List (List Flow)) (node : NodeTree) (Below : List ℕ → Type 0) (L : List Flow) (n : ℕ) (long : variable_count p lists node ≤ length L)
     (variables : (x : List ℕ) (c : Option Condition) → HasClock node x c → clock_on L (variable_place p lists node x) ≡ Some (clock_place node c))
-    (callee_fits : (f : List ℕ) → Below f → (callee : NodeTree) → node_of p f ≡ Some callee → AreFit (list_of p lists f) (length callee.inputs))
-    (callee_outputs : (f : List ℕ) → Below f → (callee : NodeTree) → node_of p f ≡ Some callee → (j : ℕ) → j < length callee.outputs → clock_on (list_of p lists f) (length callee.inputs + j) ≡ Some Base) where
+    (callee_fits : (f : List ℕ) → Below f → (callee : NodeTree) → node_called p f ≡ Some callee → AreFit (list_of p lists f) (length callee.inputs))
+    (callee_outputs : (f : List ℕ) → Below f → (callee : NodeTree) → node_called p f ≡ Some callee → (j : ℕ) → j < length callee.outputs → clock_on (list_of p lists f) (length callee.inputs + j) ≡ Some Base) where
   abbrev pub KnownClock : Option Condition → Type 0
   KnownClock None = Unit {0}
   KnownClock (Some c) = Known p node Below c.variable
@@ -189,8 +190,8 @@ module _ (p : ProgramTree) (lists : List (List Flow)) (node : NodeTree) (Below :
         each_map (λ x g. FlowFits L n g) (moved s ck xs) s fl (each_all (λ x g. FlowFits L n (moved s ck xs g)) s fl (λ x g e. moved_fits L fl n m s ck xs here (clock_there k known) arguments g (fits x g e))),
         λ j lt.
             let lo : j < length is.callee.outputs = (let e = is.outputs_are in omega arith) in
-            let i : inputs_in (node_of p f) ≡ m = ap inputs_in is.found in
-            let z : s + inputs_in (node_of p f) + j ≡ s + (m + j) = omega arith in
+            let i : inputs_in (node_called p f) ≡ m = ap inputs_in is.found in
+            let z : s + inputs_in (node_called p f) + j ≡ s + (m + j) = omega arith in
             ap (clock_on L) z ∙ moved_output L fl n m s ck xs here (clock_there k known) arguments (m + j) (callee_outputs f is.below is.callee is.found j lo),
       )
 

@@ -6,14 +6,13 @@ use Rattle.std.proofs.lemmas.List.{length-map}
 use Rattle.std.proofs.lemmas.Option.{same_Some, slice_get-map}
 use Rattle.lutree.specs.Tree.{NodeTree, ProgramTree}
 use Rattle.luflow.specs.declared.form.Flow.{Flow}
-use Rattle.lusource.specs.Names.{node_of}
 use Rattle.lustat_rules.specs.Scope.{node_called}
 use Rattle.lustat_rules.specs.Naming.{Call, Calls, Reaches, calls_in, called_by, node_place}
 use Rattle.lustat_rules.specs.Accepted.{Rule}
 use Rattle.lucore_list.specs.Layout.{list_at, list_of, node_flows, node_owners, main_variables, AreLists}
 use Rattle.lucore_list.specs.Laws.{ListsLaw, FlatListLaw}
 use Rattle.lucore_list.specs.Sizes.{size_at, size_of, AreSizes, SizesLaw}
-use Rattle.lucore_list.proofs.Names.{all_of, contains_at, contains_get, is_some_at, node_same, placed}
+use Rattle.lucore_list.proofs.Names.{all_of, contains_at, contains_get, is_some_at, placed}
 use Rattle.lucore_list.proofs.Same.{nodes_same, no_place, called_in}
 use Rattle.lucore_list.proofs.Counting.{node_counted}
 use Rattle.lucore_list.proofs.ByCalls.{by_calls, none_reaches}
@@ -66,14 +65,14 @@ module _ (p : ProgramTree) where
       )
 
   step : (f : List ℕ) → ((g : List ℕ) → Calls p f g → (k : ℕ) × Stays k g) → (k : ℕ) × Stays k f
-  step f h = go (node_of p f) refl
+  step f h = go (node_called p f) refl
     where
-      go : (o : Option NodeTree) → node_of p f ≡ o → (k : ℕ) × Stays k f
+      go : (o : Option NodeTree) → node_called p f ≡ o → (k : ℕ) × Stays k f
       go None e = (0, λ m le. ap (list_at (rounds (suc m))) (no_place p f e) ∙ sym (ap (list_at (rounds m)) (no_place p f e)))
       go (Some n) e = (suc stays.0, later)
         where
           stays : (k : ℕ) × NodeStays k n
-          stays = node_stays n (λ g has. h g (n, sym (node_same p f) ∙ e, has))
+          stays = node_stays n (λ g has. h g (n, e, has))
 
           named : (k : ℕ) → list_of p (rounds (suc k)) f ≡ node_flows p (rounds k) n
           named k =
@@ -119,7 +118,7 @@ flat_list_law p main accepted =
     let keeps = accepted Rule.no_main in
     let n = is_some_at (node_called p main) keeps.program in (
       record { flows = node_flows p out.0 n.0; order = []; owners = node_owners p out.0 n.0; variables = main_variables n.0 },
-      record { lists = out.0; are_lists = out.1; node = n.0; is_main = node_same p main ∙ n.1; flows = refl; owners = refl; variables = refl },
+      record { lists = out.0; are_lists = out.1; node = n.0; is_main = n.1; flows = refl; owners = refl; variables = refl },
     )
 
 pub sizes_law : SizesLaw

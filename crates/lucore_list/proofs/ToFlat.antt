@@ -11,7 +11,8 @@ use Rattle.luflow.specs.declared.data.Datum.TheVariants.{Int, Bool as Truth}
 use Rattle.luflow.specs.declared.form.Flow.{Flow}
 use Rattle.luflow.specs.declared.form.Form.TheVariants.{Constant, Unary, Binary, If, Pre, Arrow, When, Current, Merge}
 use Rattle.luflow.specs.Streams.{Stream, Ticks, truth_in}
-use Rattle.lusource.specs.Names.{variables_of, place_of, node_of, clock_of, name_at, outputs_in, output_name, AreDistinct}
+use Rattle.lusource.specs.Names.{variables_of, place_of, clock_of, name_at, outputs_in, output_name, AreDistinct}
+use Rattle.lustat_rules.specs.Scope.{node_called}
 use Rattle.lusource.specs.StreamOperators.{constant_stream, unary_stream, binary_stream, choice_stream, pre_stream, arrow_stream, when_stream, current_stream, merge_stream}
 use Rattle.lusource.specs.Source.{Named, Site, Path, SourceStreams, HoldsAt, condition, ticks, calls, calls_in, value, values, output, sites, sites_in}
 use Rattle.lucore_list.specs.Layout.{Root, Walking, root_flows, made, root_place, place, behind, leaf, after, list_of, inputs_in, instance, moved, clock_place, flow_of, variable_place, walk, walk_all}
@@ -95,11 +96,11 @@ module _ (base : Ticks) where
 -- what a node's list gives for each of its solutions
 abbrev pub Gives : ProgramTree → List (List Flow) → List ℕ → Type 0
 Gives p lists f =
-    (n : NodeTree) → node_of p f ≡ Some n → (base : Ticks) (given : List Stream) (σ : SourceStreams) → ((path : Path) → HoldsAt p f base given σ path)
+    (n : NodeTree) → node_called p f ≡ Some n → (base : Ticks) (given : List Stream) (σ : SourceStreams) → ((path : Path) → HoldsAt p f base given σ path)
     → (l : List Stream) × (length l ≡ length (list_of p lists f)) × ((m : Model) → Has m 0 l → ((r : ℕ) (s : Stream) → slice_get given r ≡ Some s → m.given r ≡ s)
     → Solves base m (list_of p lists f) × ((x : List ℕ) → place_of (variables_of n) x < length (variables_of n) → m.on (place_of (variables_of n) x) ≡ σ [] x))
 
-module _ (p : ProgramTree) (lists : List (List Flow)) (node : NodeTree) (Below : List ℕ → Type 0) (base : Ticks) (σ : SourceStreams) (apart : (f : List ℕ) (n : NodeTree) → node_of p f ≡ Some n → AreDistinct (variables_of n)) (gives : (f : List ℕ) → Below f → Gives p lists f) where
+module _ (p : ProgramTree) (lists : List (List Flow)) (node : NodeTree) (Below : List ℕ → Type 0) (base : Ticks) (σ : SourceStreams) (apart : (f : List ℕ) (n : NodeTree) → node_called p f ≡ Some n → AreDistinct (variables_of n)) (gives : (f : List ℕ) → Below f → Gives p lists f) where
   abbrev pub KnownClock : Option Condition → Type 0
   KnownClock None = Unit {0}
   KnownClock (Some c) = Known p node Below c.variable
@@ -143,8 +144,8 @@ module _ (p : ProgramTree) (lists : List (List Flow)) (node : NodeTree) (Below :
               λ j lt.
                   let lo : j < length is.callee.outputs = (let e = is.outputs_are in omega arith) in
                   let here = output_place p f is.callee j is.found (apart f is.callee is.found) lo in
-                  let y : s + inputs_in (node_of p f) + j ≡ s + (inputs_in (node_of p f) + j) = omega arith in
-                  let name : place_named (node_of p f) (output_name p f j) ≡ place_of (variables_of is.callee) (output_name p f j) = ap (λ o. place_named o (output_name p f j)) is.found in
+                  let y : s + inputs_in (node_called p f) + j ≡ s + (inputs_in (node_called p f) + j) = omega arith in
+                  let name : place_named (node_called p f) (output_name p f j) ≡ place_of (variables_of is.callee) (output_name p f j) = ap (λ o. place_named o (output_name p f j)) is.found in
                   let there = subst (λ o. slice_get (variables_of is.callee) (length is.callee.inputs + j) ≡ Some (name_at (outputs_in o) j)) (sym is.found) (output_there is.callee j lo) in
                   ap m.on y ∙ ap (λ n. m.on (s + n)) (sym here ∙ name) ∙ r.1 (output_name p f j) (place_in (variables_of is.callee) (output_name p f j) (length is.callee.inputs + j) there),
             ),

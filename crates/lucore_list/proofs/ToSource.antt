@@ -12,7 +12,8 @@ use Rattle.luflow.specs.declared.data.Datum.TheVariants.{Int, Bool as Truth}
 use Rattle.luflow.specs.declared.form.Flow.{Flow}
 use Rattle.luflow.specs.declared.form.Form.TheVariants.{Constant, Unary, Binary, If, Pre, Arrow, When, Current, Merge}
 use Rattle.luflow.specs.Streams.{Stream, Ticks}
-use Rattle.lusource.specs.Names.{names_of, variables_of, declarations_of, place_of, node_of, clock_of, name_at, output_name, outputs_in, AreDistinct}
+use Rattle.lusource.specs.Names.{variables_of, place_of, clock_of, name_at, output_name, outputs_in, AreDistinct}
+use Rattle.lustat_rules.specs.Scope.{names_of, declarations_of, node_called}
 use Rattle.lusource.specs.StreamOperators.{constant_stream, unary_stream, binary_stream, choice_stream, pre_stream, arrow_stream, when_stream, current_stream, merge_stream}
 use Rattle.lusource.specs.Source.{Named, Site, condition, ticks, calls, calls_in, value, values, output, sites, sites_in}
 use Rattle.lucore_list.specs.Layout.{Root, Walking, root_flows, made, root_place, place, behind, leaf, after, list_of, inputs_in, instance, clock_place, flow_of, variable_place, walk, walk_all}
@@ -55,18 +56,18 @@ output_there n j lt =
     ∙ sym (get-names n.outputs j)
     ∙ name_there (names_of n.outputs) j (omega arith)
 
-pub output_place : (p : ProgramTree) (f : List ℕ) (n : NodeTree) (j : ℕ) → node_of p f ≡ Some n → AreDistinct (variables_of n) → j < length n.outputs → place_named (node_of p f) (output_name p f j) ≡ inputs_in (node_of p f) + j
+pub output_place : (p : ProgramTree) (f : List ℕ) (n : NodeTree) (j : ℕ) → node_called p f ≡ Some n → AreDistinct (variables_of n) → j < length n.outputs → place_named (node_called p f) (output_name p f j) ≡ inputs_in (node_called p f) + j
 output_place p f n j found d lt =
     subst (λ o. place_named o (name_at (outputs_in o) j) ≡ inputs_in o + j) (sym found)
     (place_at (variables_of n) (name_at (names_of n.outputs) j) (length n.inputs + j) d (output_there n j lt))
 
-module _ (p : ProgramTree) (lists : List (List Flow)) (node : NodeTree) (Below : List ℕ → Type 0) (base : Ticks) (m : Model) (all_spots : List Spot) (apart : (f : List ℕ) (n : NodeTree) → node_of p f ≡ Some n → AreDistinct (variables_of n)) where
+module _ (p : ProgramTree) (lists : List (List Flow)) (node : NodeTree) (Below : List ℕ → Type 0) (base : Ticks) (m : Model) (all_spots : List Spot) (apart : (f : List ℕ) (n : NodeTree) → node_called p f ≡ Some n → AreDistinct (variables_of n)) where
   abbrev pub var : Named
   var x = m.on (variable_place p lists node x)
 
   -- the instance of a call, as it stands in the list
   abbrev pub within : ℕ → Named
-  within i x = of_spot (slice_get all_spots i) (λ spot. m.on (spot.at + place_named (node_of p spot.node) x))
+  within i x = of_spot (slice_get all_spots i) (λ spot. m.on (spot.at + place_named (node_called p spot.node) x))
 
   -- the call of this number has a solution of its node's list
   pub record Served (i : ℕ) (c : Site) : Type 0 where
@@ -74,10 +75,10 @@ module _ (p : ProgramTree) (lists : List (List Flow)) (node : NodeTree) (Below :
     pub there : slice_get all_spots i ≡ Some spot
     pub same : c.node ≡ spot.node
     pub callee : NodeTree
-    pub found : node_of p c.node ≡ Some callee
+    pub found : node_called p c.node ≡ Some callee
     pub below : Below c.node
     pub given : ℕ → Stream
-    pub given_are : (n : NodeTree) → node_of p c.node ≡ Some n → (r : ℕ) → r < length n.inputs → slice_get c.arguments r ≡ Some (given r)
+    pub given_are : (n : NodeTree) → node_called p c.node ≡ Some n → (r : ℕ) → r < length n.inputs → slice_get c.arguments r ≡ Some (given r)
     pub solves : Solves c.base (record { on = λ x. m.on (spot.at + x); given = given }) (list_of p lists c.node)
 
   abbrev pub Stand : ℕ → List Spot → Type 0
@@ -130,8 +131,8 @@ module _ (p : ProgramTree) (lists : List (List Flow)) (node : NodeTree) (Below :
       let solved' = subst (λ c. Solves c (record { on = λ x. m.on (s + x); given = λ r. m.on (slice_index xs r) }) (list_of p lists f)) (ticks_are node base m k) solved in (
         λ j lt.
             let here = output_place p f is.callee j is.found (apart f is.callee is.found) (let e = is.outputs_are in omega arith) in
-            let z : s + inputs_in (node_of p f) + j ≡ s + (inputs_in (node_of p f) + j) = omega arith in
-            ap m.on z ∙ ap (λ n. m.on (s + n)) (sym here) ∙ sym (ap (λ o. of_spot o (λ spot. m.on (spot.at + place_named (node_of p spot.node) (output_name p f j)))) stand.0),
+            let z : s + inputs_in (node_called p f) + j ≡ s + (inputs_in (node_called p f) + j) = omega arith in
+            ap m.on z ∙ ap (λ n. m.on (s + n)) (sym here) ∙ sym (ap (λ o. of_spot o (λ spot. m.on (spot.at + place_named (node_called p spot.node) (output_name p f j)))) stand.0),
         (
           record {
             spot = spot;

@@ -3,11 +3,11 @@ use Rattle.std.proofs.Common.{◌≡◌, ℕ, ◌<◌, List, [], ◌∷◌, ◌+
 use Rattle.std.specs.Prelude.{All, IfSome, option_map}
 use Rattle.lutree.specs.Tree.{Tree, Trees, list_of, EquationTree, NodeTree, ProgramTree}
 use Rattle.lutree.specs.Tree as tree
-use Rattle.lusource.specs.Names.{node_of}
+use Rattle.lustat_rules.specs.Scope.{node_called}
 use Rattle.lustat_rules.specs.Scope as rules
 use Rattle.lustat_rules.specs.Naming.{Call, names_in, names_in_all, calls_in, calls_in_all, inner_calls, value_count}
 use Rattle.lucore_list.specs.Layout.{variable_place, variable_count}
-use Rattle.lucore_list.proofs.Names.{all_left, all_right, all_head, all_tail, node_same, is_some_at}
+use Rattle.lucore_list.proofs.Names.{all_left, all_right, all_head, all_tail, is_some_at}
 
 module _ (p : ProgramTree) (lists_node : NodeTree) (Below : List ℕ → Type 0) where
   abbrev node : NodeTree
@@ -20,7 +20,7 @@ module _ (p : ProgramTree) (lists_node : NodeTree) (Below : List ℕ → Type 0)
   -- a call with so many arguments is of a node with as many inputs and w outputs
   pub record CallIs (f : List ℕ) (arguments w : ℕ) : Type 0 where
     pub callee : NodeTree
-    pub found : node_of p f ≡ Some callee
+    pub found : node_called p f ≡ Some callee
     pub arguments_are : arguments ≡ length callee.inputs
     pub outputs_are : length callee.outputs ≡ w
     pub below : Below f
@@ -95,7 +95,7 @@ module _ (p : ProgramTree) (lists_node : NodeTree) (Below : List ℕ → Type 0)
       let n = is_some_at (rules.node_called p c.node) r.known in
       record {
         callee = n.0;
-        found = node_same p c.node ∙ n.1;
+        found = n.1;
         arguments_are = if_at (rules.node_called p c.node) (λ n. c.arguments ≡ length n.inputs) n.0 n.1 r.arity;
         outputs_are = if_at (rules.node_called p c.node) (λ n. length n.outputs ≡ w) n.0 n.1 h;
         below = r.below;

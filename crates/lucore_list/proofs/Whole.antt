@@ -12,7 +12,8 @@ use Rattle.luflow.specs.Program.{FlatProgram, Table, Column, IsOrdered, data_of}
 use Rattle.luflow.specs.Streams.{Stream, Streams, base_clock}
 use Rattle.luflow.specs.Values.{gives, under}
 use Rattle.luflow.specs.Solution.{IsSolution}
-use Rattle.lusource.specs.Names.{names_of, variables_of, place_of, node_of}
+use Rattle.lusource.specs.Names.{variables_of, place_of}
+use Rattle.lustat_rules.specs.Scope.{names_of, node_called}
 use Rattle.lusource.specs.Source.{SourceStreams, IsSourceSolution, given_streams}
 use Rattle.lusource.specs.Agreement.{SameOnVariables}
 use Rattle.lustat_rules.specs.Naming.{Reaches}
@@ -60,7 +61,7 @@ module _ (p : ProgramTree) (main : List ℕ) (flat : FlatProgram) (accepted : Is
   abbrev node : NodeTree
   node = out.node
 
-  fs : (f : List ℕ) (n : NodeTree) → node_of p f ≡ Some n → NodeFacts p n
+  fs : (f : List ℕ) (n : NodeTree) → node_called p f ≡ Some n → NodeFacts p n
   fs f n e = facts p main accepted some f n e
 
   never : (f : List ℕ) → ¬ Reaches p f f

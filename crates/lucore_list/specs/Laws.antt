@@ -7,7 +7,7 @@ use Rattle.luflow.specs.declared.form.Clock.TheVariants.{Base}
 use Rattle.luflow.specs.declared.variable.Variable.{Variable}
 use Rattle.luflow.specs.declared.variable.Role.TheVariants as role
 use Rattle.luflow.specs.Program.{FlatProgram, Table, IsOrdered, flow_at, flows_of, places, clock_reads}
-use Rattle.lusource.specs.Names.{node_of}
+use Rattle.lustat_rules.specs.Scope.{node_called}
 use Rattle.lusource.specs.Agreement.{Agrees}
 use Rattle.lustat_rules.specs.Accepted.{Rule, Keeps, IsAccepted}
 use Rattle.lucore_list.specs.Layout.{AreLists, IsLaidOut}
@@ -19,7 +19,7 @@ DefineSomething p =
 
 -- the table has a column for each input of the main node
 abbrev pub HasColumns : ProgramTree → List ℕ → Table → Type 0
-HasColumns p main inputs = (node : NodeTree) → node_of p main ≡ Some node → length node.inputs ≤ length inputs.columns
+HasColumns p main inputs = (node : NodeTree) → node_called p main ≡ Some node → length node.inputs ≤ length inputs.columns
 
 -- The flat list of an accepted program has the same solutions as its source, wherever its flows have an order of rank. (Where
 -- two variables are copies of each other, the source leaves open whether they are there at all, and the flat program doesn't.)

@@ -22,9 +22,9 @@ use Rattle.luflow.specs.declared.variable.Variable.{Variable}
 use Rattle.luflow.specs.declared.variable.Role.{Role}
 use Rattle.luflow.specs.declared.variable.Role.TheVariants as role
 use Rattle.luflow.specs.Program.{FlatProgram}
-use Rattle.lusource.specs.Names.{names_of, variables_of, place_of, name_at, node_of, clock_of}
+use Rattle.lusource.specs.Names.{variables_of, place_of, name_at, clock_of}
 use Rattle.lusource.specs.Source.{condition}
-use Rattle.lustat_rules.specs.Scope.{kind_of}
+use Rattle.lustat_rules.specs.Scope.{kind_of, names_of, node_called}
 use Rattle.lustat_rules.specs.Naming.{node_place}
 use Rattle.lustat_rules.specs.Typing.{type_of}
 
@@ -122,7 +122,7 @@ inputs_in (Some node) = length node.inputs
 -- an instance of the node called f, on the clock k, where its arguments stand at these places; its outputs stand behind its inputs
 abbrev pub instance : ProgramTree → List (List Flow) → List ℕ → Clock → List ℕ → Walking
 instance p lists f k arguments b =
-    record { inner = map (moved b k arguments) (list_of p lists f); root = at (b + inputs_in (node_of p f)) }
+    record { inner = map (moved b k arguments) (list_of p lists f); root = at (b + inputs_in (node_called p f)) }
 
 -- THE WALK OF AN EXPRESSION
 
@@ -254,7 +254,7 @@ pub record IsLaidOut (p : ProgramTree) (main : List ℕ) (flat : FlatProgram) : 
   pub lists : List (List Flow)
   pub are_lists : AreLists p lists
   pub node : NodeTree
-  pub is_main : node_of p main ≡ Some node
+  pub is_main : node_called p main ≡ Some node
   pub flows : flat.flows ≡ node_flows p lists node
   pub owners : flat.owners ≡ node_owners p lists node
   pub variables : flat.variables ≡ main_variables node

@@ -7,7 +7,8 @@ use Rattle.luflow.specs.declared.form.Form.{Form}
 use Rattle.luflow.specs.declared.form.Form.TheVariants.{Input, Constant, Copied, Unary, Binary, If, Pre, Arrow, When, Current, Merge}
 use Rattle.luflow.specs.declared.form.Flow.{Flow}
 use Rattle.luflow.specs.Streams.{Stream, Streams, Ticks, truth_in}
-use Rattle.lusource.specs.Names.{variables_of, node_of}
+use Rattle.lusource.specs.Names.{variables_of}
+use Rattle.lustat_rules.specs.Scope.{node_called}
 use Rattle.lusource.specs.StreamOperators.{constant_stream, unary_stream, binary_stream, choice_stream, pre_stream, arrow_stream, when_stream, current_stream, merge_stream}
 use Rattle.lusource.specs.Source.{Path, SourceStreams, HoldsAt}
 use Rattle.lustat_rules.specs.Accepted.{IsAccepted}
@@ -63,4 +64,4 @@ pub record NodeAgrees (p : ProgramTree) (f : List ℕ) (node : NodeTree) (flows 
 abbrev pub NodesLaw : Type 0
 NodesLaw =
     (p : ProgramTree) (main : List ℕ) (lists : List (List Flow)) → IsAccepted p main → DefineSomething p → AreLists p lists
-    → (f : List ℕ) (node : NodeTree) → node_of p f ≡ Some node → NodeAgrees p f node (list_of p lists f)
+    → (f : List ℕ) (node : NodeTree) → node_called p f ≡ Some node → NodeAgrees p f node (list_of p lists f)

@@ -53,7 +53,8 @@ impl Readers {
     // One more reader of a place.
     fn push(&mut self, place: usize, reader: usize) -> Result<(), AllocError>
         requires { place < length self.old }
-        ensures { OnOk result (self.new ≡ slice_set self.old place (row self.old place ++ reader ∷ [])) }
+        ensures { OnOk result (self.new ≡ slice_set self.old place
+            (row self.old place ++ reader ∷ [])) }
     {
         self.lists[place].push(reader)?;
         Ok(())

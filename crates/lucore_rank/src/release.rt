@@ -9,7 +9,8 @@ use std::alloc::AllocError;
 // One read of a place got its rank. The place is ready where that was the last one.
 fn release_one(missing: &mut Vec<usize>, ready: &mut Ready, place: usize) -> Result<(), AllocError>
     requires { 0 < slice_index missing.old.items place }
-    ensures { OnOk result (IsReleased (place ∷ []) missing.old.items missing.new.items ready.old ready.new) }
+    ensures { OnOk result (IsReleased (place ∷ []) missing.old.items missing.new.items ready.old
+        ready.new) }
 {
     let left = missing[place] - 1;
     missing[place] = left;
@@ -27,7 +28,8 @@ pub fn release(
     ready: &mut Ready,
 ) -> Result<(), AllocError>
     requires { (v : ℕ) → times v readers.now ≤ slice_index missing.old.items v }
-    ensures { OnOk result (IsReleased readers.now missing.old.items missing.new.items ready.old ready.new) }
+    ensures { OnOk result (IsReleased readers.now missing.old.items missing.new.items ready.old
+        ready.new) }
 {
     for reader in readers {
         release_one(missing, ready, *reader)?;

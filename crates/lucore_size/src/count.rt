@@ -58,7 +58,8 @@ fn with_root(inner: usize, e: &Expr) -> usize
 // How many flows an expression makes before its root, up to 4,097, given the counts of all nodes.
 #[cycle(made)]
 fn inner(catalog: &Catalog, counts: &[usize], e: &Expr) -> usize
-    ensures { result ≡ capped (made_size (program_view catalog.now) counts.now (view e.now) - root_size (view e.now)) }
+    ensures { result ≡ capped (made_size (program_view catalog.now) counts.now (view e.now) -
+        root_size (view e.now)) }
 {
     match e {
         Expr::Number(_) | Expr::Truth(_) | Expr::Variable(_) | Expr::Current(_) => 0,
@@ -89,7 +90,8 @@ fn inner(catalog: &Catalog, counts: &[usize], e: &Expr) -> usize
 // How many flows the arguments of a call make, up to 4,097.
 #[cycle(made)]
 fn all_made(catalog: &Catalog, counts: &[usize], arguments: &[Expr]) -> usize
-    ensures { result ≡ capped (all_size (program_view catalog.now) counts.now (trees_of (views arguments.now))) }
+    ensures { result ≡ capped (all_size (program_view catalog.now) counts.now
+        (trees_of (views arguments.now))) }
 {
     let mut count = 0;
     for a in arguments {
@@ -102,7 +104,8 @@ fn all_made(catalog: &Catalog, counts: &[usize], arguments: &[Expr]) -> usize
 /// How many flows the open list of a node has, its variables and the inner flows of its equations, up to 4,097, given the counts of
 /// all nodes.
 pub fn node_count(catalog: &Catalog, counts: &[usize], node: &Node) -> usize
-    ensures { result ≡ capped (node_size (program_view catalog.now) counts.now (node_view node.now)) }
+    ensures { result ≡ capped (node_size (program_view catalog.now) counts.now
+        (node_view node.now)) }
 {
     let inputs = node.inputs.as_slice().len();
     let outputs = node.outputs.as_slice().len();

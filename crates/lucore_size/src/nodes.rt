@@ -17,8 +17,10 @@ use std::alloc::{AllocError, Global};
 ///
 /// An error means that memory ran out.
 pub fn sizes(alloc: Global, program: &Checked) -> Result<Vec<usize>, AllocError>
-    ensures count { IfOk result (λ counts. length counts.items ≡ length (program_view program.now.program)) }
-    ensures counted { IfOk result (λ counts. AreCounted (program_view program.now.program) counts.items) }
+    ensures count { IfOk result (λ counts. length counts.items
+        ≡ length (program_view program.now.program)) }
+    ensures counted { IfOk result (λ counts. AreCounted (program_view program.now.program)
+        counts.items) }
 {
     let catalog = program.catalog();
     let nodes = catalog.program().nodes.as_slice();
@@ -41,8 +43,10 @@ pub fn sizes(alloc: Global, program: &Checked) -> Result<Vec<usize>, AllocError>
 ///
 /// An error means that memory ran out.
 pub fn is_too_large(alloc: Global, program: &Checked) -> Result<bool, AllocError>
-    ensures size { IfOk result (λ large. IsTooLarge (program_view program.now.program) program.now.main large) }
-    ensures flows { IfOk result (λ large. IsTooLong (program_view program.now.program) program.now.main large) }
+    ensures size { IfOk result (λ large. IsTooLarge (program_view program.now.program)
+        program.now.main large) }
+    ensures flows { IfOk result (λ large. IsTooLong (program_view program.now.program)
+        program.now.main large) }
 {
     let counts = sizes(alloc, program)?;
     let count = count_of(program.catalog(), counts.as_slice(), program.main());

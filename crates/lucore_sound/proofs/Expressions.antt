@@ -17,7 +17,8 @@ use Rattle.luflow.specs.declared.form.Form.{Form}
 use Rattle.luflow.specs.declared.form.Form.TheVariants.{Constant, Unary, Binary, If, Pre, Arrow, When, Current, Merge}
 use Rattle.luflow.specs.declared.form.Flow.{Flow}
 use Rattle.luflow.specs.Sound.{AtMost, IsConstantOf}
-use Rattle.lusource.specs.Names.{declarations_of, node_of, clock_of}
+use Rattle.lusource.specs.Names.{clock_of}
+use Rattle.lustat_rules.specs.Scope.{declarations_of, node_called}
 use Rattle.lusource.specs.Source.{condition}
 use Rattle.lustat_rules.specs.Scope as rules
 use Rattle.lustat_rules.specs.Typing.{type_of, types_of, call_kinds, right_types}
@@ -25,7 +26,7 @@ use Rattle.lustat_rules.specs.Clocks.{HasClock, IsTruth, FitsInside, AllFitInsid
 use Rattle.lustat_rules.specs.Classes.{Classes, is_one, NeedsMet, AllReady, currents_in, currents_in_all, IsTrueAtFirst, ClockIsTrueAtFirst}
 use Rattle.lucore_list.specs.Layout.{Walking, leaf, after, list_of, inputs_in, instance, moved, clock_place, flow_of, variable_place, walk, walk_all}
 use Rattle.lucore_list.specs.Layout.Root.{at}
-use Rattle.lucore_list.proofs.Names.{all_left, all_right, all_head, all_tail, clock_named, node_same}
+use Rattle.lucore_list.proofs.Names.{all_left, all_right, all_head, all_tail, clock_named}
 use Rattle.lucore_list.proofs.Well.{Known, IsWell, AllWell, CallIs}
 use Rattle.lucore_sound.proofs.Types.{agreed_is, sort_is, double_is, choice_is, kinds_of, call_is, only_is, single_is}
 use Rattle.lucore_sound.proofs.Fitting.{zero_class, same_class, On, Begins, FormSound, ClockSound, FlowSound}
@@ -63,8 +64,8 @@ module _ (p : ProgramTree) (lists : List (List Flow)) (node : NodeTree) (Below :
     (variables : (x : List ℕ) (k : Option Condition) (t : Kind) → HasClock node x k → rules.kind_of node x ≡ Some t → On L (clock_place node k) t (variable_place p lists node x))
     (begins : (c : Condition) (k : Option Condition) → IsTrueAtFirst node c → HasClock node c.variable k → IsTruth node c.variable → Begins L (clock_place node k) c.sign (variable_place p lists node c.variable))
     (declared_truth : (x : List ℕ) (c : Condition) → HasClock node x (Some c) → IsTruth node c.variable)
-    (callee_sound : (f : List ℕ) → Below f → (callee : NodeTree) → node_of p f ≡ Some callee → OpenSound (list_of p lists f) callee.inputs (length callee.outputs))
-    (callee_outputs : (f : List ℕ) → Below f → (callee : NodeTree) → node_of p f ≡ Some callee → (j : ℕ) (d : DeclarationTree) → slice_get callee.outputs j ≡ Some d → On (list_of p lists f) Base d.kind (length callee.inputs + j)) where
+    (callee_sound : (f : List ℕ) → Below f → (callee : NodeTree) → node_called p f ≡ Some callee → OpenSound (list_of p lists f) callee.inputs (length callee.outputs))
+    (callee_outputs : (f : List ℕ) → Below f → (callee : NodeTree) → node_called p f ≡ Some callee → (j : ℕ) (d : DeclarationTree) → slice_get callee.outputs j ≡ Some d → On (list_of p lists f) Base d.kind (length callee.inputs + j)) where
   -- a clock whose variable is a bool of class 0
   abbrev pub Clocked : Option Condition → Type 0
   Clocked None = Unit {0}
@@ -89,7 +90,7 @@ module _ (p : ProgramTree) (lists : List (List Flow)) (node : NodeTree) (Below :
       let ck = clock_place node k in
       let sound = callee_sound f is.below is.callee is.found in
       let on = callee_outputs f is.below is.callee is.found in
-      let i : length is.callee.inputs ≡ inputs_in (node_of p f) = sym (ap inputs_in is.found) in
+      let i : length is.callee.inputs ≡ inputs_in (node_called p f) = sym (ap inputs_in is.found) in
       let root_on = instance_on L fl ins is.callee.inputs is.callee.outputs sound on ck xs places s stand in (
         subst (λ n. RootOn L ck (kinds_of is.callee.outputs) (at (s + n))) i root_on,
         (
@@ -156,7 +157,7 @@ module _ (p : ProgramTree) (lists : List (List Flow)) (node : NodeTree) (Below :
     sound_call f all k w kinds every keeps ty =
         let ck = clock_place node k in
         let is = keeps.well.0 in
-        let found : rules.node_called p f ≡ Some is.callee = sym (node_same p f) ∙ is.found in
+        let found : rules.node_called p f ≡ Some is.callee = is.found in
         let c = call_is is.callee (types_of p node all) kinds (ap (λ (o : Option NodeTree). call_kinds o (types_of p node all)) (sym found) ∙ ty) in
         subst (λ kinds. SoundIn Assigned (walk p lists node (tree.call f all) k) ck kinds false) (sym c.1)
         (weaken L ins (Given []) Assigned (walk p lists node (tree.call f all) k) ck (kinds_of is.callee.outputs) false (λ class q. (q, tt))

@@ -11,7 +11,7 @@ use Rattle.luflow.specs.declared.variable.Role.TheVariants as role
 use Rattle.luflow.specs.Program.{FlatProgram, places, clock_reads}
 use Rattle.luflow.specs.Variables.{inputs_of}
 use Rattle.luflow.specs.Flats.{IsWithin}
-use Rattle.lusource.specs.Names.{node_of}
+use Rattle.lustat_rules.specs.Scope.{node_called}
 use Rattle.lustat_rules.specs.Naming.{Reaches}
 use Rattle.lustat_rules.specs.Accepted.{IsAccepted}
 use Rattle.lucore_list.specs.Layout.{IsLaidOut, variable_count, variables_as, main_variables, list_of}
@@ -34,16 +34,16 @@ module _ (p : ProgramTree) (main : List ℕ) (flat : FlatProgram) (accepted : Is
   abbrev node : NodeTree
   node = out.node
 
-  fs : (f : List ℕ) (n : NodeTree) → node_of p f ≡ Some n → NodeFacts p n
+  fs : (f : List ℕ) (n : NodeTree) → node_called p f ≡ Some n → NodeFacts p n
   fs f n e = facts p main accepted some f n e
 
   never : (f : List ℕ) → ¬ Reaches p f f
   never f = never_round p main accepted some f
 
-  callee_fits : (f : List ℕ) → Below node f → (callee : NodeTree) → node_of p f ≡ Some callee → AreFit (list_of p out.lists f) (length callee.inputs)
+  callee_fits : (f : List ℕ) → Below node f → (callee : NodeTree) → node_called p f ≡ Some callee → AreFit (list_of p out.lists f) (length callee.inputs)
   callee_fits f below callee e x g there = (lists_fit p out.lists out.are_lists fs never f callee e x g there).0
 
-  callee_outputs : (f : List ℕ) → Below node f → (callee : NodeTree) → node_of p f ≡ Some callee → (j : ℕ) → j < length callee.outputs → clock_on (list_of p out.lists f) (length callee.inputs + j) ≡ Some Base
+  callee_outputs : (f : List ℕ) → Below node f → (callee : NodeTree) → node_called p f ≡ Some callee → (j : ℕ) → j < length callee.outputs → clock_on (list_of p out.lists f) (length callee.inputs + j) ≡ Some Base
   callee_outputs f below callee e j lt =
       let d = declared callee.outputs j lt in
       subst (λ l. clock_on l (length callee.inputs + j) ≡ Some Base) (sym (listed p out.lists out.are_lists f callee e))

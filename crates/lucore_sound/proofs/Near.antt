@@ -15,7 +15,8 @@ use Rattle.luflow.specs.declared.form.Form.{Form}
 use Rattle.luflow.specs.declared.form.Form.TheVariants.{Input, Constant, Copied, Unary, Binary, If, Pre, Arrow, When, Current, Merge}
 use Rattle.luflow.specs.declared.form.Flow.{Flow}
 use Rattle.luflow.specs.Program.{places, clock_reads}
-use Rattle.lusource.specs.Names.{node_of, clock_of}
+use Rattle.lusource.specs.Names.{clock_of}
+use Rattle.lustat_rules.specs.Scope.{node_called}
 use Rattle.lusource.specs.Source.{condition}
 use Rattle.lucore_list.specs.Layout.{Root, Walking, root_flows, made, root_place, place, behind, leaf, after, moved_form, moved_clock, moved, list_of, inputs_in, instance, clock_place, flow_of, variable_place, variable_count, walk, walk_all}
 use Rattle.lucore_list.specs.Layout.Root.{own, at}
@@ -117,8 +118,8 @@ module _ (nv lo hi : ℕ) where
 -- EXPRESSIONS
 
 module _ (p : ProgramTree) (lists : List (List Flow)) (node : NodeTree) (Below : List ℕ → Type 0) (lo hi : ℕ)
-    (callee_fits : (f : List ℕ) → Below f → (callee : NodeTree) → node_of p f ≡ Some callee → AreFit (list_of p lists f) (length callee.inputs))
-    (callee_outputs : (f : List ℕ) → Below f → (callee : NodeTree) → node_of p f ≡ Some callee → (j : ℕ) → j < length callee.outputs → clock_on (list_of p lists f) (length callee.inputs + j) ≡ Some Base) where
+    (callee_fits : (f : List ℕ) → Below f → (callee : NodeTree) → node_called p f ≡ Some callee → AreFit (list_of p lists f) (length callee.inputs))
+    (callee_outputs : (f : List ℕ) → Below f → (callee : NodeTree) → node_called p f ≡ Some callee → (j : ℕ) → j < length callee.outputs → clock_on (list_of p lists f) (length callee.inputs + j) ≡ Some Base) where
   abbrev nv : ℕ
   nv = variable_count p lists node
 
@@ -145,7 +146,7 @@ module _ (p : ProgramTree) (lists : List (List Flow)) (node : NodeTree) (Below :
             (each_all (λ x g. FlowNear nv lo hi (moved s ck xs g)) s fl (λ x g e. moved_flow nv lo hi fl n s ck xs low high' (clock_near k known) arguments g (callee_fits f is.below is.callee is.found x g e))),
         λ j lt.
             let lo' : j < length is.callee.outputs = (let e = is.outputs_are in omega arith) in
-            let i : inputs_in (node_of p f) ≡ n = ap inputs_in is.found in
+            let i : inputs_in (node_called p f) ≡ n = ap inputs_in is.found in
             let within = clock_within fl (n + j) Base (callee_outputs f is.below is.callee is.found j lo') in
             inr (omega (arith, low), omega (arith, high', within, i)),
       )

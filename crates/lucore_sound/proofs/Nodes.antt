@@ -11,7 +11,8 @@ use Rattle.luflow.specs.declared.form.Clock.TheVariants.{Base}
 use Rattle.luflow.specs.declared.form.Form.TheVariants.{Input}
 use Rattle.luflow.specs.declared.form.Flow.{Flow}
 use Rattle.luflow.specs.Sound.{AtMost}
-use Rattle.lusource.specs.Names.{names_of, variables_of, declarations_of, node_of, name_at, clock_of}
+use Rattle.lusource.specs.Names.{variables_of, name_at, clock_of}
+use Rattle.lustat_rules.specs.Scope.{names_of, declarations_of, node_called}
 use Rattle.lustat_rules.specs.Scope as rules
 use Rattle.lustat_rules.specs.Naming.{Calls, Reaches}
 use Rattle.lustat_rules.specs.Clocks.{HasClock, FitsInside}
@@ -20,7 +21,7 @@ use Rattle.lustat_rules.proofs.Fitting.{inside}
 use Rattle.lucore_list.specs.Layout.{Root, walk_right, left_clock, root_flow, inner_flows, variable_flow, variable_place, variable_count, clock_place, input_flows, list_of, node_flows, AreLists}
 use Rattle.lucore_list.specs.Layout.Root.{own, at}
 use Rattle.lucore_list.proofs.Each.{Each, each_left, each_right, each_join, each_all, each_at, each_map}
-use Rattle.lucore_list.proofs.Names.{get-front, get-behind, all_at, contains_get, get-names, get_place, clock_named, clock_cases, listed, node_same}
+use Rattle.lucore_list.proofs.Names.{get-front, get-behind, all_at, contains_get, get-names, get_place, clock_named, clock_cases, listed}
 use Rattle.lucore_list.proofs.Roots.{Roots, rooted, parts, length-front, length-inputs, front, others}
 use Rattle.lucore_list.proofs.ToSource.{name_there}
 use Rattle.lucore_list.proofs.Facts.{Below, NodeFacts}
@@ -34,8 +35,8 @@ use Rattle.lucore_sound.proofs.Variables.{left_kind, other_named, variables_on, 
 use Rattle.lucore_sound.proofs.Expressions as expressions
 
 module _ (p : ProgramTree) (lists : List (List Flow)) (node : NodeTree) (facts : NodeFacts p node) (ruling : Ruling p node)
-    (callee_sound : (f : List ℕ) → Below node f → (callee : NodeTree) → node_of p f ≡ Some callee → OpenSound (list_of p lists f) callee.inputs (length callee.outputs))
-    (callee_outputs : (f : List ℕ) → Below node f → (callee : NodeTree) → node_of p f ≡ Some callee → (j : ℕ) (d : DeclarationTree) → slice_get callee.outputs j ≡ Some d → On (list_of p lists f) Base d.kind (length callee.inputs + j)) where
+    (callee_sound : (f : List ℕ) → Below node f → (callee : NodeTree) → node_called p f ≡ Some callee → OpenSound (list_of p lists f) callee.inputs (length callee.outputs))
+    (callee_outputs : (f : List ℕ) → Below node f → (callee : NodeTree) → node_called p f ≡ Some callee → (j : ℕ) (d : DeclarationTree) → slice_get callee.outputs j ≡ Some d → On (list_of p lists f) Base d.kind (length callee.inputs + j)) where
   abbrev L : List Flow
   L = node_flows p lists node
 
@@ -196,15 +197,15 @@ module _ (p : ProgramTree) (lists : List (List Flow)) (node : NodeTree) (facts :
             variable_class cs (m + j) d.0.name named ∙ output_zero j d.0 d.1;
       }
 
-module _ (p : ProgramTree) (lists : List (List Flow)) (are : AreLists p lists) (facts : (f : List ℕ) (n : NodeTree) → node_of p f ≡ Some n → NodeFacts p n) (rulings : (f : List ℕ) (n : NodeTree) → node_of p f ≡ Some n → Ruling p n) (never : (f : List ℕ) → ¬ Reaches p f f) where
+module _ (p : ProgramTree) (lists : List (List Flow)) (are : AreLists p lists) (facts : (f : List ℕ) (n : NodeTree) → node_called p f ≡ Some n → NodeFacts p n) (rulings : (f : List ℕ) (n : NodeTree) → node_called p f ≡ Some n → Ruling p n) (never : (f : List ℕ) → ¬ Reaches p f f) where
   abbrev pub ListSound : List ℕ → Type 0
-  ListSound f = (node : NodeTree) → node_of p f ≡ Some node → OpenSound (list_of p lists f) node.inputs (length node.outputs)
+  ListSound f = (node : NodeTree) → node_called p f ≡ Some node → OpenSound (list_of p lists f) node.inputs (length node.outputs)
 
   step : (f : List ℕ) → ((g : List ℕ) → Calls p f g → ListSound g) → ListSound f
   step f rest node found =
       subst (λ l. OpenSound l node.inputs (length node.outputs)) (sym (listed p lists are f node found))
       (node_sound p lists node (facts f node found) (rulings f node found)
-      (λ g b callee e. rest g (node, sym (node_same p f) ∙ found, b) callee e)
+      (λ g b callee e. rest g (node, found, b) callee e)
       (λ g b callee e j d here.
       subst (λ l. On l Base d.kind (length callee.inputs + j)) (sym (listed p lists are g callee e)) (outputs_on p lists callee (facts g callee e) (rulings g callee e) j d here ((facts f node found).outputs g callee b e j d here))))
 

@@ -11,7 +11,8 @@ use Rattle.lutree.specs.Tree.{DeclarationTree, EquationTree, NodeTree, ProgramTr
 use Rattle.luflow.specs.declared.form.Clock.TheVariants.{Base}
 use Rattle.luflow.specs.declared.form.Flow.{Flow}
 use Rattle.luflow.specs.Program.{places, clock_reads}
-use Rattle.lusource.specs.Names.{variables_of, declarations_of, place_of, node_of, name_at, clock_of}
+use Rattle.lusource.specs.Names.{variables_of, place_of, name_at, clock_of}
+use Rattle.lustat_rules.specs.Scope.{declarations_of, node_called}
 use Rattle.lustat_rules.specs.Scope as rules
 use Rattle.lucore_list.specs.Layout.{Root, walk_right, left_clock, root_flow, inner_flows, variable_flow, owner_of, inner_owners, variable_place, variable_count, input_flows, list_of, node_flows, node_owners}
 use Rattle.lucore_list.specs.Layout.Root.{own, at}
@@ -52,8 +53,8 @@ module _ (O : List ℕ) (nv s n owner : ℕ) (owners : Each (λ x v. slice_get O
       (all_imp (Near nv s (s + n)) (OwnedBy O nv owner) (clock_reads f.clock) place_owned h.clock)
 
 module _ (p : ProgramTree) (lists : List (List Flow)) (node : NodeTree) (facts : NodeFacts p node)
-    (callee_fits : (f : List ℕ) → Below node f → (callee : NodeTree) → node_of p f ≡ Some callee → AreFit (list_of p lists f) (length callee.inputs))
-    (callee_outputs : (f : List ℕ) → Below node f → (callee : NodeTree) → node_of p f ≡ Some callee → (j : ℕ) → j < length callee.outputs → clock_on (list_of p lists f) (length callee.inputs + j) ≡ Some Base) where
+    (callee_fits : (f : List ℕ) → Below node f → (callee : NodeTree) → node_called p f ≡ Some callee → AreFit (list_of p lists f) (length callee.inputs))
+    (callee_outputs : (f : List ℕ) → Below node f → (callee : NodeTree) → node_called p f ≡ Some callee → (j : ℕ) → j < length callee.outputs → clock_on (list_of p lists f) (length callee.inputs + j) ≡ Some Base) where
   abbrev nv : ℕ
   nv = variable_count p lists node
 

@@ -4,7 +4,8 @@ use Rattle.std.specs.Prelude.{slice_get, All, IfSome}
 use Rattle.std.proofs.lemmas.Option.{same_Some}
 use Rattle.lutree.specs.declared.expr.Condition.{Condition}
 use Rattle.lutree.specs.Tree.{DeclarationTree, EquationTree, NodeTree, ProgramTree}
-use Rattle.lusource.specs.Names.{declarations_of, variables_of, place_of, node_of}
+use Rattle.lusource.specs.Names.{variables_of, place_of}
+use Rattle.lustat_rules.specs.Scope.{declarations_of, node_called}
 use Rattle.lustat_rules.specs.Scope as rules
 use Rattle.lustat_rules.specs.Typing.{IsWellTyped}
 use Rattle.lustat_rules.specs.Clocks.{HasClock, IsTruth, Ends, clocks_in}
@@ -54,5 +55,5 @@ node_ruling p main accepted i n here =
           some_at d.0.clock (λ (c : Condition). classes.0 c.variable ≡ false) c d.2 (all_at (IsHeld classes.0 n) (declarations_of n) (place_of (variables_of n) x) d.0 classes.1.held d.1).clock;
     }
 
-pub ruling : (p : ProgramTree) (main : List ℕ) → IsAccepted p main → (f : List ℕ) (n : NodeTree) → node_of p f ≡ Some n → Ruling p n
+pub ruling : (p : ProgramTree) (main : List ℕ) → IsAccepted p main → (f : List ℕ) (n : NodeTree) → node_called p f ≡ Some n → Ruling p n
 ruling p main accepted f n e = let at = placed p f n e in node_ruling p main accepted at.place n at.node

@@ -14,7 +14,8 @@ use Rattle.luflow.specs.declared.form.Clock.TheVariants.{Base}
 use Rattle.luflow.specs.declared.form.Form.{Form}
 use Rattle.luflow.specs.declared.form.Form.TheVariants.{Constant, Arrow}
 use Rattle.luflow.specs.declared.form.Flow.{Flow}
-use Rattle.lusource.specs.Names.{variables_of, declarations_of}
+use Rattle.lusource.specs.Names.{variables_of}
+use Rattle.lustat_rules.specs.Scope.{declarations_of}
 use Rattle.lustat_rules.specs.Scope as rules
 use Rattle.lustat_rules.specs.Typing.{type_of, right_types}
 use Rattle.lustat_rules.specs.Clocks.{HasClock, IsTruth}

@@ -29,6 +29,6 @@ mod tests;
 pub use error::EvalError;
 pub use evaluator::{whole, whole_outputs};
 pub use kernel::{Past, clock_now, datum_at, kept, value};
-pub use luflow::{Datum, Inputs, Status};
+pub use luflow::{Datum, Inputs, Outputs, Status};
 pub use operators::{choice, double, single};
 pub use streams::Streams;

@@ -5,7 +5,7 @@ use Rattle.lutree.specs.declared.program.Declaration.{Declaration}
 use Rattle.lutree.specs.declared.program.Equation.{Equation}
 use Rattle.lutree.specs.declared.program.Node.{Node}
 use Rattle.lutree.specs.Tree.{DeclarationTree, EquationTree, NodeTree, declaration_view, declarations_view, equation_view, node_view}
-use Rattle.lusource.specs.Names.{declarations_of}
+use Rattle.lustat_rules.specs.Scope.{declarations_of}
 use Rattle.lusource.specs.First.{Line, equation_of, IsInRange, IsPlain, IsFirstShape}
 use Rattle.lufirst.specs.Lines.{IsPlainVariable, HasPlainVariables, IsLine}
 

@@ -55,8 +55,10 @@ fn before_in(e: &Expr) -> Option<&Name>
 
 // The operands of a sum.
 fn sum_in(e: &Expr) -> Option<(&Expr, &Expr)>
-    ensures some { IfSome result (λ p. view e.now ≡ binary (Data Add) (view p.0.now) (view p.1.now)) }
-    ensures none { IfNone result ((a : Tree) → (b : Tree) → view e.now ≡ binary (Data Add) a b → ⊥) }
+    ensures some { IfSome result (λ p. view e.now ≡ binary (Data Add) (view p.0.now)
+        (view p.1.now)) }
+    ensures none { IfNone result ((a : Tree) → (b : Tree) → view e.now ≡ binary (Data Add) a b
+        → ⊥) }
 {
     match e {
         Expr::Binary(Infix::Data(BinaryOperator::Add), a, b) => Some((&**a, &**b)),
@@ -78,7 +80,8 @@ fn arrow_in(e: &Expr) -> Option<(&Expr, &Expr)>
 /// The parts of an equation of this form; none for any other equation. Takes no memory.
 pub fn parts_of(equation: &Equation) -> Option<Parts<'_>>
     ensures some { IfSome result (λ p. equation_view equation.now ≡ equation_of (line_of p)) }
-    ensures none { IfNone result ((line : Line) → equation_view equation.now ≡ equation_of line → ⊥) }
+    ensures none { IfNone result ((line : Line) → equation_view equation.now ≡ equation_of line
+        → ⊥) }
 {
     let left = match equation.left.as_slice() {
         [x] => x,

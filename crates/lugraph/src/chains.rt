@@ -25,7 +25,8 @@ fn mark_all(marks: &mut Vec<bool>, vertices: &[usize])
     ensures long { length marks.new.items ≡ length marks.old.items }
     ensures kept { Keeps marks.old.items marks.new.items }
     ensures marked { (v : ℕ) → Contains vertices.now v → Has marks.new.items v }
-    ensures only { (v : ℕ) → Has marks.new.items v → Has marks.old.items v ⊎ Contains vertices.now v }
+    ensures only { (v : ℕ) → Has marks.new.items v → Has marks.old.items v
+        ⊎ Contains vertices.now v }
 {
     for vertex in vertices {
         marks[*vertex] = true;
@@ -53,7 +54,8 @@ impl Chains {
         ensures kept { OnOk result (Keeps self.old.walked.items self.new.walked.items) }
         ensures walked { OnOk result (Has self.new.walked.items start) }
         ensures end { IfOk result (λ t. OnTrue t (All (Ends next.now) self.new.way.items)) }
-        ensures none { IfOk result (λ t. OnFalse t (All (λ v. ¬ Ends next.now v) self.new.way.items)) }
+        ensures none { IfOk result (λ t. OnFalse t (All (λ v. ¬ Ends next.now v)
+            self.new.way.items)) }
     {
         let mut here = Some(start);
         while let Some(vertex) = here {

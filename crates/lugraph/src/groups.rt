@@ -39,7 +39,8 @@ fn look_along(
     requires places_long { length places.now ≡ length entered.now }
     ensures least { result.low ≤ frame.place }
     ensures low { IsLow entered.now left.now places.now row.now frame.place result.low }
-    ensures looked { IsLooked entered.now left.now places.now row.now frame.next (unwrap_or result.edge (length row.now)) result.low }
+    ensures looked { IsLooked entered.now left.now places.now row.now frame.next
+        (unwrap_or result.edge (length row.now)) result.low }
     ensures within { IfSome result.edge (λ k. k < length row.now) }
     ensures vertex { IfSome result.edge (λ k. slice_index row.now k < length entered.now) }
     ensures fresh { IfSome result.edge (λ k. Lacks entered.now (slice_index row.now k)) }
@@ -64,9 +65,11 @@ fn look_along(
 fn cut(bounds: &mut Vec<usize>, low: usize) -> Result<(), AllocError>
     requires { IsRising bounds.old.items }
     ensures rising { OnOk result (IsRising bounds.new.items) }
-    ensures fewer { OnOk result ((b : ℕ) → Contains bounds.new.items b → Contains bounds.old.items b) }
+    ensures fewer { OnOk result ((b : ℕ) → Contains bounds.new.items b
+        → Contains bounds.old.items b) }
     ensures below { OnOk result ((b : ℕ) → Contains bounds.new.items b → b ≤ low) }
-    ensures kept { OnOk result ((b : ℕ) → Contains bounds.old.items b → b ≤ low → Contains bounds.new.items b) }
+    ensures kept { OnOk result ((b : ℕ) → Contains bounds.old.items b → b ≤ low
+        → Contains bounds.new.items b) }
 {
     while let Some(last) = bounds.pop() {
         if last <= low {
@@ -81,7 +84,8 @@ fn cut(bounds: &mut Vec<usize>, low: usize) -> Result<(), AllocError>
 fn drop_bound(bounds: &mut Vec<usize>, place: usize) -> Result<bool, AllocError>
     requires rising { IsRising bounds.old.items }
     requires below { (b : ℕ) → Contains bounds.old.items b → b ≤ place }
-    ensures dropped { IfOk result (λ t. OnTrue t (bounds.old.items ≡ bounds.new.items ++ place ∷ [])) }
+    ensures dropped { IfOk result (λ t. OnTrue t (bounds.old.items ≡ bounds.new.items
+        ++ place ∷ [])) }
     ensures same { IfOk result (λ t. OnFalse t (bounds.new.items ≡ bounds.old.items)) }
     ensures none { IfOk result (λ t. OnFalse t (¬ Contains bounds.old.items place)) }
 {
@@ -114,7 +118,8 @@ fn mark_group(
     requires left_long { length left.old.items ≡ length graph.now }
     requires looped_long { length looped.old.items ≡ length graph.now }
     ensures left { IsLeft left.old.items left.new.items stack.now from (length stack.now) }
-    ensures looped { IsFlagged graph.now looped.old.items looped.new.items stack.now from (length stack.now) }
+    ensures looped { IsFlagged graph.now looped.old.items looped.new.items stack.now from
+        (length stack.now) }
 {
     let many = from + 1 < stack.len();
     for place in from..stack.len() {
@@ -167,13 +172,17 @@ impl Groups {
     fn enter(&mut self, vertex: usize) -> Result<(), AllocError>
         requires room { vertex < length self.old.entered.items }
         requires places { vertex < length self.old.places.items }
-        ensures entered { OnOk result (self.new.entered.items ≡ slice_set self.old.entered.items vertex true) }
+        ensures entered { OnOk result (self.new.entered.items
+            ≡ slice_set self.old.entered.items vertex true) }
         ensures left { OnOk result (self.new.left.items ≡ self.old.left.items) }
         ensures looped { OnOk result (self.new.looped.items ≡ self.old.looped.items) }
-        ensures places { OnOk result (self.new.places.items ≡ slice_set self.old.places.items vertex (length self.old.stack.items)) }
+        ensures places { OnOk result (self.new.places.items
+            ≡ slice_set self.old.places.items vertex (length self.old.stack.items)) }
         ensures stack { OnOk result (self.new.stack.items ≡ self.old.stack.items ++ vertex ∷ []) }
-        ensures bounds { OnOk result (self.new.bounds.items ≡ self.old.bounds.items ++ length self.old.stack.items ∷ []) }
-        ensures frames { OnOk result (self.new.frames.items ≡ self.old.frames.items ++ (record { place = length self.old.stack.items; next = 0 }) ∷ []) }
+        ensures bounds { OnOk result (self.new.bounds.items ≡ self.old.bounds.items
+            ++ length self.old.stack.items ∷ []) }
+        ensures frames { OnOk result (self.new.frames.items ≡ self.old.frames.items
+            ++ (record { place = length self.old.stack.items; next = 0 }) ∷ []) }
     {
         let place = self.stack.len();
         self.entered[vertex] = true;
@@ -188,7 +197,8 @@ impl Groups {
     fn advance(&mut self, graph: &[Vec<usize>], frame: Frame) -> Result<(), AllocError>
         requires { IsFramed graph.now self.old frame }
         ensures sound { OnOk result (IsGroups graph.now self.new) }
-        ensures less { OnOk result (frames_left self.new.entered.items self.new.frames.items ≤ frames_left self.old.entered.items self.old.frames.items) }
+        ensures less { OnOk result (frames_left self.new.entered.items self.new.frames.items
+            ≤ frames_left self.old.entered.items self.old.frames.items) }
         ensures kept { OnOk result (Keeps self.old.entered.items self.new.entered.items) }
     {
         let row = row_at(graph, self.stack[frame.place]);

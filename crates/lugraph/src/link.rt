@@ -18,8 +18,10 @@ pub struct Link {
 fn push_at(rows: &mut Vec<Vec<usize>>, place: usize, value: usize) -> Result<(), AllocError>
     requires { place < length rows.old.items }
     ensures long { OnOk result (length rows.new.items ≡ length rows.old.items) }
-    ensures pushed { OnOk result (row_of rows.new.items place ≡ row_of rows.old.items place ++ value ∷ []) }
-    ensures others { OnOk result ((other : ℕ) → other ≢ place → row_of rows.new.items other ≡ row_of rows.old.items other) }
+    ensures pushed { OnOk result (row_of rows.new.items place ≡ row_of rows.old.items place
+        ++ value ∷ []) }
+    ensures others { OnOk result ((other : ℕ) → other ≢ place → row_of rows.new.items other
+        ≡ row_of rows.old.items other) }
 {
     rows[place].push(value)?;
     Ok(())

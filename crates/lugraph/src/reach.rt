@@ -29,7 +29,8 @@ fn no_marks(alloc: Global, size: usize) -> Result<Vec<bool>, AllocError>
 // Marks the numbers of a row, and puts those that had no mark on the stack.
 fn enter(row: &[usize], marks: &mut Vec<bool>, stack: &mut Vec<usize>) -> Result<(), AllocError>
     requires { All (λ v. v < length marks.old.items) row.now }
-    ensures { OnOk result (IsEntered row.now marks.old.items marks.new.items stack.old.items stack.new.items) }
+    ensures { OnOk result (IsEntered row.now marks.old.items marks.new.items stack.old.items
+        stack.new.items) }
 {
     for v in row {
         if marks[*v] {
@@ -55,7 +56,8 @@ pub fn reached(
     requires starts { All (λ v. v < size) starts.now }
     requires links { All (IsWithin size) links.now }
     ensures long { IfOk result (λ marks. length marks.items ≡ size) }
-    ensures exact { IfOk result (λ marks. (v : ℕ) → Has marks.items v ↔ IsReached starts.now links.now v) }
+    ensures exact { IfOk result (λ marks. (v : ℕ) → Has marks.items v
+        ↔ IsReached starts.now links.now v) }
 {
     let rows = rows_of(alloc, size, links)?;
     let mut marks = no_marks(alloc, size)?;

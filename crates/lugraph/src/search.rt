@@ -33,8 +33,10 @@ pub fn row_at(graph: &[Vec<usize>], vertex: usize) -> &[usize]
 
 // The first place of a row, at `from` or later, with a vertex that isn't placed.
 fn first_waiting(row: &[usize], placed: &[bool], from: usize) -> Option<usize>
-    ensures none { IfNone result ((k : ℕ) → from ≤ k → k < length row.now → IsPassed placed.now row.now k) }
-    ensures passed { IfSome result (λ i. (k : ℕ) → from ≤ k → k < i → IsPassed placed.now row.now k) }
+    ensures none { IfNone result ((k : ℕ) → from ≤ k → k < length row.now
+        → IsPassed placed.now row.now k) }
+    ensures passed { IfSome result (λ i. (k : ℕ) → from ≤ k → k < i
+        → IsPassed placed.now row.now k) }
     ensures within { IfSome result (λ i. i < length row.now) }
     ensures vertex { IfSome result (λ i. slice_index row.now i < length placed.now) }
     ensures waiting { IfSome result (λ i. Lacks placed.now (slice_index row.now i)) }
@@ -70,8 +72,10 @@ impl Search {
     fn advance(&mut self, graph: &[Vec<usize>], visit: Visit) -> Result<Option<usize>, AllocError>
         requires { IsVisiting graph.now self.old visit }
         ensures sound { IfOk result (λ o. IfNone o (IsSearching graph.now self.new)) }
-        ensures less { IfOk result (λ o. IfNone o (steps_left self.new.entered.items self.new.placed.items < steps_left self.old.entered.items self.old.placed.items)) }
-        ensures kept { IfOk result (λ o. IfNone o (Keeps self.old.entered.items self.new.entered.items)) }
+        ensures less { IfOk result (λ o. IfNone o (steps_left self.new.entered.items
+            self.new.placed.items < steps_left self.old.entered.items self.old.placed.items)) }
+        ensures kept { IfOk result (λ o. IfNone o (Keeps self.old.entered.items
+            self.new.entered.items)) }
         ensures cycle { IfOk result (λ o. IfSome o (IsCycle graph.now)) }
     {
         let vertex = visit.vertex;
@@ -105,7 +109,8 @@ impl Search {
         requires empty { self.old.path.items ≡ [] }
         ensures sound { IfOk result (λ o. IfNone o (IsSearching graph.now self.new)) }
         ensures empty { IfOk result (λ o. IfNone o (self.new.path.items ≡ [])) }
-        ensures kept { IfOk result (λ o. IfNone o (Keeps self.old.entered.items self.new.entered.items)) }
+        ensures kept { IfOk result (λ o. IfNone o (Keeps self.old.entered.items
+            self.new.entered.items)) }
         ensures entered { IfOk result (λ o. IfNone o (Has self.new.entered.items start)) }
         ensures cycle { IfOk result (λ o. IfSome o (IsCycle graph.now)) }
     {

@@ -119,7 +119,8 @@ impl SiteInputs {
 
     /// The value at an instant of the main input of this number, where that input stands at the site.
     pub fn given(&self, column: usize, instant: u32) -> Option<Datum>
-        ensures { stands self.now.job.plan column self.now.site ≡ true → result ≡ slice_get (column_of self.now.job.inputs column) instant }
+        ensures { stands self.now.job.plan column self.now.site ≡ true → result
+            ≡ slice_get (column_of self.now.job.inputs column) instant }
     {
         datum_in(self.columns.as_slice(), column, instant as usize)
     }
@@ -134,7 +135,8 @@ fn column_for(
     site: u8,
 ) -> Result<Row<Datum>, AllocError>
     requires { c < length columns.now }
-    ensures { IfOk result (λ row. row ≡ cond (stands plan.now c site) (data_of (slice_get (columns_view columns.now) c)) []) }
+    ensures { IfOk result (λ row. row ≡ cond (stands plan.now c site)
+        (data_of (slice_get (columns_view columns.now) c)) []) }
 {
     if plan.stands(c, site) {
         copied(alloc, values_in(columns, c))
@@ -157,7 +159,9 @@ fn columns_of(
     columns: &[(String, Vec<Datum>)],
     site: u8,
 ) -> Result<Vec<Row<Datum>>, AllocError>
-    ensures { IfOk result (λ rows. rows.items ≡ map (λ c. cond (stands plan.now c site) (data_of (slice_get (columns_view columns.now) c)) []) (range_with_len 0 (length columns.now))) }
+    ensures { IfOk result (λ rows. rows.items ≡ map (λ c. cond (stands plan.now c site)
+        (data_of (slice_get (columns_view columns.now) c)) [])
+        (range_with_len 0 (length columns.now))) }
 {
     let mut rows = Vec::with_capacity(alloc, columns.len())?;
     for c in 0..columns.len() {

@@ -45,7 +45,8 @@ fn push_links(
     variable: usize,
 ) -> Result<(), AllocError>
     requires { length rows.now ≤ most_sites }
-    ensures { IfOk result (λ _. links.new.items ≡ links.old.items ++ some_links rows.now owners.now sites.now variable (length rows.now)) }
+    ensures { IfOk result (λ _. links.new.items ≡ links.old.items
+        ++ some_links rows.now owners.now sites.now variable (length rows.now)) }
 {
     let count = rows.len() as u8;
     for site in 0..count {
@@ -70,7 +71,8 @@ pub fn links_of(
     variables: usize,
 ) -> Result<Vec<Link>, AllocError>
     requires { length rows.now ≤ most_sites }
-    ensures { IfOk result (λ links. links.items ≡ links_below rows.now owners.now sites.now variables) }
+    ensures { IfOk result (λ links. links.items ≡ links_below rows.now owners.now sites.now
+        variables) }
 {
     let mut links = Vec::new(alloc);
     for variable in 0..variables {

@@ -81,7 +81,8 @@ fn mark_clock(marks: &mut Vec<bool>, clock: Clock)
 
 /// Marks what a site's own flow names.
 fn mark_own(marks: &mut Vec<bool>, flow: Flow, own: bool)
-    ensures { marks.new.items ≡ cond own (marked_all (clock_reads flow.clock) (marked_all (places flow.form) marks.old.items)) marks.old.items }
+    ensures { marks.new.items ≡ cond own (marked_all (clock_reads flow.clock)
+        (marked_all (places flow.form) marks.old.items)) marks.old.items }
 {
     if own {
         mark_operands(marks, flow.form);
@@ -91,7 +92,8 @@ fn mark_own(marks: &mut Vec<bool>, flow: Flow, own: bool)
 
 /// Marks the clock variable of a flow that is marked.
 fn mark_clock_of(marks: &mut Vec<bool>, flows: &[Flow], place: usize)
-    ensures { marks.new.items ≡ cond (is_marked marks.old.items place) (marked_all (clock_at (slice_get flows.now place)) marks.old.items) marks.old.items }
+    ensures { marks.new.items ≡ cond (is_marked marks.old.items place)
+        (marked_all (clock_at (slice_get flows.now place)) marks.old.items) marks.old.items }
 {
     if !is_marked(marks.as_slice(), place) {
         return;
@@ -104,7 +106,8 @@ fn mark_clock_of(marks: &mut Vec<bool>, flows: &[Flow], place: usize)
 
 /// Marks what a site's own flows name.
 fn own_marks(alloc: Global, flat: &Flat, sites: &[u8], site: u8) -> Result<Vec<bool>, AllocError>
-    ensures { IfOk result (λ marks. AreOwnMarks (bare flat.now [] sites.now) site (flows_of flat.now) marks.items) }
+    ensures { IfOk result (λ marks. AreOwnMarks (bare flat.now [] sites.now) site
+        (flows_of flat.now) marks.items) }
 {
     let flows = flat.flows();
     let mut marks = vec![in alloc; false; flows.len()]?;

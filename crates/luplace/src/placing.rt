@@ -28,7 +28,8 @@ fn are_known(variables: &[Variable], entries: &[Placed]) -> bool
 }
 
 fn entry_of<'a>(entries: &'a [Placed], variable: &str) -> Option<&'a Placed>
-    ensures { option_map (λ entry. entry.now) result ≡ find (λ entry. bytes_eq entry.variable variable.now) entries.now }
+    ensures { option_map (λ entry. entry.now) result ≡ find
+        (λ entry. bytes_eq entry.variable variable.now) entries.now }
 {
     entries.iter().find(|entry| entry.variable.is(variable))
 }
@@ -76,7 +77,8 @@ fn found_sites(
     place: &Place,
 ) -> Result<Vec<Option<u8>>, AllocError>
     requires { length place.now.sites ≤ most_sites }
-    ensures { IfOk result (λ found. found.items ≡ map (λ x. site_of place.now x.name) variables.now) }
+    ensures { IfOk result (λ found. found.items ≡ map (λ x. site_of place.now x.name)
+        variables.now) }
 {
     variables
         .iter()
@@ -109,10 +111,12 @@ fn are_together(owners: &[usize], sites: &[u8]) -> bool
 pub fn sites_for(alloc: Global, flat: &Flat, place: &Place) -> Result<Vec<u8>, PlaceError>
     requires { length place.now.sites ≤ most_sites }
     ensures accepted { IfOk result (λ _. refusal flat.now place.now ≡ None) }
-    ensures sites { IfOk result (λ sites. sites.items ≡ sites_of_variables flat.now.variables place.now) }
+    ensures sites { IfOk result (λ sites. sites.items ≡ sites_of_variables flat.now.variables
+        place.now) }
     ensures placed { IfOk result (λ _. are_placed flat.now.variables place.now ≡ true) }
     ensures together { IfOk result (λ sites. are_together flat.now.owners sites.items ≡ true) }
-    ensures refused { IfErr result (λ e. (e ≡ PlaceError.OutOfMemory) ⊎ (refusal flat.now place.now ≡ Some e)) }
+    ensures refused { IfErr result (λ e. (e ≡ PlaceError.OutOfMemory)
+        ⊎ (refusal flat.now place.now ≡ Some e)) }
 {
     if !are_known(flat.variables(), place.place.as_slice()) {
         return Err(PlaceError::UnknownVariable);

@@ -87,7 +87,8 @@ impl Plan {
     pub fn make(alloc: Global, flat: Flat, place: &Place) -> Result<Plan, PlaceError>
         requires { IsLawful place.now }
         ensures made { IfOk result (IsPlanOf flat place.now) }
-        ensures refused { IfErr result (λ e. (e ≡ PlaceError.OutOfMemory) ⊎ (refusal flat place.now ≡ Some e)) }
+        ensures refused { IfErr result (λ e. (e ≡ PlaceError.OutOfMemory)
+            ⊎ (refusal flat place.now ≡ Some e)) }
     {
         let sites = sites_for(alloc, &flat, place)?;
         Ok(plan_at(alloc, flat, place, sites.as_slice())?)
@@ -102,8 +103,22 @@ impl Plan {
         links: Row<Link>,
         capacity: u16,
     ) -> Plan
-        requires { IsPlan (record { flat = flat; names = names; placed = placed; needs = needs; links = links; capacity = capacity }) }
-        ensures { result ≡ record { flat = flat; names = names; placed = placed; needs = needs; links = links; capacity = capacity } }
+        requires { IsPlan (record {
+          flat = flat;
+          names = names;
+          placed = placed;
+          needs = needs;
+          links = links;
+          capacity = capacity;
+        }) }
+        ensures { result ≡ record {
+          flat = flat;
+          names = names;
+          placed = placed;
+          needs = needs;
+          links = links;
+          capacity = capacity;
+        } }
     {
         Plan {
             flat,

@@ -18,7 +18,8 @@ use toml::Table;
 /// The table that the text is, if it is TOML.
 fn table_in(alloc: Global, text: &str) -> Result<Table, PlaceError>
     ensures toml { IfOk result (λ table. parse_document text.now ≡ Some (table_view table)) }
-    ensures refused { IfErr result (λ e. (e ≡ PlaceError.OutOfMemory) ⊎ ((e ≡ PlaceError.NotToml) × (parse_document text.now ≡ None))) }
+    ensures refused { IfErr result (λ e. (e ≡ PlaceError.OutOfMemory)
+        ⊎ ((e ≡ PlaceError.NotToml) × (parse_document text.now ≡ None))) }
 {
     match toml::table_from_str(alloc, text) {
         Ok(table) => Ok(table),

@@ -8,7 +8,7 @@ use Rattle.luflow.specs.declared.variable.Variable.{Variable}
 use Rattle.luflow.specs.declared.variable.Role.TheVariants as role
 use Rattle.luflow.specs.Program.{FlatProgram}
 use Rattle.luflow.specs.Variables.{is_output, outputs_of}
-use Rattle.lusource.specs.Names.{node_of}
+use Rattle.lustat_rules.specs.Scope.{node_called}
 use Rattle.lusyn_grammar.specs.Grammar.{WrittenDeclaration, WrittenNode, WrittenProgram, Each, IsNonempty, IsProperDeclaration, IsProperNode, declaration_tree, node_tree, program_tree}
 use Rattle.lucore_list.specs.Layout.{variables_as, main_variables}
 use Rattle.lusyn.specs.Texts.{SpellsText}
@@ -32,9 +32,9 @@ pick : (n : NodeTree) (b : Bool) (rest : Option NodeTree) (node : NodeTree) → 
 pick n true rest node some more e = let same : n ≡ node = cc in subst HasSome same some
 pick n false rest node some more e = more e
 
-in_program : (p : WrittenProgram) → Each IsProperNode p → (f : List ℕ) (node : NodeTree) → node_of (program_tree p) f ≡ Some node → HasSome node
+in_program : (p : WrittenProgram) → Each IsProperNode p → (f : List ℕ) (node : NodeTree) → node_called (program_tree p) f ≡ Some node → HasSome node
 in_program [] proper f node e = cc
-in_program (n ∷ p) proper f node e = pick (node_tree n) (bytes_eq n.name f) (node_of (program_tree p) f) node (in_node n proper.0) (in_program p proper.1 f node) e
+in_program (n ∷ p) proper f node e = pick (node_tree n) (bytes_eq n.name f) (node_called (program_tree p) f) node (in_node n proper.0) (in_program p proper.1 f node) e
 
 all_outputs : (ds : List DeclarationTree) → outputs_of (variables_as role.Output ds) ≡ variables_as role.Output ds
 all_outputs [] = refl
@@ -58,5 +58,5 @@ pub some_output : (text main : List ℕ) (tree : ProgramTree) (flat : FlatProgra
 some_output text main tree flat spelled is =
     let written = spelled.0.2 in
     let laid = is.laid_out in
-    let here : node_of (program_tree written.0) main ≡ Some laid.node = ap (λ t. node_of t main) written.3 ∙ laid.is_main in
+    let here : node_called (program_tree written.0) main ≡ Some laid.node = ap (λ t. node_called t main) written.3 ∙ laid.is_main in
     subst (λ xs. 0 < length (outputs_of xs)) (sym laid.variables) (variables_have laid.node (in_program written.0 written.1.1 main laid.node here))

@@ -1,5 +1,7 @@
 -- What a replay prints.
-use Rattle.std.specs.Prelude.{◌≡◌, ℕ, ◌+◌, Bool, true, false, List, [], ◌∷◌, ◌++◌, length, take, drop, codes, flat_map, slice_get, Option, Some, None, unwrap_or}
+use Rattle.std.specs.Prelude.{◌≡◌, ℕ, ◌+◌, Bool, true, false, List, [], ◌∷◌, ◌++◌, length, take, drop, codes, flat_map, slice_get, Option, Some, None, unwrap_or, Result, IfOk, string_bytes}
+use Rattle.std.specs.declared.string.String.{String}
+use Rattle.std.specs.declared.alloc.Global.{Global}
 use Rattle.std.specs.List.{range_with_len}
 use Rattle.std.specs.Fmt.{decimal, signed_decimal}
 use Rattle.std.specs.Option.{option_map}
@@ -21,7 +23,7 @@ use Rattle.luworld.specs.Runs.{link_list, streams_of, system_of, outputs_of}
 use Rattle.lusite.specs.Machine.{IsStanding}
 use Rattle.lusite.specs.declared.report.Standing.{Standing}
 use Rattle.lusite.specs.declared.report.Standing.TheVariants.{Ended, Faulted, Cut}
-use Rattle.luweave.specs.Worlds.{Progress, IsCollected}
+use Rattle.luweave.specs.Worlds.{Progress, IsCollected, taken_of, queued_of}
 use Rattle.luflow.specs.Variables.{is_output_of, is_output, variable_name}
 
 -- a space and a datum
@@ -35,6 +37,10 @@ datum_text Nil = codes " nil"
 abbrev pub body_text : Body → List ℕ
 body_text (Value d) = datum_text d
 body_text Close = codes " close"
+
+-- The text has these bytes more, unless memory ran out.
+abbrev pub Adds : {X E : Type 0} → Result X E → String Global → String Global → List ℕ → Type 0
+Adds result old new more = IfOk result (λ _. string_bytes new ≡ string_bytes old ++ more)
 
 -- a space and a status
 abbrev pub status_text : Status → List ℕ
@@ -74,13 +80,6 @@ statuses_text = flat_map status_text
 
 abbrev pub output_line : List ℕ → List Status → List ℕ
 output_line name statuses = codes "output " ++ name ++ (statuses_text statuses ++ 10 ∷ [])
-
--- what was taken from link l in a world, and what waits in it
-abbrev pub taken_of : Progress → ℕ → List Msg
-taken_of w l = take (taken_count (system_of w.job) w.dones l) (link_list w.job (streams_of w.job) l)
-
-abbrev pub queued_of : Progress → ℕ → List Msg
-queued_of w l = drop (taken_count (system_of w.job) w.dones l) (take (put_count (system_of w.job) w.dones l) (link_list w.job (streams_of w.job) l))
 
 -- the line of link l
 abbrev pub line_of : Progress → Option Link → ℕ → List ℕ

@@ -36,7 +36,8 @@ fn job_and_turns<F: Files>(
     request: ReplayRequest<'_>,
     files: &F,
 ) -> Result<(Job, Vec<u8>), Stop>
-    ensures asked { IfOk result (λ found. IsAskedFor (F.gives files.now) request.entry found.0 found.1.items) }
+    ensures asked { IfOk result (λ found. IsAskedFor (F.gives files.now) request.entry found.0
+        found.1.items) }
     ensures stopped { IfErr result (IsReplayStopped (F.gives files.now) request.entry) }
 {
     let program = read(alloc, files, request.program)?;
@@ -76,7 +77,8 @@ fn replay_text<F: Files>(
     request: ReplayRequest<'_>,
     files: &F,
 ) -> Result<String, Stop>
-    ensures text { IfOk result (λ text. IsReplayed (F.gives files.now) request.entry (string_bytes text)) }
+    ensures text { IfOk result (λ text. IsReplayed (F.gives files.now) request.entry
+        (string_bytes text)) }
     ensures stopped { IfErr result (IsReplayStopped (F.gives files.now) request.entry) }
 {
     let (job, turns) = job_and_turns(alloc, request, files)?;
@@ -85,7 +87,8 @@ fn replay_text<F: Files>(
 
 /// What a check prints: the canonical text of the program, which keeps all rules and has a flat program.
 fn check_text<F: Files>(alloc: Global, request: CheckRequest<'_>, files: &F) -> Result<String, Stop>
-    ensures text { IfOk result (λ text. IsChecked (F.gives files.now) request.entry (string_bytes text)) }
+    ensures text { IfOk result (λ text. IsChecked (F.gives files.now) request.entry
+        (string_bytes text)) }
     ensures stopped { IfErr result (IsCheckStopped (F.gives files.now) request.entry) }
 {
     let bytes = read(alloc, files, request.program)?;
@@ -102,7 +105,8 @@ fn posed<F: Files>(
     request: EvalRequest<'_>,
     files: &F,
 ) -> Result<(Flat, Inputs), Stop>
-    ensures posed { IfOk result (λ found. IsPosedBy (F.gives files.now) request.entry found.0 found.1) }
+    ensures posed { IfOk result (λ found. IsPosedBy (F.gives files.now) request.entry found.0
+        found.1) }
     ensures fit { IfOk result (λ found. IsFit found.0 found.1) }
     ensures some { IfOk result (λ found. 0 < length (outputs_of found.0.variables)) }
     ensures stopped { IfErr result (IsEvalStopped (F.gives files.now) request.entry) }
@@ -117,7 +121,8 @@ fn posed<F: Files>(
 
 /// What an evaluation prints: the table of the outputs of the program at the input table.
 fn eval_text<F: Files>(alloc: Global, request: EvalRequest<'_>, files: &F) -> Result<String, Stop>
-    ensures text { IfOk result (λ text. IsEvaluated (F.gives files.now) request.entry (string_bytes text)) }
+    ensures text { IfOk result (λ text. IsEvaluated (F.gives files.now) request.entry
+        (string_bytes text)) }
     ensures stopped { IfErr result (IsEvalStopped (F.gives files.now) request.entry) }
 {
     let (flat, inputs) = posed(alloc, request, files)?;
@@ -126,7 +131,8 @@ fn eval_text<F: Files>(alloc: Global, request: EvalRequest<'_>, files: &F) -> Re
 
 /// What the command that is asked for prints.
 fn answer<F: Files>(alloc: Global, request: Request<'_>, files: &F) -> Result<String, Stop>
-    ensures text { IfOk result (λ text. IsAnswer (F.gives files.now) request.entry (string_bytes text)) }
+    ensures text { IfOk result (λ text. IsAnswer (F.gives files.now) request.entry
+        (string_bytes text)) }
     ensures stopped { IfErr result (IsRequestStopped (F.gives files.now) request.entry) }
 {
     match request {
@@ -144,10 +150,12 @@ fn perform<F: Files, W: Write, V: Write>(
     out: &mut W,
     err: &mut V,
 ) -> u8
-    ensures done { result ≡ 0 → (text : List ℕ) × IsAnswer (F.gives files.now) request.entry text × Appends (W.contents out.old) (W.contents out.new) text }
+    ensures done { result ≡ 0 → (text : List ℕ) × IsAnswer (F.gives files.now) request.entry text
+        × Appends (W.contents out.old) (W.contents out.new) text }
     ensures refused { (result ≡ 1) ⊎ (result ≡ 2) → out.new ≡ out.old }
     ensures silent { result ≡ 0 → err.new ≡ err.old }
-    ensures stopped { (result ≡ 1) ⊎ (result ≡ 2) → (stop : Stop) × IsRequestStopped (F.gives files.now) request.entry stop × (result ≡ status_of stop) }
+    ensures stopped { (result ≡ 1) ⊎ (result ≡ 2) → (stop : Stop)
+        × IsRequestStopped (F.gives files.now) request.entry stop × (result ≡ status_of stop) }
 {
     match answer(alloc, request, files) {
         Ok(text) => put_out(out, err, text.as_bytes()),
@@ -170,7 +178,9 @@ pub fn serve_words<F: Files, W: Write, V: Write>(
     err: &mut V,
 ) -> u8
     // Where the command line takes the words and the call is done, the text that they ask for went to the output.
-    ensures done { takes lusdist (map string_bytes words.entry.now) ≡ true → result ≡ 0 → (text : List ℕ) × IsDone (F.gives files.now) (map string_bytes words.entry.now) text × Appends (W.contents out.old) (W.contents out.new) text }
+    ensures done { takes lusdist (map string_bytes words.entry.now) ≡ true → result ≡ 0
+        → (text : List ℕ) × IsDone (F.gives files.now) (map string_bytes words.entry.now) text
+        × Appends (W.contents out.old) (W.contents out.new) text }
 
     // Where a text or a file is refused, or the words are, nothing goes to the output.
     ensures refused { (result ≡ 1) ⊎ (result ≡ 2) → out.new ≡ out.old }
@@ -178,7 +188,8 @@ pub fn serve_words<F: Files, W: Write, V: Write>(
     // Where a text is refused, it is for what the text says; and where words that the command line takes end with status 2, a
     // file can't be read.
     ensures text { result ≡ 1 → IsRefusal (F.gives files.now) (map string_bytes words.entry.now) 1 }
-    ensures file { takes lusdist (map string_bytes words.entry.now) ≡ true → result ≡ 2 → IsRefusal (F.gives files.now) (map string_bytes words.entry.now) 2 }
+    ensures file { takes lusdist (map string_bytes words.entry.now) ≡ true → result ≡ 2
+        → IsRefusal (F.gives files.now) (map string_bytes words.entry.now) 2 }
 
     // Where the call is done, nothing goes to the error stream.
     ensures silent { result ≡ 0 → err.new ≡ err.old }

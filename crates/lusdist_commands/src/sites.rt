@@ -1,6 +1,7 @@
 //! The new sites of a job.
 
 ghost use Rattle.std.specs.Prelude.{◌≡◌, ◌<◌, ℕ, Some, slice_get, IfOk};
+ghost use Rattle.std.specs.Option.{ForSome};
 ghost use Rattle.luworld.specs.Needs.{sites_of};
 ghost use Rattle.lusite.specs.Sites.{SiteAt};
 ghost use Rattle.luweave.specs.Worlds.{IsNewWorld};
@@ -23,7 +24,8 @@ fn site_of(alloc: Global, job: &Job, site: u8) -> Result<Site, AllocError>
 /// The new sites of a job, in order.
 pub fn new_sites(alloc: Global, job: &Job) -> Result<Vec<Site>, AllocError>
     ensures new { IfOk result (λ sites. IsNewWorld job.now.plan sites.items) }
-    ensures job { IfOk result (λ sites. (s : ℕ) (v : SiteAt) → slice_get sites.items s ≡ Some v → v.job ≡ job.now) }
+    ensures job { IfOk result (λ sites. (s : ℕ) → ForSome (slice_get sites.items s)
+        (λ v. v.job ≡ job.now)) }
 {
     let count = job.plan().sites().len() as u8;
     let mut sites = Vec::with_capacity(alloc, count as usize)?;

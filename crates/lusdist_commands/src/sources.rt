@@ -76,7 +76,8 @@ pub fn flattened(alloc: Global, program: &Program, main: &str) -> Result<Flat, S
 fn first_alone(program: &Program, flat: Flat) -> Result<Flat, Stop>
     ensures flat { IfOk result (λ same. same ≡ flat) }
     ensures first { IfOk result (λ _. IsFirstShape (program_view program.now)) }
-    ensures not_yet { IfErr result (λ stop. (stop ≡ NotYet) × (¬ IsFirstShape (program_view program.now))) }
+    ensures not_yet { IfErr result (λ stop. (stop ≡ NotYet)
+        × (¬ IsFirstShape (program_view program.now))) }
 {
     if is_first(program) {
         Ok(flat)
@@ -117,7 +118,8 @@ pub fn plan_of(alloc: Global, flat: Flat, bytes: &[u8]) -> Result<Plan, Stop>
 
 /// The table of a flat program's inputs that the bytes of a table's file are.
 pub fn inputs_in(alloc: Global, flat: &Flat, bytes: &[u8]) -> Result<Inputs, Stop>
-    ensures text { IfOk result (λ inputs. IsTextOf (inputs_of flat.now.variables) inputs bytes.now) }
+    ensures text { IfOk result (λ inputs. IsTextOf (inputs_of flat.now.variables) inputs
+        bytes.now) }
     ensures fits { IfOk result (λ inputs. Fits flat.now inputs) }
     ensures fit { IfOk result (λ inputs. IsFit flat.now inputs) }
     ensures refused { IfErr result (IsTableRefused (inputs_of flat.now.variables) bytes.now) }
@@ -135,7 +137,8 @@ pub fn inputs_in(alloc: Global, flat: &Flat, bytes: &[u8]) -> Result<Inputs, Sto
 /// The job of a plan and the bytes of a table's file.
 pub fn job_of(alloc: Global, plan: Plan, bytes: &[u8]) -> Result<Job, Stop>
     ensures plan { IfOk result (λ job. job.plan ≡ plan) }
-    ensures text { IfOk result (λ job. IsTextOf (inputs_of plan.flat.variables) job.inputs bytes.now) }
+    ensures text { IfOk result (λ job. IsTextOf (inputs_of plan.flat.variables) job.inputs
+        bytes.now) }
     ensures fits { IfOk result (λ job. Fits plan.flat job.inputs) }
     ensures refused { IfErr result (IsTableRefused (inputs_of plan.flat.variables) bytes.now) }
 {

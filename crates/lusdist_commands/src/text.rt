@@ -1,7 +1,7 @@
 //! What a replay prints.
 
 ghost use Rattle.std.specs.Prelude.{◌≡◌, ◌++◌, ℕ, List, IfOk, length, string_bytes};
-ghost use Rattle.lusdist_commands.specs.WorldText.{datum_text, body_text, status_text, site_name, messages_text, link_line, links_text, kind_text, standing_text, site_line, AreSiteLines, output_line, statuses_text, AreOutputLines, IsWorldText};
+ghost use Rattle.lusdist_commands.specs.WorldText.{datum_text, body_text, status_text, site_name, messages_text, link_line, links_text, kind_text, standing_text, site_line, AreSiteLines, output_line, statuses_text, AreOutputLines, IsWorldText, Adds};
 ghost use Rattle.luworld.specs.Needs.{sites_of};
 ghost use Rattle.luflow.specs.Variables.{is_output_of, variable_name};
 
@@ -25,7 +25,7 @@ fn put_datum(text: &mut String, datum: Datum) -> Result<(), AllocError>
 
 /// A space and what a message says.
 fn put_message(text: &mut String, message: Msg) -> Result<(), AllocError>
-    ensures { IfOk result (λ _. string_bytes text.new ≡ string_bytes text.old ++ body_text message.body) }
+    ensures { Adds result text.old text.new (body_text message.body) }
 {
     match message.body {
         Body::Value(datum) => put_datum(text, datum),
@@ -35,7 +35,7 @@ fn put_message(text: &mut String, message: Msg) -> Result<(), AllocError>
 
 /// A space and a status.
 fn put_status(text: &mut String, status: Status) -> Result<(), AllocError>
-    ensures { IfOk result (λ _. string_bytes text.new ≡ string_bytes text.old ++ status_text status) }
+    ensures { Adds result text.old text.new (status_text status) }
 {
     match status {
         Status::Absent => text.push_str(" -"),
@@ -71,7 +71,7 @@ fn put_link(
     taken: &[Msg],
     queued: usize,
 ) -> Result<(), AllocError>
-    ensures { IfOk result (λ _. string_bytes text.new ≡ string_bytes text.old ++ link_line plan.now link.now taken.now queued) }
+    ensures { Adds result text.old text.new (link_line plan.now link.now taken.now queued) }
 {
     let flow = variable_name(plan.flat(), link.flow);
     let from = site_name(plan.sites(), link.from);
@@ -83,7 +83,7 @@ fn put_link(
 
 /// What each message says.
 fn put_messages(text: &mut String, messages: &[Msg]) -> Result<(), AllocError>
-    ensures { IfOk result (λ _. string_bytes text.new ≡ string_bytes text.old ++ messages_text messages.now) }
+    ensures { Adds result text.old text.new (messages_text messages.now) }
 {
     for message in messages {
         put_message(text, *message)?;
@@ -94,7 +94,7 @@ fn put_messages(text: &mut String, messages: &[Msg]) -> Result<(), AllocError>
 /// The lines of the links.
 fn put_links(text: &mut String, plan: &Plan, world: &World) -> Result<(), AllocError>
     requires { world.now.job.plan ≡ plan.now }
-    ensures { IfOk result (λ _. string_bytes text.new ≡ string_bytes text.old ++ links_text world.now (length plan.now.links)) }
+    ensures { Adds result text.old text.new (links_text world.now (length plan.now.links)) }
 {
     for (number, link) in plan.links().iter().enumerate() {
         let queued = world.queued(number).len();
@@ -114,7 +114,7 @@ fn kind_name(kind: FaultKind) -> &'static str
 
 /// How a site stands.
 fn put_standing(text: &mut String, flat: &Flat, standing: Standing) -> Result<(), AllocError>
-    ensures { IfOk result (λ _. string_bytes text.new ≡ string_bytes text.old ++ standing_text flat.now standing) }
+    ensures { Adds result text.old text.new (standing_text flat.now standing) }
 {
     match standing {
         Standing::Ended => text.push_str("ended"),
@@ -124,7 +124,7 @@ fn put_standing(text: &mut String, flat: &Flat, standing: Standing) -> Result<()
 }
 
 fn put_fault(text: &mut String, flat: &Flat, fault: Fault) -> Result<(), AllocError>
-    ensures { IfOk result (λ _. string_bytes text.new ≡ string_bytes text.old ++ standing_text flat.now (Standing.Faulted fault)) }
+    ensures { Adds result text.old text.new (standing_text flat.now (Standing.Faulted fault)) }
 {
     let variable = variable_name(flat, fault.variable);
     let instant = fault.instant;
@@ -134,7 +134,7 @@ fn put_fault(text: &mut String, flat: &Flat, fault: Fault) -> Result<(), AllocEr
 
 /// `site NAME`, and how the site stands.
 fn put_site(text: &mut String, plan: &Plan, site: u8, standing: Standing) -> Result<(), AllocError>
-    ensures { IfOk result (λ _. string_bytes text.new ≡ string_bytes text.old ++ site_line plan.now site standing) }
+    ensures { Adds result text.old text.new (site_line plan.now site standing) }
 {
     let name = site_name(plan.sites(), site);
     write!(text, "site {name} ")?;
@@ -146,7 +146,8 @@ fn put_site(text: &mut String, plan: &Plan, site: u8, standing: Standing) -> Res
 fn put_sites(text: &mut String, plan: &Plan, world: &World) -> Result<(), AllocError>
     requires plan_is { world.now.job.plan ≡ plan.now }
     requires all_sites { length world.now.dones ≡ sites_of plan.now }
-    ensures { IfOk result (λ _. (lines : List ℕ) × AreSiteLines world.now (sites_of plan.now) lines × (string_bytes text.new ≡ string_bytes text.old ++ lines)) }
+    ensures { IfOk result (λ _. (lines : List ℕ) × AreSiteLines world.now (sites_of plan.now) lines
+        × (string_bytes text.new ≡ string_bytes text.old ++ lines)) }
 {
     let _flat = plan.flat();
     let count = plan.sites().len() as u8;
@@ -158,7 +159,7 @@ fn put_sites(text: &mut String, plan: &Plan, world: &World) -> Result<(), AllocE
 
 /// `output NAME`, and its statuses.
 fn put_output(text: &mut String, name: &str, statuses: &[Status]) -> Result<(), AllocError>
-    ensures { IfOk result (λ _. string_bytes text.new ≡ string_bytes text.old ++ output_line name.now statuses.now) }
+    ensures { Adds result text.old text.new (output_line name.now statuses.now) }
 {
     write!(text, "output {name}")?;
     put_statuses(text, statuses)?;
@@ -167,7 +168,7 @@ fn put_output(text: &mut String, name: &str, statuses: &[Status]) -> Result<(), 
 
 /// The statuses of an output.
 fn put_statuses(text: &mut String, statuses: &[Status]) -> Result<(), AllocError>
-    ensures { IfOk result (λ _. string_bytes text.new ≡ string_bytes text.old ++ statuses_text statuses.now) }
+    ensures { Adds result text.old text.new (statuses_text statuses.now) }
 {
     for status in statuses {
         put_status(text, *status)?;
@@ -188,7 +189,9 @@ fn is_output(flat: &Flat, variable: usize) -> bool
 /// The lines of the outputs.
 fn put_outputs(text: &mut String, plan: &Plan, world: &World) -> Result<(), AllocError>
     requires { world.now.job.plan ≡ plan.now }
-    ensures { IfOk result (λ _. (lines : List ℕ) × (k : ℕ) × AreOutputLines world.now (length plan.now.flat.variables) k lines × (string_bytes text.new ≡ string_bytes text.old ++ lines)) }
+    ensures { IfOk result (λ _. (lines : List ℕ) × (k : ℕ)
+        × AreOutputLines world.now (length plan.now.flat.variables) k lines
+        × (string_bytes text.new ≡ string_bytes text.old ++ lines)) }
 {
     let flat = plan.flat();
     let mut k = 0;

@@ -60,7 +60,8 @@ fn puts(alloc: Global, links: &[usize]) -> Result<Vec<Item>, AllocError>
 }
 
 fn takes(alloc: Global, plan: &Plan, site: u8, links: &[usize]) -> Result<Vec<Item>, AllocError>
-    ensures { IfOk result (λ items. items.items ≡ map (λ link. Item.Take link) (filter (λ link. nat_eq (receiver_of plan.now link) site) links.now)) }
+    ensures { IfOk result (λ items. items.items ≡ map (λ link. Item.Take link)
+        (filter (λ link. nat_eq (receiver_of plan.now link) site) links.now)) }
 {
     links
         .iter()
@@ -72,7 +73,8 @@ fn takes(alloc: Global, plan: &Plan, site: u8, links: &[usize]) -> Result<Vec<It
 
 /// What a site does for one message of a flow on each link.
 fn message_items(alloc: Global, job: &Job, site: u8, flow: usize) -> Result<Vec<Item>, AllocError>
-    ensures { IfOk result (λ items. map as_item items.items ≡ message_items (outline job.now (streams_of job.now)) site flow) }
+    ensures { IfOk result (λ items. map as_item items.items
+        ≡ message_items (outline job.now (streams_of job.now)) site flow) }
 {
     let plan = job.plan();
     let links = carriers(alloc, plan, flow)?;
@@ -90,7 +92,8 @@ fn compute_items(
     flow: usize,
     instant: u32,
 ) -> Result<Vec<Item>, AllocError>
-    ensures { IfOk result (λ items. map as_item items.items ≡ compute_items (outline job.now (streams_of job.now)) site flow instant) }
+    ensures { IfOk result (λ items. map as_item items.items
+        ≡ compute_items (outline job.now (streams_of job.now)) site flow instant) }
 {
     if job.plan().stands(flow, site) {
         Ok(vec![in alloc; Item::Compute { flow, instant }]?)
@@ -107,7 +110,8 @@ fn flow_items(
     flow: usize,
     instant: u32,
 ) -> Result<Vec<Item>, AllocError>
-    ensures { IfOk result (λ items. map as_item items.items ≡ flow_items (outline job.now (streams_of job.now)) site flow instant) }
+    ensures { IfOk result (λ items. map as_item items.items
+        ≡ flow_items (outline job.now (streams_of job.now)) site flow instant) }
 {
     let mut items = compute_items(alloc, job, site, flow, instant)?;
     let more = message_items(alloc, job, site, flow)?;
@@ -125,7 +129,8 @@ pub fn cell_items(
     flow: usize,
 ) -> Result<Vec<Item>, AllocError>
     requires { IsWhole job.now grid.now }
-    ensures { IfOk result (λ items. map as_item items.items ≡ round_cell (outline job.now (streams_of job.now)) site instant flow) }
+    ensures { IfOk result (λ items. map as_item items.items
+        ≡ round_cell (outline job.now (streams_of job.now)) site instant flow) }
 {
     if job.instants() <= instant {
         message_items(alloc, job, site, flow)

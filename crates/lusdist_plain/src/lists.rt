@@ -43,7 +43,8 @@ fn messages_of(alloc: Global, marks: &[Mark]) -> Result<Vec<Msg>, AllocError>
 /// The messages of a flow over the whole table.
 fn list_of_flow(alloc: Global, job: &Job, flow: usize) -> Result<Vec<Msg>, AllocError>
     requires { flow < flows_of job.now.plan.flat }
-    ensures { IfOk result (λ list. list.items ≡ messages 0 (marks (streams_of job.now flow) job.now.inputs.instants)) }
+    ensures { IfOk result (λ list. list.items ≡ messages 0
+        (marks (streams_of job.now flow) job.now.inputs.instants)) }
 {
     let marks = whole(alloc, job)?.marks(alloc, flow)?;
     messages_of(alloc, marks.as_slice())

@@ -28,7 +28,8 @@ fn round(
     instant: u32,
 ) -> Result<Vec<Item>, AllocError>
     requires { IsWhole job.now grid.now }
-    ensures { IfOk result (λ items. map as_item items.items ≡ round (outline job.now (streams_of job.now)) site instant) }
+    ensures { IfOk result (λ items. map as_item items.items
+        ≡ round (outline job.now (streams_of job.now)) site instant) }
 {
     let mut items = Vec::new(alloc);
     for flow in job.plan().flat().rank() {
@@ -41,7 +42,8 @@ fn round(
 /// A site's script as it were without a fault.
 fn full_script(alloc: Global, job: &Job, grid: &Grid, site: u8) -> Result<Vec<Item>, AllocError>
     requires { IsWhole job.now grid.now }
-    ensures { IfOk result (λ items. map as_item items.items ≡ full_script (outline job.now (streams_of job.now)) site) }
+    ensures { IfOk result (λ items. map as_item items.items
+        ≡ full_script (outline job.now (streams_of job.now)) site) }
 {
     let mut items = Vec::new(alloc);
     let rounds = job.instants() + 1;
@@ -63,7 +65,8 @@ fn is_broken_mark(mark: Mark) -> bool
 
 /// Whether a flow's cell within a table is broken.
 fn is_broken_in(grid: &Grid, flows: usize, instants: u32, flow: usize, instant: u32) -> bool
-    ensures { result ≡ ((nat_lt flow flows && nat_lt instant instants) && is_broken (held grid.now flow instant)) }
+    ensures { result ≡ ((nat_lt flow flows && nat_lt instant instants) && is_broken
+        (held grid.now flow instant)) }
 {
     (flow < flows && instant < instants) && is_broken_mark(grid.at(flow, instant))
 }
@@ -119,7 +122,8 @@ fn takes_in(items: &[Item], link: usize) -> usize
 /// Whether a script stops after an item.
 fn is_stop(job: &Job, grid: &Grid, before: &[Item], item: Item) -> bool
     requires { IsWhole job.now grid.now }
-    ensures { result ≡ stops (outline job.now (streams_of job.now)) (map as_item before.now) (as_item item) }
+    ensures { result ≡ stops (outline job.now (streams_of job.now)) (map as_item before.now)
+        (as_item item) }
 {
     match item {
         Item::Compute { flow, instant } => is_broken(job, grid, flow, instant),
@@ -131,7 +135,8 @@ fn is_stop(job: &Job, grid: &Grid, before: &[Item], item: Item) -> bool
 /// The items up to the first that stops the script.
 fn cut(alloc: Global, job: &Job, grid: &Grid, items: &[Item]) -> Result<Vec<Item>, AllocError>
     requires { IsWhole job.now grid.now }
-    ensures { IfOk result (λ kept. map as_item kept.items ≡ cut (outline job.now (streams_of job.now)) [] (map as_item items.now)) }
+    ensures { IfOk result (λ kept. map as_item kept.items
+        ≡ cut (outline job.now (streams_of job.now)) [] (map as_item items.now)) }
 {
     let mut kept = Vec::new(alloc);
     for item in items {
@@ -146,7 +151,8 @@ fn cut(alloc: Global, job: &Job, grid: &Grid, items: &[Item]) -> Result<Vec<Item
 
 /// All that a site does in a run, in order: its script, which a fault may cut short. None of it for what is no site.
 pub fn script_of(alloc: Global, job: &Job, site: u8) -> Result<Vec<Item>, AllocError>
-    ensures { IfOk result (λ items. map as_item items.items ≡ script job.now (streams_of job.now) site) }
+    ensures { IfOk result (λ items. map as_item items.items
+        ≡ script job.now (streams_of job.now) site) }
 {
     let grid = whole(alloc, job)?;
     let items = full_script(alloc, job, &grid, site)?;

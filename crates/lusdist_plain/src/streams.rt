@@ -18,7 +18,8 @@ pub fn marks_of(
     inputs: &Inputs,
     count: u32,
 ) -> Result<Vec<Marks>, AllocError>
-    ensures { IfOk result (λ rows. rows.items ≡ map (λ i. marks (solution flat.now inputs.now i) count) (range_with_len 0 (flows_of flat.now))) }
+    ensures { IfOk result (λ rows. rows.items ≡ map (λ i. marks (solution flat.now inputs.now i)
+        count) (range_with_len 0 (flows_of flat.now))) }
 {
     let grid = filled(alloc, flat, inputs, count)?;
     let mut rows = Vec::new(alloc);

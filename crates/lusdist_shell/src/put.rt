@@ -29,7 +29,8 @@ pub fn put_out<W: Write, V: Write>(out: &mut W, err: &mut V, bytes: &[u8]) -> u8
 /// Writes one line to the error stream: what the error displays, and a line feed. Answers whether it was written. There is
 /// nobody left to tell where it wasn't, so a caller may drop the answer.
 pub fn put_error_line<V: Write, E: Display + Drop>(err: &mut V, error: E) -> bool
-    ensures { OnTrue result (IfSome (E.output error) (λ line. Appends (V.contents err.old) (V.contents err.new) (line ++ 10 ∷ []))) }
+    ensures { OnTrue result (IfSome (E.output error) (λ line. Appends (V.contents err.old)
+        (V.contents err.new) (line ++ 10 ∷ []))) }
 {
     writeln!(err, "{error}").is_ok()
 }
@@ -38,9 +39,12 @@ pub fn put_error_line<V: Write, E: Display + Drop>(err: &mut V, error: E) -> boo
 /// status 2, and want of memory with status 3.
 pub fn put_mistake<W: Write, V: Write>(out: &mut W, err: &mut V, mistake: &clap::Error) -> u8
     ensures memory { kind_of mistake.now ≡ OutOfMemory → result ≡ 3 }
-    ensures help { (kind_of mistake.now ≡ DisplayHelp) ⊎ (kind_of mistake.now ≡ DisplayVersion) → (result ≡ 0) ⊎ (result ≡ 3) }
-    ensures other { kind_of mistake.now ≢ OutOfMemory → kind_of mistake.now ≢ DisplayHelp → kind_of mistake.now ≢ DisplayVersion → result ≡ 2 }
-    ensures kept { kind_of mistake.now ≢ DisplayHelp → kind_of mistake.now ≢ DisplayVersion → out.new ≡ out.old }
+    ensures help { (kind_of mistake.now ≡ DisplayHelp) ⊎ (kind_of mistake.now ≡ DisplayVersion)
+        → (result ≡ 0) ⊎ (result ≡ 3) }
+    ensures other { kind_of mistake.now ≢ OutOfMemory → kind_of mistake.now ≢ DisplayHelp
+        → kind_of mistake.now ≢ DisplayVersion → result ≡ 2 }
+    ensures kept { kind_of mistake.now ≢ DisplayHelp → kind_of mistake.now ≢ DisplayVersion
+        → out.new ≡ out.old }
     ensures silent { result ≡ 0 → err.new ≡ err.old }
 {
     if mistake.kind() == ErrorKind::OutOfMemory {

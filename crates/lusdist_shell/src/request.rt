@@ -116,8 +116,10 @@ fn request_in<'a>(matches: &ArgMatches<'a>) -> Request<'a>
 /// What the words match.
 fn matches_in<'a>(alloc: Global, words: &'a [String]) -> Result<ArgMatches<'a>, Error>
     ensures command { IfOk result (λ m. IsCommand (subcommand_rows_of m)) }
-    ensures matches { IfOk result (λ m. subcommand_rows_of m ≡ subcommand_of lusdist (map string_bytes words.entry.now)) }
-    ensures taken { IfErr result (λ e. takes lusdist (map string_bytes words.entry.now) ≡ true → kind_of e ≡ OutOfMemory) }
+    ensures matches { IfOk result (λ m. subcommand_rows_of m
+        ≡ subcommand_of lusdist (map string_bytes words.entry.now)) }
+    ensures taken { IfErr result (λ e. takes lusdist (map string_bytes words.entry.now) ≡ true
+        → kind_of e ≡ OutOfMemory) }
     ensures refused { FailsBy (fault_of lusdist (map string_bytes words.entry.now)) result }
 {
     lusdist(alloc)?.try_get_matches_from(words)
@@ -129,7 +131,8 @@ pub fn parse<'a>(alloc: Global, words: &'a [String]) -> Result<Request<'a>, Erro
     ensures asked { IfOk result (IsAskedBy (map string_bytes words.entry.now)) }
 
     // Words that the command line takes are refused for want of memory alone.
-    ensures taken { IfErr result (λ e. takes lusdist (map string_bytes words.entry.now) ≡ true → kind_of e ≡ OutOfMemory) }
+    ensures taken { IfErr result (λ e. takes lusdist (map string_bytes words.entry.now) ≡ true
+        → kind_of e ≡ OutOfMemory) }
 
     // Other words are refused for what is wrong with them.
     ensures refused { FailsBy (fault_of lusdist (map string_bytes words.entry.now)) result }

@@ -44,7 +44,8 @@ fn age(now: &[Status], pasts: &mut Vec<Past>, instant: u32)
     requires lens { length now.now ≡ length pasts.old.items }
     requires counts { All (λ x. x.count ≤ instant) pasts.old.items }
     requires few { instant < most_instants }
-    ensures each { (i : ℕ) (x : Status) (y : Past) → slice_get now.now i ≡ Some x → slice_get pasts.old.items i ≡ Some y → slice_get pasts.new.items i ≡ Some (later x y) }
+    ensures each { (i : ℕ) (x : Status) (y : Past) → slice_get now.now i ≡ Some x
+        → slice_get pasts.old.items i ≡ Some y → slice_get pasts.new.items i ≡ Some (later x y) }
     ensures len { length pasts.new.items ≡ length pasts.old.items }
     ensures counts { All (λ x. x.count ≤ instant + 1) pasts.new.items }
 {
@@ -165,8 +166,10 @@ impl Desk {
         requires logged { IsLoggedAt self.old }
         requires going { is_faulted self.old ≡ false }
         requires within { self.old.place < length self.old.program.plan.flat.order }
-        requires there { slice_index self.old.program.plan.flat.order self.old.place < length self.old.shown.items }
-        requires all { self.old.step ≡ cell_size self.old (slice_index self.old.program.plan.flat.order self.old.place) }
+        requires there { slice_index self.old.program.plan.flat.order self.old.place
+            < length self.old.shown.items }
+        requires all { self.old.step ≡ cell_size self.old (slice_index
+            self.old.program.plan.flat.order self.old.place) }
         ensures same { IsSameRun self.old self.new }
         ensures stands { StandsAt self.new }
         ensures logged { IsLoggedAt self.new }
@@ -252,7 +255,9 @@ impl Desk {
 
     /// The value that the table gives a flow of this form now, where the flow is an input of the site's.
     fn given(&self, form: Form) -> Option<Datum>
-        ensures { (c : ℕ) → form ≡ Form.Input c → stands self.now.inputs.job.plan c self.now.inputs.site ≡ true → result ≡ slice_get (column_of self.now.inputs.job.inputs c) self.now.instant }
+        ensures { (c : ℕ) → form ≡ Form.Input c → stands self.now.inputs.job.plan c
+            self.now.inputs.site ≡ true → result ≡ slice_get
+            (column_of self.now.inputs.job.inputs c) self.now.instant }
     {
         match form {
             Form::Input(c) => self.inputs.given(c, self.instant),

@@ -46,7 +46,8 @@ fn carries(links: &[Link], link: usize, flow: usize) -> bool
 
 /// The links that carry a flow, in order.
 fn carriers(alloc: Global, links: &[Link], flow: usize) -> Result<Vec<LinkNo>, AllocError>
-    ensures { IfOk result (λ v. v.items ≡ filter (λ l. nat_eq (carrier_at links.now l) flow) (range_with_len 0 (length links.now))) }
+    ensures { IfOk result (λ v. v.items ≡ filter (λ l. nat_eq (carrier_at links.now l) flow)
+        (range_with_len 0 (length links.now))) }
 {
     let mut found = Vec::new(alloc);
     for l in 0..links.len() {
@@ -77,7 +78,8 @@ fn is_told(variables: &[Variable], place: usize) -> bool
 
 /// The places of the outputs, in order.
 fn told_places(alloc: Global, variables: &[Variable]) -> Result<Vec<usize>, AllocError>
-    ensures { IfOk result (λ v. v.items ≡ filter (role_at variables.now) (range_with_len 0 (length variables.now))) }
+    ensures { IfOk result (λ v. v.items ≡ filter (role_at variables.now)
+        (range_with_len 0 (length variables.now))) }
 {
     let mut found = Vec::new(alloc);
     for i in 0..variables.len() {

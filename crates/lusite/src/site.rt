@@ -1,6 +1,7 @@
 //! The machine of one site.
 
 ghost use Rattle.std.specs.Prelude.{◌≡◌, ◌↔◌, ℕ, ◌+◌, ◌<◌, ◌≤◌, IfOk, IfSome, IsSome, List, length, Some, slice_get};
+ghost use Rattle.std.specs.Option.{ForSome};
 ghost use Rattle.luworld.specs.Runs.{IsJob};
 ghost use Rattle.lusite.specs.Logs.{IsOutput, IsNewRow, Log};
 ghost use Rattle.lusite.specs.Machine.{IsNext, IsLocalNext, IsPutNext, IsTakeNext, IsFaultAt};
@@ -46,7 +47,8 @@ fn new_logs(
     instants: u32,
 ) -> Result<Vec<Vec<Status>>, AllocError>
     ensures len { IfOk result (λ x. length x.items ≡ flows) }
-    ensures each { IfOk result (λ x. (i : ℕ) (y : Log) → slice_get x.items i ≡ Some y → IsNewRow (part_at program.now i).told instants y) }
+    ensures each { IfOk result (λ x. (i : ℕ) → ForSome (slice_get x.items i)
+        (λ y. IsNewRow (part_at program.now i).told instants y)) }
 {
     let mut logs = Vec::with_capacity(alloc, flows)?;
     for i in 0..flows {
@@ -118,7 +120,8 @@ impl Site {
     /// `next` is `Faulted`. Takes no memory.
     pub fn fault(&self) -> Option<Fault>
         ensures is_fault { IfSome result (IsFaultAt self.now.job self.now.site) }
-        ensures when { IsSome result ↔ IsNext self.now.job self.now.site self.now.done Next.Faulted }
+        ensures when { IsSome result ↔ IsNext self.now.job self.now.site self.now.done
+            Next.Faulted }
     {
         self.desk.fault
     }

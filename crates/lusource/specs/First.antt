@@ -7,7 +7,7 @@ use Rattle.lutree.specs.declared.expr.BinaryOperator.TheVariants.{Add}
 use Rattle.lutree.specs.declared.program.Kind.TheVariants.{Int}
 use Rattle.lutree.specs.Tree.{DeclarationTree, EquationTree, NodeTree, ProgramTree}
 use Rattle.lutree.specs.Tree as tree
-use Rattle.lusource.specs.Names.{declarations_of}
+use Rattle.lustat_rules.specs.Scope.{declarations_of}
 
 -- `left = first -> pre from + step`
 pub record Line : Type 0 where

@@ -1,15 +1,9 @@
 -- Names, and what a program says of them.
-use Rattle.std.specs.Prelude.{◌≡◌, ℕ, zero, suc, if◌then◌else◌, List, [], ◌∷◌, ◌++◌, map, Option, Some, None, slice_get}
+use Rattle.std.specs.Prelude.{◌≡◌, ℕ, zero, suc, if◌then◌else◌, List, [], ◌∷◌, Option, Some, None, slice_get}
 use Rattle.std.specs.Str.{bytes_eq}
 use Rattle.lutree.specs.declared.expr.Condition.{Condition}
 use Rattle.lutree.specs.Tree.{DeclarationTree, NodeTree, ProgramTree}
-
--- the variables of a node: inputs, outputs and locals, each in order of declaration
-abbrev pub declarations_of : NodeTree → List DeclarationTree
-declarations_of node = node.inputs ++ (node.outputs ++ node.locals)
-
-abbrev pub names_of : List DeclarationTree → List (List ℕ)
-names_of = map (λ d. d.name)
+use Rattle.lustat_rules.specs.Scope.{declarations_of, names_of, node_called}
 
 -- the names of a node's variables
 abbrev pub variables_of : NodeTree → List (List ℕ)
@@ -30,11 +24,6 @@ name_at (x ∷ xs) (suc j) = name_at xs j
 abbrev pub AreDistinct : List (List ℕ) → Type 0
 AreDistinct names = (i j : ℕ) (x : List ℕ) → slice_get names i ≡ Some x → slice_get names j ≡ Some x → i ≡ j
 
--- the first node of a name
-abbrev pub node_of : ProgramTree → List ℕ → Option NodeTree
-node_of [] f = None
-node_of (node ∷ nodes) f = if bytes_eq node.name f then Some node else node_of nodes f
-
 abbrev pub clock_in : List DeclarationTree → List ℕ → Option Condition
 clock_in [] x = None
 clock_in (d ∷ ds) x = if bytes_eq d.name x then d.clock else clock_in ds x
@@ -49,4 +38,4 @@ outputs_in (Some node) = names_of node.outputs
 
 -- the name of output j of the node called f
 abbrev pub output_name : ProgramTree → List ℕ → ℕ → List ℕ
-output_name program f j = name_at (outputs_in (node_of program f)) j
+output_name program f j = name_at (outputs_in (node_called program f)) j

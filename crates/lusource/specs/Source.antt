@@ -10,7 +10,8 @@ use Rattle.luflow.specs.declared.data.Datum.TheVariants.{Int, Bool as Truth}
 use Rattle.luflow.specs.Program.{Table}
 use Rattle.luflow.specs.Streams.{Stream, Ticks, truth_in, base_clock}
 use Rattle.luflow.specs.Values.{gives, under}
-use Rattle.lusource.specs.Names.{clock_of, name_at, node_of, output_name}
+use Rattle.lusource.specs.Names.{clock_of, name_at, output_name}
+use Rattle.lustat_rules.specs.Scope.{node_called}
 use Rattle.lusource.specs.StreamOperators.{constant_stream, unary_stream, binary_stream, choice_stream, pre_stream, arrow_stream, when_stream, current_stream, merge_stream}
 
 -- Calls are numbered as their arguments end in the text, from 0.
@@ -149,9 +150,9 @@ sites_of program (Some node) base var inner = all_sites program node base var in
 -- clock of its instance, and its arguments are the inputs there.
 abbrev pub HoldsAt : ProgramTree → List ℕ → Ticks → List Stream → SourceStreams → Path → Type 0
 HoldsAt program f base given σ [] =
-    If (node_of program f) (λ node. InstanceHolds program node base given (σ []) (λ i. σ (i ∷ [])))
+    If (node_called program f) (λ node. InstanceHolds program node base given (σ []) (λ i. σ (i ∷ [])))
 HoldsAt program f base given σ (i ∷ path) =
-    If (slice_get (sites_of program (node_of program f) base (σ []) (λ i. σ (i ∷ []))) i) (λ site. HoldsAt program site.node site.base site.arguments (λ rest. σ (i ∷ rest)) path)
+    If (slice_get (sites_of program (node_called program f) base (σ []) (λ i. σ (i ∷ []))) i) (λ site. HoldsAt program site.node site.base site.arguments (λ rest. σ (i ∷ rest)) path)
 
 -- the streams that a table gives to the inputs of the main node
 abbrev pub given_streams : Table → List Stream

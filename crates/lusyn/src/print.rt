@@ -11,9 +11,11 @@ use std::alloc::{AllocError, Global};
 /// The canonical text of a program. It fails only where memory runs out.
 pub fn print_program(alloc: Global, program: &Program) -> Result<String, AllocError>
     // The text is the canonical one.
-    ensures canonical { IfOk result (λ text. string_bytes text ≡ canonical (program_view program.now)) }
+    ensures canonical { IfOk result (λ text. string_bytes text
+        ≡ canonical (program_view program.now)) }
     // Where the program is that of a text, it is read back as the same program, places aside, if it isn't too long for a text.
-    ensures again { IfOk result (λ text. IsReadBack (string_bytes text) (program_view program.now)) }
+    ensures again { IfOk result (λ text. IsReadBack (string_bytes text)
+        (program_view program.now)) }
 {
     lusyn_printer::print_program(alloc, program)
 }

@@ -253,7 +253,10 @@ struct Found<'t> {
 
 /// Takes what stands at a place into the tokens found before it.
 fn take<'t>(found: &mut Found<'t>, piece: Piece<'t>, at: usize) -> Result<(), LexError>
-    ensures takes { (rest : scanning.Lexed) → Takes result (scanning.with_front (located found.old.tokens.items) (scanning.after at (seen piece.entry) rest)) (scanning.with_front (located found.new.tokens.items) rest) }
+    ensures takes { (rest : scanning.Lexed) → Takes result
+        (scanning.with_front (located found.old.tokens.items)
+        (scanning.after at (seen piece.entry) rest))
+        (scanning.with_front (located found.new.tokens.items) rest) }
     ensures counts { IfOk result (λ _. IsCounted found.old → IsCounted found.new) }
 {
     match piece {
@@ -271,7 +274,8 @@ fn take<'t>(found: &mut Found<'t>, piece: Piece<'t>, at: usize) -> Result<(), Le
 /// The tokens, unless a run of them is too long.
 fn limited(found: Found<'_>) -> Result<Vec<Lexeme<'_>>, LexError>
     requires { IsCounted found }
-    ensures { Lexes (λ v. v.items) result (scanning.limited (Ok (located found.entry.tokens.items))) }
+    ensures { Lexes (λ v. v.items) result (scanning.limited
+        (Ok (located found.entry.tokens.items))) }
 {
     match found.count.too_many {
         Some(byte) => Err(LexError::LongRun { byte }),
@@ -310,9 +314,11 @@ pub fn lex(alloc: Global, text: &str) -> Result<Vec<Lexeme<'_>>, LexError>
     // Its tokens are answered, unless memory runs out. So no text has two lists of tokens.
     ensures only { (ts : List Placed) → IsLexed text.now ts → Lexes (λ v. v.items) result (Ok ts) }
     // A refusal other than want of memory is true of the text.
-    ensures refused { IfErr result (λ error. (error ≡ LexError.OutOfMemory) ⊎ IsRefused text.now error) }
+    ensures refused { IfErr result (λ error. (error ≡ LexError.OutOfMemory)
+        ⊎ IsRefused text.now error) }
     // A refusal that is true of the text is answered, unless memory runs out. So no text has two.
-    ensures refuses { (error : LexError) → IsRefused text.now error → Lexes (λ v. v.items) result (Err error) }
+    ensures refuses { (error : LexError) → IsRefused text.now error
+        → Lexes (λ v. v.items) result (Err error) }
 {
     if text.len() > LONGEST_PROGRAM {
         return Err(LexError::TooLong);

@@ -80,3 +80,11 @@ atom ts = Err ts
 pub record EndsOperand (least : ℕ) (ts : List Tok) : Type 0 where
   pub uncalled : reading.begins f.Open ts ≡ false
   pub stays : (read : ℕ → List Tok → Read Tree) (turns : ℕ) (found : Tree) → reading.climb read turns least 10 found ts ≡ Ok (found, ts)
+
+-- What was read, seen by `view`, and the place behind it are what a reading function of the grammar gives of the tokens from a place on.
+abbrev pub Reads : {X Y : Type 0} → List Lexeme → ℕ → (X → Y) → Result (X × ℕ) Stop → (List Tok → Read Y) → Type 0
+Reads ls at view result reader = Gives ls (λ x. (view x.0, ahead ls x.1)) result (reader (ahead ls at))
+
+-- The same where what was read was put behind what had been found, and the place alone is answered.
+abbrev pub ReadsInto : {Y : Type 0} → List Lexeme → ℕ → Y → Result ℕ Stop → (List Tok → Read Y) → Type 0
+ReadsInto ls at found result reader = Gives ls (λ next. (found, ahead ls next)) result (reader (ahead ls at))

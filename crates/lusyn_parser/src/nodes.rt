@@ -6,7 +6,7 @@ ghost use Rattle.lutree.specs.Tree.{ProgramTree, node_view, program_view};
 ghost use Rattle.lusyn_tokens.specs.Tokens.{toks, located};
 ghost use Rattle.lusyn_grammar.specs.Grammar.{Spells};
 ghost use Rattle.lusyn_grammar.specs.Reading as reading;
-ghost use Rattle.lusyn_parser.specs.Gives.{Gives, ahead, equations_view, nodes_view, heading_view};
+ghost use Rattle.lusyn_parser.specs.Gives.{Gives, ahead, equations_view, nodes_view, heading_view, Reads, ReadsInto};
 ghost use Rattle.lusyn_parser.specs.Refused.{IsAnswered, IsRefused, IsRefusedAt, IsWrongFrom};
 
 use crate::error::{ParseError, Stop};
@@ -22,7 +22,8 @@ impl<'t> Reader<'t> {
     /// `"node" ident "(" [ decls ] ")" "returns" "(" decls ")" [ ";" ]`
     #[tactic(auto, unfolding(lusyn_grammar::specs::Reading::heading))]
     fn heading(&self, at: usize) -> Result<(Heading, usize), Stop>
-        ensures heading { Gives self.now.tokens.now (λ x. (heading_view x.0, ahead self.now.tokens.now x.1)) result (reading.heading (suc (length self.now.tokens.now)) (ahead self.now.tokens.now at)) }
+        ensures heading { Reads self.now.tokens.now at heading_view result
+            (reading.heading (suc (length self.now.tokens.now))) }
         ensures within { IfOk result (λ x. at < x.1) }
     {
         let next = self.after(Fixed::Node, at)?;
@@ -47,7 +48,8 @@ impl<'t> Reader<'t> {
     /// `"let" { equation ";" } "tel" [ ";" ]`
     #[tactic(auto, unfolding(lusyn_grammar::specs::Reading::body))]
     fn body(&self, at: usize) -> Result<(Vec<Equation>, usize), Stop>
-        ensures body { Gives self.now.tokens.now (λ x. (equations_view x.0.items, ahead self.now.tokens.now x.1)) result (reading.body (suc (length self.now.tokens.now)) (ahead self.now.tokens.now at)) }
+        ensures body { Reads self.now.tokens.now at (λ a. equations_view a.items) result
+            (reading.body (suc (length self.now.tokens.now))) }
         ensures within { IfOk result (λ x. at < x.1) }
     {
         let next = self.after(Fixed::Let, at)?;
@@ -58,7 +60,8 @@ impl<'t> Reader<'t> {
 
     #[tactic(auto, unfolding(lusyn_grammar::specs::Reading::node))]
     fn node(&self, at: usize) -> Result<(Node, usize), Stop>
-        ensures node { Gives self.now.tokens.now (λ x. (node_view x.0, ahead self.now.tokens.now x.1)) result (reading.node (suc (length self.now.tokens.now)) (ahead self.now.tokens.now at)) }
+        ensures node { Reads self.now.tokens.now at node_view result
+            (reading.node (suc (length self.now.tokens.now))) }
         ensures within { IfOk result (λ x. at < x.1) }
     {
         let (heading, next) = self.heading(at)?;
@@ -76,7 +79,8 @@ impl<'t> Reader<'t> {
     }
 
     fn further_node(&self, found: &mut Vec<Node>, at: usize) -> Result<usize, Stop>
-        ensures node { Gives self.now.tokens.now (λ next. (nodes_view found.new.items, ahead self.now.tokens.now next)) result (reading.further_node (suc (length self.now.tokens.now)) (nodes_view found.old.items) (ahead self.now.tokens.now at)) }
+        ensures node { ReadsInto self.now.tokens.now at (nodes_view found.new.items) result
+            (reading.further_node (suc (length self.now.tokens.now)) (nodes_view found.old.items)) }
         ensures within { IfOk result (λ next. at < next) }
     {
         let (node, next) = self.node(at)?;
@@ -87,7 +91,8 @@ impl<'t> Reader<'t> {
     /// `node { node }`
     #[tactic(auto, unfolding(lusyn_grammar::specs::Reading::program))]
     fn program(&self, at: usize) -> Result<(Vec<Node>, usize), Stop>
-        ensures { Gives self.now.tokens.now (λ x. (nodes_view x.0.items, ahead self.now.tokens.now x.1)) result (reading.program (suc (length self.now.tokens.now)) (ahead self.now.tokens.now at)) }
+        ensures { Reads self.now.tokens.now at (λ a. nodes_view a.items) result
+            (reading.program (suc (length self.now.tokens.now))) }
     {
         let mut found = Vec::new(self.alloc);
         let mut next = self.further_node(&mut found, at)?;
@@ -122,7 +127,8 @@ pub fn parse_tokens(alloc: Global, tokens: &[Lexeme<'_>], end: usize) -> Result<
     // The tokens before the one that is told begin a program, and no program goes on with it.
     ensures refused { IfErr result (IsRefused (located tokens.now) end) }
     // Where that is so at a place, it is told, unless memory runs out.
-    ensures refuses { (byte : ℕ) → IsWrongFrom (located tokens.now) end byte → IsRefusedAt result byte }
+    ensures refuses { (byte : ℕ) → IsWrongFrom (located tokens.now) end byte
+        → IsRefusedAt result byte }
 {
     match all(alloc, tokens, end) {
         Ok(program) => Ok(program),

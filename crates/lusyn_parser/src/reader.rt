@@ -7,7 +7,7 @@ ghost use Rattle.lutree.specs.Tree as t;
 ghost use Rattle.lusyn_tokens.specs.Tokens.{tok};
 ghost use Rattle.lusyn_grammar.specs.Grammar.{declared};
 ghost use Rattle.lusyn_grammar.specs.Reading as reading;
-ghost use Rattle.lusyn_parser.specs.Gives.{Gives, GivesPlace, EndsOperand, atom, ahead, next_view, operand_view, name_behind, names_view, equations_view};
+ghost use Rattle.lusyn_parser.specs.Gives.{Gives, GivesPlace, EndsOperand, atom, ahead, next_view, operand_view, name_behind, names_view, equations_view, Reads, ReadsInto};
 
 use crate::error::Stop;
 use crate::pieces::{Next, Operand, PlacedName, byte_of, copied, operand_of, plain};
@@ -28,7 +28,9 @@ pub(crate) struct Reader<'t> {
 /// Tokens.
 impl<'t> Reader<'t> {
     pub(crate) fn token(&self, at: usize) -> Option<Token<'t>>
-        ensures { MatchOption result (ahead self.now.tokens.now at ≡ []) (λ x. (ahead self.now.tokens.now at ≡ tok x ∷ ahead self.now.tokens.now (at + 1)) × (at < length self.now.tokens.now)) }
+        ensures { MatchOption result (ahead self.now.tokens.now at ≡ [])
+            (λ x. (ahead self.now.tokens.now at ≡ tok x ∷ ahead self.now.tokens.now (at + 1))
+            × (at < length self.now.tokens.now)) }
     {
         match self.tokens.get(at) {
             Some(lexeme) => Some(lexeme.token),
@@ -50,8 +52,10 @@ impl<'t> Reader<'t> {
 
     /// The place after this token, if it stands here.
     fn passed(&self, wanted: Fixed, at: usize) -> Option<usize>
-        ensures after { GivesPlace self.now.tokens.now at result (reading.after wanted (ahead self.now.tokens.now at)) }
-        ensures within { MatchOption result (Unit {0}) (λ next. (next ≡ at + 1) × (at < length self.now.tokens.now)) }
+        ensures after { GivesPlace self.now.tokens.now at result
+            (reading.after wanted (ahead self.now.tokens.now at)) }
+        ensures within { MatchOption result (Unit {0}) (λ next. (next ≡ at + 1)
+            × (at < length self.now.tokens.now)) }
     {
         match self.token(at) {
             Some(Token::Fixed(found)) if found == wanted => Some(at + 1),
@@ -68,7 +72,8 @@ impl<'t> Reader<'t> {
 
     /// The place after this token, which has to stand here.
     pub(crate) fn after(&self, wanted: Fixed, at: usize) -> Result<usize, Stop>
-        ensures after { Gives self.now.tokens.now (ahead self.now.tokens.now) result (reading.after wanted (ahead self.now.tokens.now at)) }
+        ensures after { Gives self.now.tokens.now (ahead self.now.tokens.now) result
+            (reading.after wanted (ahead self.now.tokens.now at)) }
         ensures within { IfOk result (λ next. next ≡ at + 1) }
     {
         match self.passed(wanted, at) {
@@ -79,7 +84,8 @@ impl<'t> Reader<'t> {
 
     /// The place after a semicolon that may be left out.
     pub(crate) fn past_semicolon(&self, at: usize) -> usize
-        ensures past { ahead self.now.tokens.now result ≡ reading.past Fixed.Semicolon (ahead self.now.tokens.now at) }
+        ensures past { ahead self.now.tokens.now result ≡ reading.past Fixed.Semicolon
+            (ahead self.now.tokens.now at) }
         ensures within { at ≤ result }
     {
         match self.passed(Fixed::Semicolon, at) {
@@ -96,7 +102,7 @@ impl<'t> Reader<'t> {
     }
 
     pub(crate) fn name(&self, at: usize) -> Result<(Name, usize), Stop>
-        ensures name { Gives self.now.tokens.now (λ x. (x.0, ahead self.now.tokens.now x.1)) result (reading.name (ahead self.now.tokens.now at)) }
+        ensures name { Reads self.now.tokens.now at (λ a. a) result reading.name }
         ensures within { IfOk result (λ x. x.1 ≡ at + 1) }
     {
         match self.token(at) {
@@ -107,7 +113,8 @@ impl<'t> Reader<'t> {
 
     /// The clock of this sign on the variable that is named here.
     fn signed(&self, sign: bool, at: usize) -> Result<(Condition, usize), Stop>
-        ensures condition { Gives self.now.tokens.now (λ x. (x.0, ahead self.now.tokens.now x.1)) result (reading.signed sign (reading.name (ahead self.now.tokens.now at))) }
+        ensures condition { Gives self.now.tokens.now (λ x. (x.0, ahead self.now.tokens.now x.1))
+            result (reading.signed sign (reading.name (ahead self.now.tokens.now at))) }
         ensures within { IfOk result (λ x. at < x.1) }
     {
         let (variable, next) = self.name(at)?;
@@ -116,7 +123,7 @@ impl<'t> Reader<'t> {
 
     /// `[ "not" ] ident`
     fn condition(&self, at: usize) -> Result<(Condition, usize), Stop>
-        ensures condition { Gives self.now.tokens.now (λ x. (x.0, ahead self.now.tokens.now x.1)) result (reading.condition (ahead self.now.tokens.now at)) }
+        ensures condition { Reads self.now.tokens.now at (λ a. a) result reading.condition }
         ensures within { IfOk result (λ x. at < x.1) }
     {
         match self.passed(Fixed::Not, at) {
@@ -127,7 +134,8 @@ impl<'t> Reader<'t> {
 
     fn next_of(&self, at: usize) -> Next
         ensures next { next_view result ≡ reading.next (ahead self.now.tokens.now at) }
-        ensures past { result ≢ Next.Nothing → ahead self.now.tokens.now (at + 1) ≡ reading.tail (ahead self.now.tokens.now at) }
+        ensures past { result ≢ Next.Nothing → ahead self.now.tokens.now (at + 1)
+            ≡ reading.tail (ahead self.now.tokens.now at) }
         ensures within { result ≢ Next.Nothing → at < length self.now.tokens.now }
     {
         match self.token(at) {
@@ -158,7 +166,8 @@ impl<'t> Reader<'t> {
     }
 
     fn choice_of(&self, test: Expr, a: Expr, b: Expr) -> Result<Expr, Stop>
-        ensures { Gives self.now.tokens.now view result (Ok (t.choice (view test) (view a) (view b))) }
+        ensures { Gives self.now.tokens.now view result
+            (Ok (t.choice (view test) (view a) (view b))) }
     {
         let test = Box::new(self.alloc, test)?;
         let a = Box::new(self.alloc, a)?;
@@ -180,7 +189,8 @@ impl<'t> Reader<'t> {
 
     /// What was read, and the closing parenthesis after it.
     fn closed(&self, read: (Expr, usize)) -> Result<(Expr, usize), Stop>
-        ensures closed { Gives self.now.tokens.now (λ x. (view x.0, ahead self.now.tokens.now x.1)) result (reading.closed (Ok (view read.0, ahead self.now.tokens.now read.1))) }
+        ensures closed { Gives self.now.tokens.now (λ x. (view x.0, ahead self.now.tokens.now x.1))
+            result (reading.closed (Ok (view read.0, ahead self.now.tokens.now read.1))) }
         ensures within { IfOk result (λ x. read.1 ≤ x.1) }
     {
         let (found, next) = read;
@@ -190,7 +200,7 @@ impl<'t> Reader<'t> {
     /// After `current`.
     fn current(&self, at: usize) -> Result<(Expr, usize), Stop>
         ensures within { IfOk result (λ x. at ≤ x.1) }
-        ensures current { Gives self.now.tokens.now (λ x. (view x.0, ahead self.now.tokens.now x.1)) result (reading.current (ahead self.now.tokens.now at)) }
+        ensures current { Reads self.now.tokens.now at view result reading.current }
     {
         let (variable, next) = self.name(at)?;
         Ok((Expr::Current(variable), next))
@@ -221,7 +231,8 @@ impl<'t> Reader<'t> {
 
     /// Whether an expression of this level or above is a name or a constant alone.
     fn is_atom(&self, least: u8, at: usize) -> bool
-        ensures { result ≡ true → (depth : ℕ) → reading.expr (suc depth) least (ahead self.now.tokens.now at) ≡ atom (ahead self.now.tokens.now at) }
+        ensures { result ≡ true → (depth : ℕ) → reading.expr (suc depth) least
+            (ahead self.now.tokens.now at) ≡ atom (ahead self.now.tokens.now at) }
     {
         match self.token(at) {
             Some(Token::Name(_)) => self.ends_at(least, at + 1),
@@ -234,7 +245,7 @@ impl<'t> Reader<'t> {
 
     /// A name or a constant alone.
     fn atom(&self, at: usize) -> Result<(Expr, usize), Stop>
-        ensures atom { Gives self.now.tokens.now (λ x. (view x.0, ahead self.now.tokens.now x.1)) result (atom (ahead self.now.tokens.now at)) }
+        ensures atom { Reads self.now.tokens.now at view result atom }
         ensures within { IfOk result (λ x. at ≤ x.1) }
     {
         match self.token(at) {
@@ -254,7 +265,7 @@ impl<'t> Reader<'t> {
     /// An expression of this level or above, and the place after it.
     #[cycle(parser)]
     fn expr(&self, depth: usize, least: u8, at: usize) -> Result<(Expr, usize), Stop>
-        ensures expr { Gives self.now.tokens.now (λ x. (view x.0, ahead self.now.tokens.now x.1)) result (reading.expr depth least (ahead self.now.tokens.now at)) }
+        ensures expr { Reads self.now.tokens.now at view result (reading.expr depth least) }
         ensures within { IfOk result (λ x. at ≤ x.1) }
     {
         if depth == 0 {
@@ -270,7 +281,7 @@ impl<'t> Reader<'t> {
     #[cycle(parser)]
     #[tactic(auto, unfolding(lusyn_grammar::specs::Reading::expr, lusyn_grammar::specs::Reading::whole))]
     fn compound(&self, depth: usize, least: u8, at: usize) -> Result<(Expr, usize), Stop>
-        ensures expr { Gives self.now.tokens.now (λ x. (view x.0, ahead self.now.tokens.now x.1)) result (reading.expr (suc depth) least (ahead self.now.tokens.now at)) }
+        ensures expr { Reads self.now.tokens.now at view result (reading.expr (suc depth) least) }
         ensures within { IfOk result (λ x. at ≤ x.1) }
     {
         let operand = self.head(depth, least, at)?;
@@ -281,7 +292,8 @@ impl<'t> Reader<'t> {
     #[cycle(parser)]
     #[tactic(auto, unfolding(lusyn_grammar::specs::Reading::head, lusyn_grammar::specs::Reading::inside))]
     fn head(&self, depth: usize, least: u8, at: usize) -> Result<Operand, Stop>
-        ensures head { Gives self.now.tokens.now (operand_view self.now.tokens.now) result (reading.head (reading.expr depth) depth least (ahead self.now.tokens.now at)) }
+        ensures head { Gives self.now.tokens.now (operand_view self.now.tokens.now) result
+            (reading.head (reading.expr depth) depth least (ahead self.now.tokens.now at)) }
         ensures within { IfOk result (λ x. at ≤ x.next) }
     {
         match self.token(at) {
@@ -326,7 +338,8 @@ impl<'t> Reader<'t> {
     #[cycle(parser)]
     #[tactic(auto, unfolding(lusyn_grammar::specs::Reading::choice))]
     fn choice(&self, depth: usize, at: usize) -> Result<(Expr, usize), Stop>
-        ensures choice { Gives self.now.tokens.now (λ x. (view x.0, ahead self.now.tokens.now x.1)) result (reading.choice (reading.expr depth) (ahead self.now.tokens.now at)) }
+        ensures choice { Reads self.now.tokens.now at view result
+            (reading.choice (reading.expr depth)) }
         ensures within { IfOk result (λ x. at ≤ x.1) }
     {
         let (test, next) = self.expr(depth, 0, at)?;
@@ -341,7 +354,8 @@ impl<'t> Reader<'t> {
     #[cycle(parser)]
     #[tactic(auto, unfolding(lusyn_grammar::specs::Reading::branch, lusyn_grammar::specs::Reading::inside))]
     fn branch(&self, depth: usize, sign: Fixed, at: usize) -> Result<(Expr, usize), Stop>
-        ensures branch { Gives self.now.tokens.now (λ x. (view x.0, ahead self.now.tokens.now x.1)) result (reading.branch (reading.expr depth) sign (ahead self.now.tokens.now at)) }
+        ensures branch { Reads self.now.tokens.now at view result
+            (reading.branch (reading.expr depth) sign) }
         ensures within { IfOk result (λ x. at ≤ x.1) }
     {
         let next = self.after(Fixed::Open, at)?;
@@ -355,7 +369,8 @@ impl<'t> Reader<'t> {
     #[cycle(parser)]
     #[tactic(auto, unfolding(lusyn_grammar::specs::Reading::merge))]
     fn merge(&self, depth: usize, at: usize) -> Result<(Expr, usize), Stop>
-        ensures merge { Gives self.now.tokens.now (λ x. (view x.0, ahead self.now.tokens.now x.1)) result (reading.merge (reading.expr depth) (ahead self.now.tokens.now at)) }
+        ensures merge { Reads self.now.tokens.now at view result
+            (reading.merge (reading.expr depth)) }
         ensures within { IfOk result (λ x. at ≤ x.1) }
     {
         let (variable, next) = self.name(at)?;
@@ -368,7 +383,8 @@ impl<'t> Reader<'t> {
     #[cycle(parser)]
     #[tactic(auto, unfolding(lusyn_grammar::specs::Reading::named))]
     fn named(&self, depth: usize, name: &str, at: usize) -> Result<(Expr, usize), Stop>
-        ensures named { Gives self.now.tokens.now (λ x. (view x.0, ahead self.now.tokens.now x.1)) result (reading.named (reading.expr depth) depth name.now (ahead self.now.tokens.now at)) }
+        ensures named { Reads self.now.tokens.now at view result
+            (reading.named (reading.expr depth) depth name.now) }
         ensures within { IfOk result (λ x. at ≤ x.1) }
     {
         let name = Name::from_text(self.alloc, name)?;
@@ -383,7 +399,8 @@ impl<'t> Reader<'t> {
     #[cycle(parser)]
     #[tactic(auto, unfolding(lusyn_grammar::specs::Reading::operands))]
     fn operands(&self, depth: usize, at: usize) -> Result<(Vec<Expr>, usize), Stop>
-        ensures operands { Gives self.now.tokens.now (λ x. (views x.0.items, ahead self.now.tokens.now x.1)) result (reading.operands (reading.expr depth) depth (ahead self.now.tokens.now at)) }
+        ensures operands { Reads self.now.tokens.now at (λ a. views a.items) result
+            (reading.operands (reading.expr depth) depth) }
         ensures within { IfOk result (λ x. at ≤ x.1) }
     {
         let mut found = Vec::new(self.alloc);
@@ -406,7 +423,9 @@ impl<'t> Reader<'t> {
         mut found: Vec<Expr>,
         at: usize,
     ) -> Result<(Vec<Expr>, usize), Stop>
-        ensures operands { Gives self.now.tokens.now (λ x. (views x.0.items, ahead self.now.tokens.now x.1)) result (reading.many (reading.begins Fixed.Comma) (reading.further_operand (reading.expr depth)) turns (views found.items) (ahead self.now.tokens.now at)) }
+        ensures operands { Reads self.now.tokens.now at (λ a. views a.items) result
+            (reading.many (reading.begins Fixed.Comma)
+            (reading.further_operand (reading.expr depth)) turns (views found.items)) }
         ensures within { IfOk result (λ x. at ≤ x.1) }
     {
         let mut at = at;
@@ -431,7 +450,8 @@ impl<'t> Reader<'t> {
         least: u8,
         operand: Operand,
     ) -> Result<(Expr, usize), Stop>
-        ensures climb { Gives self.now.tokens.now (λ x. (view x.0, ahead self.now.tokens.now x.1)) result (reading.climb (reading.expr depth) turns least operand.level (view operand.found) (ahead self.now.tokens.now operand.next)) }
+        ensures climb { Reads self.now.tokens.now operand.next view result
+            (reading.climb (reading.expr depth) turns least operand.level (view operand.found)) }
         ensures within { IfOk result (λ x. operand.next ≤ x.1) }
     {
         let Operand {
@@ -479,7 +499,8 @@ impl<'t> Reader<'t> {
 impl<'t> Reader<'t> {
     /// Reads one more name, and gives the place after it.
     fn name_behind(&self, found: &mut Vec<PlacedName>, at: usize) -> Result<usize, Stop>
-        ensures name { Gives self.now.tokens.now (λ next. (names_view found.new.items, ahead self.now.tokens.now next)) result (name_behind (names_view found.old.items) (ahead self.now.tokens.now at)) }
+        ensures name { ReadsInto self.now.tokens.now at (names_view found.new.items) result
+            (name_behind (names_view found.old.items)) }
         ensures within { IfOk result (λ next. at < next) }
     {
         let byte = self.byte(at);
@@ -490,7 +511,9 @@ impl<'t> Reader<'t> {
 
     /// `{ "," ident }` after the names found
     fn further_names(&self, found: &mut Vec<PlacedName>, at: usize) -> Result<usize, Stop>
-        ensures names { Gives self.now.tokens.now (λ next. (names_view found.new.items, ahead self.now.tokens.now next)) result (reading.many (reading.begins Fixed.Comma) reading.further_name (suc (length self.now.tokens.now)) (names_view found.old.items) (ahead self.now.tokens.now at)) }
+        ensures names { ReadsInto self.now.tokens.now at (names_view found.new.items) result
+            (reading.many (reading.begins Fixed.Comma) reading.further_name
+            (suc (length self.now.tokens.now)) (names_view found.old.items)) }
         ensures within { IfOk result (λ next. at ≤ next) }
     {
         let mut next = at;
@@ -503,7 +526,8 @@ impl<'t> Reader<'t> {
     /// `ident { "," ident }`
     #[tactic(auto, unfolding(lusyn_grammar::specs::Reading::names))]
     fn names(&self, at: usize) -> Result<(Vec<PlacedName>, usize), Stop>
-        ensures names { Gives self.now.tokens.now (λ x. (names_view x.0.items, ahead self.now.tokens.now x.1)) result (reading.names (suc (length self.now.tokens.now)) (ahead self.now.tokens.now at)) }
+        ensures names { Reads self.now.tokens.now at (λ a. names_view a.items) result
+            (reading.names (suc (length self.now.tokens.now))) }
         ensures within { IfOk result (λ x. at < x.1) }
     {
         let byte = self.byte(at);
@@ -514,7 +538,7 @@ impl<'t> Reader<'t> {
     }
 
     fn kind(&self, at: usize) -> Result<(Kind, usize), Stop>
-        ensures kind { Gives self.now.tokens.now (λ x. (x.0, ahead self.now.tokens.now x.1)) result (reading.kind (ahead self.now.tokens.now at)) }
+        ensures kind { Reads self.now.tokens.now at (λ a. a) result reading.kind }
         ensures within { IfOk result (λ x. x.1 ≡ at + 1) }
     {
         match self.token(at) {
@@ -526,7 +550,7 @@ impl<'t> Reader<'t> {
 
     /// `[ "when" [ "not" ] ident ]`
     fn clocked(&self, at: usize) -> Result<(Option<Condition>, usize), Stop>
-        ensures clock { Gives self.now.tokens.now (λ x. (x.0, ahead self.now.tokens.now x.1)) result (reading.clocked (ahead self.now.tokens.now at)) }
+        ensures clock { Reads self.now.tokens.now at (λ a. a) result reading.clocked }
         ensures within { IfOk result (λ x. at ≤ x.1) }
     {
         let Some(next) = self.passed(Fixed::When, at) else {
@@ -544,7 +568,9 @@ impl<'t> Reader<'t> {
         kind: Kind,
         clock: &Option<Condition>,
     ) -> Result<(), Stop>
-        ensures ok { IfOk result (λ _. declarations_view found.new.items ≡ declarations_view found.old.items ++ map (declared kind clock.now) (names_view names.now)) }
+        ensures ok { IfOk result (λ _. declarations_view found.new.items
+            ≡ declarations_view found.old.items ++ map (declared kind clock.now)
+            (names_view names.now)) }
         ensures err { IfErr result (λ e. e ≡ Stop.OutOfMemory) }
     {
         for placed in names {
@@ -564,7 +590,9 @@ impl<'t> Reader<'t> {
     /// `ident { "," ident } ":" ( "int" | "bool" ) [ "when" [ "not" ] ident ]`
     #[tactic(auto, unfolding(lusyn_grammar::specs::Reading::declaration))]
     fn declaration(&self, found: &mut Vec<Declaration>, at: usize) -> Result<usize, Stop>
-        ensures declaration { Gives self.now.tokens.now (λ next. (declarations_view found.new.items, ahead self.now.tokens.now next)) result (reading.declaration (suc (length self.now.tokens.now)) (declarations_view found.old.items) (ahead self.now.tokens.now at)) }
+        ensures declaration { ReadsInto self.now.tokens.now at (declarations_view found.new.items)
+            result (reading.declaration (suc (length self.now.tokens.now))
+            (declarations_view found.old.items)) }
         ensures within { IfOk result (λ next. at < next) }
     {
         let (names, next) = self.names(at)?;
@@ -578,7 +606,8 @@ impl<'t> Reader<'t> {
     /// `decl { ";" decl }`
     #[tactic(auto, unfolding(lusyn_grammar::specs::Reading::declarations))]
     pub(crate) fn declarations(&self, at: usize) -> Result<(Vec<Declaration>, usize), Stop>
-        ensures declarations { Gives self.now.tokens.now (λ x. (declarations_view x.0.items, ahead self.now.tokens.now x.1)) result (reading.declarations (suc (length self.now.tokens.now)) (ahead self.now.tokens.now at)) }
+        ensures declarations { Reads self.now.tokens.now at (λ a. declarations_view a.items) result
+            (reading.declarations (suc (length self.now.tokens.now))) }
         ensures within { IfOk result (λ x. at ≤ x.1) }
     {
         let mut found = Vec::new(self.alloc);
@@ -592,7 +621,8 @@ impl<'t> Reader<'t> {
     /// `[ decls ]`
     #[tactic(auto, unfolding(lusyn_grammar::specs::Reading::inputs))]
     pub(crate) fn inputs(&self, at: usize) -> Result<(Vec<Declaration>, usize), Stop>
-        ensures declarations { Gives self.now.tokens.now (λ x. (declarations_view x.0.items, ahead self.now.tokens.now x.1)) result (reading.inputs (suc (length self.now.tokens.now)) (ahead self.now.tokens.now at)) }
+        ensures declarations { Reads self.now.tokens.now at (λ a. declarations_view a.items) result
+            (reading.inputs (suc (length self.now.tokens.now))) }
         ensures within { IfOk result (λ x. at ≤ x.1) }
     {
         if self.begins(Fixed::Close, at) {
@@ -603,7 +633,9 @@ impl<'t> Reader<'t> {
 
     /// `decl ";"`
     fn ended_declaration(&self, found: &mut Vec<Declaration>, at: usize) -> Result<usize, Stop>
-        ensures declaration { Gives self.now.tokens.now (λ next. (declarations_view found.new.items, ahead self.now.tokens.now next)) result (reading.ended_declaration (suc (length self.now.tokens.now)) (declarations_view found.old.items) (ahead self.now.tokens.now at)) }
+        ensures declaration { ReadsInto self.now.tokens.now at (declarations_view found.new.items)
+            result (reading.ended_declaration (suc (length self.now.tokens.now))
+            (declarations_view found.old.items)) }
         ensures within { IfOk result (λ next. at < next) }
     {
         let next = self.declaration(found, at)?;
@@ -613,7 +645,8 @@ impl<'t> Reader<'t> {
     /// `[ "var" decl ";" { decl ";" } ]`
     #[tactic(auto, unfolding(lusyn_grammar::specs::Reading::locals))]
     pub(crate) fn locals(&self, at: usize) -> Result<(Vec<Declaration>, usize), Stop>
-        ensures declarations { Gives self.now.tokens.now (λ x. (declarations_view x.0.items, ahead self.now.tokens.now x.1)) result (reading.locals (suc (length self.now.tokens.now)) (ahead self.now.tokens.now at)) }
+        ensures declarations { Reads self.now.tokens.now at (λ a. declarations_view a.items) result
+            (reading.locals (suc (length self.now.tokens.now))) }
         ensures within { IfOk result (λ x. at ≤ x.1) }
     {
         let mut found = Vec::new(self.alloc);
@@ -633,7 +666,8 @@ impl<'t> Reader<'t> {
     /// `ident "=" expr`
     #[tactic(auto, unfolding(lusyn_grammar::specs::Reading::single))]
     fn single(&self, at: usize) -> Result<(Equation, usize), Stop>
-        ensures equation { Gives self.now.tokens.now (λ x. (equation_view x.0, ahead self.now.tokens.now x.1)) result (reading.single (suc (length self.now.tokens.now)) (ahead self.now.tokens.now at)) }
+        ensures equation { Reads self.now.tokens.now at equation_view result
+            (reading.single (suc (length self.now.tokens.now))) }
         ensures within { IfOk result (λ x. at < x.1) }
     {
         let byte = self.byte(at);
@@ -647,7 +681,8 @@ impl<'t> Reader<'t> {
     /// `ident "(" [ expr { "," expr } ] ")"`
     #[tactic(auto, unfolding(lusyn_grammar::specs::Reading::call))]
     fn call(&self, at: usize) -> Result<(Expr, usize), Stop>
-        ensures call { Gives self.now.tokens.now (λ x. (view x.0, ahead self.now.tokens.now x.1)) result (reading.call (suc (length self.now.tokens.now)) (ahead self.now.tokens.now at)) }
+        ensures call { Reads self.now.tokens.now at view result
+            (reading.call (suc (length self.now.tokens.now))) }
         ensures within { IfOk result (λ x. at < x.1) }
     {
         let (name, next) = self.name(at)?;
@@ -659,7 +694,8 @@ impl<'t> Reader<'t> {
     /// After the parenthesis that opens them, two names and more, up to the one that closes them.
     #[tactic(auto, unfolding(lusyn_grammar::specs::Reading::tuple_names))]
     fn tuple_names(&self, at: usize) -> Result<(Vec<PlacedName>, usize), Stop>
-        ensures names { Gives self.now.tokens.now (λ x. (names_view x.0.items, ahead self.now.tokens.now x.1)) result (reading.tuple_names (suc (length self.now.tokens.now)) (ahead self.now.tokens.now at)) }
+        ensures names { Reads self.now.tokens.now at (λ a. names_view a.items) result
+            (reading.tuple_names (suc (length self.now.tokens.now))) }
         ensures within { IfOk result (λ x. at < x.1) }
     {
         let byte = self.byte(at);
@@ -674,7 +710,8 @@ impl<'t> Reader<'t> {
     /// After the parenthesis that opens the names: `ident "," ident { "," ident } ")" "=" call`
     #[tactic(auto, unfolding(lusyn_grammar::specs::Reading::tuple))]
     fn tuple(&self, at: usize, byte: usize) -> Result<(Equation, usize), Stop>
-        ensures equation { Gives self.now.tokens.now (λ x. (equation_view x.0, ahead self.now.tokens.now x.1)) result (reading.tuple (suc (length self.now.tokens.now)) (ahead self.now.tokens.now at)) }
+        ensures equation { Reads self.now.tokens.now at equation_view result
+            (reading.tuple (suc (length self.now.tokens.now))) }
         ensures within { IfOk result (λ x. at < x.1) }
     {
         let (names, next) = self.tuple_names(at)?;
@@ -686,7 +723,8 @@ impl<'t> Reader<'t> {
 
     #[tactic(auto, unfolding(lusyn_grammar::specs::Reading::equation))]
     fn equation(&self, at: usize) -> Result<(Equation, usize), Stop>
-        ensures equation { Gives self.now.tokens.now (λ x. (equation_view x.0, ahead self.now.tokens.now x.1)) result (reading.equation (suc (length self.now.tokens.now)) (ahead self.now.tokens.now at)) }
+        ensures equation { Reads self.now.tokens.now at equation_view result
+            (reading.equation (suc (length self.now.tokens.now))) }
         ensures within { IfOk result (λ x. at < x.1) }
     {
         match self.passed(Fixed::Open, at) {
@@ -697,7 +735,9 @@ impl<'t> Reader<'t> {
 
     /// `equation ";"`
     fn ended_equation(&self, found: &mut Vec<Equation>, at: usize) -> Result<usize, Stop>
-        ensures equation { Gives self.now.tokens.now (λ next. (equations_view found.new.items, ahead self.now.tokens.now next)) result (reading.ended_equation (suc (length self.now.tokens.now)) (equations_view found.old.items) (ahead self.now.tokens.now at)) }
+        ensures equation { ReadsInto self.now.tokens.now at (equations_view found.new.items) result
+            (reading.ended_equation (suc (length self.now.tokens.now))
+            (equations_view found.old.items)) }
         ensures within { IfOk result (λ next. at < next) }
     {
         let (equation, next) = self.equation(at)?;
@@ -715,7 +755,8 @@ impl<'t> Reader<'t> {
 
     #[tactic(auto, unfolding(lusyn_grammar::specs::Reading::equations))]
     pub(crate) fn equations(&self, at: usize) -> Result<(Vec<Equation>, usize), Stop>
-        ensures equations { Gives self.now.tokens.now (λ x. (equations_view x.0.items, ahead self.now.tokens.now x.1)) result (reading.equations (suc (length self.now.tokens.now)) (ahead self.now.tokens.now at)) }
+        ensures equations { Reads self.now.tokens.now at (λ a. equations_view a.items) result
+            (reading.equations (suc (length self.now.tokens.now))) }
         ensures within { IfOk result (λ x. at ≤ x.1) }
     {
         let mut found = Vec::new(self.alloc);

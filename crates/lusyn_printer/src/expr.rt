@@ -12,7 +12,8 @@ use std::alloc::AllocError;
 
 /// ` when c` or ` when not c`.
 pub(crate) fn put_when(text: &mut String, condition: &Condition) -> Result<(), AllocError>
-    ensures { IfOk result (λ _. string_bytes text.new ≡ string_bytes text.old ++ when_text condition.now) }
+    ensures { IfOk result (λ _. string_bytes text.new ≡ string_bytes text.old
+        ++ when_text condition.now) }
 {
     text.push_str(" when ")?;
     if !condition.sign {
@@ -24,7 +25,8 @@ pub(crate) fn put_when(text: &mut String, condition: &Condition) -> Result<(), A
 /// An expression in a place that asks for this level, in parentheses where it binds less tightly.
 #[cycle(printing)]
 fn put_operand(text: &mut String, e: &Expr, least: u8) -> Result<(), AllocError>
-    ensures { IfOk result (λ _. string_bytes text.new ≡ string_bytes text.old ++ expression (placed least (written (view e.now)))) }
+    ensures { IfOk result (λ _. string_bytes text.new ≡ string_bytes text.old
+        ++ expression (placed least (written (view e.now)))) }
 {
     if least <= level_of(e) {
         return put_expr(text, e);
@@ -37,7 +39,8 @@ fn put_operand(text: &mut String, e: &Expr, least: u8) -> Result<(), AllocError>
 /// An expression.
 #[cycle(printing)]
 pub(crate) fn put_expr(text: &mut String, e: &Expr) -> Result<(), AllocError>
-    ensures { IfOk result (λ _. string_bytes text.new ≡ string_bytes text.old ++ expression (written (view e.now))) }
+    ensures { IfOk result (λ _. string_bytes text.new ≡ string_bytes text.old
+        ++ expression (written (view e.now))) }
 {
     match e {
         Expr::Number(n) => write!(text, "{}", n.value()),
@@ -89,7 +92,8 @@ pub(crate) fn put_expr(text: &mut String, e: &Expr) -> Result<(), AllocError>
 /// `a, b`
 #[cycle(printing)]
 fn put_operands(text: &mut String, arguments: &[Expr]) -> Result<(), AllocError>
-    ensures { IfOk result (λ _. string_bytes text.new ≡ string_bytes text.old ++ operands (writtens (trees_of (views arguments.now)))) }
+    ensures { IfOk result (λ _. string_bytes text.new ≡ string_bytes text.old
+        ++ operands (writtens (trees_of (views arguments.now)))) }
 {
     match arguments {
         [] => Ok(()),

@@ -21,7 +21,8 @@ fn kind_text(kind: Kind) -> &'static str
 
 /// `x: int`
 fn put_declaration(text: &mut String, declared: &Declaration) -> Result<(), AllocError>
-    ensures { IfOk result (λ _. string_bytes text.new ≡ string_bytes text.old ++ declaration (declaration_view declared.now)) }
+    ensures { IfOk result (λ _. string_bytes text.new ≡ string_bytes text.old
+        ++ declaration (declaration_view declared.now)) }
 {
     text.push_str(declared.name.as_str())?;
     text.push_str(": ")?;
@@ -34,7 +35,8 @@ fn put_declaration(text: &mut String, declared: &Declaration) -> Result<(), Allo
 
 /// `x: int; y: bool`
 fn put_declarations(text: &mut String, declared: &[Declaration]) -> Result<(), AllocError>
-    ensures { IfOk result (λ _. string_bytes text.new ≡ string_bytes text.old ++ declarations (declarations_view declared.now)) }
+    ensures { IfOk result (λ _. string_bytes text.new ≡ string_bytes text.old
+        ++ declarations (declarations_view declared.now)) }
 {
     match declared {
         [] => Ok(()),
@@ -51,7 +53,8 @@ fn put_declarations(text: &mut String, declared: &[Declaration]) -> Result<(), A
 
 /// `node f(x: int; y: bool) returns (z: int);`
 fn put_heading(text: &mut String, node: &Node) -> Result<(), AllocError>
-    ensures { IfOk result (λ _. string_bytes text.new ≡ string_bytes text.old ++ heading (node_view node.now)) }
+    ensures { IfOk result (λ _. string_bytes text.new ≡ string_bytes text.old
+        ++ heading (node_view node.now)) }
 {
     write!(text, "node {}(", node.name.as_str())?;
     put_declarations(text, node.inputs.as_slice())?;
@@ -62,7 +65,8 @@ fn put_heading(text: &mut String, node: &Node) -> Result<(), AllocError>
 
 /// The line `var x: int; y: bool;`, or none.
 fn put_locals(text: &mut String, declared: &[Declaration]) -> Result<(), AllocError>
-    ensures { IfOk result (λ _. string_bytes text.new ≡ string_bytes text.old ++ locals (declarations_view declared.now)) }
+    ensures { IfOk result (λ _. string_bytes text.new ≡ string_bytes text.old
+        ++ locals (declarations_view declared.now)) }
 {
     if declared.is_empty() {
         return Ok(());
@@ -74,7 +78,8 @@ fn put_locals(text: &mut String, declared: &[Declaration]) -> Result<(), AllocEr
 
 /// `x, y`
 fn put_names(text: &mut String, names: &[Name]) -> Result<(), AllocError>
-    ensures { IfOk result (λ _. string_bytes text.new ≡ string_bytes text.old ++ joined (codes ", ") (λ x. x) names.now) }
+    ensures { IfOk result (λ _. string_bytes text.new ≡ string_bytes text.old
+        ++ joined (codes ", ") (λ x. x) names.now) }
 {
     match names {
         [] => Ok(()),
@@ -91,7 +96,8 @@ fn put_names(text: &mut String, names: &[Name]) -> Result<(), AllocError>
 
 /// `x`, or `(x, y)`
 fn put_left(text: &mut String, names: &[Name]) -> Result<(), AllocError>
-    ensures { IfOk result (λ _. string_bytes text.new ≡ string_bytes text.old ++ left_side names.now) }
+    ensures { IfOk result (λ _. string_bytes text.new ≡ string_bytes text.old
+        ++ left_side names.now) }
 {
     match names {
         [name] => text.push_str(name.as_str()),
@@ -105,7 +111,8 @@ fn put_left(text: &mut String, names: &[Name]) -> Result<(), AllocError>
 
 /// The line `  x = e;`
 fn put_equation(text: &mut String, defined: &Equation) -> Result<(), AllocError>
-    ensures { IfOk result (λ _. string_bytes text.new ≡ string_bytes text.old ++ equation (equation_view defined.now)) }
+    ensures { IfOk result (λ _. string_bytes text.new ≡ string_bytes text.old
+        ++ equation (equation_view defined.now)) }
 {
     text.push_str("  ")?;
     put_left(text, defined.left.as_slice())?;
@@ -115,7 +122,8 @@ fn put_equation(text: &mut String, defined: &Equation) -> Result<(), AllocError>
 }
 
 fn put_equations(text: &mut String, equations: &[Equation]) -> Result<(), AllocError>
-    ensures { IfOk result (λ _. string_bytes text.new ≡ string_bytes text.old ++ flat_map equation (map equation_view equations.now)) }
+    ensures { IfOk result (λ _. string_bytes text.new ≡ string_bytes text.old
+        ++ flat_map equation (map equation_view equations.now)) }
 {
     for defined in equations {
         put_equation(text, defined)?;
@@ -124,7 +132,8 @@ fn put_equations(text: &mut String, equations: &[Equation]) -> Result<(), AllocE
 }
 
 fn put_node(text: &mut String, printed: &Node) -> Result<(), AllocError>
-    ensures { IfOk result (λ _. string_bytes text.new ≡ string_bytes text.old ++ node (node_view printed.now)) }
+    ensures { IfOk result (λ _. string_bytes text.new ≡ string_bytes text.old
+        ++ node (node_view printed.now)) }
 {
     put_heading(text, printed)?;
     text.push('\n')?;
@@ -135,7 +144,8 @@ fn put_node(text: &mut String, printed: &Node) -> Result<(), AllocError>
 }
 
 fn put_nodes(text: &mut String, nodes: &[Node]) -> Result<(), AllocError>
-    ensures { IfOk result (λ _. string_bytes text.new ≡ string_bytes text.old ++ canonical (map node_view nodes.now)) }
+    ensures { IfOk result (λ _. string_bytes text.new ≡ string_bytes text.old
+        ++ canonical (map node_view nodes.now)) }
 {
     for printed in nodes {
         put_node(text, printed)?;
@@ -146,7 +156,8 @@ fn put_nodes(text: &mut String, nodes: &[Node]) -> Result<(), AllocError>
 /// The canonical text of a program, in ASCII where its names are. It fails only where memory runs out. The expressions of the
 /// program are gone into by recursion, so the stack has to hold as many calls as they are nested.
 pub fn print_program(alloc: Global, program: &Program) -> Result<String, AllocError>
-    ensures canonical { IfOk result (λ text. string_bytes text ≡ canonical (program_view program.now)) }
+    ensures canonical { IfOk result (λ text. string_bytes text
+        ≡ canonical (program_view program.now)) }
 {
     let mut text = String::new(alloc);
     put_nodes(&mut text, program.nodes.as_slice())?;

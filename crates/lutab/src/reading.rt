@@ -130,13 +130,17 @@ fn read_text(alloc: Global, inputs: &[Variable], text: &str) -> Result<Inputs, T
 /// hold, and no line takes memory of its own; the time grows with the bytes.
 pub fn read_inputs(alloc: Global, flat: &Flat, text: &str) -> Result<Inputs, TabError>
     // What is read is the table that the text spells.
-    ensures spelled { IfOk result (λ table. IsTextOf (inputs_of flat.now.variables) table text.now) }
+    ensures spelled { IfOk result (λ table. IsTextOf (inputs_of flat.now.variables) table
+        text.now) }
     // Each text that spells a table and isn't too long is read, and spells no other.
-    ensures only { (table : Table) → IsTextOf (inputs_of flat.now.variables) table text.now → is_too_long text.now ≡ false → Answers result (Ok table) }
+    ensures only { (table : Table) → IsTextOf (inputs_of flat.now.variables) table text.now
+        → is_too_long text.now ≡ false → Answers result (Ok table) }
     // What is told is true of the text, and nothing before it in order is.
-    ensures refused { IfErr result (λ e. e ≢ OutOfMemory → IsRefused (inputs_of flat.now.variables) text.now e) }
+    ensures refused { IfErr result (λ e. e ≢ OutOfMemory → IsRefused (inputs_of flat.now.variables)
+        text.now e) }
     // What is true of the text, and nothing before it in order, is told.
-    ensures refuses { (e : Refusal) → IsRefused (inputs_of flat.now.variables) text.now e → Answers result (Err e) }
+    ensures refuses { (e : Refusal) → IsRefused (inputs_of flat.now.variables) text.now e
+        → Answers result (Err e) }
     ensures fits { IfOk result (λ table. Fits flat.now table) }
 {
     read_text(alloc, flat.inputs(), text)

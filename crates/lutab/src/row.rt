@@ -56,7 +56,8 @@ fn read_fields<'a>(
     bytes: &'a [u8],
 ) -> Result<&'a [u8], LineError>
     requires { length columns.old ≡ length kinds.now }
-    ensures { FillsRow (columns_view columns.old) (columns_view columns.new) result (fields_at kinds.now bytes.now) }
+    ensures { FillsRow (columns_view columns.old) (columns_view columns.new) result
+        (fields_at kinds.now bytes.now) }
 {
     let mut rest = bytes;
     for i in 0..kinds.len() {
@@ -74,7 +75,8 @@ pub fn read_row<'a>(
     bytes: &'a [u8],
 ) -> Result<&'a [u8], LineError>
     requires { length columns.old ≡ length kinds.now }
-    ensures { FillsRow (columns_view columns.old) (columns_view columns.new) result (row_at kinds.now bytes.now) }
+    ensures { FillsRow (columns_view columns.old) (columns_view columns.new) result
+        (row_at kinds.now bytes.now) }
 {
     match kinds {
         [] => match expect(b'\n', bytes) {

@@ -48,7 +48,8 @@ fn is_bad_row(fields: usize, bytes: &[u8]) -> bool
 /// The refusal of the line with this number, which begins the bytes and is no row.
 fn fault_of(kinds: &[Kind], line: usize, bytes: &[u8]) -> TabError
     requires { IsNoRow kinds.now bytes.now }
-    ensures { (body : List ℕ) → IsReached kinds.now body line bytes.now → IsLineFault kinds.now body result }
+    ensures { (body : List ℕ) → IsReached kinds.now body line bytes.now
+        → IsLineFault kinds.now body result }
 {
     if is_bad_row(kinds.len(), bytes) {
         TabError::BadRow { line }
@@ -64,7 +65,8 @@ fn read_line<'a>(
     bytes: &'a [u8],
 ) -> Result<&'a [u8], LineError>
     requires { length columns.old ≡ length kinds.now }
-    ensures { ReadsLine kinds.now bytes.now (columns_view columns.old) (columns_view columns.new) result }
+    ensures { ReadsLine kinds.now bytes.now (columns_view columns.old) (columns_view columns.new)
+        result }
 {
     read_row(kinds, columns, bytes)
 }
@@ -77,7 +79,8 @@ pub fn read_rows(
 ) -> Result<usize, TabError>
     requires empty { AreFilled 0 kinds.now (columns_view columns.old) }
     requires short { length bytes.now ≤ longest_table }
-    ensures { ReadsLines kinds.now bytes.now (columns_view columns.old) (columns_view columns.new) result }
+    ensures { ReadsLines kinds.now bytes.now (columns_view columns.old) (columns_view columns.new)
+        result }
 {
     let mut rest = bytes;
     let mut instants: usize = 0;

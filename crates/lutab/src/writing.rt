@@ -49,7 +49,8 @@ fn put_row(
     instant: usize,
 ) -> Result<(), AllocError>
     requires { All (λ x. instant < vec_len x.1) outputs.now }
-    ensures { OnOk result (string_bytes out.new ≡ string_bytes out.old ++ line_text (statuses_at (outputs_view outputs.now) instant)) }
+    ensures { OnOk result (string_bytes out.new ≡ string_bytes out.old
+        ++ line_text (statuses_at (outputs_view outputs.now) instant)) }
 {
     for i in 0..outputs.len() {
         put_comma(out, i)?;
@@ -59,7 +60,8 @@ fn put_row(
 }
 
 fn put_header(out: &mut String, outputs: &[(String, Vec<Status>)]) -> Result<(), AllocError>
-    ensures { OnOk result (string_bytes out.new ≡ string_bytes out.old ++ names_text (outputs_view outputs.now)) }
+    ensures { OnOk result (string_bytes out.new ≡ string_bytes out.old
+        ++ names_text (outputs_view outputs.now)) }
 {
     for i in 0..outputs.len() {
         put_comma(out, i)?;

@@ -1,11 +1,20 @@
 -- What a world says of its source: for each synchronous solution of the program as it is written.
-use Rattle.std.specs.Prelude.{◌≡◌, ℕ, ◌+◌, ◌<◌, ◌≤◌, List, length, Some, slice_get}
+use Rattle.std.specs.Prelude.{◌≡◌, ℕ, ◌+◌, ◌<◌, ◌≤◌, ◌++◌, List, length, take, Some, slice_get}
 use Rattle.luflow.specs.declared.data.Status.{Status}
 use Rattle.lusource.specs.Source.{SourceStreams}
 use Rattle.luworld.specs.World.{put_count, taken_count}
 use Rattle.luworld.specs.Runs.{Run, system_of, outputs_of}
 use Rattle.lumeaning.specs.Meaning.{IsMeant, source_list, AreStatuses, BeginStatuses, NoneBreaks}
-use Rattle.luweave.specs.Worlds.{AllEnded}
+use Rattle.luflow.specs.declared.message.Msg.{Msg}
+use Rattle.luweave.specs.Worlds.{AllEnded, IsBeginning, Progress}
+
+-- what each synchronous solution of a run's source says
+abbrev pub InEachSource : Run → (SourceStreams → Type 0) → Type 0
+InEachSource job P = (σ : SourceStreams) → IsMeant job σ → P σ
+
+-- In a solution of the source: what was taken from a link, and then what waits in it, are a beginning of its list.
+abbrev pub WaitsNext : Progress → ℕ → List Msg → SourceStreams → Type 0
+WaitsNext w l waiting σ = IsBeginning (take (taken_count (system_of w.job) w.dones l) (source_list w.job σ l) ++ waiting) (source_list w.job σ l)
 
 -- output k: a beginning of its variable's statuses, and all of them where all sites have ended
 abbrev pub IsCollectedOf : Run → List ℕ → SourceStreams → ℕ → List Status → Type 0

@@ -1,5 +1,5 @@
 -- A world of sites: how many items each has done. What each turn does is `turn` and `step` of the scripts' system.
-use Rattle.std.specs.Prelude.{◌≡◌, ◌⊎◌, ℕ, ◌+◌, ◌-◌, ◌<◌, ◌≤◌, Bool, false, nat_lt, List, [], ◌∷◌, ◌++◌, length, map, Option, Some, None, slice_get, slice_set, take, vec_capacity}
+use Rattle.std.specs.Prelude.{◌≡◌, ◌⊎◌, ℕ, ◌+◌, ◌-◌, ◌<◌, ◌≤◌, Bool, false, nat_lt, List, [], ◌∷◌, ◌++◌, length, map, Option, Some, None, slice_get, slice_set, take, drop, vec_capacity}
 use Rattle.luworld.specs.declared.turn.Turn.TheVariants.{Moved}
 use Rattle.luworld.specs.World.{done, put_count, taken_count, turn, reached, NoTurnMoves}
 use Rattle.luworld.specs.Reach.{IsGood}
@@ -40,6 +40,16 @@ pub record IsWorld (job : Run) (sites : List SiteAt) (lanes : List Lane) (capaci
 pub record Progress : Type 0 where
   pub job : Run
   pub dones : List ℕ
+
+-- the list of a link, what was taken from it, and what waits in it
+abbrev pub list_of_link : Progress → ℕ → List Msg
+list_of_link w l = link_list w.job (streams_of w.job) l
+
+abbrev pub taken_of : Progress → ℕ → List Msg
+taken_of w l = take (taken_count (system_of w.job) w.dones l) (list_of_link w l)
+
+abbrev pub queued_of : Progress → ℕ → List Msg
+queued_of w l = drop (taken_count (system_of w.job) w.dones l) (take (put_count (system_of w.job) w.dones l) (list_of_link w l))
 
 -- what a put and a take do to the lanes
 pub record IsPutInto (lanes : List Lane) (l : ℕ) (x : Lane) (msg : Msg) (lanes' : List Lane) : Type 0 where

@@ -1,15 +1,16 @@
 //! All sites in one thread, by turns.
 ghost use Rattle.std.specs.Prelude.{◌≡◌, ℕ, ◌++◌, true, [], ◌+◌, ◌<◌, ◌≤◌, length, take, drop, slice_get, slice_set, slice_index, vec_capacity, List, Some, None, IfOk};
+ghost use Rattle.std.specs.Option.{ForSome};
 ghost use Rattle.lusite.specs.Machine.{IsNext, IsLocalNext, IsPutNext, IsTakeNext};
 ghost use Rattle.lusite.specs.Sites.{SiteAt};
 ghost use Rattle.luweave.specs.declared.lane.Lane.{Lane};
 ghost use Rattle.luworld.specs.Runs.{link_list, streams_of};
 ghost use Rattle.luworld.specs.World.{done, turn, step, reached, put_count, taken_count, new_world};
 ghost use Rattle.luworld.specs.Runs.{system_of, IsJob};
-ghost use Rattle.luweave.specs.Worlds.{more, IsPutInto, IsTakeFrom, room_in, some_in, IsNewWorld, IsNewLane, IsUnstuck, IsOnlyEnd, IsDone, IsCollected, IsToldBySome, IsBeginning, AllEnded};
+ghost use Rattle.luweave.specs.Worlds.{more, IsPutInto, IsTakeFrom, room_in, some_in, IsNewWorld, IsNewLane, IsUnstuck, IsOnlyEnd, IsDone, IsCollected, IsToldBySome, IsBeginning, AllEnded, list_of_link, taken_of, queued_of};
 ghost use Rattle.lusource.specs.Source.{SourceStreams};
 ghost use Rattle.lumeaning.specs.Meaning.{IsMeant, NoneBreaks, source_list};
-ghost use Rattle.luweave.specs.Headline.{IsCollectedOf, IsFaithful};
+ghost use Rattle.luweave.specs.Headline.{InEachSource, WaitsNext, IsCollectedOf, IsFaithful};
 ghost use Rattle.lusite.specs.Logs.{IsOutput};
 ghost use Rattle.luworld.specs.Runs.{NoFault, outputs_of};
 
@@ -44,15 +45,16 @@ impl Model for World {
 
 fn next_of(sites: &Vec<Site>, s: usize) -> Next
     requires { s < length sites.now.items }
-    ensures { (v : SiteAt) → slice_get sites.now.items s ≡ Some v → IsNext v.job v.site v.done result }
+    ensures { ForSome (slice_get sites.now.items s) (λ v. IsNext v.job v.site v.done result) }
 {
     sites[s].next()
 }
 
 fn work_at(sites: &mut Vec<Site>, s: usize)
     requires within { s < length sites.old.items }
-    requires next { (v : SiteAt) → slice_get sites.old.items s ≡ Some v → IsLocalNext v.job v.site v.done }
-    ensures { (v : SiteAt) → slice_get sites.old.items s ≡ Some v → sites.new.items ≡ slice_set sites.old.items s (more v) }
+    requires next { ForSome (slice_get sites.old.items s) (λ v. IsLocalNext v.job v.site v.done) }
+    ensures { ForSome (slice_get sites.old.items s) (λ v. sites.new.items
+        ≡ slice_set sites.old.items s (more v)) }
 {
     let site = &mut sites[s];
     site.work();
@@ -60,8 +62,9 @@ fn work_at(sites: &mut Vec<Site>, s: usize)
 
 fn sent_at(sites: &mut Vec<Site>, s: usize)
     requires within { s < length sites.old.items }
-    requires next { (v : SiteAt) → slice_get sites.old.items s ≡ Some v → IsPutNext v.job v.site v.done }
-    ensures { (v : SiteAt) → slice_get sites.old.items s ≡ Some v → sites.new.items ≡ slice_set sites.old.items s (more v) }
+    requires next { ForSome (slice_get sites.old.items s) (λ v. IsPutNext v.job v.site v.done) }
+    ensures { ForSome (slice_get sites.old.items s) (λ v. sites.new.items
+        ≡ slice_set sites.old.items s (more v)) }
 {
     let site = &mut sites[s];
     site.sent();
@@ -69,8 +72,10 @@ fn sent_at(sites: &mut Vec<Site>, s: usize)
 
 fn given_at(sites: &mut Vec<Site>, s: usize, msg: Msg)
     requires within { s < length sites.old.items }
-    requires next { (v : SiteAt) → slice_get sites.old.items s ≡ Some v → IsTakeNext v.job v.site v.done msg }
-    ensures { (v : SiteAt) → slice_get sites.old.items s ≡ Some v → sites.new.items ≡ slice_set sites.old.items s (more v) }
+    requires next { ForSome (slice_get sites.old.items s)
+        (λ v. IsTakeNext v.job v.site v.done msg) }
+    ensures { ForSome (slice_get sites.old.items s) (λ v. sites.new.items
+        ≡ slice_set sites.old.items s (more v)) }
 {
     let site = &mut sites[s];
     site.given(msg);
@@ -78,8 +83,10 @@ fn given_at(sites: &mut Vec<Site>, s: usize, msg: Msg)
 
 fn put_at(lanes: &mut Vec<Lane>, l: usize, msg: Msg)
     requires within { l < length lanes.old.items }
-    requires room { (x : Lane) → slice_get lanes.old.items l ≡ Some x → length x.put.items < vec_capacity x.put }
-    ensures { (x : Lane) → slice_get lanes.old.items l ≡ Some x → IsPutInto lanes.old.items l x msg lanes.new.items }
+    requires room { ForSome (slice_get lanes.old.items l)
+        (λ x. length x.put.items < vec_capacity x.put) }
+    ensures { ForSome (slice_get lanes.old.items l) (λ x. IsPutInto lanes.old.items l x msg
+        lanes.new.items) }
 {
     let lane = &mut lanes[l];
     lane.put(msg);
@@ -87,8 +94,9 @@ fn put_at(lanes: &mut Vec<Lane>, l: usize, msg: Msg)
 
 fn take_at(lanes: &mut Vec<Lane>, l: usize) -> Msg
     requires within { l < length lanes.old.items }
-    requires some { (x : Lane) → slice_get lanes.old.items l ≡ Some x → x.taken < length x.put.items }
-    ensures { (x : Lane) → slice_get lanes.old.items l ≡ Some x → IsTakeFrom lanes.old.items l x result lanes.new.items }
+    requires some { ForSome (slice_get lanes.old.items l) (λ x. x.taken < length x.put.items) }
+    ensures { ForSome (slice_get lanes.old.items l) (λ x. IsTakeFrom lanes.old.items l x result
+        lanes.new.items) }
 {
     let lane = &mut lanes[l];
     lane.take()
@@ -96,7 +104,7 @@ fn take_at(lanes: &mut Vec<Lane>, l: usize) -> Msg
 
 /// Whether the lane has room.
 fn has_room(lanes: &Vec<Lane>, l: usize, capacity: usize) -> bool
-    requires lens { (x : Lane) → slice_get lanes.now.items l ≡ Some x → x.taken ≤ length x.put.items }
+    requires lens { ForSome (slice_get lanes.now.items l) (λ x. x.taken ≤ length x.put.items) }
     ensures { result ≡ room_in lanes.now.items l capacity }
 {
     if l < lanes.len() {
@@ -164,11 +172,14 @@ impl World {
     /// have ended. Takes no memory.
     pub fn taken(&self, link: LinkNo) -> &[Msg]
         requires { link < length self.now.job.plan.links }
-        ensures exact { result.now ≡ take (taken_count (system_of self.now.job) self.now.dones link) (link_list self.now.job (streams_of self.now.job) link) }
-        ensures begins { IsBeginning result.now (link_list self.now.job (streams_of self.now.job) link) }
-        ensures whole { AllEnded self.now.job self.now.dones → result.now ≡ link_list self.now.job (streams_of self.now.job) link }
-        ensures source { (σ : SourceStreams) → IsMeant self.now.job σ → IsBeginning result.now (source_list self.now.job σ link) }
-        ensures source_whole { (σ : SourceStreams) → IsMeant self.now.job σ → AllEnded self.now.job self.now.dones → result.now ≡ source_list self.now.job σ link }
+        ensures exact { result.now ≡ taken_of self.now link }
+        ensures begins { IsBeginning result.now (list_of_link self.now link) }
+        ensures whole { AllEnded self.now.job self.now.dones → result.now
+            ≡ list_of_link self.now link }
+        ensures source { InEachSource self.now.job
+            (λ σ. IsBeginning result.now (source_list self.now.job σ link)) }
+        ensures source_whole { InEachSource self.now.job
+            (λ σ. AllEnded self.now.job self.now.dones → result.now ≡ source_list self.now.job σ link) }
     {
         taken_at(&self.lanes, link)
     }
@@ -177,11 +188,12 @@ impl World {
     /// source says it. Nothing waits where all sites have ended. Takes no memory.
     pub fn queued(&self, link: LinkNo) -> &[Msg]
         requires { link < length self.now.job.plan.links }
-        ensures exact { result.now ≡ drop (taken_count (system_of self.now.job) self.now.dones link) (take (put_count (system_of self.now.job) self.now.dones link) (link_list self.now.job (streams_of self.now.job) link)) }
+        ensures exact { result.now ≡ queued_of self.now link }
         ensures within { length result.now ≤ self.now.job.plan.capacity }
-        ensures follows { IsBeginning (take (taken_count (system_of self.now.job) self.now.dones link) (link_list self.now.job (streams_of self.now.job) link) ++ result.now) (link_list self.now.job (streams_of self.now.job) link) }
+        ensures follows { IsBeginning (taken_of self.now link ++ result.now)
+            (list_of_link self.now link) }
         ensures none { AllEnded self.now.job self.now.dones → result.now ≡ [] }
-        ensures source { (σ : SourceStreams) → IsMeant self.now.job σ → IsBeginning (take (taken_count (system_of self.now.job) self.now.dones link) (source_list self.now.job σ link) ++ result.now) (source_list self.now.job σ link) }
+        ensures source { InEachSource self.now.job (WaitsNext self.now link result.now) }
     {
         queued_at(&self.lanes, link)
     }
@@ -211,7 +223,12 @@ impl World {
     /// A site of the world as it stands. Takes no memory.
     pub fn site(&self, site: u8) -> &Site
         requires { site < length self.now.dones }
-        ensures { result.now ≡ record { job = self.now.job; site = site; done = done self.now.dones site } }
+        ensures { result.now ≡ record {
+          job = self.now.job;
+          site = site;
+          done = done self.now.dones
+              site;
+        } }
     {
         site_in(&self.sites, site as usize)
     }
@@ -226,16 +243,16 @@ fn site_in(sites: &Vec<Site>, s: usize) -> &Site
 
 fn taken_at(lanes: &Vec<Lane>, l: usize) -> &[Msg]
     requires within { l < length lanes.now.items }
-    requires order { (x : Lane) → slice_get lanes.now.items l ≡ Some x → x.taken ≤ length x.put.items }
-    ensures { (x : Lane) → slice_get lanes.now.items l ≡ Some x → result.now ≡ take x.taken x.put.items }
+    requires order { ForSome (slice_get lanes.now.items l) (λ x. x.taken ≤ length x.put.items) }
+    ensures { ForSome (slice_get lanes.now.items l) (λ x. result.now ≡ take x.taken x.put.items) }
 {
     lanes[l].taken()
 }
 
 fn queued_at(lanes: &Vec<Lane>, l: usize) -> &[Msg]
     requires within { l < length lanes.now.items }
-    requires order { (x : Lane) → slice_get lanes.now.items l ≡ Some x → x.taken ≤ length x.put.items }
-    ensures { (x : Lane) → slice_get lanes.now.items l ≡ Some x → result.now ≡ drop x.taken x.put.items }
+    requires order { ForSome (slice_get lanes.now.items l) (λ x. x.taken ≤ length x.put.items) }
+    ensures { ForSome (slice_get lanes.now.items l) (λ x. result.now ≡ drop x.taken x.put.items) }
 {
     lanes[l].queued()
 }
@@ -243,7 +260,8 @@ fn queued_at(lanes: &Vec<Lane>, l: usize) -> &[Msg]
 /// Empty lanes with room for all messages of a run.
 fn new_lanes(alloc: Global, links: usize, room: u32) -> Result<Vec<Lane>, AllocError>
     ensures len { IfOk result (λ x. length x.items ≡ links) }
-    ensures each { IfOk result (λ x. (l : ℕ) (y : Lane) → slice_get x.items l ≡ Some y → IsNewLane room y) }
+    ensures each { IfOk result (λ x. (l : ℕ) → ForSome (slice_get x.items l)
+        (λ y. IsNewLane room y)) }
 {
     let mut lanes = Vec::with_capacity(alloc, links)?;
     for _ in 0..links {
@@ -255,7 +273,7 @@ fn new_lanes(alloc: Global, links: usize, room: u32) -> Result<Vec<Lane>, AllocE
 
 fn instants_of(sites: &Vec<Site>) -> u32
     requires { 0 < length sites.now.items }
-    ensures instants { (v : SiteAt) → slice_get sites.now.items 0 ≡ Some v → result ≡ v.job.inputs.instants }
+    ensures instants { ForSome (slice_get sites.now.items 0) (λ v. result ≡ v.job.inputs.instants) }
     ensures job { (v : SiteAt) → slice_get sites.now.items 0 ≡ Some v → IsJob v.job }
 {
     sites[0].instants()
@@ -263,7 +281,8 @@ fn instants_of(sites: &Vec<Site>) -> u32
 
 fn output_in(sites: &Vec<Site>, s: usize, k: usize) -> &[Status]
     requires { s < length sites.now.items }
-    ensures { (v : SiteAt) → slice_get sites.now.items s ≡ Some v → IsOutput v.job v.site v.done k result.now }
+    ensures { ForSome (slice_get sites.now.items s) (λ v. IsOutput v.job v.site v.done k
+        result.now) }
 {
     sites[s].outputs(k)
 }
@@ -283,8 +302,8 @@ fn has_ended(sites: &Vec<Site>, s: usize) -> bool
 }
 
 fn all_ended(sites: &Vec<Site>) -> bool
-    ensures only { result ≡ true → (s : ℕ) (v : SiteAt) → slice_get sites.now.items s ≡ Some v → IsDone v }
-    ensures all { ((s : ℕ) (v : SiteAt) → slice_get sites.now.items s ≡ Some v → IsDone v) → result ≡ true }
+    ensures only { result ≡ true → (s : ℕ) → ForSome (slice_get sites.now.items s) (λ v. IsDone v) }
+    ensures all { ((s : ℕ) → ForSome (slice_get sites.now.items s) (λ v. IsDone v)) → result ≡ true }
 {
     for s in 0..sites.len() {
         if !has_ended(sites, s) {
@@ -313,7 +332,8 @@ impl World {
     pub fn outputs(&self, k: usize) -> &[Status]
         ensures collected { IsCollected self.now.job self.now.dones k result.now }
         ensures beyond { slice_get (outputs_of self.now.job.plan) k ≡ None → result.now ≡ [] }
-        ensures source { (σ : SourceStreams) → IsMeant self.now.job σ → IsCollectedOf self.now.job self.now.dones σ k result.now }
+        ensures source { InEachSource self.now.job
+            (λ σ. IsCollectedOf self.now.job self.now.dones σ k result.now) }
     {
         outputs_in(&self.sites, k)
     }
@@ -323,7 +343,8 @@ impl World {
         ensures only { result ≡ true → AllEnded self.now.job self.now.dones }
         ensures all { AllEnded self.now.job self.now.dones → result ≡ true }
         ensures sound { result ≡ true → NoFault self.now.job }
-        ensures source { (σ : SourceStreams) → IsMeant self.now.job σ → result ≡ true → NoneBreaks self.now.job σ }
+        ensures source { InEachSource self.now.job (λ σ. result ≡ true
+            → NoneBreaks self.now.job σ) }
     {
         all_ended(&self.sites)
     }
@@ -332,7 +353,7 @@ impl World {
     /// handed the inputs.
     pub fn new(alloc: Global, plan: &Plan, sites: Vec<Site>) -> Result<World, AllocError>
         requires { IsNewWorld plan.now sites.items }
-        ensures job { IfOk result (λ x. (v : SiteAt) → slice_get sites.items 0 ≡ Some v → x.job ≡ v.job) }
+        ensures job { IfOk result (λ x. ForSome (slice_get sites.items 0) (λ v. x.job ≡ v.job)) }
         ensures dones { IfOk result (λ x. x.dones ≡ new_world (system_of x.job)) }
     {
         let instants = instants_of(&sites);
@@ -355,7 +376,7 @@ pub fn replay(
     schedule: &[u8],
 ) -> Result<World, AllocError>
     requires { IsNewWorld plan.now sites.items }
-    ensures job { IfOk result (λ x. (v : SiteAt) → slice_get sites.items 0 ≡ Some v → x.job ≡ v.job) }
+    ensures job { IfOk result (λ x. ForSome (slice_get sites.items 0) (λ v. x.job ≡ v.job)) }
     ensures dones { IfOk result (λ x. x.dones ≡ reached (system_of x.job) schedule.now) }
     ensures unstuck { IfOk result (λ x. IsUnstuck x.job x.dones) }
     ensures same_end { IfOk result (λ x. IsOnlyEnd x.job x.dones) }
