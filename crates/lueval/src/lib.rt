@@ -20,11 +20,7 @@ mod machine;
 mod operation;
 mod operators;
 mod outputs;
-#[cfg(test)]
-mod programs;
 mod streams;
-#[cfg(test)]
-mod tests;
 
 pub use error::EvalError;
 pub use evaluator::{whole, whole_outputs};

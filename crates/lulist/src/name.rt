@@ -59,20 +59,3 @@ impl Name {
         self.text.as_str() == text
     }
 }
-
-#[cfg(test)]
-mod tests {
-    use super::*;
-    use std::test::Fail;
-
-    #[test]
-    fn a_name_has_its_text(rt: HostRuntime) -> Result<(), Fail> {
-        let name = Name::new(String::from_str(rt.alloc(), "speed")?);
-        let again = name.copied(rt.alloc())?;
-        assert_eq!(rt; again.as_str(), "speed");
-        assert!(rt; again.is("speed"));
-        assert!(rt; !again.is("speeds"));
-        assert_eq!(rt; Name::from_text(rt.alloc(), "")?.as_str(), "");
-        Ok(())
-    }
-}

@@ -68,29 +68,3 @@ impl From<u32> for Number {
         }
     }
 }
-
-#[cfg(test)]
-mod tests {
-    use super::*;
-    use std::test::Fail;
-
-    #[test]
-    fn a_number_has_its_value(rt: HostRuntime) -> Result<(), Fail> {
-        assert_eq!(rt; Number::new(7).map(|n| n.value()), Some(7));
-        assert_eq!(rt;
-            Number::new(9_223_372_036_854_775_807).map(|n| n.value()),
-            Some(9_223_372_036_854_775_807)
-        );
-        assert_eq!(rt;
-            Number::new(9_223_372_036_854_775_808).map(|n| n.value()),
-            None
-        );
-        assert_eq!(rt; Number::from(7).value(), 7);
-        assert_eq!(rt; Number::at_most(8).value(), 8);
-        assert_eq!(rt;
-            Number::at_most(9_223_372_036_854_775_808).value(),
-            9_223_372_036_854_775_807
-        );
-        Ok(())
-    }
-}

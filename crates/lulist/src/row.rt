@@ -33,16 +33,3 @@ impl<T> Row<T> {
         self.items.as_slice()
     }
 }
-
-#[cfg(test)]
-mod tests {
-    use super::*;
-    use std::test::Fail;
-
-    #[test]
-    fn a_row_has_its_items(rt: HostRuntime) -> Result<(), Fail> {
-        let row = Row::new(vec![in rt.alloc(); 3, 1, 2]?);
-        assert_eq!(rt; row.as_slice(), [3, 1, 2].as_slice());
-        Ok(())
-    }
-}

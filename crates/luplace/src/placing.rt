@@ -131,14 +131,3 @@ pub fn sites_for(alloc: Global, flat: &Flat, place: &Place) -> Result<Vec<u8>, P
     }
     Ok(sites)
 }
-
-#[cfg(test)]
-mod tests {
-    use super::*;
-
-    #[test]
-    fn two_variables_of_one_call_stand_together(rt: HostRuntime) {
-        assert!(rt; are_together(&[0, 0, 2], &[1, 1, 0]));
-        assert!(rt; !are_together(&[0, 0, 2], &[1, 0, 0]));
-    }
-}

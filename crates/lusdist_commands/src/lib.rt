@@ -9,21 +9,11 @@
 //! It is a library, so that it is checked without the linking of a program; `lusdist` is its `main`.
 #![tactic(auto)]
 
-#[cfg(test)]
-mod checks;
 pub mod evaluating;
-#[cfg(test)]
-mod evaluations;
-#[cfg(test)]
-mod examples;
-#[cfg(test)]
-mod schedules;
 mod serve;
 pub mod sites;
 pub mod sources;
 mod stop;
-#[cfg(test)]
-mod tests;
 pub mod text;
 
 pub use serve::{replayed, serve_words};

@@ -191,7 +191,8 @@ fn of_two_refusals_the_first_is_told(rt: HostRuntime) {
 }
 
 fn column_of_x(alloc: Global) -> Result<Vec<(String, Vec<Datum>)>, AllocError>
-    ensures { IfOk result (λ columns. data_of (slice_get (columns_view columns.items) 0) ≡ Datum.Int (pos 5) ∷ Datum.Int (pos 7) ∷ []) }
+    ensures { IfOk result (λ columns. data_of (slice_get (columns_view columns.items) 0)
+        ≡ Datum.Int (pos 5) ∷ Datum.Int (pos 7) ∷ []) }
 {
     let values = vec![in alloc; Datum::Int(5), Datum::Int(7)]?;
     let name = String::from_str(alloc, "x")?;

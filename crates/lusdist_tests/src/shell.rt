@@ -32,7 +32,7 @@ impl Files for OneFile {
 
 /// A stream that takes nothing.
 #[derive(Drop)]
-struct Full;
+pub(crate) struct Full;
 
 impl Write for Full {
     fn write(&mut self, _buf: &[u8]) -> io::Result<usize> {
@@ -127,7 +127,8 @@ fn lines_of_the_schedules_refusals(rt: HostRuntime) -> Result<(), Fail> {
     Ok(())
 }
 
-fn words(alloc: Global, all: &[&str]) -> Result<Vec<String>, AllocError> {
+/// The words of a command line.
+pub(crate) fn words(alloc: Global, all: &[&str]) -> Result<Vec<String>, AllocError> {
     let mut words = Vec::new(alloc);
     for word in all {
         words.push(String::from_str(alloc, *word)?)?;

@@ -3,12 +3,11 @@
 ghost use Rattle.std.specs.Prelude.{◌≡◌};
 ghost use Rattle.lusdist_plain.specs.Scripts.{AreScripts};
 
-use crate::serve::replayed;
-use crate::sources::{flat_of, job_of, plan_of};
-use crate::stop::Stop;
 use luflow::{Msg, Status};
 use lulist::Row;
 use luplace::Job;
+use lusdist_commands::sources::{flat_of, job_of, plan_of};
+use lusdist_commands::{Stop, replayed};
 use lusdist_plain::{Item, Mark, Marks, list_of_link, marks_of, scripts_of, world_by};
 use luweave::World;
 use std::alloc::{AllocError, Global};

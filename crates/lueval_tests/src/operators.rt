@@ -1,6 +1,6 @@
 //! Each operator and each form at a few data, counted by hand.
 
-use super::*;
+use lueval::{Datum, Past, Status, choice, clock_now, datum_at, double, kept, single, value};
 use luflow::{Clock, FaultKind, Form, Outcome};
 use lutree::{BinaryOperator, UnaryOperator};
 use std::test::Fail;

@@ -4,7 +4,7 @@ ghost use Rattle.std.specs.Prelude.{◌≡◌, ◌∷◌, [], codes, length, IfO
 ghost use Rattle.luflow.specs.Tables.{columns_view};
 ghost use Rattle.luflow.specs.Vectors.{int_flow, truth_flow, division, one_zero, one_two, held_sample, three_samples};
 
-use super::*;
+use lueval::{Datum, EvalError, Inputs, Status, Streams, whole, whole_outputs};
 use luflow::laws::solution_vectors_law;
 use luflow::{Clock, FaultKind, Flat, Flow, Form, Outputs, Role, Variable};
 use lulist::{Name, Row};
@@ -47,7 +47,8 @@ fn variable(alloc: Global, name: &str, role: Role, kind: Kind) -> Result<Variabl
 }
 
 fn column(alloc: Global, values: Vec<Datum>) -> Result<Vec<(String, Vec<Datum>)>, AllocError>
-    ensures { IfOk result (λ columns. columns_view columns.items ≡ record { name = codes "x"; values = values.items } ∷ []) }
+    ensures { IfOk result (λ columns. columns_view columns.items
+        ≡ record { name = codes "x"; values = values.items } ∷ []) }
 {
     let name = String::from_str(alloc, "x")?;
     Ok(vec![in alloc; (name, values)]?)

@@ -1,0 +1,136 @@
+//! What the program answers to whole commands. The input is a transcript of cases with no answers in it, and the output is
+//! the same transcript with what each command answers; README.md has the form of its lines.
+#![tactic(auto)]
+
+use lusdist_commands::serve_words;
+use lusdist_shell::{Files, ReadError, RealFiles};
+use std::alloc::{AllocError, Global};
+use std::io;
+use std::io::Write;
+
+/// The longest output that is written whole, in bytes.
+const LONGEST: usize = 65_536;
+
+/// The files of a case: the newest text of a name, or else a real file.
+#[derive(Drop)]
+struct Case<'a> {
+    texts: Vec<(String, Vec<u8>)>,
+    real: RealFiles<'a, HostRuntime>,
+}
+
+impl Files for Case<'_> {
+    ghost gives = { λ _ _ _. Unit {0} };
+
+    fn read(&self, alloc: Global, path: &str) -> Result<Vec<u8>, ReadError> {
+        match self.texts.iter().rev().find(|file| file.0.as_str() == path) {
+            Some(file) => Vec::from_slice(alloc, &file.1).map_err(|_| ReadError::OutOfMemory),
+            None => self.real.read(alloc, path),
+        }
+    }
+}
+
+/// Adds what stands behind a backslash: a line feed for `n`, or the byte of two hexadecimal digits, and then the rest.
+fn push_escaped(bytes: &mut Vec<u8>, part: &str) -> Result<(), AllocError> {
+    if let Some(rest) = part.strip_prefix('n') {
+        bytes.push(b'\n')?;
+        return bytes.extend_from_slice(rest.as_bytes());
+    }
+    if let Some((digits, rest)) = part.split_at_checked(2) {
+        bytes.push(u8::from_str_radix(digits, 16).unwrap_or(b'?'))?;
+        bytes.extend_from_slice(rest.as_bytes())?;
+    }
+    Ok(())
+}
+
+/// The bytes of a text.
+fn bytes_of(alloc: Global, text: &str) -> Result<Vec<u8>, AllocError> {
+    let mut bytes = Vec::new(alloc);
+    for (number, part) in text.split('\\').enumerate() {
+        if number == 0 {
+            bytes.extend_from_slice(part.as_bytes())?;
+        } else {
+            push_escaped(&mut bytes, part)?;
+        }
+    }
+    Ok(bytes)
+}
+
+/// A new file of this name and text.
+fn add_file(alloc: Global, case: &mut Case<'_>, name: &str, text: &str) -> Result<(), AllocError> {
+    let bytes = bytes_of(alloc, text)?;
+    Ok(case.texts.push((String::from_str(alloc, name)?, bytes))?)
+}
+
+/// The text so many times more, at the end of the newest file.
+fn add_more(
+    alloc: Global,
+    case: &mut Case<'_>,
+    times: usize,
+    text: &str,
+) -> Result<(), AllocError> {
+    let bytes = bytes_of(alloc, text)?;
+    if let Some(file) = case.texts.last_mut() {
+        for _ in 0..times {
+            file.1.extend_from_slice(&bytes)?;
+        }
+    }
+    Ok(())
+}
+
+fn words_of(alloc: Global, line: &str) -> Result<Vec<String>, AllocError> {
+    let mut words = Vec::new(alloc);
+    for word in line.split_whitespace() {
+        words.push(String::from_str(alloc, word)?)?;
+    }
+    Ok(words)
+}
+
+/// Writes what a command wrote to its output: whole, or how long it is and how it ends.
+fn put_output(rt: &HostRuntime, out: &[u8]) -> io::Result<()> {
+    if out.len() <= LONGEST {
+        return rt.stdout().write_all(out);
+    }
+    println!(rt; "{} bytes, the last ten of which are", out.len())?;
+    rt.stdout().write_all(&out[out.len() - 10..])
+}
+
+/// Writes what a command answers: its output, behind `! ` what went to the error stream, and behind `= ` its status.
+fn put_answer(rt: &HostRuntime, case: &Case<'_>, line: &str) -> io::Result<()> {
+    let words = words_of(rt.alloc(), line)?;
+    let mut out = Vec::new(rt.alloc());
+    let mut err = Vec::new(rt.alloc());
+    let status = serve_words(rt.alloc(), &words, case, &mut out, &mut err);
+    put_output(rt, &out)?;
+    if !err.is_empty() {
+        print!(rt; "! ")?;
+        rt.stdout().write_all(&err)?;
+    }
+    println!(rt; "= {status}")
+}
+
+/// Does what a line says.
+fn take_line(rt: &HostRuntime, case: &mut Case<'_>, line: &str) -> io::Result<()> {
+    let (mark, rest) = line.split_once(' ').unwrap_or((line, ""));
+    let (name, text) = rest.split_once(' ').unwrap_or((rest, ""));
+    match mark {
+        "#" => case.texts.clear(),
+        "file" => add_file(rt.alloc(), case, name, text)?,
+        "more" => add_more(rt.alloc(), case, name.parse().unwrap_or(0), text)?,
+        "$" => put_answer(rt, case, rest)?,
+        _ => {}
+    }
+    Ok(())
+}
+
+fn main(rt: HostRuntime) -> io::Result<()> {
+    let mut case = Case {
+        texts: Vec::new(rt.alloc()),
+        real: RealFiles::new(&rt),
+    };
+    for line in rt.lines(rt.alloc()) {
+        let line = line?;
+        println!(rt; "{line}")?;
+        take_line(&rt, &mut case, line.as_str())?;
+    }
+    Ok(())
+}
