@@ -1,12 +1,12 @@
 -- What each stage tells is told first.
-use Rattle.std.proofs.Common.{◌≡◌, ◌∙◌, ◌<◌, ◌≤◌, ◌/◌, ◌⊎◌, inl, inr, ℕ, List, Option, Some, None, refl, sym, ap, subst, arith}
+use Rattle.std.proofs.Common.{◌≡◌, ◌∙◌, ◌≤◌, ◌/◌, inl, inr, ℕ, List, Option, Some, None, refl, ap, arith}
 use Rattle.lutree.specs.declared.program.Program.{Program}
 use Rattle.lutree.specs.Tree.{program_view}
-use Rattle.lustat_rules.specs.Accepted.{Rule, duplicate_name, unknown_name, unknown_node, type_mismatch, wrong_arity, undefined, defined_twice, recursive_node, no_main, clock_mismatch, not_a_clock, clocked_parameter, hidden_clock, maybe_nil, current_may_be_nil, number, stage}
+use Rattle.lustat_rules.specs.Accepted.{Rule, duplicate_name, unknown_name, unknown_node, type_mismatch, wrong_arity, undefined, defined_twice, recursive_node, no_main, clock_mismatch, not_a_clock, clocked_parameter, hidden_clock, maybe_nil, current_may_be_nil, stage}
 use Rattle.lustat_rules.specs.declared.error.StatError.{StatError}
 use Rattle.lustat_rules.specs.declared.error.StatError.TheVariants.{DuplicateName, UnknownName, UnknownNode, TypeMismatch, WrongArity, Undefined, DefinedTwice, RecursiveNode, ClockMismatch, NotAClock, ClockedParameter, HiddenClock, MaybeNil, CurrentMayBeNil, NoMain, OutOfMemory}
-use Rattle.lustat_rules.specs.Told.{rule_of, number_of, number_told, RuleTold, Tells}
-use Rattle.lustat_rules.specs.Faults.{IsAtMost, IsJudged, IsFault, AreKept}
+use Rattle.lustat_rules.specs.Told.{rule_of, number_told, RuleTold, Tells}
+use Rattle.lustat_rules.specs.Faults.{IsJudged, IsFault, AreKept}
 use Rattle.lustat_scope.proofs.Keeping.{broken_somewhere}
 use Rattle.lutype.specs.Named.{IsToldFirst as IsFirstOfNames}
 use Rattle.lustat_clocks.specs.Asked.{is_asked}

@@ -1,11 +1,11 @@
 -- From the stages to the whole check.
-use Rattle.std.proofs.Common.{◌≡◌, ◌∙◌, ◌<◌, ◌≤◌, ℕ, List, Option, Some, None, IsTrue, refl, sym, ap, subst, arith, true≢false}
+use Rattle.std.proofs.Common.{◌≡◌, ◌<◌, ℕ, List, Option, Some, None, IsTrue, refl, sym, subst, arith, true≢false}
 use Rattle.lutree.specs.declared.program.Program.{Program}
 use Rattle.lutree.specs.Tree.{ProgramTree, program_view}
-use Rattle.lustat_rules.specs.Accepted.{Rule, duplicate_name, unknown_name, unknown_node, type_mismatch, wrong_arity, undefined, defined_twice, recursive_node, no_main, clock_mismatch, not_a_clock, clocked_parameter, hidden_clock, maybe_nil, current_may_be_nil, stage, Keeps, Breaks, Passes, IsNamed, IsAccepted, IsRefused}
+use Rattle.lustat_rules.specs.Accepted.{Rule, duplicate_name, unknown_name, unknown_node, type_mismatch, wrong_arity, undefined, defined_twice, recursive_node, no_main, clock_mismatch, not_a_clock, clocked_parameter, hidden_clock, maybe_nil, current_may_be_nil, stage, Keeps, Passes, IsNamed, IsAccepted}
 use Rattle.lustat_rules.specs.declared.error.StatError.{StatError}
 use Rattle.lustat_rules.specs.Told.{rule_of, RuleTold, Tells}
-use Rattle.lustat_rules.specs.Faults.{IsJudged, IsFault, AreKept}
+use Rattle.lustat_rules.specs.Faults.{IsFault, AreKept}
 use Rattle.lustat_scope.proofs.Keeping.{broken_somewhere}
 use Rattle.lustat_clocks.specs.Asked.{is_asked}
 use Rattle.lustat_classes.specs.Faults.{TellsBroken}

@@ -1,6 +1,7 @@
 //! A program that keeps all rules.
 
 ghost use Rattle.std.specs.Prelude.{◌≡◌, ◌<◌, Some, length, slice_get};
+ghost use Rattle.std.specs.Option.{ForSome};
 ghost use Rattle.lutree.specs.Tree.{NodeTree, program_view};
 ghost use Rattle.lustat_rules.specs.Accepted.{IsAccepted};
 ghost use Rattle.lustat_rules.specs.Naming.{IsCallOrder};
@@ -42,8 +43,20 @@ impl<'a> Model for Checked<'a> {
 impl<'a> Checked<'a> {
     // What the checks found in order.
     pub(crate) fn new(typed: Typed<'a>, classes: Vec<Vec<bool>>) -> Checked<'a>
-        requires { IsSound (record { program = typed.program; main = typed.main; order = typed.order; classes = plain classes.items }) }
-        ensures { result ≡ record { program = typed.entry.program; main = typed.entry.main; order = typed.entry.order; classes = plain classes.items } }
+        requires { IsSound (record {
+          program = typed.program;
+          main = typed.main;
+          order =
+              typed.order;
+          classes = plain classes.items;
+        }) }
+        ensures { result ≡ record {
+          program = typed.entry.program;
+          main = typed.entry.main;
+          order =
+              typed.entry.order;
+          classes = plain classes.items;
+        } }
     {
         Checked { typed, classes }
     }
@@ -83,7 +96,8 @@ impl<'a> Checked<'a> {
     pub fn classes(&self, node: usize) -> &[bool]
         requires { node < length self.now.program.nodes }
         ensures classes { result.now ≡ row_at self.now.classes node }
-        ensures meets { (n : NodeTree) → slice_get (program_view self.now.program) node ≡ Some n → Meets (assigned n result.now) n }
+        ensures meets { ForSome (slice_get (program_view self.now.program) node)
+            (λ n. Meets (assigned n result.now) n) }
     {
         self.classes[node].as_slice()
     }

@@ -10,4 +10,5 @@ mod checked;
 mod stages;
 
 pub use checked::Checked;
+pub use lustat_rules::StatError;
 pub use stages::check;

@@ -21,7 +21,8 @@ fn last_stage(alloc: Global, typed: Typed<'_>) -> Result<Checked<'_>, StatError>
     requires { AreKept is_asked typed.program typed.main }
     ensures program { IfOk result (λ checked. checked.program ≡ typed.entry.program) }
     ensures main { IfOk result (λ checked. checked.main ≡ typed.entry.main) }
-    ensures accepted { IfOk result (λ _. IsAccepted (program_view typed.entry.program) typed.entry.main) }
+    ensures accepted { IfOk result (λ _. IsAccepted (program_view typed.entry.program)
+        typed.entry.main) }
     ensures told { IfErr result (Tells 3 (program_view typed.entry.program) typed.entry.main) }
     ensures first { IfErr result (IsToldFirst typed.entry.program typed.entry.main) }
 {

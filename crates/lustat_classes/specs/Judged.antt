@@ -4,9 +4,15 @@ use Rattle.std.specs.Borrow.{Bor}
 use Rattle.lutree.specs.declared.program.Declaration.{Declaration}
 use Rattle.lutree.specs.Tree.{DeclarationTree, EquationTree, NodeTree, declaration_view}
 use Rattle.lustat_rules.specs.Scope.{Clock, declarations_of, IsInput, IsOutput}
+use Rattle.lustat_rules.specs.Clocks.{clocks_in}
 use Rattle.lustat_rules.specs.Classes.{Classes, is_one, NeedsMet, Meets, HasClasses, IsLeast}
 use Rattle.lustat_classes.specs.Assigned.{IsCaused}
 
+-- names that are lent
+abbrev pub spelled : List (Bor (List ℕ)) → List (List ℕ)
+spelled = map (λ x. x.now)
+
+-- the name in a declared clock
 abbrev pub clock_names_of : Clock → List (List ℕ)
 clock_names_of None = []
 clock_names_of (Some c) = c.variable ∷ []
@@ -16,18 +22,27 @@ abbrev pub clock_names : List DeclarationTree → List (List ℕ)
 clock_names [] = []
 clock_names (d ∷ ds) = clock_names_of d.clock ++ clock_names ds
 
+-- what `when` and `merge` name in equations
+abbrev pub sampler_names : List EquationTree → List (List ℕ)
+sampler_names [] = []
+sampler_names (q ∷ qs) = clocks_in q.right ++ sampler_names qs
+
+-- the variables of a node that clocks name: the clocks of declarations, and `when` and `merge`
+abbrev pub clock_variables : NodeTree → List (List ℕ)
+clock_variables n = clock_names (declarations_of n) ++ sampler_names n.equations
+
 -- declarations that are lent
 abbrev pub lent_view : List (Bor Declaration) → List DeclarationTree
 lent_view = map (λ d. declaration_view d.now)
 
--- a variable is no input, no output and in no declared clock
+-- a variable is no input and no output, and no clock names it
 pub record IsFree (n : NodeTree) (x : List ℕ) : Type 0 where
   pub input : ¬ IsInput n x
   pub output : ¬ IsOutput n x
-  pub clock : ¬ Contains (clock_names (declarations_of n)) x
+  pub clock : ¬ Contains (clock_variables n) x
 
 -- An equation keeps the rules of classes: what its right side needs is there, and where it is of class 1 it defines no input,
--- no output and no variable of a clock.
+-- no output and no variable that a clock names.
 pub record KeepsClasses (a : Classes) (n : NodeTree) (q : EquationTree) : Type 0 where
   pub needs : NeedsMet a q.right
   pub held : IsTrue (is_one a q.right) → All (IsFree n) q.left

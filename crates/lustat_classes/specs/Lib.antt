@@ -6,3 +6,4 @@ pub mod Currents
 pub mod Tables
 pub mod Faults
 pub mod Rows
+pub mod Served

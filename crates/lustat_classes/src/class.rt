@@ -37,7 +37,7 @@ pub fn is_one(scope: &Scope, marks: &[bool], e: &Expr) -> bool
 }
 
 /// Whether what an expression needs in class 0 is there: what stands after `pre`, on the right of `fby` and in a branch of `merge`, the
-/// variables after `current`, `when` and `merge`, and the arguments of calls. Takes no memory.
+/// variable after `current`, and the arguments of calls. Takes no memory.
 ///
 /// The expected time grows with the length of the expression: a class never comes from behind what needs one, so no part is looked at
 /// for more than one need.
@@ -56,13 +56,10 @@ pub fn needs_met(scope: &Scope, marks: &[bool], e: &Expr) -> bool
         Expr::If(c, a, b) => {
             needs_met(scope, marks, c) && needs_met(scope, marks, a) && needs_met(scope, marks, b)
         }
-        Expr::When(a, c) => {
-            !class_of(scope, marks, c.variable.as_str()) && needs_met(scope, marks, a)
-        }
+        Expr::When(a, _) => needs_met(scope, marks, a),
         Expr::Current(x) => !class_of(scope, marks, x.as_str()),
-        Expr::Merge(c, a, b) => {
-            !class_of(scope, marks, c.as_str())
-                && !is_one(scope, marks, a)
+        Expr::Merge(_, a, b) => {
+            !is_one(scope, marks, a)
                 && needs_met(scope, marks, a)
                 && !is_one(scope, marks, b)
                 && needs_met(scope, marks, b)
@@ -74,7 +71,8 @@ pub fn needs_met(scope: &Scope, marks: &[bool], e: &Expr) -> bool
 // Whether all arguments of a call are of class 0 and have what they need.
 #[cycle(needs)]
 fn all_ready(scope: &Scope, marks: &[bool], arguments: &[Expr]) -> bool
-    ensures { IsTrue result ↔ AllReady (assigned (node_view scope.now) marks.now) (trees_of (views arguments.now)) }
+    ensures { IsTrue result
+        ↔ AllReady (assigned (node_view scope.now) marks.now) (trees_of (views arguments.now)) }
 {
     for a in arguments {
         if !is_one(scope, marks, a) && needs_met(scope, marks, a) {

@@ -59,7 +59,8 @@ fn begun<'a>(
     equations: &'a [Equation],
     sign: bool,
 ) -> Result<Vec<&'a str>, AllocError>
-    ensures { IfOk result (λ names. AreBegun sign (map equation_view equations.now) (map (λ x. x.now) names.items)) }
+    ensures { IfOk result (λ names. AreBegun sign (map equation_view equations.now)
+        (map (λ x. x.now) names.items)) }
 {
     let mut names = Vec::new(alloc);
     for q in equations {
@@ -126,7 +127,8 @@ impl<'a> Firsts<'a> {
 
     /// Whether a clock is true at the first instant of its own clock, by the form of its variable's equation.
     pub fn is_true_at_first(&self, variable: &str, sign: bool) -> bool
-        ensures { IsTrue result ↔ IsTrueAtFirst (node_view self.now) (record { variable = variable.now; sign = sign }) }
+        ensures { IsTrue result ↔ IsTrueAtFirst (node_view self.now)
+            (record { variable = variable.now; sign = sign }) }
     {
         if sign {
             self.truths.has(variable)
@@ -170,7 +172,8 @@ impl<'a> Firsts<'a> {
     #[cycle(currents)]
     fn arguments_start(&self, scope: &Scope, arguments: &[Expr]) -> bool
         requires { scope.now ≡ self.now }
-        ensures { IsTrue result ↔ EachCurrentOfAll (IsStarted (node_view self.now)) (trees_of (views arguments.now)) }
+        ensures { IsTrue result ↔ EachCurrentOfAll (IsStarted (node_view self.now))
+            (trees_of (views arguments.now)) }
     {
         for a in arguments {
             if self.all_start(scope, a) {

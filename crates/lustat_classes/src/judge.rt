@@ -1,15 +1,15 @@
 //! Which equations keep the rules of classes.
 
-ghost use Rattle.std.specs.Prelude.{◌≡◌, ◌↔◌, IsTrue, All, IfOk, map, option_copied, option_to_list};
-ghost use Rattle.lutree.specs.Tree.{equation_view, node_view};
-ghost use Rattle.lustat_rules.specs.Scope.{declarations_of};
+ghost use Rattle.std.specs.Prelude.{◌≡◌, ◌↔◌, ◌++◌, IsTrue, All, IfOk, OnOk, map, option_copied, option_to_list};
+ghost use Rattle.lutree.specs.Tree.{equation_view, node_view, view, views, trees_of};
+ghost use Rattle.lustat_rules.specs.Clocks.{clocks_in, clocks_in_all};
 ghost use Rattle.lustat_classes.specs.Assigned.{assigned};
-ghost use Rattle.lustat_classes.specs.Judged.{clock_names_of, clock_names, lent_view, IsFree, KeepsClasses};
+ghost use Rattle.lustat_classes.specs.Judged.{spelled, clock_names_of, clock_names, sampler_names, clock_variables, lent_view, IsFree, KeepsClasses};
 
 use crate::class::{is_one, needs_met};
 use lulist::Name;
 use lustat_scope::{Places, Scope};
-use lutree::{Declaration, Equation};
+use lutree::{Declaration, Equation, Expr};
 use std::alloc::{AllocError, Global};
 
 // The name in a declared clock.
@@ -27,7 +27,8 @@ fn names_of_clocks<'a>(
     alloc: Global,
     declarations: &[&'a Declaration],
 ) -> Result<Vec<&'a str>, AllocError>
-    ensures { IfOk result (λ names. map (λ x. x.now) names.items ≡ clock_names (lent_view declarations.now)) }
+    ensures { IfOk result
+        (λ names. spelled names.items ≡ clock_names (lent_view declarations.now)) }
 {
     let mut names = Vec::new(alloc);
     for d in declarations {
@@ -38,21 +39,84 @@ fn names_of_clocks<'a>(
     Ok(names)
 }
 
-/// The names in the declared clocks of a node, with a table of them.
+// What `when` and `merge` name in an expression, behind what was named before.
+#[cycle(samplers)]
+fn push_samplers<'a>(names: &mut Vec<&'a str>, e: &'a Expr) -> Result<(), AllocError>
+    ensures { OnOk result
+        (spelled names.new.items ≡ spelled names.old.items ++ clocks_in (view e.now)) }
+{
+    match e {
+        Expr::Number(_) | Expr::Truth(_) | Expr::Variable(_) | Expr::Current(_) => Ok(()),
+        Expr::Unary(_, a) => push_samplers(names, a),
+        Expr::Binary(_, a, b) => {
+            push_samplers(names, a)?;
+            push_samplers(names, b)
+        }
+        Expr::If(c, a, b) => {
+            push_samplers(names, c)?;
+            push_samplers(names, a)?;
+            push_samplers(names, b)
+        }
+        Expr::When(a, c) => {
+            push_samplers(names, a)?;
+            names.push(c.variable.as_str())?;
+            Ok(())
+        }
+        Expr::Merge(c, a, b) => {
+            names.push(c.as_str())?;
+            push_samplers(names, a)?;
+            push_samplers(names, b)
+        }
+        Expr::Call(_, arguments) => push_samplers_of_all(names, arguments),
+    }
+}
+
+// Likewise in the arguments of a call.
+#[cycle(samplers)]
+fn push_samplers_of_all<'a>(
+    names: &mut Vec<&'a str>,
+    arguments: &'a [Expr],
+) -> Result<(), AllocError>
+    ensures { OnOk result (spelled names.new.items
+        ≡ spelled names.old.items ++ clocks_in_all (trees_of (views arguments.now))) }
+{
+    for a in arguments {
+        push_samplers(names, a)?;
+    }
+    Ok(())
+}
+
+// Likewise on the right of equations.
+fn push_samplers_of_equations<'a>(
+    names: &mut Vec<&'a str>,
+    equations: &'a [Equation],
+) -> Result<(), AllocError>
+    ensures { OnOk result (spelled names.new.items
+        ≡ spelled names.old.items ++ sampler_names (map equation_view equations.now)) }
+{
+    for q in equations {
+        push_samplers(names, &q.right)?;
+    }
+    Ok(())
+}
+
+/// The variables of a node that the clocks of declarations, `when` and `merge` name, with a table of them. The expected time grows with
+/// the length of the node.
 ///
 /// # Errors
 ///
 /// An error means that memory ran out.
 pub fn clocks_named<'a>(alloc: Global, scope: &Scope<'a>) -> Result<Places<'a>, AllocError>
-    ensures { IfOk result (λ named. named ≡ clock_names (declarations_of (node_view scope.now))) }
+    ensures { IfOk result (λ named. named ≡ clock_variables (node_view scope.now)) }
 {
-    let names = names_of_clocks(alloc, scope.declarations())?;
+    let mut names = names_of_clocks(alloc, scope.declarations())?;
+    push_samplers_of_equations(&mut names, scope.node().equations.as_slice())?;
     Places::new(alloc, names)
 }
 
-// Whether a variable is no input, no output and in no declared clock.
+// Whether a variable is no input and no output, and no clock names it.
 fn is_free(scope: &Scope, named: &Places, name: &str) -> bool
-    requires { named.now ≡ clock_names (declarations_of (node_view scope.now)) }
+    requires { named.now ≡ clock_variables (node_view scope.now) }
     ensures { IsTrue result ↔ IsFree (node_view scope.now) name.now }
 {
     if scope.is_input(name) {
@@ -64,9 +128,9 @@ fn is_free(scope: &Scope, named: &Places, name: &str) -> bool
     !named.has(name)
 }
 
-// Whether all variables are no inputs, no outputs and in no declared clock.
+// Whether all variables are no inputs and no outputs, and no clock names one of them.
 fn are_free(scope: &Scope, named: &Places, names: &[Name]) -> bool
-    requires { named.now ≡ clock_names (declarations_of (node_view scope.now)) }
+    requires { named.now ≡ clock_variables (node_view scope.now) }
     ensures { IsTrue result ↔ All (IsFree (node_view scope.now)) names.now }
 {
     for x in names {
@@ -79,11 +143,12 @@ fn are_free(scope: &Scope, named: &Places, names: &[Name]) -> bool
 }
 
 /// Whether an equation keeps the rules of classes: what its right side needs in class 0 is there, and where it is of class 1 it defines
-/// no input, no output and no variable that a declared clock names. `classes` are the marks by place of declaration, `named` is what
+/// no input, no output and no variable that a clock names. `classes` are the marks by place of declaration, `named` is what
 /// [`clocks_named`] gives. The expected time grows with the length of the equation. Takes no memory.
 pub fn keeps_classes(scope: &Scope, classes: &[bool], named: &Places, equation: &Equation) -> bool
-    requires { named.now ≡ clock_names (declarations_of (node_view scope.now)) }
-    ensures { IsTrue result ↔ KeepsClasses (assigned (node_view scope.now) classes.now) (node_view scope.now) (equation_view equation.now) }
+    requires { named.now ≡ clock_variables (node_view scope.now) }
+    ensures { IsTrue result
+        ↔ KeepsClasses (assigned (node_view scope.now) classes.now) (node_view scope.now) (equation_view equation.now) }
 {
     if !needs_met(scope, classes, &equation.right) {
         return false;

@@ -34,7 +34,8 @@ fn left_is_known(scope: &Scope, equation: &Equation) -> bool
 
 // Whether what equations define is declared.
 fn all_known(scope: &Scope, equations: &[Equation]) -> bool
-    ensures { IsTrue result ↔ All (λ (q : Equation). All (IsVariable (node_view scope.now)) q.left) equations.now }
+    ensures { IsTrue result ↔ All (λ (q : Equation). All (IsVariable (node_view scope.now)) q.left)
+        equations.now }
 {
     equations.iter().all(|q| left_is_known(scope, q))
 }

@@ -20,7 +20,8 @@ fn push_read(
     name: &str,
     equation: usize,
 ) -> Result<(), AllocError>
-    ensures { OnOk result (links.new.items ≡ links.old.items ++ read_link (place_of (node_view scope.now) name.now) equation) }
+    ensures { OnOk result (links.new.items ≡ links.old.items
+        ++ read_link (place_of (node_view scope.now) name.now) equation) }
 {
     if let Some(v) = scope.place(name) {
         links.push(Link {
@@ -38,7 +39,8 @@ fn push_reads(
     e: &Expr,
     equation: usize,
 ) -> Result<(), AllocError>
-    ensures { OnOk result (links.new.items ≡ links.old.items ++ reads_in (node_view scope.now) equation (view e.now)) }
+    ensures { OnOk result (links.new.items ≡ links.old.items
+        ++ reads_in (node_view scope.now) equation (view e.now)) }
 {
     match e {
         Expr::Variable(x) => push_read(links, scope, x.as_str(), equation),
@@ -66,7 +68,8 @@ fn push_write(
     name: &str,
     equation: usize,
 ) -> Result<(), AllocError>
-    ensures { OnOk result (links.new.items ≡ links.old.items ++ write_link equation (place_of (node_view scope.now) name.now)) }
+    ensures { OnOk result (links.new.items ≡ links.old.items
+        ++ write_link equation (place_of (node_view scope.now) name.now)) }
 {
     if let Some(v) = scope.place(name) {
         links.push(Link {
@@ -84,7 +87,8 @@ fn push_writes(
     names: &[Name],
     equation: usize,
 ) -> Result<(), AllocError>
-    ensures { OnOk result (links.new.items ≡ links.old.items ++ writes_in (node_view scope.now) equation names.now) }
+    ensures { OnOk result (links.new.items ≡ links.old.items
+        ++ writes_in (node_view scope.now) equation names.now) }
 {
     for x in names {
         push_write(links, scope, x.as_str(), equation)?;
@@ -114,7 +118,8 @@ fn links_of(
     equations: &[Equation],
 ) -> Result<Vec<Link>, AllocError>
     requires { first + length equations.now < 2 ^ 64 }
-    ensures { IfOk result (λ links. links.items ≡ links_in (node_view scope.now) first (map equation_view equations.now)) }
+    ensures { IfOk result (λ links. links.items ≡ links_in (node_view scope.now) first
+        (map equation_view equations.now)) }
 {
     let mut links = Vec::new(alloc);
     for (i, q) in equations.iter().enumerate() {
@@ -131,7 +136,8 @@ fn starts_of(
     equations: &[Equation],
 ) -> Result<Vec<usize>, AllocError>
     requires { first + length equations.now < 2 ^ 64 }
-    ensures { IfOk result (λ starts. AreStarts (map equation_view equations.now) first (length equations.now) starts.items) }
+    ensures { IfOk result (λ starts. AreStarts (map equation_view equations.now) first
+        (length equations.now) starts.items) }
 {
     let mut starts = Vec::new(alloc);
     for (i, q) in equations.iter().enumerate() {
@@ -151,8 +157,10 @@ fn starts_of(
 /// An error means that memory ran out.
 pub fn least_classes(alloc: Global, scope: &Scope) -> Result<Vec<bool>, AllocError>
     requires { LeftsKnown (node_view scope.now) }
-    ensures least { IfOk result (λ marks. IsLeast (assigned (node_view scope.now) marks.items) (node_view scope.now)) }
-    ensures caused { IfOk result (λ marks. IsCaused (assigned (node_view scope.now) marks.items) (node_view scope.now)) }
+    ensures least { IfOk result (λ marks. IsLeast (assigned (node_view scope.now) marks.items)
+        (node_view scope.now)) }
+    ensures caused { IfOk result (λ marks. IsCaused (assigned (node_view scope.now) marks.items)
+        (node_view scope.now)) }
 {
     let variables = scope.declarations().len();
     let equations = scope.node().equations.as_slice();

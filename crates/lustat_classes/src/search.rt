@@ -3,21 +3,19 @@
 ghost use Rattle.std.specs.Prelude.{◌≡◌, ◌<◌, ℕ, List, All, IfOk, length};
 ghost use Rattle.lutree.specs.declared.program.Node.{Node};
 ghost use Rattle.lutree.specs.Tree.{node_view, program_view};
-ghost use Rattle.lustat_rules.specs.Scope.{declarations_of};
-ghost use Rattle.lustat_rules.specs.Classes.{IsLeast};
 ghost use Rattle.lustat_rules.specs.Accepted.{Passes};
 ghost use Rattle.lustat_rules.specs.Faults.{IsJudged};
-ghost use Rattle.lustat_classes.specs.Assigned.{assigned, LeftsKnown};
-ghost use Rattle.lustat_classes.specs.Judged.{clock_names};
-ghost use Rattle.lustat_classes.specs.Faults.{EquationKept, EquationFault, InNodeKept, InNodeFault, AreKept, IsFault, TellsBroken};
+ghost use Rattle.lustat_classes.specs.Assigned.{LeftsKnown};
+ghost use Rattle.lustat_classes.specs.Faults.{EquationKept, EquationFault, AreKept, IsFault, TellsBroken};
+ghost use Rattle.lustat_classes.specs.Served.{Serves, AreLeast};
 ghost use Rattle.lustat_classes.specs.Rows.{plain, GiveLeastBelow, AreClasses, IfKept, IfBroken, fault_of};
 
 use crate::current::Firsts;
 use crate::judge::{clocks_named, keeps_classes};
 use crate::least::least_classes;
 use lustat_rules::{StatError, lesser, told};
-use lustat_scope::{Catalog, Places, Scope};
-use lutree::Equation;
+use lustat_scope::{Catalog, Places, Scope, Stage, least_fault};
+use lutree::{Declaration, Equation};
 use std::alloc::{AllocError, Global};
 
 /// What [`initialise`] finds.
@@ -30,66 +28,94 @@ pub enum Initialised {
     Broken(StatError),
 }
 
-// The least fault of an equation.
-fn equation_fault(
-    scope: &Scope,
-    classes: &[bool],
-    named: &Places,
-    firsts: &Firsts,
-    equation: &Equation,
-) -> Option<StatError>
-    requires least { IsLeast (assigned (node_view scope.now) classes.now) (node_view scope.now) }
-    requires named { named.now ≡ clock_names (declarations_of (node_view scope.now)) }
-    requires firsts { scope.now ≡ firsts.now }
-    ensures { IsJudged (EquationFault scope.now equation.now) (EquationKept scope.now equation.now) result }
-{
-    let byte = equation.byte;
-    let keeps = keeps_classes(scope, classes, named, equation);
-    let starts = firsts.currents_start(scope, equation);
-    let nil = told(keeps, StatError::MaybeNil { byte });
-    let current = told(starts, StatError::CurrentMayBeNil { byte });
-    lesser(nil, current)
+// What the tests of the equations of a node share: the variables that clocks name, those that are true or false at first, and the marks
+// of the node's least classes.
+#[derive(Drop)]
+struct Prepared<'r, 'a> {
+    named: Places<'a>,
+    firsts: Firsts<'a>,
+    marks: &'r [bool],
 }
 
-// The least fault of the equations of a node.
-fn equations_fault(
-    scope: &Scope,
-    classes: &[bool],
-    named: &Places,
-    firsts: &Firsts,
-) -> Option<StatError>
-    requires least { IsLeast (assigned (node_view scope.now) classes.now) (node_view scope.now) }
-    requires named { named.now ≡ clock_names (declarations_of (node_view scope.now)) }
-    requires firsts { scope.now ≡ firsts.now }
-    ensures { IsJudged (InNodeFault scope.now) (InNodeKept scope.now) result }
-{
-    let mut best = None;
-    let equations = scope.node().equations.as_slice();
-    for equation in equations {
-        let found = equation_fault(scope, classes, named, firsts, equation);
-        best = lesser(best, found);
+// The rules of initialisation at the equations of nodes, with marks of the least classes for each node.
+#[derive(Drop)]
+struct ClassStage<'r, 'a> {
+    scopes: &'r [Scope<'a>],
+    rows: &'r [Vec<bool>],
+    ghost least: { AreLeast scopes.now (plain rows.now) },
+}
+
+impl<'r, 'a> Stage<'a> for ClassStage<'r, 'a> {
+    type Prepared = Prepared<'r, 'a>;
+
+    ghost nodes = { λ s. s.scopes.now };
+
+    ghost serves = { λ s n prepared. Serves n prepared.named prepared.firsts prepared.marks.now };
+
+    // No rule of initialisation is told at a node or at a declaration.
+    ghost breaks_node = { λ _ _ _ _. ⊥ };
+
+    ghost keeps_node = { λ _ _ _. Unit {0} };
+
+    ghost breaks_declaration = { λ _ _ _ _ _. ⊥ };
+
+    ghost keeps_declaration = { λ _ _ _ _. Unit {0} };
+
+    ghost breaks_equation = { λ _ n _ q. EquationFault n q };
+
+    ghost keeps_equation = { λ _ n _ q. EquationKept n q };
+
+    fn prepare(
+        &self,
+        alloc: Global,
+        place: usize,
+        scope: &Scope<'a>,
+    ) -> Result<Prepared<'r, 'a>, AllocError> {
+        let named = clocks_named(alloc, scope)?;
+        let firsts = Firsts::new(alloc, scope.node())?;
+        let marks = self.rows[place].as_slice();
+        Ok(Prepared {
+            named,
+            firsts,
+            marks,
+        })
     }
-    best
-}
 
-// The least fault of a node.
-fn node_fault(
-    alloc: Global,
-    scope: &Scope,
-    classes: &[bool],
-) -> Result<Option<StatError>, AllocError>
-    requires { IsLeast (assigned (node_view scope.now) classes.now) (node_view scope.now) }
-    ensures { IfOk result (IsJudged (InNodeFault scope.now) (InNodeKept scope.now)) }
-{
-    let named = clocks_named(alloc, scope)?;
-    let firsts = Firsts::new(alloc, scope.node())?;
-    Ok(equations_fault(scope, classes, &named, &firsts))
+    fn node_fault(&self, _place: usize, _scope: &Scope<'a>) -> Option<StatError> {
+        None
+    }
+
+    fn declaration_fault(
+        &self,
+        _prepared: &Prepared<'r, 'a>,
+        _scope: &Scope<'a>,
+        _place: usize,
+        _declaration: &Declaration,
+    ) -> Option<StatError> {
+        None
+    }
+
+    fn equation_fault(
+        &self,
+        prepared: &Prepared<'r, 'a>,
+        scope: &Scope<'a>,
+        _place: usize,
+        equation: &Equation,
+    ) -> Option<StatError> {
+        let byte = equation.byte;
+        let keeps = keeps_classes(scope, prepared.marks, &prepared.named, equation);
+        let starts = prepared.firsts.currents_start(scope, equation);
+        let nil = told(keeps, StatError::MaybeNil { byte });
+        let current = told(starts, StatError::CurrentMayBeNil { byte });
+        lesser(nil, current)
+    }
 }
 
 // The least classes of nodes, in order.
 fn rows_of(alloc: Global, scopes: &[Scope]) -> Result<Vec<Vec<bool>>, AllocError>
     requires { All (λ (n : Node). LeftsKnown (node_view n)) scopes.now }
-    ensures { IfOk result (λ rows. GiveLeastBelow (length scopes.now) scopes.now (plain rows.items)) }
+    ensures { IfOk result
+        (λ rows. GiveLeastBelow (length scopes.now) scopes.now (plain rows.items)) }
 {
     let mut rows = Vec::with_capacity(alloc, scopes.len())?;
     for scope in scopes {
@@ -108,13 +134,7 @@ fn nodes_fault(
     requires { GiveLeastBelow (length scopes.now) scopes.now (plain rows.now) }
     ensures { IfOk result (IsJudged (IsFault scopes.now) (AreKept scopes.now)) }
 {
-    let mut best = None;
-    for (i, scope) in scopes.iter().enumerate() {
-        let row = rows[i].as_slice();
-        let found = node_fault(alloc, scope, row)?;
-        best = lesser(best, found);
-    }
-    Ok(best)
+    least_fault(alloc, &ClassStage { scopes, rows }, scopes)
 }
 
 /// Whether a program keeps the rules of initialisation: the least classes of each node, or the least fault, that of the least byte,
@@ -129,9 +149,12 @@ fn nodes_fault(
 pub fn initialise(alloc: Global, catalog: &Catalog) -> Result<Initialised, AllocError>
     requires { All LeftsKnown (program_view catalog.now) }
     ensures classes { IfOk result (λ found. IfKept found (AreClasses (program_view catalog.now))) }
-    ensures passes { IfOk result (λ found. IfKept found (λ _. (main : List ℕ) → Passes (program_view catalog.now) main 3)) }
-    ensures broken { IfOk result (λ found. IfBroken found (λ e. (main : List ℕ) → TellsBroken (program_view catalog.now) main e)) }
-    ensures first { IfOk result (λ found. IsJudged (IsFault catalog.now.nodes) (AreKept catalog.now.nodes) (fault_of found)) }
+    ensures passes { IfOk result (λ found. IfKept found
+        (λ _. (main : List ℕ) → Passes (program_view catalog.now) main 3)) }
+    ensures broken { IfOk result (λ found. IfBroken found
+        (λ e. (main : List ℕ) → TellsBroken (program_view catalog.now) main e)) }
+    ensures first { IfOk result (λ found. IsJudged (IsFault catalog.now.nodes)
+        (AreKept catalog.now.nodes) (fault_of found)) }
 {
     let scopes = catalog.scopes();
     let rows = rows_of(alloc, scopes)?;

@@ -13,7 +13,8 @@ use lutree::Equation;
 
 // Whether all variables have a clock.
 fn all_have(scope: &Scope, names: &[Name], k: ClockRef) -> bool
-    ensures { IsTrue result ↔ All (λ x. HasClock (node_view scope.now) x (the_clock k.entry)) names.now }
+    ensures { IsTrue result ↔ All (λ x. HasClock (node_view scope.now) x (the_clock k.entry))
+        names.now }
 {
     names.iter().all(|x| has_clock(scope, x.as_str(), k))
 }

@@ -51,7 +51,8 @@ fn anchor_of<'a>(scope: &Scope<'a>, e: &'a Expr) -> Option<ClockRef<'a>>
 // The clock that the first argument with one names.
 #[cycle(anchors)]
 fn anchor_of_arguments<'a>(scope: &Scope<'a>, arguments: &'a [Expr]) -> Option<ClockRef<'a>>
-    ensures { option_map the_clock result ≡ anchor_of_all (node_view scope.now) (trees_of (views arguments.now)) }
+    ensures { option_map the_clock result ≡ anchor_of_all (node_view scope.now)
+        (trees_of (views arguments.now)) }
 {
     for a in arguments {
         if let Some(k) = anchor_of(scope, a) {

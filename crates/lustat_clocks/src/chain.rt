@@ -25,7 +25,8 @@ fn place_of_clock(scope: &Scope, declaration: &Declaration) -> Option<usize>
 
 // The places of declarations on the base clock.
 fn based(alloc: Global, declarations: &[&Declaration]) -> Result<Vec<usize>, AllocError>
-    ensures { IfOk result (λ starts. AreBased (lent_view declarations.now) (length declarations.now) starts.items) }
+    ensures { IfOk result (λ starts. AreBased (lent_view declarations.now)
+        (length declarations.now) starts.items) }
 {
     let mut starts = Vec::new(alloc);
     for (i, d) in declarations.iter().enumerate() {
@@ -42,7 +43,8 @@ fn clocked(
     scope: &Scope,
     declarations: &[&Declaration],
 ) -> Result<Vec<Link>, AllocError>
-    ensures { IfOk result (λ links. AreClocked (node_view scope.now) (lent_view declarations.now) (length declarations.now) links.items) }
+    ensures { IfOk result (λ links. AreClocked (node_view scope.now) (lent_view declarations.now)
+        (length declarations.now) links.items) }
 {
     let mut links = Vec::new(alloc);
     for (i, d) in declarations.iter().enumerate() {
@@ -77,7 +79,8 @@ fn is_truth(scope: &Scope, name: &str) -> bool
 
 // Whether the clock of a declaration, if it has one, is a bool.
 fn is_on_truth(scope: &Scope, declaration: &Declaration) -> bool
-    ensures { IsTrue result ↔ IfSome declaration.now.clock (λ c. IsTruth (node_view scope.now) c.variable) }
+    ensures { IsTrue result ↔ IfSome declaration.now.clock
+        (λ c. IsTruth (node_view scope.now) c.variable) }
 {
     match &declaration.clock {
         None => true,
@@ -96,7 +99,8 @@ fn has_mark(marks: &[bool], place: usize) -> bool
 /// declarations of its node, `ends` is what [`chain_ends`] gives.
 pub fn is_clock(scope: &Scope, declaration: &Declaration, place: usize, ends: &[bool]) -> bool
     requires ends { MarksEnds (node_view scope.now) ends.now }
-    requires place { slice_get (declarations_of (node_view scope.now)) place ≡ Some (declaration_view declaration.now) }
+    requires place { slice_get (declarations_of (node_view scope.now)) place
+        ≡ Some (declaration_view declaration.now) }
     ensures { IsTrue result ↔ IsClock (node_view scope.now) (declaration_view declaration.now) }
 {
     is_on_truth(scope, declaration) && has_mark(ends, place)
@@ -131,7 +135,8 @@ fn names_truths_inside(scope: &Scope, e: &Expr) -> bool
 // Whether what the arguments of a call name as clocks are bools.
 #[cycle(truths)]
 fn all_name_truths(scope: &Scope, arguments: &[Expr]) -> bool
-    ensures { IsTrue result ↔ EachClockOfAll (IsTruth (node_view scope.now)) (trees_of (views arguments.now)) }
+    ensures { IsTrue result ↔ EachClockOfAll (IsTruth (node_view scope.now))
+        (trees_of (views arguments.now)) }
 {
     for a in arguments {
         if names_truths_inside(scope, a) {

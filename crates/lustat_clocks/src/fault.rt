@@ -26,7 +26,8 @@ pub fn declaration_fault(
 ) -> Option<StatError>
     requires ends { MarksEnds (node_view scope.now) ends.now }
     requires at { slice_get (declared_in scope.now) place ≡ Some declaration.now }
-    ensures { (program : Program) → IsJudged (DeclarationFault is_asked program main.now scope.now place declaration.now)
+    ensures { (program : Program)
+        → IsJudged (DeclarationFault is_asked program main.now scope.now place declaration.now)
         (DeclarationKept is_asked program main.now scope.now place declaration.now) result }
 {
     let byte = declaration.byte;
@@ -48,7 +49,8 @@ pub fn equation_fault(
     place: usize,
     equation: &Equation,
 ) -> Option<StatError>
-    requires { IsTrue unclocked ↔ IfSome (node_called (program_view catalog.now) main.now) HasUnclockedOutputs }
+    requires { IsTrue unclocked ↔ IfSome (node_called (program_view catalog.now) main.now)
+        HasUnclockedOutputs }
     ensures { IsJudged (EquationFault is_asked catalog.now main.now scope.now place equation.now)
         (EquationKept is_asked catalog.now main.now scope.now place equation.now) result }
 {

@@ -21,7 +21,8 @@ pub fn has_clock(scope: &Scope, name: &str, k: ClockRef) -> bool
 
 // Whether `current` of a variable fits a clock.
 fn current_fits(scope: &Scope, name: &str, k: ClockRef) -> bool
-    ensures { IsTrue result ↔ FitsInside (node_view scope.now) (tree.current name.now) (the_clock k.entry) }
+    ensures { IsTrue result ↔ FitsInside (node_view scope.now) (tree.current name.now)
+        (the_clock k.entry) }
 {
     match scope.clock(name) {
         Some(ClockRef::On(c, _)) => has_clock(scope, c, k),
@@ -64,7 +65,8 @@ fn fits_inside(scope: &Scope, e: &Expr, k: ClockRef) -> bool
 // Whether all arguments of a call fit a clock.
 #[cycle(fits)]
 fn all_fit(scope: &Scope, arguments: &[Expr], k: ClockRef) -> bool
-    ensures { IsTrue result ↔ AllFitInside (node_view scope.now) (trees_of (views arguments.now)) (the_clock k.entry) }
+    ensures { IsTrue result ↔ AllFitInside (node_view scope.now) (trees_of (views arguments.now))
+        (the_clock k.entry) }
 {
     for a in arguments {
         if fits_inside(scope, a, k) {

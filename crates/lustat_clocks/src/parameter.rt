@@ -13,7 +13,8 @@ use lutree::{Declaration, Equation, Expr};
 
 /// `E22` at a declaration: an input is on the base clock, and so is an output where the node isn't the main one.
 pub fn is_unclocked(scope: &Scope, declaration: &Declaration, main: &str) -> bool
-    ensures { IsTrue result ↔ IsUnclocked main.now (node_view scope.now) (declaration_view declaration.now) }
+    ensures { IsTrue result ↔ IsUnclocked main.now (node_view scope.now)
+        (declaration_view declaration.now) }
 {
     let name = declaration.name.as_str();
     declaration.clock.is_none()
@@ -22,7 +23,8 @@ pub fn is_unclocked(scope: &Scope, declaration: &Declaration, main: &str) -> boo
 
 /// `E23`: an output of the main node is on the base clock, or on one that an input or an output names.
 pub fn is_visible(scope: &Scope, declaration: &Declaration, main: &str) -> bool
-    ensures { IsTrue result ↔ IsVisible main.now (node_view scope.now) (declaration_view declaration.now) }
+    ensures { IsTrue result ↔ IsVisible main.now (node_view scope.now)
+        (declaration_view declaration.now) }
 {
     match &declaration.clock {
         None => true,
@@ -45,7 +47,8 @@ fn are_unclocked(outputs: &[Declaration]) -> bool
 
 /// Whether the main node, if there is one, has all its outputs on the base clock.
 pub fn main_is_unclocked(catalog: &Catalog, main: &str) -> bool
-    ensures { IsTrue result ↔ IfSome (node_called (program_view catalog.now) main.now) HasUnclockedOutputs }
+    ensures { IsTrue result ↔ IfSome (node_called (program_view catalog.now) main.now)
+        HasUnclockedOutputs }
 {
     match catalog.find(main) {
         None => true,
@@ -93,7 +96,8 @@ fn all_call_no(arguments: &[Expr], name: &str) -> bool
 /// `E22` at an equation: the main node is called only where all its outputs are on the base clock.
 /// `unclocked` is what [`main_is_unclocked`] tells. Takes no memory.
 pub fn calls_unclocked(equation: &Equation, main: &str, unclocked: bool) -> bool
-    ensures { (p : ProgramTree) → (IsTrue unclocked ↔ IfSome (node_called p main.now) HasUnclockedOutputs)
+    ensures { (p : ProgramTree)
+        → (IsTrue unclocked ↔ IfSome (node_called p main.now) HasUnclockedOutputs)
         → IsTrue result ↔ CallsAreUnclocked p main.now (equation_view equation.now) }
 {
     unclocked || calls_no(&equation.right, main)

@@ -7,7 +7,8 @@ use Rattle.lutree.specs.declared.expr.Infix.TheVariants.{Data as Data2, Arrow, F
 use Rattle.lutree.specs.Tree.{Tree, Trees, DeclarationTree, EquationTree, NodeTree}
 use Rattle.lutree.specs.Tree as tree
 use Rattle.lustat_rules.specs.Scope.{declarations_of}
-use Rattle.lustat_rules.specs.Classes.{Classes, is_one, IsZero, NeedsMet, AllReady, IsHeld, IsLeast, Meets, HasClasses}
+use Rattle.lustat_rules.specs.Clocks.{clocks_in}
+use Rattle.lustat_rules.specs.Classes.{Classes, is_one, IsZero, NeedsMet, AllReady, IsHeld, SamplersAreZero, IsLeast, Meets, HasClasses}
 
 or_map : (a b c d : Bool) → (IsTrue a → IsTrue c) → (IsTrue b → IsTrue d) → IsTrue (a || b) → IsTrue (c || d)
 or_map a b true d f g h = refl
@@ -53,9 +54,9 @@ module _ (a b : Classes) (up : (x : List ℕ) → IsTrue (a x) → IsTrue (b x))
     needs_fall (tree.binary Arrow d e) h = (needs_fall d h.0, needs_fall e h.1)
     needs_fall (tree.binary FollowedBy d e) h = (needs_fall d h.0, zero_falls e h.1, needs_fall e h.2)
     needs_fall (tree.choice c d e) h = (needs_fall c h.0, needs_fall d h.1, needs_fall e h.2)
-    needs_fall (tree.when e c) h = (name_falls c.variable h.0, needs_fall e h.1)
+    needs_fall (tree.when e c) h = needs_fall e h
     needs_fall (tree.current x) h = name_falls x h
-    needs_fall (tree.merge c d e) h = (name_falls c h.0, zero_falls d h.1, needs_fall d h.2, zero_falls e h.3, needs_fall e h.4)
+    needs_fall (tree.merge c d e) h = (zero_falls d h.0, needs_fall d h.1, zero_falls e h.2, needs_fall e h.3)
     needs_fall (tree.call f all) h = all_fall all h
 
     all_fall : (all : Trees) → AllReady b all → AllReady a all
@@ -74,6 +75,9 @@ module _ (a b : Classes) (up : (x : List ℕ) → IsTrue (a x) → IsTrue (b x))
         clock = clock_falls d.clock h.clock;
       }
 
+  pub samplers_fall : (q : EquationTree) → SamplersAreZero b q → SamplersAreZero a q
+  samplers_fall q h = λ k x l. name_falls (slice_index_or (clocks_in q.right) k x) (h k x l)
+
 -- the least assignment meets all rules where some assignment does
 pub least_meets : (n : NodeTree) (a : Classes) → IsLeast a n → HasClasses n → Meets a n
 least_meets n a least has =
@@ -83,4 +87,5 @@ least_meets n a least has =
       raised = least.raised;
       needs = λ k q l. needs_fall a b up (slice_index_or n.equations k q).right (has.1.needs k q l);
       held = λ k d l. held_falls a b up n (slice_index_or (declarations_of n) k d) (has.1.held k d l);
+      sampled = λ k q l. samplers_fall a b up (slice_index_or n.equations k q) (has.1.sampled k q l);
     }

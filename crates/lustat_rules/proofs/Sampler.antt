@@ -1,12 +1,12 @@
 -- The sampler keeps all rules.
 use Rattle.std.proofs.Common.{inl, inr, true, false, [], ◌∷◌, None, refl, arith}
-use Rattle.std.specs.Prelude.{codes, Contains}
+use Rattle.std.specs.Prelude.{codes, Contains, IsFalse}
 use Rattle.std.proofs.lemmas.List.Elements.{All-from_recursion}
 use Rattle.lutree.specs.Tree.{EquationTree}
 use Rattle.lutree.specs.declared.program.Kind.TheVariants.{Int}
 use Rattle.lustat_rules.specs.Scope.{declarations_of, names_of, IsVariable, IsInput}
 use Rattle.lustat_rules.specs.Clocks.{on, base, HasClock, IsTruth, Ends}
-use Rattle.lustat_rules.specs.Classes.{Classes, IsRaised, NeedsMet, IsHeld, HasClasses}
+use Rattle.lustat_rules.specs.Classes.{Classes, IsRaised, NeedsMet, IsHeld, SamplersAreZero, HasClasses}
 use Rattle.lustat_rules.specs.Accepted.{Rule, IsAccepted}
 use Rattle.lustat_rules.specs.Vectors.{sampler, main}
 use Rattle.lustat_rules.proofs.Fitting.{outside}
@@ -19,7 +19,7 @@ classes =
       a,
       record {
         raised = All-from_recursion (IsRaised a) sampler.equations ((λ t. absurd (false_is_true t)), ((λ t. absurd (false_is_true t)), ((λ t. absurd (false_is_true t)), tt)));
-        needs = All-from_recursion (λ (q : EquationTree). NeedsMet a q.right) sampler.equations ((refl, tt), ((tt, tt), ((tt, ((refl, tt), tt)), tt)));
+        needs = All-from_recursion (λ (q : EquationTree). NeedsMet a q.right) sampler.equations (tt, ((tt, tt), ((tt, ((refl, tt), tt)), tt)));
         held =
             All-from_recursion (IsHeld a sampler) (declarations_of sampler) (
               record { input = λ i. refl; output = λ o. refl; clock = tt },
@@ -34,6 +34,9 @@ classes =
                 ),
               ),
             );
+        sampled =
+            All-from_recursion (SamplersAreZero a) sampler.equations
+            (All-from_recursion (λ x. IsFalse (a x)) (codes "c" ∷ []) (refl, tt), ((λ k x l. absurd (none_below l)), ((λ k x l. absurd (none_below l)), tt)));
       },
     )
 

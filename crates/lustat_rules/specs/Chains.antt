@@ -54,11 +54,27 @@ late =
           ∷ [];
     }
 
+-- node main(x: int; d: bool) returns (y: int); var c: bool; let c = pre d; y = RIGHT; tel
+abbrev pub sampled_late : Tree → NodeTree
+sampled_late right =
+    record {
+      name = main;
+      inputs = int_variable (codes "x") base ∷ bool_variable (codes "d") base ∷ [];
+      outputs = int_variable (codes "y") base ∷ [];
+      locals = bool_variable (codes "c") base ∷ [];
+      equations =
+          defines (codes "c") (tree.unary Pre (tree.variable (codes "d")))
+          ∷ defines (codes "y") right
+          ∷ [];
+    }
+
 pub record NeededVectors : Type 0 where
   pub branch_of_merge : ¬ HasClasses (delay (tree.merge (codes "c") (tree.unary Pre x) x))
   pub other_branch : ¬ HasClasses (delay (tree.merge (codes "c") x (tree.unary Pre x)))
   pub variable_of_current : ¬ HasClasses held
   pub clock_variable : ¬ HasClasses late
+  pub variable_of_merge : ¬ HasClasses (sampled_late (tree.merge (codes "c") (tree.number 0) (tree.number 1)))
+  pub variable_of_when : ¬ HasClasses (sampled_late (tree.when x (record { variable = codes "c"; sign = true })))
 
 -- CLOCKS
 

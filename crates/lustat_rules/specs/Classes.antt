@@ -7,6 +7,7 @@ use Rattle.lutree.specs.declared.expr.Infix.TheVariants.{Data as Data2, Arrow, F
 use Rattle.lutree.specs.Tree.{Tree, Trees, DeclarationTree, EquationTree, NodeTree, ProgramTree}
 use Rattle.lutree.specs.Tree as tree
 use Rattle.lustat_rules.specs.Scope.{declarations_of, clock_of, IsInput, IsOutput}
+use Rattle.lustat_rules.specs.Clocks.{clocks_in}
 
 -- CLASSES
 
@@ -34,7 +35,7 @@ abbrev pub IsZero : Classes → Tree → Type 0
 IsZero a e = IsFalse (is_one a e)
 
 -- what an expression needs in class 0 is there: what stands after `pre`, on the right of `fby` and in a branch of `merge`,
--- the variables after `current`, `when` and `merge`, and the arguments of calls
+-- the variable after `current`, and the arguments of calls
 abbrev mutual
   pub NeedsMet : Classes → Tree → Type 0
   NeedsMet a (tree.number n) = Unit {0}
@@ -46,9 +47,9 @@ abbrev mutual
   NeedsMet a (tree.binary Arrow d e) = NeedsMet a d × NeedsMet a e
   NeedsMet a (tree.binary FollowedBy d e) = NeedsMet a d × IsZero a e × NeedsMet a e
   NeedsMet a (tree.choice c d e) = NeedsMet a c × NeedsMet a d × NeedsMet a e
-  NeedsMet a (tree.when e c) = IsFalse (a c.variable) × NeedsMet a e
+  NeedsMet a (tree.when e c) = NeedsMet a e
   NeedsMet a (tree.current x) = IsFalse (a x)
-  NeedsMet a (tree.merge c d e) = IsFalse (a c) × IsZero a d × NeedsMet a d × IsZero a e × NeedsMet a e
+  NeedsMet a (tree.merge c d e) = IsZero a d × NeedsMet a d × IsZero a e × NeedsMet a e
   NeedsMet a (tree.call f all) = AllReady a all
 
   pub AllReady : Classes → Trees → Type 0
@@ -65,11 +66,16 @@ pub record IsHeld (a : Classes) (n : NodeTree) (d : DeclarationTree) : Type 0 wh
   pub output : IsOutput n d.name → IsFalse (a d.name)
   pub clock : IfSome d.clock (λ c. IsFalse (a c.variable))
 
+-- what `when` and `merge` name in an equation is of class 0
+abbrev pub SamplersAreZero : Classes → EquationTree → Type 0
+SamplersAreZero a q = All (λ x. IsFalse (a x)) (clocks_in q.right)
+
 -- an assignment meets all rules of classes
 pub record Meets (a : Classes) (n : NodeTree) : Type 0 where
   pub raised : All (IsRaised a) n.equations
   pub needs : All (λ (q : EquationTree). NeedsMet a q.right) n.equations
   pub held : All (IsHeld a n) (declarations_of n)
+  pub sampled : All (SamplersAreZero a) n.equations
 
 -- E30: some assignment meets all rules
 abbrev pub HasClasses : NodeTree → Type 0

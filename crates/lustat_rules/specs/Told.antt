@@ -1,5 +1,5 @@
 -- What a refusal tells: a rule, and a place in the text.
-use Rattle.std.specs.Prelude.{◌≡◌, ◌≤◌, ℕ, List, Option, Some, None}
+use Rattle.std.specs.Prelude.{◌≤◌, ℕ, List, Option, Some, None}
 use Rattle.lutree.specs.Tree.{ProgramTree}
 use Rattle.lustat_rules.specs.Accepted.{Rule, number, stage, IsRefused}
 use Rattle.lustat_rules.specs.Accepted as accepted

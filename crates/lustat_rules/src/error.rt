@@ -50,7 +50,8 @@ pub enum StatError {
     /// An output of the main node has a clock that a local names. Told at its declaration.
     #[error("E23 HiddenClock at {byte}")]
     HiddenClock { byte: usize },
-    /// A value may be missing where it is needed. Told at the equation that needs it.
+    /// A value may be missing where it is needed. Told at the equation with the operand that may be missing, or that defines the
+    /// output or the variable that a clock names.
     #[error("E30 MaybeNil at {byte}")]
     MaybeNil { byte: usize },
     /// `current` of a variable whose clock may be false at first. Told at the equation.

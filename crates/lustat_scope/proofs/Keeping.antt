@@ -1,18 +1,18 @@
 -- From what is kept and broken in memory to what the view of a program keeps and breaks.
-use Rattle.std.proofs.Common.{◌≡◌, ◌∙◌, ℕ, zero, suc, Bool, List, [], ◌∷◌, ◌⊎◌, inl, inr, map, Option, Some, None, IsTrue, refl, sym, ap, subst}
+use Rattle.std.proofs.Common.{◌≡◌, ◌∙◌, ℕ, zero, suc, Bool, List, [], ◌∷◌, ◌⊎◌, inl, inr, map, Option, Some, IsTrue, refl, sym, ap, subst}
 use Rattle.std.specs.Prelude.{slice_get}
 use Rattle.std.specs.Option.{option_map}
 use Rattle.std.proofs.lemmas.Option.{slice_get-map}
-use Rattle.lutree.specs.declared.program.Declaration.{Declaration}
-use Rattle.lutree.specs.declared.program.Equation.{Equation}
 use Rattle.lutree.specs.declared.program.Node.{Node}
 use Rattle.lutree.specs.declared.program.Program.{Program}
 use Rattle.lutree.specs.Tree.{DeclarationTree, EquationTree, NodeTree, declaration_view, equation_view, node_view, program_view}
 use Rattle.lustat_rules.specs.Scope.{declarations_of}
-use Rattle.lustat_rules.specs.Accepted.{Rule, ProgramKeeps, NodeKeeps, DeclarationKeeps, EquationKeeps, Keeps, Breaks}
+use Rattle.lustat_rules.specs.Accepted.{Rule, NodeKeeps, DeclarationKeeps, EquationKeeps, Breaks}
 use Rattle.lustat_rules.specs.declared.error.StatError.{StatError}
 use Rattle.lustat_rules.specs.Told.{rule_of}
-use Rattle.lustat_rules.specs.Faults.{declared_in, FaultAt, FaultAmong, KeptAmong, ProgramKept, ProgramFault, NodeKept, NodeFault, DeclarationKept, DeclarationFault, EquationKept, EquationFault, AllOfNodeKept, InNodeFault, IsFault, AreKept}
+use Rattle.lustat_rules.specs.Faults.{declared_in, lesser_of, IsJudged, FaultAmong, KeptAmong, ProgramKept, ProgramFault, NodeKept, NodeFault, DeclarationKept, DeclarationFault, EquationKept, EquationFault, AllOfNodeKept, InNodeFault, IsFault, AreKept}
+use Rattle.lustat_rules.proofs.Judging.{judged_joined, judged_same}
+use Rattle.lustat_scope.specs.Stages.{BrokenInside, KeptInside}
 use Rattle.lustat_scope.proofs.Declared.{view_of_declared}
 
 -- the item that is seen so
@@ -82,3 +82,19 @@ broken_somewhere asked p main e (inr h) = inside h.0 h.1 h.2 h.3
           one = f.one;
           broken = Breaks.equation i g.0 (node_view n) (equation_view g.1) (item_view node_view p.nodes i n at) (item_view equation_view n.equations g.0 g.1 g.2) f.broken;
         }
+
+-- from the nodes and the program as a whole to all of the program
+pub judged_program : (asked : Rule → Bool) (p : Program) (main : List ℕ) (whole found told : Option StatError) → told ≡ lesser_of whole found
+    → IsJudged (ProgramFault asked p main) (ProgramKept asked p main) whole
+    → IsJudged (FaultAmong p.nodes (BrokenInside (NodeFault asked p main) (DeclarationFault asked p main) (EquationFault asked p main)))
+    (KeptAmong p.nodes (KeptInside (NodeKept asked p main) (DeclarationKept asked p main) (EquationKept asked p main))) found
+    → IsJudged (IsFault asked p main) (AreKept asked p main) told
+judged_program asked p main whole found told is of_program of_nodes =
+    let S : StatError → Type 0 = ProgramFault asked p main in
+    let T : StatError → Type 0 = FaultAmong p.nodes (InNodeFault asked p main) in
+    let P : Type 0 = ProgramKept asked p main in
+    let Q : Type 0 = KeptAmong p.nodes (KeptInside (NodeKept asked p main) (DeclarationKept asked p main) (EquationKept asked p main)) in
+    judged_same (λ e. S e ⊎ T e) (IsFault asked p main) (P × Q) (AreKept asked p main) told
+    (λ e h. h) (λ e h. h)
+    (λ h. kept_everywhere asked p main h.0 (λ i n at. let k = h.1 i n at in record { node = k.0; declarations = k.1.0; equations = k.1.1 }))
+    (judged_joined S T P Q whole found told is of_program of_nodes)

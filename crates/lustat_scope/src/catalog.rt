@@ -95,7 +95,8 @@ impl<'a> Catalog<'a> {
 
     /// The node that a call means, with its tables.
     pub fn find(&self, name: &str) -> Option<&Scope<'a>>
-        ensures { option_map node_view (option_copied result) ≡ node_called (program_view self.now) name.now }
+        ensures { option_map node_view (option_copied result)
+            ≡ node_called (program_view self.now) name.now }
     {
         match self.nodes.find(name) {
             None => None,

@@ -1,9 +1,11 @@
-//! Names looked up by tables.
+//! Names looked up by tables, and the search that the stages of the static checks share.
 //!
 //! - [`Places`]: names in a row, with a table of where each stands first.
 //! - [`Scope`]: a node with the tables of its variables.
 //! - [`Catalog`]: a program with a scope for each node and a table of the nodes' names.
 //! - [`ClockRef`]: a clock, lent.
+//! - [`Stage`]: a stage of the static checks: its tests of nodes, declarations and equations.
+//! - [`least_fault`]: the least fault that a stage finds.
 //!
 //! What a look-up finds is said by the plain scan of declarations, as `lustat_rules` has it.
 #![tactic(auto)]
@@ -12,8 +14,10 @@ mod catalog;
 mod clock_ref;
 mod places;
 mod scope;
+mod stage;
 
 pub use catalog::Catalog;
 pub use clock_ref::ClockRef;
 pub use places::Places;
 pub use scope::Scope;
+pub use stage::{Stage, least_fault};

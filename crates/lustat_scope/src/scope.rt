@@ -44,7 +44,8 @@ fn push_all<'a>(
     all: &mut Vec<&'a Declaration>,
     declarations: &'a [Declaration],
 ) -> Result<(), AllocError>
-    ensures { OnOk result (map (λ d. d.now) all.new.items ≡ map (λ d. d.now) all.old.items ++ declarations.now) }
+    ensures { OnOk result (map (λ d. d.now) all.new.items ≡ map (λ d. d.now) all.old.items
+        ++ declarations.now) }
 {
     for d in declarations {
         all.push(d)?;
@@ -129,7 +130,8 @@ impl<'a> Scope<'a> {
 
     /// What a name means: the first declaration of it.
     pub fn find(&self, name: &str) -> Option<&'a Declaration>
-        ensures { option_map declaration_view (option_copied result) ≡ meaning (node_view self.now) name.now }
+        ensures { option_map declaration_view (option_copied result)
+            ≡ meaning (node_view self.now) name.now }
     {
         match self.place(name) {
             None => None,

@@ -74,6 +74,73 @@ fn what_may_be_nil(rt: HostRuntime) -> Result<(), Fail> {
     are_told(&rt, rt.alloc(), Stage::Classes, WHAT_MAY_BE_NIL)
 }
 
+const CLOCKS_THAT_MAY_BE_NIL: &[(&str, StatError)] = &[
+    (
+        "node main(d: bool) returns (y: int); var c: bool; let y = merge c (true -> 1) (false -> 2); c = pre d; tel",
+        StatError::MaybeNil { byte: 92 },
+    ),
+    (
+        "node main(d: bool) returns (y: int); var c: bool; let c = pre d; y = merge c (true -> 1) (false -> 2); tel",
+        StatError::MaybeNil { byte: 54 },
+    ),
+    (
+        "node main(d: bool; x: int) returns (y: int); var c: bool; let y = f(x when c); c = pre d; tel",
+        StatError::MaybeNil { byte: 79 },
+    ),
+    (
+        "node main(d: bool; x: int) returns (y: int); var c: bool; let y = f(x when not c); c = pre d; tel",
+        StatError::MaybeNil { byte: 83 },
+    ),
+    (
+        "node main(d: bool; x: int) returns (y: int); var c: bool; v: int when c; let y = x; v = 0; c = pre d; tel",
+        StatError::MaybeNil { byte: 91 },
+    ),
+    (
+        "node main(d: bool; x: int) returns (y: int); var c: bool; v: int when c; let y = merge c (true -> v) (false -> 0); v = x when c; c = pre d; tel",
+        StatError::MaybeNil { byte: 129 },
+    ),
+    (
+        "node main(d: bool) returns (y: int); var b, c: bool; let b = pre d; y = merge c (true -> 1) (false -> 2); c = not b; tel",
+        StatError::MaybeNil { byte: 106 },
+    ),
+    (
+        "node main(d: bool; x: int) returns (y: int); var c: bool; let y = f(0 -> (x when c)) + (if d then 1 else 2); c = d or pre d; tel",
+        StatError::MaybeNil { byte: 109 },
+    ),
+    (
+        "node main(d: bool; x: int) returns (y, z: int); var c: bool; let y = merge c (true -> 1) (false -> 2); c = pre d; z = pre x; tel",
+        StatError::MaybeNil { byte: 103 },
+    ),
+    (
+        "node main(d: bool; x: int) returns (y, z: int); var c: bool; let y = merge c (true -> 1) (false -> 2); z = pre x; c = pre d; tel",
+        StatError::MaybeNil { byte: 103 },
+    ),
+    (
+        "node main(d: bool; x: int) returns (y: int); var c: bool; let y = merge c (true -> pre (x when c)) (false -> 2); c = pre d; tel",
+        StatError::MaybeNil { byte: 62 },
+    ),
+    (
+        "node main(d: bool) returns (y: int); var b, c: bool; let y = merge c (true -> merge b (true -> 1) (false -> 2)) (false -> 3); b = pre d; c = pre d; tel",
+        StatError::MaybeNil { byte: 126 },
+    ),
+];
+
+#[test]
+fn clocks_that_may_be_nil_are_told_where_they_are_defined(rt: HostRuntime) -> Result<(), Fail> {
+    are_told(&rt, rt.alloc(), Stage::Classes, CLOCKS_THAT_MAY_BE_NIL)
+}
+
+const CLOCKS_THAT_ARE_NEVER_NIL: &[&str] = &[
+    "node main(c: bool; x: int) returns (y: int); let y = merge c (true -> x when c) (false -> 0); tel",
+    "node main(d: bool) returns (y: int); var c: bool; let y = merge c (true -> 1) (false -> 2); c = d -> pre d; tel",
+    "node main(d: bool) returns (y: int); var b, c: bool; let b = pre d; y = merge c (true -> 1) (false -> 2); c = d fby (d -> b); tel",
+];
+
+#[test]
+fn clocks_that_are_never_nil(rt: HostRuntime) -> Result<(), Fail> {
+    are_kept(&rt, rt.alloc(), Stage::Classes, CLOCKS_THAT_ARE_NEVER_NIL)
+}
+
 const CURRENT_THAT_MAY_BE_NIL: &[(&str, StatError)] = &[
     (
         "node main(c: bool; x: int) returns (y: int); var v: int when c; let v = x when c; y = current v; tel\n",
@@ -332,12 +399,14 @@ const JUDGED: Asked = Asked::Judged(&[
     (true, true),
     (true, true),
     (false, false),
+    (false, true),
+    (false, true),
 ]);
 
 #[test]
 fn classes_and_needs_of_expressions(rt: HostRuntime) -> Result<(), Fail> {
     let text =
-        "node main(x: int; c: bool) returns (y: int); let y = pre x; y = 0 -> x; y = 0 fby x; y = x + 1; y = x when c; y = pre c; y = f(x); tel\n";
+        "node main(x: int; c: bool) returns (y: int); let y = pre x; y = 0 -> x; y = 0 fby x; y = x + 1; y = x when c; y = pre c; y = f(x); y = c when x; y = merge x (true -> 1) (false -> 2); tel\n";
     assert!(rt; holds(rt.alloc(), text, JUDGED)?);
     Ok(())
 }

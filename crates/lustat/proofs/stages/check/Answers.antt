@@ -1,13 +1,11 @@
-use Rattle.std.proofs.Common.{◌≡◌, ◌∙◌, List, ℕ, Some, None, refl, ap, sym, subst, IfErr, IfOk}
+use Rattle.std.proofs.Common.{◌≡◌, ◌∙◌, List, ℕ, Some, subst, IfOk}
 use Rattle.std.proofs.lemmas.Result.{err_from_is_err_and}
 use Rattle.lutree.specs.declared.program.Program.{Program}
 use Rattle.lutree.specs.Tree.{program_view}
-use Rattle.lustat_rules.specs.Accepted.{IsNamed, IsAccepted}
-use Rattle.lustat_rules.specs.Told.{Tells}
+use Rattle.lustat_rules.specs.Accepted.{IsAccepted}
 use Rattle.lustat_rules.specs.Faults.{IsJudged, IsFault, AreKept}
 use Rattle.lustat_clocks.specs.Asked.{is_asked}
-use Rattle.lustat.specs.First.{IsToldFirst}
-use Rattle.lustat.proofs.Telling.{told_by_names, told_by_clocks}
+use Rattle.lustat.proofs.Telling.{told_by_clocks}
 use Rattle.lustat.proofs.First.{first_of_names, first_of_clocks}
 use Rattle.lustat.proofs.stages.check.Goals as goal
 

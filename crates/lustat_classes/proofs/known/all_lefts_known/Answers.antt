@@ -1,4 +1,4 @@
-use Rattle.std.proofs.Common.{◌≡◌, ◌↔◌, IsTrue, List, All, subst}
+use Rattle.std.proofs.Common.{◌↔◌, IsTrue, List, All, subst}
 use Rattle.std.proofs.lemmas.List.Elements.{All-map}
 use Rattle.lutree.specs.declared.program.Node.{Node}
 use Rattle.lutree.specs.Tree.{node_view}

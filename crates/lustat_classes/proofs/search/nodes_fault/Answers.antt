@@ -1,42 +1,35 @@
-use Rattle.std.proofs.Common.{◌≡◌, ◌∙◌, ◌<◌, ◌≤◌, List, Bool, refl, sym, subst, length, arith}
-use Rattle.std.specs.Prelude.{Vec}
-use Rattle.std.specs.Global.{Global}
-use Rattle.std.proofs.lemmas.List.{length-map}
-use Rattle.std.proofs.lemmas.Option.{slice_get_read}
-use Rattle.lutree.specs.Tree.{node_view}
-use Rattle.lustat_rules.specs.Classes.{IsLeast}
-use Rattle.lustat_rules.proofs.Judging.{judged_step, judged_all}
-use Rattle.lustat_classes.specs.Assigned.{assigned}
-use Rattle.lustat_classes.specs.Faults.{InNodeFault, InNodeKept}
-use Rattle.lustat_classes.specs.Rows.{plain, row_at}
-use Rattle.lustat_classes.proofs.Rowing.{row_in}
+use Rattle.std.proofs.Common.{inl, inr, ℕ}
+use Rattle.std.proofs.lemmas.Option.{slice_get_within}
+use Rattle.std.proofs.lemmas.Result.{IfOk-weaker}
+use Rattle.lutree.specs.declared.program.Node.{Node}
+use Rattle.lustat_rules.specs.declared.error.StatError.{StatError}
+use Rattle.lustat_rules.specs.Faults.{IsJudged, FaultAmong, KeptAmong}
+use Rattle.lustat_rules.proofs.Judging.{judged_same}
+use Rattle.lustat_scope.specs.Stages.{BrokenInside, KeptInside}
+use Rattle.lustat_classes.specs.Faults.{EquationFault, EquationKept, InNodeFault, AreKept, IsFault}
 use Rattle.lustat_classes.proofs.search.nodes_fault.Goals as goal
 
-pub node_fault-requires : goal.node_fault-requires
-node_fault-requires c =
-    let nodes = c.args.scopes.now in
-    let rows : List (Vec Bool Global) = c.args.rows.now in
-    let i = c.loop-i.i in
-    let n = c.index-scopes-i.result in
-    let row = c.index-rows-i.result in
-    let here = slice_get_read nodes (length nodes) i n refl c.loop-i-test.true c.index-scopes-i.is in
-    let long : length nodes ≡ length rows = sym c.requires.long ∙ length-map rows (λ (r : Vec Bool Global). r.items) in
-    let lt : i < length rows = (let t = c.loop-i-test.true in omega (arith, t, long)) in
-    let there = slice_get_read rows (length rows) i row refl lt c.index-rows-i.is in
-    let same : row_at (plain rows) i ≡ c.as_slice-row.result.now = row_in rows i row there ∙ sym c.as_slice-row.ensures.value in
-    subst (λ marks. IsLeast (assigned (node_view n) marks) (node_view n)) same (c.requires.each i n c.loop-i-test.true here).least
+-- a node's only faults are those of its equations
+only_equations : (i : ℕ) (n : Node) (e : StatError) → BrokenInside (λ _ _ _. ⊥) (λ _ _ _ _. ⊥) (λ n _ q. EquationFault n q) i n e → InNodeFault n e
+only_equations i n e (inl h) = absurd h
+only_equations i n e (inr (inl h)) = absurd h.3
+only_equations i n e (inr (inr h)) = h
 
-pub loop-i-preserved : goal.loop-i-preserved
-loop-i-preserved c =
-    let nodes = c.args.scopes.now in
-    let i = c.loop-i.i in
-    let n = c.index-scopes-i.result in
-    let here = slice_get_read nodes (length nodes) i n refl c.loop-i-test.true c.index-scopes-i.is in
-    judged_step nodes (λ _ n. InNodeFault n) (λ _ n. InNodeKept n) i n c.loop-i.best c.in_ok-found.found c.lesser-best.result
-    here c.lesser-best.ensures c.loop-i.invariant c.in_ok-found.ensures
+pub invariant_of-least_fault : goal.invariant_of-least_fault
+invariant_of-least_fault c =
+    record {
+      least = record { long = c.requires.long; each = λ i n at. (c.requires.each i n (slice_get_within c.args.scopes.now i n at) at).least };
+    }
 
 pub returns : goal.returns
 returns c =
     let nodes = c.args.scopes.now in
-    let end : length nodes ≤ c.loop-i.i = (let e = c.loop-i-test.false in omega (arith, e)) in
-    judged_all nodes (λ _ n. InNodeFault n) (λ _ n. InNodeKept n) c.loop-i.i c.loop-i.best end c.loop-i.invariant
+    let S : StatError → Type 0 = FaultAmong nodes (BrokenInside (λ _ _ _. ⊥) (λ _ _ _ _. ⊥) (λ n _ q. EquationFault n q)) in
+    let P : Type 0 = KeptAmong nodes (KeptInside (λ _ _. Unit {0}) (λ _ _ _. Unit {0}) (λ n _ q. EquationKept n q)) in
+    IfOk-weaker c.least_fault.result (IsJudged S P) (IsJudged (IsFault nodes) (AreKept nodes))
+    (λ o judged. judged_same S (IsFault nodes) P (AreKept nodes) o
+    (λ e h. (h.0, h.1, h.2, only_equations h.0 h.1 e h.3))
+    (λ e h. (h.0, h.1, h.2, inr (inr h.3)))
+    (λ h i n at. (h i n at).1.1)
+    judged)
+    c.least_fault.ensures

@@ -8,9 +8,9 @@ use Rattle.lutree.specs.declared.expr.Prefix.TheVariants.{Pre}
 use Rattle.lutree.specs.declared.expr.Infix.TheVariants.{Arrow}
 use Rattle.lustat_rules.specs.Scope.{Clock}
 use Rattle.lustat_rules.specs.Clocks.{base}
-use Rattle.lustat_rules.specs.Classes.{Classes, IsRaised, NeedsMet, IsHeld, ClockIsTrueAtFirst, IsTrueAtFirst, StartsWith}
+use Rattle.lustat_rules.specs.Classes.{Classes, IsRaised, NeedsMet, IsHeld, SamplersAreZero, ClockIsTrueAtFirst, IsTrueAtFirst, StartsWith}
 use Rattle.lustat_rules.specs.Vectors.{sampler, holder, delay, defines, int_variable, x}
-use Rattle.lustat_rules.proofs.Worked.{zero_less, one_less, false_is_true, first_is}
+use Rattle.lustat_rules.proofs.Worked.{zero_less, one_less, none_below, false_is_true, first_is}
 use Rattle.lustat_rules.proofs.laws.initialisation_vectors_law.Goals as goal
 
 -- what defines y
@@ -31,6 +31,7 @@ returns c =
           raised = All-from_recursion (IsRaised (λ x. false)) (equation (tree.binary Arrow (tree.number 0) (tree.unary Pre x)) ∷ []) ((λ t. absurd (false_is_true t)), tt);
           needs = All-from_recursion (λ (q : EquationTree). NeedsMet (λ x. false) q.right) (equation (tree.binary Arrow (tree.number 0) (tree.unary Pre x)) ∷ []) ((tt, (refl, tt)), tt);
           held = All-from_recursion (IsHeld (λ x. false) (delay (tree.binary Arrow (tree.number 0) (tree.unary Pre x)))) (int_variable (codes "x") base ∷ int_variable (codes "y") base ∷ []) (record { input = λ i. refl; output = λ o. refl; clock = tt }, (record { input = λ i. refl; output = λ o. refl; clock = tt }, tt));
+          sampled = All-from_recursion (SamplersAreZero (λ x. false)) (equation (tree.binary Arrow (tree.number 0) (tree.unary Pre x)) ∷ []) ((λ k x l. absurd (none_below l)), tt);
         },
       );
       bare_pre = λ h.

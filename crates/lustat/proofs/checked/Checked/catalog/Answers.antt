@@ -1,4 +1,4 @@
-use Rattle.std.proofs.Common.{sym, subst}
+use Rattle.std.proofs.Common.{subst}
 use Rattle.lutree.specs.Tree.{program_view}
 use Rattle.lustat_rules.specs.Accepted.{IsAccepted}
 use Rattle.lustat.specs.Whole.{Whole}

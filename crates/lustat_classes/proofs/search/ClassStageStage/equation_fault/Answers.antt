@@ -9,7 +9,13 @@ use Rattle.lustat_rules.proofs.Judging.{judged_told}
 use Rattle.lustat_classes.specs.Assigned.{assigned}
 use Rattle.lustat_classes.specs.Faults.{EquationSays, EquationKept, EquationFault}
 use Rattle.lustat_classes.proofs.Equations.{keeps_least, equation_judged}
-use Rattle.lustat_classes.proofs.search.equation_fault.Goals as goal
+use Rattle.lustat_classes.proofs.search.ClassStageStage.equation_fault.Goals as goal
+
+pub keeps_classes-keeps-requires : goal.keeps_classes-keeps-requires
+keeps_classes-keeps-requires c = c.requires.serves.named_by_clocks
+
+pub currents_start-starts-requires : goal.currents_start-starts-requires
+currents_start-starts-requires c = sym c.requires.serves.own
 
 pub returns : goal.returns
 returns c =
@@ -18,9 +24,10 @@ returns c =
     let K : Rule → Type 0 = EquationSays n q in
     let a = c.told-nil.result in
     let b = c.told-current.result in
-    let all = keeps_least (node_view n) (assigned (node_view n) c.args.classes.now) (equation_view q) c.requires.least in
+    let serves = c.requires.serves in
+    let all = keeps_least (node_view n) (assigned (node_view n) c.args.prepared.now.marks.now) (equation_view q) serves.least in
     let one = c.keeps_classes-keeps.ensures in
-    let start = subst (λ (m : Node). IsTrue c.currents_start-starts.result ↔ CurrentsStart (node_view m) (equation_view q)) (sym c.requires.firsts) c.currents_start-starts.ensures in
+    let start = subst (λ (m : Node). IsTrue c.currents_start-starts.result ↔ CurrentsStart (node_view m) (equation_view q)) serves.own c.currents_start-starts.ensures in
     subst (IsJudged (EquationFault n q) (EquationKept n q)) (sym c.lesser.ensures)
     (equation_judged q.byte K a b
     (judged_told maybe_nil q.byte (K maybe_nil) c.keeps_classes-keeps.result (MaybeNil q.byte) a c.told-nil.ensures refl refl (λ h. all.0 (one.0 h), λ h. one.1 (all.1 h)))

@@ -1,0 +1,28 @@
+use Rattle.std.proofs.Common.{◌≡◌, ◌∙◌, ◌<◌, List, Bool, refl, sym, ap, subst, length, arith}
+use Rattle.std.specs.Prelude.{Vec}
+use Rattle.std.specs.Global.{Global}
+use Rattle.std.proofs.lemmas.List.{length-map}
+use Rattle.std.proofs.lemmas.Option.{slice_get_read, slice_get_within}
+use Rattle.lutree.specs.Tree.{node_view}
+use Rattle.lustat_rules.specs.Classes.{IsLeast}
+use Rattle.lustat_classes.specs.Assigned.{assigned}
+use Rattle.lustat_classes.specs.Rows.{plain, row_at}
+use Rattle.lustat_classes.proofs.Rowing.{row_in}
+use Rattle.lustat_classes.proofs.search.ClassStageStage.prepare.Goals as goal
+
+pub returns : goal.returns
+returns c =
+    let s = c.args.self.now in
+    let n = c.args.scope.now in
+    let i = c.args.place in
+    let rows : List (Vec Bool Global) = s.rows.now in
+    let row = c.index-self-place.result in
+    let long : length (plain rows) ≡ length s.scopes.now = s.least.long in
+    let lt : i < length rows = (let t = slice_get_within s.scopes.now i n c.requires in let m = length-map rows (λ (r : Vec Bool Global). r.items) in omega (arith, t, long, m)) in
+    let there = slice_get_read rows (length rows) i row refl lt c.index-self-place.is in
+    let own : row_at (plain rows) i ≡ c.as_slice-marks.result.now = row_in rows i row there ∙ ap (λ (r : Vec Bool Global). r.items) c.index-self-place.is ∙ sym c.as_slice-marks.ensures.value in
+    record {
+      named_by_clocks = c.in_ok-named.ensures;
+      own = c.in_ok-firsts.ensures ∙ c.node.ensures;
+      least = subst (λ marks. IsLeast (assigned (node_view n) marks) (node_view n)) own (s.least.each i n c.requires);
+    }
