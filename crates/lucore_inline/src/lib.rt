@@ -8,7 +8,6 @@
 #![tactic(auto)]
 
 mod context;
-mod kinds;
 mod laying;
 mod moved;
 mod needed;

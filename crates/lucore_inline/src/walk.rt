@@ -12,13 +12,13 @@ ghost use Rattle.lucore_inline.specs.Walks.{IsWalked, root_view, plain, prefix_f
 use crate::context::{
     Context, called_list, flow_of, inputs_of, own, placed_clock, variable_clock, variable_place,
 };
-use crate::kinds::{agreed_kind, is_of_kind, kind_of_binary, kind_of_choice, kind_of_unary};
 use crate::moved::push_moved;
 use crate::root::{Operand, Root, Walked, settled, sum_of};
 use luflow::{Datum, Flow, Form};
 use lulist::Number;
 use lustat_scope::{Catalog, ClockRef, Scope};
 use lutree::{Declaration, Expr, Infix, Kind, Prefix};
+use lutype::{agreed_kind, is_of_kind, kind_of_binary, kind_of_choice, kind_of_unary};
 use std::alloc::{AllocError, Global};
 
 // The datum of a number.

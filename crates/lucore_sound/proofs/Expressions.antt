@@ -108,13 +108,17 @@ module _ (p : ProgramTree) (lists : List (List Flow)) (node : NodeTree) (Below :
       long fl s k xs = length-map fl (moved s k xs)
 
   module _ (clocked_by : (x : List ℕ) → Clocked (clock_of node x)) where
+    -- what `when` or `merge` may name: a bool of class 0
+    abbrev pub IsSampler : List ℕ → Type 0
+    IsSampler x = IsTruth node x × (a x ≡ false)
+
     -- what the rules ask of an expression at its place
     pub record Keeps (e : Tree) (k : Option Condition) (w : ℕ) : Type 0 where
       pub clocked : Clocked k
       pub well : IsWell p node Below e w
       pub fits : FitsInside node e k
       pub needs : NeedsMet a e
-      pub truths : All (IsTruth node) (clocks_in e)
+      pub samplers : All IsSampler (clocks_in e)
       pub starts : All (ClockIsTrueAtFirst node) (currents_in e)
 
     pub record AllKeep (all : Trees) (k : Option Condition) : Type 0 where
@@ -122,7 +126,7 @@ module _ (p : ProgramTree) (lists : List (List Flow)) (node : NodeTree) (Below :
       pub well : AllWell p node Below all
       pub fits : AllFitInside node all k
       pub needs : AllReady a all
-      pub truths : All (IsTruth node) (clocks_in_all all)
+      pub samplers : All IsSampler (clocks_in_all all)
       pub starts : All (ClockIsTrueAtFirst node) (currents_in_all all)
 
     -- a flow of the expression's own
@@ -162,7 +166,7 @@ module _ (p : ProgramTree) (lists : List (List Flow)) (node : NodeTree) (Below :
         subst (λ kinds. SoundIn Assigned (walk p lists node (tree.call f all) k) ck kinds false) (sym c.1)
         (weaken L ins (Given []) Assigned (walk p lists node (tree.call f all) k) ck (kinds_of is.callee.outputs) false (λ class q. (q, tt))
         (every (kinds_of is.callee.inputs) (kinds_of is.callee.outputs) (λ xs. instance p lists f ck xs)
-        (record { clocked = keeps.clocked; well = keeps.well.1; fits = keeps.fits; needs = keeps.needs; truths = keeps.truths; starts = keeps.starts }) c.0
+        (record { clocked = keeps.clocked; well = keeps.well.1; fits = keeps.fits; needs = keeps.needs; samplers = keeps.samplers; starts = keeps.starts }) c.0
         (λ xs places. sound_instance (Given []) (λ class q. q.0) f k xs w (length (trees_in all)) keeps.clocked is places)))
 
     mutual
@@ -187,12 +191,12 @@ module _ (p : ProgramTree) (lists : List (List Flow)) (node : NodeTree) (Below :
           let h = agreed_is _ _ t ty in
           let kind : t ≡ _ = same_Some _ _ (sym h.0) ∙ sort_is op in
           sound_after L ins Assigned (walk p lists node b k) (λ x. leaf (flow_of p lists node (tree.unary (Data1 op) b) k (Unary op x))) ck ck t (t ∷ []) (is_one a b) (is_one a b)
-          (sound b k t (record { clocked = keeps.clocked; well = keeps.well; fits = keeps.fits; needs = keeps.needs; truths = keeps.truths; starts = keeps.starts }) h.1)
+          (sound b k t (record { clocked = keeps.clocked; well = keeps.well; fits = keeps.fits; needs = keeps.needs; samplers = keeps.samplers; starts = keeps.starts }) h.1)
           (λ x on. own_leaf (λ class. Assigned class × AtMost (class x) (is_one a b)) (tree.unary (Data1 op) b) k t (Unary op x) (is_one a b) ty keeps.clocked (λ class q. (q.0, (kind, on, q.1))))
       sound (tree.unary Before b) k t keeps ty =
           let ck = clock_place node k in
           sound_after L ins Assigned (walk p lists node b k) (λ x. leaf (flow_of p lists node (tree.unary Before b) k (Pre x))) ck ck t (t ∷ []) (is_one a b) true
-          (sound b k t (record { clocked = keeps.clocked; well = keeps.well; fits = keeps.fits; needs = keeps.needs.1; truths = keeps.truths; starts = keeps.starts }) ty)
+          (sound b k t (record { clocked = keeps.clocked; well = keeps.well; fits = keeps.fits; needs = keeps.needs.1; samplers = keeps.samplers; starts = keeps.starts }) ty)
           (λ x on. own_leaf (λ class. Assigned class × AtMost (class x) (is_one a b)) (tree.unary Before b) k t (Pre x) true ty keeps.clocked (λ class q. (q.0, (on, zero_from (class x) (is_one a b) q.1 keeps.needs.0, refl))))
       sound (tree.binary (Data2 op) b c) k t keeps ty =
           let ck = clock_place node k in
@@ -201,10 +205,10 @@ module _ (p : ProgramTree) (lists : List (List Flow)) (node : NodeTree) (Below :
           let u = h.0 in
           let P1 = λ (x : ℕ) (class : Classing). Assigned class × AtMost (class x) (is_one a b) in
           sound_after L ins Assigned (walk p lists node b k) (λ x. after (walk p lists node c k) (λ y. leaf (flow_of p lists node e k (Binary op x y)))) ck ck u (t ∷ []) (is_one a b) (is_one a e)
-          (sound b k u (record { clocked = keeps.clocked; well = keeps.well.0; fits = keeps.fits.0; needs = keeps.needs.0; truths = all_left (IsTruth node) (clocks_in b) (clocks_in c) keeps.truths; starts = all_left (ClockIsTrueAtFirst node) (currents_in b) (currents_in c) keeps.starts }) h.1)
+          (sound b k u (record { clocked = keeps.clocked; well = keeps.well.0; fits = keeps.fits.0; needs = keeps.needs.0; samplers = all_left IsSampler (clocks_in b) (clocks_in c) keeps.samplers; starts = all_left (ClockIsTrueAtFirst node) (currents_in b) (currents_in c) keeps.starts }) h.1)
           (λ x on. sound_after L ins (P1 x) (walk p lists node c k) (λ y. leaf (flow_of p lists node e k (Binary op x y))) ck ck u (t ∷ []) (is_one a c) (is_one a e)
           (weaken L ins Assigned (P1 x) (walk p lists node c k) ck (u ∷ []) (is_one a c) (λ class q. q.0)
-          (sound c k u (record { clocked = keeps.clocked; well = keeps.well.1; fits = keeps.fits.1; needs = keeps.needs.1; truths = all_right (IsTruth node) (clocks_in b) (clocks_in c) keeps.truths; starts = all_right (ClockIsTrueAtFirst node) (currents_in b) (currents_in c) keeps.starts }) h.2))
+          (sound c k u (record { clocked = keeps.clocked; well = keeps.well.1; fits = keeps.fits.1; needs = keeps.needs.1; samplers = all_right IsSampler (clocks_in b) (clocks_in c) keeps.samplers; starts = all_right (ClockIsTrueAtFirst node) (currents_in b) (currents_in c) keeps.starts }) h.2))
           (λ y on'. own_leaf (λ class. P1 x class × AtMost (class y) (is_one a c)) e k t (Binary op x y) (is_one a e) ty keeps.clocked
           (λ class q. (q.0.0, (u, h.3, h.4, on, on', left_most (class x) (is_one a b) (is_one a c) q.0.1, right_most (class y) (is_one a b) (is_one a c) q.1)))))
       sound (tree.binary Starts b c) k t keeps ty =
@@ -213,10 +217,10 @@ module _ (p : ProgramTree) (lists : List (List Flow)) (node : NodeTree) (Below :
           let h = agreed_is _ _ t ty in
           let P1 = λ (x : ℕ) (class : Classing). Assigned class × AtMost (class x) (is_one a b) in
           sound_after L ins Assigned (walk p lists node b k) (λ x. after (walk p lists node c k) (λ y. leaf (flow_of p lists node e k (Arrow x y)))) ck ck t (t ∷ []) (is_one a b) (is_one a e)
-          (sound b k t (record { clocked = keeps.clocked; well = keeps.well.0; fits = keeps.fits.0; needs = keeps.needs.0; truths = all_left (IsTruth node) (clocks_in b) (clocks_in c) keeps.truths; starts = all_left (ClockIsTrueAtFirst node) (currents_in b) (currents_in c) keeps.starts }) h.0)
+          (sound b k t (record { clocked = keeps.clocked; well = keeps.well.0; fits = keeps.fits.0; needs = keeps.needs.0; samplers = all_left IsSampler (clocks_in b) (clocks_in c) keeps.samplers; starts = all_left (ClockIsTrueAtFirst node) (currents_in b) (currents_in c) keeps.starts }) h.0)
           (λ x on. sound_after L ins (P1 x) (walk p lists node c k) (λ y. leaf (flow_of p lists node e k (Arrow x y))) ck ck t (t ∷ []) (is_one a c) (is_one a e)
           (weaken L ins Assigned (P1 x) (walk p lists node c k) ck (t ∷ []) (is_one a c) (λ class q. q.0)
-          (sound c k t (record { clocked = keeps.clocked; well = keeps.well.1; fits = keeps.fits.1; needs = keeps.needs.1; truths = all_right (IsTruth node) (clocks_in b) (clocks_in c) keeps.truths; starts = all_right (ClockIsTrueAtFirst node) (currents_in b) (currents_in c) keeps.starts }) h.1))
+          (sound c k t (record { clocked = keeps.clocked; well = keeps.well.1; fits = keeps.fits.1; needs = keeps.needs.1; samplers = all_right IsSampler (clocks_in b) (clocks_in c) keeps.samplers; starts = all_right (ClockIsTrueAtFirst node) (currents_in b) (currents_in c) keeps.starts }) h.1))
           (λ y on'. own_leaf (λ class. P1 x class × AtMost (class y) (is_one a c)) e k t (Arrow x y) (is_one a e) ty keeps.clocked
           (λ class q. (q.0.0, (on, on', q.0.1)))))
       sound (tree.binary FollowedBy b c) k t keeps ty =
@@ -228,10 +232,10 @@ module _ (p : ProgramTree) (lists : List (List Flow)) (node : NodeTree) (Below :
           let P1 = λ (x : ℕ) (class : Classing). Assigned class × AtMost (class x) (is_one a b) in
           let P2 = λ (x y : ℕ) (class : Classing). P1 x class × AtMost (class y) (is_one a c) in
           sound_after L ins Assigned (walk p lists node b k) (λ x. after (walk p lists node c k) (λ y. after (pre y) (λ z. root x z))) ck ck t (t ∷ []) (is_one a b) (is_one a e)
-          (sound b k t (record { clocked = keeps.clocked; well = keeps.well.0; fits = keeps.fits.0; needs = keeps.needs.0; truths = all_left (IsTruth node) (clocks_in b) (clocks_in c) keeps.truths; starts = all_left (ClockIsTrueAtFirst node) (currents_in b) (currents_in c) keeps.starts }) h.0)
+          (sound b k t (record { clocked = keeps.clocked; well = keeps.well.0; fits = keeps.fits.0; needs = keeps.needs.0; samplers = all_left IsSampler (clocks_in b) (clocks_in c) keeps.samplers; starts = all_left (ClockIsTrueAtFirst node) (currents_in b) (currents_in c) keeps.starts }) h.0)
           (λ x on. sound_after L ins (P1 x) (walk p lists node c k) (λ y. after (pre y) (λ z. root x z)) ck ck t (t ∷ []) (is_one a c) (is_one a e)
           (weaken L ins Assigned (P1 x) (walk p lists node c k) ck (t ∷ []) (is_one a c) (λ class q. q.0)
-          (sound c k t (record { clocked = keeps.clocked; well = keeps.well.1; fits = keeps.fits.1; needs = keeps.needs.2; truths = all_right (IsTruth node) (clocks_in b) (clocks_in c) keeps.truths; starts = all_right (ClockIsTrueAtFirst node) (currents_in b) (currents_in c) keeps.starts }) h.1))
+          (sound c k t (record { clocked = keeps.clocked; well = keeps.well.1; fits = keeps.fits.1; needs = keeps.needs.2; samplers = all_right IsSampler (clocks_in b) (clocks_in c) keeps.samplers; starts = all_right (ClockIsTrueAtFirst node) (currents_in b) (currents_in c) keeps.starts }) h.1))
           (λ y on'. sound_after L ins (P2 x y) (pre y) (λ z. root x z) ck ck t (t ∷ []) true (is_one a e)
           (own_leaf (P2 x y) (tree.unary Before c) k t (Pre y) true h.1 keeps.clocked (λ class q. (q.0.0, (on', zero_from (class y) (is_one a c) q.1 keeps.needs.1, refl))))
           (λ z on''. own_leaf (λ class. P2 x y class × AtMost (class z) true) e k t (Arrow x z) (is_one a e) ty keeps.clocked
@@ -243,16 +247,16 @@ module _ (p : ProgramTree) (lists : List (List Flow)) (node : NodeTree) (Below :
           let root = λ (x y z : ℕ). leaf (flow_of p lists node e k (If x y z)) in
           let P1 = λ (x : ℕ) (class : Classing). Assigned class × AtMost (class x) (is_one a v) in
           let P2 = λ (x y : ℕ) (class : Classing). P1 x class × AtMost (class y) (is_one a b) in
-          let truths' = all_right (IsTruth node) (clocks_in v) (clocks_in b ++ clocks_in c) keeps.truths in
+          let samplers' = all_right IsSampler (clocks_in v) (clocks_in b ++ clocks_in c) keeps.samplers in
           let starts' = all_right (ClockIsTrueAtFirst node) (currents_in v) (currents_in b ++ currents_in c) keeps.starts in
           sound_after L ins Assigned (walk p lists node v k) (λ x. after (walk p lists node b k) (λ y. after (walk p lists node c k) (λ z. root x y z))) ck ck Truths (t ∷ []) (is_one a v) (is_one a e)
-          (sound v k Truths (record { clocked = keeps.clocked; well = keeps.well.0; fits = keeps.fits.0; needs = keeps.needs.0; truths = all_left (IsTruth node) (clocks_in v) (clocks_in b ++ clocks_in c) keeps.truths; starts = all_left (ClockIsTrueAtFirst node) (currents_in v) (currents_in b ++ currents_in c) keeps.starts }) h.0)
+          (sound v k Truths (record { clocked = keeps.clocked; well = keeps.well.0; fits = keeps.fits.0; needs = keeps.needs.0; samplers = all_left IsSampler (clocks_in v) (clocks_in b ++ clocks_in c) keeps.samplers; starts = all_left (ClockIsTrueAtFirst node) (currents_in v) (currents_in b ++ currents_in c) keeps.starts }) h.0)
           (λ x on. sound_after L ins (P1 x) (walk p lists node b k) (λ y. after (walk p lists node c k) (λ z. root x y z)) ck ck t (t ∷ []) (is_one a b) (is_one a e)
           (weaken L ins Assigned (P1 x) (walk p lists node b k) ck (t ∷ []) (is_one a b) (λ class q. q.0)
-          (sound b k t (record { clocked = keeps.clocked; well = keeps.well.1; fits = keeps.fits.1; needs = keeps.needs.1; truths = all_left (IsTruth node) (clocks_in b) (clocks_in c) truths'; starts = all_left (ClockIsTrueAtFirst node) (currents_in b) (currents_in c) starts' }) h.1))
+          (sound b k t (record { clocked = keeps.clocked; well = keeps.well.1; fits = keeps.fits.1; needs = keeps.needs.1; samplers = all_left IsSampler (clocks_in b) (clocks_in c) samplers'; starts = all_left (ClockIsTrueAtFirst node) (currents_in b) (currents_in c) starts' }) h.1))
           (λ y on'. sound_after L ins (P2 x y) (walk p lists node c k) (λ z. root x y z) ck ck t (t ∷ []) (is_one a c) (is_one a e)
           (weaken L ins Assigned (P2 x y) (walk p lists node c k) ck (t ∷ []) (is_one a c) (λ class q. q.0.0)
-          (sound c k t (record { clocked = keeps.clocked; well = keeps.well.2; fits = keeps.fits.2; needs = keeps.needs.2; truths = all_right (IsTruth node) (clocks_in b) (clocks_in c) truths'; starts = all_right (ClockIsTrueAtFirst node) (currents_in b) (currents_in c) starts' }) h.2))
+          (sound c k t (record { clocked = keeps.clocked; well = keeps.well.2; fits = keeps.fits.2; needs = keeps.needs.2; samplers = all_right IsSampler (clocks_in b) (clocks_in c) samplers'; starts = all_right (ClockIsTrueAtFirst node) (currents_in b) (currents_in c) starts' }) h.2))
           (λ z on''. own_leaf (λ class. P2 x y class × AtMost (class z) (is_one a c)) e k t (If x y z) (is_one a e) ty keeps.clocked
           (λ class q. (
             q.0.0.0,
@@ -271,14 +275,14 @@ module _ (p : ProgramTree) (lists : List (List Flow)) (node : NodeTree) (Below :
           let fits = keeps.fits in
           let same : kc ≡ fits.1.0 = clock_named (declarations_of node) c.variable fits.1.0 fits.1.1 in
           let has : HasClock node c.variable kc = subst (HasClock node c.variable) (sym same) fits.1.1 in
-          let truth = all_head (IsTruth node) c.variable [] (all_right (IsTruth node) (clocks_in b) (c.variable ∷ []) keeps.truths) in
+          let sampler = all_head IsSampler c.variable [] (all_right IsSampler (clocks_in b) (c.variable ∷ []) keeps.samplers) in
           let cv = variable_place p lists node c.variable in
-          let clocked : Clocked (Some c) = (keeps.well.0, (kc, has), truth, keeps.needs.0) in
+          let clocked : Clocked (Some c) = (keeps.well.0, (kc, has), sampler.0, sampler.1) in
           subst (λ k. SoundIn Assigned (walk p lists node e k) (clock_place node k) (t ∷ []) (is_one a e)) (sym fits.0)
           (sound_after L ins Assigned (walk p lists node b kc) (λ x. leaf (flow_of p lists node e (Some c) (When x))) (clock_place node kc) (clock_place node (Some c)) t (t ∷ []) (is_one a b) (is_one a e)
-          (sound b kc t (record { clocked = clocked_by c.variable; well = keeps.well.1; fits = subst (FitsInside node b) (sym same) fits.1.2; needs = keeps.needs.1; truths = all_left (IsTruth node) (clocks_in b) (c.variable ∷ []) keeps.truths; starts = keeps.starts }) ty)
+          (sound b kc t (record { clocked = clocked_by c.variable; well = keeps.well.1; fits = subst (FitsInside node b) (sym same) fits.1.2; needs = keeps.needs; samplers = all_left IsSampler (clocks_in b) (c.variable ∷ []) keeps.samplers; starts = keeps.starts }) ty)
           (λ x on. own_leaf (λ class. Assigned class × AtMost (class x) (is_one a b)) e (Some c) t (When x) (is_one a e) ty clocked
-          (λ class q. (q.0, (cv, c.sign, clock_place node kc, refl, variables c.variable kc Truths has truth, on, q.1)))))
+          (λ class q. (q.0, (cv, c.sign, clock_place node kc, refl, variables c.variable kc Truths has sampler.0, on, q.1)))))
       sound (tree.current x) k t keeps ty =
           let f = keeps.fits in
           let c = f.0 in
@@ -301,26 +305,26 @@ module _ (p : ProgramTree) (lists : List (List Flow)) (node : NodeTree) (Below :
           let ka = condition c true in
           let kb = condition c false in
           let cp = variable_place p lists node c in
-          let truth = all_head (IsTruth node) c (clocks_in a1 ++ clocks_in b) keeps.truths in
-          let truths' = all_tail (IsTruth node) c (clocks_in a1 ++ clocks_in b) keeps.truths in
-          let clocked : Known p node Below c × ((j : Option Condition) × HasClock node c j) × IsTruth node c × (a c ≡ false) = (keeps.well.0, (k, keeps.fits.0), truth, keeps.needs.0) in
+          let sampler = all_head IsSampler c (clocks_in a1 ++ clocks_in b) keeps.samplers in
+          let samplers' = all_tail IsSampler c (clocks_in a1 ++ clocks_in b) keeps.samplers in
+          let clocked : Known p node Below c × ((j : Option Condition) × HasClock node c j) × IsTruth node c × (a c ≡ false) = (keeps.well.0, (k, keeps.fits.0), sampler.0, sampler.1) in
           let root = λ (x y : ℕ). leaf (flow_of p lists node e k (Merge cp x y)) in
           let P1 = λ (x : ℕ) (class : Classing). Assigned class × AtMost (class x) (is_one a a1) in
           sound_after L ins Assigned (walk p lists node a1 ka) (λ x. after (walk p lists node b kb) (λ y. root x y)) (clock_place node ka) ck t (t ∷ []) (is_one a a1) false
-          (sound a1 ka t (record { clocked = clocked; well = keeps.well.1; fits = keeps.fits.1; needs = keeps.needs.2; truths = all_left (IsTruth node) (clocks_in a1) (clocks_in b) truths'; starts = all_left (ClockIsTrueAtFirst node) (currents_in a1) (currents_in b) keeps.starts }) h.0)
+          (sound a1 ka t (record { clocked = clocked; well = keeps.well.1; fits = keeps.fits.1; needs = keeps.needs.1; samplers = all_left IsSampler (clocks_in a1) (clocks_in b) samplers'; starts = all_left (ClockIsTrueAtFirst node) (currents_in a1) (currents_in b) keeps.starts }) h.0)
           (λ x on. sound_after L ins (P1 x) (walk p lists node b kb) (λ y. root x y) (clock_place node kb) ck t (t ∷ []) (is_one a b) false
           (weaken L ins Assigned (P1 x) (walk p lists node b kb) (clock_place node kb) (t ∷ []) (is_one a b) (λ class q. q.0)
-          (sound b kb t (record { clocked = clocked; well = keeps.well.2; fits = keeps.fits.2; needs = keeps.needs.4; truths = all_right (IsTruth node) (clocks_in a1) (clocks_in b) truths'; starts = all_right (ClockIsTrueAtFirst node) (currents_in a1) (currents_in b) keeps.starts }) h.1))
+          (sound b kb t (record { clocked = clocked; well = keeps.well.2; fits = keeps.fits.2; needs = keeps.needs.3; samplers = all_right IsSampler (clocks_in a1) (clocks_in b) samplers'; starts = all_right (ClockIsTrueAtFirst node) (currents_in a1) (currents_in b) keeps.starts }) h.1))
           (λ y on'. own_leaf (λ class. P1 x class × AtMost (class y) (is_one a b)) e k t (Merge cp x y) false ty keeps.clocked
           (λ class q. (
             q.0.0,
             (
-              variables c k Truths keeps.fits.0 truth,
+              variables c k Truths keeps.fits.0 sampler.0,
               on,
               on',
-              q.0.0 c keeps.well.0 ∙ keeps.needs.0,
-              zero_from (class x) (is_one a a1) q.0.1 keeps.needs.1,
-              zero_from (class y) (is_one a b) q.1 keeps.needs.3,
+              q.0.0 c keeps.well.0 ∙ sampler.1,
+              zero_from (class x) (is_one a a1) q.0.1 keeps.needs.0,
+              zero_from (class y) (is_one a b) q.1 keeps.needs.2,
             ),
           ))))
       sound (tree.call f all) k t keeps ty =
@@ -338,12 +342,12 @@ module _ (p : ProgramTree) (lists : List (List Flow)) (node : NodeTree) (Below :
           let later : types_of p node all ≡ map Some ts = ap later_types ty in
           sound_after L ins (Given done) (walk p lists node b k) (λ x. walk_all p lists node all k (λ xs. rest (x ∷ xs))) ck ck t kinds (is_one a b) false
           (weaken L ins Assigned (Given done) (walk p lists node b k) ck (t ∷ []) (is_one a b) (λ class q. q.0)
-          (sound b k t (record { clocked = keep.clocked; well = keep.well.0; fits = keep.fits.0; needs = keep.needs.1; truths = all_left (IsTruth node) (clocks_in b) (clocks_in_all all) keep.truths; starts = all_left (ClockIsTrueAtFirst node) (currents_in b) (currents_in_all all) keep.starts }) here))
+          (sound b k t (record { clocked = keep.clocked; well = keep.well.0; fits = keep.fits.0; needs = keep.needs.1; samplers = all_left IsSampler (clocks_in b) (clocks_in_all all) keep.samplers; starts = all_left (ClockIsTrueAtFirst node) (currents_in b) (currents_in_all all) keep.starts }) here))
           (λ x on.
           weaken L ins (Given (x ∷ done)) (λ class. Given done class × AtMost (class x) (is_one a b)) (walk_all p lists node all k (λ xs. rest (x ∷ xs))) ck kinds false
           (λ class q. (q.0.0, (zero_from (class x) (is_one a b) q.1 keep.needs.0, q.0.1)))
           (sound_all all k ts kinds (λ xs. rest (x ∷ xs)) (x ∷ done)
-          (record { clocked = keep.clocked; well = keep.well.1; fits = keep.fits.1; needs = keep.needs.2; truths = all_right (IsTruth node) (clocks_in b) (clocks_in_all all) keep.truths; starts = all_right (ClockIsTrueAtFirst node) (currents_in b) (currents_in_all all) keep.starts }) later
+          (record { clocked = keep.clocked; well = keep.well.1; fits = keep.fits.1; needs = keep.needs.2; samplers = all_right IsSampler (clocks_in b) (clocks_in_all all) keep.samplers; starts = all_right (ClockIsTrueAtFirst node) (currents_in b) (currents_in_all all) keep.starts }) later
           (λ xs places.
           weaken L ins (λ class. Given done class × AllZero class (x ∷ xs)) (λ class. Given (x ∷ done) class × AllZero class xs) (rest (x ∷ xs)) ck kinds false
           (λ class q. ((q.0.0, q.0.1.1), (q.0.1.0, q.1))) (h (x ∷ xs) (on, places)))))
@@ -356,7 +360,7 @@ module _ (p : ProgramTree) (lists : List (List Flow)) (node : NodeTree) (Below :
 
     one_wide : (e : Tree) (k : Option Condition) (w : ℕ) → IsWell p node Below e 1 → Keeps e k w → Keeps e k 1
     one_wide e k w well keeps =
-        record { clocked = keeps.clocked; well = well; fits = keeps.fits; needs = keeps.needs; truths = keeps.truths; starts = keeps.starts }
+        record { clocked = keeps.clocked; well = well; fits = keeps.fits; needs = keeps.needs; samplers = keeps.samplers; starts = keeps.starts }
 
     pub sound_right : (e : Tree) (k : Option Condition) (w : ℕ) (kinds : List Kind) → Keeps e k w → right_types p node e ≡ Some kinds → SoundIn Assigned (walk p lists node e k) (clock_place node k) kinds (is_one a e)
     sound_right (tree.number n) k w kinds keeps ty = single_right (tree.number n) k kinds (one_wide (tree.number n) k w keeps.well keeps) ty

@@ -11,7 +11,8 @@ use Rattle.luflow.specs.declared.form.Clock.TheVariants.{Base, On as Sampled}
 use Rattle.luflow.specs.declared.form.Form.{Form}
 use Rattle.luflow.specs.declared.form.Form.TheVariants.{Input, Constant, Copied, Unary, Binary, If, Pre, Arrow, When, Current, Merge}
 use Rattle.luflow.specs.declared.form.Flow.{Flow}
-use Rattle.luflow.specs.Sound.{AtMost, IsConstantOf, single_sort, takes, makes}
+use Rattle.luflow.specs.Operators.{single_sort, takes, makes}
+use Rattle.luflow.specs.Sound.{AtMost, IsConstantOf}
 use Rattle.lucore_list.specs.Layout.{moved_form, moved_clock, moved}
 
 -- CLASSES

@@ -102,7 +102,7 @@ module _ (p : ProgramTree) (lists : List (List Flow)) (node : NodeTree) (facts :
       let ty = ruling.typed t.0 q t.1 in
       let e = is_one a q.right in
       let r = expressions.sound_right p lists node (Below node) a L node.inputs (variables_on p lists node facts ruling) (beginnings p lists node facts ruling) ruling.truth callee_sound callee_outputs clocked_by q.right k (length q.left) ty.0
-      (record { clocked = clocked_by (name_at q.left 0); well = facts.rights t.0 q t.1; fits = left_fits t.0 q t.1; needs = all_at (λ (q : EquationTree). NeedsMet a q.right) node.equations t.0 q ruling.meets.needs t.1; truths = ruling.truths t.0 q t.1; starts = ruling.starts t.0 q t.1 }) ty.1
+      (record { clocked = clocked_by (name_at q.left 0); well = facts.rights t.0 q t.1; fits = left_fits t.0 q t.1; needs = all_at (λ (q : EquationTree). NeedsMet a q.right) node.equations t.0 q ruling.meets.needs t.1; samplers = ruling.samplers t.0 q t.1; starts = ruling.starts t.0 q t.1 }) ty.1
       s (each_left (λ x f. slice_get L x ≡ Some f) s w.inner rest stand) in
       let raise = all_at (IsRaised a) node.equations t.0 q ruling.meets.raised t.1 in
       let g = equations_sound qs s' (λ j q e. there (suc j) q e) (each_right (λ x f. slice_get L x ≡ Some f) s w.inner rest stand) in

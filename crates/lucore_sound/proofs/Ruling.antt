@@ -9,7 +9,7 @@ use Rattle.lustat_rules.specs.Scope.{declarations_of, node_called}
 use Rattle.lustat_rules.specs.Scope as rules
 use Rattle.lustat_rules.specs.Typing.{IsWellTyped}
 use Rattle.lustat_rules.specs.Clocks.{HasClock, IsTruth, Ends, clocks_in}
-use Rattle.lustat_rules.specs.Classes.{Classes, Meets, IsHeld, ClockIsTrueAtFirst, currents_in}
+use Rattle.lustat_rules.specs.Classes.{Classes, Meets, IsHeld, SamplersAreZero, ClockIsTrueAtFirst, currents_in}
 use Rattle.lustat_rules.specs.Accepted.{Rule, IsAccepted}
 use Rattle.lucore_list.proofs.Names.{all_at, mapped_some, first_at, placed}
 
@@ -17,7 +17,7 @@ pub record Ruling (p : ProgramTree) (n : NodeTree) : Type 0 where
   pub class : Classes
   pub meets : Meets class n
   pub typed : (j : ℕ) (q : EquationTree) → slice_get n.equations j ≡ Some q → IsWellTyped p n q
-  pub truths : (j : ℕ) (q : EquationTree) → slice_get n.equations j ≡ Some q → All (IsTruth n) (clocks_in q.right)
+  pub samplers : (j : ℕ) (q : EquationTree) → slice_get n.equations j ≡ Some q → All (λ x. IsTruth n x × (class x ≡ false)) (clocks_in q.right)
   pub starts : (j : ℕ) (q : EquationTree) → slice_get n.equations j ≡ Some q → All (ClockIsTrueAtFirst n) (currents_in q.right)
   pub truth : (x : List ℕ) (c : Condition) → HasClock n x (Some c) → IsTruth n c.variable
   pub above : (x : List ℕ) (c : Condition) → HasClock n x (Some c) → (j : Option Condition) × HasClock n c.variable j
@@ -46,7 +46,7 @@ node_ruling p main accepted i n here =
       meets = classes.1;
       typed = λ j q e.
           (accepted Rule.type_mismatch).equations i j n q here e ((accepted Rule.unknown_name).equations i j n q here e) ((accepted Rule.unknown_node).equations i j n q here e) ((accepted Rule.wrong_arity).equations i j n q here e);
-      truths = λ j q e. (accepted Rule.not_a_clock).equations i j n q here e;
+      samplers = λ j q e k x l. ((accepted Rule.not_a_clock).equations i j n q here e k x l, all_at (SamplersAreZero classes.0) n.equations j q classes.1.sampled e k x l);
       starts = λ j q e. (accepted Rule.current_may_be_nil).equations i j n q here e;
       truth = λ x c h. some_at (declared n x c h).0.clock (λ (c : Condition). IsTruth n c.variable) c (declared n x c h).2 (is_clock x c h).truth;
       above = λ x c h. ends_clock n (declared n x c h).0.clock (is_clock x c h).ends c (declared n x c h).2;

@@ -3,13 +3,13 @@ use Rattle.std.proofs.Common.{◌≡◌, ℕ, zero, suc, ◌<◌, Bool, true, fa
 use Rattle.std.specs.Prelude.{slice_get, option_map, unwrap_or}
 use Rattle.std.proofs.lemmas.Option.{same_Some}
 use Rattle.lutree.specs.declared.expr.UnaryOperator.{UnaryOperator}
-use Rattle.lutree.specs.declared.expr.UnaryOperator.TheVariants.{Minus, Not}
+use Rattle.lutree.specs.declared.expr.UnaryOperator.TheVariants.{Minus}
 use Rattle.lutree.specs.declared.expr.BinaryOperator.{BinaryOperator}
-use Rattle.lutree.specs.declared.expr.BinaryOperator.TheVariants.{Add, Subtract, Multiply, Divide, Modulo, Less, LessEqual, Greater, GreaterEqual, Equal, Unequal, And, Or, Xor, Implies}
+use Rattle.lutree.specs.declared.expr.BinaryOperator.TheVariants.{Add}
 use Rattle.lutree.specs.declared.program.Kind.{Kind}
 use Rattle.lutree.specs.declared.program.Kind.TheVariants.{Int as Ints, Bool as Truths}
 use Rattle.lutree.specs.Tree.{DeclarationTree, NodeTree}
-use Rattle.luflow.specs.Sound.{single_sort, takes, makes}
+use Rattle.luflow.specs.Operators.{single_sort, asks, allows, takes, makes}
 use Rattle.lustat_rules.specs.Typing.{agreed, has_kind, single_kind, operand_kind, result_kind, as_asked, double_kind, choice_kind, arguments_fit, call_kinds, only}
 
 pub agreed_is : (a b : Option Kind) (t : Kind) → agreed a b ≡ Some t → (a ≡ Some t) × (b ≡ Some t)
@@ -21,56 +21,29 @@ agreed_is (Some Truths) None t e = cc
 agreed_is (Some Truths) (Some Ints) t e = cc
 agreed_is (Some Truths) (Some Truths) t e = (e, e)
 
+-- the types of operators, as the static rules have them and as flows have them
+
 pub sort_is : (op : UnaryOperator) → single_kind op ≡ single_sort op
 sort_is Minus = refl
-sort_is Not = refl
+sort_is _ = refl
 
 makes_is : (op : BinaryOperator) → result_kind op ≡ makes op
 makes_is Add = refl
-makes_is Subtract = refl
-makes_is Multiply = refl
-makes_is Divide = refl
-makes_is Modulo = refl
-makes_is Less = refl
-makes_is LessEqual = refl
-makes_is Greater = refl
-makes_is GreaterEqual = refl
-makes_is Equal = refl
-makes_is Unequal = refl
-makes_is And = refl
-makes_is Or = refl
-makes_is Xor = refl
-makes_is Implies = refl
+makes_is _ = refl
+
+asks_is : (op : BinaryOperator) → operand_kind op ≡ asks op
+asks_is Add = refl
+asks_is _ = refl
+
+allows_asked : (asked : Option Kind) (u : Kind) → as_asked asked (Some u) ≡ Some u → allows asked u ≡ true
+allows_asked None u e = refl
+allows_asked (Some Ints) Ints e = refl
+allows_asked (Some Ints) Truths e = cc
+allows_asked (Some Truths) Ints e = cc
+allows_asked (Some Truths) Truths e = refl
 
 takes_asked : (op : BinaryOperator) (u : Kind) → as_asked (operand_kind op) (Some u) ≡ Some u → takes op u ≡ true
-takes_asked Add Ints e = refl
-takes_asked Add Truths e = cc
-takes_asked Subtract Ints e = refl
-takes_asked Subtract Truths e = cc
-takes_asked Multiply Ints e = refl
-takes_asked Multiply Truths e = cc
-takes_asked Divide Ints e = refl
-takes_asked Divide Truths e = cc
-takes_asked Modulo Ints e = refl
-takes_asked Modulo Truths e = cc
-takes_asked Less Ints e = refl
-takes_asked Less Truths e = cc
-takes_asked LessEqual Ints e = refl
-takes_asked LessEqual Truths e = cc
-takes_asked Greater Ints e = refl
-takes_asked Greater Truths e = cc
-takes_asked GreaterEqual Ints e = refl
-takes_asked GreaterEqual Truths e = cc
-takes_asked Equal u e = refl
-takes_asked Unequal u e = refl
-takes_asked And Ints e = cc
-takes_asked And Truths e = refl
-takes_asked Or Ints e = cc
-takes_asked Or Truths e = refl
-takes_asked Xor Ints e = cc
-takes_asked Xor Truths e = refl
-takes_asked Implies Ints e = cc
-takes_asked Implies Truths e = refl
+takes_asked op u e = allows_asked (asks op) u (sym (ap (λ (o : Option Kind). as_asked o (Some u)) (asks_is op)) ∙ e)
 
 -- where a type is asked for and met, the operands have it
 asked_is : (asked c : Option Kind) (u : Kind) → as_asked asked c ≡ Some u → (c ≡ Some u) × (as_asked asked (Some u) ≡ Some u)

@@ -1,6 +1,7 @@
 //! The statuses of the main variables so far, column by column.
 
 ghost use Rattle.std.specs.Prelude.{◌≡◌, ◌<◌, ◌≤◌, ◌+◌, ℕ, [], All, IfOk, length, slice_get, Some, vec_capacity};
+ghost use Rattle.std.specs.Option.{ForSome};
 ghost use Rattle.luflow.specs.Solution.{solution};
 ghost use Rattle.lueval.specs.Cells.{statuses};
 ghost use Rattle.lueval.specs.Steps.{Column, AreNew, AreEmpty, AreColumns, AreKept, AreAllKept, AreOnlyWanted, AreShown, IsLonger, is_wanted};
@@ -110,8 +111,9 @@ pub fn new_columns(
 /// Adds a status to column v.
 fn push_status(columns: &mut Vec<Vec<Status>>, v: usize, status: Status)
     requires within { v < length columns.old.items }
-    requires room { (x : Column) → slice_get columns.old.items v ≡ Some x → length x.items < vec_capacity x }
-    ensures { (x : Column) → slice_get columns.old.items v ≡ Some x → IsLonger columns.old.items v x status columns.new.items }
+    requires room { ForSome (slice_get columns.old.items v) (λ x. length x.items < vec_capacity x) }
+    ensures { ForSome (slice_get columns.old.items v)
+        (λ x. IsLonger columns.old.items v x status columns.new.items) }
 {
     let column = &mut columns[v];
     column.push_reserved(status);
@@ -130,8 +132,10 @@ pub fn note(
     requires kept { AreKept (length columns.old.items) kept.now }
     requires mains { length columns.old.items ≤ length shown.now }
     requires shown { AreShown (solution flat.now inputs.now) (statuses shown.now) t }
-    requires columns { AreColumns inputs.now (solution flat.now inputs.now) kept.now columns.old.items t }
-    ensures columns { AreColumns inputs.now (solution flat.now inputs.now) kept.now columns.new.items (t + 1) }
+    requires columns { AreColumns inputs.now (solution flat.now inputs.now) kept.now
+        columns.old.items t }
+    ensures columns { AreColumns inputs.now (solution flat.now inputs.now) kept.now
+        columns.new.items (t + 1) }
     ensures len { length columns.new.items ≡ length columns.old.items }
 {
     for k in 0..kept.len() {

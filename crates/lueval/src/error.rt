@@ -10,7 +10,7 @@ use thiserror::Error;
 pub enum EvalError {
     /// An operator has no value. Of all faults it is the one of the least instant and, there, of the least rank. The
     /// variable is the number of the main variable in whose equation the operator stands.
-    #[error("R1 Fault {variable} {instant} {}", kind_name(.kind))]
+    #[error("R1 Fault {variable} {instant} {kind}")]
     Fault {
         variable: usize,
         instant: u32,
@@ -29,12 +29,5 @@ impl From<AllocError> for EvalError {
 
     fn from(_error: AllocError) -> Self {
         EvalError::OutOfMemory
-    }
-}
-
-fn kind_name(kind: &FaultKind) -> &'static str {
-    match kind {
-        FaultKind::Overflow => "overflow",
-        FaultKind::DivZero => "div-zero",
     }
 }

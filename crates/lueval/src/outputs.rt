@@ -25,7 +25,8 @@ fn named(
     x: &Variable,
     statuses: &[Status],
 ) -> Result<(String, Vec<Status>), AllocError>
-    ensures { IfOk result (λ column. output_view column ≡ record { name = x.now.name; statuses = statuses.now }) }
+    ensures { IfOk result (λ column. output_view column
+        ≡ record { name = x.now.name; statuses = statuses.now }) }
 {
     let name = String::from_str(alloc, x.name.as_str())?;
     let statuses = Vec::from_slice(alloc, statuses)?;
@@ -39,7 +40,8 @@ fn push_output(
     x: &Variable,
     statuses: &[Status],
 ) -> Result<(), AllocError>
-    ensures { OnOk result (outputs_view outputs.new.items ≡ outputs_view outputs.old.items ++ output_in x.now statuses.now) }
+    ensures { OnOk result (outputs_view outputs.new.items ≡ outputs_view outputs.old.items
+        ++ output_in x.now statuses.now) }
 {
     if is_output(x.role) {
         let column = named(alloc, x, statuses)?;
@@ -56,7 +58,8 @@ pub fn output_columns(
     columns: &[Vec<Status>],
 ) -> Result<Vec<(String, Vec<Status>)>, AllocError>
     requires { length variables.now ≡ length columns.now }
-    ensures { IfOk result (λ x. outputs_view x.items ≡ outputs_in variables.now (lists_of columns.now)) }
+    ensures { IfOk result (λ x. outputs_view x.items ≡ outputs_in variables.now
+        (lists_of columns.now)) }
 {
     let mut outputs = Vec::new(alloc);
     for v in 0..variables.len() {
@@ -72,7 +75,8 @@ fn take_output(
     x: &Variable,
     column: &mut Vec<Status>,
 ) -> Result<(), AllocError>
-    ensures { OnOk result (outputs_view outputs.new.items ≡ outputs_view outputs.old.items ++ output_in x.now column.old.items) }
+    ensures { OnOk result (outputs_view outputs.new.items ≡ outputs_view outputs.old.items
+        ++ output_in x.now column.old.items) }
 {
     if is_output(x.role) {
         let name = String::from_str(alloc, x.name.as_str())?;
@@ -90,7 +94,8 @@ pub fn taken_outputs(
     columns: Vec<Vec<Status>>,
 ) -> Result<Vec<(String, Vec<Status>)>, AllocError>
     requires { length variables.now ≡ length columns.items }
-    ensures { IfOk result (λ x. outputs_view x.items ≡ outputs_in variables.now (lists_of columns.items)) }
+    ensures { IfOk result (λ x. outputs_view x.items ≡ outputs_in variables.now
+        (lists_of columns.items)) }
 {
     let mut left = columns;
     let mut outputs = Vec::new(alloc);

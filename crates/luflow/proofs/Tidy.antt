@@ -1,23 +1,23 @@
 -- In every solution of a sound program each flow is present exactly where its clock is true until it is broken, has its
 -- sort, and is nil only where its class allows it; and a value is stuck only where something that it reads is broken.
-use Rattle.std.proofs.Common.{◌≡◌, ◌≢◌, Bool, true, false, cond, not, Option, Some, None, ℤ, refl, ap₂}
-use Rattle.std.specs.Prelude.{int_div, ◌+ℤ◌, ◌-ℤ◌, ◌*ℤ◌, ◌||◌}
+use Rattle.std.proofs.Common.{◌≡◌, ◌≢◌, Bool, true, false, cond, not, Option, Some, None, ℤ, refl, ap, ap₂, ◌∙◌}
+use Rattle.std.specs.Prelude.{◌||◌}
 use Rattle.luflow.specs.declared.data.Datum.{Datum}
 use Rattle.luflow.specs.declared.data.Datum.TheVariants.{Int, Bool as Truth, Nil}
 use Rattle.luflow.specs.declared.data.Status.TheVariants.{Absent, Present}
 use Rattle.lutree.specs.declared.program.Kind.{Kind}
 use Rattle.lutree.specs.declared.program.Kind.TheVariants.{Int as Ints, Bool as Truths}
 use Rattle.lutree.specs.declared.expr.UnaryOperator.{UnaryOperator}
-use Rattle.lutree.specs.declared.expr.UnaryOperator.TheVariants.{Minus, Not}
+use Rattle.lutree.specs.declared.expr.UnaryOperator.TheVariants.{Minus}
 use Rattle.lutree.specs.declared.expr.BinaryOperator.{BinaryOperator}
-use Rattle.lutree.specs.declared.expr.BinaryOperator.TheVariants.{Add, Subtract, Multiply, Divide, Modulo, Less, LessEqual, Greater, GreaterEqual, Equal, Unequal, And, Or, Xor, Implies}
+use Rattle.lutree.specs.declared.expr.BinaryOperator.TheVariants.{Add}
 use Rattle.luflow.specs.declared.form.FaultKind.TheVariants.{Overflow, DivZero}
 use Rattle.luflow.specs.declared.form.Outcome.{Outcome}
 use Rattle.luflow.specs.declared.form.Outcome.TheVariants.{Gives, Faults, Stuck}
-use Rattle.luflow.specs.Operators.{fits, is_zero, ints_of, truths_of, single_of, double_of, picked_of, choice_of}
+use Rattle.luflow.specs.Operators.{single_sort, takes, makes, fits, is_zero, Exact, whole, divided, verdict, nothing, settled, at_int, at_truth, at_ints, at_truths, ints_of, truths_of, single_of, double_of, picked_of, choice_of}
 use Rattle.luflow.specs.Streams.{Mark, Known, Broken, datum_of, truth_in, either, newer}
 use Rattle.luflow.specs.Values.{gives, on_one, on_two, on_three, arrow_of, under}
-use Rattle.luflow.specs.Sound.{IsOf, single_sort, takes, makes, AtMost, IsTidyMark}
+use Rattle.luflow.specs.Sound.{IsOf, AtMost, IsTidyMark}
 
 -- nil only as the class allows it
 abbrev pub NilOk : Bool → Option Bool → Datum → Type 0
@@ -57,39 +57,51 @@ zero_ok B e was false c z = int_ok B e was c z
 pub truth_ok : (B : Type 0) (e : Bool) (was : Option Bool) (b : Bool) → IsTidyOutcome B Truths e was (Gives (Truth b))
 truth_ok B e was b = (tt, λ n. let f : Truth b ≡ Nil = n in cc)
 
+-- the type of what an operator gives, which the tables of types tell
+abbrev sort_of : Exact → Option Kind
+sort_of (whole z) = Some Ints
+sort_of (divided y z) = Some Ints
+sort_of (verdict b) = Some Truths
+sort_of nothing = None
+
+abbrev where_taken : Bool → Kind → Option Kind
+where_taken true s = Some s
+where_taken false s = None
+
+abbrev is_ints : Kind → Bool
+is_ints Ints = true
+is_ints Truths = false
+
+sort_at_int : (op : UnaryOperator) (x : ℤ) → sort_of (at_int op x) ≡ where_taken (is_ints (single_sort op)) Ints
+sort_at_int Minus x = refl
+sort_at_int _ x = refl
+
+sort_at_truth : (op : UnaryOperator) (b : Bool) → sort_of (at_truth op b) ≡ where_taken (not (is_ints (single_sort op))) Truths
+sort_at_truth Minus b = refl
+sort_at_truth _ b = refl
+
+sort_at_ints : (op : BinaryOperator) (x y : ℤ) → sort_of (at_ints op x y) ≡ where_taken (takes op Ints) (makes op)
+sort_at_ints Add x y = refl
+sort_at_ints _ x y = refl
+
+sort_at_truths : (op : BinaryOperator) (x y : Bool) → sort_of (at_truths op x y) ≡ where_taken (takes op Truths) (makes op)
+sort_at_truths Add x y = refl
+sort_at_truths _ x y = refl
+
+settled_ok : (B : Type 0) (e : Bool) (was : Option Bool) (s : Kind) (x : Exact) → sort_of x ≡ Some s → IsTidyOutcome B s e was (settled x)
+settled_ok B e was Ints (whole z) h = int_ok B e was (fits z) z
+settled_ok B e was Ints (divided y z) h = zero_ok B e was (is_zero y) (fits z) z
+settled_ok B e was Ints (verdict b) h = absurd cc
+settled_ok B e was Truths (whole z) h = absurd cc
+settled_ok B e was Truths (divided y z) h = absurd cc
+settled_ok B e was Truths (verdict b) h = truth_ok B e was b
+settled_ok B e was s nothing h = absurd cc
+
 pub ints_ok : (B : Type 0) (e : Bool) (was : Option Bool) (op : BinaryOperator) (x y : ℤ) → takes op Ints ≡ true → IsTidyOutcome B (makes op) e was (ints_of op x y)
-ints_ok B e was Add x y h = int_ok B e was (fits (x +ℤ y)) (x +ℤ y)
-ints_ok B e was Subtract x y h = int_ok B e was (fits (x -ℤ y)) (x -ℤ y)
-ints_ok B e was Multiply x y h = int_ok B e was (fits (x *ℤ y)) (x *ℤ y)
-ints_ok B e was Divide x y h = zero_ok B e was (is_zero y) (fits (int_div x y)) (int_div x y)
-ints_ok B e was Modulo x y h = zero_ok B e was (is_zero y) (fits (x -ℤ y *ℤ int_div x y)) (x -ℤ y *ℤ int_div x y)
-ints_ok B e was Less x y h = truth_ok B e was _
-ints_ok B e was LessEqual x y h = truth_ok B e was _
-ints_ok B e was Greater x y h = truth_ok B e was _
-ints_ok B e was GreaterEqual x y h = truth_ok B e was _
-ints_ok B e was Equal x y h = truth_ok B e was _
-ints_ok B e was Unequal x y h = truth_ok B e was _
-ints_ok B e was And x y h = let f : false ≡ true = h in cc
-ints_ok B e was Or x y h = let f : false ≡ true = h in cc
-ints_ok B e was Xor x y h = let f : false ≡ true = h in cc
-ints_ok B e was Implies x y h = let f : false ≡ true = h in cc
+ints_ok B e was op x y h = settled_ok B e was (makes op) (at_ints op x y) (sort_at_ints op x y ∙ ap (λ b. where_taken b (makes op)) h)
 
 pub truths_ok : (B : Type 0) (e : Bool) (was : Option Bool) (op : BinaryOperator) (x y : Bool) → takes op Truths ≡ true → IsTidyOutcome B (makes op) e was (truths_of op x y)
-truths_ok B e was Add x y h = let f : false ≡ true = h in cc
-truths_ok B e was Subtract x y h = let f : false ≡ true = h in cc
-truths_ok B e was Multiply x y h = let f : false ≡ true = h in cc
-truths_ok B e was Divide x y h = let f : false ≡ true = h in cc
-truths_ok B e was Modulo x y h = let f : false ≡ true = h in cc
-truths_ok B e was Less x y h = let f : false ≡ true = h in cc
-truths_ok B e was LessEqual x y h = let f : false ≡ true = h in cc
-truths_ok B e was Greater x y h = let f : false ≡ true = h in cc
-truths_ok B e was GreaterEqual x y h = let f : false ≡ true = h in cc
-truths_ok B e was Equal x y h = truth_ok B e was _
-truths_ok B e was Unequal x y h = truth_ok B e was _
-truths_ok B e was And x y h = truth_ok B e was _
-truths_ok B e was Or x y h = truth_ok B e was _
-truths_ok B e was Xor x y h = truth_ok B e was _
-truths_ok B e was Implies x y h = truth_ok B e was _
+truths_ok B e was op x y h = settled_ok B e was (makes op) (at_truths op x y) (sort_at_truths op x y ∙ ap (λ b. where_taken b (makes op)) h)
 
 -- the operators at data
 pub double_ok : (B : Type 0) (e ea eb : Bool) (was : Option Bool) (op : BinaryOperator) (u : Kind) (x y : Datum) → takes op u ≡ true → IsOf u x → NilOk ea was x → IsOf u y → NilOk eb was y → AtMost ea e → AtMost eb e → IsTidyOutcome B (makes op) e was (double_of op x y)
@@ -105,13 +117,18 @@ double_ok B e ea eb was op Truths (Truth a) (Int b) h hx nx hy ny la lb = absurd
 double_ok B e ea eb was op Ints (Truth a) (Truth b) h hx nx hy ny la lb = absurd hx
 double_ok B e ea eb was op Truths (Truth a) (Truth b) h hx nx hy ny la lb = truths_ok B e was op a b h
 
+one_int_ok : (B : Type 0) (e : Bool) (was : Option Bool) (s : Kind) (x : Exact) (n : ℤ) → IsOf s (Int n) → sort_of x ≡ where_taken (is_ints s) Ints → IsTidyOutcome B s e was (settled x)
+one_int_ok B e was Ints x n h k = settled_ok B e was Ints x k
+one_int_ok B e was Truths x n h k = absurd h
+
+one_truth_ok : (B : Type 0) (e : Bool) (was : Option Bool) (s : Kind) (x : Exact) (b : Bool) → IsOf s (Truth b) → sort_of x ≡ where_taken (not (is_ints s)) Truths → IsTidyOutcome B s e was (settled x)
+one_truth_ok B e was Ints x b h k = absurd h
+one_truth_ok B e was Truths x b h k = settled_ok B e was Truths x k
+
 pub single_ok : (B : Type 0) (e ea : Bool) (was : Option Bool) (op : UnaryOperator) (x : Datum) → IsOf (single_sort op) x → NilOk ea was x → AtMost ea e → IsTidyOutcome B (single_sort op) e was (single_of op x)
-single_ok B e ea was Minus (Int x) h n le = int_ok B e was _ _
-single_ok B e ea was Minus (Truth b) h n le = absurd h
-single_ok B e ea was Minus Nil h n le = (tt, weaker e ea was Nil le n)
-single_ok B e ea was Not (Int x) h n le = absurd h
-single_ok B e ea was Not (Truth b) h n le = truth_ok B e was _
-single_ok B e ea was Not Nil h n le = (tt, weaker e ea was Nil le n)
+single_ok B e ea was op (Int n) h ok le = one_int_ok B e was (single_sort op) (at_int op n) n h (sort_at_int op n)
+single_ok B e ea was op (Truth b) h ok le = one_truth_ok B e was (single_sort op) (at_truth op b) b h (sort_at_truth op b)
+single_ok B e ea was op Nil h ok le = (nil_of (single_sort op), weaker e ea was Nil le ok)
 
 pub picked_ok : (B : Type 0) (s : Kind) (e ea eb : Bool) (was : Option Bool) (v : Bool) (x y : Datum) → IsOf s x → NilOk ea was x → IsOf s y → NilOk eb was y → AtMost ea e → AtMost eb e → IsTidyOutcome B s e was (picked_of (Truth v) x y)
 picked_ok B s e ea eb was true x y hx nx hy ny la lb = (hx, weaker e ea was x la nx)

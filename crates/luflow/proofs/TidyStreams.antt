@@ -16,11 +16,11 @@ use Rattle.luflow.specs.declared.form.Form.TheVariants.{Input, Constant, Copied,
 use Rattle.luflow.specs.declared.form.Flow.{Flow}
 use Rattle.luflow.specs.Program.{FlatProgram, Table, flow_at, flows_of, places, clock_reads, form_reads, reads, IsOrdered}
 use Rattle.luflow.specs.declared.form.Outcome.TheVariants.{Gives}
-use Rattle.luflow.specs.Operators.{fits, single_of, double_of}
+use Rattle.luflow.specs.Operators.{single_sort, fits, single_of, double_of}
 use Rattle.luflow.specs.Streams.{Mark, Known, Broken, Streams, datum_of, truth_in, clock_at, either, ticked, before}
 use Rattle.luflow.specs.Values.{gives, on_one, on_two, arrow_of, merge_of, value_at, under}
 use Rattle.luflow.specs.Solution.{says, IsSolution}
-use Rattle.luflow.specs.Sound.{IsOf, single_sort, IsOn, BeginsWith, AtMost, FormFits, ClockFits, IsSound, IsFitFor, IsFit, IsTidyMark, IsTidy, IsUnbroken}
+use Rattle.luflow.specs.Sound.{IsOf, IsOn, BeginsWith, AtMost, FormFits, ClockFits, IsSound, IsFitFor, IsFit, IsTidyMark, IsTidy, IsUnbroken}
 use Rattle.luflow.proofs.Solutions.{first_of_all, second_of_all, third_of_all, all_left, all_right, place_of, rank_of, rows_apart}
 use Rattle.luflow.proofs.Tidy.{Reads, IsTidyOutcome, operand, gives_ok, one_ok, two_ok, if_ok, arrow_ok, PastReads, newer_ok, either_none, either_false, either_true, truth_known, under_ok}
 

@@ -316,7 +316,7 @@ division_fault =
       flow = int_flow (Binary Divide 4 0);
       there = refl;
       clock = refl;
-      fault = OnBinary Divide 4 0 (Int (pos 1)) (Int (pos 0)) DivZero refl refl (ZeroDivisor (pos 1));
+      fault = OnBinary Divide 4 0 (Int (pos 1)) (Int (pos 0)) DivZero refl refl (ZeroDivisor _);
     }
 
 -- `pre c` and its negation may be nil at first

@@ -1,8 +1,13 @@
--- The data operators: what each gives, in whole numbers, and where it is a fault.
-use Rattle.std.specs.Prelude.{◌≢◌, zero, suc, Bool, true, false, not, ◌&&◌, ◌||◌, if◌then◌else◌, ℤ, pos, negsuc, ◌+ℤ◌, ◌-ℤ◌, ◌*ℤ◌, neg_ℤ, int_le, int_lt, int_div, FitsSigned}
+-- The data operators: what each takes and gives, in whole numbers, and where it is a fault.
+--
+-- One table for each kind of operator: its types (`single_sort`; `asks`, `makes`), and what it gives at data that are not nil
+-- (`at_int`, `at_truth`; `at_ints`, `at_truths`). All else here goes by what an operator gives, and names none.
+use Rattle.std.specs.Prelude.{◌≢◌, zero, suc, Bool, true, false, not, ◌&&◌, ◌||◌, if◌then◌else◌, Option, Some, None, List, codes, ℕ, ℤ, pos, negsuc, ◌+ℤ◌, ◌-ℤ◌, ◌*ℤ◌, neg_ℤ, int_le, int_lt, int_div, FitsSigned}
 use Rattle.std.specs.Int.{w64}
 use Rattle.luflow.specs.declared.data.Datum.{Datum}
 use Rattle.luflow.specs.declared.data.Datum.TheVariants.{Int, Bool as Truth, Nil}
+use Rattle.lutree.specs.declared.program.Kind.{Kind}
+use Rattle.lutree.specs.declared.program.Kind.TheVariants.{Int as Ints, Bool as Truths}
 use Rattle.lutree.specs.declared.expr.UnaryOperator.{UnaryOperator}
 use Rattle.lutree.specs.declared.expr.UnaryOperator.TheVariants.{Minus, Not}
 use Rattle.lutree.specs.declared.expr.BinaryOperator.{BinaryOperator}
@@ -11,6 +16,58 @@ use Rattle.luflow.specs.declared.form.FaultKind.{FaultKind}
 use Rattle.luflow.specs.declared.form.FaultKind.TheVariants.{Overflow, DivZero}
 use Rattle.luflow.specs.declared.form.Outcome.{Outcome}
 use Rattle.luflow.specs.declared.form.Outcome.TheVariants.{Gives, Faults, Stuck}
+
+-- how a fault is told
+abbrev pub kind_text : FaultKind → List ℕ
+kind_text Overflow = codes "overflow"
+kind_text DivZero = codes "div-zero"
+
+-- TYPES
+
+-- the type of an operator's one operand, which is that of its result too
+abbrev pub single_sort : UnaryOperator → Kind
+single_sort Minus = Ints
+single_sort Not = Truths
+
+-- the type that an operator asks of both its operands; none is any
+abbrev pub asks : BinaryOperator → Option Kind
+asks Equal = None
+asks Unequal = None
+asks And = Some Truths
+asks Or = Some Truths
+asks Xor = Some Truths
+asks Implies = Some Truths
+asks op = Some Ints
+
+-- the type of an operator's result
+abbrev pub makes : BinaryOperator → Kind
+makes Add = Ints
+makes Subtract = Ints
+makes Multiply = Ints
+makes Divide = Ints
+makes Modulo = Ints
+makes op = Truths
+
+abbrev pub allows : Option Kind → Kind → Bool
+allows None s = true
+allows (Some Ints) Ints = true
+allows (Some Ints) Truths = false
+allows (Some Truths) Ints = false
+allows (Some Truths) Truths = true
+
+-- whether an operator takes operands that both have this type
+abbrev pub takes : BinaryOperator → Kind → Bool
+takes op s = allows (asks op) s
+
+-- VALUES
+
+-- What an operator gives at data that are not nil, in whole numbers: a whole number; a whole number by a division, with its
+-- divisor; a truth value; or nothing, where the operator takes no such data.
+pub data Exact : Type 0 where
+  whole : ℤ → Exact
+  divided : ℤ → ℤ → Exact
+  verdict : Bool → Exact
+  nothing : Exact
 
 -- whether a whole number has 64 bits
 abbrev pub fits : ℤ → Bool
@@ -41,47 +98,59 @@ abbrev pub differ : Bool → Bool → Bool
 differ true b = not b
 differ false b = b
 
+-- an operator at a whole number
+abbrev pub at_int : UnaryOperator → ℤ → Exact
+at_int Minus x = whole (neg_ℤ x)
+at_int op x = nothing
+
+-- an operator at a truth value
+abbrev pub at_truth : UnaryOperator → Bool → Exact
+at_truth Not b = verdict (not b)
+at_truth op b = nothing
+
+-- an operator at two whole numbers
+abbrev pub at_ints : BinaryOperator → ℤ → ℤ → Exact
+at_ints Add x y = whole (x +ℤ y)
+at_ints Subtract x y = whole (x -ℤ y)
+at_ints Multiply x y = whole (x *ℤ y)
+at_ints Divide x y = divided y (int_div x y)
+at_ints Modulo x y = divided y (x -ℤ y *ℤ int_div x y)
+at_ints Less x y = verdict (int_lt x y)
+at_ints LessEqual x y = verdict (int_le x y)
+at_ints Greater x y = verdict (int_lt y x)
+at_ints GreaterEqual x y = verdict (int_le y x)
+at_ints Equal x y = verdict (int_same x y)
+at_ints Unequal x y = verdict (not (int_same x y))
+at_ints op x y = nothing
+
+-- an operator at two truth values
+abbrev pub at_truths : BinaryOperator → Bool → Bool → Exact
+at_truths Equal x y = verdict (not (differ x y))
+at_truths Unequal x y = verdict (differ x y)
+at_truths And x y = verdict (x && y)
+at_truths Or x y = verdict (x || y)
+at_truths Xor x y = verdict (differ x y)
+at_truths Implies x y = verdict (not x || y)
+at_truths op x y = nothing
+
+-- a whole number of more than 64 bits is a fault, and so is a divisor that is zero
+abbrev pub settled : Exact → Outcome
+settled (whole z) = int_of z
+settled (divided y z) = if is_zero y then Faults DivZero else int_of z
+settled (verdict b) = truth_of b
+settled nothing = Stuck
+
 abbrev pub ints_of : BinaryOperator → ℤ → ℤ → Outcome
-ints_of Add x y = int_of (x +ℤ y)
-ints_of Subtract x y = int_of (x -ℤ y)
-ints_of Multiply x y = int_of (x *ℤ y)
-ints_of Divide x y = quotient_of x y
-ints_of Modulo x y = rest_of x y
-ints_of Less x y = truth_of (int_lt x y)
-ints_of LessEqual x y = truth_of (int_le x y)
-ints_of Greater x y = truth_of (int_lt y x)
-ints_of GreaterEqual x y = truth_of (int_le y x)
-ints_of Equal x y = truth_of (int_same x y)
-ints_of Unequal x y = truth_of (not (int_same x y))
-ints_of And x y = Stuck
-ints_of Or x y = Stuck
-ints_of Xor x y = Stuck
-ints_of Implies x y = Stuck
+ints_of op x y = settled (at_ints op x y)
 
 abbrev pub truths_of : BinaryOperator → Bool → Bool → Outcome
-truths_of Add x y = Stuck
-truths_of Subtract x y = Stuck
-truths_of Multiply x y = Stuck
-truths_of Divide x y = Stuck
-truths_of Modulo x y = Stuck
-truths_of Less x y = Stuck
-truths_of LessEqual x y = Stuck
-truths_of Greater x y = Stuck
-truths_of GreaterEqual x y = Stuck
-truths_of Equal x y = truth_of (not (differ x y))
-truths_of Unequal x y = truth_of (differ x y)
-truths_of And x y = truth_of (x && y)
-truths_of Or x y = truth_of (x || y)
-truths_of Xor x y = truth_of (differ x y)
-truths_of Implies x y = truth_of (not x || y)
+truths_of op x y = settled (at_truths op x y)
 
+-- nil in, nil out
 abbrev pub single_of : UnaryOperator → Datum → Outcome
-single_of Minus (Int x) = int_of (neg_ℤ x)
-single_of Minus (Truth b) = Stuck
-single_of Minus Nil = Gives Nil
-single_of Not (Int x) = Stuck
-single_of Not (Truth b) = truth_of (not b)
-single_of Not Nil = Gives Nil
+single_of op Nil = Gives Nil
+single_of op (Int x) = settled (at_int op x)
+single_of op (Truth b) = settled (at_truth op b)
 
 abbrev pub double_of : BinaryOperator → Datum → Datum → Outcome
 double_of op Nil y = Gives Nil
@@ -107,19 +176,26 @@ picked_of Nil x y = Stuck
 abbrev pub choice_of : Datum → Datum → Datum → Outcome
 choice_of c x y = if is_nil c || (is_nil x || is_nil y) then Gives Nil else picked_of c x y
 
--- in the words of the language: an operator's result in whole numbers, where it is one of arithmetic
-pub data IsResult : BinaryOperator → ℤ → ℤ → ℤ → Type 0 where
-  Sum : (x y : ℤ) → IsResult Add x y (x +ℤ y)
-  Difference : (x y : ℤ) → IsResult Subtract x y (x -ℤ y)
-  Product : (x y : ℤ) → IsResult Multiply x y (x *ℤ y)
-  Quotient : (x y : ℤ) → y ≢ pos 0 → IsResult Divide x y (int_div x y)
-  Rest : (x y : ℤ) → y ≢ pos 0 → IsResult Modulo x y (x -ℤ y *ℤ int_div x y)
+-- FAULTS
 
--- a fault of an operator at data that are not nil
-pub data IsFaultOf : BinaryOperator → Datum → Datum → FaultKind → Type 0 where
-  ZeroDivisor : (x : ℤ) → IsFaultOf Divide (Int x) (Int (pos 0)) DivZero
-  ZeroModulus : (x : ℤ) → IsFaultOf Modulo (Int x) (Int (pos 0)) DivZero
-  Over : (op : BinaryOperator) (x y z : ℤ) → IsResult op x y z → ¬ FitsSigned w64 z → IsFaultOf op (Int x) (Int y) Overflow
+-- in the words of the language, a fault at what an operator gives: a divisor that is zero, or a whole number, by a division
+-- with another divisor or by none, that 64 bits do not hold
+pub data IsFaultAt : Exact → FaultKind → Type 0 where
+  ZeroDivisor : (z : ℤ) → IsFaultAt (divided (pos 0) z) DivZero
+  OverDivided : (y z : ℤ) → y ≢ pos 0 → ¬ FitsSigned w64 z → IsFaultAt (divided y z) Overflow
+  OverWhole : (z : ℤ) → ¬ FitsSigned w64 z → IsFaultAt (whole z) Overflow
 
-pub data IsFaultOfOne : UnaryOperator → Datum → FaultKind → Type 0 where
-  OverMinus : (x : ℤ) → ¬ FitsSigned w64 (neg_ℤ x) → IsFaultOfOne Minus (Int x) Overflow
+-- a fault of an operator, which is at data that are not nil
+abbrev pub IsFaultOf : BinaryOperator → Datum → Datum → FaultKind → Type 0
+IsFaultOf op Nil y kind = ⊥
+IsFaultOf op (Int a) Nil kind = ⊥
+IsFaultOf op (Int a) (Int b) kind = IsFaultAt (at_ints op a b) kind
+IsFaultOf op (Int a) (Truth b) kind = ⊥
+IsFaultOf op (Truth a) Nil kind = ⊥
+IsFaultOf op (Truth a) (Int b) kind = ⊥
+IsFaultOf op (Truth a) (Truth b) kind = IsFaultAt (at_truths op a b) kind
+
+abbrev pub IsFaultOfOne : UnaryOperator → Datum → FaultKind → Type 0
+IsFaultOfOne op Nil kind = ⊥
+IsFaultOfOne op (Int x) kind = IsFaultAt (at_int op x) kind
+IsFaultOfOne op (Truth b) kind = IsFaultAt (at_truth op b) kind

@@ -7,16 +7,13 @@ use Rattle.lutree.specs.declared.program.Kind.{Kind}
 use Rattle.lutree.specs.declared.program.Kind.TheVariants.{Int as Ints, Bool as Truths}
 use Rattle.luflow.specs.declared.form.Clock.{Clock}
 use Rattle.luflow.specs.declared.form.Clock.TheVariants.{Base, On}
-use Rattle.lutree.specs.declared.expr.UnaryOperator.{UnaryOperator}
-use Rattle.lutree.specs.declared.expr.UnaryOperator.TheVariants.{Minus, Not}
-use Rattle.lutree.specs.declared.expr.BinaryOperator.{BinaryOperator}
-use Rattle.lutree.specs.declared.expr.BinaryOperator.TheVariants.{Add, Subtract, Multiply, Divide, Modulo, Less, LessEqual, Greater, GreaterEqual, Equal, Unequal, And, Or, Xor, Implies}
 use Rattle.luflow.specs.declared.form.Form.{Form}
 use Rattle.luflow.specs.declared.form.Form.TheVariants.{Input, Constant, Copied, Unary, Binary, If, Pre, Arrow, When, Current, Merge}
 use Rattle.luflow.specs.declared.form.Flow.{Flow}
 use Rattle.luflow.specs.declared.variable.Variable.{Variable}
 use Rattle.luflow.specs.declared.variable.Role.TheVariants.{Output}
 use Rattle.luflow.specs.Program.{FlatProgram, Table, flow_at, places, clock_reads, form_reads, column_of}
+use Rattle.luflow.specs.Operators.{single_sort, takes, makes}
 use Rattle.luflow.specs.Streams.{Mark, Known, Broken, Streams, clock_at, ticked}
 
 -- whether a datum has a type; nil has both
@@ -27,57 +24,6 @@ IsOf Ints Nil = Unit {0}
 IsOf Truths (Int n) = ⊥
 IsOf Truths (Truth b) = Unit {0}
 IsOf Truths Nil = Unit {0}
-
-abbrev pub single_sort : UnaryOperator → Kind
-single_sort Minus = Ints
-single_sort Not = Truths
-
-abbrev pub takes : BinaryOperator → Kind → Bool
-takes Add Ints = true
-takes Add Truths = false
-takes Subtract Ints = true
-takes Subtract Truths = false
-takes Multiply Ints = true
-takes Multiply Truths = false
-takes Divide Ints = true
-takes Divide Truths = false
-takes Modulo Ints = true
-takes Modulo Truths = false
-takes Less Ints = true
-takes Less Truths = false
-takes LessEqual Ints = true
-takes LessEqual Truths = false
-takes Greater Ints = true
-takes Greater Truths = false
-takes GreaterEqual Ints = true
-takes GreaterEqual Truths = false
-takes Equal s = true
-takes Unequal s = true
-takes And Ints = false
-takes And Truths = true
-takes Or Ints = false
-takes Or Truths = true
-takes Xor Ints = false
-takes Xor Truths = true
-takes Implies Ints = false
-takes Implies Truths = true
-
-abbrev pub makes : BinaryOperator → Kind
-makes Add = Ints
-makes Subtract = Ints
-makes Multiply = Ints
-makes Divide = Ints
-makes Modulo = Ints
-makes Less = Truths
-makes LessEqual = Truths
-makes Greater = Truths
-makes GreaterEqual = Truths
-makes Equal = Truths
-makes Unequal = Truths
-makes And = Truths
-makes Or = Truths
-makes Xor = Truths
-makes Implies = Truths
 
 -- flow r stands on this clock, with this sort
 pub record IsOn (flat : FlatProgram) (k : Clock) (s : Kind) (r : ℕ) : Type 0 where

@@ -42,8 +42,20 @@ impl Flat {
         owners: Row<usize>,
         variables: Row<Variable>,
     ) -> Flat
-        requires { IsFlat (record { flows = flows; order = order; owners = owners; variables = variables }) }
-        ensures { result ≡ record { flows = flows; order = order; owners = owners; variables = variables } }
+        requires { IsFlat (record {
+          flows = flows;
+          order = order;
+          owners = owners;
+          variables =
+              variables;
+        }) }
+        ensures { result ≡ record {
+          flows = flows;
+          order = order;
+          owners = owners;
+          variables =
+              variables;
+        } }
     {
         Flat {
             flows,

@@ -1,7 +1,11 @@
 //! What a flow is made of.
 
+ghost use Rattle.std.specs.Prelude.{◌≡◌};
+ghost use Rattle.luflow.specs.Operators.{kind_text};
+
 use crate::data::Datum;
 use lutree::{BinaryOperator, Kind, UnaryOperator};
+use std::fmt;
 
 /// A clock of a flat program: the base clock, or where the flow of this place is present with this value.
 #[derive(Clone, Copy, Debug, Drop, PartialEq, Eq)]
@@ -53,6 +57,30 @@ pub enum FaultKind {
     Overflow,
     /// `div` or `mod` by zero.
     DivZero,
+}
+
+impl FaultKind {
+    /// How a fault of this kind is told.
+    pub fn name(self) -> &'static str
+        ensures { result.now ≡ kind_text self }
+    {
+        match self {
+            FaultKind::Overflow => "overflow",
+            FaultKind::DivZero => "div-zero",
+        }
+    }
+}
+
+impl fmt::Display for FaultKind {
+    ghost use Rattle.std.specs.Prelude.{Some};
+    ghost use Rattle.luflow.specs.Operators.{kind_text};
+
+    ghost output = { λ kind. Some (kind_text kind) };
+
+    fn fmt<W: fmt::Write>(&self, f: &mut fmt::Formatter<W>) -> fmt::Result {
+        let name = self.name();
+        write!(f, "{name}")
+    }
 }
 
 /// What a flow's value is where its clock is true: a datum, a fault of its own operator, or neither, where an operand

@@ -40,7 +40,11 @@ fn are_long(columns: &[(String, Vec<Datum>)], instants: u32) -> bool
 }
 
 fn is_table(instants: u32, columns: &[(String, Vec<Datum>)]) -> bool
-    ensures { IsTrue result ↔ IsTable (record { instants = instants; columns = columns_view columns.now }) }
+    ensures { IsTrue result ↔ IsTable (record {
+      instants = instants;
+      columns = columns_view
+          columns.now;
+    }) }
 {
     instants <= MOST_INSTANTS && are_long(columns, instants)
 }
@@ -63,7 +67,8 @@ fn are_constants_of(kind: Kind, values: &[Datum]) -> bool
 }
 
 fn is_column_of(x: &Variable, column: &(String, Vec<Datum>)) -> bool
-    ensures { IsTrue result ↔ ((string_bytes column.now.0 ≡ x.now.name) × All (λ d. IsConstantOf x.now.kind d) column.now.1.items) }
+    ensures { IsTrue result ↔ ((string_bytes column.now.0 ≡ x.now.name)
+        × All (λ d. IsConstantOf x.now.kind d) column.now.1.items) }
 {
     x.name.as_str() == column.0.as_str() && are_constants_of(x.kind, &column.1)
 }
@@ -86,8 +91,16 @@ impl Inputs {
     /// The table of these columns. None exactly for more than 1,000,000 instants, or where the length of a column is not
     /// the number of instants. Takes no memory.
     pub fn new(instants: u32, columns: Vec<(String, Vec<Datum>)>) -> Option<Inputs>
-        ensures when { IsSome result ↔ IsTable (record { instants = instants; columns = columns_view columns.items }) }
-        ensures table { IfSome result (λ x. x ≡ record { instants = instants; columns = columns_view columns.items }) }
+        ensures when { IsSome result ↔ IsTable (record {
+          instants = instants;
+          columns =
+              columns_view columns.items;
+        }) }
+        ensures table { IfSome result (λ x. x ≡ record {
+          instants = instants;
+          columns =
+              columns_view columns.items;
+        }) }
     {
         if is_table(instants, &columns) {
             Some(Inputs { instants, columns })

@@ -12,10 +12,9 @@ use Rattle.luflow.specs.declared.data.Status.TheVariants.{Absent, Present}
 use Rattle.luflow.specs.declared.message.Msg.{Msg}
 use Rattle.luflow.specs.declared.message.Body.{Body}
 use Rattle.luflow.specs.declared.message.Body.TheVariants.{Value, Close}
-use Rattle.luflow.specs.declared.form.FaultKind.{FaultKind}
-use Rattle.luflow.specs.declared.form.FaultKind.TheVariants.{Overflow, DivZero}
 use Rattle.luflow.specs.declared.variable.Variable.{Variable}
 use Rattle.luflow.specs.Program.{FlatProgram}
+use Rattle.luflow.specs.Operators.{kind_text}
 use Rattle.luworld.specs.declared.link.Link.{Link}
 use Rattle.luworld.specs.Needs.{Distribution, sites_of}
 use Rattle.luworld.specs.World.{done, put_count, taken_count}
@@ -62,10 +61,6 @@ link_line plan link taken waiting =
     ++ (messages_text taken ++ (codes " queued " ++ (decimal waiting ++ 10 ∷ [])))
 
 -- `site NAME`, and how the site stands
-abbrev pub kind_text : FaultKind → List ℕ
-kind_text Overflow = codes "overflow"
-kind_text DivZero = codes "div-zero"
-
 abbrev pub standing_text : FlatProgram → Standing → List ℕ
 standing_text flat Ended = codes "ended"
 standing_text flat Cut = codes "open"

@@ -48,7 +48,7 @@ pub enum Stop {
     #[error("{0}")]
     Schedule(ScheduleError),
     /// An operator in the equation of this main variable has no value at this instant, counted from 0.
-    #[error("R1 Fault {} {instant} {}", .variable.as_str(), word_of(*.kind))]
+    #[error("R1 Fault {} {instant} {kind}", .variable.as_str())]
     Fault {
         variable: Name,
         instant: u32,
@@ -57,14 +57,6 @@ pub enum Stop {
     /// Memory ran out.
     #[error("R2 OutOfMemory")]
     OutOfMemory,
-}
-
-/// How a fault is told.
-fn word_of(kind: FaultKind) -> &'static str {
-    match kind {
-        FaultKind::Overflow => "overflow",
-        FaultKind::DivZero => "div-zero",
-    }
 }
 
 impl From<AllocError> for Stop {

@@ -1,11 +1,11 @@
 //! What a replay prints.
 
 ghost use Rattle.std.specs.Prelude.{◌≡◌, ◌++◌, ℕ, List, IfOk, length, string_bytes};
-ghost use Rattle.lusdist_commands.specs.WorldText.{datum_text, body_text, status_text, site_name, messages_text, link_line, links_text, kind_text, standing_text, site_line, AreSiteLines, output_line, statuses_text, AreOutputLines, IsWorldText, Adds};
+ghost use Rattle.lusdist_commands.specs.WorldText.{datum_text, body_text, status_text, site_name, messages_text, link_line, links_text, standing_text, site_line, AreSiteLines, output_line, statuses_text, AreOutputLines, IsWorldText, Adds};
 ghost use Rattle.luworld.specs.Needs.{sites_of};
 ghost use Rattle.luflow.specs.Variables.{is_output_of, variable_name};
 
-use luflow::{Body, Datum, FaultKind, Flat, Msg, Role, Status};
+use luflow::{Body, Datum, Flat, Msg, Role, Status};
 use lulist::Name;
 use luplace::{Link, Plan};
 use lusite::{Fault, Standing};
@@ -103,15 +103,6 @@ fn put_links(text: &mut String, plan: &Plan, world: &World) -> Result<(), AllocE
     Ok(())
 }
 
-fn kind_name(kind: FaultKind) -> &'static str
-    ensures { result.now ≡ kind_text kind }
-{
-    match kind {
-        FaultKind::Overflow => "overflow",
-        FaultKind::DivZero => "div-zero",
-    }
-}
-
 /// How a site stands.
 fn put_standing(text: &mut String, flat: &Flat, standing: Standing) -> Result<(), AllocError>
     ensures { Adds result text.old text.new (standing_text flat.now standing) }
@@ -128,7 +119,7 @@ fn put_fault(text: &mut String, flat: &Flat, fault: Fault) -> Result<(), AllocEr
 {
     let variable = variable_name(flat, fault.variable);
     let instant = fault.instant;
-    let kind = kind_name(fault.kind);
+    let kind = fault.kind.name();
     write!(text, "faulted {variable} {instant} {kind}")
 }
 

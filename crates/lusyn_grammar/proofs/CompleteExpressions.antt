@@ -12,7 +12,7 @@ use Rattle.lutree.specs.Tree as t
 use Rattle.lusyn_tokens.specs.declared.token.Fixed.{Fixed}
 use Rattle.lusyn_tokens.specs.declared.token.Fixed.TheVariants as f
 use Rattle.lusyn_tokens.specs.Tokens.{Tok, identifier, number, fixed}
-use Rattle.lusyn_grammar.specs.Levels.{infix_token, prefix_token, level, left, right}
+use Rattle.lusyn_tokens.specs.Tokens.{infix_token, prefix_token, level, left, right}
 use Rattle.lusyn_grammar.specs.Grammar.{Written, Writtens, tree, trees, tokens, further, level_of, IsProper, AreProper, when_tokens, sign_tokens, repeated, Each}
 use Rattle.lusyn_grammar.specs.Grammar as w
 use Rattle.lusyn_grammar.specs.Reading.{Read, ◌>>=◌, Next, operator, clock, parenthesis, nothing, next, tail, after, begins, condition, many, step, climb, further_operand, closed, operands_by, operands, named, choice, inside, branch, merge, current, at_level, allowed, prefixed, head, whole, expr}
@@ -125,15 +125,18 @@ taken false b x y h k = absurd cc
 allowed-here : (at least : ℕ) (all : List Tok) (r : Read Tree) (x : Tree × List Tok) → least ≤ at → r ≡ Ok x → allowed at least all r ≡ Ok (at, x.0, x.1)
 allowed-here at least all r x low e = chosen_true (nat_le least at) (at_level at r) (Err all) (le-leb least at low) ∙ ap (at_level at) e
 
+prefix_no_close : (op : Prefix) (ts : List Tok) → after f.Close (fixed (prefix_token op) ∷ ts) ≡ Err (fixed (prefix_token op) ∷ ts)
+prefix_no_close p.Pre ts = refl
+prefix_no_close (p.Data u.Minus) ts = refl
+prefix_no_close _ ts = refl
+
 -- an expression doesn't begin with the closing parenthesis
 not_closed : (c : Written) (rest : List Tok) → after f.Close (tokens c rest) ≡ Err (tokens c rest)
 not_closed (w.number k) rest = refl
 not_closed (w.truth true) rest = refl
 not_closed (w.truth false) rest = refl
 not_closed (w.variable x) rest = refl
-not_closed (w.unary p.Pre c) rest = refl
-not_closed (w.unary (p.Data u.Minus) c) rest = refl
-not_closed (w.unary (p.Data u.Not) c) rest = refl
+not_closed (w.unary op c) rest = prefix_no_close op (tokens c rest)
 not_closed (w.binary op a b) rest = not_closed a (fixed (infix_token op) ∷ tokens b rest)
 not_closed (w.choice a b c) rest = refl
 not_closed (w.when c on) rest = not_closed c (when_tokens on rest)
@@ -284,8 +287,8 @@ module _ (read : ℕ → List Tok → Read Tree) (n : ℕ) (complete : CompleteA
   unary_head : (op : Prefix) (least : ℕ) (ts : List Tok) → head read n least (fixed (prefix_token op) ∷ ts) ≡ allowed 8 least (fixed (prefix_token op) ∷ ts) (prefixed read (fixed (prefix_token op) ∷ ts) (Some op) ts)
   unfolding head
   unary_head p.Pre least ts = refl
-  unary_head (p.Data u.Not) least ts = refl
   unary_head (p.Data u.Minus) least ts = refl
+  unary_head _ least ts = refl
 
   unary_taken : (op : Prefix) (c : Written) (least : ℕ) (rest : List Tok) → least ≤ 8 → size c ≤ n → IsProper c → 8 ≤ level_of c → IsQuiet 8 (next rest)
       → head read n least (fixed (prefix_token op) ∷ tokens c rest) ≡ Ok (8, t.unary op (tree c), rest)

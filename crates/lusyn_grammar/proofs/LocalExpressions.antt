@@ -7,7 +7,7 @@ use Rattle.lutree.specs.Tree as t
 use Rattle.lusyn_tokens.specs.declared.token.Fixed.{Fixed}
 use Rattle.lusyn_tokens.specs.declared.token.Fixed.TheVariants as f
 use Rattle.lusyn_tokens.specs.Tokens.{Tok, identifier, number, fixed}
-use Rattle.lusyn_grammar.specs.Levels.{prefix_of, level, left, right}
+use Rattle.lusyn_tokens.specs.Tokens.{prefix_of, level, left, right}
 use Rattle.lusyn_grammar.specs.Reading.{Read, ◌>>=◌, Next, operator, clock, parenthesis, nothing, next, next_by, tail, after, begins, name, signed, condition_by, condition, many, step, climb, further_operand, closed, operands_by, operands, named_by, named, choice, inside, branch, merge, current, at_level, allowed, prefixed, head, whole, expr}
 use Rattle.std.specs.Result.{is_ok}
 use Rattle.lusyn_grammar.proofs.Local.{after_head, left_of, Same, same_more, far_bind, same_bind, Local, Strict, local_of, local_less, local_along, strict_along, same_if, far_if, local_ok, local_bind, strict_bind, Step, takes, refuses, strict_step, strict_after, local_after, local_case, local_many, read, beyond}

@@ -5,7 +5,7 @@ use Rattle.std.proofs.lemmas.Bool.{leb-true}
 use Rattle.lutree.specs.Tree.{Tree, Trees, DeclarationTree, EquationTree, NodeTree, ProgramTree}
 use Rattle.lutree.specs.Tree as t
 use Rattle.lusyn_tokens.specs.Tokens.{Tok}
-use Rattle.lusyn_grammar.specs.Levels.{left, right}
+use Rattle.lusyn_tokens.specs.Tokens.{left, right}
 use Rattle.lusyn_grammar.specs.Grammar as w
 use Rattle.lusyn_grammar.specs.Grammar.{Written, Writtens, paren, tree, trees, level_of, IsProper, AreProper, WrittenDeclaration, WrittenEquation, WrittenNode, WrittenProgram, Each, IsNonempty, IsCall, IsDefinedBy, IsProperDeclaration, IsProperEquation, IsProperNode, IsProperProgram, declaration_tree, equation_tree, node_tree, program, program_tree, Spells}
 use Rattle.lusyn_grammar.specs.Printing.{placed, written, writtens, written_declaration, written_equation, written_node, written_program, IsCallTree, IsPrintableEquation, IsPrintableNode, IsPrintable}

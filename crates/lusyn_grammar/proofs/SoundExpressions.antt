@@ -9,7 +9,7 @@ use Rattle.lutree.specs.Tree as t
 use Rattle.lusyn_tokens.specs.declared.token.Fixed.{Fixed}
 use Rattle.lusyn_tokens.specs.declared.token.Fixed.TheVariants as f
 use Rattle.lusyn_tokens.specs.Tokens.{Tok, identifier, number, fixed}
-use Rattle.lusyn_grammar.specs.Levels.{infix_token, prefix_token, prefix_of, level, left, right}
+use Rattle.lusyn_tokens.specs.Tokens.{infix_token, prefix_token, prefix_of, level, left, right}
 use Rattle.lusyn_grammar.specs.Grammar.{Written, Writtens, tree, trees, tokens, further, level_of, IsProper, AreProper, when_tokens, repeated, led, Each}
 use Rattle.lusyn_grammar.specs.Grammar as w
 use Rattle.lusyn_grammar.specs.Reading.{Read, ◌>>=◌, Next, operator, clock, parenthesis, nothing, next, tail, after, begins, name, condition, many, step, climb, further_operand, closed, operands_by, operands, named_by, named, choice, inside, branch, merge, current, at_level, allowed, prefixed, head, whole, expr}

@@ -1,6 +1,5 @@
 -- What the proofs use of the table of levels, and of the spelling of keywords and signs.
-use Rattle.std.proofs.Common.{◌≡◌, ◌≤◌, ◌<◌, ◌⊎◌, ℕ, Option, Some, None, List, ◌∷◌, [], refl, ap, sym, ◌∙◌, inl, inr, arith, true, if◌then◌else◌}
-use Rattle.std.specs.Str.{bytes_eq}
+use Rattle.std.proofs.Common.{◌≡◌, ◌≤◌, ◌<◌, ◌⊎◌, Option, Some, None, List, ◌∷◌, [], refl, ap, sym, ◌∙◌, inl, inr, arith, true, subst}
 use Rattle.std.proofs.lemmas.Slice.Eq.{bytes_eq-Decides}
 use Rattle.lutree.specs.declared.expr.UnaryOperator.TheVariants as u
 use Rattle.lutree.specs.declared.expr.BinaryOperator.TheVariants as b
@@ -10,20 +9,16 @@ use Rattle.lutree.specs.declared.expr.Infix.{Infix}
 use Rattle.lutree.specs.declared.expr.Infix.TheVariants as i
 use Rattle.lusyn_tokens.specs.declared.token.Fixed.{Fixed}
 use Rattle.lusyn_tokens.specs.declared.token.Fixed.TheVariants as f
-use Rattle.lusyn_tokens.specs.Tokens.{Tok, identifier, number, fixed, text_of}
-use Rattle.lusyn_grammar.specs.Levels.{infix_token, prefix_token, prefix_of, level, left, right}
-use Rattle.lusyn_grammar.specs.Reading.{operator, clock, next, tail, same}
+use Rattle.lusyn_tokens.specs.Tokens.{Tok, identifier, number, fixed, text_of, keywords, keyword_among}
+use Rattle.lusyn_tokens.specs.Tokens.{infix_token, prefix_token, infix_of, prefix_of, Rule, arrow, impl, disj, conj, comp, sum, term, rule, level_by, left_by, right_by, level, left, right}
+use Rattle.lusyn_grammar.specs.Reading.{operator, clock, next, of_infix, tail, same}
 
 -- no two keywords or signs are spelled alike
 abbrev every : List Fixed
 every =
-    f.Node ∷ f.Returns ∷ f.Var ∷ f.Let ∷ f.Tel ∷ f.Int ∷ f.Bool ∷ f.True ∷ f.False ∷ f.If ∷ f.Then ∷ f.Else ∷ f.Pre ∷ f.FollowedBy ∷ f.Current ∷ f.When ∷ f.Merge ∷ f.Not ∷ f.And ∷ f.Or ∷ f.Xor ∷ f.Divide ∷ f.Modulo ∷ f.Type ∷ f.Enum ∷ f.Open ∷ f.Close ∷ f.Comma ∷ f.Semicolon ∷ f.Colon ∷ f.Equal ∷ f.Unequal ∷ f.Less ∷ f.LessEqual ∷ f.Greater ∷ f.GreaterEqual ∷ f.Plus ∷ f.Minus ∷ f.Star ∷ f.Arrow ∷ f.Implies ∷ []
+    f.Open ∷ f.Close ∷ f.Comma ∷ f.Semicolon ∷ f.Colon ∷ f.Equal ∷ f.Unequal ∷ f.Less ∷ f.LessEqual ∷ f.Greater ∷ f.GreaterEqual ∷ f.Plus ∷ f.Minus ∷ f.Star ∷ f.Arrow ∷ f.Implies ∷ keywords
 
-abbrev named_by : List Fixed → List ℕ → Option Fixed
-named_by [] x = None
-named_by (g ∷ gs) x = if bytes_eq x (text_of g) then Some g else named_by gs x
-
-named-text_of : (g : Fixed) → named_by every (text_of g) ≡ Some g
+named-text_of : (g : Fixed) → keyword_among every (text_of g) ≡ Some g
 named-text_of f.Node = refl
 named-text_of _ = refl
 
@@ -33,134 +28,130 @@ same-refl g = (bytes_eq-Decides (text_of g) (text_of g)).1 refl
 pub same-is : (g h : Fixed) → same g h ≡ true → g ≡ h
 same-is g h e =
     let texts : text_of g ≡ text_of h = (bytes_eq-Decides (text_of g) (text_of h)).0 e in
-    let found : Some g ≡ Some h = sym (named-text_of g) ∙ ap (named_by every) texts ∙ named-text_of h in
+    let found : Some g ≡ Some h = sym (named-text_of g) ∙ ap (keyword_among every) texts ∙ named-text_of h in
     cc
 
+-- Levels go by the rules of the operators.
+
+level_low_by : (r : Rule) → 1 ≤ level_by r
+level_low_by arrow = omega arith
+level_low_by _ = omega arith
+
 pub level_low : (op : Infix) → 1 ≤ level op
-level_low i.Arrow = omega arith
-level_low (i.Data b.Add) = omega arith
-level_low _ = omega arith
+level_low op = level_low_by (rule op)
+
+level_high_by : (r : Rule) → level_by r ≤ 7
+level_high_by arrow = omega arith
+level_high_by _ = omega arith
 
 pub level_high : (op : Infix) → level op ≤ 7
-level_high i.Arrow = omega arith
-level_high (i.Data b.Add) = omega arith
-level_high _ = omega arith
+level_high op = level_high_by (rule op)
+
+left_high_by : (r : Rule) → left_by r ≤ 7
+left_high_by arrow = omega arith
+left_high_by _ = omega arith
 
 pub left_high : (op : Infix) → left op ≤ 7
-left_high i.Arrow = omega arith
-left_high (i.Data b.Add) = omega arith
-left_high _ = omega arith
+left_high op = left_high_by (rule op)
+
+right_high_by : (r : Rule) → right_by r ≤ 8
+right_high_by arrow = omega arith
+right_high_by _ = omega arith
 
 pub right_high : (op : Infix) → right op ≤ 8
-right_high i.Arrow = omega arith
-right_high (i.Data b.Add) = omega arith
-right_high _ = omega arith
+right_high op = right_high_by (rule op)
+
+left_bound_by : (r : Rule) → level_by r ≤ left_by r
+left_bound_by arrow = omega arith
+left_bound_by _ = omega arith
 
 pub left_bound : (op : Infix) → level op ≤ left op
-left_bound i.Arrow = omega arith
-left_bound (i.Data b.Add) = omega arith
-left_bound _ = omega arith
+left_bound op = left_bound_by (rule op)
+
+right_bound_by : (r : Rule) → (level_by r ≤ right_by r) ⊎ (level_by r ≤ 1)
+right_bound_by arrow = inr (omega arith)
+right_bound_by _ = inl (omega arith)
 
 -- only the right operand of `->` and `fby` may bind less tightly than the operator
 pub right_bound : (op : Infix) → (level op ≤ right op) ⊎ (level op ≤ 1)
-right_bound i.Arrow = inr (omega arith)
-right_bound i.FollowedBy = inr (omega arith)
-right_bound (i.Data b.Add) = inl (omega arith)
-right_bound _ = inl (omega arith)
+right_bound op = right_bound_by (rule op)
 
 -- An operator after a whole expression doesn't go on with the expression's right operand.
 
-after_one : (op : Infix) → left op ≤ 1 → level op < 0
-after_one i.Arrow h = absurd (omega arith)
-after_one (i.Data b.Add) h = absurd (omega arith)
-after_one _ h = absurd (omega arith)
+after_arrow : (r : Rule) → left_by r ≤ 1 → level_by r < 0
+after_arrow arrow h = absurd (omega arith)
+after_arrow impl h = absurd (omega arith)
+after_arrow disj h = absurd (omega arith)
+after_arrow conj h = absurd (omega arith)
+after_arrow comp h = absurd (omega arith)
+after_arrow sum h = absurd (omega arith)
+after_arrow term h = absurd (omega arith)
 
-after_two : (op : Infix) → left op ≤ 2 → level op < 2
-after_two i.Arrow h = omega arith
-after_two i.FollowedBy h = omega arith
-after_two (i.Data b.Add) h = absurd (omega arith)
-after_two _ h = absurd (omega arith)
+after_impl : (r : Rule) → left_by r ≤ 2 → level_by r < 2
+after_impl arrow h = omega arith
+after_impl impl h = absurd (omega arith)
+after_impl disj h = absurd (omega arith)
+after_impl conj h = absurd (omega arith)
+after_impl comp h = absurd (omega arith)
+after_impl sum h = absurd (omega arith)
+after_impl term h = absurd (omega arith)
 
-after_three : (op : Infix) → left op ≤ 3 → level op < 4
-after_three i.Arrow h = omega arith
-after_three i.FollowedBy h = omega arith
-after_three (i.Data b.Implies) h = omega arith
-after_three (i.Data b.Or) h = omega arith
-after_three (i.Data b.Xor) h = omega arith
-after_three _ h = absurd (omega arith)
+after_disj : (r : Rule) → left_by r ≤ 3 → level_by r < 4
+after_disj arrow h = omega arith
+after_disj impl h = omega arith
+after_disj disj h = omega arith
+after_disj conj h = absurd (omega arith)
+after_disj comp h = absurd (omega arith)
+after_disj sum h = absurd (omega arith)
+after_disj term h = absurd (omega arith)
 
-after_four : (op : Infix) → left op ≤ 4 → level op < 5
-after_four i.Arrow h = omega arith
-after_four i.FollowedBy h = omega arith
-after_four (i.Data b.Implies) h = omega arith
-after_four (i.Data b.Or) h = omega arith
-after_four (i.Data b.Xor) h = omega arith
-after_four (i.Data b.And) h = omega arith
-after_four _ h = absurd (omega arith)
+after_conj : (r : Rule) → left_by r ≤ 4 → level_by r < 5
+after_conj arrow h = omega arith
+after_conj impl h = omega arith
+after_conj disj h = omega arith
+after_conj conj h = omega arith
+after_conj comp h = absurd (omega arith)
+after_conj sum h = absurd (omega arith)
+after_conj term h = absurd (omega arith)
 
-after_five : (op : Infix) → left op ≤ 5 → level op < 6
-after_five i.Arrow h = omega arith
-after_five i.FollowedBy h = omega arith
-after_five (i.Data b.Implies) h = omega arith
-after_five (i.Data b.Or) h = omega arith
-after_five (i.Data b.Xor) h = omega arith
-after_five (i.Data b.And) h = omega arith
-after_five _ h = absurd (omega arith)
+after_comp : (r : Rule) → left_by r ≤ 5 → level_by r < 6
+after_comp arrow h = omega arith
+after_comp impl h = omega arith
+after_comp disj h = omega arith
+after_comp conj h = omega arith
+after_comp comp h = absurd (omega arith)
+after_comp sum h = absurd (omega arith)
+after_comp term h = absurd (omega arith)
 
-after_six : (op : Infix) → left op ≤ 6 → level op < 7
-after_six i.Arrow h = omega arith
-after_six i.FollowedBy h = omega arith
-after_six (i.Data b.Implies) h = omega arith
-after_six (i.Data b.Or) h = omega arith
-after_six (i.Data b.Xor) h = omega arith
-after_six (i.Data b.And) h = omega arith
-after_six (i.Data b.Equal) h = omega arith
-after_six (i.Data b.Unequal) h = omega arith
-after_six (i.Data b.Less) h = omega arith
-after_six (i.Data b.LessEqual) h = omega arith
-after_six (i.Data b.Greater) h = omega arith
-after_six (i.Data b.GreaterEqual) h = omega arith
-after_six (i.Data b.Add) h = omega arith
-after_six (i.Data b.Subtract) h = omega arith
-after_six _ h = absurd (omega arith)
+after_sum : (r : Rule) → left_by r ≤ 6 → level_by r < 7
+after_sum arrow h = omega arith
+after_sum impl h = omega arith
+after_sum disj h = omega arith
+after_sum conj h = omega arith
+after_sum comp h = omega arith
+after_sum sum h = omega arith
+after_sum term h = absurd (omega arith)
 
-after_seven : (op : Infix) → left op ≤ 7 → level op < 8
-after_seven i.Arrow h = omega arith
-after_seven i.FollowedBy h = omega arith
-after_seven (i.Data b.Implies) h = omega arith
-after_seven (i.Data b.Or) h = omega arith
-after_seven (i.Data b.Xor) h = omega arith
-after_seven (i.Data b.And) h = omega arith
-after_seven (i.Data b.Equal) h = omega arith
-after_seven (i.Data b.Unequal) h = omega arith
-after_seven (i.Data b.Less) h = omega arith
-after_seven (i.Data b.LessEqual) h = omega arith
-after_seven (i.Data b.Greater) h = omega arith
-after_seven (i.Data b.GreaterEqual) h = omega arith
-after_seven (i.Data b.Add) h = omega arith
-after_seven (i.Data b.Subtract) h = omega arith
-after_seven (i.Data b.Multiply) h = omega arith
-after_seven (i.Data b.Divide) h = omega arith
-after_seven (i.Data b.Modulo) h = omega arith
+after_term : (r : Rule) → left_by r ≤ 7 → level_by r < 8
+after_term arrow h = omega arith
+after_term impl h = omega arith
+after_term disj h = omega arith
+after_term conj h = omega arith
+after_term comp h = omega arith
+after_term sum h = omega arith
+after_term term h = omega arith
+
+after_by : (one r : Rule) → left_by r ≤ level_by one → level_by r < right_by one
+after_by arrow r h = after_arrow r h
+after_by impl r h = after_impl r h
+after_by disj r h = after_disj r h
+after_by conj r h = after_conj r h
+after_by comp r h = after_comp r h
+after_by sum r h = after_sum r h
+after_by term r h = after_term r h
 
 pub operator_after : (one op : Infix) → left op ≤ level one → level op < right one
-operator_after i.Arrow op h = after_one op h
-operator_after i.FollowedBy op h = after_one op h
-operator_after (i.Data b.Implies) op h = after_two op h
-operator_after (i.Data b.Or) op h = after_three op h
-operator_after (i.Data b.Xor) op h = after_three op h
-operator_after (i.Data b.And) op h = after_four op h
-operator_after (i.Data b.Equal) op h = after_five op h
-operator_after (i.Data b.Unequal) op h = after_five op h
-operator_after (i.Data b.Less) op h = after_five op h
-operator_after (i.Data b.LessEqual) op h = after_five op h
-operator_after (i.Data b.Greater) op h = after_five op h
-operator_after (i.Data b.GreaterEqual) op h = after_five op h
-operator_after (i.Data b.Add) op h = after_six op h
-operator_after (i.Data b.Subtract) op h = after_six op h
-operator_after (i.Data b.Multiply) op h = after_seven op h
-operator_after (i.Data b.Divide) op h = after_seven op h
-operator_after (i.Data b.Modulo) op h = after_seven op h
+operator_after one op h = after_by (rule one) (rule op) h
 
 pub next-operator_token : (op : Infix) (rest : List Tok) → next (fixed (infix_token op) ∷ rest) ≡ operator op
 next-operator_token i.Arrow rest = refl
@@ -172,31 +163,32 @@ prefix_of-token p.Pre = refl
 prefix_of-token (p.Data u.Not) = refl
 prefix_of-token _ = refl
 
-same_operator : (a c : Infix) (rest : List Tok) → operator a ≡ operator c → fixed (infix_token a) ∷ rest ≡ fixed (infix_token c) ∷ rest
-same_operator a c rest e = let h : a ≡ c = cc in ap (λ o. fixed (infix_token o) ∷ rest) h
+-- a token is that of the operator that it is
+abbrev IsTokenOf : Fixed → Option Infix → Type 0
+IsTokenOf g None = g ≡ g
+IsTokenOf g (Some op) = infix_token op ≡ g
+
+infix_back : (g : Fixed) → IsTokenOf g (infix_of g)
+infix_back f.Arrow = refl
+infix_back _ = refl
+
+infix_of-is : (g : Fixed) (op : Infix) → infix_of g ≡ Some op → infix_token op ≡ g
+infix_of-is g op e = subst (IsTokenOf g) e (infix_back g)
+
+of_infix-is : (o : Option Infix) (op : Infix) → of_infix o ≡ operator op → o ≡ Some op
+of_infix-is None op e = absurd cc
+of_infix-is (Some p) op e = let h : p ≡ op = cc in ap (λ (q : Infix). Some q) h
+
+infix_next : (g : Fixed) (rest : List Tok) (op : Infix) → of_infix (infix_of g) ≡ operator op → fixed (infix_token op) ∷ rest ≡ fixed g ∷ rest
+infix_next g rest op e = ap (λ (h : Fixed). fixed h ∷ rest) (infix_of-is g op (of_infix-is (infix_of g) op e))
 
 pub next-is_operator : (ts : List Tok) (op : Infix) → next ts ≡ operator op → fixed (infix_token op) ∷ tail ts ≡ ts
 next-is_operator [] op e = absurd cc
 next-is_operator (identifier x ∷ rest) op e = absurd cc
 next-is_operator (number n ∷ rest) op e = absurd cc
-next-is_operator (fixed f.Arrow ∷ rest) op e = sym (same_operator i.Arrow op rest e)
-next-is_operator (fixed f.FollowedBy ∷ rest) op e = sym (same_operator i.FollowedBy op rest e)
-next-is_operator (fixed f.Implies ∷ rest) op e = sym (same_operator (i.Data b.Implies) op rest e)
-next-is_operator (fixed f.Or ∷ rest) op e = sym (same_operator (i.Data b.Or) op rest e)
-next-is_operator (fixed f.Xor ∷ rest) op e = sym (same_operator (i.Data b.Xor) op rest e)
-next-is_operator (fixed f.And ∷ rest) op e = sym (same_operator (i.Data b.And) op rest e)
-next-is_operator (fixed f.Equal ∷ rest) op e = sym (same_operator (i.Data b.Equal) op rest e)
-next-is_operator (fixed f.Unequal ∷ rest) op e = sym (same_operator (i.Data b.Unequal) op rest e)
-next-is_operator (fixed f.Less ∷ rest) op e = sym (same_operator (i.Data b.Less) op rest e)
-next-is_operator (fixed f.LessEqual ∷ rest) op e = sym (same_operator (i.Data b.LessEqual) op rest e)
-next-is_operator (fixed f.Greater ∷ rest) op e = sym (same_operator (i.Data b.Greater) op rest e)
-next-is_operator (fixed f.GreaterEqual ∷ rest) op e = sym (same_operator (i.Data b.GreaterEqual) op rest e)
-next-is_operator (fixed f.Plus ∷ rest) op e = sym (same_operator (i.Data b.Add) op rest e)
-next-is_operator (fixed f.Minus ∷ rest) op e = sym (same_operator (i.Data b.Subtract) op rest e)
-next-is_operator (fixed f.Star ∷ rest) op e = sym (same_operator (i.Data b.Multiply) op rest e)
-next-is_operator (fixed f.Divide ∷ rest) op e = sym (same_operator (i.Data b.Divide) op rest e)
-next-is_operator (fixed f.Modulo ∷ rest) op e = sym (same_operator (i.Data b.Modulo) op rest e)
-next-is_operator (fixed _ ∷ rest) op e = absurd cc
+next-is_operator (fixed f.When ∷ rest) op e = absurd cc
+next-is_operator (fixed f.Open ∷ rest) op e = absurd cc
+next-is_operator (fixed g ∷ rest) op e = infix_next g rest op e
 
 pub next-is_clock : (ts : List Tok) → next ts ≡ clock → fixed f.When ∷ tail ts ≡ ts
 next-is_clock [] e = absurd cc
@@ -205,11 +197,13 @@ next-is_clock (number n ∷ rest) e = absurd cc
 next-is_clock (fixed f.When ∷ rest) e = refl
 next-is_clock (fixed _ ∷ rest) e = absurd cc
 
-same_prefix : (a c : Prefix) → Some a ≡ Some c → prefix_token a ≡ prefix_token c
-same_prefix a c e = let h : a ≡ c = cc in ap prefix_token h
+abbrev IsPrefixTokenOf : Fixed → Option Prefix → Type 0
+IsPrefixTokenOf g None = g ≡ g
+IsPrefixTokenOf g (Some op) = prefix_token op ≡ g
+
+prefix_back : (g : Fixed) → IsPrefixTokenOf g (prefix_of g)
+prefix_back f.Pre = refl
+prefix_back _ = refl
 
 pub prefix_of-is : (g : Fixed) (op : Prefix) → prefix_of g ≡ Some op → prefix_token op ≡ g
-prefix_of-is f.Minus op e = sym (same_prefix (p.Data u.Minus) op e)
-prefix_of-is f.Not op e = sym (same_prefix (p.Data u.Not) op e)
-prefix_of-is f.Pre op e = sym (same_prefix p.Pre op e)
-prefix_of-is _ op e = absurd cc
+prefix_of-is g op e = subst (IsPrefixTokenOf g) e (prefix_back g)

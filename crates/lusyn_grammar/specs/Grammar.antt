@@ -35,7 +35,7 @@ use Rattle.lusyn_tokens.specs.declared.token.Fixed.{Fixed}
 use Rattle.lusyn_tokens.specs.declared.token.Fixed.TheVariants as f
 use Rattle.lusyn_tokens.specs.Tokens.{Tok, identifier, fixed}
 use Rattle.lusyn_tokens.specs.Tokens as tok
-use Rattle.lusyn_grammar.specs.Levels.{prefix_token, infix_token, level, left, right}
+use Rattle.lusyn_tokens.specs.Tokens.{prefix_token, infix_token, level, left, right}
 
 -- AS IT IS WRITTEN
 

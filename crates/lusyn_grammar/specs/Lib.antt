@@ -1,4 +1,3 @@
-pub mod Levels
 pub mod Grammar
 pub mod Reading
 pub mod Printing

@@ -3,7 +3,7 @@
 use Rattle.std.specs.Prelude.{ℕ, true, false, nat_le, [], ◌∷◌, map, if◌then◌else◌}
 use Rattle.lutree.specs.Tree.{Tree, Trees, DeclarationTree, EquationTree, NodeTree, ProgramTree}
 use Rattle.lutree.specs.Tree as t
-use Rattle.lusyn_grammar.specs.Levels.{left, right}
+use Rattle.lusyn_tokens.specs.Tokens.{left, right}
 use Rattle.lusyn_grammar.specs.Grammar.{Written, Writtens, number, truth, variable, unary, binary, choice, when, current, merge, call, paren, none, more, level_of, WrittenDeclaration, WrittenEquation, WrittenNode, WrittenProgram, Each, IsNonempty, IsDefinedBy}
 
 -- in parentheses exactly where it binds less tightly than its place asks

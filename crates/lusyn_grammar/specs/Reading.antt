@@ -14,7 +14,7 @@ use Rattle.lutree.specs.Tree as t
 use Rattle.lusyn_tokens.specs.declared.token.Fixed.{Fixed}
 use Rattle.lusyn_tokens.specs.declared.token.Fixed.TheVariants as f
 use Rattle.lusyn_tokens.specs.Tokens.{Tok, identifier, number, fixed, text_of}
-use Rattle.lusyn_grammar.specs.Levels.{infix_of, prefix_of, level, left, right}
+use Rattle.lusyn_tokens.specs.Tokens.{infix_of, prefix_of, level, left, right}
 use Rattle.lusyn_grammar.specs.Grammar.{declared}
 
 -- what was read, and what follows it; or the rest from the refused token on

@@ -12,10 +12,10 @@ use Rattle.std.specs.Str.Parse.{digits_value}
 use Rattle.std.proofs.lemmas.Slice.Eq.{bytes_eq-Decides}
 use Rattle.lusyn_tokens.specs.declared.token.Fixed.{Fixed}
 use Rattle.lusyn_tokens.specs.declared.token.Fixed.TheVariants as f
-use Rattle.lusyn_tokens.specs.Tokens.{Tok, identifier, number, fixed, text_of}
+use Rattle.lusyn_tokens.specs.Tokens.{Tok, identifier, number, fixed, text_of, keywords, keyword_among}
 use Rattle.lusyn_lexer.specs.Lexing.{is_blank, is_line, is_letter, is_word, is_word_text, is_digits, IsPiece, IsInRange}
 use Rattle.lusyn_lexer.specs.Lexing as pieces
-use Rattle.lusyn_lexer.specs.Scanning.{Piece, blank, token, too_large, illegal, is_comment, word_by, word, keywords, sign, signed, numeral, piece}
+use Rattle.lusyn_lexer.specs.Scanning.{Piece, blank, token, too_large, illegal, is_comment, word_or, word, sign, signed, numeral, piece}
 
 pub by_test : {A : Type 0} (b : Bool) (x y : A) (P : A → Type 0) → (b ≡ true → P x) → (b ≡ false → P y) → P (cond b x y)
 by_test true x y P held failed = held refl
@@ -193,12 +193,16 @@ spelled-bounds f.Implies u = (omega arith, λ same. (refl, tt))
 spelled-bounds g u = word-bounds (text_of g) u (fixed g) refl refl tt
 
 -- a word that is no keyword is an identifier
-word_by-cases : (ks : List Fixed) (w : List ℕ) → (word_by ks w ≡ identifier w) ⊎ ((g : Fixed) × (word_by ks w ≡ fixed g) × (w ≡ text_of g))
-word_by-cases [] w = inl refl
-word_by-cases (k ∷ ks) w =
-    let others = word_by-cases ks w in
-    let P : Tok → Type 0 = λ t. (t ≡ identifier w) ⊎ ((g : Fixed) × (t ≡ fixed g) × (w ≡ text_of g)) in
-    by_test (bytes_eq w (text_of k)) (fixed k) (word_by ks w) P (λ e. inr (k, refl, (bytes_eq-Decides w (text_of k)).0 e)) (λ e. others)
+keyword-cases : (gs : List Fixed) (w : List ℕ) → (keyword_among gs w ≡ None) ⊎ ((g : Fixed) × (keyword_among gs w ≡ Some g) × (w ≡ text_of g))
+keyword-cases [] w = inl refl
+keyword-cases (k ∷ ks) w =
+    let others = keyword-cases ks w in
+    let P : Option Fixed → Type 0 = λ o. (o ≡ None) ⊎ ((g : Fixed) × (o ≡ Some g) × (w ≡ text_of g)) in
+    by_test (bytes_eq w (text_of k)) (Some k) (keyword_among ks w) P (λ e. inr (k, refl, (bytes_eq-Decides w (text_of k)).0 e)) (λ e. others)
+
+word-cases : (w : List ℕ) → (word w ≡ identifier w) ⊎ ((g : Fixed) × (word w ≡ fixed g) × (w ≡ text_of g))
+word-cases w =
+    elim (keyword-cases keywords w) [ inl is ↦ inl (ap (word_or w) is) | inr k ↦ inr (k.0, ap (word_or w) k.1, k.2) ]
 
 -- a text that a keyword or a sign has is no identifier
 word-text_of : (g : Fixed) → (is_word_text (text_of g) ≡ false) ⊎ (word (text_of g) ≡ fixed g)
@@ -225,11 +229,11 @@ reserved g w h e =
     elim (word-text_of g) [ inl no_word ↦ (let on : is_word_text (text_of g) ≡ true = sym (ap is_word_text e) ∙ h in absurd cc) | inr is ↦ ap word e ∙ is ]
 
 word-is_identifier : (w : List ℕ) → is_word_text w ≡ true → ((g : Fixed) → w ≢ text_of g) → word w ≡ identifier w
-word-is_identifier w h free = elim (word_by-cases keywords w) [ inl is ↦ is | inr k ↦ absurd (free k.0 k.2) ]
+word-is_identifier w h free = elim (word-cases w) [ inl is ↦ is | inr k ↦ absurd (free k.0 k.2) ]
 
 word-piece : (w : List ℕ) → is_word_text w ≡ true → IsPiece w (Some (word w))
 word-piece w h =
-    elim (word_by-cases keywords w) [
+    elim (word-cases w) [
       | inl is ↦ pieces.name h (λ g e. let k : word w ≡ fixed g = reserved g w h e in absurd cc) (ap (λ (t : Tok). Some t) is)
       | inr k ↦ pieces.spelled k.0 k.2 (ap (λ (t : Tok). Some t) k.1)
     ]
@@ -283,7 +287,7 @@ found-comment b (c ∷ z) h =
 
 -- a word is no number
 word-in_range : (w : List ℕ) → IsInRange (Some (word w))
-word-in_range w = elim (word_by-cases keywords w) [ inl is ↦ along (identifier w) is tt | inr k ↦ along (fixed k.0) k.1 tt ]
+word-in_range w = elim (word-cases w) [ inl is ↦ along (identifier w) is tt | inr k ↦ along (fixed k.0) k.1 tt ]
   where
     along : (t : Tok) → word w ≡ t → IsInRange (Some t) → IsInRange (Some (word w))
     along t e h = let P : Tok → Type 0 = λ x. IsInRange (Some x) in subst P (sym e) h

@@ -2,14 +2,13 @@
 use Rattle.std.specs.Prelude.{ℕ, zero, suc, ◌+◌, ◌-◌, ◌^◌, Bool, ◌&&◌, ◌==◌, nat_lt, List, [], ◌∷◌, ◌++◌, take, Option, Some, None, Result, Ok, Err, if◌then◌else◌, slice_index}
 use Rattle.std.specs.Char.{is_ascii_digit}
 use Rattle.std.specs.List.{prefix_len}
-use Rattle.std.specs.Str.{bytes_eq}
 use Rattle.std.specs.Str.Parse.{digits_value}
 use Rattle.lulimits.specs.Limits.{longest_run}
 use Rattle.lusyn_lexer.specs.declared.error.LexError.{LexError}
 use Rattle.lusyn_lexer.specs.declared.error.LexError.TheVariants.{NoToken, NumberTooLarge, LongRun}
 use Rattle.lusyn_tokens.specs.declared.token.Fixed.{Fixed}
 use Rattle.lusyn_tokens.specs.declared.token.Fixed.TheVariants as f
-use Rattle.lusyn_tokens.specs.Tokens.{Tok, identifier, number, fixed, text_of}
+use Rattle.lusyn_tokens.specs.Tokens.{Tok, identifier, number, fixed, keyword}
 use Rattle.lusyn_lexer.specs.Lexing.{is_blank, is_line, is_letter, is_word, Placed}
 use Rattle.lusyn_lexer.specs.Runs.{is_of_run}
 
@@ -17,17 +16,13 @@ use Rattle.lusyn_lexer.specs.Runs.{is_of_run}
 abbrev pub is_comment : ℕ → ℕ → Bool
 is_comment first second = first == 45 && second == 45
 
-abbrev pub keywords : List Fixed
-keywords =
-    f.Node ∷ f.Returns ∷ f.Var ∷ f.Let ∷ f.Tel ∷ f.Int ∷ f.Bool ∷ f.True ∷ f.False ∷ f.If ∷ f.Then ∷ f.Else ∷ f.Pre ∷ f.FollowedBy ∷ f.Current ∷ f.When ∷ f.Merge ∷ f.Not ∷ f.And ∷ f.Or ∷ f.Xor ∷ f.Divide ∷ f.Modulo ∷ f.Type ∷ f.Enum ∷ []
-
 -- the keyword that is spelled so, or else an identifier
-abbrev pub word_by : List Fixed → List ℕ → Tok
-word_by [] x = identifier x
-word_by (k ∷ ks) x = if bytes_eq x (text_of k) then fixed k else word_by ks x
+abbrev pub word_or : List ℕ → Option Fixed → Tok
+word_or x None = identifier x
+word_or x (Some g) = fixed g
 
 abbrev pub word : List ℕ → Tok
-word = word_by keywords
+word x = word_or x (keyword x)
 
 -- the longest sign that this byte and the next begin, and its length
 abbrev pub sign : ℕ → ℕ → Option (Fixed × ℕ)

@@ -16,7 +16,7 @@ ghost use Rattle.lusyn_lexer.specs.Scanning as scanning;
 
 use crate::error::LexError;
 use lulimits::limits::{LONGEST_PROGRAM, LONGEST_RUN};
-use lusyn_tokens::{Fixed, Lexeme, Token};
+use lusyn_tokens::{Fixed, Lexeme, Token, keyword};
 use std::alloc::Global;
 
 fn is_letter(byte: u8) -> bool
@@ -79,33 +79,9 @@ fn line_len(text: &[u8]) -> usize
 fn word_token(word: &str) -> Token<'_>
     ensures { tok result ≡ scanning.word word.now }
 {
-    match word {
-        "node" => Token::Fixed(Fixed::Node),
-        "returns" => Token::Fixed(Fixed::Returns),
-        "var" => Token::Fixed(Fixed::Var),
-        "let" => Token::Fixed(Fixed::Let),
-        "tel" => Token::Fixed(Fixed::Tel),
-        "int" => Token::Fixed(Fixed::Int),
-        "bool" => Token::Fixed(Fixed::Bool),
-        "true" => Token::Fixed(Fixed::True),
-        "false" => Token::Fixed(Fixed::False),
-        "if" => Token::Fixed(Fixed::If),
-        "then" => Token::Fixed(Fixed::Then),
-        "else" => Token::Fixed(Fixed::Else),
-        "pre" => Token::Fixed(Fixed::Pre),
-        "fby" => Token::Fixed(Fixed::FollowedBy),
-        "current" => Token::Fixed(Fixed::Current),
-        "when" => Token::Fixed(Fixed::When),
-        "merge" => Token::Fixed(Fixed::Merge),
-        "not" => Token::Fixed(Fixed::Not),
-        "and" => Token::Fixed(Fixed::And),
-        "or" => Token::Fixed(Fixed::Or),
-        "xor" => Token::Fixed(Fixed::Xor),
-        "div" => Token::Fixed(Fixed::Divide),
-        "mod" => Token::Fixed(Fixed::Modulo),
-        "type" => Token::Fixed(Fixed::Type),
-        "enum" => Token::Fixed(Fixed::Enum),
-        _ => Token::Name(word),
+    match keyword(word) {
+        Some(fixed) => Token::Fixed(fixed),
+        None => Token::Name(word),
     }
 }
 

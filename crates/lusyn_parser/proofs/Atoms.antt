@@ -8,7 +8,7 @@ use Rattle.lutree.specs.Tree.{Tree}
 use Rattle.lutree.specs.Tree as t
 use Rattle.lusyn_tokens.specs.declared.token.Fixed.TheVariants as f
 use Rattle.lusyn_tokens.specs.Tokens.{Tok, identifier, number, fixed}
-use Rattle.lusyn_grammar.specs.Levels.{level, left, right}
+use Rattle.lusyn_tokens.specs.Tokens.{level, left, right}
 use Rattle.lusyn_grammar.specs.Reading.{Read, ◌>>=◌, operator, nothing, parenthesis, clock, next, tail, condition, step, climb, after, begins, named, named_by, head, whole, expr, at_level}
 use Rattle.lusyn_tokens.specs.declared.token.Lexeme.{Lexeme}
 use Rattle.lusyn_parser.specs.declared.error.Stop.{Stop}

@@ -12,8 +12,7 @@ ghost use Rattle.lusyn_parser.specs.Gives.{Gives, GivesPlace, EndsOperand, atom,
 use crate::error::Stop;
 use crate::pieces::{Next, Operand, PlacedName, byte_of, copied, operand_of, plain};
 use lulist::{Name, Number, Row};
-use lusyn_grammar::{binding_of, infix_of, prefix_of};
-use lusyn_tokens::{Fixed, Lexeme, Token};
+use lusyn_tokens::{Fixed, Lexeme, Token, binding_of, infix_of, prefix_of};
 use lutree::{Condition, Declaration, Equation, Expr, Infix, Kind, Prefix};
 use std::alloc::Global;
 

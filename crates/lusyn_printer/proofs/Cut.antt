@@ -21,7 +21,7 @@ use Rattle.lusyn_lexer.specs.Lexing as lexing
 use Rattle.lusyn_lexer.specs.Lexing.{Pieces, bytes, AreCut, IsPiece, IsLongest, is_letter, is_word, is_word_text, is_digits}
 use Rattle.lusyn_lexer.proofs.Pieces.{letter-is_word}
 use Rattle.lusyn_grammar.specs.Grammar.{Written, Writtens, number, truth, variable, unary, binary, choice, when, current, merge, call, paren, none, more, tree, trees, Each, truth_token, kind_token}
-use Rattle.lusyn_grammar.specs.Levels.{prefix_token, infix_token}
+use Rattle.lusyn_tokens.specs.Tokens.{prefix_token, infix_token}
 use Rattle.lusyn_grammar.specs.Printing.{written}
 use Rattle.lusyn_grammar.proofs.Printed.{tree-written}
 use Rattle.lusyn_printer.proofs.Pieces.{space, feed, sign, word, numeral, not_pieces, when_pieces, pieces, further, each, behind, clock_pieces, declaration, declarations, locals, left_side, equation, body, node, program}

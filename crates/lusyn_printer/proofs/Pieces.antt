@@ -11,7 +11,7 @@ use Rattle.lusyn_tokens.specs.declared.token.Fixed.TheVariants as f
 use Rattle.lusyn_tokens.specs.Tokens.{Tok, identifier, fixed, text_of}
 use Rattle.lusyn_tokens.specs.Tokens as tok
 use Rattle.lusyn_lexer.specs.Lexing.{Pieces, Placed, bytes, before, placed}
-use Rattle.lusyn_grammar.specs.Levels.{prefix_token, infix_token}
+use Rattle.lusyn_tokens.specs.Tokens.{prefix_token, infix_token}
 use Rattle.lusyn_grammar.specs.Grammar as grammar
 use Rattle.lusyn_grammar.specs.Grammar.{Written, Writtens, number, truth, variable, unary, binary, choice, when, current, merge, call, paren, none, more, truth_token, kind_token, tokens, repeated, separated, led, ended}
 use Rattle.lusyn_grammar.specs.Printing.{written, written_declaration, written_equation, written_node, written_program}

@@ -11,7 +11,7 @@ use Rattle.lutree.specs.declared.expr.BinaryOperator.TheVariants as b
 use Rattle.lusyn_tokens.specs.declared.token.Fixed.TheVariants as f
 use Rattle.lusyn_tokens.specs.Tokens.{Tok, identifier, fixed}
 use Rattle.lusyn_lexer.specs.Runs.{is_of_run}
-use Rattle.lusyn_grammar.specs.Levels.{prefix_token, infix_token, left, right}
+use Rattle.lusyn_tokens.specs.Tokens.{prefix_token, infix_token, left, right}
 use Rattle.lusyn_grammar.specs.Grammar.{Written, Writtens, number, truth, variable, unary, binary, choice, when, current, merge, call, paren, none, more, level_of, IsProper, AreProper, tree, trees, tokens, further, truth_token, sign_tokens, when_tokens}
 use Rattle.lusyn_grammar.specs.Printing.{placed, written, writtens}
 use Rattle.lusyn_printer.proofs.Peaks.{peak, peak-of_run}
@@ -54,7 +54,7 @@ step k n t ts rest e h = peak-of_run k t ts e ∙ h ∙ ap (λ (m : ℕ). peak m
 
 prefix_of_run : (op : Prefix) → is_of_run (fixed (prefix_token op)) ≡ true
 prefix_of_run p.Pre = refl
-prefix_of_run (p.Data u.Not) = refl
+prefix_of_run (p.Data u.Minus) = refl
 prefix_of_run _ = refl
 
 infix_of_run : (op : Infix) → is_of_run (fixed (infix_token op)) ≡ true

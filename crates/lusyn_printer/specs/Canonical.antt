@@ -18,7 +18,7 @@ use Rattle.lutree.specs.declared.program.Kind.{Kind}
 use Rattle.lutree.specs.declared.program.Kind.TheVariants as kinds
 use Rattle.lutree.specs.Tree.{DeclarationTree, EquationTree, NodeTree, ProgramTree}
 use Rattle.lusyn_tokens.specs.Tokens.{text_of}
-use Rattle.lusyn_grammar.specs.Levels.{prefix_token, infix_token}
+use Rattle.lusyn_tokens.specs.Tokens.{prefix_token, infix_token}
 use Rattle.lusyn_grammar.specs.Grammar.{Written, Writtens, number, truth, variable, unary, binary, choice, when, current, merge, call, paren, none, more}
 use Rattle.lusyn_grammar.specs.Printing.{written}
 

@@ -5,8 +5,8 @@ ghost use Rattle.lutree.specs.Tree.{view, views, trees_of};
 ghost use Rattle.lusyn_grammar.specs.Printing.{written, writtens, placed};
 ghost use Rattle.lusyn_printer.specs.Canonical.{expression, operands, further, when_text};
 
-use crate::levels::{infix_text, level_of, prefix_text};
-use lusyn_grammar::binding_of;
+use crate::levels::{level_of, prefix_text, put_infix};
+use lusyn_tokens::binding_of;
 use lutree::{Condition, Expr};
 use std::alloc::AllocError;
 
@@ -58,7 +58,7 @@ pub(crate) fn put_expr(text: &mut String, e: &Expr) -> Result<(), AllocError>
         Expr::Binary(op, a, b) => {
             let binding = binding_of(*op);
             put_operand(text, a, binding.left)?;
-            text.push_str(infix_text(*op))?;
+            put_infix(text, *op)?;
             put_operand(text, b, binding.right)
         }
         Expr::If(a, b, c) => {

@@ -1,14 +1,14 @@
 //! How tightly an expression binds, and how its operators are spelled.
 
-ghost use Rattle.std.specs.Prelude.{◌≡◌, ◌++◌, codes};
+ghost use Rattle.std.specs.Prelude.{◌≡◌, ◌++◌, codes, IfOk, string_bytes};
 ghost use Rattle.lutree.specs.Tree.{view};
-ghost use Rattle.lusyn_tokens.specs.Tokens.{text_of};
-ghost use Rattle.lusyn_grammar.specs.Levels.{prefix_token, infix_token};
+ghost use Rattle.lusyn_tokens.specs.Tokens.{text_of, prefix_token, infix_token};
 ghost use Rattle.lusyn_grammar.specs.Grammar.{level_of};
 ghost use Rattle.lusyn_grammar.specs.Printing.{written};
 
-use lusyn_grammar::binding_of;
-use lutree::{BinaryOperator, Expr, Infix, Prefix, UnaryOperator};
+use lusyn_tokens::{binding_of, infix_token, prefix_token};
+use lutree::{Expr, Infix, Prefix};
+use std::alloc::AllocError;
 
 /// How tightly an expression binds.
 pub(crate) fn level_of(e: &Expr) -> u8
@@ -27,42 +27,15 @@ pub(crate) fn level_of(e: &Expr) -> u8
 pub(crate) fn prefix_text(op: Prefix) -> &'static str
     ensures { result.now ≡ text_of (prefix_token op) }
 {
-    match op {
-        Prefix::Data(UnaryOperator::Minus) => "-",
-        Prefix::Data(UnaryOperator::Not) => "not",
-        Prefix::Pre => "pre",
-    }
+    prefix_token(op).text()
 }
 
-/// The spelling of an operator between its operands, with a space before it and after it.
-pub(crate) fn infix_text(op: Infix) -> &'static str
-    ensures { result.now ≡ codes " " ++ text_of (infix_token op) ++ codes " " }
+/// An operator between its operands, with a space before it and after it.
+pub(crate) fn put_infix(text: &mut String, op: Infix) -> Result<(), AllocError>
+    ensures { IfOk result (λ _. string_bytes text.new ≡ string_bytes text.old
+        ++ (codes " " ++ text_of (infix_token op) ++ codes " ")) }
 {
-    match op {
-        Infix::Arrow => " -> ",
-        Infix::FollowedBy => " fby ",
-        Infix::Data(op) => data_text(op),
-    }
-}
-
-fn data_text(op: BinaryOperator) -> &'static str
-    ensures { result.now ≡ codes " " ++ text_of (infix_token (Infix.Data op)) ++ codes " " }
-{
-    match op {
-        BinaryOperator::Add => " + ",
-        BinaryOperator::Subtract => " - ",
-        BinaryOperator::Multiply => " * ",
-        BinaryOperator::Divide => " div ",
-        BinaryOperator::Modulo => " mod ",
-        BinaryOperator::Less => " < ",
-        BinaryOperator::LessEqual => " <= ",
-        BinaryOperator::Greater => " > ",
-        BinaryOperator::GreaterEqual => " >= ",
-        BinaryOperator::Equal => " = ",
-        BinaryOperator::Unequal => " <> ",
-        BinaryOperator::And => " and ",
-        BinaryOperator::Or => " or ",
-        BinaryOperator::Xor => " xor ",
-        BinaryOperator::Implies => " => ",
-    }
+    text.push(' ')?;
+    text.push_str(infix_token(op).text())?;
+    text.push(' ')
 }

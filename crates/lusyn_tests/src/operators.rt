@@ -1,7 +1,6 @@
 //! The tables of operators, with values to look at.
 
-use lusyn_grammar::{binding_of, infix_of, prefix_of};
-use lusyn_tokens::Fixed;
+use lusyn_tokens::{Fixed, binding_of, infix_of, prefix_of};
 use lutree::{BinaryOperator, Infix, Prefix, UnaryOperator};
 use std::test::Fail;
 

@@ -1,18 +1,17 @@
 -- Which equations define a variable.
 use Rattle.std.proofs.Common.{◌≡◌, ◌∙◌, ◌↔◌, ℕ, zero, suc, ◌+◌, ◌<◌, ◌≤◌, ◌⊎◌, inl, inr, List, [], ◌∷◌, ◌++◌, map, length, get_or, take, Some, refl, sym, ap, subst, arith, length-append, Bor}
-use Rattle.std.specs.Prelude.{slice_get, All, Contains, flat_map}
+use Rattle.std.specs.Prelude.{slice_get, All, Contains}
 use Rattle.std.specs.Option.{option_map}
 use Rattle.std.proofs.lemmas.Bool.{cases_lt}
 use Rattle.std.proofs.lemmas.List.{take_more, map-append, take-map, get_or_append_left, append-nil}
 use Rattle.std.proofs.Common.{append_assoc}
 use Rattle.std.proofs.Math.Seq.{get_or-append_seam}
 use Rattle.std.proofs.lemmas.Grind.{flat_map-append}
-use Rattle.std.proofs.lemmas.List.Concat.{flat_map-cons}
 use Rattle.std.proofs.lemmas.Option.{slice_get-get_or, slice_get_within, get_or_from_slice_get, slice_get-map}
 use Rattle.lutree.specs.declared.program.Equation.{Equation}
 use Rattle.lutree.specs.declared.program.Node.{Node}
 use Rattle.lutree.specs.Tree.{EquationTree, NodeTree, equation_view, node_view}
-use Rattle.lustat_rules.specs.Scope.{IsInput, lefts_of, AreDistinct}
+use Rattle.lustat_rules.specs.Scope.{IsInput, lefts_of}
 use Rattle.lustat_rules.specs.Naming.{DefinesAnew}
 use Rattle.lustat_scope.specs.Places.{first_place}
 use Rattle.lustat_scope.proofs.Finding.{first_in_middle}

@@ -1,5 +1,5 @@
 -- What each name and each call of an expression keeps.
-use Rattle.std.proofs.Common.{◌↔◌, ◌≡◌, ◌∙◌, ℕ, zero, suc, ◌<◌, List, [], ◌∷◌, ◌++◌, map, length, get_or, refl, ap, subst, sym, arith, Bool, true, IsTrue, ◌≤◌}
+use Rattle.std.proofs.Common.{◌↔◌, ◌≡◌, ◌∙◌, ℕ, zero, suc, ◌<◌, List, [], ◌∷◌, ◌++◌, length, get_or, refl, ap, subst, sym, arith, Bool, true, IsTrue, ◌≤◌}
 use Rattle.std.specs.Prelude.{All}
 use Rattle.std.proofs.lemmas.List.Elements.{All-append, All-nil}
 use Rattle.lutree.specs.declared.expr.Expr.{Expr}

@@ -1,5 +1,5 @@
 -- Types that agree.
-use Rattle.std.proofs.Common.{◌≡◌, ◌∙◌, ◌↔◌, ◌&&◌, Bool, true, false, List, [], ◌∷◌, ◌++◌, map, Option, Some, None, IsTrue, refl, ap, sym, subst, if◌then◌else◌, true≢false, ℕ}
+use Rattle.std.proofs.Common.{◌≡◌, ◌∙◌, ◌↔◌, ◌&&◌, Bool, true, false, List, [], ◌∷◌, map, Option, Some, None, IsTrue, refl, ap, sym, if◌then◌else◌, true≢false, ℕ}
 use Rattle.std.specs.Prelude.{option_map}
 use Rattle.lutree.specs.declared.program.Kind.{Kind}
 use Rattle.lutree.specs.declared.program.Kind.TheVariants.{Int, Bool as Truths}

@@ -1,10 +1,10 @@
 -- From the tests of single rules to a judgement of a place.
-use Rattle.std.proofs.Common.{◌≡◌, ◌↔◌, ◌⊎◌, inl, inr, ⊎_elim, ℕ, Bool, true, false, Option, None, Some, IsTrue, refl, sym, true≢false}
+use Rattle.std.proofs.Common.{◌≡◌, ◌⊎◌, inl, inr, ℕ, Option, Some, IsTrue, refl, sym, true≢false}
 use Rattle.lustat_rules.specs.Accepted.{Rule, duplicate_name, unknown_name, unknown_node, type_mismatch, wrong_arity, undefined, defined_twice, recursive_node, no_main, clock_mismatch, not_a_clock, clocked_parameter, hidden_clock, maybe_nil, current_may_be_nil}
 use Rattle.lustat_rules.specs.declared.error.StatError.{StatError}
 use Rattle.lustat_rules.specs.Told.{rule_of, byte_of}
 use Rattle.lustat_rules.specs.Faults.{lesser_of, IsJudged, FaultAt, AllKept}
-use Rattle.lustat_rules.proofs.Judging.{RuleFault, judged_rule, judged_both, judged_same}
+use Rattle.lustat_rules.proofs.Judging.{RuleFault, judged_both, judged_same}
 use Rattle.lutype.specs.Asked.{is_asked}
 
 -- PROGRAM

@@ -1,5 +1,5 @@
 -- Names that stand first.
-use Rattle.std.proofs.Common.{◌≡◌, ◌∙◌, ◌↔◌, ℕ, List, map, Option, Some, Bool, IsTrue, sym, ap, subst}
+use Rattle.std.proofs.Common.{◌≡◌, ◌∙◌, ◌↔◌, ℕ, Option, Some, Bool, IsTrue, sym, ap}
 use Rattle.std.specs.Prelude.{slice_get}
 use Rattle.std.specs.Option.{option_map}
 use Rattle.std.proofs.lemmas.Option.{slice_get-map}
@@ -7,11 +7,10 @@ use Rattle.lutree.specs.declared.program.Declaration.{Declaration}
 use Rattle.lutree.specs.declared.program.Node.{Node}
 use Rattle.lutree.specs.declared.program.Program.{Program}
 use Rattle.lutree.specs.Tree.{NodeTree, node_view, program_view, declaration_view}
-use Rattle.lustat_rules.specs.Scope.{declarations_of, names_of, IsNew}
+use Rattle.lustat_rules.specs.Scope.{declarations_of, names_of}
 use Rattle.lustat_rules.specs.Naming.{IsNewNode, IsNewVariable, node_place}
 use Rattle.lustat_rules.specs.Faults.{declared_in}
 use Rattle.lustat_scope.specs.Places.{first_place}
-use Rattle.lustat_scope.specs.Scopes.{spellings}
 use Rattle.lustat_scope.proofs.Finding.{stands_first}
 use Rattle.lustat_scope.proofs.Declared.{names_of_nodes, place_of_node, names_in_view}
 

@@ -1,17 +1,16 @@
 -- What the check of names tells.
-use Rattle.std.proofs.Common.{◌≡◌, ◌∙◌, ◌<◌, ◌≤◌, ◌⊎◌, inl, inr, ⊎_elim, ℕ, List, map, length, Option, Some, None, IsTrue, refl, sym, ap, subst, arith, true≢false}
-use Rattle.std.specs.Prelude.{slice_get}
+use Rattle.std.proofs.Common.{◌≡◌, ◌<◌, ◌≤◌, inl, inr, ⊎_elim, ℕ, List, length, Option, Some, IsTrue, refl, sym, ap, subst, arith, true≢false}
 use Rattle.std.proofs.lemmas.List.{length-map}
 use Rattle.std.proofs.lemmas.Option.{slice_get_within}
 use Rattle.lutree.specs.declared.program.Node.{Node}
 use Rattle.lutree.specs.declared.program.Program.{Program}
-use Rattle.lutree.specs.Tree.{NodeTree, ProgramTree, node_view, program_view}
-use Rattle.lustat_rules.specs.Naming.{Reaches, IsCallOrder}
+use Rattle.lutree.specs.Tree.{ProgramTree, node_view, program_view}
+use Rattle.lustat_rules.specs.Naming.{Reaches}
 use Rattle.lustat_rules.specs.Accepted.{Rule, duplicate_name, unknown_name, unknown_node, type_mismatch, wrong_arity, undefined, defined_twice, recursive_node, no_main, clock_mismatch, not_a_clock, clocked_parameter, hidden_clock, maybe_nil, current_may_be_nil, stage, Keeps, Breaks, IsNamed, IsRefused}
 use Rattle.lustat_rules.specs.declared.error.StatError.{StatError}
 use Rattle.lustat_rules.specs.declared.error.StatError.TheVariants.{RecursiveNode}
 use Rattle.lustat_rules.specs.Told.{byte_of, number_of, RuleTold, Tells}
-use Rattle.lustat_rules.specs.Faults.{lesser_of, IsAtMost, IsJudged, IsFault, AreKept}
+use Rattle.lustat_rules.specs.Faults.{lesser_of, IsJudged, IsFault, AreKept}
 use Rattle.lustat_rules.proofs.Judging.{judged_joined}
 use Rattle.lustat_scope.proofs.Keeping.{broken_somewhere}
 use Rattle.lutype.specs.CallGraph.{IsRecursive}

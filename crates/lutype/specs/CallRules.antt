@@ -1,5 +1,5 @@
 -- What the rules ask of a single call.
-use Rattle.std.specs.Prelude.{◌≡◌, ℕ, Option, None, Some, IfSome, IsSome, length}
+use Rattle.std.specs.Prelude.{◌≡◌, ℕ, Option, IfSome, IsSome, length}
 use Rattle.lutree.specs.Tree.{NodeTree, ProgramTree}
 use Rattle.lustat_rules.specs.Scope.{node_called}
 use Rattle.lustat_rules.specs.Naming.{Call}

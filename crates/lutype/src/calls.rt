@@ -24,7 +24,8 @@ pub enum CallRule {
 
 /// Whether a call keeps a rule.
 fn call_keeps(catalog: &Catalog, rule: CallRule, name: &str, count: usize) -> bool
-    ensures { IsTrue result ↔ CallKeeps (program_view catalog.now) rule (record { node = name.now; arguments = count }) }
+    ensures { IsTrue result ↔ CallKeeps (program_view catalog.now) rule
+        (record { node = name.now; arguments = count }) }
 {
     match catalog.find(name) {
         None => match rule {
@@ -62,8 +63,9 @@ fn calls_keep(catalog: &Catalog, rule: CallRule, e: &Expr) -> bool
 /// Whether a call and each call in its arguments keep a rule.
 #[cycle(calls)]
 fn whole_call_keeps(catalog: &Catalog, rule: CallRule, name: &str, arguments: &[Expr]) -> bool
-    ensures { IsTrue result ↔ (EachCallOf (CallKeeps (program_view catalog.now) rule) (trees_of (views arguments.now))
-        × CallKeeps (program_view catalog.now) rule (record { node = name.now; arguments = length (list_of (trees_of (views arguments.now))) })) }
+    ensures { IsTrue result ↔ (EachCallOf (CallKeeps (program_view catalog.now) rule)
+        (trees_of (views arguments.now)) × CallKeeps (program_view catalog.now) rule
+        (record { node = name.now; arguments = length (list_of (trees_of (views arguments.now))) })) }
 {
     all_calls_keep(catalog, rule, arguments) && call_keeps(catalog, rule, name, arguments.len())
 }
@@ -71,7 +73,8 @@ fn whole_call_keeps(catalog: &Catalog, rule: CallRule, name: &str, arguments: &[
 /// Whether each call in the arguments of a call keeps a rule.
 #[cycle(calls)]
 fn all_calls_keep(catalog: &Catalog, rule: CallRule, arguments: &[Expr]) -> bool
-    ensures { IsTrue result ↔ EachCallOf (CallKeeps (program_view catalog.now) rule) (trees_of (views arguments.now)) }
+    ensures { IsTrue result ↔ EachCallOf (CallKeeps (program_view catalog.now) rule)
+        (trees_of (views arguments.now)) }
 {
     for a in arguments {
         if calls_keep(catalog, rule, a) {
@@ -95,7 +98,8 @@ pub fn call_in(e: &Expr) -> Option<(&Name, &[Expr])>
 
 /// Whether each call inside an expression is of a node with one output, if it is of a node.
 fn inner_calls_are_single(catalog: &Catalog, e: &Expr) -> bool
-    ensures { IsTrue result ↔ All (CallKeeps (program_view catalog.now) CallRule.OneOutput) (inner_calls (view e.now)) }
+    ensures { IsTrue result ↔ All (CallKeeps (program_view catalog.now) CallRule.OneOutput)
+        (inner_calls (view e.now)) }
 {
     match call_in(e) {
         None => calls_keep(catalog, CallRule::OneOutput, e),
@@ -118,7 +122,8 @@ fn count_of_values(catalog: &Catalog, e: &Expr) -> Option<usize>
 
 /// Whether an equation defines as many variables as its right side has values, if these are known.
 fn values_are_right(catalog: &Catalog, equation: &Equation) -> bool
-    ensures { IsTrue result ↔ IfSome (value_count (program_view catalog.now) (view equation.now.right)) (λ count. length equation.now.left ≡ count) }
+    ensures { IsTrue result ↔ IfSome (value_count (program_view catalog.now)
+        (view equation.now.right)) (λ count. length equation.now.left ≡ count) }
 {
     match count_of_values(catalog, &equation.right) {
         None => true,
@@ -128,7 +133,9 @@ fn values_are_right(catalog: &Catalog, equation: &Equation) -> bool
 
 /// Whether an equation defines a variable, and as many as its right side has values, if these are known.
 fn left_is_right(catalog: &Catalog, equation: &Equation) -> bool
-    ensures { IsTrue result ↔ (IfSome (value_count (program_view catalog.now) (view equation.now.right)) (λ count. length equation.now.left ≡ count) × (0 < length equation.now.left)) }
+    ensures { IsTrue result ↔ (IfSome (value_count (program_view catalog.now)
+        (view equation.now.right)) (λ count. length equation.now.left ≡ count)
+        × (0 < length equation.now.left)) }
 {
     values_are_right(catalog, equation) && !equation.left.as_slice().is_empty()
 }
@@ -142,7 +149,8 @@ pub fn calls_are_known(catalog: &Catalog, equation: &Equation) -> bool
 
 /// Whether each call of an expression has as many arguments as its node has inputs, if it is of a node.
 fn arguments_are_right(catalog: &Catalog, e: &Expr) -> bool
-    ensures { IsTrue result ↔ All (CallKeeps (program_view catalog.now) CallRule.Arguments) (calls_in (view e.now)) }
+    ensures { IsTrue result ↔ All (CallKeeps (program_view catalog.now) CallRule.Arguments)
+        (calls_in (view e.now)) }
 {
     calls_keep(catalog, CallRule::Arguments, e)
 }

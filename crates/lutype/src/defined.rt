@@ -41,7 +41,8 @@ impl<'a> Model for Definitions<'a> {
 
 // The variables of a left side, behind those before.
 fn push_left<'a>(names: &mut Vec<&'a str>, left: &'a [Name]) -> Result<(), AllocError>
-    ensures { OnOk result (map (λ n. n.now) names.new.items ≡ map (λ n. n.now) names.old.items ++ left.now) }
+    ensures { OnOk result (map (λ n. n.now) names.new.items ≡ map (λ n. n.now) names.old.items
+        ++ left.now) }
 {
     for x in left {
         names.push(x.as_str())?;
@@ -57,8 +58,10 @@ fn fill<'a>(
 ) -> Result<(), AllocError>
     requires no_names { names.old.items ≡ [] }
     requires no_starts { starts.old.items ≡ [] }
-    ensures names { OnOk result (map (λ n. n.now) names.new.items ≡ lefts_of (map equation_view equations.now)) }
-    ensures starts { OnOk result (AreStarts (length equations.now) (map equation_view equations.now) starts.new.items) }
+    ensures names { OnOk result (map (λ n. n.now) names.new.items
+        ≡ lefts_of (map equation_view equations.now)) }
+    ensures starts { OnOk result (AreStarts (length equations.now)
+        (map equation_view equations.now) starts.new.items) }
 {
     for equation in equations {
         starts.push(names.len())?;
@@ -85,7 +88,8 @@ impl<'a> Definitions<'a> {
 
     /// Whether some equation defines a variable.
     fn has(&self, name: &str) -> bool
-        ensures { IsTrue result ↔ Contains (lefts_of (map equation_view self.now.equations)) name.now }
+        ensures { IsTrue result ↔ Contains (lefts_of (map equation_view self.now.equations))
+            name.now }
     {
         self.lefts.has(name)
     }
@@ -93,7 +97,8 @@ impl<'a> Definitions<'a> {
     /// Where the left side of an equation begins in the row of all.
     fn start(&self, equation: usize) -> usize
         requires { equation < length self.now.equations }
-        ensures { result ≡ length (lefts_of (take equation (map equation_view self.now.equations))) }
+        ensures { result ≡ length (lefts_of (take equation
+            (map equation_view self.now.equations))) }
     {
         self.starts[equation]
     }
@@ -101,7 +106,8 @@ impl<'a> Definitions<'a> {
     /// Whether a variable of a left side, at a place of it, stands first in the row of all. The left side begins at a place
     /// of the row.
     fn stands_first(&self, start: usize, place: usize, name: &str) -> bool
-        ensures { IsTrue result ↔ (first_place (lefts_of (map equation_view self.now.equations)) name.now ≡ Some (start + place)) }
+        ensures { IsTrue result ↔ (first_place (lefts_of (map equation_view self.now.equations))
+            name.now ≡ Some (start + place)) }
     {
         match self.lefts.find(name) {
             None => false,
@@ -111,7 +117,8 @@ impl<'a> Definitions<'a> {
 
     /// Whether a variable of a left side stands first in the row of all, and is no input.
     fn stands_anew(&self, scope: &Scope, start: usize, place: usize, name: &str) -> bool
-        ensures { IsTrue result ↔ IsAnew (node_view scope.now) (lefts_of (map equation_view self.now.equations)) (start + place) name.now }
+        ensures { IsTrue result ↔ IsAnew (node_view scope.now)
+            (lefts_of (map equation_view self.now.equations)) (start + place) name.now }
     {
         if self.stands_first(start, place, name) {
             if scope.is_input(name) { false } else { true }
@@ -123,7 +130,9 @@ impl<'a> Definitions<'a> {
 
 /// Whether the variables of a left side, which begins at a place of the row of all, stand there first, and none is an input.
 fn is_anew(scope: &Scope, definitions: &Definitions, start: usize, left: &[Name]) -> bool
-    ensures { IsTrue result ↔ ((j : ℕ) → (x : List ℕ) → slice_get left.now j ≡ Some x → IsAnew (node_view scope.now) (lefts_of (map equation_view definitions.now.equations)) (start + j) x) }
+    ensures { IsTrue result ↔ ((j : ℕ) → (x : List ℕ) → slice_get left.now j ≡ Some x
+        → IsAnew (node_view scope.now) (lefts_of (map equation_view definitions.now.equations))
+        (start + j) x) }
 {
     for (j, x) in left.iter().enumerate() {
         if definitions.stands_anew(scope, start, j, x.as_str()) {

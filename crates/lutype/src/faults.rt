@@ -34,7 +34,8 @@ fn is_new_node(catalog: &Catalog, place: usize, node: &Node) -> bool
 /// Whether no variable before has the name of the one at a place.
 fn is_new_variable(scope: &Scope, place: usize, declaration: &Declaration) -> bool
     requires { slice_get (declared_in scope.now) place ≡ Some declaration.now }
-    ensures { IsTrue result ↔ IsNewVariable (node_view scope.now) place (declaration_view declaration.now) }
+    ensures { IsTrue result ↔ IsNewVariable (node_view scope.now) place
+        (declaration_view declaration.now) }
 {
     is_at(scope.place(declaration.name.as_str()), place)
 }
@@ -50,7 +51,8 @@ fn has_main(catalog: &Catalog, main: &str) -> bool
 fn is_typed(catalog: &Catalog, scope: &Scope, equation: &Equation, is_ready: bool) -> bool
     requires { IsTrue is_ready ↔ (NamesKnown (node_view scope.now) (equation_view equation.now)
         × CallsKnown (program_view catalog.now) (equation_view equation.now) × AritiesRight (program_view catalog.now) (equation_view equation.now)) }
-    ensures { IsTrue result ↔ IsTyped (program_view catalog.now) (node_view scope.now) (equation_view equation.now) }
+    ensures { IsTrue result ↔ IsTyped (program_view catalog.now) (node_view scope.now)
+        (equation_view equation.now) }
 {
     if is_ready {
         is_well_typed(catalog, scope, equation)
@@ -61,7 +63,8 @@ fn is_typed(catalog: &Catalog, scope: &Scope, equation: &Equation, is_ready: boo
 
 /// The fault of the program as a whole: no node has the name of the main node.
 pub fn program_fault(catalog: &Catalog, main: &str) -> Option<StatError>
-    ensures { IsJudged (ProgramFault is_asked catalog.now main.now) (ProgramKept is_asked catalog.now main.now) result }
+    ensures { IsJudged (ProgramFault is_asked catalog.now main.now)
+        (ProgramKept is_asked catalog.now main.now) result }
 {
     told(has_main(catalog, main), StatError::NoMain)
 }
@@ -69,7 +72,8 @@ pub fn program_fault(catalog: &Catalog, main: &str) -> Option<StatError>
 /// The fault of a node's name.
 pub fn name_fault(catalog: &Catalog, place: usize, node: &Node) -> Option<StatError>
     requires { slice_get catalog.now.nodes place ≡ Some node.now }
-    ensures { (main : List ℕ) → IsJudged (NodeFault is_asked catalog.now main place node.now) (NodeKept is_asked catalog.now main place node.now) result }
+    ensures { (main : List ℕ) → IsJudged (NodeFault is_asked catalog.now main place node.now)
+        (NodeKept is_asked catalog.now main place node.now) result }
 {
     let is_new = is_new_node(catalog, place, node);
     told(is_new, StatError::DuplicateName { byte: node.byte })
@@ -107,7 +111,8 @@ pub fn equation_fault(
 ) -> Option<StatError>
     requires same { definitions.now ≡ scope.now }
     requires at { slice_get scope.now.equations place ≡ Some equation.now }
-    ensures { (main : List ℕ) → IsJudged (EquationFault is_asked catalog.now main scope.now place equation.now) (EquationKept is_asked catalog.now main scope.now place equation.now) result }
+    ensures { (main : List ℕ) → IsJudged (EquationFault is_asked catalog.now main scope.now place
+        equation.now) (EquationKept is_asked catalog.now main scope.now place equation.now) result }
 {
     let byte = equation.byte;
     let are_known = names_are_known(scope, equation);

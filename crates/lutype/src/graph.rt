@@ -12,7 +12,8 @@ use std::alloc::{AllocError, Global};
 
 // The place of the node that a name means, if it means one, behind those before.
 fn push_call(catalog: &Catalog, name: &str, row: &mut Vec<usize>) -> Result<(), AllocError>
-    ensures { OnOk result (row.new.items ≡ row.old.items ++ filter_map (node_place (program_view catalog.now)) (name.now ∷ [])) }
+    ensures { OnOk result (row.new.items ≡ row.old.items
+        ++ filter_map (node_place (program_view catalog.now)) (name.now ∷ [])) }
 {
     if let Some(place) = catalog.place(name) {
         row.push(place)?;
@@ -23,7 +24,8 @@ fn push_call(catalog: &Catalog, name: &str, row: &mut Vec<usize>) -> Result<(), 
 // The places of the nodes that an expression calls, behind those before.
 #[cycle(calls)]
 fn push_calls(catalog: &Catalog, e: &Expr, row: &mut Vec<usize>) -> Result<(), AllocError>
-    ensures { OnOk result (row.new.items ≡ row.old.items ++ filter_map (node_place (program_view catalog.now)) (names_called (view e.now))) }
+    ensures { OnOk result (row.new.items ≡ row.old.items
+        ++ filter_map (node_place (program_view catalog.now)) (names_called (view e.now))) }
 {
     match e {
         Expr::Number(_) | Expr::Truth(_) | Expr::Variable(_) | Expr::Current(_) => Ok(()),
@@ -55,7 +57,9 @@ fn push_all_calls(
     arguments: &[Expr],
     row: &mut Vec<usize>,
 ) -> Result<(), AllocError>
-    ensures { OnOk result (row.new.items ≡ row.old.items ++ filter_map (node_place (program_view catalog.now)) (all_names_called (trees_of (views arguments.now)))) }
+    ensures { OnOk result (row.new.items ≡ row.old.items
+        ++ filter_map (node_place (program_view catalog.now))
+        (all_names_called (trees_of (views arguments.now)))) }
 {
     for a in arguments {
         push_calls(catalog, a, row)?;
@@ -65,7 +69,8 @@ fn push_all_calls(
 
 // The places of the nodes that a node calls.
 fn calls_of(alloc: Global, catalog: &Catalog, node: &Node) -> Result<Vec<usize>, AllocError>
-    ensures { IfOk result (λ row. row.items ≡ places_called (program_view catalog.now) (node_view node.now)) }
+    ensures { IfOk result (λ row. row.items ≡ places_called (program_view catalog.now)
+        (node_view node.now)) }
 {
     let mut row = Vec::new(alloc);
     for q in node.equations.as_slice() {

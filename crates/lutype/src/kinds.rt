@@ -1,7 +1,7 @@
-//! The types of operators.
+//! The types of operators, by those of their operands.
 
 ghost use Rattle.std.specs.Prelude.{◌≡◌};
-ghost use Rattle.lustat_rules.specs.Typing.{agreed, has_kind, single_kind, operand_kind, result_kind, as_asked, double_kind, choice_kind};
+ghost use Rattle.lustat_rules.specs.Typing.{agreed, has_kind, single_kind, operand_kind, result_kind, double_kind, choice_kind};
 
 use lutree::{BinaryOperator, Kind, UnaryOperator};
 
@@ -36,8 +36,8 @@ pub fn kind_of_unary(op: UnaryOperator) -> Kind
     }
 }
 
-/// The type that an operator asks of its two operands; none is any.
-pub fn asked_kind(op: BinaryOperator) -> Option<Kind>
+// The type that an operator asks of its two operands; none is any.
+fn asked_kind(op: BinaryOperator) -> Option<Kind>
     ensures { result ≡ operand_kind op }
 {
     match op {
@@ -48,8 +48,8 @@ pub fn asked_kind(op: BinaryOperator) -> Option<Kind>
     }
 }
 
-/// The type of an operator's result.
-pub fn kind_of_result(op: BinaryOperator) -> Kind
+// The type of an operator's result.
+fn kind_of_result(op: BinaryOperator) -> Kind
     ensures { result ≡ result_kind op }
 {
     match op {

@@ -41,7 +41,8 @@ fn expr_is_known(scope: &Scope, e: &Expr) -> bool
 /// Whether the names of all arguments of a call are known.
 #[cycle(known)]
 fn all_are_known(scope: &Scope, arguments: &[Expr]) -> bool
-    ensures { IsTrue result ↔ EachNameOf (IsVariable (node_view scope.now)) (trees_of (views arguments.now)) }
+    ensures { IsTrue result ↔ EachNameOf (IsVariable (node_view scope.now))
+        (trees_of (views arguments.now)) }
 {
     for a in arguments {
         if expr_is_known(scope, a) {

@@ -32,9 +32,11 @@ pub enum CallOrder {
 pub fn call_order(alloc: Global, catalog: &Catalog) -> Result<CallOrder, AllocError>
     ensures order { IfOk result (λ o. IfSorted o (IsCallOrder (program_view catalog.now))) }
     ensures once { IfOk result (λ o. IfSorted o (AreOnce (program_view catalog.now))) }
-    ensures straight { IfOk result (λ o. IfSorted o (λ _. (f : List ℕ) → ¬ Reaches (program_view catalog.now) f f)) }
+    ensures straight { IfOk result (λ o. IfSorted o (λ _. (f : List ℕ)
+        → ¬ Reaches (program_view catalog.now) f f)) }
     ensures recursive { IfOk result (λ o. IfRecursive o (IsRecursive (program_view catalog.now))) }
-    ensures first { IfOk result (λ o. IfRecursive o (NoneRecursiveBefore (program_view catalog.now))) }
+    ensures first { IfOk result (λ o. IfRecursive o (NoneRecursiveBefore
+        (program_view catalog.now))) }
 {
     let graph = graph_of(alloc, catalog)?;
     match order_of(alloc, &graph)? {

@@ -39,7 +39,11 @@ impl<'a> Typed<'a> {
     // What the checks found in order.
     pub(crate) fn new(catalog: Catalog<'a>, main: &'a str, order: Vec<usize>) -> Typed<'a>
         requires { AreInOrder (record { program = catalog; main = main.now; order = order.items }) }
-        ensures { result ≡ record { program = catalog.entry; main = main.now; order = order.items } }
+        ensures { result ≡ record {
+          program = catalog.entry;
+          main = main.now;
+          order = order.items;
+        } }
     {
         Typed {
             catalog,

@@ -57,7 +57,9 @@ pub fn kind_of_expr(catalog: &Catalog, scope: &Scope, e: &Expr) -> Option<Kind>
 /// The type of a call.
 #[cycle(types)]
 fn kind_of_call(catalog: &Catalog, scope: &Scope, f: &str, arguments: &[Expr]) -> Option<Kind>
-    ensures { result ≡ only (call_kinds (node_called (program_view catalog.now) f.now) (types_of (program_view catalog.now) (node_view scope.now) (trees_of (views arguments.now)))) }
+    ensures { result ≡ only (call_kinds (node_called (program_view catalog.now) f.now)
+        (types_of (program_view catalog.now) (node_view scope.now)
+        (trees_of (views arguments.now)))) }
 {
     match catalog.find(f) {
         None => None,
@@ -80,7 +82,8 @@ fn arguments_have_kinds(
     arguments: &[Expr],
     inputs: &[Declaration],
 ) -> bool
-    ensures { result ≡ arguments_fit (types_of (program_view catalog.now) (node_view scope.now) (trees_of (views arguments.now))) (declarations_view inputs.now) }
+    ensures { result ≡ arguments_fit (types_of (program_view catalog.now) (node_view scope.now)
+        (trees_of (views arguments.now))) (declarations_view inputs.now) }
 {
     for (i, a) in arguments.iter().enumerate() {
         if i >= inputs.len() || !is_of_kind(kind_of_expr(catalog, scope, a), inputs[i].kind) {
@@ -92,7 +95,8 @@ fn arguments_have_kinds(
 
 /// Whether the variables of a left side have the types of outputs.
 fn left_has_kinds(scope: &Scope, left: &[Name], outputs: &[Declaration]) -> bool
-    ensures { result ≡ arguments_fit (map (kind_of (node_view scope.now)) left.now) (declarations_view outputs.now) }
+    ensures { result ≡ arguments_fit (map (kind_of (node_view scope.now)) left.now)
+        (declarations_view outputs.now) }
 {
     for (i, x) in left.iter().enumerate() {
         if i >= outputs.len() || !is_of_kind(scope.kind(x.as_str()), outputs[i].kind) {
@@ -110,7 +114,11 @@ fn call_is_well_typed(
     f: &str,
     arguments: &[Expr],
 ) -> bool
-    ensures { IsTrue result ↔ ((kinds : List Kind) × (call_kinds (node_called (program_view catalog.now) f.now) (types_of (program_view catalog.now) (node_view scope.now) (trees_of (views arguments.now))) ≡ Some kinds) × (map (kind_of (node_view scope.now)) left.now ≡ map Some kinds)) }
+    ensures { IsTrue result ↔ ((kinds : List Kind) × (call_kinds
+        (node_called (program_view catalog.now) f.now)
+        (types_of (program_view catalog.now) (node_view scope.now)
+        (trees_of (views arguments.now))) ≡ Some kinds)
+        × (map (kind_of (node_view scope.now)) left.now ≡ map Some kinds)) }
 {
     match catalog.find(f) {
         None => false,
@@ -124,7 +132,8 @@ fn call_is_well_typed(
 
 /// Whether a left side is one variable of a type.
 fn value_is_well_typed(scope: &Scope, left: &[Name], kind: Option<Kind>) -> bool
-    ensures { IsTrue result ↔ ((kinds : List Kind) × (option_map (λ k. k ∷ []) kind ≡ Some kinds) × (map (kind_of (node_view scope.now)) left.now ≡ map Some kinds)) }
+    ensures { IsTrue result ↔ ((kinds : List Kind) × (option_map (λ k. k ∷ []) kind ≡ Some kinds)
+        × (map (kind_of (node_view scope.now)) left.now ≡ map Some kinds)) }
 {
     match kind {
         None => false,
@@ -137,7 +146,8 @@ fn value_is_well_typed(scope: &Scope, left: &[Name], kind: Option<Kind>) -> bool
 
 /// Whether the right side of an equation has the types of the variables on the left.
 pub fn is_well_typed(catalog: &Catalog, scope: &Scope, equation: &Equation) -> bool
-    ensures { IsTrue result ↔ IsWellTyped (program_view catalog.now) (node_view scope.now) (equation_view equation.now) }
+    ensures { IsTrue result ↔ IsWellTyped (program_view catalog.now) (node_view scope.now)
+        (equation_view equation.now) }
 {
     let left = equation.left.as_slice();
     match call_in(&equation.right) {

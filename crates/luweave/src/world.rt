@@ -303,7 +303,8 @@ fn has_ended(sites: &Vec<Site>, s: usize) -> bool
 
 fn all_ended(sites: &Vec<Site>) -> bool
     ensures only { result ≡ true → (s : ℕ) → ForSome (slice_get sites.now.items s) (λ v. IsDone v) }
-    ensures all { ((s : ℕ) → ForSome (slice_get sites.now.items s) (λ v. IsDone v)) → result ≡ true }
+    ensures all { ((s : ℕ) → ForSome (slice_get sites.now.items s) (λ v. IsDone v))
+        → result ≡ true }
 {
     for s in 0..sites.len() {
         if !has_ended(sites, s) {

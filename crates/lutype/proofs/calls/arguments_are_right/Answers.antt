@@ -1,4 +1,3 @@
-use Rattle.std.proofs.Common.{◌↔◌}
 use Rattle.lutree.specs.Tree.{program_view, view}
 use Rattle.lutype.specs.declared.calls.CallRule.TheVariants.{Arguments}
 use Rattle.lutype.specs.CallRules.{CallKeeps}

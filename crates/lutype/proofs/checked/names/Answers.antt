@@ -1,9 +1,8 @@
-use Rattle.std.proofs.Common.{◌≡◌, ◌∙◌, ◌<◌, refl, ap, sym, subst, None, Some, Option, length, List, ℕ}
+use Rattle.std.proofs.Common.{refl, subst, List, ℕ}
 use Rattle.lutree.specs.declared.program.Program.{Program}
 use Rattle.lutree.specs.Tree.{program_view}
 use Rattle.lustat_rules.specs.Naming.{Reaches, IsCallOrder}
 use Rattle.lustat_rules.specs.Told.{Tells}
-use Rattle.lustat_rules.specs.declared.error.StatError.{StatError}
 use Rattle.lustat_rules.specs.Faults.{IsJudged, IsFault, AreKept}
 use Rattle.lutype.specs.CallAnswer.{IfSorted, IfRecursive}
 use Rattle.lutype.specs.CallGraph.{IsRecursive}

@@ -1,4 +1,4 @@
-use Rattle.std.proofs.Common.{◌≡◌, ◌∙◌, ◌++◌, ◌∷◌, [], ℕ, ap, sym, subst, arith, length, map, take, ◌+◌}
+use Rattle.std.proofs.Common.{◌≡◌, ◌∙◌, ◌++◌, ap, sym, subst, arith, length, map, take, ◌+◌}
 use Rattle.lustat_rules.specs.Scope.{lefts_of}
 use Rattle.std.proofs.lemmas.Grind.{common_steps}
 use Rattle.lutree.specs.Tree.{equation_view}

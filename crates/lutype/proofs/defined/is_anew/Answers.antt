@@ -1,4 +1,4 @@
-use Rattle.std.proofs.Common.{◌≡◌, ◌∙◌, ◌+◌, ℕ, List, length, get_or, map, subst, sym, refl, arith, true≢false, Some}
+use Rattle.std.proofs.Common.{◌∙◌, ◌+◌, ℕ, List, length, map, subst, sym, refl, arith, true≢false}
 use Rattle.std.proofs.lemmas.Option.{slice_get_read, slice_get_within}
 use Rattle.lutree.specs.Tree.{node_view, equation_view}
 use Rattle.lustat_rules.specs.Scope.{lefts_of}

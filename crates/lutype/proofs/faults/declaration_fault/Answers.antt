@@ -1,4 +1,4 @@
-use Rattle.std.proofs.Common.{◌≡◌, ◌∙◌, refl, ap, sym, subst}
+use Rattle.std.proofs.Common.{◌∙◌, refl, ap, sym, subst}
 use Rattle.lutree.specs.Tree.{program_view, node_view, declaration_view}
 use Rattle.lustat_rules.specs.Accepted.{Rule, DeclarationKeeps, duplicate_name, unknown_name, undefined}
 use Rattle.lustat_rules.specs.declared.error.StatError.TheVariants.{DuplicateName, UnknownName, Undefined}

@@ -1,4 +1,4 @@
-use Rattle.std.proofs.Common.{◌≡◌, ap, subst, sym}
+use Rattle.std.proofs.Common.{subst}
 use Rattle.std.specs.Prelude.{All}
 use Rattle.lutree.specs.Tree.{node_view, view}
 use Rattle.lustat_rules.specs.Scope.{IsVariable}

@@ -1,4 +1,4 @@
-use Rattle.std.proofs.Common.{◌≡◌, ◌≤◌, map, length, drop}
+use Rattle.std.proofs.Common.{◌≡◌, ◌≤◌, length, drop}
 use Rattle.lutree.specs.Tree.{views, trees_of, node_view, program_view, declarations_view}
 use Rattle.lustat_rules.specs.Typing.{types_of, arguments_fit}
 use Rattle.lutype.proofs.typing.+types.Given as goal

@@ -1,4 +1,4 @@
-use Rattle.std.proofs.Common.{◌≡◌, ◌∙◌, ap, sym, Some, map, true, arith}
+use Rattle.std.proofs.Common.{◌≡◌, ◌∙◌, ap, Some, map, true, arith}
 use Rattle.lutree.specs.declared.program.Node.{Node}
 use Rattle.lutree.specs.Tree.{node_view, program_view, views, trees_of, declarations_view}
 use Rattle.lustat_rules.specs.Scope.{kind_of, node_called}

@@ -1,4 +1,4 @@
-use Rattle.std.proofs.Common.{◌≡◌, ◌∙◌, ◌∷◌, [], map, ap, sym}
+use Rattle.std.proofs.Common.{◌∙◌, ◌∷◌, [], map, ap}
 use Rattle.std.specs.Prelude.{option_map}
 use Rattle.lutree.specs.Tree.{node_view}
 use Rattle.lustat_rules.specs.Scope.{kind_of}
