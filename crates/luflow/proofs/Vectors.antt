@@ -27,7 +27,8 @@ use Rattle.luflow.specs.declared.data.Datum.TheVariants.{Int, Bool as Truth}
 use Rattle.luflow.specs.declared.form.FaultKind.TheVariants.{DivZero}
 use Rattle.luflow.specs.Operators.{ZeroDivisor}
 use Rattle.luflow.specs.Faults.{IsFault, OnBinary}
-use Rattle.luflow.specs.Vectors.{int_flow, truth_flow, int_variable, truth_variable, number, IsWorked, two_counters, three, sampled_sum, four_samples, division, one_zero, one_two, held_sample, three_samples}
+use Rattle.luflow.specs.Vectors.{int_flow, truth_flow, int_variable, truth_variable, number, IsWorked, two_counters, three, sampled_sum, four_samples, division, one_zero, one_two, held_sample, three_samples, chained, four_rows}
+use Rattle.luflow.specs.FormVectors.{no_samples}
 use Rattle.luflow.proofs.Solutions.{some_at, IsSolution-solution}
 use Rattle.luflow.proofs.Worked.{each_at, ranked, ordered, places_below, inner, main_clocks, column, columns_long}
 
@@ -399,5 +400,101 @@ held_worked =
           record {
             columns = each_at (λ i flow. IsFitFor three_samples flow.kind flow.form) held_sample.flows
                 (column Ints (column_of three_samples 0) refl, (tt, (tt, (tt, (tt, (tt, (tt, (tt, (tt, (tt, tt))))))))));
+          };
+    }
+
+-- nothing is ever nil
+abbrev never_nil : ℕ → Bool
+never_nil i = false
+
+on_b : ClockFits chained never_nil (On 1 true)
+on_b = (Base, there (Input 1) refl, refl)
+
+on_chained : ClockFits chained never_nil (On 3 true)
+on_chained = (On 1 true, there (When 2) refl, refl)
+
+chained_sound : IsSound chained
+chained_sound =
+    record {
+      class = never_nil;
+      forms = each_at (λ i flow. FormFits chained never_nil flow.clock flow.kind false flow.form) chained.flows (
+        refl,
+        (
+          refl,
+          (
+            refl,
+            (
+              (1, true, Base, refl, there (Input 1) refl, there (Input 2) refl, never),
+              (
+                (there (When 6) refl, never),
+                (
+                  (3, true, On 1 true, refl, there (When 2) refl, there (When 0) refl, never),
+                  ((1, true, Base, refl, there (Input 1) refl, there (Input 0) refl, never), tt),
+                ),
+              ),
+            ),
+          ),
+        ),
+      );
+      clocks = each_at (λ i flow. ClockFits chained never_nil flow.clock) chained.flows
+          (tt, (tt, (tt, (on_b, (on_chained, (on_chained, (on_b, tt)))))));
+      outputs = λ v x e o. refl;
+    }
+
+chained_flat : IsFlat chained
+chained_flat =
+    record {
+      ordered = ordered chained refl refl refl refl refl refl;
+      ranked = ranked (reads_of chained) chained.order refl refl;
+      sound = chained_sound;
+      few = omega arith;
+      owners_len = refl;
+      owners_in = places_below chained 6 chained.owners refl;
+      inner = inner chained refl;
+      main_clocks = main_clocks chained refl;
+      input_there = λ i c flow here. each_at (IsInputThere chained) chained.flows (
+        (λ c e. (cc, int_variable role.Input (codes "x"), refl, refl)),
+        (
+          (λ c e. (cc, truth_variable role.Input (codes "b"), refl, refl)),
+          (
+            (λ c e. (cc, truth_variable role.Input (codes "d"), refl, refl)),
+            ((λ c e. cc), ((λ c e. cc), ((λ c e. cc), ((λ c e. cc), tt)))),
+          ),
+        ),
+      )
+          i flow here c;
+      input_is = each_at (IsInputFlow chained) chained.variables (
+        (λ e. (int_flow (Input 0), refl, refl, refl)),
+        (
+          (λ e. (truth_flow (Input 1), refl, refl, refl)),
+          ((λ e. (truth_flow (Input 2), refl, refl, refl)), ((λ e. cc), ((λ e. cc), ((λ e. cc), tt)))),
+        ),
+      );
+      variables_first = omega arith;
+      inputs_first = (_, refl);
+    }
+
+pub chained_worked : IsWorked chained four_rows
+chained_worked =
+    record {
+      flat_is = chained_flat;
+      table_is = record { few = omega arith; long = columns_long four_rows refl };
+      fit =
+          record {
+            columns = each_at (λ i flow. IsFitFor four_rows flow.kind flow.form) chained.flows
+                (column Ints (column_of four_rows 0) refl, (column Truths (column_of four_rows 1) refl, (column Truths (column_of four_rows 2) refl, (tt, (tt, (tt, (tt, tt)))))));
+          };
+    }
+
+-- without instants
+pub idle_worked : IsWorked sampled_sum no_samples
+idle_worked =
+    record {
+      flat_is = sum_flat;
+      table_is = record { few = omega arith; long = columns_long no_samples refl };
+      fit =
+          record {
+            columns = each_at (λ i flow. IsFitFor no_samples flow.kind flow.form) sampled_sum.flows
+                (column Ints (column_of no_samples 0) refl, (column Truths (column_of no_samples 1) refl, (tt, (tt, (tt, (tt, (tt, (tt, tt))))))));
           };
     }

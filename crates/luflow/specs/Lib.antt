@@ -12,3 +12,6 @@ pub mod Tables
 pub mod Flats
 pub mod FlatLaws
 pub mod Vectors
+pub mod OperatorVectors
+pub mod FormVectors
+pub mod ShapeVectors

@@ -9,7 +9,7 @@ use Rattle.luflow.specs.declared.data.Status.TheVariants.{Absent, Present}
 use Rattle.luflow.specs.declared.form.Clock.TheVariants.{Base, On}
 use Rattle.luflow.specs.declared.form.FaultKind.TheVariants.{DivZero}
 use Rattle.luflow.specs.declared.form.Form.{Form}
-use Rattle.luflow.specs.declared.form.Form.TheVariants.{Input, Constant, Unary, Binary, Pre, Arrow, When, Current, Merge}
+use Rattle.luflow.specs.declared.form.Form.TheVariants.{Input, Constant, Copied, Unary, Binary, Pre, Arrow, When, Current, Merge}
 use Rattle.luflow.specs.declared.form.Flow.{Flow}
 use Rattle.luflow.specs.declared.variable.Variable.{Variable}
 use Rattle.luflow.specs.declared.variable.Role.{Role}
@@ -35,6 +35,10 @@ truth_flow form = record { form = form; clock = Base; kind = Truths }
 -- a flow of ints, where variable c is true
 abbrev pub sampled_flow : ℕ → Form → Flow
 sampled_flow c form = record { form = form; clock = On c true; kind = Ints }
+
+-- a flow of truth values, where variable c is true
+abbrev pub slow_truths : ℕ → Form → Flow
+slow_truths c form = record { form = form; clock = On c true; kind = Truths }
 
 abbrev pub number : ℕ → Form
 number n = Constant (Int (pos n))
@@ -141,6 +145,34 @@ held_sample =
 abbrev pub three_samples : Table
 three_samples = record { instants = 3; columns = record { name = codes "x"; values = ints (1 ∷ 2 ∷ 3 ∷ []) } ∷ [] }
 
+-- node main(x: int; b: bool; d: bool) returns (c: bool when b; z: int when c); var s: int when c;
+-- let c = d when b; s = (x when b) when c; z = s; tel
+abbrev pub chained : FlatProgram
+chained =
+    record {
+      flows =
+          int_flow (Input 0) ∷ truth_flow (Input 1) ∷ truth_flow (Input 2)
+          ∷ slow_truths 1 (When 2) ∷ sampled_flow 3 (Copied 5) ∷ sampled_flow 3 (When 6)
+          ∷ sampled_flow 1 (When 0) ∷ [];
+      order = 0 ∷ 1 ∷ 2 ∷ 3 ∷ 6 ∷ 5 ∷ 4 ∷ [];
+      owners = 0 ∷ 1 ∷ 2 ∷ 3 ∷ 4 ∷ 5 ∷ 5 ∷ [];
+      variables =
+          int_variable role.Input (codes "x") ∷ truth_variable role.Input (codes "b")
+          ∷ truth_variable role.Input (codes "d") ∷ truth_variable role.Output (codes "c")
+          ∷ int_variable role.Output (codes "z") ∷ int_variable role.Local (codes "s") ∷ [];
+    }
+
+-- x is 1, 2, 3, 4, b is true, false, true, true, and d is true, true, false, true
+abbrev pub four_rows : Table
+four_rows =
+    record {
+      instants = 4;
+      columns =
+          record { name = codes "x"; values = ints (1 ∷ 2 ∷ 3 ∷ 4 ∷ []) }
+          ∷ record { name = codes "b"; values = map Truth (true ∷ false ∷ true ∷ true ∷ []) }
+          ∷ record { name = codes "d"; values = map Truth (true ∷ true ∷ false ∷ true ∷ []) } ∷ [];
+    }
+
 -- what every run asks of a program and its table
 pub record IsWorked (flat : FlatProgram) (inputs : Table) : Type 0 where
   pub flat_is : IsFlat flat
@@ -184,9 +216,22 @@ pub record SamplesAre : Type 0 where
   pub y : marks (solution held_sample three_samples 1) 3 ≡ map known (1 ∷ 1 ∷ 3 ∷ [])
   pub z : marks (solution held_sample three_samples 2) 3 ≡ map known (1 ∷ 0 ∷ 3 ∷ [])
 
+-- c is on b, and s and z are on c: absent where c is false, and where it is absent
+pub record ChainsAre : Type 0 where
+  pub worked : IsWorked chained four_rows
+  pub c : marks (solution chained four_rows 3) 4 ≡
+      known_truth true ∷ Known Absent ∷ known_truth false ∷ known_truth true ∷ []
+  pub z : marks (solution chained four_rows 4) 4 ≡
+      known 1 ∷ Known Absent ∷ Known Absent ∷ known 4 ∷ []
+  pub s : marks (solution chained four_rows 5) 4 ≡
+      known 1 ∷ Known Absent ∷ Known Absent ∷ known 4 ∷ []
+  pub inner : marks (solution chained four_rows 6) 4 ≡
+      known 1 ∷ Known Absent ∷ known 3 ∷ known 4 ∷ []
+
 pub record SolutionVectors : Type 0 where
   pub counters : CountersAre
   pub sums : SumsAre
   pub divisions : DivisionsAre
   pub quotients : QuotientsAre
   pub samples : SamplesAre
+  pub chains : ChainsAre

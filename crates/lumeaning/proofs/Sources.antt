@@ -27,7 +27,7 @@ module _ (job : Run) (σ : SourceStreams) (ok : IsJob job) (meant : IsMeant job 
   same_stream v t lt =
       let x = some_at job.plan.flat.variables v lt in
       ap (λ o. σ [] (unwrap_or (option_map (λ (y : Variable). y.name) o) []) t) x.1
-      ∙ as_flat meant.program meant.main job.inputs job.plan.flat ok.is_plan.ordered ok.is_plan.variables_first meant.agrees σ meant.solves v t x.0 x.1
+      ∙ as_flat meant.program meant.main job.inputs job.plan.flat ok.is_plan.ordered meant.agrees ok.is_plan.variables_first σ meant.solves v t x.0 x.1
 
   pub same_list : (l : ℕ) → l < length job.plan.links → source_list job σ l ≡ link_list job (streams_of job) l
   unfolding link_list

@@ -1,5 +1,5 @@
 -- What a site reads of its own columns.
-use Rattle.std.proofs.Common.{get_or, ◌++◌, Vec, ◌≡◌, ℕ, zero, suc, ◌+◌, ◌<◌, ◌≤◌, true, cond, List, [], ◌∷◌, length, map, Some, None, sym, ap, ◌∙◌, refl, arith, inl, inr}
+use Rattle.std.proofs.Common.{get_or, ◌++◌, Vec, ◌≡◌, ℕ, zero, suc, ◌+◌, ◌<◌, ◌≤◌, true, false, cond, List, [], ◌∷◌, length, map, Some, None, sym, ap, ◌∙◌, refl, arith, inl, inr}
 use Rattle.std.specs.Prelude.{slice_get, unwrap_or}
 use Rattle.std.specs.List.{range_with_len}
 use Rattle.std.proofs.lemmas.Bool.{cases_lt}
@@ -37,6 +37,16 @@ own_column job s c own = elim (cases_lt c (length job.inputs.columns)) [
   | inr g ↦
       ap (λ o. unwrap_or o []) (past_range (column_at job s) 0 (length job.inputs.columns) c g)
       ∙ sym (ap data_of (past_list job.inputs.columns c g))
+]
+
+-- a column that stands elsewhere is empty
+pub no_column : (job : Run) (s c : ℕ) → stands job.plan c s ≡ false → unwrap_or (slice_get (columns_at job s) c) [] ≡ []
+no_column job s c other = elim (cases_lt c (length job.inputs.columns)) [
+  | inl l ↦
+      ap (λ o. unwrap_or o []) (map_range (column_at job s) 0 (length job.inputs.columns) c l)
+      ∙ ap (λ k. column_at job s k) (let e : 0 + c ≡ c = omega arith in e)
+      ∙ ap (λ b. cond b (column_of job.inputs c) []) other
+  | inr g ↦ ap (λ o. unwrap_or o []) (past_range (column_at job s) 0 (length job.inputs.columns) c g)
 ]
 
 range_more : (a n : ℕ) → range_with_len a (n + 1) ≡ range_with_len a n ++ (a + n) ∷ []

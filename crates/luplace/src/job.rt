@@ -1,6 +1,6 @@
 //! Jobs: what one run is about, and what of it a site is handed.
 
-ghost use Rattle.std.specs.Prelude.{◌≡◌, ◌<◌, true, cond, [], IfOk, length, map, slice_get, unwrap_or};
+ghost use Rattle.std.specs.Prelude.{◌≡◌, ◌<◌, true, false, cond, [], IfOk, None, length, map, slice_get, unwrap_or};
 ghost use Rattle.std.specs.List.{range_with_len};
 ghost use Rattle.luflow.specs.Program.{column_of, data_of};
 ghost use Rattle.luflow.specs.Tables.{columns_view};
@@ -117,10 +117,11 @@ impl SiteInputs {
         self.instants
     }
 
-    /// The value at an instant of the main input of this number, where that input stands at the site.
+    /// The value at an instant of the main input of this number, where that input stands at the site; nothing of any other.
     pub fn given(&self, column: usize, instant: u32) -> Option<Datum>
-        ensures { stands self.now.job.plan column self.now.site ≡ true → result
+        ensures own { stands self.now.job.plan column self.now.site ≡ true → result
             ≡ slice_get (column_of self.now.job.inputs column) instant }
+        ensures elsewhere { stands self.now.job.plan column self.now.site ≡ false → result ≡ None }
     {
         datum_in(self.columns.as_slice(), column, instant as usize)
     }

@@ -14,7 +14,8 @@ use Rattle.luworld.specs.Runs.{streams_of, cell, script, outputs_of}
 use Rattle.lusite.specs.declared.desk.Desk.{Desk}
 use Rattle.lusite.specs.declared.program.Part.{Part}
 use Rattle.lusite.specs.Machine.{is_faulted, IsSet, StandsAt, IsReadyAt, Ready, Over, done_of}
-use Rattle.lusite.specs.Logs.{add_if, IsFirst, IsOutput, IsRow, IsLoggedAt, is_wanted, passed_to, row_items, log_at}
+use Rattle.lusite.specs.Logs.{add_if, IsOutput, IsRow, IsLoggedAt, is_wanted, passed_to, row_items, log_at}
+use Rattle.luworld.specs.Progress.{IsFirst}
 use Rattle.lusite.proofs.Desks.{Going, going, part_here}
 use Rattle.lusite.proofs.Offers.{Here, hand_next}
 use Rattle.lusite.proofs.Told.{lt-false, both, first_len}

@@ -16,7 +16,8 @@ use Rattle.luflow.specs.Messages.{marks}
 use Rattle.luflow.proofs.Solutions.{some_at}
 use Rattle.luworld.specs.Needs.{Distribution, stands, home}
 use Rattle.luworld.specs.Runs.{Run, streams_of, knows, IsJob, link_into}
-use Rattle.lusite.specs.Logs.{Log, add_if, IsFirst, IsRow, IsLogged, IsLoggedAt, is_wanted, is_noted, passed_to, IsNoted, IsNewRow}
+use Rattle.lusite.specs.Logs.{Log, add_if, IsRow, IsLogged, IsLoggedAt, is_wanted, is_noted, passed_to, IsNoted, IsNewRow}
+use Rattle.luworld.specs.Progress.{IsFirst}
 use Rattle.lusite.specs.Machine.{Stands, is_faulted}
 use Rattle.lusite.specs.declared.desk.Desk.{Desk}
 use Rattle.lusite.specs.declared.program.Part.{Part}

@@ -1,13 +1,10 @@
 -- The statuses of a site's outputs, as far as they were passed.
-use Rattle.std.specs.Prelude.{◌≡◌, ◌↔◌, take, ℕ, ◌+◌, ◌<◌, ◌≤◌, Bool, true, not, ◌&&◌, nat_eq, nat_lt, cond, List, [], ◌∷◌, ◌++◌, length, map, Option, Some, None, slice_get, slice_set, slice_index, vec_capacity, Vec}
+use Rattle.std.specs.Prelude.{◌≡◌, ℕ, ◌+◌, ◌<◌, ◌≤◌, Bool, true, not, ◌&&◌, nat_eq, nat_lt, cond, List, [], ◌∷◌, ◌++◌, length, Option, Some, None, slice_get, slice_set, slice_index, vec_capacity, Vec}
 use Rattle.std.specs.declared.alloc.Global.{Global}
 use Rattle.luflow.specs.declared.data.Status.{Status}
-use Rattle.luflow.specs.Streams.{Known}
-use Rattle.luflow.specs.Messages.{marks}
 use Rattle.luworld.specs.Needs.{home}
-use Rattle.luflow.specs.Program.{flow_at}
-use Rattle.luflow.specs.Solution.{clock_of_flow}
-use Rattle.luworld.specs.Runs.{Run, script, endless, items_before, is_open, IsFree, HasNoStop, outputs_of, streams_of}
+use Rattle.luworld.specs.Progress.{IsFirst, IsBegun, IsWhole, AreAllPassed}
+use Rattle.luworld.specs.Runs.{Run, script, HasNoStop, outputs_of, streams_of}
 use Rattle.lusite.specs.declared.desk.Desk.{Desk}
 use Rattle.lusite.specs.Programs.{part_at}
 use Rattle.lusite.specs.Machine.{is_faulted}
@@ -19,31 +16,6 @@ add_if b = cond b 1 0
 -- the log of one flow
 abbrev pub Log : Type 0
 Log = Vec Status Global
-
--- the statuses are the first m of flow i, and none of them is broken
-abbrev pub IsFirst : Run → ℕ → List Status → ℕ → Type 0
-IsFirst job i xs m = map Known xs ≡ marks (streams_of job i) m
-
--- a beginning of flow i's statuses before its first broken one; all of them
-abbrev pub IsBegun : Run → ℕ → List Status → Type 0
-IsBegun job i xs = (m : ℕ) × (m ≤ job.inputs.instants) × IsFirst job i xs m
-
-abbrev pub IsWhole : Run → ℕ → List Status → Type 0
-IsWhole job i xs = IsFirst job i xs job.inputs.instants
-
--- one where the flow of rank p is present at instant t: a present status waits for its computation
-abbrev pub lead : Run → ℕ → ℕ → ℕ
-lead job p t = cond (is_open (clock_of_flow job.inputs (streams_of job) (flow_at job.plan.flat (slice_index job.plan.flat.order p)) t)) 1 0
-
--- With n items done, site s has passed the flow of rank p at instant t: where it is present once its computation is done, where
--- it is absent once every item before it is, and nothing behind a stop.
-pub record IsPassed (job : Run) (s n p t : ℕ) : Type 0 where
-  pub done : items_before job (streams_of job) s t p (lead job p t) ≤ n
-  pub free : IsFree job (take (items_before job (streams_of job) s t p (lead job p t)) (endless job (streams_of job) s))
-
--- as many statuses of flow i as site s has passed
-abbrev pub AreAllPassed : Run → ℕ → ℕ → ℕ → List Status → Type 0
-AreAllPassed job s n i xs = (p t : ℕ) → slice_get job.plan.flat.order p ≡ Some i → t < job.inputs.instants → (t < length xs) ↔ IsPassed job s n p t
 
 -- what site s, with n items done, tells of the output that is flow i: its statuses so far, which are those that it has passed
 pub record IsTold (job : Run) (s n i : ℕ) (xs : List Status) : Type 0 where

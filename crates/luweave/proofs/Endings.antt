@@ -24,10 +24,11 @@ use Rattle.luworld.proofs.Ended.{ended_sound}
 use Rattle.luworld.proofs.PassedWhole.{passed_whole}
 use Rattle.luworld.proofs.Outlines.{says_there, broken_is, is_outline, no_break, list_long}
 use Rattle.lusite.specs.Sites.{SiteAt}
-use Rattle.lusite.specs.Logs.{IsBegun, IsWhole, IsOutput, AreAllPassed}
+use Rattle.lusite.specs.Logs.{IsOutput}
+use Rattle.luworld.specs.Progress.{IsBegun, IsWhole, AreAllPassed, IsCollected, AllEnded}
 use Rattle.lusite.proofs.Machine.{there}
 use Rattle.luweave.specs.declared.lane.Lane.{Lane}
-use Rattle.luweave.specs.Worlds.{IsWorld, IsDone, IsCollected, IsToldBySome, OneTells, NoneTells, AllEnded, dones_of}
+use Rattle.luweave.specs.Worlds.{IsWorld, IsDone, IsToldBySome, OneTells, NoneTells, dones_of}
 use Rattle.luweave.proofs.Worlds.{done_at}
 
 truth_known : (sign : Bool) (m : Mark) → is_broken m ≡ false → (b : Bool) × (truth_in sign m ≡ Some b)

@@ -14,8 +14,9 @@ use Rattle.lumeaning.proofs.Sources.{same_list, same_marks, none_breaks}
 use Rattle.lusite.specs.Sites.{SiteAt}
 use Rattle.lusite.proofs.Outputs.{output_there}
 use Rattle.luweave.specs.declared.lane.Lane.{Lane}
-use Rattle.luweave.specs.Worlds.{IsWorld, IsCollected, IsBeginning, AllEnded, dones_of}
-use Rattle.luweave.specs.Headline.{IsCollectedOf, IsWithin, IsFaithful}
+use Rattle.luweave.specs.Worlds.{IsWorld, dones_of}
+use Rattle.luworld.specs.Progress.{IsCollected, IsBeginning, AllEnded}
+use Rattle.luweave.specs.Headline.{IsCollectedOf, IsWithin, IsTakenOf, IsFaithful}
 use Rattle.luweave.proofs.Worlds.{take_begins, both_begin, lane_view}
 use Rattle.luweave.proofs.Endings.{all_put, all_taken, no_fault}
 
@@ -89,8 +90,16 @@ module _ (job : Run) (sites : List SiteAt) (lanes : List Lane) (capacity : ℕ) 
           ended = λ all. all_taken job w.is_job ds all l lt ∙ sym same;
         }
 
+    link_taken : (l : ℕ) → l < length job.plan.links → IsTakenOf job ds σ l
+    link_taken l lt = record {
+      begun = taken_source l (front l) lt refl;
+      ended = λ all. taken_source_whole l (front l) lt refl all;
+    }
+
   pub faithful : IsFaithful job ds
   faithful = record {
     links = λ σ l meant lt. link_within σ meant l lt;
+    taken = λ σ l meant lt. link_taken σ meant l lt;
+    outputs = λ σ k xs meant collected. collected_source σ meant k xs collected;
     sound = λ σ meant all. ended_source σ meant all;
   }

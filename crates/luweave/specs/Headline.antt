@@ -6,7 +6,7 @@ use Rattle.luworld.specs.World.{put_count, taken_count}
 use Rattle.luworld.specs.Runs.{Run, system_of, outputs_of}
 use Rattle.lumeaning.specs.Meaning.{IsMeant, source_list, AreStatuses, BeginStatuses, NoneBreaks}
 use Rattle.luflow.specs.declared.message.Msg.{Msg}
-use Rattle.luweave.specs.Worlds.{AllEnded, IsBeginning, Progress}
+use Rattle.luworld.specs.Progress.{Progress, AllEnded, IsBeginning, IsCollected, taken_of}
 
 -- what each synchronous solution of a run's source says
 abbrev pub InEachSource : Run → (SourceStreams → Type 0) → Type 0
@@ -27,8 +27,16 @@ pub record IsWithin (job : Run) (dones : List ℕ) (σ : SourceStreams) (l : ℕ
   pub waiting : put_count (system_of job) dones l ≤ taken_count (system_of job) dones l + job.plan.capacity
   pub ended : AllEnded job dones → taken_count (system_of job) dones l ≡ length (source_list job σ l)
 
--- in each solution of the source every link is within its list, which was taken whole where all sites have ended, and then
--- no main variable breaks
+-- What was taken from link l is a beginning of its list in a solution of the source, each message once and in order; and all of it
+-- where all sites have ended.
+pub record IsTakenOf (job : Run) (dones : List ℕ) (σ : SourceStreams) (l : ℕ) : Type 0 where
+  pub begun : IsBeginning (taken_of (record { job = job; dones = dones }) l) (source_list job σ l)
+  pub ended : AllEnded job dones → taken_of (record { job = job; dones = dones }) l ≡ source_list job σ l
+
+-- In each solution of the source every link is within its list, what was taken from it is a beginning of the list, and what is
+-- collected of an output is a beginning of its statuses; where all sites have ended both are whole, and no main variable breaks.
 pub record IsFaithful (job : Run) (dones : List ℕ) : Type 0 where
   pub links : (σ : SourceStreams) (l : ℕ) → IsMeant job σ → l < length job.plan.links → IsWithin job dones σ l
+  pub taken : (σ : SourceStreams) (l : ℕ) → IsMeant job σ → l < length job.plan.links → IsTakenOf job dones σ l
+  pub outputs : (σ : SourceStreams) (k : ℕ) (xs : List Status) → IsMeant job σ → IsCollected job dones k xs → IsCollectedOf job dones σ k xs
   pub sound : (σ : SourceStreams) → IsMeant job σ → AllEnded job dones → NoneBreaks job σ

@@ -1,15 +1,15 @@
 -- A world of sites: how many items each has done. What each turn does is `turn` and `step` of the scripts' system.
-use Rattle.std.specs.Prelude.{◌≡◌, ◌⊎◌, ℕ, ◌+◌, ◌-◌, ◌<◌, ◌≤◌, Bool, false, nat_lt, List, [], ◌∷◌, ◌++◌, length, map, Option, Some, None, slice_get, slice_set, take, drop, vec_capacity}
+use Rattle.std.specs.Prelude.{◌≡◌, ◌⊎◌, ℕ, ◌+◌, ◌-◌, ◌<◌, ◌≤◌, Bool, false, nat_lt, List, [], ◌∷◌, ◌++◌, length, map, Option, Some, None, slice_get, slice_set, take, vec_capacity}
 use Rattle.luworld.specs.declared.turn.Turn.TheVariants.{Moved}
 use Rattle.luworld.specs.World.{done, put_count, taken_count, turn, reached, NoTurnMoves}
 use Rattle.luworld.specs.Reach.{IsGood}
-use Rattle.luworld.specs.Outline.{HasEnded}
-use Rattle.luworld.specs.Needs.{Distribution, sites_of, home}
+use Rattle.luworld.specs.Needs.{Distribution, sites_of}
 use Rattle.luflow.specs.declared.message.Msg.{Msg}
 use Rattle.luflow.specs.declared.data.Status.{Status}
 use Rattle.luweave.specs.declared.lane.Lane.{Lane}
-use Rattle.luworld.specs.Runs.{Run, streams_of, system_of, script, HasNoStop, outline, link_list, NoFault, IsJob, outputs_of}
-use Rattle.lusite.specs.Logs.{IsBegun, IsWhole, IsOutput, AreAllPassed}
+use Rattle.luworld.specs.Runs.{Run, streams_of, system_of, script, HasNoStop, link_list, NoFault, IsJob}
+use Rattle.lusite.specs.Logs.{IsOutput}
+use Rattle.luworld.specs.Progress.{AllEnded}
 use Rattle.lusite.specs.Sites.{SiteAt}
 
 -- what a lane holds after so many puts and takes: a beginning of the link's list
@@ -36,20 +36,6 @@ pub record IsWorld (job : Run) (sites : List SiteAt) (lanes : List Lane) (capaci
   pub lanes_len : length lanes ≡ length job.plan.links
   pub lanes_are : (l : ℕ) (lane : Lane) → slice_get lanes l ≡ Some lane → IsLane job (dones_of sites) l lane
   pub good : IsGood (system_of job) (dones_of sites)
-
-pub record Progress : Type 0 where
-  pub job : Run
-  pub dones : List ℕ
-
--- the list of a link, what was taken from it, and what waits in it
-abbrev pub list_of_link : Progress → ℕ → List Msg
-list_of_link w l = link_list w.job (streams_of w.job) l
-
-abbrev pub taken_of : Progress → ℕ → List Msg
-taken_of w l = take (taken_count (system_of w.job) w.dones l) (list_of_link w l)
-
-abbrev pub queued_of : Progress → ℕ → List Msg
-queued_of w l = drop (taken_count (system_of w.job) w.dones l) (take (put_count (system_of w.job) w.dones l) (list_of_link w l))
 
 -- what a put and a take do to the lanes
 pub record IsPutInto (lanes : List Lane) (l : ℕ) (x : Lane) (msg : Msg) (lanes' : List Lane) : Type 0 where
@@ -99,10 +85,6 @@ pub record IsNewWorld (plan : Distribution) (sites : List SiteAt) : Type 0 where
   pub len : length sites ≡ sites_of plan
   pub each : (s : ℕ) (v : SiteAt) → slice_get sites s ≡ Some v → IsNewSite job s v
 
--- all sites have ended
-abbrev pub AllEnded : Run → List ℕ → Type 0
-AllEnded job dones = (s : ℕ) → s < sites_of job.plan → HasEnded (outline job (streams_of job)) dones s
-
 -- without a fault all sites have ended or some turn moves
 abbrev pub IsUnstuck : Run → List ℕ → Type 0
 IsUnstuck job dones = NoFault job → AllEnded job dones ⊎ ((s : ℕ) × (turn (system_of job) dones s ≡ Moved))
@@ -114,15 +96,6 @@ IsOnlyEnd job dones = (schedule : List ℕ) → NoTurnMoves (system_of job) done
 -- a site has done its whole script, and no stop is in it
 abbrev pub IsDone : SiteAt → Type 0
 IsDone v = (v.done ≡ length (script v.job (streams_of v.job) v.site)) × HasNoStop v.job v.site
-
--- output k: a beginning of its statuses before its first broken one, as many as its home has passed, and all of them where
--- all sites have ended
-abbrev pub IsCollected : Run → List ℕ → ℕ → List Status → Type 0
-IsCollected job dones k xs = (i : ℕ) → slice_get (outputs_of job.plan) k ≡ Some i → IsBegun job i xs × AreAllPassed job (home job.plan i) (done dones (home job.plan i)) i xs × (AllEnded job dones → IsWhole job i xs)
-
--- a beginning of a list
-abbrev pub IsBeginning : List Msg → List Msg → Type 0
-IsBeginning xs ys = (rest : List Msg) × (xs ++ rest ≡ ys)
 
 -- what one of the sites tells of output k, or nothing where none tells anything
 abbrev pub TellsAt : List SiteAt → ℕ → List Status → ℕ → Type 0

@@ -7,7 +7,8 @@ ghost use Rattle.luweave.specs.declared.lane.Lane.{Lane};
 ghost use Rattle.luworld.specs.Runs.{link_list, streams_of};
 ghost use Rattle.luworld.specs.World.{done, turn, step, reached, put_count, taken_count, new_world};
 ghost use Rattle.luworld.specs.Runs.{system_of, IsJob};
-ghost use Rattle.luweave.specs.Worlds.{more, IsPutInto, IsTakeFrom, room_in, some_in, IsNewWorld, IsNewLane, IsUnstuck, IsOnlyEnd, IsDone, IsCollected, IsToldBySome, IsBeginning, AllEnded, list_of_link, taken_of, queued_of};
+ghost use Rattle.luweave.specs.Worlds.{more, IsPutInto, IsTakeFrom, room_in, some_in, IsNewWorld, IsNewLane, IsUnstuck, IsOnlyEnd, IsDone, IsToldBySome};
+ghost use Rattle.luworld.specs.Progress.{IsCollected, IsBeginning, AllEnded, list_of_link, taken_of, queued_of};
 ghost use Rattle.lusource.specs.Source.{SourceStreams};
 ghost use Rattle.lumeaning.specs.Meaning.{IsMeant, NoneBreaks, source_list};
 ghost use Rattle.luweave.specs.Headline.{InEachSource, WaitsNext, IsCollectedOf, IsFaithful};
@@ -34,7 +35,8 @@ pub struct World {
 }
 
 impl Model for World {
-    ghost use Rattle.luweave.specs.Worlds.{Progress, dones_of, IsWorld};
+    ghost use Rattle.luweave.specs.Worlds.{dones_of, IsWorld};
+    ghost use Rattle.luworld.specs.Progress.{Progress};
 
     ghost Value = { Progress };
 

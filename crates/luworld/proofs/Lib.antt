@@ -23,3 +23,4 @@ pub mod Cursor
 pub mod Fitting
 pub mod PassedWhole
 pub mod WorkedPlans
+pub mod WorkedChains

@@ -20,7 +20,7 @@ use Rattle.luworld.specs.RunVectors.{counters_run, sampled_run, shared_run, spre
 abbrev are_sites : ℕ → List ℕ → Bool
 are_sites sites xs = nat_lt 0 (length xs) && (passes (λ k. nat_lt (slice_index xs k) sites) (length xs) && passes (λ k. passes (λ j. nat_lt (slice_index xs j) (slice_index xs k)) k) (length xs))
 
-sites_are : (sites : ℕ) (xs : List ℕ) → are_sites sites xs ≡ true → IsPlacedAt sites xs
+pub sites_are : (sites : ℕ) (xs : List ℕ) → are_sites sites xs ≡ true → IsPlacedAt sites xs
 sites_are sites xs h =
     let a = and_parts (nat_lt 0 (length xs)) _ h in
     let b = and_parts (passes (λ k. nat_lt (slice_index xs k) sites) (length xs)) _ a.1 in

@@ -7,3 +7,6 @@ pub mod Vectors
 pub mod Needs
 pub mod Runs
 pub mod RunVectors
+pub mod Progress
+pub mod RunLaws
+pub mod PlanVectors

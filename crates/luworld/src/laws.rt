@@ -3,7 +3,9 @@
 ghost use Rattle.luworld.specs.Laws.{CountsLaw, TurnLaw, ReachableLaw, QuietLaw, SameEndLaw, MovesLaw, EnabledLaw, NumbersLaw, StepCountsLaw};
 ghost use Rattle.luworld.specs.Vectors.{VectorsLaw, ExampleIsOutline};
 ghost use Rattle.luworld.specs.OutlineLaws.{PartsLaw, WiredLaw, WholeLaw, NeverStuckLaw, LeftLaw, ItemCountLaw, EndedLaw, DoneEndsLaw, PassedWholeLaw};
+ghost use Rattle.luworld.specs.RunLaws.{JobOfRunLaw, ListLengthLaw};
 ghost use Rattle.luworld.specs.RunVectors.{RunVectors};
+ghost use Rattle.luworld.specs.PlanVectors.{PlanVectors, IdleVectors};
 
 /// Messages taken are at most those put, and at most the capacity fewer.
 pub fn counts_law()
@@ -109,4 +111,26 @@ pub fn passed_whole_law()
 /// division that breaks, and a held sample. Each plan and each table is what a plan and a table have to be.
 pub fn run_vectors_law()
     ensures { RunVectors }
+{}
+
+/// What the machines of a run's sites rest on follows from what a run is.
+pub fn job_of_run_law()
+    ensures { JobOfRunLaw }
+{}
+
+/// A link's list is as long as the scripts make it.
+pub fn list_length_law()
+    ensures { ListLengthLaw }
+{}
+
+/// Two plans over three sites in full, with needs, links, scripts and lists: a sample that is handed on from a site that doesn't
+/// have its clock, and a clock on a clock.
+pub fn plan_vectors_law()
+    ensures { PlanVectors }
+{}
+
+/// Runs without instants, a site without items, what is left where something is passed as absent or never comes, and counts
+/// of the examples.
+pub fn idle_vectors_law()
+    ensures { IdleVectors }
 {}

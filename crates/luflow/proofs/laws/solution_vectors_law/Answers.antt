@@ -1,6 +1,6 @@
 use Rattle.std.proofs.Common.{refl}
 use Rattle.luflow.specs.Solution.{solution}
-use Rattle.luflow.proofs.Vectors.{counters_worked, counters_end, sum_worked, division_worked, division_fault, quotient_worked, held_worked}
+use Rattle.luflow.proofs.Vectors.{counters_worked, counters_end, sum_worked, division_worked, division_fault, quotient_worked, held_worked, chained_worked}
 use Rattle.luflow.proofs.laws.solution_vectors_law.Goals as goal
 
 pub returns : goal.returns
@@ -11,4 +11,5 @@ returns c = record {
   divisions = record { worked = division_worked; y = refl; p = refl; z = refl; y_messages = refl; fault = division_fault };
   quotients = record { worked = quotient_worked; y = refl; z = refl };
   samples = record { worked = held_worked; c = refl; s = refl; y = refl; z = refl };
+  chains = record { worked = chained_worked; c = refl; z = refl; s = refl; inner = refl };
 }

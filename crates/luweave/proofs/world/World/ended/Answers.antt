@@ -2,7 +2,8 @@ use Rattle.std.proofs.Common.{◌≡◌, true}
 use Rattle.luworld.specs.Runs.{NoFault}
 use Rattle.lusource.specs.Source.{SourceStreams}
 use Rattle.lumeaning.specs.Meaning.{IsMeant, NoneBreaks}
-use Rattle.luweave.specs.Worlds.{AllEnded, dones_of}
+use Rattle.luweave.specs.Worlds.{dones_of}
+use Rattle.luworld.specs.Progress.{AllEnded}
 use Rattle.luweave.proofs.Worlds.{along}
 use Rattle.luweave.proofs.Endings.{done_all, all_done, no_fault}
 use Rattle.luweave.proofs.Headlines.{ended_source}

@@ -3,7 +3,8 @@ use Rattle.std.specs.Prelude.{slice_get}
 use Rattle.luworld.specs.Runs.{outputs_of}
 use Rattle.lusource.specs.Source.{SourceStreams}
 use Rattle.lumeaning.specs.Meaning.{IsMeant}
-use Rattle.luweave.specs.Worlds.{IsCollected, dones_of}
+use Rattle.luweave.specs.Worlds.{dones_of}
+use Rattle.luworld.specs.Progress.{IsCollected}
 use Rattle.luweave.specs.Headline.{IsCollectedOf}
 use Rattle.luweave.proofs.Worlds.{along}
 use Rattle.luweave.proofs.Endings.{collected, none_beyond}

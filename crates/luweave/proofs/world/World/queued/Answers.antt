@@ -4,7 +4,8 @@ use Rattle.luworld.specs.World.{put_count, taken_count}
 use Rattle.luflow.specs.declared.message.Msg.{Msg}
 use Rattle.lusource.specs.Source.{SourceStreams}
 use Rattle.lumeaning.specs.Meaning.{IsMeant, source_list}
-use Rattle.luweave.specs.Worlds.{Progress, IsBeginning, AllEnded, dones_of}
+use Rattle.luweave.specs.Worlds.{dones_of}
+use Rattle.luworld.specs.Progress.{Progress, IsBeginning, AllEnded}
 use Rattle.luweave.proofs.Worlds.{along, both_begin, lane_order, queued_view, queued_fits}
 use Rattle.luweave.proofs.Headlines.{none_waits, queued_source}
 use Rattle.luweave.proofs.world.World.queued.Goals as goal

@@ -4,7 +4,8 @@ use Rattle.luworld.specs.World.{taken_count}
 use Rattle.luflow.specs.declared.message.Msg.{Msg}
 use Rattle.lusource.specs.Source.{SourceStreams}
 use Rattle.lumeaning.specs.Meaning.{IsMeant, source_list}
-use Rattle.luweave.specs.Worlds.{Progress, IsBeginning, AllEnded, dones_of}
+use Rattle.luweave.specs.Worlds.{dones_of}
+use Rattle.luworld.specs.Progress.{Progress, IsBeginning, AllEnded}
 use Rattle.luweave.proofs.Worlds.{along, take_begins, lane_order, taken_view}
 use Rattle.luweave.proofs.Headlines.{taken_whole, taken_source, taken_source_whole}
 use Rattle.luweave.proofs.world.World.taken.Goals as goal

@@ -11,7 +11,8 @@ use Rattle.luweave.specs.declared.lane.Lane.{Lane}
 use Rattle.lusite.specs.Sites.{SiteAt}
 use Rattle.lusite.specs.Machine.{IsNext, IsTakeNext}
 use Rattle.luworld.specs.Runs.{system_of}
-use Rattle.luweave.specs.Worlds.{IsWorld, Progress, dones_of}
+use Rattle.luweave.specs.Worlds.{IsWorld, dones_of}
+use Rattle.luworld.specs.Progress.{Progress}
 use Rattle.luflow.proofs.Solutions.{some_at}
 use Rattle.luweave.proofs.Worlds.{next_is, along, turn_over, moved_is, step_is, world_work, put_blocked, take_blocked, may_put, may_take, put_room, world_put, take_some, no_site, lane_order}
 use Rattle.luweave.proofs.world.World.turn.Goals as goal
