@@ -24,6 +24,7 @@ use Rattle.lucore_list.specs.Laws.{DefineSomething, IsClosed, HasColumns}
 use Rattle.lucore_causality.specs.Laws.{HasCycle}
 use Rattle.lucore_causality.proofs.ToFlat.{to_flat}
 use Rattle.lucore_list.proofs.Closed as closing
+use Rattle.lucore_list.proofs.NodeFaults.{faults_told, faults_found}
 use Rattle.lucore_list.proofs.Whole as meaning
 use Rattle.lucore_sound.proofs.Flats as flats
 use Rattle.lucore_sound.proofs.Roles.{variable_of, inputs_are}
@@ -117,5 +118,9 @@ module _ (p : ProgramTree) (main : List ℕ) (flat : FlatProgram) (accepted : Is
         is_flat = is_flat;
         columns = columns;
         agrees = agrees;
-        one_meaning = λ inputs columns. one_meaning p main inputs flat is_flat.ordered is_flat.variables_first (agrees inputs columns);
+        one_meaning = λ inputs columns. one_meaning p main inputs flat is_flat.ordered (agrees inputs columns) (meaning.instances_law p main flat accepted something out is_flat.ordered);
+        faults = λ inputs σ τ source solves i v t kind x fault owner there. faults_told p main inputs flat accepted something out is_flat.ordered σ τ source solves i v t kind x fault owner there;
+        all_faults = λ inputs σ τ source solves name t kind fault.
+            let h = faults_found p main inputs flat accepted something out is_flat.ordered σ τ source solves name t kind fault in
+            (h.0, h.3);
       }

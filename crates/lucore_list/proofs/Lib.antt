@@ -5,6 +5,7 @@ pub mod Well
 pub mod Spots
 pub mod ToSource
 pub mod Roots
+pub mod Instances
 pub mod ByCalls
 pub mod Facts
 pub mod NodeToSource
@@ -19,3 +20,5 @@ pub mod Closed
 pub mod Counting
 pub mod Nodes
 pub mod There
+pub mod SourceFaults
+pub mod NodeFaults

@@ -7,7 +7,7 @@ use Rattle.lutree.specs.declared.expr.Condition.{Condition}
 use Rattle.lutree.specs.Tree.{DeclarationTree, EquationTree, NodeTree, ProgramTree}
 use Rattle.luflow.specs.declared.form.Flow.{Flow}
 use Rattle.luflow.specs.Streams.{Stream, Ticks}
-use Rattle.lusource.specs.Names.{variables_of, place_of, name_at, clock_of, AreDistinct}
+use Rattle.lusource.specs.Names.{variables_of, name_at, clock_of, AreDistinct}
 use Rattle.lustat_rules.specs.Scope.{names_of, declarations_of, node_called}
 use Rattle.lusource.specs.Source.{Named, Site, calls, output, LeftHolds, EquationsHold, all_sites, sites, InstanceHolds, Path, SourceStreams, If, sites_of, HoldsAt}
 use Rattle.lustat_rules.specs.Scope as rules
@@ -15,12 +15,13 @@ use Rattle.lustat_rules.specs.Naming.{Calls, Reaches}
 use Rattle.lucore_list.specs.Layout.{Root, walk_right, left_clock, root_flow, inner_flows, variable_flow, variable_place, variable_count, input_flows, node_flows, AreLists}
 use Rattle.lucore_list.proofs.Each.{Each, each_left, each_right, each_join, each_at, each_all, each_map}
 use Rattle.lucore_list.proofs.Names.{get-front, get-behind, contains_at, mapped_some, get-names, get_place, clock_cases, listed}
-use Rattle.lucore_list.proofs.Open.{Model, flow_stream, FlowHolds, Hold, Solves, hold_solves, root_stream}
-use Rattle.lucore_list.proofs.Spots.{length-sites}
+use Rattle.lucore_list.proofs.Open.{Model, flow_stream, FlowHolds, Hold, hold_solves, root_stream}
+use Rattle.lucore_list.proofs.Spots.{Spot, spots, equation_spots, length-spots, length-sites}
+use Rattle.lucore_list.proofs.Instances.{has_instances}
 use Rattle.lucore_list.proofs.Well.{IsWell}
 use Rattle.lucore_list.proofs.Roots.{LeftRoots, Roots, rooted, parts, length-front, length-inputs, front, others}
 use Rattle.lucore_list.proofs.NodeToSource.{root_flow_stream}
-use Rattle.lucore_list.proofs.ToFlat.{Has, Makes, makes_none, makes_join, makes_imp, makes_under, Gives, KnownClock, Agree, Solved, solved_then, makes}
+use Rattle.lucore_list.proofs.ToFlat.{Has, Makes, makes_none, makes_join, makes_imp, makes_under, ListHas, Gives, KnownClock, Agree, Placed, Solved, solved_then, makes}
 use Rattle.lucore_list.proofs.Facts.{Below, NodeFacts}
 use Rattle.lucore_list.proofs.ByCalls.{by_calls}
 
@@ -55,6 +56,9 @@ module _ (p : ProgramTree) (lists : List (List Flow)) (node : NodeTree) (facts :
   abbrev HasStreams : Model → Type 0
   HasStreams = Agree p lists node (Below node) base σ apart gives
 
+  abbrev IsPlaced : Model → ℕ → Spot → Type 0
+  IsPlaced = Placed p lists node (Below node) base σ apart gives
+
   abbrev AreSolved : ℕ → List Site → Type 0
   AreSolved = Solved p lists node (Below node) base σ apart gives
 
@@ -77,8 +81,8 @@ module _ (p : ProgramTree) (lists : List (List Flow)) (node : NodeTree) (facts :
   left_roots m q root i w h j (x ∷ xs) le holds =
       (root_flow_stream p lists node base m q root j x ∙ h j (omega arith) ∙ sym holds.0, left_roots m q root i w h (suc j) xs (omega arith) holds.1)
 
-  equations_make : (qs : List EquationTree) (s i : ℕ) → ((j : ℕ) (q : EquationTree) → slice_get qs j ≡ Some q → IsWell p node (Below node) q.right (length q.left)) → AreSolved i (all_sites p node base var below qs i) → EquationsHold p node base var below qs i → Makes base HasStreams s (inner_flows p lists node qs s) (λ m. Roots p lists node (RootIs m) qs s)
-  equations_make [] s i well sol holds = makes_none base HasStreams _ s (λ m a. tt)
+  equations_make : (qs : List EquationTree) (s i : ℕ) → ((j : ℕ) (q : EquationTree) → slice_get qs j ≡ Some q → IsWell p node (Below node) q.right (length q.left)) → AreSolved i (all_sites p node base var below qs i) → EquationsHold p node base var below qs i → Makes base HasStreams s (inner_flows p lists node qs s) (λ m. Roots p lists node (RootIs m) qs s × Each (IsPlaced m) i (equation_spots p lists node qs s))
+  equations_make [] s i well sol holds = makes_none base HasStreams _ s (λ m a. (tt, tt))
   equations_make (q ∷ qs) s i well sol holds =
       let k = left_clock p lists node q in
       let w = walk_right p lists node q s in
@@ -86,10 +90,15 @@ module _ (p : ProgramTree) (lists : List (List Flow)) (node : NodeTree) (facts :
       let SA = sites p node base var below q.right k i in
       let SR = all_sites p node base var below qs (i + calls q.right) in
       let first = makes p lists node (Below node) base σ apart gives clock_known HasStreams (λ m a. a) q.right k i (length q.left) (clock_known (name_at q.left 0)) (well 0 q refl) (each_left _ i SA SR sol) s in
-      let first' = makes_imp base HasStreams _ (λ m. LeftRoots p lists node (RootIs m) q w.root) s w.inner (λ m a r. left_roots m q w.root i (length q.left) r 0 q.left (omega arith) holds.0) first in
+      let SS = spots p lists node q.right k s in
+      let TT = equation_spots p lists node qs s' in
+      let First : Model → Type 0 = λ m. LeftRoots p lists node (RootIs m) q w.root × Each (IsPlaced m) i SS in
+      let Rest : Model → Type 0 = λ m. Roots p lists node (RootIs m) qs s' × Each (IsPlaced m) (i + calls q.right) TT in
+      let first' = makes_imp base HasStreams _ First s w.inner (λ m a r. (left_roots m q w.root i (length q.left) r.0 0 q.left (omega arith) holds.0, r.1)) first in
       let rest = equations_make qs s' (i + calls q.right) (λ j q e. well (suc j) q e) (solved_then p lists node (Below node) base σ apart gives i SA SR (calls q.right) (length-sites p node base var below q.right k i) sol) holds.1 in
-      makes_join base HasStreams (λ m. LeftRoots p lists node (RootIs m) q w.root) (λ m. Roots p lists node (RootIs m) qs s') s w.inner (inner_flows p lists node qs s') first'
-      (makes_under base HasStreams (λ m. HasStreams m × LeftRoots p lists node (RootIs m) q w.root) (λ m. Roots p lists node (RootIs m) qs s') s' (inner_flows p lists node qs s') (λ m a. a.0) rest)
+      makes_imp base HasStreams (λ m. First m × Rest m) _ s (w.inner ++ inner_flows p lists node qs s') (λ m a r. ((r.0.0, r.1.0), each_join (IsPlaced m) i SS TT r.0.1 (subst (λ n. Each (IsPlaced m) (i + n) TT) (sym (length-spots p lists node q.right k s)) r.1.1)))
+      (makes_join base HasStreams First Rest s w.inner (inner_flows p lists node qs s') first'
+      (makes_under base HasStreams (λ m. HasStreams m × First m) Rest s' (inner_flows p lists node qs s') (λ m a. a.0) rest))
 
   abbrev nv : ℕ
   nv = variable_count p lists node
@@ -123,10 +132,8 @@ module _ (p : ProgramTree) (lists : List (List Flow)) (node : NodeTree) (facts :
       ∙ sym (get-names (node.outputs ++ node.locals) j) ∙ e in
       stream_at m l h (length node.inputs + j) x there ∙ sym (rooted p lists node (RootIs m) node.equations nv x roots (other_has_equation p lists node facts j x e))))
 
-  pub node_gives : (given : List Stream) → InstanceHolds p node base given var below → AreSolved 0 (all_sites p node base var below node.equations 0)
-      → (l : List Stream) × (length l ≡ length (node_flows p lists node)) × ((m : Model) → Has m 0 l → ((r : ℕ) (s : Stream) → slice_get given r ≡ Some s → m.given r ≡ s)
-      → Solves base m (node_flows p lists node) × ((x : List ℕ) → place_of (variables_of node) x < length (variables_of node) → m.on (place_of (variables_of node) x) ≡ σ [] x))
-  node_gives given holds sol =
+  pub node_gives : (f : List ℕ) → node_called p f ≡ Some node → (given : List Stream) → InstanceHolds p node base given var below → AreSolved 0 (all_sites p node base var below node.equations 0) → ListHas p lists f node base given σ (node_flows p lists node)
+  node_gives f found given holds sol =
       let inner = inner_flows p lists node node.equations nv in
       let mk = equations_make node.equations nv 0 facts.rights sol holds.equations in
       let ls = length-map (variables_of node) var in
@@ -142,11 +149,11 @@ module _ (p : ProgramTree) (lists : List (List Flow)) (node : NodeTree) (facts :
             let first = inputs_hold m mk.0 given h are holds.inputs node.inputs 0 (λ j d e. let y : 0 + j ≡ j = omega arith in ap (slice_get node.inputs) y ∙ e) in
             let li = length-inputs p lists node 0 node.inputs in
             let y : length node.inputs ≡ 0 + length (input_flows p lists node 0 node.inputs) = omega arith in
-            let variables = others_hold m mk.0 h r.1 in
+            let variables = others_hold m mk.0 h r.1.0 in
             let fronts = each_join (FlowHolds base m) 0 (input_flows p lists node 0 node.inputs) (map (variable_flow p lists node node.equations nv) (others p lists node)) first (subst (λ n. Hold base m n (map (variable_flow p lists node node.equations nv) (others p lists node))) y variables) in
             let x : nv ≡ 0 + length (front p lists node) = omega arith in
             let all = each_join (FlowHolds base m) 0 (front p lists node) inner fronts (subst (λ n. Hold base m n inner) x r.0) in
-            (hold_solves base m (node_flows p lists node) (subst (Hold base m 0) (sym (parts p lists node)) all), agree),
+            (hold_solves base m (node_flows p lists node) (subst (Hold base m 0) (sym (parts p lists node)) all), agree, has_instances p lists f node found m.on σ agree r.1.1),
       )
 
 module _ (p : ProgramTree) (lists : List (List Flow)) (are : AreLists p lists) (facts : (f : List ℕ) (n : NodeTree) → node_called p f ≡ Some n → NodeFacts p n) (never : (f : List ℕ) → ¬ Reaches p f f) where
@@ -167,9 +174,9 @@ module _ (p : ProgramTree) (lists : List (List Flow)) (are : AreLists p lists) (
       let e' : slice_get (sites_of p (node_called p f) base var inner) j ≡ Some c = ap (λ s. slice_get s j) es ∙ e in
       let h = subst (λ o. If o (λ c. HoldsAt p c.node c.base c.arguments (λ ρ. σ (j ∷ ρ)) path)) e' (sol (j ∷ path)) in
       subst (λ j. HoldsAt p c.node c.base c.arguments (λ ρ. σ (j ∷ ρ)) path) z h) in
-      let g = node_gives p lists node fs base σ apart below given here solved in
+      let g = node_gives p lists node fs base σ apart below f found given here solved in
       let l = listed p lists are f node found in
-      subst (λ L. (l : List Stream) × (length l ≡ length L) × ((m : Model) → Has m 0 l → ((r : ℕ) (s : Stream) → slice_get given r ≡ Some s → m.given r ≡ s) → Solves base m L × ((x : List ℕ) → place_of (variables_of node) x < length (variables_of node) → m.on (place_of (variables_of node) x) ≡ σ [] x))) (sym l) g
+      subst (ListHas p lists f node base given σ) (sym l) g
 
   pub gives_all : (f : List ℕ) → Gives p lists f
   gives_all = by_calls p never (Gives p lists) step

@@ -1,5 +1,5 @@
 -- What acceptance gives of an expression, form by form.
-use Rattle.std.proofs.Common.{◌≡◌, ℕ, ◌<◌, List, [], ◌∷◌, ◌++◌, length, Option, Some, refl, sym, ◌∙◌, subst}
+use Rattle.std.proofs.Common.{◌≡◌, ℕ, ◌<◌, List, [], ◌∷◌, ◌++◌, length, Option, Some, refl, sym, subst}
 use Rattle.std.specs.Prelude.{All, IfSome, option_map}
 use Rattle.lutree.specs.Tree.{Tree, Trees, list_of, EquationTree, NodeTree, ProgramTree}
 use Rattle.lutree.specs.Tree as tree

@@ -1,6 +1,6 @@
 -- A laid out flat program has the solutions of its source.
 use Rattle.std.proofs.Common.{◌≡◌, ℕ, zero, suc, ◌+◌, ◌<◌, List, [], ◌∷◌, ◌++◌, length, map, get_or, Some, refl, sym, ap, ◌∙◌, subst, arith}
-use Rattle.std.specs.Prelude.{slice_get, option_map}
+use Rattle.std.specs.Prelude.{slice_get, option_map, Contains}
 use Rattle.std.proofs.lemmas.Option.{slice_get_within, slice_get-map, same_Some}
 use Rattle.lutree.specs.Tree.{DeclarationTree, NodeTree, ProgramTree}
 use Rattle.luflow.specs.declared.form.Form.TheVariants.{Input}
@@ -12,17 +12,20 @@ use Rattle.luflow.specs.Program.{FlatProgram, Table, Column, IsOrdered, data_of}
 use Rattle.luflow.specs.Streams.{Stream, Streams, base_clock}
 use Rattle.luflow.specs.Values.{gives, under}
 use Rattle.luflow.specs.Solution.{IsSolution}
+use Rattle.luflow.proofs.Solutions.{solutions_same}
 use Rattle.lusource.specs.Names.{variables_of, place_of}
 use Rattle.lustat_rules.specs.Scope.{names_of, node_called}
-use Rattle.lusource.specs.Source.{SourceStreams, IsSourceSolution, given_streams}
-use Rattle.lusource.specs.Agreement.{SameOnVariables}
+use Rattle.lusource.specs.Source.{Path, SourceStreams, IsSourceSolution, given_streams}
+use Rattle.lusource.specs.Instances.{instance_at}
+use Rattle.lusource.specs.Agreement.{SameOnVariables, InstancesHaveFlows}
 use Rattle.lustat_rules.specs.Naming.{Reaches}
 use Rattle.lustat_rules.specs.Accepted.{IsAccepted}
 use Rattle.lucore_list.specs.Layout.{list_of, variables_as, main_variables, IsLaidOut}
-use Rattle.lucore_list.specs.Laws.{DefineSomething, HasColumns, AgreesLaw}
+use Rattle.lucore_list.specs.Laws.{DefineSomething, HasColumns, AgreesLaw, InstancesLaw}
 use Rattle.lucore_list.proofs.Names.{place_at, listed}
 use Rattle.lucore_list.proofs.Open.{Model, nothing, Solves}
 use Rattle.lucore_list.proofs.Spots.{place_named, streams_of}
+use Rattle.lucore_list.proofs.Instances.{flow_place, HasInstances, place_inside}
 use Rattle.lucore_list.proofs.Facts.{NodeFacts, facts, never_round}
 use Rattle.lucore_list.proofs.NodeToSource.{reads}
 use Rattle.lucore_list.proofs.ToFlat.{Has}
@@ -86,6 +89,11 @@ module _ (p : ProgramTree) (main : List ℕ) (flat : FlatProgram) (accepted : Is
       ∙ ap (option_map (λ (x : Variable). x.name)) (ap (λ l. slice_get l v) (sym out.variables) ∙ e) in
       (name, place_at (variables_of node) x.name v (fs main node out.is_main).apart name)
 
+  -- each variable of each instance stands in the list
+  inside : (path : Path) (n : NodeTree) (x : List ℕ) → instance_at p main path ≡ Some n → Contains (variables_of n) x → flow_place p out.lists main path x < length flat.flows
+  inside path n x here has =
+      subst (λ l. flow_place p out.lists main path x < length l) flows_are (place_inside p out.lists out.are_lists path main n x here has)
+
   module _ (inputs : Table) where
     abbrev streamed : Column → Stream
     streamed column t = under (base_clock inputs t) (gives (slice_get column.values t))
@@ -103,19 +111,31 @@ module _ (p : ProgramTree) (main : List ℕ) (flat : FlatProgram) (accepted : Is
     given_there (c ∷ columns) zero lt = refl
     given_there (c ∷ columns) (suc r) lt = given_there columns r (omega (arith, lt))
 
-    pub to_flat : IsOrdered flat → (σ : SourceStreams) → IsSourceSolution p main inputs σ → (τ : Streams) × IsSolution flat inputs τ × SameOnVariables flat τ σ
-    to_flat ordered σ sol =
+    -- a solution of the source gives one of the list
+    to_list : IsOrdered flat → (σ : SourceStreams) → IsSourceSolution p main inputs σ → (τ : Streams) × IsSolution flat inputs τ × ((x : List ℕ) → place_of (variables_of node) x < length (variables_of node) → τ (place_of (variables_of node) x) ≡ σ [] x) × HasInstances p out.lists main τ σ
+    to_list ordered σ sol =
         let g = gives_all p out.lists out.are_lists fs never main node out.is_main (base_clock inputs) (given_streams inputs) σ sol in
         let τ : Streams = λ x. get_or g.0 x nothing in
         let m = model flat inputs (length node.inputs) flat_fits τ in
-        let r = g.2 m (has_itself g.0 0 m (λ x. let z : 0 + x ≡ x = omega arith in ap τ z)) (λ r s e. given_is inputs.columns r s e) in (
-          τ,
-          from_open flat inputs (length node.inputs) flat_fits ordered τ (subst (Solves (base_clock inputs) m) flows_are r.0),
+        let r = g.2 m (has_itself g.0 0 m (λ x. let z : 0 + x ≡ x = omega arith in ap τ z)) (λ r s e. given_is inputs.columns r s e) in
+        (τ, from_open flat inputs (length node.inputs) flat_fits ordered τ (subst (Solves (base_clock inputs) m) flows_are r.0), r.1, r.2)
+
+    pub to_flat : IsOrdered flat → (σ : SourceStreams) → IsSourceSolution p main inputs σ → (τ : Streams) × IsSolution flat inputs τ × SameOnVariables flat τ σ
+    to_flat ordered σ sol =
+        let f = to_list ordered σ sol in (
+          f.0,
+          f.1,
           λ v x e.
               let at = variable_at v x e in
               let lt = slice_get_within (variables_of node) v x.name at.0 in
-              ap τ (sym at.1) ∙ r.1 x.name (subst (λ n. n < length (variables_of node)) (sym at.1) lt),
+              ap f.0 (sym at.1) ∙ f.2 x.name (subst (λ n. n < length (variables_of node)) (sym at.1) lt),
         )
+
+    -- each variable of each instance has the stream of its flow, in each solution of either
+    pub same_flow : IsOrdered flat → (σ : SourceStreams) (τ : Streams) → IsSourceSolution p main inputs σ → IsSolution flat inputs τ → (path : Path) (n : NodeTree) (x : List ℕ) → instance_at p main path ≡ Some n → Contains (variables_of n) x → (t : ℕ) → σ path x t ≡ τ (flow_place p out.lists main path x) t
+    same_flow ordered σ τ sol sol' path n x here has t =
+        let f = to_list ordered σ sol in
+        sym (ap (λ (s : Stream). s t) (f.3 path n x here has)) ∙ solutions_same flat inputs f.0 τ ordered f.1 sol' (flow_place p out.lists main path x) t (inside path n x here has)
 
     pub to_source : HasColumns p main inputs → (τ : Streams) → IsSolution flat inputs τ → (σ : SourceStreams) × IsSourceSolution p main inputs σ × SameOnVariables flat τ σ
     to_source columns τ sol =
@@ -129,6 +149,15 @@ module _ (p : ProgramTree) (main : List ℕ) (flat : FlatProgram) (accepted : Is
               ap τ (sym at.1) ∙ ap (λ o. τ (place_named o x.name)) (sym out.is_main),
         )
 
+  pub have_flows : IsOrdered flat → InstancesHaveFlows p main flat
+  have_flows ordered path n x here has = (
+    flow_place p out.lists main path x,
+    record { is_flow = inside path n x here has; same = λ inputs σ τ sol sol' t. same_flow inputs ordered σ τ sol sol' path n x here has t },
+  )
+
 pub agrees : AgreesLaw
 agrees p main inputs flat accepted some out ordered columns =
     record { to_flat = to_flat p main flat accepted some out inputs ordered; to_source = to_source p main flat accepted some out inputs columns }
+
+pub instances_law : InstancesLaw
+instances_law p main flat accepted some out ordered = have_flows p main flat accepted some out ordered

@@ -8,7 +8,7 @@ use Rattle.luflow.specs.declared.variable.Variable.{Variable}
 use Rattle.luflow.specs.declared.variable.Role.TheVariants as role
 use Rattle.luflow.specs.Program.{FlatProgram, Table, IsOrdered, flow_at, flows_of, places, clock_reads}
 use Rattle.lustat_rules.specs.Scope.{node_called}
-use Rattle.lusource.specs.Agreement.{Agrees}
+use Rattle.lusource.specs.Agreement.{Agrees, InstancesHaveFlows}
 use Rattle.lustat_rules.specs.Accepted.{Rule, Keeps, IsAccepted}
 use Rattle.lucore_list.specs.Layout.{AreLists, IsLaidOut}
 
@@ -27,6 +27,11 @@ abbrev pub AgreesLaw : Type 0
 AgreesLaw =
     (p : ProgramTree) (main : List ℕ) (inputs : Table) (flat : FlatProgram)
     → IsAccepted p main → DefineSomething p → IsLaidOut p main flat → IsOrdered flat → HasColumns p main inputs → Agrees p main inputs flat
+
+-- Each variable of each instance has a flow of that list, at a place that depends neither on the table nor on a solution.
+abbrev pub InstancesLaw : Type 0
+InstancesLaw =
+    (p : ProgramTree) (main : List ℕ) (flat : FlatProgram) → IsAccepted p main → DefineSomething p → IsLaidOut p main flat → IsOrdered flat → InstancesHaveFlows p main flat
 
 -- what two flat lists of a program have in common
 pub record SameList (a b : FlatProgram) : Type 0 where

@@ -4,3 +4,4 @@ pub mod Open
 pub mod Sizes
 pub mod Vectors
 pub mod Loop
+pub mod FaultLaws

@@ -1,6 +1,7 @@
 //! What holds of the definitions, as contracts of functions that do nothing.
 
-ghost use Rattle.lucore_list.specs.Laws.{AgreesLaw, OneListLaw, ListsLaw, FlatListLaw, ClosedLaw};
+ghost use Rattle.lucore_list.specs.Laws.{AgreesLaw, InstancesLaw, OneListLaw, ListsLaw, FlatListLaw, ClosedLaw};
+ghost use Rattle.lucore_list.specs.FaultLaws.{FaultsLaw, AllFaultsLaw};
 ghost use Rattle.lucore_list.specs.Loop.{LoopLaw};
 ghost use Rattle.lucore_list.specs.Open.{NodesLaw};
 ghost use Rattle.lucore_list.specs.Sizes.{SizesLaw, CountLaw};
@@ -14,6 +15,11 @@ pub fn vectors_law()
 /// The flat list of an accepted program has the solutions of its source, if its flows have an order of rank.
 pub fn agrees_law()
     ensures { AgreesLaw }
+{}
+
+/// Each variable of each instance has a flow, whose stream in the flat program's solutions is the variable's in the source's.
+pub fn instances_law()
+    ensures { InstancesLaw }
 {}
 
 /// Without such an order it may have others: where two variables are copies of each other.
@@ -54,4 +60,14 @@ pub fn sizes_law()
 /// The flat list has as many flows as are counted without making it.
 pub fn count_law()
     ensures { CountLaw }
+{}
+
+/// A fault of the flat list is a fault of the source, in the equation of the same main variable.
+pub fn faults_law()
+    ensures { FaultsLaw }
+{}
+
+/// And each fault of the source is a fault of the flat list.
+pub fn all_faults_law()
+    ensures { AllFaultsLaw }
 {}

@@ -1,1 +1,4 @@
+pub mod Instances
 pub mod Meanings
+pub mod FaultVectors
+pub mod FaultPaths

@@ -1,6 +1,11 @@
 pub mod Names
 pub mod StreamOperators
 pub mod Source
+pub mod Instances
 pub mod Agreement
 pub mod First
 pub mod Vectors
+pub mod StreamVectors
+pub mod Faults
+pub mod FaultVectors
+pub mod FaultPaths

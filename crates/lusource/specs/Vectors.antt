@@ -16,6 +16,7 @@ use Rattle.luflow.specs.Streams.{Mark, Known, Stream, base_clock}
 use Rattle.luflow.specs.Messages.{marks}
 use Rattle.luflow.specs.Vectors.{known, known_truth, three, four_samples}
 use Rattle.lusource.specs.Source.{Named, Site, condition, value, output, sites, given_streams}
+use Rattle.lusource.specs.Instances.{instance_at}
 use Rattle.lusource.specs.First.{Line, equation_of}
 
 -- node main() returns (a: int; b: int); let a = 0 -> pre b + 1; b = 0 -> pre a + 1; tel
@@ -164,6 +165,35 @@ pub record CallsAre : Type 0 where
   -- both run where c is true
   pub clocks : map (λ (site : Site). map site.base (0 ∷ 1 ∷ [])) (sites_of_nested (where_c true)) ≡ (Some true ∷ Some false ∷ []) ∷ (Some true ∷ Some false ∷ []) ∷ []
 
+-- outer calls pair(single(x)), and twice calls outer twice
+abbrev pub caller : List ℕ → List ℕ → Tree → NodeTree
+caller name left right =
+    record {
+      name = name;
+      inputs = int_on None (codes "x") ∷ [];
+      outputs = int_on None left ∷ [];
+      locals = [];
+      equations = record { left = left ∷ []; right = right } ∷ [];
+    }
+
+abbrev pub outer : NodeTree
+outer = caller (codes "outer") (codes "y") nested
+
+abbrev pub twice : NodeTree
+twice = caller (codes "twice") (codes "z") (tree.binary (Data2 Add) (call_of (codes "outer") x) (call_of (codes "outer") x))
+
+abbrev pub four_nodes : ProgramTree
+four_nodes = twice ∷ outer ∷ pair ∷ single ∷ []
+
+pub record PathsAre : Type 0 where
+  pub whole : instance_at four_nodes (codes "twice") [] ≡ Some twice
+  pub second_call : instance_at four_nodes (codes "twice") (1 ∷ []) ≡ Some outer
+  -- in it the inner call has number 0, and the outer one number 1
+  pub inner : instance_at four_nodes (codes "twice") (1 ∷ 0 ∷ []) ≡ Some single
+  pub around : instance_at four_nodes (codes "twice") (1 ∷ 1 ∷ []) ≡ Some pair
+  -- there is no third call
+  pub none : instance_at four_nodes (codes "twice") (2 ∷ []) ≡ None
+
 -- the main node is given the table's columns, and nothing after them
 pub record GivenAre : Type 0 where
   pub columns : map (λ a. marks a 5) (given_streams four_samples) ≡ (known 1 ∷ known 2 ∷ known 3 ∷ known 4 ∷ Known Absent ∷ []) ∷ (known_truth true ∷ known_truth false ∷ known_truth true ∷ known_truth true ∷ Known Absent ∷ []) ∷ []
@@ -172,4 +202,5 @@ pub record VectorsLaw : Type 0 where
   pub counters : CountersAre
   pub expressions : ExpressionsAre
   pub calls : CallsAre
+  pub paths : PathsAre
   pub given : GivenAre

@@ -2,4 +2,4 @@ use Rattle.lusource.proofs.Meanings.{one_meaning}
 use Rattle.lusource.proofs.laws.one_meaning_law.Goals as goal
 
 pub returns : goal.returns
-returns c = λ program main inputs flat ordered first agrees. one_meaning program main inputs flat ordered first agrees
+returns c = λ program main inputs flat ordered agrees flows. one_meaning program main inputs flat ordered agrees flows
