@@ -5,3 +5,4 @@ pub mod Rules
 pub mod Placement
 pub mod Lawful
 pub mod Answers
+pub mod Lines

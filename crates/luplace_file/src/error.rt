@@ -4,39 +4,52 @@ ghost use Rattle.std.specs.Prelude.{◌≡◌};
 ghost use Rattle.luplace_file.specs.declared.error.PlaceError.TheVariants.{OutOfMemory};
 
 use std::alloc::{AllocError, AllocFailed};
+use std::fmt;
 use thiserror::Error;
 
 /// Why a placement is refused. What it displays is the line that the program prints, with no line feed.
 #[derive(Clone, Copy, Debug, PartialEq, Eq, Error)]
 pub enum PlaceError {
     /// The text is no TOML, a key that stands twice among it.
-    #[error("P01 NotToml")]
     NotToml,
     /// A key that a placement doesn't have, a missing `sites`, a value of the wrong kind, or a text in `sites` that is no
     /// site name.
-    #[error("P02 BadKey")]
     BadKey,
     /// A variable is placed at a site that isn't one of `sites`.
-    #[error("P03 UnknownSite")]
     UnknownSite,
     /// What is placed is no variable of the main node.
-    #[error("P04 UnknownVariable")]
     UnknownVariable,
     /// A variable of the main node has no site.
-    #[error("P05 Unplaced")]
     Unplaced,
     /// Two of `sites` have one name.
-    #[error("P06 DuplicateSite")]
     DuplicateSite,
     /// The text is too long, or the capacity or the number of sites is out of range.
-    #[error("P07 OutOfRange")]
     OutOfRange,
     /// The variables of one call stand at different sites.
-    #[error("P08 SplitCall")]
     SplitCall,
     /// Memory ran out, which says nothing of the placement.
-    #[error("R2 OutOfMemory")]
     OutOfMemory,
+}
+
+impl fmt::Display for PlaceError {
+    ghost use Rattle.std.specs.Prelude.{Some};
+    ghost use Rattle.luplace_file.specs.Lines.{line_of};
+
+    ghost output = { λ e. Some (line_of e) };
+
+    fn fmt<W: fmt::Write>(&self, f: &mut fmt::Formatter<W>) -> fmt::Result {
+        match self {
+            PlaceError::NotToml => f.write_str("P01 NotToml"),
+            PlaceError::BadKey => f.write_str("P02 BadKey"),
+            PlaceError::UnknownSite => f.write_str("P03 UnknownSite"),
+            PlaceError::UnknownVariable => f.write_str("P04 UnknownVariable"),
+            PlaceError::Unplaced => f.write_str("P05 Unplaced"),
+            PlaceError::DuplicateSite => f.write_str("P06 DuplicateSite"),
+            PlaceError::OutOfRange => f.write_str("P07 OutOfRange"),
+            PlaceError::SplitCall => f.write_str("P08 SplitCall"),
+            PlaceError::OutOfMemory => f.write_str("R2 OutOfMemory"),
+        }
+    }
 }
 
 impl From<AllocError> for PlaceError {

@@ -26,8 +26,8 @@ replay =
     with_rule (with_rule (with_rule (with_rule (with_rule (new_app (codes "replay")) main_rule)
     (path_rule (codes "PROGRAM"))) (path_rule (codes "PLACE"))) (path_rule (codes "TABLE"))) (path_rule (codes "SCHEDULE"))
 
--- `lusdist` and one of its commands
+-- `lusdist` and one of its commands, or `lusdist --version`
 abbrev pub lusdist : App
 lusdist =
-    with_subcommand (with_subcommand (with_subcommand (on_top (λ top. record top { subcommand_required = true }) (new_app (codes "lusdist")))
-    check.top) eval.top) replay.top
+    let top = on_top (λ top. record top { has_version = true; subcommand_required = true }) (new_app (codes "lusdist")) in
+    with_subcommand (with_subcommand (with_subcommand top check.top) eval.top) replay.top

@@ -2,3 +2,5 @@ pub mod Schedule
 pub mod ScheduleText
 pub mod CommandLine
 pub mod Request
+pub mod Sinks
+pub mod Lines

@@ -1,12 +1,23 @@
 //! The commands and their arguments.
 
-ghost use Rattle.std.specs.Prelude.{◌≡◌, IfOk, false};
+ghost use Rattle.std.specs.Prelude.{◌≡◌, IfOk, false, codes};
 ghost use Rattle.clap.specs.Words.{rule_of, app_of};
+ghost use Rattle.clap.specs.Simple.{new_app};
 ghost use Rattle.clap.specs.declared.builder.command.Command.TheViews.{out-Command};
 ghost use Rattle.lusdist_shell.specs.CommandLine.{path_rule, main_rule, check, eval, replay, lusdist};
 
 use clap::{Arg, ArgAction, Command};
 use std::alloc::{AllocError, Global};
+
+/// The version that `--version` prints.
+const VERSION: &str = "0.1.0";
+
+/// What the exit statuses mean, which stands at the end of each help.
+const STATUSES: &str = "Exit status:
+  0  the answer is printed; where a site of a replay faulted, the answer says so
+  1  a text is refused
+  2  a mistake on the command line, or a file that can't be read
+  3  a fault of an evaluation, memory ran out, or the output can't be written";
 
 /// A path that must be given.
 fn path<'a>(alloc: Global, name: &'a str, help: &'a str) -> Arg<'a>
@@ -19,6 +30,50 @@ fn path<'a>(alloc: Global, name: &'a str, help: &'a str) -> Arg<'a>
         .help(help)
 }
 
+/// The path of the program.
+fn program<'a>(alloc: Global) -> Arg<'a>
+    ensures rule { rule_of result ≡ path_rule (codes "PROGRAM") }
+    ensures local { result.global ≡ false }
+{
+    path(alloc, "PROGRAM", "The program, in Lustre")
+}
+
+/// The path of the table.
+fn table<'a>(alloc: Global) -> Arg<'a>
+    ensures rule { rule_of result ≡ path_rule (codes "TABLE") }
+    ensures local { result.global ≡ false }
+{
+    path(
+        alloc,
+        "TABLE",
+        "The table of inputs, in CSV: a line of their names, and a line for each instant",
+    )
+}
+
+/// The path of the placement.
+fn place<'a>(alloc: Global) -> Arg<'a>
+    ensures rule { rule_of result ≡ path_rule (codes "PLACE") }
+    ensures local { result.global ≡ false }
+{
+    path(
+        alloc,
+        "PLACE",
+        "The placement, in TOML: the sites, how much a link holds, and each variable's site",
+    )
+}
+
+/// The path of the schedule.
+fn schedule<'a>(alloc: Global) -> Arg<'a>
+    ensures rule { rule_of result ≡ path_rule (codes "SCHEDULE") }
+    ensures local { result.global ≡ false }
+{
+    path(
+        alloc,
+        "SCHEDULE",
+        "The turns in their order: 0 to 9 and a to f stand for the sites 0 to 15",
+    )
+}
+
 /// The name of the main node.
 fn main_name<'a>(alloc: Global) -> Arg<'a>
     ensures rule { rule_of result ≡ main_rule }
@@ -28,54 +83,68 @@ fn main_name<'a>(alloc: Global) -> Arg<'a>
         .long("main")
         .value_name("NAME")
         .default_value("main")
-        .help("The main node")
+        .help("The name of the main node")
+}
+
+/// A command with no arguments yet.
+fn named<'a>(alloc: Global, name: &'a str, about: &'a str) -> Command<'a>
+    ensures app { app_of result ≡ new_app name.entry.now }
+    ensures local { (out-Command result).has_globals ≡ false }
+{
+    Command::new(alloc, name).about(about).after_help(STATUSES)
 }
 
 fn check<'a>(alloc: Global) -> Result<Command<'a>, AllocError>
     ensures app { IfOk result (λ c. app_of c ≡ check) }
     ensures local { IfOk result (λ c. (out-Command c).has_globals ≡ false) }
 {
-    Command::new(alloc, "check")
-        .about("Reads a program and prints its canonical text")
+    let about = "Judges a program by all rules and prints its canonical text";
+    named(alloc, "check", about)
         .arg(main_name(alloc))?
-        .arg(path(alloc, "PROGRAM", "The file of the program"))
+        .arg(program(alloc))
 }
 
 fn eval<'a>(alloc: Global) -> Result<Command<'a>, AllocError>
     ensures app { IfOk result (λ c. app_of c ≡ eval) }
     ensures local { IfOk result (λ c. (out-Command c).has_globals ≡ false) }
 {
-    Command::new(alloc, "eval")
-        .about("Evaluates a program and prints the table of its outputs")
+    let about = "Evaluates a program at a table of inputs and prints the table of its outputs";
+    named(alloc, "eval", about)
         .arg(main_name(alloc))?
-        .arg(path(alloc, "PROGRAM", "The file of the program"))?
-        .arg(path(alloc, "TABLE", "The file of the input table"))
+        .arg(program(alloc))?
+        .arg(table(alloc))
 }
 
 fn replay<'a>(alloc: Global) -> Result<Command<'a>, AllocError>
     ensures app { IfOk result (λ c. app_of c ≡ replay) }
     ensures local { IfOk result (λ c. (out-Command c).has_globals ≡ false) }
 {
-    Command::new(alloc, "replay")
-        .about("Replays a distributed run, turn by turn")
+    let about =
+        "Runs a program at several sites, turn by turn, and prints links, sites and outputs";
+    named(alloc, "replay", about)
         .arg(main_name(alloc))?
-        .arg(path(alloc, "PROGRAM", "The file of the program"))?
-        .arg(path(alloc, "PLACE", "The file of the placement"))?
-        .arg(path(alloc, "TABLE", "The file of the input table"))?
-        .arg(path(alloc, "SCHEDULE", "The file of the schedule"))
+        .arg(program(alloc))?
+        .arg(place(alloc))?
+        .arg(table(alloc))?
+        .arg(schedule(alloc))
 }
 
-/// The whole command line.
+/// The whole command line. Help calls the program `lusdist`, whatever its file is called.
 pub fn lusdist<'a>(alloc: Global) -> Result<Command<'a>, AllocError>
     ensures { IfOk result (λ c. app_of c ≡ lusdist) }
 {
     let check = check(alloc)?;
     let eval = eval(alloc)?;
     let replay = replay(alloc)?;
-    Command::new(alloc, "lusdist")
-        .about("Spreads one Lustre program over several sites")
-        .subcommand_required(true)
-        .subcommand(check)?
-        .subcommand(eval)?
-        .subcommand(replay)
+    named(
+        alloc,
+        "lusdist",
+        "Spreads one Lustre program over several sites",
+    )
+    .bin_name("lusdist")?
+    .version(VERSION)
+    .subcommand_required(true)
+    .subcommand(check)?
+    .subcommand(eval)?
+    .subcommand(replay)
 }

@@ -4,7 +4,8 @@
 //! - [`Files`] is where texts come from: [`RealFiles`], or files in memory.
 //! - [`text_of`] sees bytes as text, where they are text.
 //! - [`read_schedule`] reads whose turn it is, turn by turn.
-//! - [`put_out`] and [`put_error_line`] write to the output and to the error stream.
+//! - A [`Sink`] is a stream that remembers whether a write has failed; [`put_out`] writes to the output, and [`put_unread`]
+//!   tells why there are no words.
 #![tactic(auto)]
 
 mod command;
@@ -12,10 +13,12 @@ mod files;
 mod put;
 mod request;
 mod schedule;
+mod sink;
 mod text;
 
 pub use files::{Files, ReadError, RealFiles};
-pub use put::{put_error_line, put_mistake, put_out};
+pub use put::{put_mistake, put_out, put_unread};
 pub use request::{CheckRequest, EvalRequest, ReplayRequest, Request, parse};
 pub use schedule::{ScheduleError, read_schedule};
+pub use sink::Sink;
 pub use text::text_of;

@@ -1,46 +1,73 @@
 //! Writing to the output and to the error stream.
 
-ghost use Rattle.std.specs.Prelude.{◌≡◌, ◌≢◌, ◌⊎◌, ◌∷◌, [], ◌++◌, IfSome};
-ghost use Rattle.std.specs.Bool.{OnTrue};
+ghost use Rattle.std.specs.Prelude.{◌≡◌, ◌≢◌, ◌⊎◌, false, true, codes};
 ghost use Rattle.std.specs.Io.KnownBytes.{Appends};
 ghost use Rattle.clap.specs.Words.{kind_of};
 ghost use Rattle.clap.specs.declared.error.kind.ErrorKind.TheVariants.{OutOfMemory, DisplayHelp, DisplayVersion};
+ghost use Rattle.std.specs.declared.io.ErrorKind.TheVariants.{OutOfMemory as NoMemory};
+ghost use Rattle.lusdist_shell.specs.Sinks.{HasLine, HasBeginning};
 
+use crate::sink::Sink;
 use clap::error::ErrorKind;
-use std::fmt::Display;
+use std::io;
 use std::io::Write;
 
-/// Writes the bytes to the output, and answers the program's status: 0, or 3 where they can't be written, which the error
-/// stream then tells.
-pub fn put_out<W: Write, V: Write>(out: &mut W, err: &mut V, bytes: &[u8]) -> u8
-    ensures status { (result ≡ 0) ⊎ (result ≡ 3) }
-    ensures written { result ≡ 0 → Appends (W.contents out.old) (W.contents out.new) bytes.now }
-    ensures silent { result ≡ 0 → err.new ≡ err.old }
+/// The status of what was written to the output: 0, or 3 where it couldn't be written, which the error stream then tells.
+fn written<W: Write, V: Write>(out: &Sink<W>, err: &mut Sink<V>) -> u8
+    ensures status { (result ≡ 0) ⊎ ((result ≡ 3) × (out.now.failed ≡ true)) }
+    ensures silent { result ≡ 0 → (err.new ≡ err.old) × (out.now.failed ≡ false) }
+    ensures line { result ≡ 3 → HasLine V.contents err.old err.new (codes "F02 CannotWrite") }
 {
-    match out.write_all(bytes) {
-        Ok(()) => 0,
-        Err(_) => {
-            put_error_line(err, "F02 CannotWrite");
-            3
-        }
+    if out.failed() {
+        err.put_line("F02 CannotWrite");
+        3
+    } else {
+        0
     }
 }
 
-/// Writes one line to the error stream: what the error displays, and a line feed. Answers whether it was written. There is
-/// nobody left to tell where it wasn't, so a caller may drop the answer.
-pub fn put_error_line<V: Write, E: Display + Drop>(err: &mut V, error: E) -> bool
-    ensures { OnTrue result (IfSome (E.output error) (λ line. Appends (V.contents err.old)
-        (V.contents err.new) (line ++ 10 ∷ []))) }
+/// Writes the bytes to the output, and answers the program's status: 0, or 3 where they can't be written, which the error
+/// stream then tells.
+pub fn put_out<W: Write, V: Write>(out: &mut Sink<W>, err: &mut Sink<V>, bytes: &[u8]) -> u8
+    ensures status { (result ≡ 0) ⊎ ((result ≡ 3) × (out.new.failed ≡ true)) }
+    ensures written { result ≡ 0 → Appends (W.contents out.old.writer)
+        (W.contents out.new.writer) bytes.now }
+    ensures silent { result ≡ 0 → err.new ≡ err.old }
+    ensures beginning { HasBeginning W.contents out.old out.new bytes.now }
+    ensures line { result ≡ 3 → HasLine V.contents err.old err.new (codes "F02 CannotWrite") }
 {
-    writeln!(err, "{error}").is_ok()
+    out.put(bytes);
+    written(out, err)
+}
+
+/// Tells on the error stream why the words of the command line can't be read, and answers the program's status: 3 for want
+/// of memory, and else 2, since a word is no text.
+pub fn put_unread<V: Write>(err: &mut Sink<V>, why: io::ErrorKind) -> u8
+    ensures memory { why ≡ NoMemory → (result ≡ 3)
+        × HasLine V.contents err.old err.new (codes "R2 OutOfMemory") }
+    ensures other { why ≢ NoMemory → (result ≡ 2) × HasLine V.contents err.old err.new
+        (codes "error: invalid UTF-8 was detected in one or more arguments") }
+{
+    if why == io::ErrorKind::OutOfMemory {
+        err.put_line("R2 OutOfMemory");
+        return 3;
+    }
+    err.put_line("error: invalid UTF-8 was detected in one or more arguments");
+    2
 }
 
 /// Shows what the parser of the command line says: help on the output with status 0, a mistake on the error stream with
 /// status 2, and want of memory with status 3.
-pub fn put_mistake<W: Write, V: Write>(out: &mut W, err: &mut V, mistake: &clap::Error) -> u8
-    ensures memory { kind_of mistake.now ≡ OutOfMemory → result ≡ 3 }
+pub fn put_mistake<W: Write, V: Write>(
+    out: &mut Sink<W>,
+    err: &mut Sink<V>,
+    mistake: &clap::Error,
+) -> u8
+    ensures memory { kind_of mistake.now ≡ OutOfMemory → (result ≡ 3) × (out.new ≡ out.old)
+        × HasLine V.contents err.old err.new (codes "R2 OutOfMemory") }
     ensures help { (kind_of mistake.now ≡ DisplayHelp) ⊎ (kind_of mistake.now ≡ DisplayVersion)
-        → (result ≡ 0) ⊎ (result ≡ 3) }
+        → (result ≡ 0) ⊎ ((result ≡ 3) × (out.new.failed ≡ true)
+        × HasLine V.contents err.old err.new (codes "F02 CannotWrite")) }
     ensures other { kind_of mistake.now ≢ OutOfMemory → kind_of mistake.now ≢ DisplayHelp
         → kind_of mistake.now ≢ DisplayVersion → result ≡ 2 }
     ensures kept { kind_of mistake.now ≢ DisplayHelp → kind_of mistake.now ≢ DisplayVersion
@@ -48,18 +75,13 @@ pub fn put_mistake<W: Write, V: Write>(out: &mut W, err: &mut V, mistake: &clap:
     ensures silent { result ≡ 0 → err.new ≡ err.old }
 {
     if mistake.kind() == ErrorKind::OutOfMemory {
-        put_error_line(err, "R2 OutOfMemory");
+        err.put_line("R2 OutOfMemory");
         return 3;
     }
     if mistake.use_stderr() {
-        let _ = write!(err, "{mistake}");
+        err.put_text(mistake);
         return 2;
     }
-    match write!(out, "{mistake}") {
-        Ok(()) => 0,
-        Err(_) => {
-            put_error_line(err, "F02 CannotWrite");
-            3
-        }
-    }
+    out.put_text(mistake);
+    written(out, err)
 }

@@ -7,20 +7,33 @@ ghost use Rattle.lusdist_shell.specs.ScheduleText.{schedule_of};
 
 use lulimits::limits::LONGEST_SCHEDULE;
 use std::alloc::Global;
+use std::fmt;
 use thiserror::Error;
 
 /// Why a schedule is refused. What it displays is the line that the program prints, with no line feed.
 #[derive(Clone, Copy, Debug, PartialEq, Eq, Error)]
 pub enum ScheduleError {
     /// The byte at this place, counted from 0, is no turn, no space and no line feed.
-    #[error("S01 BadSchedule at {byte}")]
     BadSchedule { byte: usize },
     /// The text has more than 67,108,864 bytes.
-    #[error("S02 LongSchedule")]
     LongSchedule,
     /// Memory ran out, which says nothing of the schedule.
-    #[error("R2 OutOfMemory")]
     OutOfMemory,
+}
+
+impl fmt::Display for ScheduleError {
+    ghost use Rattle.std.specs.Prelude.{Some};
+    ghost use Rattle.lusdist_shell.specs.Lines.{line_of};
+
+    ghost output = { λ e. Some (line_of e) };
+
+    fn fmt<W: fmt::Write>(&self, f: &mut fmt::Formatter<W>) -> fmt::Result {
+        match self {
+            ScheduleError::BadSchedule { byte } => write!(f, "S01 BadSchedule at {byte}"),
+            ScheduleError::LongSchedule => f.write_str("S02 LongSchedule"),
+            ScheduleError::OutOfMemory => f.write_str("R2 OutOfMemory"),
+        }
+    }
 }
 
 /// The site whose turn a letter is: `0` to `9` and `a` to `f` stand for the sites 0 to 15.

@@ -8,3 +8,4 @@ pub mod Once
 pub mod Calling
 pub mod Rounds
 pub mod Judging
+pub mod Classed

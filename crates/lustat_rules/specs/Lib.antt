@@ -8,3 +8,5 @@ pub mod Vectors
 pub mod Chains
 pub mod Told
 pub mod Faults
+pub mod Lines
+pub mod ClassVectors

@@ -5,6 +5,7 @@ ghost use Rattle.lustat_rules.specs.declared.error.StatError.TheVariants.{OutOfM
 ghost use Rattle.lustat_rules.specs.Told.{byte_of, number_of};
 
 use std::alloc::{AllocError, AllocFailed};
+use std::fmt;
 use thiserror::Error;
 
 /// Why the static checks refuse a program. What it displays is the line that the program prints. A byte is a place in the
@@ -12,54 +13,66 @@ use thiserror::Error;
 #[derive(Clone, Copy, Debug, PartialEq, Eq, Error)]
 pub enum StatError {
     /// Two nodes, or two variables of a node, have one name. Told at the later name.
-    #[error("E10 DuplicateName at {byte}")]
     DuplicateName { byte: usize },
     /// A name is no variable of the node. Told at the equation, or at the variable whose clock it is.
-    #[error("E11 UnknownName at {byte}")]
     UnknownName { byte: usize },
     /// A call is of no node. Told at the equation.
-    #[error("E12 UnknownNode at {byte}")]
     UnknownNode { byte: usize },
     /// An equation whose names, calls and arities are in order is ill typed. Told at the equation.
-    #[error("E13 TypeMismatch at {byte}")]
     TypeMismatch { byte: usize },
     /// A call has another number of arguments, or of outputs, than it needs. Told at the equation.
-    #[error("E14 WrongArity at {byte}")]
     WrongArity { byte: usize },
     /// An output or a local has no equation. Told at its declaration.
-    #[error("E15 Undefined at {byte}")]
     Undefined { byte: usize },
     /// An equation defines a variable that another one defines, one twice, or an input. Told at the later equation.
-    #[error("E16 DefinedTwice at {byte}")]
     DefinedTwice { byte: usize },
     /// A node reaches itself by calls. Told at its name.
-    #[error("E17 RecursiveNode at {byte}")]
     RecursiveNode { byte: usize },
     /// No node has the name of the main node.
-    #[error("E18 NoMain at 0")]
     NoMain,
     /// A right side doesn't fit the clock of what it defines. Told at the equation.
-    #[error("E20 ClockMismatch at {byte}")]
     ClockMismatch { byte: usize },
     /// A clock is named by no bool, or its chain of clocks doesn't end. Told at the equation or the declaration.
-    #[error("E21 NotAClock at {byte}")]
     NotAClock { byte: usize },
     /// A parameter has a clock where it may have none. Told at its declaration, or at the equation that calls.
-    #[error("E22 ClockedParameter at {byte}")]
     ClockedParameter { byte: usize },
     /// An output of the main node has a clock that a local names. Told at its declaration.
-    #[error("E23 HiddenClock at {byte}")]
     HiddenClock { byte: usize },
     /// A value may be missing where it is needed. Told at the equation with the operand that may be missing, or that defines the
     /// output or the variable that a clock names.
-    #[error("E30 MaybeNil at {byte}")]
     MaybeNil { byte: usize },
     /// `current` of a variable whose clock may be false at first. Told at the equation.
-    #[error("E31 CurrentMayBeNil at {byte}")]
     CurrentMayBeNil { byte: usize },
     /// Memory ran out, which says nothing of the program.
-    #[error("R2 OutOfMemory")]
     OutOfMemory,
+}
+
+impl fmt::Display for StatError {
+    ghost use Rattle.std.specs.Prelude.{Some};
+    ghost use Rattle.lustat_rules.specs.Lines.{line_of};
+
+    ghost output = { λ e. Some (line_of e) };
+
+    fn fmt<W: fmt::Write>(&self, f: &mut fmt::Formatter<W>) -> fmt::Result {
+        match self {
+            StatError::DuplicateName { byte } => write!(f, "E10 DuplicateName at {byte}"),
+            StatError::UnknownName { byte } => write!(f, "E11 UnknownName at {byte}"),
+            StatError::UnknownNode { byte } => write!(f, "E12 UnknownNode at {byte}"),
+            StatError::TypeMismatch { byte } => write!(f, "E13 TypeMismatch at {byte}"),
+            StatError::WrongArity { byte } => write!(f, "E14 WrongArity at {byte}"),
+            StatError::Undefined { byte } => write!(f, "E15 Undefined at {byte}"),
+            StatError::DefinedTwice { byte } => write!(f, "E16 DefinedTwice at {byte}"),
+            StatError::RecursiveNode { byte } => write!(f, "E17 RecursiveNode at {byte}"),
+            StatError::NoMain => f.write_str("E18 NoMain at 0"),
+            StatError::ClockMismatch { byte } => write!(f, "E20 ClockMismatch at {byte}"),
+            StatError::NotAClock { byte } => write!(f, "E21 NotAClock at {byte}"),
+            StatError::ClockedParameter { byte } => write!(f, "E22 ClockedParameter at {byte}"),
+            StatError::HiddenClock { byte } => write!(f, "E23 HiddenClock at {byte}"),
+            StatError::MaybeNil { byte } => write!(f, "E30 MaybeNil at {byte}"),
+            StatError::CurrentMayBeNil { byte } => write!(f, "E31 CurrentMayBeNil at {byte}"),
+            StatError::OutOfMemory => f.write_str("R2 OutOfMemory"),
+        }
+    }
 }
 
 impl StatError {

@@ -2,6 +2,7 @@
 
 ghost use Rattle.lustat_rules.specs.Accepted.{BreaksIsNotKept};
 ghost use Rattle.lustat_rules.specs.Chains.{FollowedVectors, NeededVectors, ClockChainVectors, CallVectors};
+ghost use Rattle.lustat_rules.specs.ClassVectors.{ClassVectors, BeginningVectors};
 ghost use Rattle.lustat_rules.specs.Classes.{LeastDecides};
 ghost use Rattle.lustat_rules.specs.Clocks.{FitsLaw};
 ghost use Rattle.lustat_rules.specs.Naming.{CallOrderLaw, DefinedOnceLaw};
@@ -85,4 +86,15 @@ pub fn clock_chain_vectors_law()
 /// Calls through two nodes, and orders of calls.
 pub fn call_vectors_law()
     ensures { CallVectors }
+{}
+
+/// The class of each form, where class 0 is needed and where it isn't, and which variables stand after `when`, `merge` and
+/// `current`.
+pub fn class_vectors_law()
+    ensures { ClassVectors }
+{}
+
+/// Which outputs may be nil, and how the variable of a clock has to begin for `current`.
+pub fn beginning_vectors_law()
+    ensures { BeginningVectors }
 {}

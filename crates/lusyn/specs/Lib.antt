@@ -1,3 +1,5 @@
 pub mod Gives
 pub mod Refusals
 pub mod Texts
+pub mod Lines
+pub mod Laws

@@ -3,6 +3,7 @@
 use lusyn_lexer::LexError;
 use lusyn_parser::ParseError;
 use std::alloc::{AllocError, AllocFailed};
+use std::fmt;
 use thiserror::Error;
 
 /// Why a text is refused. Its text is the line that the program prints.
@@ -10,24 +11,36 @@ use thiserror::Error;
 pub enum SynError {
     /// The text spells no program. The byte is one that begins no token, or the first one of the first token with which
     /// no program goes on, or the text's length where it ends too early.
-    #[error("E01 Syntax at {byte}")]
     Syntax { byte: usize },
     /// The number at this byte is above 9223372036854775807.
-    #[error("E02 NumberTooLarge at {byte}")]
     NumberTooLarge { byte: usize },
     /// A byte is above 127.
-    #[error("E03 NotAscii")]
     NotAscii,
     /// The text has more than 1,048,576 bytes, or its program has more than 256 nodes.
-    #[error("E04 TooLong")]
     TooLong,
     /// The token at this byte is the first one with 1,000 others of its run before it. A run's tokens are those before
     /// the first `;`, those between two, and those after the last.
-    #[error("E05 LongRun at {byte}")]
     LongRun { byte: usize },
     /// Memory ran out.
-    #[error("R2 OutOfMemory")]
     OutOfMemory,
+}
+
+impl fmt::Display for SynError {
+    ghost use Rattle.std.specs.Prelude.{Some};
+    ghost use Rattle.lusyn.specs.Lines.{line_of};
+
+    ghost output = { λ e. Some (line_of e) };
+
+    fn fmt<W: fmt::Write>(&self, f: &mut fmt::Formatter<W>) -> fmt::Result {
+        match self {
+            SynError::Syntax { byte } => write!(f, "E01 Syntax at {byte}"),
+            SynError::NumberTooLarge { byte } => write!(f, "E02 NumberTooLarge at {byte}"),
+            SynError::NotAscii => f.write_str("E03 NotAscii"),
+            SynError::TooLong => f.write_str("E04 TooLong"),
+            SynError::LongRun { byte } => write!(f, "E05 LongRun at {byte}"),
+            SynError::OutOfMemory => f.write_str("R2 OutOfMemory"),
+        }
+    }
 }
 
 impl From<AllocError> for SynError {

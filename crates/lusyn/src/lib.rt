@@ -9,12 +9,14 @@
 //! - `text`: from a text to the tree.
 //! - `print`: from a tree to its canonical text.
 //! - `error`: why a text is refused.
+//! - [`laws`]: a text spells one program at most, and isn't refused where it spells one.
 //!
 //! What a text has to be is said in `specs/`: `Texts.antt` which program a text spells, and `Refusals.antt` which refusal is
 //! true of a text that spells none.
 #![tactic(auto)]
 
 mod error;
+pub mod laws;
 mod print;
 mod text;
 

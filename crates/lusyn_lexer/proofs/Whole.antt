@@ -39,7 +39,7 @@ answer-is text l plain e = let P : Lexed → Type 0 = IsAnswer text in subst P e
 pub lexed-whole : (text : List ℕ) (ts : List Placed) → IsLexed text ts → whole text ≡ Ok ts
 lexed-whole text ts (plain, has, runs) = ap limited (has-lex text ts has) ∙ ap (λ (o : Option ℕ). short o (Ok ts)) (short-count ts runs)
 
-refused-whole : (text : List ℕ) (e : LexError) → IsPlain text → IsRefused text e → whole text ≡ Err e
+pub refused-whole : (text : List ℕ) (e : LexError) → IsPlain text → IsRefused text e → whole text ≡ Err e
 refused-whole text errors.TooLong plain h = absurd (omega (arith, plain.0, h))
 refused-whole text errors.NotAscii plain h = let below = plain.1 h.1.0 in absurd (omega (arith, below, h.1.1))
 refused-whole text (errors.NoToken byte) plain h = ap limited (no_token-lex text byte h.1)

@@ -64,7 +64,7 @@ no_stop_in inputs text table line rest is at none =
     let e = append_cancel_left (header_text inputs) _ _ (sym at.before ∙ spelled_in inputs table text is) in
     no_stop (kinds_of inputs) at.rows (rows_of table.columns table.instants) rest at.each (rows_in inputs table text is) none at.some e
 
-not_refused : (inputs : List Variable) (text : List ℕ) (table : Table) (e : TabError) → IsTextOf inputs table text → is_too_long text ≡ false → IsRefused inputs text e → ⊥
+pub not_refused : (inputs : List Variable) (text : List ℕ) (table : Table) (e : TabError) → IsTextOf inputs table text → is_too_long text ≡ false → IsRefused inputs text e → ⊥
 not_refused inputs text table TooLong is short r = both_ways _ r short
 not_refused inputs text table BadHeader is short r = r.1 (flat_map row_text (rows_of table.columns table.instants)) (spelled_in inputs table text is)
 not_refused inputs text table (BadRow n) is short r = no_stop_in inputs text table n r.0 is r.1 (no_row inputs r.0 r.2)
@@ -73,7 +73,7 @@ not_refused inputs text table OutOfMemory is short r = r
 
 -- ---- what the answer of reading says
 
-memory_or : (e : TabError) → (e ≡ OutOfMemory) ⊎ (e ≢ OutOfMemory)
+pub memory_or : (e : TabError) → (e ≡ OutOfMemory) ⊎ (e ≢ OutOfMemory)
 memory_or TooLong = inr (λ h. cc)
 memory_or BadHeader = inr (λ h. cc)
 memory_or (BadRow n) = inr (λ h. cc)
@@ -83,6 +83,10 @@ memory_or OutOfMemory = inl refl
 pub spells : (inputs : List Variable) (text : List ℕ) (r : Result Table TabError) → ReadsText inputs text r → IfOk r (λ table. IsTextOf inputs table text)
 spells inputs text (Ok table) h = h.1
 spells inputs text (Err e) h = tt
+
+pub is_short : (inputs : List Variable) (text : List ℕ) (r : Result Table TabError) → ReadsText inputs text r → IfOk r (λ _. is_too_long text ≡ false)
+is_short inputs text (Ok table) h = h.0
+is_short inputs text (Err e) h = tt
 
 pub tells : (inputs : List Variable) (text : List ℕ) (r : Result Table TabError) → ReadsText inputs text r → IfErr r (λ e. e ≢ OutOfMemory → IsRefused inputs text e)
 tells inputs text (Ok table) h = tt

@@ -3,3 +3,4 @@ pub mod Reading
 pub mod Table
 pub mod Filling
 pub mod Outputs
+pub mod Lines

@@ -5,26 +5,39 @@ ghost use Rattle.lutab.specs.declared.error.TabError.TheVariants as table;
 ghost use Rattle.lutab.specs.declared.error.LineError.TheVariants as lines;
 
 use std::alloc::{AllocError, AllocFailed};
+use std::fmt;
 use thiserror::Error;
 
 /// Why a table is refused. What it displays is the line that the program prints, with no line feed.
 #[derive(Clone, Copy, Debug, PartialEq, Eq, Error)]
 pub enum TabError {
     /// Line 1 isn't the header, or has no line feed at its end.
-    #[error("T01 BadHeader")]
     BadHeader,
     /// This line, counted from 1, has another number of fields, or has no line feed at its end.
-    #[error("T02 BadRow line {line}")]
     BadRow { line: usize },
     /// A field of this line, counted from 1, is no value of its type.
-    #[error("T03 BadValue line {line}")]
     BadValue { line: usize },
     /// The text has more than 67,108,864 bytes, or more than 1,000,001 line feeds.
-    #[error("T04 TooLong")]
     TooLong,
     /// Memory ran out, which says nothing of the table.
-    #[error("R2 OutOfMemory")]
     OutOfMemory,
+}
+
+impl fmt::Display for TabError {
+    ghost use Rattle.std.specs.Prelude.{Some};
+    ghost use Rattle.lutab.specs.Lines.{line_of};
+
+    ghost output = { λ e. Some (line_of e) };
+
+    fn fmt<W: fmt::Write>(&self, f: &mut fmt::Formatter<W>) -> fmt::Result {
+        match self {
+            TabError::BadHeader => f.write_str("T01 BadHeader"),
+            TabError::BadRow { line } => write!(f, "T02 BadRow line {line}"),
+            TabError::BadValue { line } => write!(f, "T03 BadValue line {line}"),
+            TabError::TooLong => f.write_str("T04 TooLong"),
+            TabError::OutOfMemory => f.write_str("R2 OutOfMemory"),
+        }
+    }
 }
 
 impl From<AllocError> for TabError {

@@ -132,6 +132,8 @@ pub fn read_inputs(alloc: Global, flat: &Flat, text: &str) -> Result<Inputs, Tab
     // What is read is the table that the text spells.
     ensures spelled { IfOk result (λ table. IsTextOf (inputs_of flat.now.variables) table
         text.now) }
+    // A text that is read isn't too long.
+    ensures short { IfOk result (λ _. is_too_long text.now ≡ false) }
     // Each text that spells a table and isn't too long is read, and spells no other.
     ensures only { (table : Table) → IsTextOf (inputs_of flat.now.variables) table text.now
         → is_too_long text.now ≡ false → Answers result (Ok table) }

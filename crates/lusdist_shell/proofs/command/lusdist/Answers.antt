@@ -5,8 +5,9 @@ use Rattle.lusdist_shell.proofs.command.lusdist.Goals as goal
 
 pub returns : goal.returns
 returns c =
-    let new = ap app_of_fields c.about.ensures ∙ c.new.ensures.app in
-    let base = ap app_of_fields c.subcommand_required.ensures ∙ ap (on_top (λ top. record top { subcommand_required = true })) new in
+    let new = ap app_of_fields c.in_ok-bin_name.ensures.0 ∙ c.named.ensures.app in
+    let version = ap app_of_fields c.version.ensures ∙ ap (on_top (λ top. record top { has_version = true })) new in
+    let base = ap app_of_fields c.subcommand_required.ensures ∙ ap (on_top (λ top. record top { subcommand_required = true })) version in
     let top : App → _ = λ a. a.top in
     let one = c.in_ok-subcommand.ensures.shape c.in_ok-check.ensures.local ∙ ap₂ with_subcommand base (ap top c.in_ok-check.ensures.app) in
     let two = c.in_ok-subcommand-2.ensures.shape c.in_ok-eval.ensures.local ∙ ap₂ with_subcommand one (ap top c.in_ok-eval.ensures.app) in
