@@ -3,17 +3,21 @@
 #![tactic(auto)]
 
 use lusdist_commands::serve_words;
-use lusdist_shell::RealFiles;
+use lusdist_shell::{RealFiles, Sink, put_unread};
 use std::process::ExitCode;
 use std::{env, io};
 
-fn main(rt: HostRuntime) -> io::Result<ExitCode> {
-    let mut words = Vec::new(rt.alloc());
-    for word in env::args(&rt)? {
-        words.push(word)?;
-    }
-    let mut out = rt.stdout();
-    let mut err = rt.stderr();
-    let status = serve_words(rt.alloc(), &words, &RealFiles::new(&rt), &mut out, &mut err);
-    Ok(ExitCode::from(status))
+/// The words of the command line, the program's own name first.
+fn words_of(rt: &HostRuntime) -> io::Result<Vec<String>> {
+    Ok(env::args(rt)?.collect(rt.alloc())?)
+}
+
+fn main(rt: HostRuntime) -> ExitCode {
+    let mut out = Sink::new(rt.stdout());
+    let mut err = Sink::new(rt.stderr());
+    let status = match words_of(&rt) {
+        Ok(words) => serve_words(rt.alloc(), &words, &RealFiles::new(&rt), &mut out, &mut err),
+        Err(e) => put_unread(&mut err, e.kind()),
+    };
+    ExitCode::from(status)
 }

@@ -4,3 +4,7 @@ pub mod AskedFor
 pub mod Texts
 pub mod HasOutputs
 pub mod Outcomes
+pub mod Tellings
+pub mod Replays
+pub mod Exclusive
+pub mod Ends

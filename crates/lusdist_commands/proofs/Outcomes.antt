@@ -1,10 +1,15 @@
 -- What an evaluation gives, in the words of the source.
-use Rattle.std.proofs.Common.{◌≡◌, ℕ, List, [], map, refl, sym, ap, ◌∙◌}
-use Rattle.std.specs.Prelude.{slice_get}
+use Rattle.std.proofs.Common.{◌≡◌, ℕ, false, List, [], map, refl, sym, ap, ◌∙◌, subst}
+use Rattle.std.specs.Prelude.{slice_get, IsUtf8}
 use Rattle.lutree.specs.Tree.{ProgramTree}
 use Rattle.luflow.specs.declared.data.Status.{Status}
 use Rattle.luflow.specs.Program.{FlatProgram, Table}
+use Rattle.luflow.specs.declared.form.FaultKind.{FaultKind}
 use Rattle.luflow.specs.Messages.{marks}
+use Rattle.luflow.specs.Solution.{solution}
+use Rattle.luflow.proofs.Solutions.{IsSolution-solution}
+use Rattle.lusource.specs.Source.{SourceStreams, IsSourceSolution}
+use Rattle.lusource.specs.Faults.{IsSourceFault}
 use Rattle.luflow.specs.Tables.{OutputColumn, Fits}
 use Rattle.luflow.specs.Variables.{inputs_of}
 use Rattle.lusyn.specs.Texts.{SpellsText}
@@ -12,11 +17,11 @@ use Rattle.lucore.specs.Result.{IsFlatOf}
 use Rattle.lueval.specs.Whole.{AreStreams, AreMeant, HasNoFault}
 use Rattle.lueval.specs.Outputs.{outputs_in}
 use Rattle.lueval.proofs.Told.{Pairs, names, stream_at}
-use Rattle.lutab.specs.Table.{IsTextOf}
+use Rattle.lutab.specs.Table.{IsTextOf, is_too_long}
 use Rattle.lusdist_shell.specs.declared.request.EvalRequest.{EvalRequest}
 use Rattle.lusdist_commands.specs.declared.stop.Stop.{Stop}
 use Rattle.lusdist_commands.specs.declared.stop.Stop.TheVariants.{CannotRead, NotAscii, Syntax, Rules, NotYet, Flat, Place, Table as BadTable, Schedule, Fault, OutOfMemory}
-use Rattle.lusdist_commands.specs.Evaluated.{AreEvaluated, AreOutputsOf, IsPosed, IsPosedBy, IsStopped}
+use Rattle.lusdist_commands.specs.Evaluated.{AreEvaluated, AreOutputsOf, IsPosed, IsPosedBy, IsStopped, IsFaultTold}
 use Rattle.lusdist_commands.specs.Stopped.{IsEvalStopped}
 use Rattle.lusdist_commands.specs.Stopped.IsEvalStopped.{eval_fault, eval_memory}
 
@@ -35,13 +40,31 @@ are_evaluated flat inputs streams outputs are meant fine is =
 -- they are those of a source with which the flat program agrees
 pub of_source : (text main table : List ℕ) (tree : ProgramTree) (flat : FlatProgram) (inputs : Table) (outputs : List OutputColumn) → IsPosed text main table tree flat inputs → AreEvaluated flat inputs outputs → AreOutputsOf tree main flat inputs outputs
 of_source text main table tree flat inputs outputs posed are =
-    record { named = are.named; streams = are.streams tree main posed.agrees; no_fault = are.no_fault }
+    record {
+      named = are.named;
+      streams = are.streams tree main posed.agrees;
+      no_fault = are.no_fault;
+      no_source_fault = λ σ solves name t kind early fault.
+          let solution_is = IsSolution-solution flat inputs posed.flat_is.is_flat.ordered in
+          let found = posed.flat_is.all_faults inputs σ (solution flat inputs) solves solution_is name t kind fault in
+          are.no_fault (solution flat inputs) solution_is found.0 t kind early found.1;
+    }
 
 -- a program and a table that are posed
-pub posed : (text main table : List ℕ) (tree : ProgramTree) (flat : FlatProgram) (inputs : Table) → SpellsText text tree → IsFlatOf tree main flat → IsTextOf (inputs_of flat.variables) inputs table → Fits flat inputs → IsPosed text main table tree flat inputs
-posed text main table tree flat inputs spelled flat_is table_is fits =
+pub posed : (text main table : List ℕ) (tree : ProgramTree) (flat : FlatProgram) (inputs : Table) → SpellsText text tree → IsFlatOf tree main flat → IsTextOf (inputs_of flat.variables) inputs table → is_too_long table ≡ false → IsUtf8 table → Fits flat inputs → IsPosed text main table tree flat inputs
+posed text main table tree flat inputs spelled flat_is table_is short utf8 fits =
     let columns = flat_is.columns inputs fits in
-    record { spelled = spelled; flat_is = flat_is; table_is = table_is; agrees = flat_is.agrees inputs columns; one_meaning = flat_is.one_meaning inputs columns }
+    record { spelled = spelled; flat_is = flat_is; table_is = table_is; short = short; utf8 = utf8; agrees = flat_is.agrees inputs columns; one_meaning = flat_is.one_meaning inputs columns }
+
+-- the fault that is told is one of the source
+source_fault : (gives : List ℕ → List ℕ → Type 0) (request : EvalRequest) (flat : FlatProgram) (inputs : Table) (asked : IsPosedBy gives request flat inputs) (name : List ℕ) (instant : ℕ) (kind : FaultKind) → IsFaultTold flat inputs name instant kind
+    → (σ : SourceStreams) → IsSourceSolution asked.tree request.main.now inputs σ → IsSourceFault asked.tree request.main.now inputs σ name instant kind
+source_fault gives request flat inputs asked name instant kind told σ solves =
+    let is = asked.posed.flat_is in
+    let solution_is = IsSolution-solution flat inputs is.is_flat.ordered in
+    let first = told.first (solution flat inputs) solution_is in
+    subst (λ n. IsSourceFault asked.tree request.main.now inputs σ n instant kind) (sym told.named)
+    (is.faults inputs σ (solution flat inputs) solves solution_is first.place told.variable instant kind told.is first.fault first.owner told.there)
 
 -- where an evaluation of them stops, what was asked for stops so
 pub eval_stop : (gives : List ℕ → List ℕ → Type 0) (request : EvalRequest) (flat : FlatProgram) (inputs : Table) → IsPosedBy gives request flat inputs → (stop : Stop) → IsStopped flat inputs stop → IsEvalStopped gives request stop
@@ -54,5 +77,5 @@ eval_stop gives request flat inputs asked (Flat e) told = absurd told
 eval_stop gives request flat inputs asked (Place e) told = absurd told
 eval_stop gives request flat inputs asked (BadTable e) told = absurd told
 eval_stop gives request flat inputs asked (Schedule e) told = absurd told
-eval_stop gives request flat inputs asked (Fault name instant kind) told = eval_fault name instant kind refl (record { flat = flat; inputs = inputs; asked = asked; told = told })
+eval_stop gives request flat inputs asked (Fault name instant kind) told = eval_fault name instant kind refl (record { flat = flat; inputs = inputs; asked = asked; told = told; source = source_fault gives request flat inputs asked name instant kind told })
 eval_stop gives request flat inputs asked OutOfMemory told = eval_memory refl

@@ -8,7 +8,7 @@ use Rattle.luworld.specs.Runs.{outputs_of}
 use Rattle.luworld.proofs.Rounds.{range_more, one_more}
 use Rattle.luworld.specs.declared.link.Link.{Link}
 use Rattle.lusite.proofs.Ranges.{filter_more}
-use Rattle.luweave.specs.Worlds.{Progress, IsCollected}
+use Rattle.luworld.specs.Progress.{Progress, IsCollected}
 use Rattle.lusdist_commands.specs.WorldText.{AreOutputLines, NoOutput, OneOutputMore, output_line, links_text, line_of}
 use Rattle.luflow.specs.Variables.{is_output_of, variable_name}
 

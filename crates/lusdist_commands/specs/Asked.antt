@@ -1,10 +1,10 @@
 -- What the texts of a check and of a replay say, and what their files gave.
-use Rattle.std.specs.Prelude.{◌≡◌, ℕ, List, Ok}
+use Rattle.std.specs.Prelude.{◌≡◌, ℕ, false, List, Ok, IsUtf8}
 use Rattle.lutree.specs.Tree.{ProgramTree}
 use Rattle.luflow.specs.Program.{FlatProgram}
 use Rattle.luworld.specs.Needs.{Distribution}
 use Rattle.luworld.specs.World.{reached}
-use Rattle.luworld.specs.Runs.{Run, system_of}
+use Rattle.luworld.specs.Runs.{Run, IsRun, system_of}
 use Rattle.lusource.specs.Source.{SourceStreams, IsSourceSolution}
 use Rattle.lusource.specs.Agreement.{HasOneMeaning}
 use Rattle.lumeaning.specs.Meaning.{IsMeant}
@@ -16,16 +16,18 @@ use Rattle.luplace_file.specs.declared.place.Place.{Place}
 use Rattle.luplace_file.specs.Placement.{placement_of}
 use Rattle.luplace.specs.Placing.{IsPlanOf}
 use Rattle.luflow.specs.Variables.{inputs_of}
-use Rattle.lutab.specs.Table.{IsTextOf}
+use Rattle.lutab.specs.Table.{IsTextOf, is_too_long}
 use Rattle.lusdist_shell.specs.ScheduleText.{schedule_of}
 use Rattle.lusdist_shell.specs.declared.request.CheckRequest.{CheckRequest}
 use Rattle.lusdist_shell.specs.declared.request.ReplayRequest.{ReplayRequest}
 use Rattle.lusdist_shell.specs.declared.request.Request.{Request}
 use Rattle.lusdist_shell.specs.declared.request.Request.TheVariants.{Check, Eval, Replay}
 use Rattle.lusdist_shell.specs.Request.{IsAskedBy}
-use Rattle.luweave.specs.Worlds.{Progress}
+use Rattle.luworld.specs.Progress.{Progress}
 use Rattle.luweave.specs.Headline.{IsFaithful}
+use Rattle.lumeaning.specs.Telling.{Telling, IsTrueOf}
 use Rattle.lusdist_commands.specs.WorldText.{IsWorldText}
+use Rattle.lusdist_commands.specs.TellingText.{telling_text, IsToldBy}
 use Rattle.lusdist_commands.specs.Evaluated.{IsEvaluated}
 
 -- the flat program of the program of the first language that a text spells
@@ -35,20 +37,24 @@ pub record IsFlatOfText (text main : List ℕ) (flat : FlatProgram) : Type 0 whe
   pub first : IsFirstShape tree
   pub flat_is : IsFlatOf tree main flat
 
--- the plan of its flat program and the placement that a text says
+-- the plan of its flat program and the placement that a text says, in UTF-8
 pub record IsPlanOfText (text : List ℕ) (plan : Distribution) : Type 0 where
+  pub utf8 : IsUtf8 text
   pub place : Place
   pub says : placement_of text ≡ Ok place
   pub plan_is : IsPlanOf plan.flat place plan
 
 -- The job of three texts: the plan of the program that the first spells and the placement that the second says, with the
--- table that the third says. The program has one meaning at the table, and what is said of the job in its source's words is
--- said of the program's solutions.
+-- table that the third says, which isn't too long. It is a run, whose plan has all needs and links that its flows and sites make; the program has one
+-- meaning at the table, and what is said of the job in its source's words is said of the program's solutions.
 pub record IsJobOf (program place table main : List ℕ) (job : Run) : Type 0 where
   pub flat : IsFlatOfText program main job.plan.flat
   pub plan : IsPlanOfText place job.plan
   pub inputs : IsTextOf (inputs_of job.plan.flat.variables) job.inputs table
-  pub one_meaning : HasOneMeaning flat.tree main job.inputs job.plan.flat
+  pub short : is_too_long table ≡ false
+  pub utf8 : IsUtf8 table
+  pub is_run : IsRun job
+  pub one_meaning : HasOneMeaning flat.tree main job.inputs
   pub is_meant : (σ : SourceStreams) → IsSourceSolution flat.tree main job.inputs σ → IsMeant job σ
 
 -- a job and its turns are those of texts that the files of a request gave
@@ -76,12 +82,17 @@ pub record IsPrinted (job : Run) (turns text : List ℕ) : Type 0 where
   pub faithful : IsFaithful world.job world.dones
   pub text_is : IsWorldText world text
 
--- the text of a replay of what a request asks for
+-- The text of a replay of what a request asks for: that of the world of its job after its turns. What the text tells of links,
+-- sites and outputs is true of the program that the file spells, at the table that the file says: for each of its solutions.
 pub record IsReplayed (gives : List ℕ → List ℕ → Type 0) (request : ReplayRequest) (text : List ℕ) : Type 0 where
   pub job : Run
   pub turns : List ℕ
   pub asked_for : IsAskedFor gives request job turns
   pub printed : IsPrinted job turns text
+  pub told : Telling
+  pub told_by : IsToldBy printed.world told
+  pub spelled : text ≡ telling_text told
+  pub is_true : IsTrueOf asked_for.job_is.flat.tree request.main.now job.inputs told
 
 -- the text of a check of what a request asks for: the program that the file's bytes spell keeps all rules and has a flat program,
 -- and the text is its canonical one, which spells that program too if it isn't longer than a text may be

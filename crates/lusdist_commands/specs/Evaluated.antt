@@ -1,5 +1,5 @@
 -- What an evaluation prints, and what it says of a fault.
-use Rattle.std.specs.Prelude.{◌≡◌, ℕ, List, [], map, Some, slice_get}
+use Rattle.std.specs.Prelude.{◌≡◌, ◌<◌, ℕ, false, List, [], map, Some, slice_get, IsUtf8}
 use Rattle.lutree.specs.Tree.{ProgramTree}
 use Rattle.luflow.specs.declared.form.FaultKind.{FaultKind}
 use Rattle.luflow.specs.declared.variable.Variable.{Variable}
@@ -10,31 +10,35 @@ use Rattle.luflow.specs.Solution.{IsSolution}
 use Rattle.luflow.specs.Tables.{OutputColumn}
 use Rattle.luflow.specs.Variables.{inputs_of, outputs_of}
 use Rattle.lusource.specs.Source.{SourceStreams, IsSourceSolution}
+use Rattle.lusource.specs.Faults.{IsSourceFault}
 use Rattle.lusource.specs.Agreement.{Agrees, HasOneMeaning}
 use Rattle.lusyn.specs.Texts.{SpellsText}
 use Rattle.lucore.specs.Result.{IsFlatOf}
 use Rattle.lueval.specs.Whole.{IsFirstFault, HasNoFault}
-use Rattle.lutab.specs.Table.{IsTextOf}
+use Rattle.lutab.specs.Table.{IsTextOf, is_too_long}
 use Rattle.lutab.specs.Outputs.{output_text}
 use Rattle.lusdist_shell.specs.declared.request.EvalRequest.{EvalRequest}
 use Rattle.lusdist_commands.specs.declared.stop.Stop.{Stop}
 use Rattle.lusdist_commands.specs.declared.stop.Stop.TheVariants.{Fault, OutOfMemory}
 
--- The program that a text spells, with its flat program and the table that another text says, which fits it. At that table
--- the program has one meaning.
+-- The program that a text spells, with its flat program and the table that another text says, which fits it and isn't too long.
+-- At that table the program has one meaning.
 pub record IsPosed (text main table : List ℕ) (tree : ProgramTree) (flat : FlatProgram) (inputs : Table) : Type 0 where
   pub spelled : SpellsText text tree
   pub flat_is : IsFlatOf tree main flat
   pub table_is : IsTextOf (inputs_of flat.variables) inputs table
+  pub short : is_too_long table ≡ false
+  pub utf8 : IsUtf8 table
   pub agrees : Agrees tree main inputs flat
-  pub one_meaning : HasOneMeaning tree main inputs flat
+  pub one_meaning : HasOneMeaning tree main inputs
 
 -- The outputs of the main node by name, in order of declaration, each with what every solution of the program gives that
--- variable at all instants of the table; and no operator is a fault.
+-- variable at all instants of the table; and no operator is a fault, neither of the flat program nor of the source.
 pub record AreOutputsOf (tree : ProgramTree) (main : List ℕ) (flat : FlatProgram) (inputs : Table) (outputs : List OutputColumn) : Type 0 where
   pub named : map (λ (c : OutputColumn). c.name) outputs ≡ map (λ (x : Variable). x.name) (outputs_of flat.variables)
   pub streams : (σ : SourceStreams) → IsSourceSolution tree main inputs σ → (k : ℕ) (c : OutputColumn) → slice_get outputs k ≡ Some c → map Known c.statuses ≡ marks (σ [] c.name) inputs.instants
   pub no_fault : HasNoFault flat inputs
+  pub no_source_fault : (σ : SourceStreams) → IsSourceSolution tree main inputs σ → (name : List ℕ) (t : ℕ) (kind : FaultKind) → t < inputs.instants → ¬ IsSourceFault tree main inputs σ name t kind
 
 -- the outputs of a flat program in the words of each source with which it agrees
 pub record AreEvaluated (flat : FlatProgram) (inputs : Table) (outputs : List OutputColumn) : Type 0 where
@@ -86,9 +90,11 @@ IsStopped flat inputs (Fault name instant kind) = IsFaultTold flat inputs name i
 IsStopped flat inputs OutOfMemory = Unit {0}
 IsStopped flat inputs _ = ⊥
 
--- the first fault of the program and the table that the files of a request gave
+-- The first fault of the program and the table that the files of a request gave. It is a fault of the source: in each solution of the
+-- program an operator in the equation of that variable, or in an instance of a call there, has no result at that instant.
 pub record IsFaultOf (gives : List ℕ → List ℕ → Type 0) (request : EvalRequest) (name : List ℕ) (instant : ℕ) (kind : FaultKind) : Type 0 where
   pub flat : FlatProgram
   pub inputs : Table
   pub asked : IsPosedBy gives request flat inputs
   pub told : IsFaultTold flat inputs name instant kind
+  pub source : (σ : SourceStreams) → IsSourceSolution asked.tree request.main.now inputs σ → IsSourceFault asked.tree request.main.now inputs σ name instant kind

@@ -4,3 +4,7 @@ pub mod WorldText
 pub mod Refused
 pub mod Stopped
 pub mod Evaluated
+pub mod TellingText
+pub mod Lines
+pub mod Left
+pub mod Exact

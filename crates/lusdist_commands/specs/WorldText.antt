@@ -22,7 +22,7 @@ use Rattle.luworld.specs.Runs.{link_list, streams_of, system_of, outputs_of}
 use Rattle.lusite.specs.Machine.{IsStanding}
 use Rattle.lusite.specs.declared.report.Standing.{Standing}
 use Rattle.lusite.specs.declared.report.Standing.TheVariants.{Ended, Faulted, Cut}
-use Rattle.luweave.specs.Worlds.{Progress, IsCollected, taken_of, queued_of}
+use Rattle.luworld.specs.Progress.{Progress, IsCollected, taken_of, queued_of}
 use Rattle.luflow.specs.Variables.{is_output_of, is_output, variable_name}
 
 -- a space and a datum

@@ -5,11 +5,13 @@
 //! - [`evaluating`]: the table of a program's outputs.
 //! - [`sites`]: the new sites of a job; [`text`]: what a replay prints.
 //! - [`Stop`]: why a call stops, and with which status.
+//! - [`laws`]: an answer and a refusal exclude each other.
 //!
 //! It is a library, so that it is checked without the linking of a program; `lusdist` is its `main`.
 #![tactic(auto)]
 
 pub mod evaluating;
+pub mod laws;
 mod serve;
 pub mod sites;
 pub mod sources;

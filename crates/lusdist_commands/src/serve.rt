@@ -10,7 +10,7 @@ ghost use Rattle.luflow.specs.Sound.{IsFit};
 ghost use Rattle.luflow.specs.Variables.{outputs_of};
 ghost use Rattle.lusdist_commands.specs.Evaluated.{IsPosedBy, IsEvaluated};
 ghost use Rattle.lusdist_commands.specs.Stopped.{IsCheckStopped, IsEvalStopped, IsReplayStopped, IsRequestStopped, IsRefusal};
-ghost use Rattle.lusdist_commands.specs.Statuses.{status_of};
+ghost use Rattle.lusdist_commands.specs.Left.{IsEnded, IsCallEnded};
 ghost use Rattle.lusdist_commands.specs.declared.stop.Stop.{Stop};
 ghost use Rattle.lusdist_commands.specs.declared.stop.Stop.TheVariants.{OutOfMemory};
 
@@ -22,8 +22,7 @@ use crate::text::text_of_world;
 use luflow::{Flat, Inputs};
 use luplace::Job;
 use lusdist_shell::{
-    CheckRequest, EvalRequest, Files, ReplayRequest, Request, parse, put_error_line, put_mistake,
-    put_out,
+    CheckRequest, EvalRequest, Files, ReplayRequest, Request, Sink, parse, put_mistake, put_out,
 };
 use lusyn::print_program;
 use luweave::{World, replay};
@@ -147,21 +146,23 @@ fn perform<F: Files, W: Write, V: Write>(
     alloc: Global,
     request: Request<'_>,
     files: &F,
-    out: &mut W,
-    err: &mut V,
+    out: &mut Sink<W>,
+    err: &mut Sink<V>,
 ) -> u8
-    ensures done { result ≡ 0 → (text : List ℕ) × IsAnswer (F.gives files.now) request.entry text
-        × Appends (W.contents out.old) (W.contents out.new) text }
-    ensures refused { (result ≡ 1) ⊎ (result ≡ 2) → out.new ≡ out.old }
-    ensures silent { result ≡ 0 → err.new ≡ err.old }
-    ensures stopped { (result ≡ 1) ⊎ (result ≡ 2) → (stop : Stop)
-        × IsRequestStopped (F.gives files.now) request.entry stop × (result ≡ status_of stop) }
+    ensures { IsEnded (F.gives files.now) request.entry result (record {
+      out = out.old;
+      out_after = out.new;
+      err = err.old;
+      err_after = err.new;
+      held_out = W.contents;
+      held_err = V.contents;
+    }) }
 {
     match answer(alloc, request, files) {
         Ok(text) => put_out(out, err, text.as_bytes()),
         Err(stop) => {
             let status = stop.status();
-            put_error_line(err, stop);
+            err.put_line(stop);
             status
         }
     }
@@ -169,18 +170,30 @@ fn perform<F: Files, W: Write, V: Write>(
 
 /// One call of the program, of which the first word is the program's name. Answers the exit status: 0 where it is done,
 /// also where a site faulted, and for help; 1 where a text is refused; 2 for a mistake in the words or a file that can't
-/// be read; 3 for want of memory, or output that can't be written. A refusal is one line on the error stream.
+/// be read; 3 for a fault of an evaluation, want of memory, or output that can't be written. A refusal is one line on the
+/// error stream.
 pub fn serve_words<F: Files, W: Write, V: Write>(
     alloc: Global,
     words: &[String],
     files: &F,
-    out: &mut W,
-    err: &mut V,
+    out: &mut Sink<W>,
+    err: &mut Sink<V>,
 ) -> u8
+    // With which status a call ends, and what it leaves in the two streams.
+    ensures ended { IsCallEnded (F.gives files.now) (map string_bytes words.entry.now) result
+        (record {
+          out = out.old;
+          out_after = out.new;
+          err = err.old;
+          err_after = err.new;
+          held_out = W.contents;
+          held_err = V.contents;
+        }) }
+
     // Where the command line takes the words and the call is done, the text that they ask for went to the output.
     ensures done { takes lusdist (map string_bytes words.entry.now) ≡ true → result ≡ 0
         → (text : List ℕ) × IsDone (F.gives files.now) (map string_bytes words.entry.now) text
-        × Appends (W.contents out.old) (W.contents out.new) text }
+        × Appends (W.contents out.old.writer) (W.contents out.new.writer) text }
 
     // Where a text or a file is refused, or the words are, nothing goes to the output.
     ensures refused { (result ≡ 1) ⊎ (result ≡ 2) → out.new ≡ out.old }

@@ -1,6 +1,6 @@
 //! From the texts of the files to a plan, a job and its turns.
 
-ghost use Rattle.std.specs.Prelude.{◌≡◌, IfOk, IfErr, Ok};
+ghost use Rattle.std.specs.Prelude.{◌≡◌, IfOk, IfErr, IsUtf8, Ok, false};
 ghost use Rattle.lutree.specs.Tree.{program_view};
 ghost use Rattle.lusource.specs.First.{IsFirstShape};
 ghost use Rattle.lucore.specs.Result.{IsFlatOf};
@@ -9,7 +9,8 @@ ghost use Rattle.lusyn.specs.Texts.{SpellsText};
 ghost use Rattle.luflow.specs.Sound.{IsFit};
 ghost use Rattle.luflow.specs.Tables.{Fits};
 ghost use Rattle.luflow.specs.Variables.{inputs_of};
-ghost use Rattle.lutab.specs.Table.{IsTextOf};
+ghost use Rattle.luworld.specs.Runs.{IsRun};
+ghost use Rattle.lutab.specs.Table.{IsTextOf, is_too_long};
 ghost use Rattle.lusdist_commands.specs.declared.stop.Stop.TheVariants.{NotYet};
 ghost use Rattle.lusdist_commands.specs.Asked.{IsFlatOfText, IsPlanOfText};
 ghost use Rattle.lusdist_commands.specs.Refused.{IsToldOf, IsProgramRefused, IsPlaceRefused, IsTableRefused};
@@ -120,6 +121,8 @@ pub fn plan_of(alloc: Global, flat: Flat, bytes: &[u8]) -> Result<Plan, Stop>
 pub fn inputs_in(alloc: Global, flat: &Flat, bytes: &[u8]) -> Result<Inputs, Stop>
     ensures text { IfOk result (λ inputs. IsTextOf (inputs_of flat.now.variables) inputs
         bytes.now) }
+    ensures short { IfOk result (λ _. is_too_long bytes.now ≡ false) }
+    ensures utf8 { IfOk result (λ _. IsUtf8 bytes.now) }
     ensures fits { IfOk result (λ inputs. Fits flat.now inputs) }
     ensures fit { IfOk result (λ inputs. IsFit flat.now inputs) }
     ensures refused { IfErr result (IsTableRefused (inputs_of flat.now.variables) bytes.now) }
@@ -139,11 +142,16 @@ pub fn job_of(alloc: Global, plan: Plan, bytes: &[u8]) -> Result<Job, Stop>
     ensures plan { IfOk result (λ job. job.plan ≡ plan) }
     ensures text { IfOk result (λ job. IsTextOf (inputs_of plan.flat.variables) job.inputs
         bytes.now) }
+    ensures short { IfOk result (λ _. is_too_long bytes.now ≡ false) }
+    ensures utf8 { IfOk result (λ _. IsUtf8 bytes.now) }
     ensures fits { IfOk result (λ job. Fits plan.flat job.inputs) }
+    ensures run { IfOk result IsRun }
     ensures refused { IfErr result (IsTableRefused (inputs_of plan.flat.variables) bytes.now) }
 {
     let inputs = inputs_in(alloc, plan.flat(), bytes)?;
-    Ok(Job::new(plan, inputs))
+    let job = Job::new(plan, inputs);
+    let _plan = job.plan();
+    Ok(job)
 }
 
 /// The turns that the bytes of a schedule's file are.

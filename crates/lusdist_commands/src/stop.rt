@@ -12,6 +12,7 @@ use lustat_rules::StatError;
 use lusyn::SynError;
 use lutab::TabError;
 use std::alloc::AllocError;
+use std::fmt;
 use thiserror::Error;
 
 /// Why a call stops before it prints anything. What it displays is the line that goes to the error stream, with no line
@@ -19,44 +20,60 @@ use thiserror::Error;
 #[derive(Debug, Drop, Error)]
 pub enum Stop {
     /// The file of this path can't be read.
-    #[error("F01 CannotRead {}", .path.as_str())]
     CannotRead {
         path: Name,
     },
     /// The program isn't even UTF-8.
-    #[error("E03 NotAscii")]
     NotAscii,
     /// The text of the program spells none.
-    #[error("{0}")]
     Syntax(SynError),
     /// The program breaks a rule.
-    #[error("{0}")]
     Rules(StatError),
     /// The program is of more than the first language, which alone is replayed as yet.
-    #[error("E00 NotYet")]
     NotYet,
     /// The program has no flat program.
-    #[error("{0}")]
     Flat(CoreError),
     /// The placement is refused.
-    #[error("{0}")]
     Place(PlaceError),
     /// The input table is refused.
-    #[error("{0}")]
     Table(TabError),
     /// The schedule is refused.
-    #[error("{0}")]
     Schedule(ScheduleError),
     /// An operator in the equation of this main variable has no value at this instant, counted from 0.
-    #[error("R1 Fault {} {instant} {kind}", .variable.as_str())]
     Fault {
         variable: Name,
         instant: u32,
         kind: FaultKind,
     },
     /// Memory ran out.
-    #[error("R2 OutOfMemory")]
     OutOfMemory,
+}
+
+impl fmt::Display for Stop {
+    ghost use Rattle.std.specs.Prelude.{Some};
+    ghost use Rattle.lusdist_commands.specs.Lines.{line_of};
+
+    ghost output = { λ stop. Some (line_of stop) };
+
+    fn fmt<W: fmt::Write>(&self, f: &mut fmt::Formatter<W>) -> fmt::Result {
+        match self {
+            Stop::CannotRead { path } => write!(f, "F01 CannotRead {}", path.as_str()),
+            Stop::NotAscii => f.write_str("E03 NotAscii"),
+            Stop::Syntax(refusal) => write!(f, "{refusal}"),
+            Stop::Rules(refusal) => write!(f, "{refusal}"),
+            Stop::NotYet => f.write_str("E00 NotYet"),
+            Stop::Flat(refusal) => write!(f, "{refusal}"),
+            Stop::Place(refusal) => write!(f, "{refusal}"),
+            Stop::Table(refusal) => write!(f, "{refusal}"),
+            Stop::Schedule(refusal) => write!(f, "{refusal}"),
+            Stop::Fault {
+                variable,
+                instant,
+                kind,
+            } => write!(f, "R1 Fault {} {instant} {kind}", variable.as_str()),
+            Stop::OutOfMemory => f.write_str("R2 OutOfMemory"),
+        }
+    }
 }
 
 impl From<AllocError> for Stop {

@@ -3,7 +3,7 @@
 #![tactic(auto)]
 
 use lusdist_commands::serve_words;
-use lusdist_shell::{Files, ReadError, RealFiles};
+use lusdist_shell::{Files, ReadError, RealFiles, Sink};
 use std::alloc::{AllocError, Global};
 use std::io;
 use std::io::Write;
@@ -97,13 +97,13 @@ fn put_output(rt: &HostRuntime, out: &[u8]) -> io::Result<()> {
 /// Writes what a command answers: its output, behind `! ` what went to the error stream, and behind `= ` its status.
 fn put_answer(rt: &HostRuntime, case: &Case<'_>, line: &str) -> io::Result<()> {
     let words = words_of(rt.alloc(), line)?;
-    let mut out = Vec::new(rt.alloc());
-    let mut err = Vec::new(rt.alloc());
+    let mut out = Sink::new(Vec::new(rt.alloc()));
+    let mut err = Sink::new(Vec::new(rt.alloc()));
     let status = serve_words(rt.alloc(), &words, case, &mut out, &mut err);
-    put_output(rt, &out)?;
-    if !err.is_empty() {
+    put_output(rt, out.writer())?;
+    if !err.writer().is_empty() {
         print!(rt; "! ")?;
-        rt.stdout().write_all(&err)?;
+        rt.stdout().write_all(err.writer())?;
     }
     println!(rt; "= {status}")
 }

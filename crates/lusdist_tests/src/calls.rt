@@ -3,7 +3,7 @@
 
 use crate::shell::{Full, words};
 use lusdist_commands::serve_words;
-use lusdist_shell::{Files, ReadError};
+use lusdist_shell::{Files, ReadError, Sink};
 use std::alloc::{AllocError, Global};
 use std::test::Fail;
 
@@ -49,9 +49,10 @@ impl Files for NoMemory {
 /// Whether a call whose output takes nothing answers 3 with this line.
 fn stops(alloc: Global, all: &[&str], files: &impl Files, line: &[u8]) -> Result<bool, AllocError> {
     let words = words(alloc, all)?;
-    let mut err = Vec::new(alloc);
-    let status = serve_words(alloc, &words, files, &mut Full, &mut err);
-    Ok(status == 3 && err.as_slice() == line)
+    let mut out = Sink::new(Full);
+    let mut err = Sink::new(Vec::new(alloc));
+    let status = serve_words(alloc, &words, files, &mut out, &mut err);
+    Ok(status == 3 && out.failed() && err.writer().as_slice() == line)
 }
 
 const CALLS: &[&[&str]] = &[

@@ -5,7 +5,7 @@ ghost use Rattle.std.specs.Prelude.{◌≡◌};
 use clap::error::ErrorKind;
 use lusdist_shell::{
     CheckRequest, EvalRequest, Files, ReadError, RealFiles, ReplayRequest, Request, ScheduleError,
-    parse, put_error_line, put_mistake, put_out, read_schedule, text_of,
+    Sink, parse, put_mistake, put_out, put_unread, read_schedule, text_of,
 };
 use std::alloc::{AllocError, Global};
 use std::io;
@@ -213,17 +213,17 @@ fn check_is_asked_for(rt: HostRuntime) -> Result<(), Fail> {
 
 /// Whether a mistake is put on the output at status 0, and on the error stream at status 2.
 fn is_put_where_it_belongs(alloc: Global, mistake: &clap::Error, status: u8) -> bool {
-    let mut out = Vec::new(alloc);
-    let mut err = Vec::new(alloc);
+    let mut out = Sink::new(Vec::new(alloc));
+    let mut err = Sink::new(Vec::new(alloc));
     put_mistake(&mut out, &mut err, mistake) == status
-        && out.is_empty() == (status == 2)
-        && err.is_empty() == (status == 0)
+        && out.writer().is_empty() == (status == 2)
+        && err.writer().is_empty() == (status == 0)
 }
 
 /// Whether a full output is told at status 0, and doesn't matter at status 2.
 fn is_full_told(alloc: Global, mistake: &clap::Error, status: u8) -> bool {
-    let mut err = Vec::new(alloc);
-    put_mistake(&mut Full, &mut err, mistake) == if status == 0 { 3 } else { 2 }
+    let mut err = Sink::new(Vec::new(alloc));
+    put_mistake(&mut Sink::new(Full), &mut err, mistake) == if status == 0 { 3 } else { 2 }
 }
 
 /// Whether the words are a mistake of this status.
@@ -246,6 +246,9 @@ const MISTAKES: &[(&[&str], u8)] = &[
     (&["lusdist", "check", "--help"], 0),
     (&["lusdist", "eval", "--help"], 0),
     (&["lusdist", "help", "check"], 0),
+    (&["lusdist", "--version"], 0),
+    (&["lusdist", "-V"], 0),
+    (&["lusdist", "check", "--version"], 2),
     (&["lusdist"], 2),
     (&["lusdist", "check"], 2),
     (&["lusdist", "check", "a", "b"], 2),
@@ -272,40 +275,74 @@ const ENDED: &[u8] = b"site A ended\n";
 
 /// Whether bytes stand on the output, and nothing on the error stream.
 fn is_written(alloc: Global) -> bool {
-    let mut out = Vec::new(alloc);
-    let mut err = Vec::new(alloc);
-    put_out(&mut out, &mut err, ENDED) == 0 && out.as_slice() == ENDED && err.is_empty()
+    let mut out = Sink::new(Vec::new(alloc));
+    let mut err = Sink::new(Vec::new(alloc));
+    put_out(&mut out, &mut err, ENDED) == 0
+        && out.writer().as_slice() == ENDED
+        && err.writer().is_empty()
 }
 
 const CANNOT_WRITE: &[u8] = b"F02 CannotWrite\n";
 
 /// Whether it is told on the error stream that the output is full.
 fn is_told(alloc: Global) -> bool {
-    let mut err = Vec::new(alloc);
-    put_out(&mut Full, &mut err, ENDED) == 3 && err.as_slice() == CANNOT_WRITE
+    let mut out = Sink::new(Full);
+    let mut err = Sink::new(Vec::new(alloc));
+    put_out(&mut out, &mut err, ENDED) == 3
+        && out.failed()
+        && err.writer().as_slice() == CANNOT_WRITE
 }
 
 #[test]
 fn output_that_cannot_be_written_is_told(rt: HostRuntime) {
     assert!(rt; is_written(rt.alloc()));
     assert!(rt; is_told(rt.alloc()));
-    assert_eq!(rt; put_out(&mut Full, &mut Full, ENDED), 3);
+    assert_eq!(rt;
+        put_out(&mut Sink::new(Full), &mut Sink::new(Full), ENDED),
+        3
+    );
 }
 
 const TWO_ERRORS: &[u8] = b"S01 BadSchedule at 2\nF01 CannotRead a.lus\n";
 
 /// Whether two errors have a line each.
 fn are_lines(alloc: Global, path: &str) -> bool {
-    let mut err = Vec::new(alloc);
-    put_error_line(&mut err, ScheduleError::BadSchedule { byte: 2 })
-        && put_error_line(&mut err, format_args!("F01 CannotRead {path}"))
-        && err.as_slice() == TWO_ERRORS
+    let mut err = Sink::new(Vec::new(alloc));
+    err.put_line(ScheduleError::BadSchedule { byte: 2 });
+    err.put_line(format_args!("F01 CannotRead {path}"));
+    !err.failed() && err.writer().as_slice() == TWO_ERRORS
+}
+
+/// Whether a stream that takes nothing says so.
+fn is_failed() -> bool {
+    let mut err = Sink::new(Full);
+    err.put_line("R2 OutOfMemory");
+    err.failed()
 }
 
 #[test]
 fn errors_have_a_line_each(rt: HostRuntime) {
     assert!(rt; are_lines(rt.alloc(), "a.lus"));
-    assert!(rt; !put_error_line(&mut Full, "R2 OutOfMemory"));
+    assert!(rt; is_failed());
+}
+
+/// Whether words that can't be read for this reason have this status and line.
+fn is_unread_told(alloc: Global, why: io::ErrorKind, status: u8, line: &[u8]) -> bool {
+    let mut err = Sink::new(Vec::new(alloc));
+    put_unread(&mut err, why) == status && err.writer().as_slice() == line
+}
+
+const NO_TEXT: &[u8] = b"error: invalid UTF-8 was detected in one or more arguments\n";
+
+#[test]
+fn words_that_cannot_be_read_are_told(rt: HostRuntime) {
+    let no_memory = io::ErrorKind::OutOfMemory;
+    assert!(rt; is_unread_told(rt.alloc(), no_memory, 3, b"R2 OutOfMemory\n"));
+    assert!(rt; is_unread_told(rt.alloc(), io::ErrorKind::InvalidData, 2, NO_TEXT));
+    assert_eq!(rt;
+        put_unread(&mut Sink::new(Full), io::ErrorKind::InvalidData),
+        2
+    );
 }
 
 const TEXTS: &[(&[u8], Option<&str>)] = &[

@@ -17,7 +17,7 @@ returns-clause-asked g c =
       place_given = subst (gives c.args.request.place.now) (sym c.deref-2.ensures.value) c.in_ok-place.ensures.given;
       table_given = subst (gives c.args.request.table.now) (sym c.deref-3.ensures.value) c.in_ok-table.ensures.given;
       schedule_given = subst (gives c.args.request.schedule.now) (sym c.deref-4.ensures.value) c.in_ok-schedule.ensures.given;
-      job_is = job_is c.deref.result.now c.deref-2.result.now c.deref-3.result.now c.args.request.main.now c.in_ok-flat.flat c.in_ok-plan.plan c.in_ok-job.job c.in_ok-flat.ensures.flat c.in_ok-plan.ensures.flat c.in_ok-plan.ensures.plan c.in_ok-job.ensures.plan c.in_ok-job.ensures.text c.in_ok-job.ensures.fits;
+      job_is = job_is c.deref.result.now c.deref-2.result.now c.deref-3.result.now c.args.request.main.now c.in_ok-flat.flat c.in_ok-plan.plan c.in_ok-job.job c.in_ok-flat.ensures.flat c.in_ok-plan.ensures.flat c.in_ok-plan.ensures.plan c.in_ok-job.ensures.plan c.in_ok-job.ensures.text c.in_ok-job.ensures.short c.in_ok-job.ensures.utf8 c.in_ok-job.ensures.fits c.in_ok-job.ensures.run;
       turns_are = c.in_ok-turns.ensures.turns;
     }
 
@@ -63,4 +63,4 @@ pub returns-in_err-turns-clause-stopped : goal.returns-in_err-turns-clause-stopp
 returns-in_err-turns-clause-stopped g c =
     let p = err_from_is_err_and c.from_residual-in_err-turns.result c.from_residual-in_err-turns.ensures.1 in
     let gives = g.F.Files.gives c.args.files.now in
-    rw (p.1, p.2) (replay_schedule c.deref.result.now c.deref-2.result.now c.deref-3.result.now c.deref-4.result.now c.in_ok-job.job (subst (gives c.args.request.program.now) (sym c.deref.ensures.value) c.in_ok-program.ensures.given) (subst (gives c.args.request.place.now) (sym c.deref-2.ensures.value) c.in_ok-place.ensures.given) (subst (gives c.args.request.table.now) (sym c.deref-3.ensures.value) c.in_ok-table.ensures.given) (subst (gives c.args.request.schedule.now) (sym c.deref-4.ensures.value) c.in_ok-schedule.ensures.given) (job_is c.deref.result.now c.deref-2.result.now c.deref-3.result.now c.args.request.main.now c.in_ok-flat.flat c.in_ok-plan.plan c.in_ok-job.job c.in_ok-flat.ensures.flat c.in_ok-plan.ensures.flat c.in_ok-plan.ensures.plan c.in_ok-job.ensures.plan c.in_ok-job.ensures.text c.in_ok-job.ensures.fits) c.in_err-turns.ensures.refused)
+    rw (p.1, p.2) (replay_schedule c.deref.result.now c.deref-2.result.now c.deref-3.result.now c.deref-4.result.now c.in_ok-job.job (subst (gives c.args.request.program.now) (sym c.deref.ensures.value) c.in_ok-program.ensures.given) (subst (gives c.args.request.place.now) (sym c.deref-2.ensures.value) c.in_ok-place.ensures.given) (subst (gives c.args.request.table.now) (sym c.deref-3.ensures.value) c.in_ok-table.ensures.given) (subst (gives c.args.request.schedule.now) (sym c.deref-4.ensures.value) c.in_ok-schedule.ensures.given) (job_is c.deref.result.now c.deref-2.result.now c.deref-3.result.now c.args.request.main.now c.in_ok-flat.flat c.in_ok-plan.plan c.in_ok-job.job c.in_ok-flat.ensures.flat c.in_ok-plan.ensures.flat c.in_ok-plan.ensures.plan c.in_ok-job.ensures.plan c.in_ok-job.ensures.text c.in_ok-job.ensures.short c.in_ok-job.ensures.utf8 c.in_ok-job.ensures.fits c.in_ok-job.ensures.run) c.in_err-turns.ensures.refused)

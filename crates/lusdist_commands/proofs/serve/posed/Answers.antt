@@ -17,7 +17,7 @@ returns-clause-posed g c =
       program_given = subst (gives c.args.request.program.now) (sym c.deref.ensures.value) c.in_ok-bytes.ensures.given;
       table_given = subst (gives c.args.request.table.now) (sym c.deref-2.ensures.value) c.in_ok-table.ensures.given;
       tree = tree;
-      posed = posed c.deref.result.now c.args.request.main.now c.deref-2.result.now tree c.in_ok-flat.flat c.in_ok-inputs.inputs c.in_ok-program.ensures.spelled c.in_ok-flat.ensures.flat c.in_ok-inputs.ensures.text c.in_ok-inputs.ensures.fits;
+      posed = posed c.deref.result.now c.args.request.main.now c.deref-2.result.now tree c.in_ok-flat.flat c.in_ok-inputs.inputs c.in_ok-program.ensures.spelled c.in_ok-flat.ensures.flat c.in_ok-inputs.ensures.text c.in_ok-inputs.ensures.short c.in_ok-inputs.ensures.utf8 c.in_ok-inputs.ensures.fits;
     }
 
 pub returns-clause-some : goal.returns-clause-some

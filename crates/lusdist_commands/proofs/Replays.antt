@@ -1,0 +1,32 @@
+-- What a replay prints is true of the program that was asked for.
+use Rattle.std.proofs.Common.{ℕ, List, sym, subst}
+use Rattle.luflow.specs.Flats.{IsFlat}
+use Rattle.luworld.specs.Runs.{Run}
+use Rattle.lusource.specs.Source.{SourceStreams, IsSourceSolution}
+use Rattle.lucore.specs.Result.{HasSourceFaults}
+use Rattle.lumeaning.specs.Meaning.{IsMeant}
+use Rattle.lumeaning.specs.Telling.{IsTrueOf}
+use Rattle.lusdist_shell.specs.declared.request.ReplayRequest.{ReplayRequest}
+use Rattle.lusdist_commands.specs.Asked.{IsAskedFor, IsPrinted, IsReplayed}
+use Rattle.lusdist_commands.proofs.Tellings.{told_in, told_true}
+
+pub is_replayed : (gives : List ℕ → List ℕ → Type 0) (request : ReplayRequest) (job : Run) (turns text : List ℕ) → IsAskedFor gives request job turns → IsPrinted job turns text → IsReplayed gives request text
+is_replayed gives request job turns text asked printed =
+    let w = printed.world in
+    let tree = asked.job_is.flat.tree in
+    let found = told_in w text printed.text_is in
+    let same = printed.world_is.job_is in
+    let source = asked.job_is.flat.flat_is in
+    let is_flat = subst (λ (j : Run). IsFlat j.plan.flat) (sym same) source.is_flat in
+    let faults = subst (λ (j : Run). HasSourceFaults tree request.main.now j.plan.flat) (sym same) source.faults in
+    let meant = subst (λ (j : Run). (σ : SourceStreams) → IsSourceSolution tree request.main.now j.inputs σ → IsMeant j σ) (sym same) asked.job_is.is_meant in
+    record {
+      job = job;
+      turns = turns;
+      asked_for = asked;
+      printed = printed;
+      told = found.told;
+      told_by = found.by;
+      spelled = found.spelled;
+      is_true = subst (λ (j : Run). IsTrueOf tree request.main.now j.inputs found.told) same (told_true w tree request.main.now found.told found.by is_flat faults printed.faithful meant);
+    }

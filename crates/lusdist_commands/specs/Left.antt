@@ -1,0 +1,60 @@
+-- What a call leaves in its two streams, and with which status it ends.
+use Rattle.std.specs.Prelude.{◌≡◌, ◌⊎◌, ℕ, true, List, Option, codes}
+use Rattle.std.specs.Io.KnownBytes.{Appends}
+use Rattle.clap.specs.Words.{fault_of, IsAmong}
+use Rattle.clap.specs.declared.error.kind.ErrorKind.{ErrorKind}
+use Rattle.clap.specs.declared.error.kind.ErrorKind.TheVariants.{DisplayHelp, DisplayVersion}
+use Rattle.lusdist_shell.specs.declared.request.Request.{Request}
+use Rattle.lusdist_shell.specs.declared.sink.Sink.{Sink}
+use Rattle.lusdist_shell.specs.Sinks.{HasLine, HasBeginning}
+use Rattle.lusdist_shell.specs.CommandLine.{lusdist}
+use Rattle.lusdist_shell.specs.Request.{IsAskedBy}
+use Rattle.lusdist_commands.specs.declared.stop.Stop.{Stop}
+use Rattle.lusdist_commands.specs.Asked.{IsAnswer}
+use Rattle.lusdist_commands.specs.Stopped.{IsRequestStopped}
+use Rattle.lusdist_commands.specs.Statuses.{status_of}
+use Rattle.lusdist_commands.specs.Lines.{line_of}
+
+-- the two streams before and after a call, and what each of them holds, where that is known
+pub record Streams (W V : Type 0) : Type 0 where
+  pub out : Sink W
+  pub out_after : Sink W
+  pub err : Sink V
+  pub err_after : Sink V
+  pub held_out : W → Option (List ℕ)
+  pub held_err : V → Option (List ℕ)
+
+-- the output has these bytes more, and the error stream is as it was
+pub record HasOutput {W V : Type 0} (streams : Streams W V) (bytes : List ℕ) : Type 0 where
+  pub output : Appends (streams.held_out streams.out.writer) (streams.held_out streams.out_after.writer) bytes
+  pub silent : streams.err_after ≡ streams.err
+
+-- the error stream has this line more, and the output is as it was
+pub record HasError {W V : Type 0} (streams : Streams W V) (line : List ℕ) : Type 0 where
+  pub error : HasLine streams.held_err streams.err streams.err_after line
+  pub kept : streams.out_after ≡ streams.out
+
+-- the output couldn't be written, which the error stream has as a line
+pub record HasNoOutput {W V : Type 0} (streams : Streams W V) : Type 0 where
+  pub failed : streams.out_after.failed ≡ true
+  pub error : HasLine streams.held_err streams.err streams.err_after (codes "F02 CannotWrite")
+
+-- What is asked for ends with this status: with 0 where the answer is printed, with that of a refusal, whose line is told, or with
+-- 3 where the answer couldn't be written, of which the output has a beginning.
+pub data IsEnded {W V : Type 0} (gives : List ℕ → List ℕ → Type 0) (request : Request) (status : ℕ) (streams : Streams W V) : Type 0 where
+  answered : (text : List ℕ) → status ≡ 0 → IsAnswer gives request text → HasOutput streams text → IsEnded gives request status streams
+  refused : (stop : Stop) → status ≡ status_of stop → IsRequestStopped gives request stop → HasError streams (line_of stop) → IsEnded gives request status streams
+  unwritten : (text : List ℕ) → status ≡ 3 → IsAnswer gives request text → HasNoOutput streams → HasBeginning streams.held_out streams.out streams.out_after text → IsEnded gives request status streams
+
+-- help, or the version
+abbrev pub IsHelp : ErrorKind → Type 0
+IsHelp kind = (kind ≡ DisplayHelp) ⊎ (kind ≡ DisplayVersion)
+
+-- A call with these words ends with this status: as what they ask for does; with 0 for help, which goes to the output; with 2 for a
+-- mistake in the words; and with 3 where memory ran out before they were read, or help couldn't be written.
+pub data IsCallEnded {W V : Type 0} (gives : List ℕ → List ℕ → Type 0) (words : List (List ℕ)) (status : ℕ) (streams : Streams W V) : Type 0 where
+  asked : (request : Request) → IsAskedBy words request → IsEnded gives request status streams → IsCallEnded gives words status streams
+  helped : (kind : ErrorKind) → IsAmong kind (fault_of lusdist words) → IsHelp kind → status ≡ 0 → streams.err_after ≡ streams.err → IsCallEnded gives words status streams
+  mistaken : (kind : ErrorKind) → IsAmong kind (fault_of lusdist words) → ¬ IsHelp kind → status ≡ 2 → streams.out_after ≡ streams.out → IsCallEnded gives words status streams
+  no_memory : status ≡ 3 → HasError streams (codes "R2 OutOfMemory") → IsCallEnded gives words status streams
+  no_help : (kind : ErrorKind) → IsAmong kind (fault_of lusdist words) → IsHelp kind → status ≡ 3 → HasNoOutput streams → IsCallEnded gives words status streams
