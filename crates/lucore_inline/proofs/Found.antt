@@ -13,8 +13,9 @@ use Rattle.luflow.specs.declared.form.Form.TheVariants.{Input}
 use Rattle.luflow.specs.declared.form.Flow.{Flow}
 use Rattle.lusource.specs.Names.{place_of}
 use Rattle.lustat_rules.specs.Scope.{lefts_of, names_of}
-use Rattle.lustat_scope.specs.Places.{first_place}
-use Rattle.lustat_scope.proofs.Declared.{shifted_first, same_spellings}
+use Rattle.lunames.specs.Places.{first_place}
+use Rattle.lustat_scope.proofs.Declared.{same_spellings}
+use Rattle.lunames.proofs.Sought.{shifted_first}
 use Rattle.lustat_scope.specs.Scopes.{spellings}
 use Rattle.lucore_list.specs.Layout.{Root, clock_place, left_clock, walk_right, root_flow, variable_flow, input_flows, inner_flows, variable_count, node_flows}
 use Rattle.lucore_list.specs.Layout.Root.{own, at}

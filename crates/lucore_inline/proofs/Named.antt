@@ -10,8 +10,9 @@ use Rattle.lutree.specs.Tree.{NodeTree, node_view}
 use Rattle.lusource.specs.Names.{place_of, clock_of, variables_of}
 use Rattle.lustat_rules.specs.Scope.{declarations_of}
 use Rattle.lustat_rules.specs.Scope as rules
-use Rattle.lustat_scope.specs.Places.{first_place}
-use Rattle.lustat_scope.proofs.Declared.{shifted_first, names_in_view}
+use Rattle.lunames.specs.Places.{first_place}
+use Rattle.lustat_scope.proofs.Declared.{names_in_view}
+use Rattle.lunames.proofs.Sought.{shifted_first}
 use Rattle.lustat_scope.specs.Scopes.{declared_in}
 use Rattle.lucore_list.proofs.Names.{clock_cases, clock_named}
 

@@ -9,9 +9,10 @@ use Rattle.lutree.specs.Tree.{EquationTree, NodeTree, ProgramTree, node_view}
 use Rattle.luflow.specs.declared.form.Flow.{Flow}
 use Rattle.lusource.specs.Names.{variables_of, place_of, name_at}
 use Rattle.lustat_rules.specs.Scope.{lefts_of, names_of}
-use Rattle.lustat_scope.specs.Places.{first_place}
+use Rattle.lunames.specs.Places.{first_place}
 use Rattle.lustat_scope.specs.Scopes.{declared_in, spellings}
-use Rattle.lustat_scope.proofs.Declared.{shifted_first, same_spellings, view_of_declared}
+use Rattle.lustat_scope.proofs.Declared.{same_spellings, view_of_declared}
+use Rattle.lunames.proofs.Sought.{shifted_first}
 use Rattle.lucore_list.specs.Layout.{owner_of, inner_owners, variable_count, node_owners}
 use Rattle.lucore_inline.specs.Nodes.{leaders, number_at, owners_found}
 

@@ -9,7 +9,7 @@ use Rattle.lusource.specs.Names.{name_at, variables_of, place_of}
 use Rattle.lustat_rules.specs.Scope.{kind_of}
 use Rattle.lucore_list.specs.Layout.{Root, clock_place, left_clock, walk_right}
 use Rattle.lucore_list.specs.Layout.Root.{own, at}
-use Rattle.lustat_scope.specs.Places.{first_place}
+use Rattle.lunames.specs.Places.{first_place}
 use Rattle.lucore_inline.specs.Walks.{flow_on, vacant}
 
 -- the flow of variable j of a left side on a clock, by the root of its equation

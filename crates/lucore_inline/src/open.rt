@@ -3,7 +3,7 @@
 ghost use Rattle.std.specs.Prelude.{◌≡◌, ◌++◌, map, drop, IfOk, OnOk};
 ghost use Rattle.lutree.specs.Tree.{equation_view, declarations_view};
 ghost use Rattle.lustat_rules.specs.Scope.{lefts_of};
-ghost use Rattle.lustat_scope.specs.Places.{first_place};
+ghost use Rattle.lunames.specs.Places.{first_place};
 ghost use Rattle.lustat_scope.specs.Scopes.{spellings};
 ghost use Rattle.lucore_inline.specs.Nodes.{flow_at, flows_found, inputs_from};
 

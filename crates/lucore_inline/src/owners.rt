@@ -4,7 +4,7 @@ ghost use Rattle.std.specs.Prelude.{◌≡◌, ◌++◌, map, IfOk, OnOk};
 ghost use Rattle.lutree.specs.Tree.{equation_view, node_view, program_view};
 ghost use Rattle.lusource.specs.Names.{variables_of, place_of};
 ghost use Rattle.lucore_list.specs.Layout.{node_flows, node_owners};
-ghost use Rattle.lustat_scope.specs.Places.{first_place};
+ghost use Rattle.lunames.specs.Places.{first_place};
 ghost use Rattle.lustat_scope.specs.Scopes.{spellings};
 ghost use Rattle.lucore_inline.specs.Walks.{plain};
 ghost use Rattle.lucore_inline.specs.Nodes.{leaders, number_at, owners_found};

@@ -11,8 +11,9 @@ use Rattle.lustat_rules.specs.Classes.{Classes, is_one, IsRaised, IsLeast}
 use Rattle.lugraph.specs.Search.{Has}
 use Rattle.lugraph.specs.declared.link.Link.{Link}
 use Rattle.lugraph.specs.Reach.{link, IsWithin, IsReached, start, along}
-use Rattle.lustat_scope.proofs.Finding.{there}
-use Rattle.lustat_scope.proofs.Declared.{at, first_at_place}
+use Rattle.lunames.proofs.Finding.{there}
+use Rattle.lustat_scope.proofs.Declared.{first_at_place}
+use Rattle.lunames.proofs.Sought.{at}
 use Rattle.lustat_classes.specs.Assigned.{place_of, class_at, assigned, LeftsKnown, IsCaused}
 use Rattle.lustat_classes.specs.Sources.{zero_classes}
 use Rattle.lustat_classes.specs.Linked.{links_in, AreStarts}

@@ -3,7 +3,7 @@ use Rattle.std.specs.Prelude.{ℕ, Bool, false, List, Option, Some, None, slice_
 use Rattle.lutree.specs.Tree.{EquationTree, NodeTree}
 use Rattle.lustat_rules.specs.Scope.{declarations_of, names_of, IsVariable}
 use Rattle.lustat_rules.specs.Classes.{Classes, is_one}
-use Rattle.lustat_scope.specs.Places.{first_place}
+use Rattle.lunames.specs.Places.{first_place}
 
 -- the place of a variable's declaration
 abbrev pub place_of : NodeTree → List ℕ → Option ℕ

@@ -10,9 +10,10 @@ use Rattle.lustat_rules.specs.Clocks.{Ends, at_base, after}
 use Rattle.lugraph.proofs.Marks.{same_or_not}
 use Rattle.lugraph.specs.declared.link.Link.{Link}
 use Rattle.lugraph.specs.Reach.{link, IsWithin, IsReached, start, along}
-use Rattle.lustat_scope.specs.Places.{first_place}
-use Rattle.lustat_scope.proofs.Finding.{there}
-use Rattle.lustat_scope.proofs.Declared.{at, first_at_place}
+use Rattle.lunames.specs.Places.{first_place}
+use Rattle.lunames.proofs.Finding.{there}
+use Rattle.lustat_scope.proofs.Declared.{first_at_place}
+use Rattle.lunames.proofs.Sought.{at}
 use Rattle.lustat_clocks.specs.Chains.{place_before, AreBased, AreClocked}
 use Rattle.lustat_clocks.proofs.Lent.{same_some}
 

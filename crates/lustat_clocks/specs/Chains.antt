@@ -6,7 +6,7 @@ use Rattle.lutree.specs.Tree.{DeclarationTree, NodeTree, declaration_view}
 use Rattle.lustat_rules.specs.Scope.{Clock, declarations_of, names_of}
 use Rattle.lustat_rules.specs.Clocks.{Ends}
 use Rattle.lugraph.specs.Search.{Has}
-use Rattle.lustat_scope.specs.Places.{first_place}
+use Rattle.lunames.specs.Places.{first_place}
 use Rattle.lugraph.specs.declared.link.Link.{Link}
 use Rattle.lugraph.specs.Reach.{link}
 

@@ -2,7 +2,8 @@
 use Rattle.std.proofs.Common.{◌≡◌, ◌∙◌, ℕ, suc, ◌+◌, Bool, true, false, List, [], ◌∷◌, ◌++◌, map, Option, Some, None, cond, refl, sym, ap, add-one, Bor, length, ◌<◌, arith, get_or}
 use Rattle.std.specs.Prelude.{slice_get, option_copied}
 use Rattle.std.proofs.lemmas.Option.{slice_get-map, slice_get_within, slice_get_read}
-use Rattle.lustat_scope.proofs.Finding.{there}
+use Rattle.lunames.proofs.Finding.{there}
+use Rattle.lunames.proofs.Sought.{at, at_suc, shifted_first}
 use Rattle.std.specs.Option.{option_map}
 use Rattle.std.specs.Str.{bytes_eq}
 use Rattle.std.proofs.lemmas.List.{map-append}
@@ -11,7 +12,7 @@ use Rattle.lutree.specs.declared.program.Node.{Node}
 use Rattle.lutree.specs.Tree.{DeclarationTree, NodeTree, declaration_view, declarations_view, node_view}
 use Rattle.lustat_rules.specs.Scope.{declarations_of, names_of, first_declared, meaning, node_called}
 use Rattle.lustat_rules.specs.Naming.{node_place}
-use Rattle.lustat_scope.specs.Places.{place_from, first_place}
+use Rattle.lunames.specs.Places.{place_from, first_place}
 use Rattle.lustat_scope.specs.Scopes.{declared_in, spellings, node_spellings}
 
 pub view_of_declared : (n : Node) → declarations_view (declared_in n) ≡ declarations_of (node_view n)
@@ -22,28 +23,6 @@ view_of_declared n =
 pub same_spellings : (ds : List Declaration) → spellings ds ≡ names_of (declarations_view ds)
 same_spellings [] = refl
 same_spellings (d ∷ ds) = ap (λ l. d.name ∷ l) (same_spellings ds)
-
--- counting from one more
-shift_step : (a : ℕ) (b : Bool) (o p : Option ℕ) → o ≡ option_map suc p → cond b (Some (suc a)) o ≡ option_map suc (cond b (Some a) p)
-shift_step a true o p e = refl
-shift_step a false o p e = e
-
-pub shifted : (a : ℕ) (ys : List (List ℕ)) (x : List ℕ) → place_from (suc a) ys x ≡ option_map suc (place_from a ys x)
-shifted a [] x = refl
-shifted a (y ∷ ys) x =
-    shift_step a (bytes_eq y x) (place_from (suc a + 1) ys x) (place_from (a + 1) ys x)
-    (ap (λ k. place_from (k + 1) ys x) (sym (add-one a)) ∙ ap (λ k. place_from k ys x) (add-one (a + 1)) ∙ shifted (a + 1) ys x)
-
-pub shifted_first : (ys : List (List ℕ)) (x : List ℕ) → place_from 1 ys x ≡ option_map suc (first_place ys x)
-shifted_first ys x = shifted 0 ys x
-
-abbrev pub at : {A : Type 0} → List A → Option ℕ → Option A
-at xs None = None
-at xs (Some k) = slice_get xs k
-
-at_suc : {A : Type 0} (x : A) (xs : List A) (o : Option ℕ) → at (x ∷ xs) (option_map suc o) ≡ at xs o
-at_suc x xs None = refl
-at_suc x xs (Some k) = refl
 
 -- the first declaration stands at the first place
 meaning_step : (d : DeclarationTree) (ds : List DeclarationTree) (b : Bool) (o : Option DeclarationTree) (p q : Option ℕ)

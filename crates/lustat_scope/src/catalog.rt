@@ -6,8 +6,8 @@ ghost use Rattle.lustat_rules.specs.Scope.{node_called};
 ghost use Rattle.lustat_rules.specs.Naming.{node_place};
 ghost use Rattle.lustat_scope.specs.Scopes.{node_spellings};
 
-use crate::places::Places;
 use crate::scope::Scope;
+use lunames::Places;
 use lutree::{Node, Program};
 use std::alloc::{AllocError, Global};
 use std::marker::Model;

@@ -1,6 +1,5 @@
 //! Names looked up by tables, and the search that the stages of the static checks share.
 //!
-//! - [`Places`]: names in a row, with a table of where each stands first.
 //! - [`Scope`]: a node with the tables of its variables.
 //! - [`Catalog`]: a program with a scope for each node and a table of the nodes' names.
 //! - [`ClockRef`]: a clock, lent.
@@ -12,12 +11,11 @@
 
 mod catalog;
 mod clock_ref;
-mod places;
 mod scope;
 mod stage;
 
 pub use catalog::Catalog;
 pub use clock_ref::ClockRef;
-pub use places::Places;
+pub use lunames::Places;
 pub use scope::Scope;
 pub use stage::{Stage, least_fault};

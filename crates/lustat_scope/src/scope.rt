@@ -3,12 +3,12 @@
 ghost use Rattle.std.specs.Prelude.{◌≡◌, ◌↔◌, ◌++◌, map, option_map, option_copied, IfOk, OnOk, IsTrue, slice_get};
 ghost use Rattle.lutree.specs.Tree.{declaration_view, node_view};
 ghost use Rattle.lustat_rules.specs.Scope.{declarations_of, names_of, meaning, kind_of, clock_of, IsInput, IsOutput};
-ghost use Rattle.lustat_scope.specs.Places.{first_place};
+ghost use Rattle.lunames.specs.Places.{first_place};
 ghost use Rattle.lustat_scope.specs.Scopes.{declared_in, spellings};
 ghost use Rattle.lustat_scope.specs.ClockRefs.{the_clock};
 
 use crate::clock_ref::ClockRef;
-use crate::places::Places;
+use lunames::Places;
 use lutree::{Declaration, Kind, Node};
 use std::alloc::{AllocError, Global};
 use std::marker::Model;

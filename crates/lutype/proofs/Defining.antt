@@ -13,8 +13,8 @@ use Rattle.lutree.specs.declared.program.Node.{Node}
 use Rattle.lutree.specs.Tree.{EquationTree, NodeTree, equation_view, node_view}
 use Rattle.lustat_rules.specs.Scope.{IsInput, lefts_of}
 use Rattle.lustat_rules.specs.Naming.{DefinesAnew}
-use Rattle.lustat_scope.specs.Places.{first_place}
-use Rattle.lustat_scope.proofs.Finding.{first_in_middle}
+use Rattle.lunames.specs.Places.{first_place}
+use Rattle.lunames.proofs.Finding.{first_in_middle}
 use Rattle.lutype.specs.Starts.{AreStarts, IsAnew}
 
 some_item : {A : Type 0} (x y : A) → Some x ≡ Some y → x ≡ y

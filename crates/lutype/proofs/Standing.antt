@@ -10,8 +10,8 @@ use Rattle.lutree.specs.Tree.{NodeTree, node_view, program_view, declaration_vie
 use Rattle.lustat_rules.specs.Scope.{declarations_of, names_of}
 use Rattle.lustat_rules.specs.Naming.{IsNewNode, IsNewVariable, node_place}
 use Rattle.lustat_rules.specs.Faults.{declared_in}
-use Rattle.lustat_scope.specs.Places.{first_place}
-use Rattle.lustat_scope.proofs.Finding.{stands_first}
+use Rattle.lunames.specs.Places.{first_place}
+use Rattle.lunames.proofs.Finding.{stands_first}
 use Rattle.lustat_scope.proofs.Declared.{names_of_nodes, place_of_node, names_in_view}
 
 pub node_is_new : (p : Program) (place : ℕ) (n : Node) (found : Option ℕ) (b : Bool) → slice_get p.nodes place ≡ Some n → found ≡ node_place (program_view p) n.name

@@ -2,7 +2,7 @@
 use Rattle.std.specs.Prelude.{◌≡◌, ◌<◌, ℕ, List, Some, length, take, slice_index}
 use Rattle.lutree.specs.Tree.{EquationTree, NodeTree}
 use Rattle.lustat_rules.specs.Scope.{IsInput, lefts_of}
-use Rattle.lustat_scope.specs.Places.{first_place}
+use Rattle.lunames.specs.Places.{first_place}
 
 -- the first equations have these starts
 pub record AreStarts (n : ℕ) (equations : List EquationTree) (starts : List ℕ) : Type 0 where

@@ -4,7 +4,7 @@ ghost use Rattle.std.specs.Prelude.{◌≡◌, ◌↔◌, ◌++◌, ◌+◌, ◌
 ghost use Rattle.lutree.specs.Tree.{node_view, equation_view, declaration_view};
 ghost use Rattle.lustat_rules.specs.Scope.{lefts_of, IsInput};
 ghost use Rattle.lustat_rules.specs.Naming.{IsDefined, DefinesAnew};
-ghost use Rattle.lustat_scope.specs.Places.{first_place};
+ghost use Rattle.lunames.specs.Places.{first_place};
 ghost use Rattle.lutype.specs.Starts.{AreStarts, IsAnew};
 
 use lulist::Name;

@@ -1,7 +1,7 @@
 use Rattle.std.proofs.Common.{◌∙◌, ap}
 use Rattle.lutree.specs.Tree.{node_view}
 use Rattle.lustat_rules.specs.Scope.{declarations_of, names_of}
-use Rattle.lustat_scope.specs.Places.{first_place}
+use Rattle.lunames.specs.Places.{first_place}
 use Rattle.lutype.proofs.Standing.{variable_is_new}
 use Rattle.lutype.proofs.faults.is_new_variable.Goals as goal
 

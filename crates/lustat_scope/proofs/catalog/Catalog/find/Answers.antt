@@ -1,7 +1,7 @@
 use Rattle.std.proofs.Common.{◌∙◌, ap, sym, None, Some, arith, length, get_or}
 use Rattle.std.specs.Option.{option_map}
 use Rattle.lutree.specs.Tree.{node_view}
-use Rattle.lustat_scope.specs.Places.{first_place}
+use Rattle.lunames.specs.Places.{first_place}
 use Rattle.lustat_scope.specs.Scopes.{node_spellings}
 use Rattle.lutree.specs.declared.program.Program.{Program}
 use Rattle.lustat_scope.proofs.Declared.{found_called, within_nodes, read_at}

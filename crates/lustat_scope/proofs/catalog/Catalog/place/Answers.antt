@@ -1,5 +1,5 @@
 use Rattle.std.proofs.Common.{◌∙◌, ap}
-use Rattle.lustat_scope.specs.Places.{first_place}
+use Rattle.lunames.specs.Places.{first_place}
 use Rattle.lustat_scope.specs.Scopes.{node_spellings}
 use Rattle.lutree.specs.declared.program.Program.{Program}
 use Rattle.lustat_scope.proofs.Declared.{place_called}

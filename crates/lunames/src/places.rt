@@ -2,7 +2,7 @@
 
 ghost use Rattle.std.specs.Prelude.{◌≡◌, ◌↔◌, Some, map, Contains, IfOk, IsTrue, slice_get};
 ghost use Rattle.indexmap.specs.IndexMap.{get_by_text};
-ghost use Rattle.lustat_scope.specs.Places.{first_place, IsPlaces};
+ghost use Rattle.lunames.specs.Places.{first_place, IsPlaces};
 
 use indexmap::IndexMap;
 use std::alloc::{AllocError, Global};
@@ -21,7 +21,7 @@ impl<'a> Model for Places<'a> {
     ghost Value = { List (List ℕ) };
 
     ghost use Rattle.indexmap.specs.IndexMap.{get_by_text};
-    ghost use Rattle.lustat_scope.specs.Places.{IsPlaces};
+    ghost use Rattle.lunames.specs.Places.{IsPlaces};
 
     ghost view = { λ p. map (λ n. n.now) p.names.items };
 

@@ -6,7 +6,7 @@ use Rattle.std.specs.Str.{bytes_eq}
 use Rattle.std.specs.Option.{is_some}
 use Rattle.std.proofs.lemmas.Slice.Eq.{bytes_eq-Decides}
 use Rattle.std.proofs.lemmas.Option.{slice_get_within, slice_get-get_or, get_or_from_slice_get}
-use Rattle.lustat_scope.specs.Places.{place_from, first_place}
+use Rattle.lunames.specs.Places.{place_from, first_place}
 
 abbrev pub texts : List (Bor (List ℕ)) → List (List ℕ)
 texts = map (λ n. n.now)

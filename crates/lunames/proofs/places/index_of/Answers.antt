@@ -2,9 +2,9 @@ use Rattle.std.proofs.Common.{◌≡◌, ◌∙◌, ◌+◌, ◌-◌, drop, Some
 use Rattle.std.specs.Str.{bytes_eq}
 use Rattle.std.proofs.lemmas.Map.Text.{hash_map_updates_text}
 use Rattle.indexmap.specs.IndexMap.{get_by_text}
-use Rattle.lustat_scope.specs.Places.{place_from}
-use Rattle.lustat_scope.proofs.Finding.{first_step, texts}
-use Rattle.lustat_scope.proofs.places.index_of.Goals as goal
+use Rattle.lunames.specs.Places.{place_from}
+use Rattle.lunames.proofs.Finding.{first_step, texts}
+use Rattle.lunames.proofs.places.index_of.Goals as goal
 
 pub loop-i-preserved : goal.loop-i-preserved
 loop-i-preserved c = λ x.
