@@ -1,9 +1,9 @@
 -- The parts that are made are a plan.
 use Rattle.std.proofs.Common.{◌≡◌, ℕ, zero, suc, ◌+◌, ◌<◌, ◌≤◌, inl, inr, Bool, true, false, cond, List, [], ◌∷◌, length, map, get_or, filter, Some, None, refl, sym, ap, ap₂, ◌∙◌, subst, arith}
-use Rattle.std.specs.Prelude.{slice_get, slice_index, All, Contains, not, ◌||◌, ◌&&◌, ◌==◌}
+use Rattle.std.specs.Prelude.{slice_get, slice_index, All, Contains, not, ◌||◌, ◌&&◌, ◌==◌, nat_lt}
 use Rattle.std.specs.List.{range_with_len, list_all}
 use Rattle.std.specs.List.Sorted.{IsStrictlyIncreasing}
-use Rattle.std.proofs.lemmas.Bool.{cases_eq, false≢true, eqb-true, eq-eqb}
+use Rattle.std.proofs.lemmas.Bool.{cases_eq, false≢true, eqb-true, eq-eqb, ltb-true}
 use Rattle.std.proofs.lemmas.List.Folds.{list_any_at}
 use Rattle.std.proofs.lemmas.List.Kept.{IsStrictlyIncreasing-filter}
 use Rattle.std.proofs.lemmas.List.FromFn.{get_or-range_with_len, length-range_with_len}
@@ -13,9 +13,13 @@ use Rattle.luflow.specs.Flats.{IsFlat}
 use Rattle.luworld.specs.declared.link.Link.{Link}
 use Rattle.luworld.specs.Needs.{Distribution, IsPlacedAt, IsPlan, IsNeeded, read_there, clock_there, clock_needed, is_in, stands, is_linked, links_of_variable, all_links}
 use Rattle.luworld.proofs.Parts.{flat_map_same}
-use Rattle.luplace.specs.Placing.{are_together, one_each, bare}
+use Rattle.luplace.specs.Placing.{are_somewhere, are_together, bare}
 use Rattle.luplace.specs.Marks.{is_marked, marks_at, AreAllMarks, marked_places, sites_at, is_taken, link_of, some_links, links_below}
 use Rattle.luflow.specs.Rank.{row}
+use Rattle.std.specs.Str.{bytes_eq}
+use Rattle.std.proofs.lemmas.Slice.Eq.{bytes_eq-Decides}
+use Rattle.std.proofs.lemmas.List.Kept.{AllPairs-from_increasing}
+use Rattle.luplace_file.specs.Lawful.{AreSites}
 
 both_ways : (x y : Bool) → (x ≡ true → y ≡ true) → (y ≡ true → x ≡ true) → x ≡ y
 both_ways true true f g = refl
@@ -87,11 +91,6 @@ row_marked [] s = refl
 row_marked (m ∷ rows) zero = refl
 row_marked (m ∷ rows) (suc s) = row_marked rows s
 
-row_each : (sites : List ℕ) (v : ℕ) → v < length sites → row (one_each sites) v ≡ slice_index sites v ∷ []
-row_each [] v l = absurd (omega arith)
-row_each (s ∷ sites) zero l = refl
-row_each (s ∷ sites) (suc v) l = row_each sites v (omega arith)
-
 filter_same : (p q : ℕ → Bool) → ((x : ℕ) → p x ≡ q x) → (xs : List ℕ) → filter p xs ≡ filter q xs
 filter_same p q e [] = refl
 filter_same p q e (x ∷ xs) = ap₂ (λ b ys. cond b (x ∷ ys) ys) (e x) (filter_same p q e xs)
@@ -123,73 +122,76 @@ module _ (p q : Distribution) (s : ℕ) (on : (i : ℕ) → stands p i s ≡ tru
   needed_too x (clock_there i r flow there here c) = clock_there i r flow (on i there) (at i flow here) c
   needed_too x (clock_needed i r flow need here c) = clock_needed i r flow (needed_too i need) (at i flow here) c
 
-module _ (flat : FlatProgram) (names : List (List ℕ)) (sites : List ℕ) (rows : List (List Bool)) (capacity : ℕ) (is_flat : IsFlat flat) (long : length sites ≡ length flat.variables) (marks : AreAllMarks (bare flat [] sites) (length names) rows) where
+-- the sites of one variable
+sites_placed : (count : ℕ) (xs : List ℕ) → nat_lt 0 (length xs) ≡ true → AreSites count xs → IsPlacedAt count xs
+sites_placed count xs some are =
+    let later = AllPairs-from_increasing xs are.rising in
+    record {
+      some = ltb-true 0 (length xs) some;
+      inside = λ k l. are.known k 0 l;
+      in_order = λ j k jk l. later j k 0 jk l;
+    }
+
+row_placed : (count : ℕ) (placed : List (List ℕ)) (v : ℕ) → v < length placed → are_somewhere placed ≡ true → All (AreSites count) placed → IsPlacedAt count (row placed v)
+row_placed count [] v l some each = absurd (omega arith)
+row_placed count (xs ∷ placed) v l some each = go (nat_lt 0 (length xs)) refl some v l (λ h w lw. row_placed count placed w lw h (λ k d lk. each (suc k) d (omega arith)))
+  where
+    go : (b : Bool) → nat_lt 0 (length xs) ≡ b → (b && are_somewhere placed) ≡ true → (v : ℕ) → v < suc (length placed) → (are_somewhere placed ≡ true → (w : ℕ) → w < length placed → IsPlacedAt count (row placed w)) → IsPlacedAt count (row (xs ∷ placed) v)
+    go true e h zero l rest = sites_placed count xs e (each 0 [] (omega arith))
+    go true e h (suc v) l rest = rest h v (omega arith)
+    go false e h v l rest = absurd (false≢true h)
+
+module _ (flat : FlatProgram) (names : List (List ℕ)) (placed : List (List ℕ)) (rows : List (List Bool)) (capacity : ℕ) (is_flat : IsFlat flat) (long : length placed ≡ length flat.variables) (marks : AreAllMarks (bare flat [] placed) (length names) rows) where
   abbrev pub made : Distribution
-  made = record { flat = flat; names = names; placed = one_each sites; needs = map marked_places rows; links = links_below rows flat.owners sites (length flat.variables); capacity = capacity }
+  made = record { flat = flat; names = names; placed = placed; needs = map marked_places rows; links = links_below rows flat.owners placed (length flat.variables); capacity = capacity }
 
-  placed_one : (inside : All (λ s. s < length names) sites) (v : ℕ) → v < length flat.variables → IsPlacedAt (length names) (row (one_each sites) v)
-  placed_one inside v l =
-      let x = slice_index sites v in
-      let within : x < length names = inside v 0 (omega (arith, long, l)) in
-      subst (IsPlacedAt (length names)) (sym (row_each sites v (omega (arith, long, l)))) (alone x within)
-    where
-      first : (x k : ℕ) → x < length names → k < 1 → slice_index (x ∷ []) k < length names
-      first x zero w l = w
-      first x (suc k) w l = absurd (omega arith)
+  placed_one : are_somewhere placed ≡ true → All (AreSites (length names)) placed → (v : ℕ) → v < length flat.variables → IsPlacedAt (length names) (row placed v)
+  placed_one some each v l = row_placed (length names) placed v (omega (arith, long, l)) some each
 
-      alone : (x : ℕ) → x < length names → IsPlacedAt (length names) (x ∷ [])
-      alone x w = record { some = omega arith; inside = λ k lk. first x k w (omega arith); in_order = λ j k jk lk. absurd (omega arith) }
-
-  one_row : (together : are_together flat.owners sites ≡ true) (v : ℕ) → v < length flat.variables → row (one_each sites) (slice_index flat.owners v) ≡ row (one_each sites) v
-  one_row together v l =
-      let o = slice_index flat.owners v in
-      let vf = is_flat.variables_first in
-      let ol = is_flat.owners_len in
-      let owned : o < length flat.variables = is_flat.owners_in v 0 (omega arith) in
-      let same = eqb-true (slice_index sites o) (slice_index sites v) (all_in_range (λ u. slice_index sites (slice_index flat.owners u) == slice_index sites u) 0 (length sites) together v (omega arith) (omega arith)) in
-      row_each sites o (omega arith) ∙ ap (λ x. x ∷ []) same ∙ sym (row_each sites v (omega arith))
+  one_row : (together : are_together flat.owners placed ≡ true) (v : ℕ) → v < length flat.variables → row placed (slice_index flat.owners v) ≡ row placed v
+  one_row together v l = (bytes_eq-Decides (row placed (slice_index flat.owners v)) (row placed v)).0 (all_in_range (λ u. bytes_eq (row placed (slice_index flat.owners u)) (row placed u)) 0 (length placed) together v (omega arith) (omega (arith, long, l)))
 
   needs_to : (s r : ℕ) → s < length names → Contains (row (map marked_places rows) s) r → IsNeeded made s r
   needs_to s r ls c =
       let m = marks_at rows s in
       let h = sym (in_marked m r) ∙ ap (is_in r) (sym (row_marked rows s)) ∙ contains_in r (row (map marked_places rows) s) c in
-      needed_too (bare flat [] sites) made s (λ i e. e) (λ i flow e. e) r (((marks.each s ls).are r).0 h)
+      needed_too (bare flat [] placed) made s (λ i e. e) (λ i flow e. e) r (((marks.each s ls).are r).0 h)
 
   needs_from : (s r : ℕ) → s < length names → IsNeeded made s r → Contains (row (map marked_places rows) s) r
   needs_from s r ls need =
       let m = marks_at rows s in
-      let h = ((marks.each s ls).are r).1 (needed_too made (bare flat [] sites) s (λ i e. e) (λ i flow e. e) r need) in
+      let h = ((marks.each s ls).are r).1 (needed_too made (bare flat [] placed) s (λ i e. e) (λ i flow e. e) r need) in
       in_contains r (row (map marked_places rows) s) (ap (is_in r) (row_marked rows s) ∙ in_marked m r ∙ h)
 
-  links_same : links_below rows flat.owners sites (length flat.variables) ≡ all_links made
-  links_same = flat_map_same (λ v. some_links rows flat.owners sites v (length rows)) (links_of_variable made) of_variable (range_with_len 0 (length flat.variables))
+  links_same : links_below rows flat.owners placed (length flat.variables) ≡ all_links made
+  links_same = flat_map_same (λ v. some_links rows flat.owners placed v (length rows)) (links_of_variable made) of_variable (range_with_len 0 (length flat.variables))
     where
-      taken : (v s : ℕ) → is_taken rows flat.owners sites v s ≡ is_linked made v s
-      taken v s = ap (λ b. b && not (is_in s (sites_at flat.owners sites v))) (sym (ap (is_in v) (row_marked rows s) ∙ in_marked (marks_at rows s) v))
+      taken : (v s : ℕ) → is_taken rows flat.owners placed v s ≡ is_linked made v s
+      taken v s = ap (λ b. b && not (is_in s (sites_at flat.owners placed v))) (sym (ap (is_in v) (row_marked rows s) ∙ in_marked (marks_at rows s) v))
 
-      of_variable : (v : ℕ) → some_links rows flat.owners sites v (length rows) ≡ links_of_variable made v
+      of_variable : (v : ℕ) → some_links rows flat.owners placed v (length rows) ≡ links_of_variable made v
       of_variable v =
-          ap (map (link_of flat.owners sites v)) (filter_same (is_taken rows flat.owners sites v) (is_linked made v) (taken v) (range_with_len 0 (length rows)))
-          ∙ ap (λ n. map (link_of flat.owners sites v) (filter (is_linked made v) (range_with_len 0 n))) marks.long
+          ap (map (link_of flat.owners placed v)) (filter_same (is_taken rows flat.owners placed v) (is_linked made v) (taken v) (range_with_len 0 (length rows)))
+          ∙ ap (λ n. map (link_of flat.owners placed v) (filter (is_linked made v) (range_with_len 0 n))) marks.long
 
-  pub plan_is : 0 < length names → length names ≤ 16 → 1 ≤ capacity → capacity ≤ 1024 → All (λ s. s < length names) sites → are_together flat.owners sites ≡ true → IsPlan made
-  plan_is some few room small inside together =
+  pub plan_is : 0 < length names → length names ≤ 16 → 1 ≤ capacity → capacity ≤ 1024 → are_somewhere placed ≡ true → All (AreSites (length names)) placed → are_together flat.owners placed ≡ true → IsPlan made
+  plan_is some few room small somewhere inside together =
       record {
         flat_is = is_flat;
         some_sites = some;
         few_sites = few;
         room = room;
         small = small;
-        placed_len = map_long (λ s. s ∷ []) sites ∙ long;
-        placed_is = placed_one inside;
+        placed_len = long;
+        placed_is = placed_one somewhere inside;
         together = one_row together;
         needs_len = map_long marked_places rows ∙ marks.long;
         needs_are = λ s r ls. (needs_to s r ls, needs_from s r ls);
         links_are = links_same;
       }
 
-  pub plan_parts : (some : 0 < length names) (few : length names ≤ 16) (room : 1 ≤ capacity) (small : capacity ≤ 1024) (inside : All (λ s. s < length names) sites) (together : are_together flat.owners sites ≡ true) (theirs : List (List ℕ)) (placed : List (List ℕ)) (needs : List (List ℕ)) (links : List Link) → theirs ≡ names → placed ≡ one_each sites → needs ≡ map marked_places rows → links ≡ links_below rows flat.owners sites (length flat.variables) → IsPlan (record { flat = flat; names = theirs; placed = placed; needs = needs; links = links; capacity = capacity })
-  plan_parts some few room small inside together theirs placed needs links n p d k =
+  pub plan_parts : (some : 0 < length names) (few : length names ≤ 16) (room : 1 ≤ capacity) (small : capacity ≤ 1024) (somewhere : are_somewhere placed ≡ true) (inside : All (AreSites (length names)) placed) (together : are_together flat.owners placed ≡ true) (theirs : List (List ℕ)) (needs : List (List ℕ)) (links : List Link) → theirs ≡ names → needs ≡ map marked_places rows → links ≡ links_below rows flat.owners placed (length flat.variables) → IsPlan (record { flat = flat; names = theirs; placed = placed; needs = needs; links = links; capacity = capacity })
+  plan_parts some few room small somewhere inside together theirs needs links n d k =
       let whole : Distribution = record { flat = flat; names = theirs; placed = placed; needs = needs; links = links; capacity = capacity } in
       let e : made ≡ whole = cc in
-      subst IsPlan e (plan_is some few room small inside together)
+      subst IsPlan e (plan_is some few room small somewhere inside together)

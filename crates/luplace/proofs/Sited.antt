@@ -1,49 +1,52 @@
 -- The sites of the main variables.
-use Rattle.std.proofs.Common.{◌≡◌, ℕ, zero, suc, ◌<◌, Bool, true, false, List, [], ◌∷◌, length, map, Option, Some, None, refl, ap, arith}
-use Rattle.std.specs.Prelude.{All, not, ◌&&◌, is_some, unwrap_or, option_and_then, if◌then◌else◌}
-use Rattle.std.specs.List.{list_all}
+use Rattle.std.proofs.Common.{◌≡◌, ◌∙◌, ◌↔◌, ℕ, zero, suc, ◌+◌, ◌<◌, Bool, true, false, List, [], ◌∷◌, length, map, Option, Some, None, cond, refl, sym, ap, arith}
+use Rattle.std.specs.Prelude.{All, not, ◌&&◌, ◌||◌, find, is_some, slice_get, if◌then◌else◌}
+use Rattle.std.specs.List.{list_any}
+use Rattle.std.specs.Option.{option_map}
 use Rattle.std.specs.Str.{bytes_eq}
 use Rattle.std.proofs.lemmas.Bool.{false≢true, true≢false}
-use Rattle.std.proofs.lemmas.List.Quantifiers.{position-Some}
 use Rattle.luflow.specs.declared.variable.Variable.{Variable}
-use Rattle.luplace_file.specs.declared.place.Place.{Place}
+use Rattle.lunames.specs.Places.{place_from, first_place}
+use Rattle.lunames.proofs.Sought.{at, first_such}
+use Rattle.luplace_file.specs.Content.{Placement}
+use Rattle.luplace_file.specs.Lawful.{IsLawful, AreSites}
+use Rattle.luplace_file.specs.declared.place.Placed.{Placed}
 use Rattle.luplace_file.specs.declared.error.PlaceError.{PlaceError}
 use Rattle.luplace_file.specs.declared.error.PlaceError.TheVariants.{UnknownVariable, Unplaced, SplitCall}
-use Rattle.luplace.specs.Placing.{site_name, number_of, site_of, are_placed, sites_of_variables}
+use Rattle.luplace.specs.Placing.{named_by, sites_put, placed_by, is_variable, entry_names, variable_names}
 
-pub placed_found : (f : Variable → Option ℕ) (xs : List Variable) → list_all (λ o. is_some o) (map f xs) ≡ list_all (λ x. is_some (f x)) xs
-placed_found f [] = refl
-placed_found f (x ∷ xs) = ap (λ b. is_some (f x) && b) (placed_found f xs)
-
-pub numbers_found : (f : Variable → Option ℕ) (xs : List Variable) → map (λ o. unwrap_or o 0) (map f xs) ≡ map (λ x. unwrap_or (f x) 0) xs
-numbers_found f [] = refl
-numbers_found f (x ∷ xs) = ap (λ ys. unwrap_or (f x) 0 ∷ ys) (numbers_found f xs)
-
-number_inside : (sites : List (List ℕ)) (name : List ℕ) → is_some (number_of sites name) ≡ true → unwrap_or (number_of sites name) 0 < length sites
-number_inside sites name h = go (number_of sites name) refl h
+-- what a name's entry says, or the default, are sites of the placement
+put_sites : (n : ℕ) (variable default : List ℕ) (entries : List Placed) → AreSites n default → All (λ entry. AreSites n entry.sites) entries → AreSites n (named_by (find (λ entry. bytes_eq entry.variable variable) entries) default)
+put_sites n variable default [] d h = d
+put_sites n variable default (entry ∷ entries) d h = go (bytes_eq entry.variable variable) (put_sites n variable default entries d (λ k x l. h (suc k) x (omega arith)))
   where
-    go : (o : Option ℕ) → number_of sites name ≡ o → is_some o ≡ true → unwrap_or o 0 < length sites
-    go None e h = absurd (false≢true h)
-    go (Some i) e h = (position-Some (λ site. bytes_eq site name) sites i [] e).0
+    go : (b : Bool) → AreSites n (named_by (find (λ entry. bytes_eq entry.variable variable) entries) default) → AreSites n (named_by (cond b (Some entry) (find (λ entry. bytes_eq entry.variable variable) entries)) default)
+    go true rest = h 0 entry (omega arith)
+    go false rest = rest
 
-site_inside : (place : Place) (name : List ℕ) → is_some (site_of place name) ≡ true → unwrap_or (site_of place name) 0 < length place.sites
-site_inside place name h = go (site_name place name) h
+pub placed_sites : (place : Placement) (xs : List Variable) → IsLawful place → All (AreSites (length place.sites)) (placed_by xs place)
+placed_sites place [] lawful = λ k d l. absurd (omega arith)
+placed_sites place (x ∷ xs) lawful = more (put_sites (length place.sites) x.name place.default place.place lawful.default_known lawful.entries_known) (placed_sites place xs lawful)
   where
-    go : (o : Option (List ℕ)) → is_some (option_and_then (number_of place.sites) o) ≡ true → unwrap_or (option_and_then (number_of place.sites) o) 0 < length place.sites
-    go None h = absurd (false≢true h)
-    go (Some site) h = number_inside place.sites site h
-
-pub sites_inside : (place : Place) (xs : List Variable) → are_placed xs place ≡ true → All (λ s. s < length place.sites) (sites_of_variables xs place)
-sites_inside place [] h = λ k d l. absurd (omega arith)
-sites_inside place (x ∷ xs) h = go (is_some (site_of place x.name)) refl h (sites_inside place xs)
-  where
-    more : unwrap_or (site_of place x.name) 0 < length place.sites → All (λ s. s < length place.sites) (sites_of_variables xs place) → All (λ s. s < length place.sites) (sites_of_variables (x ∷ xs) place)
+    more : AreSites (length place.sites) (sites_put place x.name) → All (AreSites (length place.sites)) (placed_by xs place) → All (AreSites (length place.sites)) (placed_by (x ∷ xs) place)
     more first rest zero d l = first
     more first rest (suc k) d l = rest k d (omega arith)
 
-    go : (b : Bool) → is_some (site_of place x.name) ≡ b → (b && are_placed xs place) ≡ true → (are_placed xs place ≡ true → All (λ s. s < length place.sites) (sites_of_variables xs place)) → All (λ s. s < length place.sites) (sites_of_variables (x ∷ xs) place)
-    go true e h rest = more (site_inside place x.name e) (rest h)
-    go false e h rest = absurd (false≢true h)
+pub placed_long : (place : Placement) (xs : List Variable) → length (placed_by xs place) ≡ length xs
+placed_long place [] = refl
+placed_long place (x ∷ xs) = ap suc (placed_long place xs)
+
+pub entry_sought : (entries : List Placed) (x : List ℕ) → at entries (first_place (entry_names entries) x) ≡ find (λ entry. bytes_eq entry.variable x) entries
+entry_sought entries x = first_such (λ (entry : Placed). entry.variable) entries x
+
+-- a name is one of the variables exactly where it has a place among their names
+pub variable_sought : (a : ℕ) (xs : List Variable) (x : List ℕ) → is_some (place_from a (variable_names xs) x) ≡ is_variable xs x
+variable_sought a [] x = refl
+variable_sought a (y ∷ xs) x = go (bytes_eq y.name x) (variable_sought (a + 1) xs x)
+  where
+    go : (b : Bool) → is_some (place_from (a + 1) (variable_names xs) x) ≡ is_variable xs x → is_some (cond b (Some a) (place_from (a + 1) (variable_names xs) x)) ≡ (b || is_variable xs x)
+    go true h = refl
+    go false h = h
 
 -- the refusal, by whether each of the three rules is kept
 abbrev pub choice : Bool → Bool → Bool → Option PlaceError

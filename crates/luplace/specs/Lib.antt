@@ -1,3 +1,4 @@
 pub mod SiteTables
 pub mod Placing
 pub mod Marks
+pub mod Vectors

@@ -5,7 +5,6 @@ use Rattle.luflow.specs.declared.form.Flow.{Flow}
 use Rattle.luflow.specs.Program.{flows_of, flow_at, places, clock_reads}
 use Rattle.luworld.specs.declared.link.Link.{Link}
 use Rattle.luworld.specs.Needs.{Distribution, IsNeeded, stands, is_in}
-use Rattle.luplace.specs.Placing.{one_each}
 use Rattle.luflow.specs.Rank.{row}
 
 abbrev pub is_set : Option Bool → Bool
@@ -56,21 +55,21 @@ pub record AreAllMarks (plan : Distribution) (count : ℕ) (rows : List (List Bo
 abbrev pub marked_places : List Bool → List ℕ
 marked_places marks = filter (is_marked marks) (range_with_len 0 (length marks))
 
--- the sites of a flow, given for each flow its main variable and for each main variable its site
-abbrev pub sites_at : List ℕ → List ℕ → ℕ → List ℕ
-sites_at owners sites place = row (one_each sites) (slice_index owners place)
+-- the sites of a flow, given for each flow its main variable and for each main variable its sites
+abbrev pub sites_at : List ℕ → List (List ℕ) → ℕ → List ℕ
+sites_at owners placed place = row placed (slice_index owners place)
 
 -- whether a site takes a main variable: it needs it and doesn't compute it
-abbrev pub is_taken : List (List Bool) → List ℕ → List ℕ → ℕ → ℕ → Bool
-is_taken rows owners sites variable site = is_marked (marks_at rows site) variable && not (is_in site (sites_at owners sites variable))
+abbrev pub is_taken : List (List Bool) → List ℕ → List (List ℕ) → ℕ → ℕ → Bool
+is_taken rows owners placed variable site = is_marked (marks_at rows site) variable && not (is_in site (sites_at owners placed variable))
 
-abbrev pub link_of : List ℕ → List ℕ → ℕ → ℕ → Link
-link_of owners sites variable site = record { flow = variable; from = slice_index (sites_at owners sites variable) 0; to = site }
+abbrev pub link_of : List ℕ → List (List ℕ) → ℕ → ℕ → Link
+link_of owners placed variable site = record { flow = variable; from = slice_index (sites_at owners placed variable) 0; to = site }
 
 -- the links of a main variable to the sites below a number
-abbrev pub some_links : List (List Bool) → List ℕ → List ℕ → ℕ → ℕ → List Link
-some_links rows owners sites variable count = map (link_of owners sites variable) (filter (is_taken rows owners sites variable) (range_with_len 0 count))
+abbrev pub some_links : List (List Bool) → List ℕ → List (List ℕ) → ℕ → ℕ → List Link
+some_links rows owners placed variable count = map (link_of owners placed variable) (filter (is_taken rows owners placed variable) (range_with_len 0 count))
 
 -- the links of the main variables below a number
-abbrev pub links_below : List (List Bool) → List ℕ → List ℕ → ℕ → List Link
-links_below rows owners sites count = flat_map (λ v. some_links rows owners sites v (length rows)) (range_with_len 0 count)
+abbrev pub links_below : List (List Bool) → List ℕ → List (List ℕ) → ℕ → List Link
+links_below rows owners placed count = flat_map (λ v. some_links rows owners placed v (length rows)) (range_with_len 0 count)

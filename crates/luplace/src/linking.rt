@@ -4,7 +4,7 @@ ghost use Rattle.std.specs.Prelude.{◌≡◌, ◌≤◌, ◌++◌, length, slic
 ghost use Rattle.lulimits.specs.Limits.{most_sites};
 ghost use Rattle.luplace.specs.Marks.{marks_at, is_marked, sites_at, is_taken, some_links, links_below};
 
-use crate::lookup::number_at;
+use crate::lookup::{first_of, number_at, row_at};
 use crate::marking::{is_marked, stands_at};
 use lulist::Row;
 use luworld::Link;
@@ -20,20 +20,23 @@ fn is_marked_at(rows: &[Row<bool>], site: usize, place: usize) -> bool
 }
 
 /// Whether a site takes a main variable: it needs it and doesn't compute it.
-fn is_taken(rows: &[Row<bool>], owners: &[usize], sites: &[u8], variable: usize, site: u8) -> bool
-    ensures { result ≡ is_taken rows.now owners.now sites.now variable site }
+fn is_taken(
+    rows: &[Row<bool>],
+    owners: &[usize],
+    placed: &[Row<u8>],
+    variable: usize,
+    site: u8,
+) -> bool
+    ensures { result ≡ is_taken rows.now owners.now placed.now variable site }
 {
-    is_marked_at(rows, usize::from(site), variable) && !stands_at(owners, sites, variable, site)
+    is_marked_at(rows, usize::from(site), variable) && !stands_at(owners, placed, variable, site)
 }
 
-/// The site that sends a flow.
-fn home_of(owners: &[usize], sites: &[u8], place: usize) -> u8
-    ensures { result ≡ slice_index (sites_at owners.now sites.now place) 0 }
+/// The site that sends a flow: the least of its sites.
+fn home_of(owners: &[usize], placed: &[Row<u8>], place: usize) -> u8
+    ensures { result ≡ slice_index (sites_at owners.now placed.now place) 0 }
 {
-    match sites.get(number_at(owners, place)) {
-        Some(site) => *site,
-        None => 0,
-    }
+    first_of(row_at(placed, number_at(owners, place)))
 }
 
 /// Adds the links of a main variable, in order of the receiving site.
@@ -41,17 +44,17 @@ fn push_links(
     links: &mut Vec<Link>,
     rows: &[Row<bool>],
     owners: &[usize],
-    sites: &[u8],
+    placed: &[Row<u8>],
     variable: usize,
 ) -> Result<(), AllocError>
     requires { length rows.now ≤ most_sites }
     ensures { IfOk result (λ _. links.new.items ≡ links.old.items
-        ++ some_links rows.now owners.now sites.now variable (length rows.now)) }
+        ++ some_links rows.now owners.now placed.now variable (length rows.now)) }
 {
     let count = rows.len() as u8;
     for site in 0..count {
-        if is_taken(rows, owners, sites, variable, site) {
-            let from = home_of(owners, sites, variable);
+        if is_taken(rows, owners, placed, variable, site) {
+            let from = home_of(owners, placed, variable);
             links.push(Link {
                 flow: variable,
                 from,
@@ -67,16 +70,16 @@ pub fn links_of(
     alloc: Global,
     rows: &[Row<bool>],
     owners: &[usize],
-    sites: &[u8],
+    placed: &[Row<u8>],
     variables: usize,
 ) -> Result<Vec<Link>, AllocError>
     requires { length rows.now ≤ most_sites }
-    ensures { IfOk result (λ links. links.items ≡ links_below rows.now owners.now sites.now
+    ensures { IfOk result (λ links. links.items ≡ links_below rows.now owners.now placed.now
         variables) }
 {
     let mut links = Vec::new(alloc);
     for variable in 0..variables {
-        push_links(&mut links, rows, owners, sites, variable)?;
+        push_links(&mut links, rows, owners, placed, variable)?;
     }
     Ok(links)
 }

@@ -6,19 +6,16 @@ ghost use Rattle.luworld.specs.Needs.{is_in};
 ghost use Rattle.luplace.specs.Placing.{bare};
 ghost use Rattle.luplace.specs.Marks.{is_marked, marked_all, clock_at, AreOwnMarks, AreMarks, AreAllMarks, marked_places, sites_at};
 
-use crate::lookup::number_at;
+use crate::lookup::{is_in, number_at, row_at};
 use luflow::{Clock, Flat, Flow, Form};
 use lulist::Row;
 use std::alloc::{AllocError, Global};
 
-/// Whether a flow stands at a site, given for each flow its main variable and for each main variable its site.
-pub fn stands_at(owners: &[usize], sites: &[u8], place: usize, site: u8) -> bool
-    ensures { result ≡ is_in site (sites_at owners.now sites.now place) }
+/// Whether a flow stands at a site, given for each flow its main variable and for each main variable its sites.
+pub fn stands_at(owners: &[usize], placed: &[Row<u8>], place: usize, site: u8) -> bool
+    ensures { result ≡ is_in site (sites_at owners.now placed.now place) }
 {
-    match sites.get(number_at(owners, place)) {
-        Some(other) => *other == site,
-        None => false,
-    }
+    is_in(site, row_at(placed, number_at(owners, place)))
 }
 
 pub fn is_marked(marks: &[bool], place: usize) -> bool
@@ -105,8 +102,13 @@ fn mark_clock_of(marks: &mut Vec<bool>, flows: &[Flow], place: usize)
 }
 
 /// Marks what a site's own flows name.
-fn own_marks(alloc: Global, flat: &Flat, sites: &[u8], site: u8) -> Result<Vec<bool>, AllocError>
-    ensures { IfOk result (λ marks. AreOwnMarks (bare flat.now [] sites.now) site
+fn own_marks(
+    alloc: Global,
+    flat: &Flat,
+    placed: &[Row<u8>],
+    site: u8,
+) -> Result<Vec<bool>, AllocError>
+    ensures { IfOk result (λ marks. AreOwnMarks (bare flat.now [] placed.now) site
         (flows_of flat.now) marks.items) }
 {
     let flows = flat.flows();
@@ -115,7 +117,7 @@ fn own_marks(alloc: Global, flat: &Flat, sites: &[u8], site: u8) -> Result<Vec<b
         mark_own(
             &mut marks,
             flows[i],
-            stands_at(flat.owners(), sites, i, site),
+            stands_at(flat.owners(), placed, i, site),
         );
     }
     Ok(marks)
@@ -123,10 +125,15 @@ fn own_marks(alloc: Global, flat: &Flat, sites: &[u8], site: u8) -> Result<Vec<b
 
 /// The marks of what a site needs. A clock variable has a lower rank than the flows on its clock, so one pass down the
 /// ranks finds the clock variables of all that is marked.
-fn site_marks(alloc: Global, flat: &Flat, sites: &[u8], site: u8) -> Result<Vec<bool>, AllocError>
-    ensures { IfOk result (λ marks. AreMarks (bare flat.now [] sites.now) site marks.items) }
+fn site_marks(
+    alloc: Global,
+    flat: &Flat,
+    placed: &[Row<u8>],
+    site: u8,
+) -> Result<Vec<bool>, AllocError>
+    ensures { IfOk result (λ marks. AreMarks (bare flat.now [] placed.now) site marks.items) }
 {
-    let mut marks = own_marks(alloc, flat, sites, site)?;
+    let mut marks = own_marks(alloc, flat, placed, site)?;
     let flows = flat.flows();
     let order = flat.rank();
     for p in (0..order.len()).rev() {
@@ -139,14 +146,14 @@ fn site_marks(alloc: Global, flat: &Flat, sites: &[u8], site: u8) -> Result<Vec<
 pub fn all_marks(
     alloc: Global,
     flat: &Flat,
-    sites: &[u8],
+    placed: &[Row<u8>],
     count: u8,
 ) -> Result<Vec<Row<bool>>, AllocError>
-    ensures { IfOk result (λ rows. AreAllMarks (bare flat.now [] sites.now) count rows.items) }
+    ensures { IfOk result (λ rows. AreAllMarks (bare flat.now [] placed.now) count rows.items) }
 {
     let mut rows = Vec::new(alloc);
     for site in 0..count {
-        rows.push(Row::new(site_marks(alloc, flat, sites, site)?))?;
+        rows.push(Row::new(site_marks(alloc, flat, placed, site)?))?;
     }
     Ok(rows)
 }

@@ -1,133 +1,100 @@
 //! Where a placement puts the variables of a program.
 
-ghost use Rattle.std.specs.Prelude.{◌≡◌, ◌≤◌, ◌⊎◌, ◌==◌, true, length, map, find, slice_index, is_some, unwrap_or, option_map, IfOk, IfErr};
-ghost use Rattle.luplace.specs.Placing.{site_name, number_of, site_of, is_variable, are_known, sites_of_variables, are_placed, are_together, refusal};
-ghost use Rattle.std.specs.Str.{bytes_eq};
+ghost use Rattle.std.specs.Prelude.{◌≡◌, ◌⊎◌, true, map, IfOk, IfErr};
 ghost use Rattle.std.specs.List.{list_all};
-ghost use Rattle.lulimits.specs.Limits.{most_sites};
+ghost use Rattle.std.specs.Str.{bytes_eq};
+ghost use Rattle.luflow.specs.Rank.{row};
+ghost use Rattle.luplace.specs.Placing.{is_variable, are_known, are_somewhere, sites_put, placed_by, entry_names, variable_names, are_together, refusal};
 
-use crate::lookup::{number_at, site_at};
+use crate::lookup::{number_at, row_at};
+use crate::sought::{entry_places, sites_put, variable_places};
 use luflow::{Flat, Variable};
-use lulist::Name;
+use lulist::Row;
+use lunames::Places;
 use luplace_file::{Place, PlaceError, Placed};
 use std::alloc::{AllocError, Global};
 
-fn is_variable(variables: &[Variable], name: &str) -> bool
+fn is_variable(variables: &[Variable], places: &Places<'_>, name: &str) -> bool
+    requires { places.now ≡ variable_names variables.now }
     ensures { result ≡ is_variable variables.now name.now }
 {
-    variables.iter().any(|variable| variable.name.is(name))
+    let _ = variables.len();
+    places.find(name).is_some()
 }
 
 /// Whether all that is placed is a main variable.
-fn are_known(variables: &[Variable], entries: &[Placed]) -> bool
+fn are_known(variables: &[Variable], places: &Places<'_>, entries: &[Placed]) -> bool
+    requires { places.now ≡ variable_names variables.now }
     ensures { result ≡ are_known variables.now entries.now }
 {
-    entries
-        .iter()
-        .all(|entry| is_variable(variables, entry.variable.as_str()))
+    entries.iter().all(|entry| is_variable(variables, places, entry.variable.as_str()))
 }
 
-fn entry_of<'a>(entries: &'a [Placed], variable: &str) -> Option<&'a Placed>
-    ensures { option_map (λ entry. entry.now) result ≡ find
-        (λ entry. bytes_eq entry.variable variable.now) entries.now }
+fn copied(alloc: Global, sites: &[u8]) -> Result<Row<u8>, AllocError>
+    ensures { IfOk result (λ row. row ≡ sites.now) }
 {
-    entries.iter().find(|entry| entry.variable.is(variable))
+    Ok(Row::new(Vec::from_slice(alloc, sites)?))
 }
 
-fn site_name<'a>(place: &'a Place, variable: &str) -> Option<&'a Name>
-    ensures { option_map (λ name. name.now) result ≡ site_name place.now variable.now }
-{
-    match entry_of(place.place.as_slice(), variable) {
-        Some(entry) => Some(&entry.site),
-        None => place.default.as_ref(),
-    }
-}
-
-fn place_of(sites: &[Name], name: &str) -> Option<usize>
-    ensures { result ≡ number_of sites.now name.now }
-{
-    sites.iter().position(|site| site.is(name))
-}
-
-fn number_of(sites: &[Name], name: &str) -> Option<u8>
-    requires { length sites.now ≤ most_sites }
-    ensures { result ≡ number_of sites.now name.now }
-{
-    match place_of(sites, name) {
-        Some(place) => Some(place as u8),
-        None => None,
-    }
-}
-
-/// The number of the site at which a placement puts a variable.
-fn site_of(place: &Place, variable: &str) -> Option<u8>
-    requires { length place.now.sites ≤ most_sites }
-    ensures { result ≡ site_of place.now variable.now }
-{
-    match site_name(place, variable) {
-        Some(name) => number_of(place.sites.as_slice(), name.as_str()),
-        None => None,
-    }
-}
-
-/// For each main variable the number of its site, if it has one.
-fn found_sites(
+/// The sites of each main variable, none where it has no entry and there is no default.
+fn rows_of(
     alloc: Global,
     variables: &[Variable],
     place: &Place,
-) -> Result<Vec<Option<u8>>, AllocError>
-    requires { length place.now.sites ≤ most_sites }
-    ensures { IfOk result (λ found. found.items ≡ map (λ x. site_of place.now x.name)
-        variables.now) }
+    places: &Places<'_>,
+) -> Result<Vec<Row<u8>>, AllocError>
+    requires { places.now ≡ entry_names place.now.place }
+    ensures { IfOk result (λ rows. rows.items ≡ placed_by variables.now place.now) }
 {
-    variables
-        .iter()
-        .map(|variable| site_of(place, variable.name.as_str()))
-        .collect(alloc)
+    let mut rows = Vec::with_capacity(alloc, variables.len())?;
+    for variable in variables {
+        let sites = sites_put(place, places, variable.name.as_str());
+        rows.push(copied(alloc, sites)?)?;
+    }
+    Ok(rows)
 }
 
-/// Whether each main variable has a site.
-fn are_placed(found: &[Option<u8>]) -> bool
-    ensures { result ≡ list_all (λ site. is_some site) found.now }
+/// Whether each row has a site.
+fn are_somewhere(rows: &[Row<u8>]) -> bool
+    ensures { result ≡ are_somewhere rows.now }
 {
-    found.iter().all(|site| site.is_some())
+    rows.iter().all(|row| row.as_slice().len() > 0)
 }
 
-/// The site of each main variable.
-fn numbers_of(alloc: Global, found: &[Option<u8>]) -> Result<Vec<u8>, AllocError>
-    ensures { IfOk result (λ sites. sites.items ≡ map (λ site. unwrap_or site 0) found.now) }
+fn is_same(sites: &[u8], others: &[u8]) -> bool
+    ensures { result ≡ bytes_eq sites.now others.now }
 {
-    found.iter().map(|site| site.unwrap_or(0)).collect(alloc)
+    sites == others
 }
 
 /// Whether each main variable stands where the first variable of its equation stands.
-fn are_together(owners: &[usize], sites: &[u8]) -> bool
-    ensures { result ≡ are_together owners.now sites.now }
+fn are_together(owners: &[usize], rows: &[Row<u8>]) -> bool
+    ensures { result ≡ are_together owners.now rows.now }
 {
-    (0..sites.len()).all(|v| site_at(sites, number_at(owners, v)) == site_at(sites, v))
+    (0..rows.len()).all(|v| is_same(row_at(rows, number_at(owners, v)), row_at(rows, v)))
 }
 
-/// The site of each main variable, or the refusal of the placement.
-pub fn sites_for(alloc: Global, flat: &Flat, place: &Place) -> Result<Vec<u8>, PlaceError>
-    requires { length place.now.sites ≤ most_sites }
+/// The sites of each main variable, or the refusal of the placement. Its work grows with the variables and the entries.
+pub fn placed_by(alloc: Global, flat: &Flat, place: &Place) -> Result<Vec<Row<u8>>, PlaceError>
     ensures accepted { IfOk result (λ _. refusal flat.now place.now ≡ None) }
-    ensures sites { IfOk result (λ sites. sites.items ≡ sites_of_variables flat.now.variables
-        place.now) }
-    ensures placed { IfOk result (λ _. are_placed flat.now.variables place.now ≡ true) }
-    ensures together { IfOk result (λ sites. are_together flat.now.owners sites.items ≡ true) }
+    ensures rows { IfOk result (λ rows. rows.items ≡ placed_by flat.now.variables place.now) }
+    ensures somewhere { IfOk result (λ rows. are_somewhere rows.items ≡ true) }
+    ensures together { IfOk result (λ rows. are_together flat.now.owners rows.items ≡ true) }
     ensures refused { IfErr result (λ e. (e ≡ PlaceError.OutOfMemory)
         ⊎ (refusal flat.now place.now ≡ Some e)) }
 {
-    if !are_known(flat.variables(), place.place.as_slice()) {
+    let variables = flat.variables();
+    let names = variable_places(alloc, variables)?;
+    if !are_known(variables, &names, place.entries()) {
         return Err(PlaceError::UnknownVariable);
     }
-    let found = found_sites(alloc, flat.variables(), place)?;
-    if !are_placed(found.as_slice()) {
+    let entries = entry_places(alloc, place.entries())?;
+    let rows = rows_of(alloc, variables, place, &entries)?;
+    if !are_somewhere(rows.as_slice()) {
         return Err(PlaceError::Unplaced);
     }
-    let sites = numbers_of(alloc, found.as_slice())?;
-    if !are_together(flat.owners(), sites.as_slice()) {
+    if !are_together(flat.owners(), rows.as_slice()) {
         return Err(PlaceError::SplitCall);
     }
-    Ok(sites)
+    Ok(rows)
 }

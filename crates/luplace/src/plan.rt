@@ -1,16 +1,15 @@
 //! Plans: where the flows of a program stand, what each site needs, and which links there are.
 
-ghost use Rattle.std.specs.Prelude.{◌≡◌, ◌⊎◌, ◌<◌, true, length, slice_index, All, IfOk, IfErr};
-ghost use Rattle.luworld.specs.Needs.{Distribution, IsPlan, sites_of, stands, is_in};
-ghost use Rattle.luplace_file.specs.Lawful.{IsLawful};
-ghost use Rattle.luplace.specs.Placing.{refusal, are_together, IsPlanOf, IsPlanAt};
+ghost use Rattle.std.specs.Prelude.{◌≡◌, ◌⊎◌, ◌<◌, true, length, IfOk, IfErr};
+ghost use Rattle.luworld.specs.Needs.{Distribution, IsPlan, sites_of, stands};
+ghost use Rattle.luplace.specs.Placing.{refusal, are_somewhere, are_together, placed_by, IsPlanOf, IsPlanAt};
 ghost use Rattle.luflow.specs.Rank.{row};
 
-use crate::assembly::{names_of, one_each};
+use crate::assembly::names_of;
 use crate::linking::links_of;
-use crate::lookup::number_at;
+use crate::lookup::{is_in, number_at, row_at};
 use crate::marking::{all_marks, needs_of};
-use crate::placing::sites_for;
+use crate::placing::placed_by;
 use luflow::Flat;
 use lulist::{Name, Row};
 use luplace_file::{Place, PlaceError};
@@ -40,58 +39,51 @@ impl Model for Plan {
     ghost invariant = { λ a. IsPlan (record { flat = a.flat; names = a.names; placed = a.placed; needs = a.needs; links = a.links; capacity = a.capacity }) };
 }
 
-fn row_at(rows: &[Row<u8>], place: usize) -> &[u8]
-    ensures { result.now ≡ row rows.now place }
-{
-    match rows.get(place) {
-        Some(row) => row.as_slice(),
-        None => &[],
-    }
-}
-
-fn is_in(site: u8, sites: &[u8]) -> bool
-    ensures { result ≡ is_in site sites.now }
-{
-    sites.iter().any(|s| *s == site)
-}
-
 /// The plan of a program whose main variables stand at these sites.
-fn plan_at(alloc: Global, flat: Flat, place: &Place, sites: &[u8]) -> Result<Plan, AllocError>
-    requires lawful { IsLawful place.now }
-    requires long { length sites.now ≡ length flat.variables }
-    requires inside { All (λ s. s < length place.now.sites) sites.now }
-    requires together { are_together flat.owners sites.now ≡ true }
-    ensures { IfOk result (IsPlanAt flat place.now sites.now) }
+fn plan_at(
+    alloc: Global,
+    flat: Flat,
+    place: &Place,
+    placed: Vec<Row<u8>>,
+) -> Result<Plan, AllocError>
+    requires rows { placed.items ≡ placed_by flat.variables place.now }
+    requires somewhere { are_somewhere placed.items ≡ true }
+    requires together { are_together flat.owners placed.items ≡ true }
+    ensures { IfOk result (IsPlanAt flat place.now placed.items) }
 {
-    let names = names_of(alloc, place.sites.as_slice())?;
-    let placed = one_each(alloc, sites)?;
-    let rows = all_marks(alloc, &flat, sites, place.sites.as_slice().len() as u8)?;
+    let names = names_of(alloc, place.sites())?;
+    let rows = all_marks(alloc, &flat, placed.as_slice(), place.sites().len() as u8)?;
     let needs = needs_of(alloc, rows.as_slice())?;
     let variables = flat.variables().len();
-    let links = links_of(alloc, rows.as_slice(), flat.owners(), sites, variables)?;
+    let links = links_of(
+        alloc,
+        rows.as_slice(),
+        flat.owners(),
+        placed.as_slice(),
+        variables,
+    )?;
     Ok(Plan::of_parts(
         flat,
         Row::new(names),
         Row::new(placed),
         Row::new(needs),
         Row::new(links),
-        place.capacity,
+        place.capacity(),
     ))
 }
 
 impl Plan {
     /// The plan of a program and a placement as it was read: the program's main variables at the sites that the placement
-    /// puts them at, and what follows. A placement is refused for the first of these: `UnknownVariable` where it places
+    /// puts them at, and what follows: a variable with several sites is computed, or read, at each of them. A placement is refused for the first of these: `UnknownVariable` where it places
     /// what is no main variable, `Unplaced` where a main variable has no site, `SplitCall` where the variables of one
     /// equation stand at different sites. `OutOfMemory` may come in place of any answer.
     pub fn make(alloc: Global, flat: Flat, place: &Place) -> Result<Plan, PlaceError>
-        requires { IsLawful place.now }
         ensures made { IfOk result (IsPlanOf flat place.now) }
         ensures refused { IfErr result (λ e. (e ≡ PlaceError.OutOfMemory)
             ⊎ (refusal flat place.now ≡ Some e)) }
     {
-        let sites = sites_for(alloc, &flat, place)?;
-        Ok(plan_at(alloc, flat, place, sites.as_slice())?)
+        let placed = placed_by(alloc, &flat, place)?;
+        Ok(plan_at(alloc, flat, place, placed)?)
     }
 
     /// The plan of these parts, which are what they are said to be.
@@ -160,7 +152,7 @@ impl Plan {
         is_in(site, row_at(self.placed.as_slice(), variable))
     }
 
-    /// The sites at which a main variable stands, in order; one, for now. Takes no memory.
+    /// The sites at which a main variable stands, in order. Takes no memory.
     pub fn sites_of(&self, variable: usize) -> &[u8]
         requires { variable < length self.now.placed }
         ensures { result.now ≡ row self.now.placed variable }

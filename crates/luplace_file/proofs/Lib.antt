@@ -1,2 +1,5 @@
 pub mod Walks
+pub mod Differing
+pub mod Numbers
+pub mod Drafted
 pub mod LawfulLemmas

@@ -1,14 +1,17 @@
 -- The keys of a placement's table, and the value that each may have. None stands where there is no such value.
-use Rattle.std.specs.Prelude.{ℕ, ℤ, pos, List, [], ◌∷◌, Bool, true, ◌&&◌, ◌||◌, codes, Option, Some, None, if◌then◌else◌}
+use Rattle.std.specs.Prelude.{ℕ, ℤ, pos, List, [], ◌∷◌, Bool, true, false, ◌&&◌, ◌||◌, codes, Option, Some, None, if◌then◌else◌}
+use Rattle.std.specs.Ordering.{int_eq}
 use Rattle.std.specs.Str.{bytes_eq}
 use Rattle.lulimits.specs.Limits.{usual_capacity}
-use Rattle.toml.specs.Data.{Data, Items, no_items, item, Members, no_members, member, as_str, as_integer, as_array, as_table}
-use Rattle.luplace_file.specs.declared.place.Placed.{Placed}
+use Rattle.toml.specs.Data.{Data, string, array, Items, no_items, item, Members, no_members, member, as_str, as_integer, as_array, as_table}
+use Rattle.luplace_file.specs.declared.draft.Wanted.{Wanted}
+use Rattle.luplace_file.specs.declared.choice.Version.{Version}
+use Rattle.luplace_file.specs.declared.choice.Version.TheVariants.{One, Two, Other}
 use Rattle.luplace_file.specs.SiteName.{is_site_name}
 
 -- the keys that a placement may have
 abbrev pub is_key : List ℕ → Bool
-is_key key = bytes_eq key (codes "sites") || (bytes_eq key (codes "capacity") || bytes_eq key (codes "place"))
+is_key key = bytes_eq key (codes "version") || (bytes_eq key (codes "sites") || (bytes_eq key (codes "default") || (bytes_eq key (codes "capacity") || bytes_eq key (codes "place"))))
 
 -- the table has no other key
 abbrev pub are_keys : Members → Bool
@@ -21,9 +24,7 @@ abbrev pub ◌>>=◌ : {A B : Type 0} → Option A → (A → Option B) → Opti
 (Some x) >>= f = f x
 None >>= f = None
 
--- the text that a value is
-abbrev pub text_in : Data → Option (List ℕ)
-text_in value = as_str value
+-- ---- the values
 
 -- the site name that a value is
 abbrev pub name_in : Data → Option (List ℕ)
@@ -34,20 +35,53 @@ abbrev pub names_in : Items → Option (List (List ℕ))
 names_in no_items = Some []
 names_in (item value rest) = name_in value >>= λ name. names_in rest >>= λ names. Some (name ∷ names)
 
--- the texts of a table, each with its key
-abbrev pub pairs_in : Members → Option (List Placed)
-pairs_in no_members = Some []
-pairs_in (member key value rest) = text_in value >>= λ text. pairs_in rest >>= λ pairs. Some (record { variable = key; site = text } ∷ pairs)
+-- the texts of an array
+abbrev pub texts_in : Items → Option (List (List ℕ))
+texts_in no_items = Some []
+texts_in (item value rest) = as_str value >>= λ text. texts_in rest >>= λ texts. Some (text ∷ texts)
+
+-- the texts of an array that isn't empty
+abbrev pub some_texts_in : Items → Option (List (List ℕ))
+some_texts_in no_items = None
+some_texts_in (item first rest) = texts_in (item first rest)
+
+-- the version that a number is
+abbrev pub version_of : ℤ → Version
+version_of number = if int_eq number (pos 1) then One else (if int_eq number (pos 2) then Two else Other)
+
+-- a file of version 1 has no array in `default` and `place`
+abbrev pub may_have_arrays : Version → Bool
+may_have_arrays One = false
+may_have_arrays Two = true
+may_have_arrays Other = true
+
+-- the sites that a value names, in a file of a version: a text names one, and an array one or more, where the file may have arrays
+abbrev pub choice_in : Version → Data → Option (List (List ℕ))
+choice_in version (string text) = Some (text ∷ [])
+choice_in version (array texts) = if may_have_arrays version then some_texts_in texts else None
+choice_in version value = None
+
+-- the sites that each value of a table names, with its key
+abbrev pub entries_in : Version → Members → Option (List Wanted)
+entries_in version no_members = Some []
+entries_in version (member key value rest) = choice_in version value >>= λ sites. entries_in version rest >>= λ entries. Some (record { variable = key; sites = sites } ∷ entries)
+
+-- ---- the keys
+
+-- `version`, which is 1 where it is missing
+abbrev pub version_in : Option Data → Option Version
+version_in None = Some One
+version_in (Some value) = as_integer value >>= λ number. Some (version_of number)
 
 -- `sites`, which must be there
 abbrev pub sites_in : Option Data → Option (List (List ℕ))
 sites_in None = None
 sites_in (Some value) = as_array value >>= names_in
 
--- `default`, which may be missing
-abbrev pub default_in : Option Data → Option (Option (List ℕ))
-default_in None = Some None
-default_in (Some value) = text_in value >>= λ text. Some (Some text)
+-- `default`, which names no site where it is missing
+abbrev pub default_in : Version → Option Data → Option (List (List ℕ))
+default_in version None = Some []
+default_in version (Some value) = choice_in version value
 
 -- `capacity`, which is the usual one where it is missing
 abbrev pub capacity_in : Option Data → Option ℤ
@@ -55,6 +89,6 @@ capacity_in None = Some (pos usual_capacity)
 capacity_in (Some value) = as_integer value
 
 -- `place`, which is empty where it is missing
-abbrev pub place_in : Option Data → Option (List Placed)
-place_in None = Some []
-place_in (Some value) = as_table value >>= pairs_in
+abbrev pub place_in : Version → Option Data → Option (List Wanted)
+place_in version None = Some []
+place_in version (Some value) = as_table value >>= entries_in version

@@ -1,4 +1,5 @@
 pub mod SiteName
+pub mod Content
 pub mod Keys
 pub mod Draft
 pub mod Rules
@@ -6,3 +7,4 @@ pub mod Placement
 pub mod Lawful
 pub mod Answers
 pub mod Lines
+pub mod Vectors

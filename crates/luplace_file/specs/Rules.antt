@@ -1,13 +1,24 @@
 -- The rules on what the keys of a placement say.
-use Rattle.std.specs.Prelude.{ℕ, ℤ, pos, negsuc, List, [], ◌∷◌, length, Bool, true, false, not, ◌&&◌, nat_le, Option, Some, None, Result, Ok, Err, if◌then◌else◌}
-use Rattle.std.specs.List.{list_all, list_any}
+use Rattle.std.specs.Prelude.{ℕ, ℤ, pos, negsuc, List, [], ◌∷◌, length, map, Bool, true, false, not, ◌&&◌, nat_le, slice_index_or, Result, Ok, Err, if◌then◌else◌}
+use Rattle.std.specs.List.{list_all, list_any, filter, range_with_len}
 use Rattle.std.specs.Str.{bytes_eq}
 use Rattle.lulimits.specs.Limits.{most_sites, most_capacity}
+use Rattle.luplace_file.specs.declared.choice.Version.{Version}
+use Rattle.luplace_file.specs.declared.choice.Version.TheVariants.{One, Two, Other}
 use Rattle.luplace_file.specs.declared.draft.Draft.{Draft}
-use Rattle.luplace_file.specs.declared.place.Place.{Place}
+use Rattle.luplace_file.specs.declared.draft.Wanted.{Wanted}
 use Rattle.luplace_file.specs.declared.place.Placed.{Placed}
 use Rattle.luplace_file.specs.declared.error.PlaceError.{PlaceError}
 use Rattle.luplace_file.specs.declared.error.PlaceError.TheVariants.{UnknownSite, DuplicateSite, OutOfRange}
+use Rattle.luplace_file.specs.Content.{Placement}
+
+-- ---- the ranges
+
+-- version 1 or 2
+abbrev pub is_known : Version → Bool
+is_known One = true
+is_known Two = true
+is_known Other = false
 
 -- from 1 to 1,024 messages
 abbrev pub is_capacity : ℤ → Bool
@@ -18,36 +29,58 @@ is_capacity (negsuc n) = false
 abbrev pub is_site_count : ℕ → Bool
 is_site_count n = nat_le 1 n && nat_le n most_sites
 
--- one of the sites has the name
-abbrev pub is_site : List (List ℕ) → List ℕ → Bool
-is_site sites name = list_any (λ site. bytes_eq site name) sites
+abbrev pub is_in_range : Draft → Bool
+is_in_range draft = is_known draft.version && (is_capacity draft.capacity && is_site_count (length draft.sites))
 
--- no two of the sites have one name
+-- ---- the names
+
+-- one of the names is this
+abbrev pub is_among : List (List ℕ) → List ℕ → Bool
+is_among names name = list_any (λ other. bytes_eq other name) names
+
+-- no two of the names are the same
 abbrev pub all_differ : List (List ℕ) → Bool
 all_differ [] = true
-all_differ (site ∷ rest) = not (is_site rest site) && all_differ rest
+all_differ (name ∷ rest) = not (is_among rest name) && all_differ rest
 
--- the default, if there is one, is one of the sites
-abbrev pub is_default : List (List ℕ) → Option (List ℕ) → Bool
-is_default sites None = true
-is_default sites (Some name) = is_site sites name
+-- no two sites have one name, and no value names a site twice
+abbrev pub names_differ : Draft → Bool
+names_differ draft = all_differ draft.sites && (all_differ draft.default && list_all (λ wanted. all_differ wanted.sites) draft.place)
 
--- each variable stands at one of the sites
-abbrev pub are_placed : List (List ℕ) → List Placed → Bool
-are_placed sites place = list_all (λ placed. is_site sites placed.site) place
+-- each of the names is that of a site
+abbrev pub are_sites : List (List ℕ) → List (List ℕ) → Bool
+are_sites sites names = list_all (λ name. is_among sites name) names
+
+-- every value names sites that there are
+abbrev pub names_are_known : Draft → Bool
+names_are_known draft = are_sites draft.sites draft.default && list_all (λ wanted. are_sites draft.sites wanted.sites) draft.place
+
+-- ---- the placement
+
+-- the numbers of the sites that are named, in order
+abbrev pub numbers_of : List (List ℕ) → List (List ℕ) → List ℕ
+numbers_of sites names = filter (λ site. is_among names (slice_index_or sites site [])) (range_with_len 0 (length sites))
+
+-- a variable at the sites that are named for it
+abbrev pub placed_at : List (List ℕ) → Wanted → Placed
+placed_at sites wanted = record { variable = wanted.variable; sites = numbers_of sites wanted.sites }
 
 -- the number that a capacity is
 abbrev pub size_of : ℤ → ℕ
 size_of (pos n) = n
 size_of (negsuc n) = 0
 
--- the placement, or the first rule that it breaks
-unfoldable pub ruled : Draft → Result Place PlaceError
+-- what a draft says that keeps the rules
+abbrev pub stated : Draft → Placement
+stated draft = record { sites = draft.sites; default = numbers_of draft.sites draft.default; capacity = size_of draft.capacity; place = map (placed_at draft.sites) draft.place }
+
+-- the placement, or the first rule that the draft breaks
+unfoldable pub ruled : Draft → Result Placement PlaceError
 ruled draft =
-    if is_capacity draft.capacity && is_site_count (length draft.sites)
-    then (if all_differ draft.sites
-    then (if is_default draft.sites draft.default && are_placed draft.sites draft.place
-    then Ok (record { sites = draft.sites; default = draft.default; capacity = size_of draft.capacity; place = draft.place })
+    if is_in_range draft
+    then (if names_differ draft
+    then (if names_are_known draft
+    then Ok (stated draft)
     else Err UnknownSite)
     else Err DuplicateSite)
     else Err OutOfRange

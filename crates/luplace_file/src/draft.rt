@@ -6,24 +6,33 @@ ghost use Rattle.std.specs.BTreeMap.{keys};
 ghost use Rattle.toml.specs.Data.{get_member};
 ghost use Rattle.toml.specs.View.{view, items_view, table_view};
 ghost use Rattle.luplace_file.specs.Answers.{Gives, or_bad_key};
-ghost use Rattle.luplace_file.specs.Keys.{is_key, are_keys, name_in, text_in, names_in, pairs_in, sites_in, default_in, capacity_in, place_in};
-ghost use Rattle.luplace_file.specs.Draft.{draft_of};
+ghost use Rattle.luplace_file.specs.Keys.{is_key, are_keys, name_in, names_in, entries_in, version_in, sites_in, default_in, capacity_in, place_in};
+ghost use Rattle.luplace_file.specs.Draft.{draft_at, draft_of};
 
+use crate::choice::{Version, choice_in, version_of};
 use crate::error::PlaceError;
-use crate::place::Placed;
 use crate::spelling::{is_key, is_site_name};
 use lulimits::limits::USUAL_CAPACITY;
 use lulist::{Name, Row};
 use std::alloc::Global;
 use toml::{Table, Value};
 
+/// A variable, and the names of the sites at which it is to stand.
+#[derive(Drop)]
+pub struct Wanted {
+    pub variable: Name,
+    pub sites: Row<Name>,
+}
+
 /// What the keys say, before the rules on their values are tried.
 #[derive(Drop)]
 pub struct Draft {
+    pub version: Version,
     pub sites: Row<Name>,
-    pub default: Option<Name>,
+    /// Empty where the file gives no default.
+    pub default: Row<Name>,
     pub capacity: i64,
-    pub place: Row<Placed>,
+    pub place: Row<Wanted>,
 }
 
 fn keys_are_known(table: &Table) -> bool
@@ -58,16 +67,6 @@ fn name_in(alloc: Global, value: &Value) -> Result<Name, PlaceError>
     Ok(Name::from_text(alloc, text)?)
 }
 
-/// The text that a value is.
-fn text_in(alloc: Global, value: &Value) -> Result<Name, PlaceError>
-    ensures { Gives (or_bad_key (text_in (view value.now))) result }
-{
-    let Some(text) = value.as_str() else {
-        return Err(PlaceError::BadKey);
-    };
-    Ok(Name::from_text(alloc, text)?)
-}
-
 /// The site names of an array.
 fn names_in(alloc: Global, values: &[Value]) -> Result<Row<Name>, PlaceError>
     ensures { Gives (or_bad_key (names_in (items_view values.now))) result }
@@ -79,17 +78,29 @@ fn names_in(alloc: Global, values: &[Value]) -> Result<Row<Name>, PlaceError>
     Ok(Row::new(names))
 }
 
-/// The texts of a table, each with its key.
-fn pairs_in(alloc: Global, table: &Table) -> Result<Row<Placed>, PlaceError>
-    ensures { Gives (or_bad_key (pairs_in (table_view table.now))) result }
+/// The sites that each value of a table names, with its key.
+fn entries_in(alloc: Global, version: Version, table: &Table) -> Result<Row<Wanted>, PlaceError>
+    ensures { Gives (or_bad_key (entries_in version (table_view table.now))) result }
 {
-    let mut pairs = Vec::new(alloc);
+    let mut entries = Vec::new(alloc);
     for (key, value) in table {
-        let site = text_in(alloc, value)?;
+        let sites = choice_in(alloc, version, value)?;
         let variable = Name::from_text(alloc, key.as_str())?;
-        pairs.push(Placed { variable, site })?;
+        entries.push(Wanted { variable, sites })?;
     }
-    Ok(Row::new(pairs))
+    Ok(Row::new(entries))
+}
+
+fn version_in(value: Option<&Value>) -> Result<Version, PlaceError>
+    ensures { Gives (or_bad_key (version_in (option_map (λ v. view v.now) value.entry))) result }
+{
+    let Some(value) = value else {
+        return Ok(Version::One);
+    };
+    match value.as_integer() {
+        Some(number) => Ok(version_of(number)),
+        None => Err(PlaceError::BadKey),
+    }
 }
 
 fn sites_in(alloc: Global, value: Option<&Value>) -> Result<Row<Name>, PlaceError>
@@ -104,12 +115,17 @@ fn sites_in(alloc: Global, value: Option<&Value>) -> Result<Row<Name>, PlaceErro
     }
 }
 
-fn default_in(alloc: Global, value: Option<&Value>) -> Result<Option<Name>, PlaceError>
-    ensures { Gives (or_bad_key (default_in (option_map (λ v. view v.now) value.entry))) result }
+fn default_in(
+    alloc: Global,
+    version: Version,
+    value: Option<&Value>,
+) -> Result<Row<Name>, PlaceError>
+    ensures { Gives (or_bad_key (default_in version (option_map (λ v. view v.now) value.entry)))
+        result }
 {
     match value {
-        Some(value) => Ok(Some(text_in(alloc, value)?)),
-        None => Ok(None),
+        Some(value) => choice_in(alloc, version, value),
+        None => Ok(Row::new(Vec::new(alloc))),
     }
 }
 
@@ -122,16 +138,39 @@ fn capacity_in(value: Option<&Value>) -> Result<i64, PlaceError>
     }
 }
 
-fn place_in(alloc: Global, value: Option<&Value>) -> Result<Row<Placed>, PlaceError>
-    ensures { Gives (or_bad_key (place_in (option_map (λ v. view v.now) value.entry))) result }
+fn place_in(
+    alloc: Global,
+    version: Version,
+    value: Option<&Value>,
+) -> Result<Row<Wanted>, PlaceError>
+    ensures { Gives (or_bad_key (place_in version (option_map (λ v. view v.now) value.entry)))
+        result }
 {
     let Some(value) = value else {
         return Ok(Row::new(Vec::new(alloc)));
     };
     match value.as_table() {
-        Some(table) => pairs_in(alloc, table),
+        Some(table) => entries_in(alloc, version, table),
         None => Err(PlaceError::BadKey),
     }
+}
+
+/// What the keys of a file of a version say.
+#[tactic(auto, unfolding(crate::specs::Draft::draft_at))]
+fn draft_at(alloc: Global, version: Version, table: &Table) -> Result<Draft, PlaceError>
+    ensures { Gives (or_bad_key (draft_at version (table_view table.now))) result }
+{
+    let sites = sites_in(alloc, value_at(table, "sites"))?;
+    let default = default_in(alloc, version, value_at(table, "default"))?;
+    let capacity = capacity_in(value_at(table, "capacity"))?;
+    let place = place_in(alloc, version, value_at(table, "place"))?;
+    Ok(Draft {
+        version,
+        sites,
+        default,
+        capacity,
+        place,
+    })
 }
 
 /// What the keys of the table say.
@@ -142,14 +181,6 @@ pub fn draft_of(alloc: Global, table: &Table) -> Result<Draft, PlaceError>
     if !are_keys(table) {
         return Err(PlaceError::BadKey);
     }
-    let sites = sites_in(alloc, value_at(table, "sites"))?;
-    let capacity = capacity_in(value_at(table, "capacity"))?;
-    let place = place_in(alloc, value_at(table, "place"))?;
-    let default = default_in(alloc, value_at(table, "default"))?;
-    Ok(Draft {
-        sites,
-        default,
-        capacity,
-        place,
-    })
+    let version = version_in(value_at(table, "version"))?;
+    draft_at(alloc, version, table)
 }

@@ -1,25 +1,86 @@
 //! What a placement file says.
 
-use lulist::{Name, Row};
+ghost use Rattle.std.specs.Prelude.{◌≡◌};
+ghost use Rattle.luplace_file.specs.Lawful.{IsLawful};
 
-/// A variable of the main node, and the site at which it stands.
-#[derive(Debug, Drop)]
+use lulist::{Name, Row};
+use std::marker::Model;
+
+/// A variable of the main node, and the sites at which it stands, by number, in order.
+#[derive(Drop)]
 pub struct Placed {
     /// The name of the variable.
     pub variable: Name,
-    /// The name of the site.
-    pub site: Name,
+    /// The numbers of its sites, at least one, each greater than the one before.
+    pub sites: Row<u8>,
 }
 
-/// What a placement file says.
+/// What a placement file says. A contract sees the `Placement` of `specs/Content.antt`, which keeps the rules of
+/// `specs/Lawful.antt`.
 #[derive(Drop)]
 pub struct Place {
+    names: Row<Name>,
+    default: Row<u8>,
+    capacity: u16,
+    entries: Row<Placed>,
+}
+
+impl Model for Place {
+    ghost use Rattle.luplace_file.specs.Content.{Placement};
+    ghost use Rattle.luplace_file.specs.Lawful.{IsLawful};
+
+    ghost Value = { Placement };
+
+    ghost view = { λ a. record { sites = a.names; default = a.default; capacity = a.capacity; place = a.entries } };
+
+    ghost invariant = { λ a. IsLawful (record { sites = a.names; default = a.default; capacity = a.capacity; place = a.entries }) };
+}
+
+impl Place {
+    /// The placement of these parts.
+    pub(crate) fn of_parts(
+        names: Row<Name>,
+        default: Row<u8>,
+        capacity: u16,
+        entries: Row<Placed>,
+    ) -> Place
+        requires { IsLawful (record { sites = names; default = default; capacity = capacity; place = entries }) }
+        ensures { result ≡ record { sites = names; default = default; capacity = capacity; place = entries } }
+    {
+        Place {
+            names,
+            default,
+            capacity,
+            entries,
+        }
+    }
+
     /// The names of the sites, 1 to 16. A site's number is its place here.
-    pub sites: Row<Name>,
-    /// The site of the variables that `place` doesn't hold. No file can give one yet.
-    pub default: Option<Name>,
+    pub fn sites(&self) -> &[Name]
+        ensures sites { result.now ≡ self.now.sites }
+        ensures lawful { IsLawful self.now }
+    {
+        self.names.as_slice()
+    }
+
+    /// The sites of the variables that have no entry, by number, in order. Empty where the file gives no default.
+    pub fn default_sites(&self) -> &[u8]
+        ensures { result.now ≡ self.now.default }
+    {
+        self.default.as_slice()
+    }
+
     /// How many messages each link holds, 1 to 1,024.
-    pub capacity: u16,
+    pub fn capacity(&self) -> u16
+        ensures { result ≡ self.now.capacity }
+    {
+        self.capacity
+    }
+
     /// The variables that the file places, and where.
-    pub place: Row<Placed>,
+    pub fn entries(&self) -> &[Placed]
+        ensures { result.now ≡ self.now.place }
+    {
+        self.entries.as_slice()
+    }
 }

@@ -5,7 +5,6 @@ ghost use Rattle.toml.specs.Parse.{parse_document};
 ghost use Rattle.toml.specs.View.{table_view};
 ghost use Rattle.luplace_file.specs.Answers.{Gives};
 ghost use Rattle.luplace_file.specs.Placement.{placement_of};
-ghost use Rattle.luplace_file.specs.Lawful.{IsLawful};
 
 use crate::draft::draft_of;
 use crate::error::PlaceError;
@@ -36,12 +35,11 @@ fn table_in(alloc: Global, text: &str) -> Result<Table, PlaceError>
 /// Reads the text of a placement file, or refuses it by the first rule that it breaks.
 pub fn read_place(alloc: Global, text: &str) -> Result<Place, PlaceError>
     ensures exact { Gives (placement_of text.now) result }
-    ensures lawful { IfOk result IsLawful }
 {
     if text.len() > LONGEST_PLACEMENT {
         return Err(PlaceError::OutOfRange);
     }
     let table = table_in(alloc, text)?;
     let draft = draft_of(alloc, &table)?;
-    ruled(draft)
+    ruled(alloc, draft)
 }

@@ -37,5 +37,5 @@ pub fn is_site_name(name: &[u8]) -> bool
 pub fn is_key(key: &str) -> bool
     ensures { result ≡ is_key key.now }
 {
-    key == "sites" || key == "capacity" || key == "place"
+    key == "version" || key == "sites" || key == "default" || key == "capacity" || key == "place"
 }

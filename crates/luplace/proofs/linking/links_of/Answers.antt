@@ -8,6 +8,6 @@ pub loop-variable-preserved : goal.loop-variable-preserved
 loop-variable-preserved c =
     let rows = c.args.rows.now in
     let owners = c.args.owners.now in
-    let sites = c.args.sites.now in
+    let placed = c.args.placed.now in
     let v = c.loop-variable.variable in
-    c.in_ok-push_links.ensures ∙ ap (λ (xs : List Link). xs ++ some_links rows owners sites v (length rows)) c.loop-variable.invariant ∙ below_more rows owners sites v
+    c.in_ok-push_links.ensures ∙ ap (λ (xs : List Link). xs ++ some_links rows owners placed v (length rows)) c.loop-variable.invariant ∙ below_more rows owners placed v

@@ -8,7 +8,7 @@ pub loop-site-preserved : goal.loop-site-preserved
 loop-site-preserved c =
     let rows = c.args.rows.now in
     let owners = c.args.owners.now in
-    let sites = c.args.sites.now in
+    let placed = c.args.placed.now in
     let v = c.args.variable in
     let s = c.loop-site.site in
     let before = c.args.links.now.items in
@@ -17,9 +17,9 @@ loop-site-preserved c =
           ap (λ (xs : Vec Link Global). xs.items) w.links-is
           ∙ w.in_ok-push.ensures.items
           ∙ ap₂ (λ (xs : List Link) (h : ℕ). xs ++ record { flow = v; from = h; to = s } ∷ []) c.loop-site.invariant w.home_of-from.ensures
-          ∙ one_taken rows owners sites v s before (sym c.is_taken.ensures ∙ w.if-is_taken.true)
+          ∙ one_taken rows owners placed v s before (sym c.is_taken.ensures ∙ w.if-is_taken.true)
       | else-is_taken w ↦
           ap (λ (xs : Vec Link Global). xs.items) w.links-is
           ∙ c.loop-site.invariant
-          ∙ none_taken rows owners sites v s before (sym c.is_taken.ensures ∙ w.if-is_taken.false)
+          ∙ none_taken rows owners placed v s before (sym c.is_taken.ensures ∙ w.if-is_taken.false)
     ]

@@ -14,14 +14,14 @@ use Rattle.luplace.proofs.marking.own_marks.Goals as goal
 pub loop-i-preserved : goal.loop-i-preserved
 loop-i-preserved c =
     let flat = c.flows-flows.ensures.flat in
-    let plan = bare c.args.flat.now [] c.args.sites.now in
+    let plan = bare c.args.flat.now [] c.args.placed.now in
     let d : Flow = record { form = Input 0; clock = Base; kind = Int } in
     let flow = get_or c.flows-flows.result.now c.loop-i.i d in
     let lt : c.loop-i.i < length c.flows-flows.result.now = omega arith in
     let here : flow_at plan.flat c.loop-i.i ≡ Some flow =
     ap (λ (xs : List Flow). slice_get xs c.loop-i.i) (sym c.flows-flows.ensures.flows) ∙ slice_get-get_or c.flows-flows.result.now c.loop-i.i d lt in
     let own : c.stands_at.result ≡ stands plan c.loop-i.i c.args.site =
-    c.stands_at.ensures ∙ ap (λ (xs : List ℕ). is_in c.args.site (sites_at xs c.args.sites.now c.loop-i.i)) c.owners.ensures in
+    c.stands_at.ensures ∙ ap (λ (xs : List ℕ). is_in c.args.site (sites_at xs c.args.placed.now c.loop-i.i)) c.owners.ensures in
     let marks = c.loop-i.marks.items in
     let e = c.mark_own.ensures ∙ ap (λ (b : Bool). cond b (marked_all (clock_reads flow.clock) (marked_all (places flow.form) marks)) marks) own in
     own_step plan c.args.site flat c.loop-i.i flow marks c.mark_own.new.marks.items here e c.loop-i.invariant

@@ -4,4 +4,4 @@ use Rattle.luplace.specs.Marks.{AreOwnMarks}
 use Rattle.luplace.proofs.marking.own_marks.Given as goal
 
 abbrev pub invariant-loop-i : goal.invariant-loop-i
-invariant-loop-i l = AreOwnMarks (bare l.flat [] l.sites) l.site l.i l.marks.items
+invariant-loop-i l = AreOwnMarks (bare l.flat [] l.placed) l.site l.i l.marks.items

@@ -8,7 +8,7 @@ use Rattle.luplace.proofs.marking.site_marks.Goals as goal
 pub loop-p-preserved : goal.loop-p-preserved
 loop-p-preserved c =
     let flat = c.flows-flows.ensures.flat in
-    let plan = bare c.args.flat.now [] c.args.sites.now in
+    let plan = bare c.args.flat.now [] c.args.placed.now in
     let p = c.loop-p.p - 1 in
     let marks = c.loop-p.marks.items in
     let ranked = ap length c.rank-order.ensures in
@@ -22,6 +22,6 @@ loop-p-preserved c =
 pub returns : goal.returns
 returns c =
     let flat = c.flows-flows.ensures.flat in
-    let plan = bare c.args.flat.now [] c.args.sites.now in
+    let plan = bare c.args.flat.now [] c.args.placed.now in
     let z : c.loop-p.p ≡ 0 = omega arith in
     are_marks plan c.args.site flat c.loop-p.marks.items (subst (λ (n : ℕ). AreClosedMarks plan c.args.site n c.loop-p.marks.items) z c.loop-p.invariant)

@@ -1,10 +1,6 @@
-use Rattle.std.proofs.Common.{rules}
-use Rattle.luplace_file.specs.Answers.{Gives}
-use Rattle.luplace_file.specs.Placement.{placement_of}
-use Rattle.luplace_file.proofs.LawfulLemmas.{given_lawful}
+use Rattle.toml.specs.View.{table_view}
+use Rattle.luplace_file.proofs.Drafted.{drafted}
 use Rattle.luplace_file.proofs.read.read_place.Goals as goal
 
-pub returns-clause-lawful : goal.returns-clause-lawful
-returns-clause-lawful c =
-    let told : Gives (placement_of c.args.text.now) c.ruled.result = search rules in
-    given_lawful c.args.text.now c.ruled.result told
+pub ruled-requires : goal.ruled-requires
+ruled-requires c = drafted (table_view c.in_ok-table.table) c.in_ok-draft.draft c.in_ok-draft.ensures

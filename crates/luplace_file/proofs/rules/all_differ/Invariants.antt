@@ -1,7 +1,0 @@
-use Rattle.std.proofs.Common.{◌≡◌, drop}
-use Rattle.luplace_file.specs.Rules.{all_differ}
-use Rattle.luplace_file.proofs.rules.all_differ.Given as goal
-
--- the sites before `i` differ from all later ones
-abbrev pub invariant-loop-i : goal.invariant-loop-i
-invariant-loop-i l = all_differ (drop l.i l.sites) ≡ all_differ l.sites
