@@ -8,3 +8,5 @@ pub mod Outputs
 pub mod FaultsTold
 pub mod Ranges
 pub mod Passed
+pub mod Carried
+pub mod Widths

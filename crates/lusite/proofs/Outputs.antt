@@ -1,5 +1,5 @@
 -- What a site tells of its outputs.
-use Rattle.std.proofs.Common.{◌≡◌, ℕ, zero, suc, ◌+◌, ◌<◌, ◌≤◌, inl, inr, Bool, true, false, cond, List, [], ◌∷◌, length, map, filter, nat_eq, Some, refl, sym, ap, ◌∙◌, subst, arith}
+use Rattle.std.proofs.Common.{◌≡◌, ℕ, zero, suc, ◌+◌, ◌<◌, ◌≤◌, inl, inr, Bool, true, false, cond, List, [], ◌∷◌, length, map, filter, nat_eq, Option, None, Some, refl, sym, ap, ◌∙◌, subst, arith}
 use Rattle.std.specs.Prelude.{slice_get, slice_index, ◌&&◌, nat_lt}
 use Rattle.std.specs.List.{range_with_len}
 use Rattle.std.proofs.lemmas.Bool.{cases_lt, eq-eqb, ne_eqb}
@@ -14,7 +14,8 @@ use Rattle.luworld.specs.Runs.{streams_of, cell, script, outputs_of}
 use Rattle.lusite.specs.declared.desk.Desk.{Desk}
 use Rattle.lusite.specs.declared.program.Part.{Part}
 use Rattle.lusite.specs.Machine.{is_faulted, IsSet, StandsAt, IsReadyAt, Ready, Over, done_of}
-use Rattle.lusite.specs.Logs.{add_if, IsOutput, IsRow, IsLoggedAt, is_wanted, passed_to, row_items, log_at}
+use Rattle.lusite.specs.Logs.{add_if, IsOutput, IsRow, IsLoggedAt, is_wanted, passed_to, row_items, log_at, told_at}
+use Rattle.lusite.specs.Programs.{is_home, reports_output}
 use Rattle.luworld.specs.Progress.{IsFirst}
 use Rattle.lusite.proofs.Desks.{Going, going, part_here}
 use Rattle.lusite.proofs.Offers.{Here, hand_next}
@@ -99,3 +100,23 @@ output_is a set st logged ready k xs e =
           log i out ∙ ap (λ (t : Bool). cond t (row_items (slice_get a.logs.items i)) []) off;
       beyond = λ none. e ∙ ap (λ (q : Distribution). log_at a (slice_get (outputs_of q) k)) set.plan_is ∙ ap (log_at a) none;
     }
+
+-- whether a site reports an output
+pub reports_is : (a : Desk) → IsSet a → (k : ℕ) → told_at a (slice_get (outputs_of a.program.plan) k) ≡ reports_output a.inputs.job.plan a.inputs.site k
+reports_is a set k =
+    let job = a.inputs.job in
+    ap (λ (q : Distribution). told_at a (slice_get (outputs_of q) k)) set.plan_is ∙ go (slice_get (outputs_of job.plan) k) refl
+  where
+    with_true : (b c : Bool) → c ≡ true → (b && c) ≡ b
+    with_true true c e = e
+    with_true false c e = refl
+
+    go : (o : Option ℕ) → slice_get (outputs_of a.inputs.job.plan) k ≡ o → told_at a o ≡ is_home a.inputs.job.plan a.inputs.site o
+    go None e = refl
+    go (Some i) e =
+        let plan = a.inputs.job.plan in
+        let o = output_there plan k i e in
+        let first = set.is_job.is_plan.variables_first in
+        let l = o.0 in
+        ap (λ (x : Part). x.told) (part_here a i set (omega (arith, l, first)))
+        ∙ with_true (nat_eq (home plan i) a.inputs.site) (is_output_of plan.flat i) o.1

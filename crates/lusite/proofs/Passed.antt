@@ -1,9 +1,9 @@
 -- Which statuses a site has passed, by where it stands.
 use Rattle.std.proofs.Common.{◌≡◌, ℕ, zero, suc, ◌+◌, ◌-◌, ◌<◌, ◌≤◌, ◌⊎◌, inl, inr, Bool, true, false, cond, List, [], ◌∷◌, ◌++◌, length, take, refl, sym, ap, ◌∙◌, subst, arith}
-use Rattle.std.specs.Prelude.{slice_get, slice_index, ◌&&◌, nat_lt, not, is_some}
+use Rattle.std.specs.Prelude.{slice_index, ◌&&◌, nat_lt, not}
 use Rattle.std.proofs.lemmas.List.{take_all}
 use Rattle.std.proofs.lemmas.Bool.{cases_lt, lt-ltb, ltb-true, false≢true}
-use Rattle.luflow.specs.Program.{flow_at, flows_of}
+use Rattle.luflow.specs.Program.{flow_at}
 use Rattle.luflow.specs.Solution.{clock_of_flow}
 use Rattle.luworld.specs.World.{Item, Compute}
 use Rattle.luworld.specs.Needs.{stands}

@@ -1,4 +1,6 @@
 pub mod Programs
+pub mod Carriers
 pub mod Machine
 pub mod Logs
 pub mod Sites
+pub mod Widths

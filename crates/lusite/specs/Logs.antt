@@ -1,5 +1,5 @@
 -- The statuses of a site's outputs, as far as they were passed.
-use Rattle.std.specs.Prelude.{◌≡◌, ℕ, ◌+◌, ◌<◌, ◌≤◌, Bool, true, not, ◌&&◌, nat_eq, nat_lt, cond, List, [], ◌∷◌, ◌++◌, length, Option, Some, None, slice_get, slice_set, slice_index, vec_capacity, Vec}
+use Rattle.std.specs.Prelude.{◌≡◌, ℕ, ◌+◌, ◌<◌, ◌≤◌, Bool, true, false, not, ◌&&◌, nat_eq, nat_lt, cond, List, [], ◌∷◌, ◌++◌, length, Option, Some, None, slice_get, slice_set, slice_index, vec_capacity, Vec}
 use Rattle.std.specs.declared.alloc.Global.{Global}
 use Rattle.luflow.specs.declared.data.Status.{Status}
 use Rattle.luworld.specs.Needs.{home}
@@ -66,6 +66,10 @@ pub record IsNoted (logs : List Log) (i : ℕ) (x : Log) (status : Status) (logs
 abbrev pub row_items : Option Log → List Status
 row_items None = []
 row_items (Some row) = row.items
+
+abbrev pub told_at : Desk → Option ℕ → Bool
+told_at a None = false
+told_at a (Some i) = (part_at a.program i).told
 
 abbrev pub log_at : Desk → Option ℕ → List Status
 log_at a None = []

@@ -1,15 +1,14 @@
 -- What of a plan a site runs.
-use Rattle.std.specs.Prelude.{◌≡◌, ℕ, Bool, false, ◌&&◌, nat_eq, List, [], map, None, slice_get, unwrap_or}
+use Rattle.std.specs.Prelude.{◌≡◌, ℕ, Bool, false, ◌&&◌, nat_eq, List, [], map, Option, None, Some, slice_get, unwrap_or}
 use Rattle.std.specs.List.{range_with_len}
 use Rattle.luflow.specs.declared.form.Flow.{Flow}
 use Rattle.luflow.specs.Program.{flows_of}
-use Rattle.luworld.specs.Needs.{Distribution, IsPlan, stands, home}
+use Rattle.luworld.specs.Needs.{Distribution, IsPlan, sites_of, stands, home}
 use Rattle.luworld.specs.Runs.{link_into, sends, outputs_of}
-use Rattle.luworld.specs.declared.link.Link.{Link}
 use Rattle.luflow.specs.declared.variable.Variable.{Variable}
 use Rattle.std.specs.Option.{option_map}
 use Rattle.lusite.specs.declared.program.Part.{Part}
-use Rattle.luflow.specs.Variables.{is_output_of, is_output}
+use Rattle.luflow.specs.Variables.{is_output_of, is_output, variable_name}
 
 -- the plan and the site that a site's program is of
 pub record SitePlan : Type 0 where
@@ -29,17 +28,28 @@ no_part = record { own = false; told = false; from = None; to = [] }
 abbrev pub part_at : SitePlan → ℕ → Part
 part_at p i = unwrap_or (slice_get (parts_of p.plan p.site) i) no_part
 
-pub record IsProgram (plan : Distribution) (site : ℕ) (flows : List Flow) (order owners : List ℕ) (parts : List Part) (outputs : List ℕ) : Type 0 where
+-- the names of the main outputs, in order of declaration
+abbrev pub output_names : Distribution → List (List ℕ)
+output_names plan = map (variable_name plan.flat) (outputs_of plan)
+
+-- whether a site reports output k: whether it is the home of that variable
+abbrev pub is_home : Distribution → ℕ → Option ℕ → Bool
+is_home plan s None = false
+is_home plan s (Some i) = nat_eq (home plan i) s
+
+abbrev pub reports_output : Distribution → ℕ → ℕ → Bool
+reports_output plan s k = is_home plan s (slice_get (outputs_of plan) k)
+
+pub record IsProgram (plan : Distribution) (site : ℕ) (flows : List Flow) (order owners : List ℕ) (parts : List Part) (outputs : List ℕ) (sites : ℕ) (names : List (List ℕ)) : Type 0 where
   pub plan_is : IsPlan plan
   pub flows_are : flows ≡ plan.flat.flows
   pub order_is : order ≡ plan.flat.order
   pub owners_are : owners ≡ plan.flat.owners
   pub parts_are : parts ≡ parts_of plan site
   pub outputs_are : outputs ≡ outputs_of plan
+  pub sites_are : sites ≡ sites_of plan
+  pub names_are : names ≡ output_names plan
 
--- the flow that a link of a list carries, and whether a place of a list of variables is that of an output
-abbrev pub carrier_at : List Link → ℕ → ℕ
-carrier_at links l = unwrap_or (option_map (λ (k : Link). k.flow) (slice_get links l)) 0
-
+-- whether a place of a list of variables is that of an output
 abbrev pub role_at : List Variable → ℕ → Bool
 role_at variables i = unwrap_or (option_map (λ (x : Variable). is_output x.role) (slice_get variables i)) false

@@ -10,7 +10,7 @@ ghost use Rattle.luworld.specs.Runs.{is_open, outputs_of};
 ghost use Rattle.lueval.specs.declared.kernel.Past.{Past};
 ghost use Rattle.lueval.specs.Frames.{later};
 ghost use Rattle.lusite.specs.Programs.{part_at};
-ghost use Rattle.lusite.specs.Logs.{IsLoggedAt, is_noted, log_at};
+ghost use Rattle.lusite.specs.Logs.{IsLoggedAt, is_noted, log_at, told_at};
 ghost use Rattle.lusite.specs.Machine.{IsSet, StandsAt, IsSameRun, IsReadyAt, TellsFault, Computes, done_of, rest_of, cell_size, clock_there, count_kept, datum_shown, offered_own, offered, with_body, is_faulted, IsLocalNext, IsPutNext, IsTakeNext};
 
 use crate::logs::note;
@@ -123,6 +123,16 @@ impl Desk {
         self.step == 0 && self.noted(i)
     }
 
+    /// Whether the site reports output k.
+    pub fn reports_output(&self, k: usize) -> bool
+        ensures { result ≡ told_at self.now (slice_get (outputs_of self.now.program.plan) k) }
+    {
+        match self.program.outputs().get(k) {
+            Some(i) => self.program.told(*i),
+            None => false,
+        }
+    }
+
     /// The statuses so far of output k; nothing where another site reports it.
     pub fn output(&self, k: usize) -> &[Status]
         ensures { result.now ≡ log_at self.now (slice_get (outputs_of self.now.program.plan) k) }
@@ -149,13 +159,8 @@ impl Desk {
         let flow = self.program.flows().get(i);
         if early && !open_clock(&self.shown, flow) {
             0
-        } else if self.program.owned(i) {
-            let outs = self.program.to(i).len();
-            if early { outs + 1 } else { outs }
-        } else if self.program.from(i).is_some() {
-            1
         } else {
-            0
+            self.width(i, early)
         }
     }
 

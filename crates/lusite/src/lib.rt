@@ -5,7 +5,9 @@
 //! - [`SiteReport`], [`Standing`]: what a site leaves.
 #![tactic(auto)]
 
+mod carriers;
 mod desk;
+mod left;
 mod logs;
 mod next;
 mod program;

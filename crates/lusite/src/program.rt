@@ -3,11 +3,11 @@
 ghost use Rattle.std.specs.Prelude.{◌≡◌, ◌<◌, [], slice_get, slice_index, unwrap_or, IfOk, Option};
 ghost use Rattle.luworld.specs.Needs.{IsPlan, sites_of};
 ghost use Rattle.luworld.specs.Runs.{outputs_of};
-ghost use Rattle.lusite.specs.Programs.{part_at, no_part};
+ghost use Rattle.lusite.specs.Programs.{part_at, no_part, output_names};
 
 use crate::next::LinkNo;
 use luflow::Flow;
-use lulist::Row;
+use lulist::{Name, Row};
 use luplace::Plan;
 use std::marker::Model;
 use std::snapshot::Snapshot;
@@ -34,6 +34,8 @@ pub struct SiteProgram {
     pub(crate) owners: Row<usize>,
     pub(crate) parts: Row<Part>,
     pub(crate) outputs: Row<usize>,
+    pub(crate) sites: u8,
+    pub(crate) names: Row<Name>,
     pub(crate) plan: Snapshot<Plan>,
 }
 
@@ -44,7 +46,7 @@ impl Model for SiteProgram {
 
     ghost view = { λ a. record { plan = a.plan.value; site = a.site } };
 
-    ghost invariant = { λ a. IsProgram a.plan.value a.site a.flows a.order a.owners a.parts a.outputs };
+    ghost invariant = { λ a. IsProgram a.plan.value a.site a.flows a.order a.owners a.parts a.outputs a.sites a.names };
 }
 
 fn own_at(parts: &[Part], place: usize) -> bool
@@ -121,6 +123,20 @@ impl SiteProgram {
         ensures { result.now ≡ outputs_of self.now.plan }
     {
         self.outputs.as_slice()
+    }
+
+    /// The number of sites of the plan, 1 to 16.
+    pub fn sites(&self) -> u8
+        ensures { result ≡ sites_of self.now.plan }
+    {
+        self.sites
+    }
+
+    /// The names of the main outputs, in order of declaration.
+    pub fn names(&self) -> &[Name]
+        ensures { result.now ≡ output_names self.now.plan }
+    {
+        self.names.as_slice()
     }
 
     /// Whether the site computes a flow.

@@ -2,27 +2,19 @@
 
 ghost use Rattle.std.specs.Prelude.{◌≡◌, ℕ, ◌+◌, ◌<◌, ◌&&◌, nat_eq, cond, [], ◌∷◌, ◌++◌, filter, map, length, IfOk, OnOk, Option, position, slice_get, slice_index, unwrap_or};
 ghost use Rattle.std.specs.List.{range_with_len};
-ghost use Rattle.luworld.specs.declared.link.Link.{Link};
 ghost use Rattle.luworld.specs.Needs.{sites_of, home, stands};
-ghost use Rattle.luworld.specs.Runs.{is_into, outputs_of};
-ghost use Rattle.lusite.specs.Programs.{part_of, parts_of, carrier_at, role_at};
-ghost use Rattle.luflow.specs.Variables.{is_output_of, is_output};
+ghost use Rattle.luworld.specs.Runs.{link_into, sends};
+ghost use Rattle.lusite.specs.Programs.{part_of, parts_of, role_at};
+ghost use Rattle.luflow.specs.Variables.{is_output_of, is_output, variable_name};
 
+use crate::carriers::{carriers_of, take_row};
 use crate::next::LinkNo;
 use crate::program::{Part, SiteProgram};
-use luflow::{Role, Variable};
-use lulist::Row;
+use luflow::{Flat, Role, Variable};
+use lulist::{Name, Row};
 use luplace::Plan;
-use luworld::Link;
 use std::alloc::{AllocError, Global};
 use std::snapshot::Snapshot;
-
-/// The link by which a site takes a flow.
-fn link_into(links: &[Link], site: u8, flow: usize) -> Option<LinkNo>
-    ensures { result ≡ position (is_into site flow) links.now }
-{
-    links.iter().position(|k| k.flow == flow && k.to == site)
-}
 
 /// Adds a number, if it is wanted.
 fn push_if(found: &mut Vec<usize>, wanted: bool, number: usize) -> Result<(), AllocError>
@@ -32,28 +24,6 @@ fn push_if(found: &mut Vec<usize>, wanted: bool, number: usize) -> Result<(), Al
         found.push(number)?;
     }
     Ok(())
-}
-
-/// Whether a link carries a flow.
-fn carries(links: &[Link], link: usize, flow: usize) -> bool
-    ensures { result ≡ nat_eq (carrier_at links.now link) flow }
-{
-    match links.get(link) {
-        Some(found) => found.flow == flow,
-        None => flow == 0,
-    }
-}
-
-/// The links that carry a flow, in order.
-fn carriers(alloc: Global, links: &[Link], flow: usize) -> Result<Vec<LinkNo>, AllocError>
-    ensures { IfOk result (λ v. v.items ≡ filter (λ l. nat_eq (carrier_at links.now l) flow)
-        (range_with_len 0 (length links.now))) }
-{
-    let mut found = Vec::new(alloc);
-    for l in 0..links.len() {
-        push_if(&mut found, carries(links, l, flow), l)?;
-    }
-    Ok(found)
 }
 
 fn is_output(role: Role) -> bool
@@ -88,6 +58,27 @@ fn told_places(alloc: Global, variables: &[Variable]) -> Result<Vec<usize>, Allo
     Ok(found)
 }
 
+/// The name of a variable.
+fn name_of(alloc: Global, flat: &Flat, place: usize) -> Result<Name, AllocError>
+    ensures { IfOk result (λ name. name ≡ variable_name flat.now place) }
+{
+    match flat.variables().get(place) {
+        Some(variable) => variable.name.copied(alloc),
+        None => Ok(Name::new(String::new(alloc))),
+    }
+}
+
+/// The names of the variables of these places.
+fn names_of(alloc: Global, flat: &Flat, places: &[usize]) -> Result<Vec<Name>, AllocError>
+    ensures { IfOk result (λ v. v.items ≡ map (variable_name flat.now) places.now) }
+{
+    let mut names = Vec::new(alloc);
+    for place in places {
+        names.push(name_of(alloc, flat, *place)?)?;
+    }
+    Ok(names)
+}
+
 fn number_at(numbers: &[usize], place: usize) -> usize
     ensures { result ≡ slice_index numbers.now place }
 {
@@ -118,31 +109,28 @@ fn home(plan: &Plan, place: usize) -> u8
     }
 }
 
-fn part(alloc: Global, plan: &Plan, site: u8, place: usize) -> Result<Part, AllocError>
-    ensures { IfOk result (λ x. x ≡ part_of plan.now site place) }
+fn part(plan: &Plan, site: u8, place: usize, from: Option<LinkNo>, to: Vec<LinkNo>) -> Part
+    requires from { from ≡ link_into plan.now site place }
+    requires to { to.items ≡ sends plan.now site place }
+    ensures { result ≡ part_of plan.now site place }
 {
-    let at_home = home(plan, place) == site;
-    let told = at_home && is_told(plan.flat().variables(), place);
-    let to = if at_home {
-        carriers(alloc, plan.links(), place)?
-    } else {
-        Vec::new(alloc)
-    };
-    Ok(Part {
+    Part {
         own: plan.stands(place, site),
-        told,
-        from: link_into(plan.links(), site, place),
+        told: home(plan, place) == site && is_told(plan.flat().variables(), place),
+        from,
         to: Row::new(to),
-    })
+    }
 }
 
-fn parts(alloc: Global, plan: &Plan, site: u8, flows: usize) -> Result<Vec<Part>, AllocError>
-    ensures { IfOk result (λ v. v.items ≡ map (part_of plan.now site) (range_with_len 0 flows)) }
+fn parts(alloc: Global, plan: &Plan, site: u8) -> Result<Vec<Part>, AllocError>
+    ensures { IfOk result (λ v. v.items ≡ parts_of plan.now site) }
 {
+    let flows = plan.flat().flows().len();
+    let mut carriers = carriers_of(alloc, plan, site, flows)?;
     let mut all = Vec::with_capacity(alloc, flows)?;
     for i in 0..flows {
-        let part = part(alloc, plan, site, i)?;
-        all.push_reserved(part);
+        let to = take_row(alloc, &mut carriers.rows, i);
+        all.push_reserved(part(plan, site, i, carriers.sources[i], to));
     }
     Ok(all)
 }
@@ -155,8 +143,9 @@ pub fn project(alloc: Global, plan: &Plan, site: u8) -> Result<SiteProgram, Allo
     let flows = Vec::from_slice(alloc, plan.flat().flows())?;
     let order = Vec::from_slice(alloc, plan.flat().rank())?;
     let owners = Vec::from_slice(alloc, plan.flat().owners())?;
-    let parts = parts(alloc, plan, site, flows.len())?;
+    let parts = parts(alloc, plan, site)?;
     let outputs = told_places(alloc, plan.flat().variables())?;
+    let names = names_of(alloc, plan.flat(), outputs.as_slice())?;
     Ok(SiteProgram {
         site,
         flows: Row::new(flows),
@@ -164,6 +153,8 @@ pub fn project(alloc: Global, plan: &Plan, site: u8) -> Result<SiteProgram, Allo
         owners: Row::new(owners),
         parts: Row::new(parts),
         outputs: Row::new(outputs),
+        sites: plan.sites().len() as u8,
+        names: Row::new(names),
         plan: Snapshot::of(plan),
     })
 }

@@ -3,10 +3,14 @@
 ghost use Rattle.std.specs.Prelude.{◌≡◌, true};
 ghost use Rattle.lusite.specs.Logs.{IsOutput};
 ghost use Rattle.lusite.specs.Machine.{IsNext, IsStanding};
+ghost use Rattle.lusite.specs.Programs.{output_names, reports_output};
+ghost use Rattle.luworld.specs.Needs.{sites_of};
+ghost use Rattle.luworld.specs.Runs.{IsJob};
 
 use crate::next::{Fault, Next};
 use crate::site::Site;
 use luflow::Status;
+use lulist::Name;
 use std::marker::Model;
 
 /// How a site stands.
@@ -69,6 +73,42 @@ impl Site {
 }
 
 impl SiteReport {
+    /// The number of the site, from 0. Takes no memory.
+    pub fn site(&self) -> u8
+        ensures { result ≡ self.now.site }
+    {
+        self.site.site()
+    }
+
+    /// The number of sites of the run, 1 to 16. Takes no memory.
+    pub fn sites(&self) -> u8
+        ensures { result ≡ sites_of self.now.job.plan }
+    {
+        self.site.sites()
+    }
+
+    /// The number of instants of the run, 0 to 1,000,000. Takes no memory.
+    pub fn instants(&self) -> u32
+        ensures instants { result ≡ self.now.job.inputs.instants }
+        ensures job { IsJob self.now.job }
+    {
+        self.site.instants()
+    }
+
+    /// The names of the main outputs, of all sites, in order of declaration: by the number of each. Takes no memory.
+    pub fn names(&self) -> &[Name]
+        ensures { result.now ≡ output_names self.now.job.plan }
+    {
+        self.site.names()
+    }
+
+    /// Whether the site is the one that reports output k; false where there is no output k. Takes no memory.
+    pub fn reports_output(&self, k: usize) -> bool
+        ensures { result ≡ reports_output self.now.job.plan self.now.site k }
+    {
+        self.site.reports_output(k)
+    }
+
     /// How the site stands: ended or faulted exactly where its `next` said so, else cut. Takes no memory.
     pub fn standing(&self) -> Standing
         ensures { IsStanding self.now.job self.now.site self.now.done result }

@@ -2,16 +2,20 @@
 
 ghost use Rattle.std.specs.Prelude.{◌≡◌, ◌↔◌, ℕ, ◌+◌, ◌<◌, ◌≤◌, IfOk, IfSome, IsSome, List, length, Some, slice_get};
 ghost use Rattle.std.specs.Option.{ForSome};
-ghost use Rattle.luworld.specs.Runs.{IsJob};
+ghost use Rattle.luworld.specs.Needs.{sites_of};
+ghost use Rattle.luworld.specs.Outline.{left_after};
+ghost use Rattle.luworld.specs.Runs.{IsJob, IsRun, outline, streams_of};
 ghost use Rattle.lusite.specs.Logs.{IsOutput, IsNewRow, Log};
 ghost use Rattle.lusite.specs.Machine.{IsNext, IsLocalNext, IsPutNext, IsTakeNext, IsFaultAt};
-ghost use Rattle.lusite.specs.Programs.{part_at};
+ghost use Rattle.lusite.specs.Programs.{part_at, output_names, reports_output};
+ghost use Rattle.lusite.specs.Widths.{most_left};
 
 use crate::desk::Desk;
 use crate::next::{Fault, Next};
 use crate::program::SiteProgram;
 use lueval::Past;
 use luflow::{Datum, Msg, Status};
+use lulist::Name;
 use luplace::SiteInputs;
 use std::alloc::{AllocError, Global};
 use std::marker::Model;
@@ -92,12 +96,40 @@ impl Site {
         Ok(Site { desk })
     }
 
+    /// The number of the site, from 0. Takes no memory.
+    pub fn site(&self) -> u8
+        ensures { result ≡ self.now.site }
+    {
+        self.desk.inputs.site()
+    }
+
     /// The number of instants, 0 to 1,000,000. Takes no memory.
     pub fn instants(&self) -> u32
         ensures instants { result ≡ self.now.job.inputs.instants }
         ensures job { IsJob self.now.job }
     {
         self.desk.inputs.instants()
+    }
+
+    /// The number of sites of the run, 1 to 16. Takes no memory.
+    pub fn sites(&self) -> u8
+        ensures { result ≡ sites_of self.now.job.plan }
+    {
+        self.desk.program.sites()
+    }
+
+    /// The names of the main outputs, of all sites, in order of declaration: by the number of each. Takes no memory.
+    pub fn names(&self) -> &[Name]
+        ensures { result.now ≡ output_names self.now.job.plan }
+    {
+        self.desk.program.names()
+    }
+
+    /// Whether the site is the one that reports output k; false where there is no output k. Takes no memory.
+    pub fn reports_output(&self, k: usize) -> bool
+        ensures { result ≡ reports_output self.now.job.plan self.now.site k }
+    {
+        self.desk.reports_output(k)
     }
 
     /// Exactly the next item of the site's script; at its end whether it ended or faulted. Takes no memory.
@@ -124,6 +156,21 @@ impl Site {
             Next.Faulted }
     {
         self.desk.fault
+    }
+
+    /// How many items the site would still do if every flow that it hasn't passed were present at each instant; 0 where it has
+    /// faulted. At most 268,439,820,439,552. Looks at each flow a few times, however many instants there are. Takes no memory.
+    pub fn left(&self) -> u64
+        ensures left { result ≡ left_after (outline self.now.job (streams_of self.now.job))
+            self.now.site self.now.done }
+        ensures few { result ≤ most_left }
+        ensures run { IsRun self.now.job }
+    {
+        let _run = self.desk.inputs.site();
+        if self.desk.fault.is_some() {
+            return 0;
+        }
+        self.desk.left()
     }
 
     /// Computes the flow at hand.

@@ -1,6 +1,5 @@
 -- The items left, if every flow not yet passed were present.
-use Rattle.std.proofs.Common.{◌≡◌, ◌≢◌, ◌↔◌, ◌⊎◌, ℕ, zero, suc, ◌+◌, ◌-◌, ◌<◌, ◌≤◌, Bool, true, false, cond, ◌&&◌, List, [], ◌∷◌, ◌++◌, length, flat_map, nat_lt, nat_eq, refl, sym, ap, ap₂, ◌∙◌, subst, arith, inl, inr, ⊎_elim, length-append}
-use Rattle.std.specs.List.{list_any}
+use Rattle.std.proofs.Common.{◌≡◌, ◌≢◌, ◌↔◌, ◌⊎◌, ℕ, zero, suc, ◌+◌, ◌-◌, ◌<◌, ◌≤◌, Bool, true, false, cond, List, [], ◌∷◌, ◌++◌, length, flat_map, nat_lt, refl, sym, ap, ap₂, ◌∙◌, subst, arith, inl, inr, ⊎_elim, length-append}
 use Rattle.std.proofs.lemmas.List.Sums.{sum_by-cons}
 use Rattle.std.proofs.lemmas.Bool.{cases_lt, cases_eq, lt-ltb, le-ltb, eqb-true, ne_eqb, and_left, and_parts}
 use Rattle.luworld.specs.World.{Item, World, done, turn, step, reached, moved_turns, item_count, IsAllDone, total_below}
@@ -9,11 +8,12 @@ use Rattle.luworld.specs.OutlineLaws.{LeftIs}
 use Rattle.luworld.proofs.Steps.{moved_item, site_within}
 use Rattle.std.proofs.lemmas.Option.{slice_get_within}
 use Rattle.luworld.proofs.Runs.{good_reached}
-use Rattle.luworld.proofs.Totals.{moved_total}
-use Rattle.luworld.proofs.Turns.{turn_is}
+use Rattle.luworld.proofs.Totals.{moved_total, total_le}
+use Rattle.luworld.proofs.Turns.{turn_of}
+use Rattle.luworld.specs.Reach.{IsGood}
 use Rattle.luworld.proofs.Wired.{wired}
 use Rattle.luworld.proofs.Whole.{not_cut}
-use Rattle.luworld.specs.Outline.{Outline, IsOutline, NoFault, Cell, shown_items, cells, full_script, script, cut, stops, system, size, left_in, is_break, has_faulted, left_at, left}
+use Rattle.luworld.specs.Outline.{Outline, IsOutline, NoFault, Cell, shown_items, cells, full_script, script, cut, stops, system, size, left_in, has_faulted, left_after, left_at, left}
 
 abbrev shown : List Cell → ℕ
 shown cs = length (flat_map shown_items cs)
@@ -22,7 +22,7 @@ module _ (cell : Cell) (cs : List Cell) where
   hidden : cell.shown ≡ false → (n : ℕ) → left_in (cell ∷ cs) n ≡ left_in cs n
   hidden e n = ap (λ (b : Bool). cond b (cond (nat_lt n (length cell.items)) ((length cell.items - n) + size cs) (left_in cs (n - length cell.items))) (left_in cs n)) e
 
-  inside : cell.shown ≡ true → (n : ℕ) → n < length cell.items → left_in (cell ∷ cs) n ≡ (length cell.items - n) + size cs
+  pub inside : cell.shown ≡ true → (n : ℕ) → n < length cell.items → left_in (cell ∷ cs) n ≡ (length cell.items - n) + size cs
   inside e n lt = ap₂ (λ (b : Bool) (c : Bool). cond b (cond c ((length cell.items - n) + size cs) (left_in cs (n - length cell.items))) (left_in cs n)) e (lt-ltb _ _ lt)
 
   beyond : cell.shown ≡ true → (n : ℕ) → length cell.items ≤ n → left_in (cell ∷ cs) n ≡ left_in cs (n - length cell.items)
@@ -43,6 +43,18 @@ cases_shown cell = go cell.shown
     go : (b : Bool) → (b ≡ true) ⊎ (b ≡ false)
     go true = inl refl
     go false = inr refl
+
+-- cells whose items are all done
+pub left_past : (cs rest : List Cell) (n : ℕ) → left_in (cs ++ rest) (length (flat_map shown_items cs) + n) ≡ left_in rest n
+left_past [] rest n = let e : 0 + n ≡ n = omega arith in ap (left_in rest) e
+left_past (cell ∷ cs) rest n =
+    ⊎_elim
+    (λ e.
+    let m = shown_length cell cs e in
+    let k : (shown (cell ∷ cs) + n) - length cell.items ≡ shown cs + n = omega (arith, m) in
+    beyond cell (cs ++ rest) e (shown (cell ∷ cs) + n) (omega (arith, m)) ∙ ap (left_in (cs ++ rest)) k ∙ left_past cs rest n)
+    (λ e. hidden cell (cs ++ rest) e (shown (cell ∷ cs) + n) ∙ ap (λ m. left_in (cs ++ rest) (m + n)) (hidden_length cell cs e) ∙ left_past cs rest n)
+    (cases_shown cell)
 
 shown_le : (cs : List Cell) → shown cs ≤ size cs
 shown_le [] = omega arith
@@ -156,51 +168,52 @@ module _ (plan : Outline) (world : World) (site : ℕ) where
       go true e = omega (arith, faulted_done e)
       go false e = omega (arith, cut_length plan [] (full_script plan site), left_enough (cells plan site) (done world site))
 
-module _ (plan : Outline) (ok : IsOutline plan) (schedule : List ℕ) where
-  now : World
-  now = reached (system plan) schedule
-
-  falls_now : (site : ℕ) → turn (system plan) now site ≡ Moved → left plan (step (system plan) now site) < left plan now
-  unfolding now
-  falls_now site e =
-      let good = good_reached (system plan) (wired plan ok) schedule in
-      let t = turn_is (system plan) (wired plan ok) schedule site in
-      let m = moved_item (system plan) now site e in
-      let within = slice_get_within (script plan site) (done now site) m.0 m.1 in
+-- in every world that turns can make
+module _ (plan : Outline) (ok : IsOutline plan) (world : World) (good : IsGood (system plan) world) where
+  pub left_step : (site : ℕ) → turn (system plan) world site ≡ Moved → left plan (step (system plan) world site) < left plan world
+  left_step site e =
+      let t = turn_of (system plan) (wired plan ok) world good site in
+      let m = moved_item (system plan) world site e in
+      let within = slice_get_within (script plan site) (done world site) m.0 m.1 in
       let next = (t.moved e).0 in
-      let a = left_at_le plan (step (system plan) now site) site in
-      let b : left_in (cells plan site) (done (step (system plan) now site) site) ≡ left_in (cells plan site) (suc (done now site)) = ap (left_in (cells plan site)) next in
-      let c = left_falls (cells plan site) (done now site) (omega (arith, within, cut_length plan [] (full_script plan site))) in
-      let d : left_at plan now site ≡ left_in (cells plan site) (done now site) = ap (λ (f : Bool). cond f 0 (left_in (cells plan site) (done now site))) (not_faulted plan now site within) in
-      (total_less (left_at plan (step (system plan) now site)) (left_at plan now) site
-      (λ other ne. ap (λ (n : ℕ). cond (nat_eq n (length (script plan other)) && list_any (is_break plan) (script plan other)) 0 (left_in (cells plan other) n)) (t.others other ne))
-      (omega (arith, a, b, c, d)) plan.sites).1 (site_within (system plan) (wired plan ok) site (done now site) m.0 m.1)
+      let a = left_at_le plan (step (system plan) world site) site in
+      let b : left_in (cells plan site) (done (step (system plan) world site) site) ≡ left_in (cells plan site) (suc (done world site)) = ap (left_in (cells plan site)) next in
+      let c = left_falls (cells plan site) (done world site) (omega (arith, within, cut_length plan [] (full_script plan site))) in
+      let d : left_at plan world site ≡ left_in (cells plan site) (done world site) = ap (λ (f : Bool). cond f 0 (left_in (cells plan site) (done world site))) (not_faulted plan world site within) in
+      (total_less (left_at plan (step (system plan) world site)) (left_at plan world) site
+      (λ other ne. ap (left_after plan other) (t.others other ne))
+      (omega (arith, a, b, c, d)) plan.sites).1 (site_within (system plan) (wired plan ok) site (done world site) m.0 m.1)
 
-  enough_now : item_count (system plan) ≤ moved_turns (system plan) schedule + left plan now
-  unfolding now
+  -- the items not done are at most those left
+  pub left_covers : total_below (λ site. length (script plan site) - done world site) plan.sites ≤ left plan world
+  left_covers = total_le (λ site. length (script plan site) - done world site) (left_at plan world) (λ site. let e = enough_at plan world site in omega (arith, e)) plan.sites
+
+  pub left_zero : NoFault plan → (left plan world ≡ 0) ↔ IsAllDone (system plan) world
+  left_zero fine = (all, none)
+    where
+      all : left plan world ≡ 0 → IsAllDone (system plan) world
+      all z site =
+          ⊎_elim
+          (λ lt. omega (arith, total_zero (left_at plan world) plan.sites z site lt, enough_at plan world site, good.inside site))
+          (λ ge. let n : length (script plan site) ≡ 0 = ap (length {A = Item}) ((wired plan ok).no_more_sites site ge) in omega (arith, n, good.inside site))
+          (cases_lt site plan.sites)
+
+      none : IsAllDone (system plan) world → left plan world ≡ 0
+      none all = total_none (left_at plan world) (λ site.
+          let e : length (script plan site) ≡ shown (cells plan site) = ap (length {A = Item}) (not_cut plan ok fine site) in
+          let z = left_none (cells plan site) (done world site) (omega (arith, e, all site)) in
+          omega (arith, z, left_at_le plan world site)) plan.sites
+
+module _ (plan : Outline) (ok : IsOutline plan) (schedule : List ℕ) where
+  enough_now : item_count (system plan) ≤ moved_turns (system plan) schedule + left plan (reached (system plan) schedule)
   enough_now =
+      let now = reached (system plan) schedule in
       let m = moved_total (system plan) (wired plan ok) schedule in
       let t = total_add (λ site. length (script plan site)) (done now) (left_at plan now) (λ site. enough_at plan now site) plan.sites in
       omega (arith, m, t)
 
-  none_now : NoFault plan → (left plan now ≡ 0) ↔ IsAllDone (system plan) now
-  unfolding now
-  none_now fine = (all, none)
-    where
-      all : left plan now ≡ 0 → IsAllDone (system plan) now
-      all z site =
-          let good = good_reached (system plan) (wired plan ok) schedule in
-          ⊎_elim
-          (λ lt. omega (arith, total_zero (left_at plan now) plan.sites z site lt, enough_at plan now site, good.inside site))
-          (λ ge. let n : length (script plan site) ≡ 0 = ap (length {A = Item}) ((wired plan ok).no_more_sites site ge) in omega (arith, n, good.inside site))
-          (cases_lt site plan.sites)
-
-      none : IsAllDone (system plan) now → left plan now ≡ 0
-      none all = total_none (left_at plan now) (λ site.
-          let e : length (script plan site) ≡ shown (cells plan site) = ap (length {A = Item}) (not_cut plan ok fine site) in
-          let z = left_none (cells plan site) (done now site) (omega (arith, e, all site)) in
-          omega (arith, z, left_at_le plan now site)) plan.sites
-
   pub left_is : LeftIs plan schedule
-  unfolding now
-  left_is = record { enough = enough_now; falls = falls_now; none_left = none_now }
+  left_is =
+      let good = good_reached (system plan) (wired plan ok) schedule in
+      let now = reached (system plan) schedule in
+      record { enough = enough_now; falls = left_step plan ok now good; none_left = left_zero plan ok now good }

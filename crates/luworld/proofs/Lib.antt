@@ -24,3 +24,4 @@ pub mod Fitting
 pub mod PassedWhole
 pub mod WorkedPlans
 pub mod WorkedChains
+pub mod Remaining

@@ -105,7 +105,7 @@ module _ (job : Run) (σ : Streams) (ok : Fits job.plan) (s t i : ℕ) (li : i <
   abbrev pub passes : List Item
   passes = cond (stands job.plan i s) (map Puts (sends job.plan s i)) (map Takes (listed (link_into job.plan s i)))
 
-  message_is : message_items (outline job σ) s i ≡ passes
+  pub message_is : message_items (outline job σ) s i ≡ passes
   message_is = elim (cases_eq (home job.plan i) s) [
     | inl same ↦
         let own : stands job.plan i s ≡ true = subst (λ (h : ℕ). stands job.plan i h ≡ true) same (ok.stands_home i li) in

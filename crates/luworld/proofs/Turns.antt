@@ -8,7 +8,7 @@ use Rattle.luworld.proofs.Runs.{good_reached, good_step}
 use Rattle.luworld.specs.Reach.{IsGood}
 
 module _ (sys : System) (wired : IsWired sys) (world : World) (good : IsGood sys world) (site : ℕ) where
-  turn_of : TurnIs sys world site
+  pub turn_of : TurnIs sys world site
   turn_of = record {
     moved = λ e.
         let m = moved_item sys world site e in

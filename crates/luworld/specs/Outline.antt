@@ -137,12 +137,19 @@ is_break plan (Compute flow instant) = plan.broken flow instant
 is_break plan (Puts link) = false
 is_break plan (Takes link) = false
 
--- whether a site has done its whole script and holds a computation that broke
+-- whether a site that has done n items has done its whole script, which holds a computation that broke
+abbrev pub faulted_after : Outline → ℕ → ℕ → Bool
+faulted_after plan site n = nat_eq n (length (script plan site)) && list_any (is_break plan) (script plan site)
+
+-- the items left of a site that has done n
+abbrev pub left_after : Outline → ℕ → ℕ → ℕ
+left_after plan site n = cond (faulted_after plan site n) 0 (left_in (cells plan site) n)
+
 abbrev pub has_faulted : Outline → World → ℕ → Bool
-has_faulted plan world site = nat_eq (done world site) (length (script plan site)) && list_any (is_break plan) (script plan site)
+has_faulted plan world site = faulted_after plan site (done world site)
 
 abbrev pub left_at : Outline → World → ℕ → ℕ
-left_at plan world site = cond (has_faulted plan world site) 0 (left_in (cells plan site) (done world site))
+left_at plan world site = left_after plan site (done world site)
 
 abbrev pub left : Outline → World → ℕ
 left plan world = total_below (left_at plan world) plan.sites
