@@ -1,15 +1,12 @@
 -- A world in the source's words.
-use Rattle.std.proofs.Common.{◌≡◌, ℕ, zero, suc, ◌<◌, ◌≤◌, Bool, true, List, [], ◌∷◌, ◌++◌, length, take, drop, map, Some, refl, sym, ap, ◌∙◌, subst, arith}
-use Rattle.std.specs.Prelude.{slice_get}
+use Rattle.std.proofs.Common.{◌≡◌, ℕ, zero, suc, ◌<◌, ◌≤◌, List, [], ◌∷◌, ◌++◌, length, take, drop, refl, sym, ap, ◌∙◌, subst, arith}
 use Rattle.std.proofs.lemmas.List.{take_all, length-take}
 use Rattle.luflow.specs.declared.data.Status.{Status}
 use Rattle.luflow.specs.declared.message.Msg.{Msg}
-use Rattle.luflow.specs.Streams.{Mark, Known}
-use Rattle.luflow.proofs.Solutions.{some_at}
 use Rattle.luworld.specs.World.{put_count, taken_count}
-use Rattle.luworld.specs.Runs.{Run, streams_of, system_of, link_list, outputs_of}
+use Rattle.luworld.specs.Runs.{Run, streams_of, system_of, link_list}
 use Rattle.lusource.specs.Source.{SourceStreams}
-use Rattle.lumeaning.specs.Meaning.{IsMeant, NoneBreaks, source_list, AreStatuses, BeginStatuses}
+use Rattle.lumeaning.specs.Meaning.{IsMeant, NoneBreaks, source_list}
 use Rattle.lumeaning.proofs.Sources.{same_list, same_marks, none_breaks}
 use Rattle.lusite.specs.Sites.{SiteAt}
 use Rattle.lusite.proofs.Outputs.{output_there}
@@ -18,7 +15,7 @@ use Rattle.luweave.specs.Worlds.{IsWorld, dones_of}
 use Rattle.luworld.specs.Progress.{IsCollected, IsBeginning, AllEnded}
 use Rattle.luweave.specs.Headline.{IsCollectedOf, IsWithin, IsTakenOf, IsFaithful}
 use Rattle.luweave.proofs.Worlds.{take_begins, both_begin, lane_view}
-use Rattle.luweave.proofs.Endings.{all_put, all_taken, no_fault}
+use Rattle.luweave.proofs.Endings.{all_taken, no_fault}
 
 drop_all : (n : ℕ) (xs : List Msg) → length xs ≤ n → drop n xs ≡ []
 drop_all zero [] le = refl

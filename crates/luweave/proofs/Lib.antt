@@ -1,3 +1,5 @@
 pub mod Worlds
+pub mod Moving
 pub mod Endings
 pub mod Headlines
+pub mod Finishing

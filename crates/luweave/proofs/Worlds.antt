@@ -84,6 +84,17 @@ next_is job sites lanes capacity s v x w at h =
     let e = w.sites_are s v at in
     subst (λ (n : ℕ). IsNext job n v.done x) e.1 (subst (λ (j : Run). IsNext j v.site v.done x) e.0 h)
 
+-- a site of a world, and what it offers
+pub record Offer (job : Run) (sites : List SiteAt) (s : ℕ) (x : Next) : Type 0 where
+  pub site : SiteAt
+  pub there : slice_get sites s ≡ Some site
+  pub next : IsNext job s site.done x
+
+pub offer : (job : Run) (sites : List SiteAt) (lanes : List Lane) (capacity s : ℕ) (x y : Next) → IsWorld job sites lanes capacity → s < length sites → ((v : SiteAt) → slice_get sites s ≡ Some v → IsNext v.job v.site v.done x) → x ≡ y → Offer job sites s y
+offer job sites lanes capacity s x y w l h e =
+    let v = some_at sites s l in
+    record { site = v.0; there = v.1; next = next_is job sites lanes capacity s v.0 y w v.1 (subst (IsNext v.0.job v.0.site v.0.done) e (h v.0 v.1)) }
+
 module _ (job : Run) (sites : List SiteAt) (lanes : List Lane) (capacity s : ℕ) (v : SiteAt) (w : IsWorld job sites lanes capacity) (at : slice_get sites s ≡ Some v) where
   -- the site's next item
   item_here : (o : Option Item) → slice_get (script job (streams_of job) s) v.done ≡ o → next_item (system_of job) (dones_of sites) s ≡ o

@@ -1,13 +1,14 @@
 -- A world of sites: how many items each has done. What each turn does is `turn` and `step` of the scripts' system.
 use Rattle.std.specs.Prelude.{◌≡◌, ◌⊎◌, ℕ, ◌+◌, ◌-◌, ◌<◌, ◌≤◌, Bool, false, nat_lt, List, [], ◌∷◌, ◌++◌, length, map, Option, Some, None, slice_get, slice_set, take, vec_capacity}
 use Rattle.luworld.specs.declared.turn.Turn.TheVariants.{Moved}
-use Rattle.luworld.specs.World.{done, put_count, taken_count, turn, reached, NoTurnMoves}
+use Rattle.luworld.specs.World.{done, put_count, taken_count, turn, run, reached, NoTurnMoves, total_below}
 use Rattle.luworld.specs.Reach.{IsGood}
 use Rattle.luworld.specs.Needs.{Distribution, sites_of}
 use Rattle.luflow.specs.declared.message.Msg.{Msg}
 use Rattle.luflow.specs.declared.data.Status.{Status}
 use Rattle.luweave.specs.declared.lane.Lane.{Lane}
-use Rattle.luworld.specs.Runs.{Run, streams_of, system_of, script, HasNoStop, link_list, NoFault, IsJob}
+use Rattle.luworld.specs.Outline.{left}
+use Rattle.luworld.specs.Runs.{Run, outline, streams_of, system_of, script, HasNoStop, link_list, NoFault, IsJob}
 use Rattle.lusite.specs.Logs.{IsOutput}
 use Rattle.luworld.specs.Progress.{AllEnded}
 use Rattle.lusite.specs.Sites.{SiteAt}
@@ -92,6 +93,18 @@ IsUnstuck job dones = NoFault job → AllEnded job dones ⊎ ((s : ℕ) × (turn
 -- where no turn moves any more, every schedule that goes on until none does ends here
 abbrev pub IsOnlyEnd : Run → List ℕ → Type 0
 IsOnlyEnd job dones = (schedule : List ℕ) → NoTurnMoves (system_of job) dones → NoTurnMoves (system_of job) (reached (system_of job) schedule) → reached (system_of job) schedule ≡ dones
+
+-- how many items of the scripts aren't done
+abbrev pub undone : Run → List ℕ → ℕ
+undone job dones = total_below (λ s. length (script job (streams_of job) s) - done dones s) (sites_of job.plan)
+
+-- how many items are left, if every flow not yet passed were present; none of a site that has faulted
+abbrev pub left_of : Run → List ℕ → ℕ
+left_of job dones = left (outline job (streams_of job)) dones
+
+-- a world some turns later
+abbrev pub IsLater : Run → List ℕ → List ℕ → Type 0
+IsLater job dones later = (turns : List ℕ) × (run (system_of job) dones turns ≡ later)
 
 -- a site has done its whole script, and no stop is in it
 abbrev pub IsDone : SiteAt → Type 0

@@ -4,7 +4,11 @@
 //! - [`replay`]: a new world after the turns of a schedule.
 #![tactic(auto)]
 
+mod enabled;
+mod finish;
 mod lane;
+mod left;
+mod offers;
 mod world;
 
 pub use lusite::{LinkNo, Site};

@@ -1,13 +1,13 @@
 //! All sites in one thread, by turns.
 ghost use Rattle.std.specs.Prelude.{◌≡◌, ℕ, ◌++◌, true, [], ◌+◌, ◌<◌, ◌≤◌, length, take, drop, slice_get, slice_set, slice_index, vec_capacity, List, Some, None, IfOk};
 ghost use Rattle.std.specs.Option.{ForSome};
-ghost use Rattle.lusite.specs.Machine.{IsNext, IsLocalNext, IsPutNext, IsTakeNext};
+ghost use Rattle.lusite.specs.Machine.{IsLocalNext, IsPutNext, IsTakeNext};
 ghost use Rattle.lusite.specs.Sites.{SiteAt};
 ghost use Rattle.luweave.specs.declared.lane.Lane.{Lane};
 ghost use Rattle.luworld.specs.Runs.{link_list, streams_of};
 ghost use Rattle.luworld.specs.World.{done, turn, step, reached, put_count, taken_count, new_world};
 ghost use Rattle.luworld.specs.Runs.{system_of, IsJob};
-ghost use Rattle.luweave.specs.Worlds.{more, IsPutInto, IsTakeFrom, room_in, some_in, IsNewWorld, IsNewLane, IsUnstuck, IsOnlyEnd, IsDone, IsToldBySome};
+ghost use Rattle.luweave.specs.Worlds.{more, IsPutInto, IsTakeFrom, IsNewWorld, IsNewLane, IsUnstuck, IsOnlyEnd, IsDone, IsToldBySome};
 ghost use Rattle.luworld.specs.Progress.{IsCollected, IsBeginning, AllEnded, list_of_link, taken_of, queued_of};
 ghost use Rattle.lusource.specs.Source.{SourceStreams};
 ghost use Rattle.lumeaning.specs.Meaning.{IsMeant, NoneBreaks, source_list};
@@ -16,6 +16,7 @@ ghost use Rattle.lusite.specs.Logs.{IsOutput};
 ghost use Rattle.luworld.specs.Runs.{NoFault, outputs_of};
 
 use crate::lane::Lane;
+use crate::offers::{has_room, has_some, next_of};
 use luflow::{Msg, Status};
 use luplace::Plan;
 use lusite::{LinkNo, Next, Site};
@@ -28,9 +29,9 @@ use std::snapshot::Snapshot;
 /// each site has done.
 #[derive(Drop)]
 pub struct World {
-    sites: Vec<Site>,
-    lanes: Vec<Lane>,
-    capacity: usize,
+    pub(crate) sites: Vec<Site>,
+    pub(crate) lanes: Vec<Lane>,
+    pub(crate) capacity: usize,
     first: Snapshot<Site>,
 }
 
@@ -43,13 +44,6 @@ impl Model for World {
     ghost view = { λ a. record { job = a.first.value.job; dones = dones_of a.sites.items } };
 
     ghost invariant = { λ a. IsWorld a.first.value.job a.sites.items a.lanes.items a.capacity };
-}
-
-fn next_of(sites: &Vec<Site>, s: usize) -> Next
-    requires { s < length sites.now.items }
-    ensures { ForSome (slice_get sites.now.items s) (λ v. IsNext v.job v.site v.done result) }
-{
-    sites[s].next()
 }
 
 fn work_at(sites: &mut Vec<Site>, s: usize)
@@ -102,31 +96,6 @@ fn take_at(lanes: &mut Vec<Lane>, l: usize) -> Msg
 {
     let lane = &mut lanes[l];
     lane.take()
-}
-
-/// Whether the lane has room.
-fn has_room(lanes: &Vec<Lane>, l: usize, capacity: usize) -> bool
-    requires lens { ForSome (slice_get lanes.now.items l) (λ x. x.taken ≤ length x.put.items) }
-    ensures { result ≡ room_in lanes.now.items l capacity }
-{
-    if l < lanes.len() {
-        let lane = &lanes[l];
-        lane.put.len() - lane.taken < capacity
-    } else {
-        false
-    }
-}
-
-/// Whether a message waits.
-fn has_some(lanes: &Vec<Lane>, l: usize) -> bool
-    ensures { result ≡ some_in lanes.now.items l }
-{
-    if l < lanes.len() {
-        let lane = &lanes[l];
-        lane.taken < lane.put.len()
-    } else {
-        false
-    }
 }
 
 impl World {

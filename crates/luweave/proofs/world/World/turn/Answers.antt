@@ -1,32 +1,17 @@
-use Rattle.std.proofs.Common.{◌≡◌, ℕ, ◌<◌, true, false, List, length, Some, refl, sym, ap, ◌∙◌, subst, arith, rules}
-use Rattle.std.specs.Prelude.{slice_get}
+use Rattle.std.proofs.Common.{◌≡◌, ℕ, true, false, List, refl, sym, ap, ◌∙◌, subst, arith, rules}
 use Rattle.std.proofs.lemmas.Option.{same_Some}
 use Rattle.luworld.specs.declared.turn.Turn.{Turn}
 use Rattle.luworld.specs.declared.turn.Turn.TheVariants.{Moved, Blocked, Over}
 use Rattle.luworld.specs.World.{Compute, Puts, Takes, turn, step, world_after}
 use Rattle.luworld.specs.Runs.{Run}
-use Rattle.lusite.specs.declared.next.Next.{Next}
 use Rattle.lusite.specs.declared.next.Next.TheVariants.{Local, Take, Put, Ended, Faulted}
-use Rattle.luweave.specs.declared.lane.Lane.{Lane}
 use Rattle.lusite.specs.Sites.{SiteAt}
-use Rattle.lusite.specs.Machine.{IsNext, IsTakeNext}
+use Rattle.lusite.specs.Machine.{IsTakeNext}
 use Rattle.luworld.specs.Runs.{system_of}
 use Rattle.luweave.specs.Worlds.{IsWorld, dones_of}
 use Rattle.luworld.specs.Progress.{Progress}
-use Rattle.luflow.proofs.Solutions.{some_at}
-use Rattle.luweave.proofs.Worlds.{next_is, along, turn_over, moved_is, step_is, world_work, put_blocked, take_blocked, may_put, may_take, put_room, world_put, take_some, no_site, lane_order}
+use Rattle.luweave.proofs.Worlds.{offer, along, turn_over, moved_is, step_is, world_work, put_blocked, take_blocked, may_put, may_take, put_room, world_put, take_some, no_site, lane_order}
 use Rattle.luweave.proofs.world.World.turn.Goals as goal
-
--- the site of the turn, and what it offers
-record Offer (job : Run) (sites : List SiteAt) (s : ℕ) (x : Next) : Type 0 where
-  site : SiteAt
-  there : slice_get sites s ≡ Some site
-  next : IsNext job s site.done x
-
-offer : (job : Run) (sites : List SiteAt) (lanes : List Lane) (capacity s : ℕ) (x y : Next) → IsWorld job sites lanes capacity → s < length sites → ((v : SiteAt) → slice_get sites s ≡ Some v → IsNext v.job v.site v.done x) → x ≡ y → Offer job sites s y
-offer job sites lanes capacity s x y w l h e =
-    let v = some_at sites s l in
-    record { site = v.0; there = v.1; next = next_is job sites lanes capacity s v.0 y w v.1 (subst (IsNext v.0.job v.0.site v.0.done) e (h v.0 v.1)) }
 
 abbrev TurnIs : Turn → ℕ → Progress → Type 0
 TurnIs t s x = t ≡ turn (system_of x.job) x.dones s
