@@ -1,0 +1,6 @@
+pub mod Cause
+pub mod Graph
+pub mod Names
+pub mod Report
+pub mod Table
+pub mod Vectors

@@ -1,0 +1,184 @@
+-- Worked reports. The first program is
+--
+--   node main(x: int; c: bool) returns (y: int; z: int when c); var s: int when c; let s = x when c; z = 2 * s; y = x -> pre y + x; tel
+--
+-- with z at site B and all else at site A.
+use Rattle.std.specs.Prelude.{◌≡◌, ℕ, false, List, [], ◌∷◌, ◌++◌, map, flat_map, codes, Some, None}
+use Rattle.luflow.specs.declared.form.Clock.TheVariants.{On}
+use Rattle.luflow.specs.declared.form.Flow.{Flow}
+use Rattle.luflow.specs.declared.form.Form.{Form}
+use Rattle.luflow.specs.declared.form.Form.TheVariants.{Input, Arrow, Binary, When, Pre}
+use Rattle.lutree.specs.declared.expr.BinaryOperator.TheVariants.{Add, Multiply}
+use Rattle.lutree.specs.declared.program.Kind.TheVariants.{Int as Ints}
+use Rattle.luflow.specs.Program.{FlatProgram}
+use Rattle.luflow.specs.Vectors.{int_flow, truth_flow, number, sampled_sum}
+use Rattle.luworld.specs.Needs.{Distribution}
+use Rattle.luworld.specs.RunVectors.{sampled, shared_run, link_of}
+use Rattle.luworld.specs.PlanVectors.{handed}
+use Rattle.luplace_report.specs.declared.cause.Cause.TheVariants.{Reader, Clock}
+use Rattle.luplace_report.specs.Cause.{cause_of}
+use Rattle.luplace_report.specs.Report.{report_text}
+use Rattle.luplace_report.specs.Table.{table_text}
+use Rattle.luplace_report.specs.Graph.{graph_text}
+
+-- each of these texts on a line of its own
+abbrev pub lines : List (List ℕ) → List ℕ
+lines = flat_map (λ line. line ++ codes "\n")
+
+-- a flow of ints, where c is false
+abbrev pub other_flow : Form → Flow
+other_flow form = record { form = form; clock = On 1 false; kind = Ints }
+
+-- the same with s and z where c is false
+abbrev pub turned_flat : FlatProgram
+turned_flat =
+    record {
+      flows =
+          int_flow (Input 0) ∷ truth_flow (Input 1)
+          ∷ int_flow (Arrow 0 7) ∷ other_flow (Binary Multiply 5 4) ∷ other_flow (When 0)
+          ∷ other_flow (number 2)
+          ∷ int_flow (Pre 2) ∷ int_flow (Binary Add 6 0) ∷ [];
+      order = sampled_sum.order;
+      owners = sampled_sum.owners;
+      variables = sampled_sum.variables;
+    }
+
+abbrev pub turned : Distribution
+turned =
+    record {
+      flat = turned_flat;
+      names = sampled.plan.names;
+      placed = sampled.plan.placed;
+      needs = sampled.plan.needs;
+      links = sampled.plan.links;
+      capacity = 1;
+    }
+
+-- As JSON: one site for each variable; c at both sites, so that s alone crosses; s and z on `not c`.
+pub record JsonsAre : Type 0 where
+  pub one_site : report_text sampled.plan ≡ codes "{\"capacity\":16,\"flows\":[{\"clock\":\"\",\"name\":\"x\",\"site\":\"A\",\"type\":\"int\"},{\"clock\":\"\",\"name\":\"c\",\"site\":\"A\",\"type\":\"bool\"},{\"clock\":\"\",\"name\":\"y\",\"site\":\"A\",\"type\":\"int\"},{\"clock\":\"c\",\"name\":\"z\",\"site\":\"B\",\"type\":\"int\"},{\"clock\":\"c\",\"name\":\"s\",\"site\":\"A\",\"type\":\"int\"}],\"links\":[{\"clock\":\"\",\"flow\":\"c\",\"from\":\"A\",\"to\":\"B\"},{\"clock\":\"c\",\"flow\":\"s\",\"from\":\"A\",\"to\":\"B\"}],\"sites\":[\"A\",\"B\"]}"
+  pub two_sites : report_text shared_run.plan ≡ codes "{\"capacity\":16,\"flows\":[{\"clock\":\"\",\"name\":\"x\",\"site\":\"A\",\"type\":\"int\"},{\"clock\":\"\",\"name\":\"c\",\"site\":[\"A\",\"B\"],\"type\":\"bool\"},{\"clock\":\"\",\"name\":\"y\",\"site\":\"A\",\"type\":\"int\"},{\"clock\":\"c\",\"name\":\"z\",\"site\":\"B\",\"type\":\"int\"},{\"clock\":\"c\",\"name\":\"s\",\"site\":\"A\",\"type\":\"int\"}],\"links\":[{\"clock\":\"c\",\"flow\":\"s\",\"from\":\"A\",\"to\":\"B\"}],\"sites\":[\"A\",\"B\"]}"
+  pub opposite : report_text turned ≡ codes "{\"capacity\":1,\"flows\":[{\"clock\":\"\",\"name\":\"x\",\"site\":\"A\",\"type\":\"int\"},{\"clock\":\"\",\"name\":\"c\",\"site\":\"A\",\"type\":\"bool\"},{\"clock\":\"\",\"name\":\"y\",\"site\":\"A\",\"type\":\"int\"},{\"clock\":\"not c\",\"name\":\"z\",\"site\":\"B\",\"type\":\"int\"},{\"clock\":\"not c\",\"name\":\"s\",\"site\":\"A\",\"type\":\"int\"}],\"links\":[{\"clock\":\"\",\"flow\":\"c\",\"from\":\"A\",\"to\":\"B\"},{\"clock\":\"not c\",\"flow\":\"s\",\"from\":\"A\",\"to\":\"B\"}],\"sites\":[\"A\",\"B\"]}"
+
+-- Three sites: x and c at A, s and z at B, y = current s at C, where c is needed since s is on it.
+pub record CausesAre : Type 0 where
+  pub sampled_causes : map (cause_of sampled.plan) sampled.plan.links ≡ Some (Reader 3) ∷ Some (Reader 3) ∷ []
+  pub shared_causes : map (cause_of shared_run.plan) shared_run.plan.links ≡ Some (Reader 3) ∷ []
+  pub handed_causes : map (cause_of handed.plan) handed.plan.links ≡ Some (Reader 4) ∷ Some (Reader 2) ∷ Some (Clock 4) ∷ Some (Reader 1) ∷ []
+  -- what a site doesn't need doesn't cross to it
+  pub no_cause : cause_of sampled.plan (link_of 2 0 1) ≡ None
+
+pub record TablesAre : Type 0 where
+  pub one_site : table_text sampled.plan ≡ lines
+      (codes "site\tflows\titems"
+      ∷ codes "A\t6\t8"
+      ∷ codes "B\t2\t4"
+      ∷ []
+      ∷ codes "link\tflow\tfrom\tto\tclock"
+      ∷ codes "0\tc\tA\tB\t-"
+      ∷ codes "1\ts\tA\tB\tc"
+      ∷ []
+      ∷ codes "link\twhy"
+      ∷ codes "0\tc crosses A -> B since z at B reads it"
+      ∷ codes "1\ts crosses A -> B since z at B reads it"
+      ∷ [])
+  pub two_sites : table_text shared_run.plan ≡ lines
+      (codes "site\tflows\titems"
+      ∷ codes "A\t6\t7"
+      ∷ codes "B\t3\t4"
+      ∷ []
+      ∷ codes "link\tflow\tfrom\tto\tclock"
+      ∷ codes "0\ts\tA\tB\tc"
+      ∷ []
+      ∷ codes "link\twhy"
+      ∷ codes "0\ts crosses A -> B since z at B reads it"
+      ∷ [])
+  pub three_sites : table_text handed.plan ≡ lines
+      (codes "site\tflows\titems"
+      ∷ codes "A\t5\t8"
+      ∷ codes "B\t4\t7"
+      ∷ codes "C\t1\t3"
+      ∷ []
+      ∷ codes "link\tflow\tfrom\tto\tclock"
+      ∷ codes "0\tx\tA\tB\t-"
+      ∷ codes "1\tc\tA\tB\t-"
+      ∷ codes "2\tc\tA\tC\t-"
+      ∷ codes "3\ts\tB\tC\tc"
+      ∷ []
+      ∷ codes "link\twhy"
+      ∷ codes "0\tx crosses A -> B since s at B reads it"
+      ∷ codes "1\tc crosses A -> B since z at B reads it"
+      ∷ codes "2\tc crosses A -> C since the clock of s needs it"
+      ∷ codes "3\ts crosses B -> C since y at C reads it"
+      ∷ [])
+
+pub record GraphsAre : Type 0 where
+  pub one_site : graph_text sampled.plan ≡ lines
+      (codes "digraph plan {"
+      ∷ codes "  subgraph cluster_0 {"
+      ∷ codes "    label=\"A\";"
+      ∷ codes "    s0 [shape=point];"
+      ∷ codes "    s0v0 [label=\"x\"];"
+      ∷ codes "    s0v1 [label=\"c\"];"
+      ∷ codes "    s0v2 [label=\"y\"];"
+      ∷ codes "    s0v4 [label=\"s\"];"
+      ∷ codes "  }"
+      ∷ codes "  subgraph cluster_1 {"
+      ∷ codes "    label=\"B\";"
+      ∷ codes "    s1 [shape=point];"
+      ∷ codes "    s1v3 [label=\"z\"];"
+      ∷ codes "  }"
+      ∷ codes "  s0v1 -> s1v3 [label=\"c\"];"
+      ∷ codes "  s0v4 -> s1v3 [label=\"s when c\"];"
+      ∷ codes "}"
+      ∷ [])
+  pub two_sites : graph_text shared_run.plan ≡ lines
+      (codes "digraph plan {"
+      ∷ codes "  subgraph cluster_0 {"
+      ∷ codes "    label=\"A\";"
+      ∷ codes "    s0 [shape=point];"
+      ∷ codes "    s0v0 [label=\"x\"];"
+      ∷ codes "    s0v1 [label=\"c\"];"
+      ∷ codes "    s0v2 [label=\"y\"];"
+      ∷ codes "    s0v4 [label=\"s\"];"
+      ∷ codes "  }"
+      ∷ codes "  subgraph cluster_1 {"
+      ∷ codes "    label=\"B\";"
+      ∷ codes "    s1 [shape=point];"
+      ∷ codes "    s1v1 [label=\"c\"];"
+      ∷ codes "    s1v3 [label=\"z\"];"
+      ∷ codes "  }"
+      ∷ codes "  s0v4 -> s1v3 [label=\"s when c\"];"
+      ∷ codes "}"
+      ∷ [])
+  pub three_sites : graph_text handed.plan ≡ lines
+      (codes "digraph plan {"
+      ∷ codes "  subgraph cluster_0 {"
+      ∷ codes "    label=\"A\";"
+      ∷ codes "    s0 [shape=point];"
+      ∷ codes "    s0v0 [label=\"x\"];"
+      ∷ codes "    s0v3 [label=\"c\"];"
+      ∷ codes "  }"
+      ∷ codes "  subgraph cluster_1 {"
+      ∷ codes "    label=\"B\";"
+      ∷ codes "    s1 [shape=point];"
+      ∷ codes "    s1v2 [label=\"z\"];"
+      ∷ codes "    s1v4 [label=\"s\"];"
+      ∷ codes "  }"
+      ∷ codes "  subgraph cluster_2 {"
+      ∷ codes "    label=\"C\";"
+      ∷ codes "    s2 [shape=point];"
+      ∷ codes "    s2v1 [label=\"y\"];"
+      ∷ codes "  }"
+      ∷ codes "  s0v0 -> s1v4 [label=\"x\"];"
+      ∷ codes "  s0v3 -> s1v2 [label=\"c\"];"
+      ∷ codes "  s0v3 -> s2 [label=\"c\"];"
+      ∷ codes "  s1v4 -> s2v1 [label=\"s when c\"];"
+      ∷ codes "}"
+      ∷ [])
+
+pub record ReportVectors : Type 0 where
+  pub jsons : JsonsAre
+  pub causes : CausesAre
+  pub tables : TablesAre
+  pub graphs : GraphsAre

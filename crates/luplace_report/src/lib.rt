@@ -1,0 +1,19 @@
+//! The report of a plan, as texts that are stated functions of the plan.
+//!
+//! - [`report_json`]: the report as JSON on one line; [`report_table`]: as tables for a terminal; [`report_dot`]: as a graph.
+//! - [`cause_of`], [`Cause`]: why a link is there.
+//! - [`laws`]: each link of a plan has a cause, each edge has both ends, a site's items are counted; worked reports.
+//! - `names`: how variables, sites, types and clocks are named.
+#![tactic(auto)]
+
+mod cause;
+mod dot;
+mod json;
+pub mod laws;
+mod names;
+mod table;
+
+pub use cause::{Cause, cause_of};
+pub use dot::report_dot;
+pub use json::report_json;
+pub use table::report_table;

@@ -1,0 +1,100 @@
+//! How variables, sites, types and clocks are named.
+
+ghost use Rattle.std.specs.Prelude.{◌≡◌, ◌++◌, IfOk, slice_index, string_bytes};
+ghost use Rattle.luflow.specs.Variables.{variable_name};
+ghost use Rattle.luplace_report.specs.Names.{site_name, type_name, type_of, clock_text, clock_of, Adds};
+
+use luflow::{Clock, Flat};
+use lulist::Name;
+use lutree::Kind;
+use std::alloc::{AllocError, Global};
+
+/// The name of a main variable.
+pub fn variable_name(flat: &Flat, variable: usize) -> &str
+    ensures { result.now ≡ variable_name flat.now variable }
+{
+    match flat.variables().get(variable) {
+        Some(found) => found.name.as_str(),
+        None => "",
+    }
+}
+
+/// The main variable in whose equation the flow of a place stands.
+pub fn owner_of(flat: &Flat, place: usize) -> usize
+    ensures { result ≡ slice_index flat.now.owners place }
+{
+    match flat.owners().get(place) {
+        Some(variable) => *variable,
+        None => 0,
+    }
+}
+
+/// The name of the main variable in whose equation the flow of a place stands.
+pub fn owner_name(flat: &Flat, place: usize) -> &str
+    ensures { result.now ≡ variable_name flat.now (slice_index flat.now.owners place) }
+{
+    variable_name(flat, owner_of(flat, place))
+}
+
+/// The name of a site.
+pub fn site_name(names: &[Name], site: u8) -> &str
+    ensures { result.now ≡ site_name names.now site }
+{
+    match names.get(usize::from(site)) {
+        Some(name) => name.as_str(),
+        None => "",
+    }
+}
+
+/// The name of a type.
+fn type_name(kind: Kind) -> &'static str
+    ensures { result.now ≡ type_name kind }
+{
+    match kind {
+        Kind::Int => "int",
+        Kind::Bool => "bool",
+    }
+}
+
+/// The name of a main variable's type.
+pub fn type_of(flat: &Flat, variable: usize) -> &str
+    ensures { result.now ≡ type_of flat.now variable }
+{
+    match flat.variables().get(variable) {
+        Some(found) => type_name(found.kind),
+        None => "",
+    }
+}
+
+/// The clock of a flow.
+pub fn clock_of(flat: &Flat, place: usize) -> Clock
+    ensures { result ≡ clock_of flat.now place }
+{
+    match flat.flows().get(place) {
+        Some(flow) => flow.clock,
+        None => Clock::Base,
+    }
+}
+
+/// Adds `c` or `not c`, or nothing for the base clock.
+pub fn put_clock(text: &mut String, flat: &Flat, clock: Clock) -> Result<(), AllocError>
+    ensures { Adds result text.old text.new (clock_text flat.now clock) }
+{
+    match clock {
+        Clock::Base => Ok(()),
+        Clock::On(variable, true) => text.push_str(variable_name(flat, variable)),
+        Clock::On(variable, false) => {
+            text.push_str("not ")?;
+            text.push_str(variable_name(flat, variable))
+        }
+    }
+}
+
+/// `c` or `not c`, or the empty text for the base clock.
+pub fn clock_text(alloc: Global, flat: &Flat, clock: Clock) -> Result<String, AllocError>
+    ensures { IfOk result (λ text. string_bytes text ≡ clock_text flat.now clock) }
+{
+    let mut text = String::new(alloc);
+    put_clock(&mut text, flat, clock)?;
+    Ok(text)
+}
