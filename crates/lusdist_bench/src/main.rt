@@ -1,10 +1,11 @@
-//! The program `lusdist_bench`: it measures how long it takes to evaluate a program, to read a table and to write one.
-//! `programs` makes a program, `evaluating` and `tables` measure, and `timing` tells time and memory.
+//! The program `lusdist_bench`: it measures how long it takes to evaluate a program, to read a table and to write one, and to
+//! plan a program. `programs` makes a program, `evaluating`, `tables` and `planning` measure, and `timing` tells time and memory.
 #![tactic(auto)]
 
 ghost use Rattle.std.specs.Prelude.{◌≤◌, IfSome};
 
 mod evaluating;
+mod planning;
 mod programs;
 mod tables;
 mod timing;
@@ -13,9 +14,11 @@ use std::{env, io};
 
 const USAGE: &str = "usage: lusdist_bench eval [FLOWS] [INSTANTS]
        lusdist_bench tables [LINES] [COLUMNS]
+       lusdist_bench plan [VARIABLES] [SITES]
 
 eval    evaluates a program of about FLOWS flows (1000) at INSTANTS instants (100000)
 tables  reads the text of a table of LINES lines (1000000) of COLUMNS columns (5), and writes one
+plan    reads a placement of VARIABLES entries (2000) at SITES sites (16), and plans a program of about twice as many flows
 ";
 
 /// The count in the word at this place, from 1 to 1,000,000; the usual one where there is no such word.
@@ -51,6 +54,12 @@ fn run(rt: &HostRuntime, words: &[String]) -> io::Result<()> {
         && let Some(columns) = count(words, 3, 5)
     {
         return tables::measure(rt, lines, columns);
+    }
+    if is_task(words, "plan")
+        && let Some(variables) = count(words, 2, 2000)
+        && let Some(sites) = count(words, 3, 16)
+    {
+        return planning::measure(rt, variables, sites);
     }
     print!(rt; "{USAGE}")?;
     Ok(())

@@ -1,5 +1,5 @@
 -- What the end of a call says.
-use Rattle.std.proofs.Common.{◌≡◌, ◌≢◌, ◌⊎◌, ℕ, List, refl, sym, ◌∙◌, inl, inr, arith}
+use Rattle.std.proofs.Common.{Option, ◌≡◌, ◌≢◌, ◌⊎◌, ℕ, List, refl, sym, ◌∙◌, inl, inr, arith}
 use Rattle.std.specs.Io.KnownBytes.{Appends}
 use Rattle.clap.specs.declared.error.kind.ErrorKind.{ErrorKind}
 use Rattle.clap.specs.declared.error.kind.ErrorKind.TheVariants as clap
@@ -12,8 +12,8 @@ use Rattle.lusdist_shell.specs.declared.schedule.ScheduleError.TheVariants as sc
 use Rattle.lusdist_shell.specs.declared.request.Request.{Request}
 use Rattle.lusdist_shell.specs.Request.{IsAskedBy}
 use Rattle.lusdist_commands.specs.declared.stop.Stop.{Stop}
-use Rattle.lusdist_commands.specs.declared.stop.Stop.TheVariants.{CannotRead, NotAscii, Syntax, Rules, NotYet, Flat, Place, Table, Schedule, Fault, OutOfMemory}
-use Rattle.lusdist_commands.specs.Asked.{IsAnswer, IsDone}
+use Rattle.lusdist_commands.specs.declared.stop.Stop.TheVariants.{CannotRead, NotAscii, Syntax, Rules, Flat, Place, Table, Schedule, Fault, OutOfMemory}
+use Rattle.lusdist_commands.specs.Asked.{IsDone}
 use Rattle.lusdist_commands.specs.Statuses.{status_of}
 use Rattle.lusdist_commands.specs.Stopped.{IsRefusal}
 use Rattle.lusdist_commands.specs.Left.{Streams, IsEnded, IsHelp}
@@ -70,7 +70,6 @@ status_some (Rules (rules.HiddenClock byte)) = inl refl
 status_some (Rules (rules.MaybeNil byte)) = inl refl
 status_some (Rules (rules.CurrentMayBeNil byte)) = inl refl
 status_some (Rules rules.OutOfMemory) = inr (inr refl)
-status_some NotYet = inl refl
 status_some (Flat core.TooLarge) = inl refl
 status_some (Flat (core.Cycle variable)) = inl refl
 status_some (Flat core.OutOfMemory) = inr (inr refl)
@@ -100,7 +99,7 @@ never_done stop e = elim (status_some stop) [
   | inr more ↦ elim more [ inl two ↦ absurd (omega (arith, e, two)) | inr three ↦ absurd (omega (arith, e, three)) ]
 ]
 
-module _ {W V : Type 0} (gives : List ℕ → List ℕ → Type 0) (words : List (List ℕ)) (request : Request) (asked : IsAskedBy words request) (status : ℕ) (streams : Streams W V) where
+module _ {W V : Type 0} (gives : List ℕ → Option (List ℕ) → Type 0) (words : List (List ℕ)) (request : Request) (asked : IsAskedBy words request) (status : ℕ) (streams : Streams W V) where
   -- where what is asked for is done, the answer is on the output
   pub done : IsEnded gives request status streams → status ≡ 0 → (text : List ℕ) × IsDone gives words text × Appends (streams.held_out streams.out.writer) (streams.held_out streams.out_after.writer) text
   done (answered text e answer out) zero = (text, record { request = request; asked = asked; answer = answer }, out.output)

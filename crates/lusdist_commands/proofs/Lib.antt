@@ -8,3 +8,4 @@ pub mod Tellings
 pub mod Replays
 pub mod Exclusive
 pub mod Ends
+pub mod OneStatus

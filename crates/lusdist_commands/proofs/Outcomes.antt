@@ -1,5 +1,5 @@
 -- What an evaluation gives, in the words of the source.
-use Rattle.std.proofs.Common.{◌≡◌, ℕ, false, List, [], map, refl, sym, ap, ◌∙◌, subst}
+use Rattle.std.proofs.Common.{Option, ◌≡◌, ℕ, false, List, [], map, refl, sym, ap, ◌∙◌, subst}
 use Rattle.std.specs.Prelude.{slice_get, IsUtf8}
 use Rattle.lutree.specs.Tree.{ProgramTree}
 use Rattle.luflow.specs.declared.data.Status.{Status}
@@ -20,7 +20,7 @@ use Rattle.lueval.proofs.Told.{Pairs, names, stream_at}
 use Rattle.lutab.specs.Table.{IsTextOf, is_too_long}
 use Rattle.lusdist_shell.specs.declared.request.EvalRequest.{EvalRequest}
 use Rattle.lusdist_commands.specs.declared.stop.Stop.{Stop}
-use Rattle.lusdist_commands.specs.declared.stop.Stop.TheVariants.{CannotRead, NotAscii, Syntax, Rules, NotYet, Flat, Place, Table as BadTable, Schedule, Fault, OutOfMemory}
+use Rattle.lusdist_commands.specs.declared.stop.Stop.TheVariants.{CannotRead, NotAscii, Syntax, Rules, Flat, Place, Table as BadTable, Schedule, Fault, OutOfMemory}
 use Rattle.lusdist_commands.specs.Evaluated.{AreEvaluated, AreOutputsOf, IsPosed, IsPosedBy, IsStopped, IsFaultTold}
 use Rattle.lusdist_commands.specs.Stopped.{IsEvalStopped}
 use Rattle.lusdist_commands.specs.Stopped.IsEvalStopped.{eval_fault, eval_memory}
@@ -57,7 +57,7 @@ posed text main table tree flat inputs spelled flat_is table_is short utf8 fits 
     record { spelled = spelled; flat_is = flat_is; table_is = table_is; short = short; utf8 = utf8; agrees = flat_is.agrees inputs columns; one_meaning = flat_is.one_meaning inputs columns }
 
 -- the fault that is told is one of the source
-source_fault : (gives : List ℕ → List ℕ → Type 0) (request : EvalRequest) (flat : FlatProgram) (inputs : Table) (asked : IsPosedBy gives request flat inputs) (name : List ℕ) (instant : ℕ) (kind : FaultKind) → IsFaultTold flat inputs name instant kind
+source_fault : (gives : List ℕ → Option (List ℕ) → Type 0) (request : EvalRequest) (flat : FlatProgram) (inputs : Table) (asked : IsPosedBy gives request flat inputs) (name : List ℕ) (instant : ℕ) (kind : FaultKind) → IsFaultTold flat inputs name instant kind
     → (σ : SourceStreams) → IsSourceSolution asked.tree request.main.now inputs σ → IsSourceFault asked.tree request.main.now inputs σ name instant kind
 source_fault gives request flat inputs asked name instant kind told σ solves =
     let is = asked.posed.flat_is in
@@ -67,12 +67,11 @@ source_fault gives request flat inputs asked name instant kind told σ solves =
     (is.faults inputs σ (solution flat inputs) solves solution_is first.place told.variable instant kind told.is first.fault first.owner told.there)
 
 -- where an evaluation of them stops, what was asked for stops so
-pub eval_stop : (gives : List ℕ → List ℕ → Type 0) (request : EvalRequest) (flat : FlatProgram) (inputs : Table) → IsPosedBy gives request flat inputs → (stop : Stop) → IsStopped flat inputs stop → IsEvalStopped gives request stop
+pub eval_stop : (gives : List ℕ → Option (List ℕ) → Type 0) (request : EvalRequest) (flat : FlatProgram) (inputs : Table) → IsPosedBy gives request flat inputs → (stop : Stop) → IsStopped flat inputs stop → IsEvalStopped gives request stop
 eval_stop gives request flat inputs asked (CannotRead path) told = absurd told
 eval_stop gives request flat inputs asked NotAscii told = absurd told
 eval_stop gives request flat inputs asked (Syntax e) told = absurd told
 eval_stop gives request flat inputs asked (Rules e) told = absurd told
-eval_stop gives request flat inputs asked NotYet told = absurd told
 eval_stop gives request flat inputs asked (Flat e) told = absurd told
 eval_stop gives request flat inputs asked (Place e) told = absurd told
 eval_stop gives request flat inputs asked (BadTable e) told = absurd told

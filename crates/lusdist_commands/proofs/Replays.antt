@@ -1,5 +1,5 @@
 -- What a replay prints is true of the program that was asked for.
-use Rattle.std.proofs.Common.{ℕ, List, sym, subst}
+use Rattle.std.proofs.Common.{Option, ℕ, List, sym, subst}
 use Rattle.luflow.specs.Flats.{IsFlat}
 use Rattle.luworld.specs.Runs.{Run}
 use Rattle.lusource.specs.Source.{SourceStreams, IsSourceSolution}
@@ -10,7 +10,7 @@ use Rattle.lusdist_shell.specs.declared.request.ReplayRequest.{ReplayRequest}
 use Rattle.lusdist_commands.specs.Asked.{IsAskedFor, IsPrinted, IsReplayed}
 use Rattle.lusdist_commands.proofs.Tellings.{told_in, told_true}
 
-pub is_replayed : (gives : List ℕ → List ℕ → Type 0) (request : ReplayRequest) (job : Run) (turns text : List ℕ) → IsAskedFor gives request job turns → IsPrinted job turns text → IsReplayed gives request text
+pub is_replayed : (gives : List ℕ → Option (List ℕ) → Type 0) (request : ReplayRequest) (job : Run) (turns text : List ℕ) → IsAskedFor gives request job turns → IsPrinted job turns request.finish text → IsReplayed gives request text
 is_replayed gives request job turns text asked printed =
     let w = printed.world in
     let tree = asked.job_is.flat.tree in

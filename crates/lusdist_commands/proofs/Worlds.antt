@@ -1,5 +1,5 @@
 -- A world has all the sites of its job.
-use Rattle.std.proofs.Common.{◌≡◌, ℕ, ◌<◌, List, [], ◌∷◌, length, sym, ap, ◌∙◌, refl, Some, slice_get, arith}
+use Rattle.std.proofs.Common.{◌≡◌, ℕ, ◌<◌, List, [], ◌∷◌, ◌++◌, length, sym, ap, ◌∙◌, refl, Some, slice_get, arith}
 use Rattle.std.proofs.Math.ListN.{length-set}
 use Rattle.std.proofs.lemmas.List.{length-replicate}
 use Rattle.luworld.specs.Needs.{Distribution, sites_of}
@@ -14,6 +14,11 @@ after_len : (t : Turn) (world : World) (site : ℕ) → length (world_after t wo
 after_len Moved world site = simp length-set
 after_len Blocked world site = refl
 after_len Over world site = refl
+
+-- turns behind others
+pub run_on : (sys : System) (world : World) (turns more : List ℕ) → run sys world (turns ++ more) ≡ run sys (run sys world turns) more
+run_on sys world [] more = refl
+run_on sys world (site ∷ turns) more = run_on sys (step sys world site) turns more
 
 run_len : (sys : System) (world : World) (schedule : List ℕ) → length (run sys world schedule) ≡ length world
 run_len sys world [] = refl

@@ -1,27 +1,32 @@
--- What the texts of a check and of a replay say, and what their files gave.
-use Rattle.std.specs.Prelude.{◌≡◌, ℕ, false, List, Ok, IsUtf8}
+-- What the texts of a check, of a plan and of a replay say, and what their files gave.
+use Rattle.std.specs.Prelude.{◌≡◌, ℕ, false, List, Option, Some, Ok, IsUtf8, [], ◌∷◌, ◌++◌, Bool, true}
 use Rattle.lutree.specs.Tree.{ProgramTree}
 use Rattle.luflow.specs.Program.{FlatProgram}
-use Rattle.luworld.specs.Needs.{Distribution}
-use Rattle.luworld.specs.World.{reached}
+use Rattle.luworld.specs.Needs.{Distribution, IsPlan}
+use Rattle.luworld.specs.World.{reached, NoTurnMoves}
 use Rattle.luworld.specs.Runs.{Run, IsRun, system_of}
 use Rattle.lusource.specs.Source.{SourceStreams, IsSourceSolution}
 use Rattle.lusource.specs.Agreement.{HasOneMeaning}
 use Rattle.lumeaning.specs.Meaning.{IsMeant}
-use Rattle.lusource.specs.First.{IsFirstShape}
 use Rattle.lusyn.specs.Texts.{SpellsText, IsReadBack}
 use Rattle.lusyn_printer.specs.Canonical.{canonical}
 use Rattle.lucore.specs.Result.{IsFlatOf}
-use Rattle.luplace_file.specs.declared.place.Place.{Place}
+use Rattle.luplace_file.specs.Content.{Placement}
 use Rattle.luplace_file.specs.Placement.{placement_of}
 use Rattle.luplace.specs.Placing.{IsPlanOf}
+use Rattle.luplace_report.specs.Report.{report_text}
+use Rattle.luplace_report.specs.Table.{table_text}
+use Rattle.luplace_report.specs.Graph.{graph_text}
 use Rattle.luflow.specs.Variables.{inputs_of}
 use Rattle.lutab.specs.Table.{IsTextOf, is_too_long}
 use Rattle.lusdist_shell.specs.ScheduleText.{schedule_of}
 use Rattle.lusdist_shell.specs.declared.request.CheckRequest.{CheckRequest}
+use Rattle.lusdist_shell.specs.declared.request.PlanForm.{PlanForm}
+use Rattle.lusdist_shell.specs.declared.request.PlanForm.TheVariants.{Report, Table, Graph}
+use Rattle.lusdist_shell.specs.declared.request.PlanRequest.{PlanRequest}
 use Rattle.lusdist_shell.specs.declared.request.ReplayRequest.{ReplayRequest}
 use Rattle.lusdist_shell.specs.declared.request.Request.{Request}
-use Rattle.lusdist_shell.specs.declared.request.Request.TheVariants.{Check, Eval, Replay}
+use Rattle.lusdist_shell.specs.declared.request.Request.TheVariants.{Check, Eval, Plan, Replay}
 use Rattle.lusdist_shell.specs.Request.{IsAskedBy}
 use Rattle.luworld.specs.Progress.{Progress}
 use Rattle.luweave.specs.Headline.{IsFaithful}
@@ -30,17 +35,16 @@ use Rattle.lusdist_commands.specs.WorldText.{IsWorldText}
 use Rattle.lusdist_commands.specs.TellingText.{telling_text, IsToldBy}
 use Rattle.lusdist_commands.specs.Evaluated.{IsEvaluated}
 
--- the flat program of the program of the first language that a text spells
-pub record IsFlatOfText (text main : List ℕ) (flat : FlatProgram) : Type 0 where
+-- the flat program, from this main node, of the program that a text spells
+pub record HasFlat (text main : List ℕ) (flat : FlatProgram) : Type 0 where
   pub tree : ProgramTree
   pub spelled : SpellsText text tree
-  pub first : IsFirstShape tree
   pub flat_is : IsFlatOf tree main flat
 
 -- the plan of its flat program and the placement that a text says, in UTF-8
 pub record IsPlanOfText (text : List ℕ) (plan : Distribution) : Type 0 where
   pub utf8 : IsUtf8 text
-  pub place : Place
+  pub place : Placement
   pub says : placement_of text ≡ Ok place
   pub plan_is : IsPlanOf plan.flat place plan
 
@@ -48,7 +52,7 @@ pub record IsPlanOfText (text : List ℕ) (plan : Distribution) : Type 0 where
 -- table that the third says, which isn't too long. It is a run, whose plan has all needs and links that its flows and sites make; the program has one
 -- meaning at the table, and what is said of the job in its source's words is said of the program's solutions.
 pub record IsJobOf (program place table main : List ℕ) (job : Run) : Type 0 where
-  pub flat : IsFlatOfText program main job.plan.flat
+  pub flat : HasFlat program main job.plan.flat
   pub plan : IsPlanOfText place job.plan
   pub inputs : IsTextOf (inputs_of job.plan.flat.variables) job.inputs table
   pub short : is_too_long table ≡ false
@@ -58,37 +62,40 @@ pub record IsJobOf (program place table main : List ℕ) (job : Run) : Type 0 wh
   pub is_meant : (σ : SourceStreams) → IsSourceSolution flat.tree main job.inputs σ → IsMeant job σ
 
 -- a job and its turns are those of texts that the files of a request gave
-pub record IsAskedFor (gives : List ℕ → List ℕ → Type 0) (request : ReplayRequest) (job : Run) (turns : List ℕ) : Type 0 where
+pub record IsAskedFor (gives : List ℕ → Option (List ℕ) → Type 0) (request : ReplayRequest) (job : Run) (turns : List ℕ) : Type 0 where
   pub program : List ℕ
   pub place : List ℕ
   pub table : List ℕ
   pub schedule : List ℕ
-  pub program_given : gives request.program.now program
-  pub place_given : gives request.place.now place
-  pub table_given : gives request.table.now table
-  pub schedule_given : gives request.schedule.now schedule
+  pub program_given : gives request.program.now (Some program)
+  pub place_given : gives request.place.now (Some place)
+  pub table_given : gives request.table.now (Some table)
+  pub schedule_given : gives request.schedule.now (Some schedule)
   pub job_is : IsJobOf program place table request.main.now job
   pub turns_are : schedule_of schedule ≡ Ok turns
 
--- the world that a job's turns make of its new sites
-pub record IsWorldOf (job : Run) (turns : List ℕ) (world : Progress) : Type 0 where
+-- The world that a job's turns make of its new sites. Where it is to be finished, more turns follow until none moves any more, and no others.
+pub record IsWorldOf (job : Run) (turns : List ℕ) (finish : Bool) (world : Progress) : Type 0 where
   pub job_is : world.job ≡ job
-  pub dones_are : world.dones ≡ reached (system_of job) turns
+  pub more : List ℕ
+  pub dones_are : world.dones ≡ reached (system_of job) (turns ++ more)
+  pub no_more : finish ≡ false → more ≡ []
+  pub quiet : finish ≡ true → NoTurnMoves (system_of job) world.dones
 
 -- the text of the world of a job after its turns, which keeps what the source says
-pub record IsPrinted (job : Run) (turns text : List ℕ) : Type 0 where
+pub record IsPrinted (job : Run) (turns : List ℕ) (finish : Bool) (text : List ℕ) : Type 0 where
   pub world : Progress
-  pub world_is : IsWorldOf job turns world
+  pub world_is : IsWorldOf job turns finish world
   pub faithful : IsFaithful world.job world.dones
   pub text_is : IsWorldText world text
 
 -- The text of a replay of what a request asks for: that of the world of its job after its turns. What the text tells of links,
 -- sites and outputs is true of the program that the file spells, at the table that the file says: for each of its solutions.
-pub record IsReplayed (gives : List ℕ → List ℕ → Type 0) (request : ReplayRequest) (text : List ℕ) : Type 0 where
+pub record IsReplayed (gives : List ℕ → Option (List ℕ) → Type 0) (request : ReplayRequest) (text : List ℕ) : Type 0 where
   pub job : Run
   pub turns : List ℕ
   pub asked_for : IsAskedFor gives request job turns
-  pub printed : IsPrinted job turns text
+  pub printed : IsPrinted job turns request.finish text
   pub told : Telling
   pub told_by : IsToldBy printed.world told
   pub spelled : text ≡ telling_text told
@@ -96,24 +103,48 @@ pub record IsReplayed (gives : List ℕ → List ℕ → Type 0) (request : Repl
 
 -- the text of a check of what a request asks for: the program that the file's bytes spell keeps all rules and has a flat program,
 -- and the text is its canonical one, which spells that program too if it isn't longer than a text may be
-pub record IsChecked (gives : List ℕ → List ℕ → Type 0) (request : CheckRequest) (text : List ℕ) : Type 0 where
+pub record IsChecked (gives : List ℕ → Option (List ℕ) → Type 0) (request : CheckRequest) (text : List ℕ) : Type 0 where
   pub program : List ℕ
   pub tree : ProgramTree
-  pub program_given : gives request.program.now program
+  pub program_given : gives request.program.now (Some program)
   pub spelled : SpellsText program tree
   pub flat : FlatProgram
   pub flat_is : IsFlatOf tree request.main.now flat
   pub text_is : text ≡ canonical tree
   pub again : IsReadBack text tree
 
+-- The plan of the program and the placement that the files of two paths gave. Its needs and links are all that its flows and
+-- sites make, and no others.
+pub record IsPlanFor (gives : List ℕ → Option (List ℕ) → Type 0) (path place_path main : List ℕ) (plan : Distribution) : Type 0 where
+  pub program : List ℕ
+  pub place : List ℕ
+  pub program_given : gives path (Some program)
+  pub place_given : gives place_path (Some place)
+  pub flat : HasFlat program main plan.flat
+  pub plan_of : IsPlanOfText place plan
+  pub is_plan : IsPlan plan
+
+-- a plan, in the form that is asked for: the report on a line, the table, or the graph
+abbrev pub plan_text : PlanForm → Distribution → List ℕ
+plan_text Report plan = report_text plan ++ 10 ∷ []
+plan_text Table plan = table_text plan
+plan_text Graph plan = graph_text plan
+
+-- the text of the plan that a request asks for
+pub record IsPlanned (gives : List ℕ → Option (List ℕ) → Type 0) (request : PlanRequest) (text : List ℕ) : Type 0 where
+  pub plan : Distribution
+  pub asked_for : IsPlanFor gives request.program.now request.place.now request.main.now plan
+  pub text_is : text ≡ plan_text request.form plan
+
 -- the text of what a request asks for
-abbrev pub IsAnswer : (List ℕ → List ℕ → Type 0) → Request → List ℕ → Type 0
+abbrev pub IsAnswer : (List ℕ → Option (List ℕ) → Type 0) → Request → List ℕ → Type 0
 IsAnswer gives (Check request) text = IsChecked gives request text
 IsAnswer gives (Eval request) text = IsEvaluated gives request text
+IsAnswer gives (Plan request) text = IsPlanned gives request text
 IsAnswer gives (Replay request) text = IsReplayed gives request text
 
 -- the text of what the words ask for
-pub record IsDone (gives : List ℕ → List ℕ → Type 0) (words : List (List ℕ)) (text : List ℕ) : Type 0 where
+pub record IsDone (gives : List ℕ → Option (List ℕ) → Type 0) (words : List (List ℕ)) (text : List ℕ) : Type 0 where
   pub request : Request
   pub asked : IsAskedBy words request
   pub answer : IsAnswer gives request text

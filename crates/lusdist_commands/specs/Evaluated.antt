@@ -1,5 +1,5 @@
 -- What an evaluation prints, and what it says of a fault.
-use Rattle.std.specs.Prelude.{◌≡◌, ◌<◌, ℕ, false, List, [], map, Some, slice_get, IsUtf8}
+use Rattle.std.specs.Prelude.{◌≡◌, ◌<◌, ℕ, false, List, [], map, Option, Some, slice_get, IsUtf8}
 use Rattle.lutree.specs.Tree.{ProgramTree}
 use Rattle.luflow.specs.declared.form.FaultKind.{FaultKind}
 use Rattle.luflow.specs.declared.variable.Variable.{Variable}
@@ -53,16 +53,16 @@ pub record IsOutputTable (flat : FlatProgram) (inputs : Table) (text : List ℕ)
   pub text_is : text ≡ output_text outputs
 
 -- the program and the table that the files of a request gave
-pub record IsPosedBy (gives : List ℕ → List ℕ → Type 0) (request : EvalRequest) (flat : FlatProgram) (inputs : Table) : Type 0 where
+pub record IsPosedBy (gives : List ℕ → Option (List ℕ) → Type 0) (request : EvalRequest) (flat : FlatProgram) (inputs : Table) : Type 0 where
   pub program : List ℕ
   pub table : List ℕ
-  pub program_given : gives request.program.now program
-  pub table_given : gives request.table.now table
+  pub program_given : gives request.program.now (Some program)
+  pub table_given : gives request.table.now (Some table)
   pub tree : ProgramTree
   pub posed : IsPosed program request.main.now table tree flat inputs
 
 -- the text of an evaluation: the table of the outputs of the program and the table that the files of a request gave
-pub record IsEvaluated (gives : List ℕ → List ℕ → Type 0) (request : EvalRequest) (text : List ℕ) : Type 0 where
+pub record IsEvaluated (gives : List ℕ → Option (List ℕ) → Type 0) (request : EvalRequest) (text : List ℕ) : Type 0 where
   pub flat : FlatProgram
   pub inputs : Table
   pub asked : IsPosedBy gives request flat inputs
@@ -92,7 +92,7 @@ IsStopped flat inputs _ = ⊥
 
 -- The first fault of the program and the table that the files of a request gave. It is a fault of the source: in each solution of the
 -- program an operator in the equation of that variable, or in an instance of a call there, has no result at that instant.
-pub record IsFaultOf (gives : List ℕ → List ℕ → Type 0) (request : EvalRequest) (name : List ℕ) (instant : ℕ) (kind : FaultKind) : Type 0 where
+pub record IsFaultOf (gives : List ℕ → Option (List ℕ) → Type 0) (request : EvalRequest) (name : List ℕ) (instant : ℕ) (kind : FaultKind) : Type 0 where
   pub flat : FlatProgram
   pub inputs : Table
   pub asked : IsPosedBy gives request flat inputs

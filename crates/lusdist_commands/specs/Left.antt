@@ -41,7 +41,7 @@ pub record HasNoOutput {W V : Type 0} (streams : Streams W V) : Type 0 where
 
 -- What is asked for ends with this status: with 0 where the answer is printed, with that of a refusal, whose line is told, or with
 -- 3 where the answer couldn't be written, of which the output has a beginning.
-pub data IsEnded {W V : Type 0} (gives : List ℕ → List ℕ → Type 0) (request : Request) (status : ℕ) (streams : Streams W V) : Type 0 where
+pub data IsEnded {W V : Type 0} (gives : List ℕ → Option (List ℕ) → Type 0) (request : Request) (status : ℕ) (streams : Streams W V) : Type 0 where
   answered : (text : List ℕ) → status ≡ 0 → IsAnswer gives request text → HasOutput streams text → IsEnded gives request status streams
   refused : (stop : Stop) → status ≡ status_of stop → IsRequestStopped gives request stop → HasError streams (line_of stop) → IsEnded gives request status streams
   unwritten : (text : List ℕ) → status ≡ 3 → IsAnswer gives request text → HasNoOutput streams → HasBeginning streams.held_out streams.out streams.out_after text → IsEnded gives request status streams
@@ -52,7 +52,7 @@ IsHelp kind = (kind ≡ DisplayHelp) ⊎ (kind ≡ DisplayVersion)
 
 -- A call with these words ends with this status: as what they ask for does; with 0 for help, which goes to the output; with 2 for a
 -- mistake in the words; and with 3 where memory ran out before they were read, or help couldn't be written.
-pub data IsCallEnded {W V : Type 0} (gives : List ℕ → List ℕ → Type 0) (words : List (List ℕ)) (status : ℕ) (streams : Streams W V) : Type 0 where
+pub data IsCallEnded {W V : Type 0} (gives : List ℕ → Option (List ℕ) → Type 0) (words : List (List ℕ)) (status : ℕ) (streams : Streams W V) : Type 0 where
   asked : (request : Request) → IsAskedBy words request → IsEnded gives request status streams → IsCallEnded gives words status streams
   helped : (kind : ErrorKind) → IsAmong kind (fault_of lusdist words) → IsHelp kind → status ≡ 0 → streams.err_after ≡ streams.err → IsCallEnded gives words status streams
   mistaken : (kind : ErrorKind) → IsAmong kind (fault_of lusdist words) → ¬ IsHelp kind → status ≡ 2 → streams.out_after ≡ streams.out → IsCallEnded gives words status streams

@@ -9,7 +9,7 @@ use Rattle.luplace_file.specs.Lines.{line_of as place_line}
 use Rattle.lutab.specs.Lines.{line_of as table_line}
 use Rattle.lusdist_shell.specs.Lines.{line_of as schedule_line}
 use Rattle.lusdist_commands.specs.declared.stop.Stop.{Stop}
-use Rattle.lusdist_commands.specs.declared.stop.Stop.TheVariants.{CannotRead, NotAscii, Syntax, Rules, NotYet, Flat, Place, Table, Schedule, Fault, OutOfMemory}
+use Rattle.lusdist_commands.specs.declared.stop.Stop.TheVariants.{CannotRead, NotAscii, Syntax, Rules, Flat, Place, Table, Schedule, Fault, OutOfMemory}
 
 -- a code and a name, and what there is to tell; no line feed
 abbrev pub line_of : Stop → List ℕ
@@ -17,7 +17,6 @@ line_of (CannotRead path) = codes "F01 CannotRead " ++ path
 line_of NotAscii = codes "E03 NotAscii"
 line_of (Syntax refusal) = syntax_line refusal
 line_of (Rules refusal) = rule_line refusal
-line_of NotYet = codes "E00 NotYet"
 line_of (Flat refusal) = flat_line refusal
 line_of (Place refusal) = place_line refusal
 line_of (Table refusal) = table_line refusal

@@ -1,16 +1,18 @@
 -- What a call that stops says of the program.
 use Rattle.std.specs.Prelude.{◌≡◌, ◌≢◌, ◌⊎◌, ℕ, List, Some, Ok, Err, IsUtf8}
-use Rattle.lutree.specs.Tree.{ProgramTree}
+use Rattle.lutree.specs.declared.program.Program.{Program}
+use Rattle.lutree.specs.Tree.{ProgramTree, program_view}
 use Rattle.lustat_rules.specs.Accepted.{IsAccepted}
 use Rattle.lustat_rules.specs.Told.{Tells}
 use Rattle.lustat_rules.specs.declared.error.StatError.{StatError}
+use Rattle.lustat.specs.First.{IsToldFirst}
 use Rattle.lucore.specs.declared.error.CoreError.{CoreError}
 use Rattle.lucore.specs.Result.{Refuses}
 use Rattle.luflow.specs.declared.variable.Variable.{Variable}
 use Rattle.lusyn.specs.declared.error.SynError.TheVariants as syntax
 use Rattle.lusyn.specs.Refusals.{IsRefused as IsRefusedProgram}
 use Rattle.luflow.specs.Program.{FlatProgram}
-use Rattle.luplace_file.specs.declared.place.Place.{Place}
+use Rattle.luplace_file.specs.Content.{Placement}
 use Rattle.luplace_file.specs.declared.error.PlaceError.TheVariants as placing
 use Rattle.luplace_file.specs.Placement.{placement_of}
 use Rattle.luplace.specs.Placing.{refusal}
@@ -19,10 +21,10 @@ use Rattle.lutab.specs.Table.{IsRefused as IsRefusedTable}
 use Rattle.lusdist_commands.specs.declared.stop.Stop.{Stop}
 use Rattle.lusdist_commands.specs.declared.stop.Stop.TheVariants.{NotAscii, Syntax, Rules, Flat, Place as PlaceStop, Table}
 
--- A rule that the program breaks, where all rules of the stages before it are kept; or, of a program that keeps all rules, why it
--- has no flat program.
+-- A rule that the program breaks, where all rules of the stages before it are kept, and of its own stage none that is broken is told before it; or,
+-- of a program that keeps all rules, why it has no flat program.
 pub data IsToldOf (tree : ProgramTree) (main : List ℕ) (stop : Stop) : Type 0 where
-  rule : (refusal : StatError) → stop ≡ Rules refusal → Tells 3 tree main refusal → IsToldOf tree main stop
+  rule : (refusal : StatError) (read : Program) → stop ≡ Rules refusal → Tells 3 tree main refusal → tree ≡ program_view read → IsToldFirst read main refusal → IsToldOf tree main stop
   flat : (refusal : CoreError) → stop ≡ Flat refusal → IsAccepted tree main → Refuses tree main refusal → IsToldOf tree main stop
 
 -- the bytes of a program's file are no text, or a text that is refused so
@@ -40,5 +42,5 @@ IsTableRefused inputs bytes _ = ⊥
 -- the program
 abbrev pub IsPlaceRefused : FlatProgram → List ℕ → Stop → Type 0
 IsPlaceRefused program bytes (PlaceStop e) =
-    ((e ≡ placing.NotToml) × (¬ IsUtf8 bytes)) ⊎ ((e ≡ placing.OutOfMemory) ⊎ ((placement_of bytes ≡ Err e) ⊎ ((place : Place) × (placement_of bytes ≡ Ok place) × (refusal program place ≡ Some e))))
+    ((e ≡ placing.NotToml) × (¬ IsUtf8 bytes)) ⊎ ((e ≡ placing.OutOfMemory) ⊎ ((placement_of bytes ≡ Err e) ⊎ ((place : Placement) × (placement_of bytes ≡ Ok place) × (refusal program place ≡ Some e))))
 IsPlaceRefused program bytes _ = ⊥

@@ -1,10 +1,9 @@
 -- What a replay prints.
-use Rattle.std.specs.Prelude.{◌≡◌, ℕ, ◌+◌, Bool, true, false, List, [], ◌∷◌, ◌++◌, length, take, drop, codes, flat_map, slice_get, Option, Some, None, unwrap_or, Result, IfOk, string_bytes}
+use Rattle.std.specs.Prelude.{◌≡◌, ℕ, ◌+◌, true, false, List, [], ◌∷◌, ◌++◌, length, codes, flat_map, slice_get, Option, Some, None, unwrap_or, Result, IfOk, string_bytes}
 use Rattle.std.specs.declared.string.String.{String}
 use Rattle.std.specs.declared.alloc.Global.{Global}
 use Rattle.std.specs.List.{range_with_len}
 use Rattle.std.specs.Fmt.{decimal, signed_decimal}
-use Rattle.std.specs.Option.{option_map}
 use Rattle.luflow.specs.declared.data.Datum.{Datum}
 use Rattle.luflow.specs.declared.data.Datum.TheVariants.{Int, Bool as Truth, Nil}
 use Rattle.luflow.specs.declared.data.Status.{Status}
@@ -12,18 +11,17 @@ use Rattle.luflow.specs.declared.data.Status.TheVariants.{Absent, Present}
 use Rattle.luflow.specs.declared.message.Msg.{Msg}
 use Rattle.luflow.specs.declared.message.Body.{Body}
 use Rattle.luflow.specs.declared.message.Body.TheVariants.{Value, Close}
-use Rattle.luflow.specs.declared.variable.Variable.{Variable}
 use Rattle.luflow.specs.Program.{FlatProgram}
 use Rattle.luflow.specs.Operators.{kind_text}
 use Rattle.luworld.specs.declared.link.Link.{Link}
 use Rattle.luworld.specs.Needs.{Distribution, sites_of}
-use Rattle.luworld.specs.World.{done, put_count, taken_count}
-use Rattle.luworld.specs.Runs.{link_list, streams_of, system_of, outputs_of}
+use Rattle.luworld.specs.World.{done}
+use Rattle.luworld.specs.Runs.{outputs_of}
 use Rattle.lusite.specs.Machine.{IsStanding}
 use Rattle.lusite.specs.declared.report.Standing.{Standing}
 use Rattle.lusite.specs.declared.report.Standing.TheVariants.{Ended, Faulted, Cut}
 use Rattle.luworld.specs.Progress.{Progress, IsCollected, taken_of, queued_of}
-use Rattle.luflow.specs.Variables.{is_output_of, is_output, variable_name}
+use Rattle.luflow.specs.Variables.{is_output_of, variable_name}
 
 -- a space and a datum
 abbrev pub datum_text : Datum → List ℕ

@@ -1,13 +1,20 @@
 //! What holds of the definitions, as contracts of functions that do nothing.
 
-ghost use Rattle.lusdist_commands.specs.Exact.{HasOneOutcome};
+ghost use Rattle.lusdist_commands.specs.Exact.{HasOneOutcome, HasOneStatus};
 
 use lusdist_shell::Files;
 
-/// Where each file has one text, what has an answer isn't refused for what its files say, and what is refused for that has
-/// no answer.
+/// Where each file has one text or none, what has an answer isn't refused, unless memory ran out; and what is refused has no
+/// answer.
 pub fn one_outcome_law<F: Files>(files: &F)
     ensures { HasOneOutcome (F.gives files.now) }
+{
+    let _ = files;
+}
+
+/// Two refusals of one request have one status, where each file has one text or none and memory sufficed.
+pub fn one_status_law<F: Files>(files: &F)
+    ensures { HasOneStatus (F.gives files.now) }
 {
     let _ = files;
 }

@@ -2,16 +2,18 @@
 //!
 //! - [`serve_words`]: a call, from its words to its exit status.
 //! - [`sources`]: from the texts of the files to a program, its flat program, a plan, a job, its turns, a table.
+//! - [`planning`]: the plan of a program at a placement, and its texts.
 //! - [`evaluating`]: the table of a program's outputs.
 //! - [`sites`]: the new sites of a job; [`text`]: what a replay prints.
 //! - [`Stop`]: why a call stops, and with which status.
-//! - [`laws`]: an answer and a refusal exclude each other.
+//! - [`laws`]: a call has one outcome.
 //!
 //! It is a library, so that it is checked without the linking of a program; `lusdist` is its `main`.
 #![tactic(auto)]
 
 pub mod evaluating;
 pub mod laws;
+pub mod planning;
 mod serve;
 pub mod sites;
 pub mod sources;

@@ -5,24 +5,26 @@ ghost use Rattle.std.specs.Io.KnownBytes.{Appends};
 ghost use Rattle.clap.specs.Words.{takes};
 ghost use Rattle.lusdist_shell.specs.CommandLine.{lusdist};
 ghost use Rattle.luweave.specs.Headline.{IsFaithful};
-ghost use Rattle.lusdist_commands.specs.Asked.{IsAskedFor, IsWorldOf, IsPrinted, IsReplayed, IsChecked, IsAnswer, IsDone};
+ghost use Rattle.lusdist_commands.specs.Asked.{IsAskedFor, IsWorldOf, IsPrinted, IsReplayed, IsChecked, IsPlanned, IsAnswer, IsDone};
 ghost use Rattle.luflow.specs.Sound.{IsFit};
 ghost use Rattle.luflow.specs.Variables.{outputs_of};
 ghost use Rattle.lusdist_commands.specs.Evaluated.{IsPosedBy, IsEvaluated};
-ghost use Rattle.lusdist_commands.specs.Stopped.{IsCheckStopped, IsEvalStopped, IsReplayStopped, IsRequestStopped, IsRefusal};
+ghost use Rattle.lusdist_commands.specs.Stopped.{IsCheckStopped, IsEvalStopped, IsPlanStopped, IsReplayStopped, IsRequestStopped, IsRefusal};
 ghost use Rattle.lusdist_commands.specs.Left.{IsEnded, IsCallEnded};
 ghost use Rattle.lusdist_commands.specs.declared.stop.Stop.{Stop};
 ghost use Rattle.lusdist_commands.specs.declared.stop.Stop.TheVariants.{OutOfMemory};
 
 use crate::evaluating::output_table;
+use crate::planning::{plan_text, planned};
 use crate::sites::new_sites;
-use crate::sources::{flat_of, flattened, inputs_in, job_of, plan_of, program_of, read, turns_of};
+use crate::sources::{flattened, inputs_in, job_of, program_of, read, turns_of};
 use crate::stop::Stop;
 use crate::text::text_of_world;
 use luflow::{Flat, Inputs};
 use luplace::Job;
 use lusdist_shell::{
-    CheckRequest, EvalRequest, Files, ReplayRequest, Request, Sink, parse, put_mistake, put_out,
+    CheckRequest, EvalRequest, Files, PlanRequest, ReplayRequest, Request, Sink, parse,
+    put_mistake, put_out,
 };
 use lusyn::print_program;
 use luweave::{World, replay};
@@ -39,10 +41,7 @@ fn job_and_turns<F: Files>(
         found.1.items) }
     ensures stopped { IfErr result (IsReplayStopped (F.gives files.now) request.entry) }
 {
-    let program = read(alloc, files, request.program)?;
-    let flat = flat_of(alloc, &program, request.main)?;
-    let place = read(alloc, files, request.place)?;
-    let plan = plan_of(alloc, flat, &place)?;
+    let plan = planned(alloc, files, request.program, request.place, request.main)?;
     let table = read(alloc, files, request.table)?;
     let job = job_of(alloc, plan, &table)?;
     let schedule = read(alloc, files, request.schedule)?;
@@ -50,23 +49,27 @@ fn job_and_turns<F: Files>(
     Ok((job, turns))
 }
 
-/// The world that the turns make of a job's new sites.
-pub fn replayed(alloc: Global, job: &Job, turns: &[u8]) -> Result<World, Stop>
-    ensures world { IfOk result (IsWorldOf job.now turns.now) }
+/// The world that the turns make of a job's new sites; where it is to be finished, after more turns, until none moves.
+pub fn replayed(alloc: Global, job: &Job, turns: &[u8], finish: bool) -> Result<World, Stop>
+    ensures world { IfOk result (IsWorldOf job.now turns.now finish) }
     ensures faithful { IfOk result (λ world. IsFaithful world.job world.dones) }
     ensures memory { IfErr result (λ stop. stop ≡ OutOfMemory) }
 {
     let sites = new_sites(alloc, job)?;
-    let world = replay(alloc, job.plan(), sites, turns)?;
+    let mut world = replay(alloc, job.plan(), sites, turns)?;
+    if !finish {
+        return Ok(world);
+    }
+    world.finish();
     Ok(world)
 }
 
 /// What a replay of a job prints.
-fn printed(alloc: Global, job: &Job, turns: &[u8]) -> Result<String, Stop>
-    ensures text { IfOk result (λ text. IsPrinted job.now turns.now (string_bytes text)) }
+fn printed(alloc: Global, job: &Job, turns: &[u8], finish: bool) -> Result<String, Stop>
+    ensures text { IfOk result (λ text. IsPrinted job.now turns.now finish (string_bytes text)) }
     ensures memory { IfErr result (λ stop. stop ≡ OutOfMemory) }
 {
-    let world = replayed(alloc, job, turns)?;
+    let world = replayed(alloc, job, turns, finish)?;
     Ok(text_of_world(alloc, job.plan(), &world)?)
 }
 
@@ -80,8 +83,9 @@ fn replay_text<F: Files>(
         (string_bytes text)) }
     ensures stopped { IfErr result (IsReplayStopped (F.gives files.now) request.entry) }
 {
+    let finish = request.finish;
     let (job, turns) = job_and_turns(alloc, request, files)?;
-    printed(alloc, &job, &turns)
+    printed(alloc, &job, &turns, finish)
 }
 
 /// What a check prints: the canonical text of the program, which keeps all rules and has a flat program.
@@ -128,6 +132,17 @@ fn eval_text<F: Files>(alloc: Global, request: EvalRequest<'_>, files: &F) -> Re
     output_table(alloc, &flat, &inputs)
 }
 
+/// What a plan prints: where each variable stands, and all links, in the form that is asked for.
+fn plan_answer<F: Files>(alloc: Global, request: PlanRequest<'_>, files: &F) -> Result<String, Stop>
+    ensures text { IfOk result (λ text. IsPlanned (F.gives files.now) request.entry
+        (string_bytes text)) }
+    ensures stopped { IfErr result (IsPlanStopped (F.gives files.now) request.entry) }
+{
+    let plan = planned(alloc, files, request.program, request.place, request.main)?;
+    let text = plan_text(alloc, &plan, request.form)?;
+    Ok(text)
+}
+
 /// What the command that is asked for prints.
 fn answer<F: Files>(alloc: Global, request: Request<'_>, files: &F) -> Result<String, Stop>
     ensures text { IfOk result (λ text. IsAnswer (F.gives files.now) request.entry
@@ -137,6 +152,7 @@ fn answer<F: Files>(alloc: Global, request: Request<'_>, files: &F) -> Result<St
     match request {
         Request::Check(request) => check_text(alloc, request, files),
         Request::Eval(request) => eval_text(alloc, request, files),
+        Request::Plan(request) => plan_answer(alloc, request, files),
         Request::Replay(request) => replay_text(alloc, request, files),
     }
 }

@@ -1,8 +1,7 @@
 //! From the texts of the files to a plan, a job and its turns.
 
-ghost use Rattle.std.specs.Prelude.{◌≡◌, IfOk, IfErr, IsUtf8, Ok, false};
+ghost use Rattle.std.specs.Prelude.{◌≡◌, Some, IfOk, IfErr, IsUtf8, Ok, false};
 ghost use Rattle.lutree.specs.Tree.{program_view};
-ghost use Rattle.lusource.specs.First.{IsFirstShape};
 ghost use Rattle.lucore.specs.Result.{IsFlatOf};
 ghost use Rattle.lusdist_shell.specs.ScheduleText.{schedule_of};
 ghost use Rattle.lusyn.specs.Texts.{SpellsText};
@@ -11,14 +10,12 @@ ghost use Rattle.luflow.specs.Tables.{Fits};
 ghost use Rattle.luflow.specs.Variables.{inputs_of};
 ghost use Rattle.luworld.specs.Runs.{IsRun};
 ghost use Rattle.lutab.specs.Table.{IsTextOf, is_too_long};
-ghost use Rattle.lusdist_commands.specs.declared.stop.Stop.TheVariants.{NotYet};
-ghost use Rattle.lusdist_commands.specs.Asked.{IsFlatOfText, IsPlanOfText};
+ghost use Rattle.lusdist_commands.specs.Asked.{HasFlat, IsPlanOfText};
 ghost use Rattle.lusdist_commands.specs.Refused.{IsToldOf, IsProgramRefused, IsPlaceRefused, IsTableRefused};
-ghost use Rattle.lusdist_commands.specs.Stopped.{IsUnread, HasNoFirst, IsScheduleRefused};
+ghost use Rattle.lusdist_commands.specs.Stopped.{IsUnread, HasNoFlat, IsScheduleRefused};
 
 use crate::stop::Stop;
 use lucore::flatten;
-use lufirst::is_first;
 use luflow::{Flat, Inputs};
 use lulist::Name;
 use luplace::{Job, Plan};
@@ -32,8 +29,8 @@ use std::alloc::Global;
 
 /// The bytes of the file at the path.
 pub fn read<F: Files>(alloc: Global, files: &F, path: &str) -> Result<Vec<u8>, Stop>
-    ensures given { IfOk result (λ bytes. F.gives files.now path.now bytes.items) }
-    ensures unread { IfErr result (IsUnread path.now) }
+    ensures given { IfOk result (λ bytes. F.gives files.now path.now (Some bytes.items)) }
+    ensures unread { IfErr result (IsUnread (F.gives files.now) path.now) }
 {
     match files.read(alloc, path) {
         Ok(bytes) => Ok(bytes),
@@ -73,29 +70,13 @@ pub fn flattened(alloc: Global, program: &Program, main: &str) -> Result<Flat, S
     }
 }
 
-/// The flat program of a program of the first language.
-fn first_alone(program: &Program, flat: Flat) -> Result<Flat, Stop>
-    ensures flat { IfOk result (λ same. same ≡ flat) }
-    ensures first { IfOk result (λ _. IsFirstShape (program_view program.now)) }
-    ensures not_yet { IfErr result (λ stop. (stop ≡ NotYet)
-        × (¬ IsFirstShape (program_view program.now))) }
-{
-    if is_first(program) {
-        Ok(flat)
-    } else {
-        Err(Stop::NotYet)
-    }
-}
-
-/// The flat program that the bytes of a program's file are, from its main node of this name, where the program is of the first
-/// language.
+/// The flat program that the bytes of a program's file are, from its main node of this name.
 pub fn flat_of(alloc: Global, bytes: &[u8], main: &str) -> Result<Flat, Stop>
-    ensures flat { IfOk result (IsFlatOfText bytes.now main.now) }
-    ensures refused { IfErr result (HasNoFirst bytes.now main.now) }
+    ensures flat { IfOk result (HasFlat bytes.now main.now) }
+    ensures refused { IfErr result (HasNoFlat bytes.now main.now) }
 {
     let program = program_of(alloc, bytes)?;
-    let flat = flattened(alloc, &program, main)?;
-    first_alone(&program, flat)
+    flattened(alloc, &program, main)
 }
 
 /// The plan of a flat program and the bytes of a placement's file.

@@ -29,8 +29,6 @@ pub enum Stop {
     Syntax(SynError),
     /// The program breaks a rule.
     Rules(StatError),
-    /// The program is of more than the first language, which alone is replayed as yet.
-    NotYet,
     /// The program has no flat program.
     Flat(CoreError),
     /// The placement is refused.
@@ -61,7 +59,6 @@ impl fmt::Display for Stop {
             Stop::NotAscii => f.write_str("E03 NotAscii"),
             Stop::Syntax(refusal) => write!(f, "{refusal}"),
             Stop::Rules(refusal) => write!(f, "{refusal}"),
-            Stop::NotYet => f.write_str("E00 NotYet"),
             Stop::Flat(refusal) => write!(f, "{refusal}"),
             Stop::Place(refusal) => write!(f, "{refusal}"),
             Stop::Table(refusal) => write!(f, "{refusal}"),

@@ -2,7 +2,7 @@
 use Rattle.std.specs.Prelude.{[], ◌∷◌, true, codes, Some}
 use Rattle.clap.specs.Walk.{Rule, Text}
 use Rattle.clap.specs.Simple.{App, new_app, new_rule, on_top, with_rule, with_subcommand}
-use Rattle.clap.specs.declared.builder.action.ArgAction.TheVariants.{Set}
+use Rattle.clap.specs.declared.builder.action.ArgAction.TheVariants.{Set, SetTrue}
 
 -- a path that must be given
 abbrev pub path_rule : Text → Rule
@@ -12,6 +12,10 @@ path_rule name = record (new_rule name) { required = true; action = Some Set }
 abbrev pub main_rule : Rule
 main_rule = record (new_rule (codes "main")) { long = Some (codes "main"); value_names = 1; defaults = codes "main" ∷ [] }
 
+-- a flag, which is given or not
+abbrev pub flag_rule : Text → Rule
+flag_rule name = record (new_rule name) { long = Some name; action = Some SetTrue }
+
 -- `check PROGRAM [--main NAME]`
 abbrev pub check : App
 check = with_rule (with_rule (new_app (codes "check")) main_rule) (path_rule (codes "PROGRAM"))
@@ -20,14 +24,20 @@ check = with_rule (with_rule (new_app (codes "check")) main_rule) (path_rule (co
 abbrev pub eval : App
 eval = with_rule (with_rule (with_rule (new_app (codes "eval")) main_rule) (path_rule (codes "PROGRAM"))) (path_rule (codes "TABLE"))
 
--- `replay PROGRAM PLACE TABLE SCHEDULE [--main NAME]`
+-- `plan PROGRAM PLACE [--main NAME] [--text] [--dot]`
+abbrev pub plan : App
+plan =
+    with_rule (with_rule (with_rule (with_rule (with_rule (new_app (codes "plan")) main_rule)
+    (flag_rule (codes "text"))) (flag_rule (codes "dot"))) (path_rule (codes "PROGRAM"))) (path_rule (codes "PLACE"))
+
+-- `replay PROGRAM PLACE TABLE SCHEDULE [--main NAME] [--finish]`
 abbrev pub replay : App
 replay =
-    with_rule (with_rule (with_rule (with_rule (with_rule (new_app (codes "replay")) main_rule)
-    (path_rule (codes "PROGRAM"))) (path_rule (codes "PLACE"))) (path_rule (codes "TABLE"))) (path_rule (codes "SCHEDULE"))
+    with_rule (with_rule (with_rule (with_rule (with_rule (with_rule (new_app (codes "replay")) main_rule)
+    (flag_rule (codes "finish"))) (path_rule (codes "PROGRAM"))) (path_rule (codes "PLACE"))) (path_rule (codes "TABLE"))) (path_rule (codes "SCHEDULE"))
 
 -- `lusdist` and one of its commands, or `lusdist --version`
 abbrev pub lusdist : App
 lusdist =
     let top = on_top (λ top. record top { has_version = true; subcommand_required = true }) (new_app (codes "lusdist")) in
-    with_subcommand (with_subcommand (with_subcommand top check.top) eval.top) replay.top
+    with_subcommand (with_subcommand (with_subcommand (with_subcommand top check.top) eval.top) plan.top) replay.top

@@ -4,3 +4,4 @@ pub mod CommandLine
 pub mod Request
 pub mod Sinks
 pub mod Lines
+pub mod Files

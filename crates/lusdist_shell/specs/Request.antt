@@ -1,23 +1,35 @@
 -- What a command line asks for.
-use Rattle.std.specs.Prelude.{◌≡◌, ◌⊎◌, List, [], codes, unwrap_or, Option, Some}
+use Rattle.std.specs.Prelude.{◌≡◌, ◌⊎◌, Bool, List, [], codes, unwrap_or, Option, Some, if◌then◌else◌}
+use Rattle.std.specs.Str.{bytes_eq}
 use Rattle.clap.specs.Walk.{Row, Text, first_of}
 use Rattle.clap.specs.Simple.{subcommand_of}
 use Rattle.lusdist_shell.specs.declared.request.CheckRequest.{CheckRequest}
 use Rattle.lusdist_shell.specs.declared.request.EvalRequest.{EvalRequest}
+use Rattle.lusdist_shell.specs.declared.request.PlanForm.{PlanForm}
+use Rattle.lusdist_shell.specs.declared.request.PlanForm.TheVariants.{Report, Table, Graph}
+use Rattle.lusdist_shell.specs.declared.request.PlanRequest.{PlanRequest}
 use Rattle.lusdist_shell.specs.declared.request.ReplayRequest.{ReplayRequest}
 use Rattle.lusdist_shell.specs.declared.request.Request.{Request}
-use Rattle.lusdist_shell.specs.declared.request.Request.TheVariants.{Check, Eval, Replay}
+use Rattle.lusdist_shell.specs.declared.request.Request.TheVariants.{Check, Eval, Plan, Replay}
 use Rattle.lusdist_shell.specs.CommandLine.{lusdist}
 
 -- the text that the matches of a command hold for an argument
 abbrev pub text_in : List Row → Text → Text
 text_in matches argument = unwrap_or (first_of argument matches) []
 
--- there is a command, and it is `check`, `eval` or `replay`
+-- whether the matches of a command hold a flag
+abbrev pub is_given : List Row → Text → Bool
+is_given matches flag = bytes_eq (text_in matches flag) (codes "true")
+
+-- a graph where `--dot` is given, else a table where `--text` is, else the report
+abbrev pub form_in : List Row → PlanForm
+form_in matches = if is_given matches (codes "dot") then Graph else (if is_given matches (codes "text") then Table else Report)
+
+-- there is a command, and it is `check`, `eval`, `plan` or `replay`
 pub record IsCommand (command : Option (Text × List Row)) : Type 0 where
   pub found : Text × List Row
   pub is : command ≡ Some found
-  pub named : (found.0 ≡ codes "check") ⊎ ((found.0 ≡ codes "eval") ⊎ (found.0 ≡ codes "replay"))
+  pub named : (found.0 ≡ codes "check") ⊎ ((found.0 ≡ codes "eval") ⊎ ((found.0 ≡ codes "plan") ⊎ (found.0 ≡ codes "replay")))
 
 -- The command is `check`, and the request is what its matches hold, argument by argument.
 pub record IsCheckIn (command : Option (Text × List Row)) (request : CheckRequest) : Type 0 where
@@ -34,6 +46,15 @@ pub record IsEvalIn (command : Option (Text × List Row)) (request : EvalRequest
   pub program : request.program.now ≡ text_in matches (codes "PROGRAM")
   pub table : request.table.now ≡ text_in matches (codes "TABLE")
 
+-- The command is `plan`, and the request is what its matches hold, argument by argument.
+pub record IsPlanIn (command : Option (Text × List Row)) (request : PlanRequest) : Type 0 where
+  pub matches : List Row
+  pub named : command ≡ Some (codes "plan", matches)
+  pub main : request.main.now ≡ text_in matches (codes "main")
+  pub program : request.program.now ≡ text_in matches (codes "PROGRAM")
+  pub place : request.place.now ≡ text_in matches (codes "PLACE")
+  pub form : request.form ≡ form_in matches
+
 -- The command is `replay`, and the request is what its matches hold, argument by argument.
 pub record IsReplayIn (command : Option (Text × List Row)) (request : ReplayRequest) : Type 0 where
   pub matches : List Row
@@ -43,11 +64,13 @@ pub record IsReplayIn (command : Option (Text × List Row)) (request : ReplayReq
   pub place : request.place.now ≡ text_in matches (codes "PLACE")
   pub table : request.table.now ≡ text_in matches (codes "TABLE")
   pub schedule : request.schedule.now ≡ text_in matches (codes "SCHEDULE")
+  pub finish : request.finish ≡ is_given matches (codes "finish")
 
 -- the request is for the command, with what its matches hold
 abbrev pub IsFoundIn : Option (Text × List Row) → Request → Type 0
 IsFoundIn command (Check request) = IsCheckIn command request
 IsFoundIn command (Eval request) = IsEvalIn command request
+IsFoundIn command (Plan request) = IsPlanIn command request
 IsFoundIn command (Replay request) = IsReplayIn command request
 
 -- The request is for the command that the words name, with what they give its arguments.

@@ -4,7 +4,7 @@ ghost use Rattle.std.specs.Prelude.{◌≡◌, IfOk, false, codes};
 ghost use Rattle.clap.specs.Words.{rule_of, app_of};
 ghost use Rattle.clap.specs.Simple.{new_app};
 ghost use Rattle.clap.specs.declared.builder.command.Command.TheViews.{out-Command};
-ghost use Rattle.lusdist_shell.specs.CommandLine.{path_rule, main_rule, check, eval, replay, lusdist};
+ghost use Rattle.lusdist_shell.specs.CommandLine.{path_rule, main_rule, flag_rule, check, eval, plan, replay, lusdist};
 
 use clap::{Arg, ArgAction, Command};
 use std::alloc::{AllocError, Global};
@@ -58,7 +58,7 @@ fn place<'a>(alloc: Global) -> Arg<'a>
     path(
         alloc,
         "PLACE",
-        "The placement, in TOML: the sites, how much a link holds, and each variable's site",
+        "The placement, in TOML: the sites, how much a link holds, and each variable's sites",
     )
 }
 
@@ -84,6 +84,53 @@ fn main_name<'a>(alloc: Global) -> Arg<'a>
         .value_name("NAME")
         .default_value("main")
         .help("The name of the main node")
+}
+
+/// A flag, which is given or not.
+fn flag<'a>(alloc: Global, name: &'a str, help: &'a str) -> Arg<'a>
+    ensures rule { rule_of result ≡ flag_rule name.entry.now }
+    ensures local { result.global ≡ false }
+{
+    Arg::new(alloc, name)
+        .long(name)
+        .action(ArgAction::SetTrue)
+        .help(help)
+}
+
+/// Whether a plan is told as a table.
+fn text_flag<'a>(alloc: Global) -> Arg<'a>
+    ensures rule { rule_of result ≡ flag_rule (codes "text") }
+    ensures local { result.global ≡ false }
+{
+    flag(
+        alloc,
+        "text",
+        "Prints a table for a terminal in place of the report",
+    )
+}
+
+/// Whether a plan is told as a graph.
+fn dot_flag<'a>(alloc: Global) -> Arg<'a>
+    ensures rule { rule_of result ≡ flag_rule (codes "dot") }
+    ensures local { result.global ≡ false }
+{
+    flag(
+        alloc,
+        "dot",
+        "Prints a graph for Graphviz in place of the report, also beside --text",
+    )
+}
+
+/// Whether a replay goes on until no turn moves.
+fn finish_flag<'a>(alloc: Global) -> Arg<'a>
+    ensures rule { rule_of result ≡ flag_rule (codes "finish") }
+    ensures local { result.global ≡ false }
+{
+    flag(
+        alloc,
+        "finish",
+        "Goes on after the schedule until no site can do anything more",
+    )
 }
 
 /// A command with no arguments yet.
@@ -115,6 +162,20 @@ fn eval<'a>(alloc: Global) -> Result<Command<'a>, AllocError>
         .arg(table(alloc))
 }
 
+fn plan<'a>(alloc: Global) -> Result<Command<'a>, AllocError>
+    ensures app { IfOk result (λ c. app_of c ≡ plan) }
+    ensures local { IfOk result (λ c. (out-Command c).has_globals ≡ false) }
+{
+    let about =
+        "Plans a program at several sites and prints where each variable stands, and all links";
+    named(alloc, "plan", about)
+        .arg(main_name(alloc))?
+        .arg(text_flag(alloc))?
+        .arg(dot_flag(alloc))?
+        .arg(program(alloc))?
+        .arg(place(alloc))
+}
+
 fn replay<'a>(alloc: Global) -> Result<Command<'a>, AllocError>
     ensures app { IfOk result (λ c. app_of c ≡ replay) }
     ensures local { IfOk result (λ c. (out-Command c).has_globals ≡ false) }
@@ -123,6 +184,7 @@ fn replay<'a>(alloc: Global) -> Result<Command<'a>, AllocError>
         "Runs a program at several sites, turn by turn, and prints links, sites and outputs";
     named(alloc, "replay", about)
         .arg(main_name(alloc))?
+        .arg(finish_flag(alloc))?
         .arg(program(alloc))?
         .arg(place(alloc))?
         .arg(table(alloc))?
@@ -135,6 +197,7 @@ pub fn lusdist<'a>(alloc: Global) -> Result<Command<'a>, AllocError>
 {
     let check = check(alloc)?;
     let eval = eval(alloc)?;
+    let plan = plan(alloc)?;
     let replay = replay(alloc)?;
     named(
         alloc,
@@ -146,5 +209,6 @@ pub fn lusdist<'a>(alloc: Global) -> Result<Command<'a>, AllocError>
     .subcommand_required(true)
     .subcommand(check)?
     .subcommand(eval)?
+    .subcommand(plan)?
     .subcommand(replay)
 }

@@ -1,6 +1,7 @@
 //! Where the program's texts come from.
 
-ghost use Rattle.std.specs.Prelude.{List, ℕ, IfOk};
+ghost use Rattle.std.specs.Prelude.{List, ℕ, Option, Some, IfOk, IfErr};
+ghost use Rattle.lusdist_shell.specs.Files.{IsMissed};
 
 use std::alloc::Global;
 use std::io::ErrorKind;
@@ -17,12 +18,14 @@ pub enum ReadError {
 
 /// Files by their paths.
 pub trait Files {
-    /// A read of the path may give these bytes. Files in memory say which; real files may give any.
-    ghost gives: { Self → List ℕ → List ℕ → Type 0 };
+    /// A read of the path may give these bytes, or none, where there is no file that can be read. Files in memory say which;
+    /// real files may give any.
+    ghost gives: { Self → List ℕ → Option (List ℕ) → Type 0 };
 
     /// The bytes of the file at the path.
     fn read(&self, alloc: Global, path: &str) -> Result<Vec<u8>, ReadError>
-        ensures { IfOk result (λ bytes. gives self.now path.now bytes.items) };
+        ensures given { IfOk result (λ bytes. gives self.now path.now (Some bytes.items)) }
+        ensures missed { IfErr result (IsMissed (gives self.now path.now)) };
 }
 
 /// The files of the system.

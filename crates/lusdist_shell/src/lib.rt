@@ -18,7 +18,9 @@ mod text;
 
 pub use files::{Files, ReadError, RealFiles};
 pub use put::{put_mistake, put_out, put_unread};
-pub use request::{CheckRequest, EvalRequest, ReplayRequest, Request, parse};
+pub use request::{
+    CheckRequest, EvalRequest, PlanForm, PlanRequest, ReplayRequest, Request, parse,
+};
 pub use schedule::{ScheduleError, read_schedule};
 pub use sink::Sink;
 pub use text::text_of;

@@ -4,7 +4,7 @@ ghost use Rattle.std.specs.Prelude.{◌≡◌, IfOk, IfErr, map, true, string_by
 ghost use Rattle.clap.specs.Words.{kind_of, takes, found_of, rows_of, subcommand_of, subcommand_rows_of, FailsBy, fault_of};
 ghost use Rattle.clap.specs.declared.error.kind.ErrorKind.TheVariants.{OutOfMemory};
 ghost use Rattle.lusdist_shell.specs.CommandLine.{lusdist};
-ghost use Rattle.lusdist_shell.specs.Request.{text_in, IsCommand, IsCheckIn, IsEvalIn, IsReplayIn, IsFoundIn, IsAskedBy};
+ghost use Rattle.lusdist_shell.specs.Request.{text_in, is_given, form_in, IsCommand, IsCheckIn, IsEvalIn, IsPlanIn, IsReplayIn, IsFoundIn, IsAskedBy};
 
 use crate::command::lusdist;
 use clap::{ArgMatches, Error};
@@ -30,6 +30,30 @@ pub struct EvalRequest<'a> {
     pub table: &'a str,
 }
 
+/// How a plan is told.
+#[derive(Clone, Copy, Debug, PartialEq, Eq)]
+pub enum PlanForm {
+    /// As the report, for other programs.
+    Report,
+    /// As a table, for a terminal.
+    Table,
+    /// As a graph, for Graphviz.
+    Graph,
+}
+
+/// What a plan is asked of.
+#[derive(Clone, Copy, Debug, PartialEq, Eq)]
+pub struct PlanRequest<'a> {
+    /// The name of the main node.
+    pub main: &'a str,
+    /// The path of the program.
+    pub program: &'a str,
+    /// The path of the placement.
+    pub place: &'a str,
+    /// How the plan is told.
+    pub form: PlanForm,
+}
+
 /// What a replay is asked of.
 #[derive(Clone, Copy, Debug, PartialEq, Eq)]
 pub struct ReplayRequest<'a> {
@@ -43,6 +67,8 @@ pub struct ReplayRequest<'a> {
     pub table: &'a str,
     /// The path of the schedule.
     pub schedule: &'a str,
+    /// Whether it goes on after the schedule until no turn moves.
+    pub finish: bool,
 }
 
 /// What the command line asks for.
@@ -52,6 +78,8 @@ pub enum Request<'a> {
     Check(CheckRequest<'a>),
     /// An evaluation of a program at a table.
     Eval(EvalRequest<'a>),
+    /// A plan of a program at a placement.
+    Plan(PlanRequest<'a>),
     /// A replay of these files.
     Replay(ReplayRequest<'a>),
 }
@@ -87,6 +115,38 @@ fn eval_in<'a>(matches: &ArgMatches<'a>) -> EvalRequest<'a>
     }
 }
 
+/// Whether a flag is given.
+fn is_given<'a>(matches: &ArgMatches<'a>, flag: &str) -> bool
+    ensures { result ≡ is_given (rows_of (found_of matches.now)) flag.now }
+{
+    text(matches, flag) == "true"
+}
+
+/// How the plan is to be told: as a graph, even where a table is asked for too.
+fn form_in<'a>(matches: &ArgMatches<'a>) -> PlanForm
+    ensures { result ≡ form_in (rows_of (found_of matches.now)) }
+{
+    if is_given(matches, "dot") {
+        PlanForm::Graph
+    } else if is_given(matches, "text") {
+        PlanForm::Table
+    } else {
+        PlanForm::Report
+    }
+}
+
+/// What the matches of `plan` ask for.
+fn plan_in<'a>(matches: &ArgMatches<'a>) -> PlanRequest<'a>
+    ensures { IsPlanIn (Some (codes "plan", rows_of (found_of matches.now))) result }
+{
+    PlanRequest {
+        main: text(matches, "main"),
+        program: text(matches, "PROGRAM"),
+        place: text(matches, "PLACE"),
+        form: form_in(matches),
+    }
+}
+
 /// What the matches of `replay` ask for.
 fn replay_in<'a>(matches: &ArgMatches<'a>) -> ReplayRequest<'a>
     ensures { IsReplayIn (Some (codes "replay", rows_of (found_of matches.now))) result }
@@ -97,6 +157,7 @@ fn replay_in<'a>(matches: &ArgMatches<'a>) -> ReplayRequest<'a>
         place: text(matches, "PLACE"),
         table: text(matches, "TABLE"),
         schedule: text(matches, "SCHEDULE"),
+        finish: is_given(matches, "finish"),
     }
 }
 
@@ -108,6 +169,7 @@ fn request_in<'a>(matches: &ArgMatches<'a>) -> Request<'a>
     match matches.subcommand() {
         Some((name, found)) if name == "check" => Request::Check(check_in(found)),
         Some((name, found)) if name == "eval" => Request::Eval(eval_in(found)),
+        Some((name, found)) if name == "plan" => Request::Plan(plan_in(found)),
         Some((_, found)) => Request::Replay(replay_in(found)),
         None => unreachable!(),
     }

@@ -1,3 +1,4 @@
 pub mod CopyOfInput
 pub mod TwoInputs
 pub mod Counters
+pub mod Files

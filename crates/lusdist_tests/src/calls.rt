@@ -58,6 +58,9 @@ fn stops(alloc: Global, all: &[&str], files: &impl Files, line: &[u8]) -> Result
 const CALLS: &[&[&str]] = &[
     &["lusdist", "check", "p.lus"],
     &["lusdist", "eval", "p.lus", "t.csv"],
+    &["lusdist", "plan", "p.lus", "p.toml"],
+    &["lusdist", "plan", "p.lus", "p.toml", "--text"],
+    &["lusdist", "plan", "p.lus", "p.toml", "--dot"],
     &["lusdist", "replay", "p.lus", "p.toml", "t.csv", "s.txt"],
 ];
 

@@ -141,7 +141,7 @@ fn agrees(
 ) -> Result<bool, Stop>
     requires { AreScripts job.now scripts.now }
 {
-    let world = replayed(alloc, job, turns)?;
+    let world = replayed(alloc, job, turns, false)?;
     let dones = world_by(alloc, job, scripts, turns)?;
     Ok(links_agree(job, plain, scripts, &world, &dones) && outputs_agree(plain, &world))
 }

@@ -1,11 +1,12 @@
 //! The program's surroundings as `lusdist_shell` has them, over memory.
 
 ghost use Rattle.std.specs.Prelude.{◌≡◌};
+ghost use Rattle.lusdist_tests.specs.Files.{file_at};
 
 use clap::error::ErrorKind;
 use lusdist_shell::{
-    CheckRequest, EvalRequest, Files, ReadError, RealFiles, ReplayRequest, Request, ScheduleError,
-    Sink, parse, put_mistake, put_out, put_unread, read_schedule, text_of,
+    CheckRequest, EvalRequest, Files, PlanForm, PlanRequest, ReadError, RealFiles, ReplayRequest,
+    Request, ScheduleError, Sink, parse, put_mistake, put_out, put_unread, read_schedule, text_of,
 };
 use std::alloc::{AllocError, Global};
 use std::io;
@@ -20,7 +21,7 @@ struct OneFile {
 }
 
 impl Files for OneFile {
-    ghost gives = { λ files path bytes. (path ≡ files.path.now) × (bytes ≡ files.text.now) };
+    ghost gives = { λ files path given. given ≡ file_at files.path.now files.text.now path };
 
     fn read(&self, alloc: Global, path: &str) -> Result<Vec<u8>, ReadError> {
         if path != self.path {
@@ -167,6 +168,31 @@ fn replay_is_asked_for(rt: HostRuntime) -> Result<(), Fail> {
             place: "b",
             table: "c",
             schedule: "d",
+            finish: false,
+        });
+        assert!(rt; is_asked(rt.alloc(), *all, want)?, "{all:?}");
+    }
+    Ok(())
+}
+
+const PLANS: &[(&[&str], PlanForm)] = &[
+    (&["lusdist", "plan", "a", "b"], PlanForm::Report),
+    (&["lusdist", "plan", "a", "b", "--text"], PlanForm::Table),
+    (&["lusdist", "plan", "--dot", "a", "b"], PlanForm::Graph),
+    (
+        &["lusdist", "plan", "a", "--dot", "b", "--text"],
+        PlanForm::Graph,
+    ),
+];
+
+#[test]
+fn plan_is_asked_for(rt: HostRuntime) -> Result<(), Fail> {
+    for (all, form) in PLANS {
+        let want = Request::Plan(PlanRequest {
+            main: "main",
+            program: "a",
+            place: "b",
+            form: *form,
         });
         assert!(rt; is_asked(rt.alloc(), *all, want)?, "{all:?}");
     }

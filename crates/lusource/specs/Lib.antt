@@ -3,7 +3,6 @@ pub mod StreamOperators
 pub mod Source
 pub mod Instances
 pub mod Agreement
-pub mod First
 pub mod Vectors
 pub mod StreamVectors
 pub mod Faults

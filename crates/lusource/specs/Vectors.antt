@@ -7,7 +7,7 @@ use Rattle.lutree.specs.declared.expr.Prefix.TheVariants.{Data as Data1, Pre}
 use Rattle.lutree.specs.declared.expr.Infix.TheVariants.{Data as Data2, Arrow, FollowedBy}
 use Rattle.lutree.specs.declared.expr.Condition.{Condition}
 use Rattle.lutree.specs.declared.program.Kind.TheVariants.{Int as Ints, Bool as Truths}
-use Rattle.lutree.specs.Tree.{Tree, DeclarationTree, NodeTree, ProgramTree}
+use Rattle.lutree.specs.Tree.{Tree, DeclarationTree, EquationTree, NodeTree, ProgramTree}
 use Rattle.lutree.specs.Tree as tree
 use Rattle.luflow.specs.declared.data.Datum.TheVariants.{Int, Bool as Truth, Nil}
 use Rattle.luflow.specs.declared.data.Status.{Status}
@@ -17,7 +17,20 @@ use Rattle.luflow.specs.Messages.{marks}
 use Rattle.luflow.specs.Vectors.{known, known_truth, three, four_samples}
 use Rattle.lusource.specs.Source.{Named, Site, condition, value, output, sites, given_streams}
 use Rattle.lusource.specs.Instances.{instance_at}
-use Rattle.lusource.specs.First.{Line, equation_of}
+
+-- `left = first -> pre from + step`
+pub record Line : Type 0 where
+  pub left : List ℕ
+  pub first : ℕ
+  pub from : List ℕ
+  pub step : ℕ
+
+abbrev pub equation_of : Line → EquationTree
+equation_of line =
+    record {
+      left = line.left ∷ [];
+      right = tree.binary Arrow (tree.number line.first) (tree.binary (Data2 Add) (tree.unary Pre (tree.variable line.from)) (tree.number line.step));
+    }
 
 -- node main() returns (a: int; b: int); let a = 0 -> pre b + 1; b = 0 -> pre a + 1; tel
 abbrev pub a_line : Line

@@ -3,7 +3,6 @@
 //! - `specs/Source.antt`: the synchronous solutions of a program, for the whole language.
 //! - `specs/Instances.antt`: which node the instance at a path of calls is of, by the text alone.
 //! - `specs/Agreement.antt`: when a flat program means what its source means.
-//! - `specs/First.antt`: which programs are accepted now.
 //! - `specs/Vectors.antt`: worked programs and expressions.
 //! - [`laws`]: those, that instances stand where the text has them, and that a program has one meaning where it agrees with a flat program.
 #![tactic(auto)]

@@ -1,7 +1,8 @@
-use Rattle.std.proofs.Common.{sym, subst}
+use Rattle.std.proofs.Common.{Some, List, ℕ, sym, subst}
 use Rattle.lutree.specs.Tree.{program_view}
 use Rattle.std.proofs.lemmas.Result.{err_from_is_err_and}
 use Rattle.lusdist_commands.specs.Stopped.HasNoFlat.{unspelled, unruled}
+use Rattle.lusdist_commands.specs.Stopped.StopsAtProgram.{program_unread, program_refused}
 use Rattle.lusdist_commands.specs.Stopped.IsCheckStopped.{check_program}
 use Rattle.lusdist_commands.proofs.serve.check_text.Goals as goal
 
@@ -11,7 +12,7 @@ returns-clause-text g c =
     record {
       program = c.deref.result.now;
       tree = program_view c.in_ok-program.program;
-      program_given = subst (gives c.args.request.program.now) (sym c.deref.ensures.value) c.in_ok-bytes.ensures.given;
+      program_given = subst (λ (b : List ℕ). gives c.args.request.program.now (Some b)) (sym c.deref.ensures.value) c.in_ok-bytes.ensures.given;
       spelled = c.in_ok-program.ensures.spelled;
       flat = c.in_ok-_flat._flat;
       flat_is = c.in_ok-_flat.ensures.flat;
@@ -23,10 +24,15 @@ pub returns-in_err-program-clause-stopped : goal.returns-in_err-program-clause-s
 returns-in_err-program-clause-stopped g c =
     let p = err_from_is_err_and c.from_residual-in_err-program.result c.from_residual-in_err-program.ensures.1 in
     let gives = g.F.Files.gives c.args.files.now in
-    rw (p.1, p.2) (check_program c.deref.result.now (subst (gives c.args.request.program.now) (sym c.deref.ensures.value) c.in_ok-bytes.ensures.given) (unspelled c.in_err-program.ensures.refused))
+    rw (p.1, p.2) (check_program (program_refused c.deref.result.now (subst (λ (b : List ℕ). gives c.args.request.program.now (Some b)) (sym c.deref.ensures.value) c.in_ok-bytes.ensures.given) (unspelled c.in_err-program.ensures.refused)))
 
 pub returns-in_err-_flat-clause-stopped : goal.returns-in_err-_flat-clause-stopped
 returns-in_err-_flat-clause-stopped g c =
     let p = err_from_is_err_and c.from_residual-in_err-_flat.result c.from_residual-in_err-_flat.ensures.1 in
     let gives = g.F.Files.gives c.args.files.now in
-    rw (p.1, p.2) (check_program c.deref.result.now (subst (gives c.args.request.program.now) (sym c.deref.ensures.value) c.in_ok-bytes.ensures.given) (unruled (program_view c.in_ok-program.program) c.in_ok-program.ensures.spelled c.in_err-_flat.ensures.told))
+    rw (p.1, p.2) (check_program (program_refused c.deref.result.now (subst (λ (b : List ℕ). gives c.args.request.program.now (Some b)) (sym c.deref.ensures.value) c.in_ok-bytes.ensures.given) (unruled (program_view c.in_ok-program.program) c.in_ok-program.ensures.spelled c.in_err-_flat.ensures.told)))
+
+pub returns-in_err-bytes-clause-stopped : goal.returns-in_err-bytes-clause-stopped
+returns-in_err-bytes-clause-stopped g c =
+    let p = err_from_is_err_and c.from_residual.result c.from_residual.ensures.1 in
+    rw (p.1, p.2) (check_program (program_unread c.in_err-bytes.ensures.unread))

@@ -1,9 +1,10 @@
-use Rattle.std.proofs.Common.{refl, sym, subst, inl, inr}
+use Rattle.std.proofs.Common.{Some, List, ℕ, sym, subst}
 use Rattle.lutree.specs.Tree.{program_view}
 use Rattle.lusdist_commands.proofs.HasOutputs.{some_output}
 use Rattle.lusdist_commands.proofs.Outcomes.{posed}
 use Rattle.std.proofs.lemmas.Result.{err_from_is_err_and}
 use Rattle.lusdist_commands.specs.Stopped.HasNoFlat.{unspelled, unruled}
+use Rattle.lusdist_commands.specs.Stopped.StopsAtProgram.{program_unread, program_refused}
 use Rattle.lusdist_commands.specs.Stopped.IsEvalStopped.{eval_unread, eval_program, eval_table}
 use Rattle.lusdist_commands.proofs.serve.posed.Goals as goal
 
@@ -14,8 +15,8 @@ returns-clause-posed g c =
     record {
       program = c.deref.result.now;
       table = c.deref-2.result.now;
-      program_given = subst (gives c.args.request.program.now) (sym c.deref.ensures.value) c.in_ok-bytes.ensures.given;
-      table_given = subst (gives c.args.request.table.now) (sym c.deref-2.ensures.value) c.in_ok-table.ensures.given;
+      program_given = subst (λ (b : List ℕ). gives c.args.request.program.now (Some b)) (sym c.deref.ensures.value) c.in_ok-bytes.ensures.given;
+      table_given = subst (λ (b : List ℕ). gives c.args.request.table.now (Some b)) (sym c.deref-2.ensures.value) c.in_ok-table.ensures.given;
       tree = tree;
       posed = posed c.deref.result.now c.args.request.main.now c.deref-2.result.now tree c.in_ok-flat.flat c.in_ok-inputs.inputs c.in_ok-program.ensures.spelled c.in_ok-flat.ensures.flat c.in_ok-inputs.ensures.text c.in_ok-inputs.ensures.short c.in_ok-inputs.ensures.utf8 c.in_ok-inputs.ensures.fits;
     }
@@ -27,27 +28,28 @@ returns-clause-some g c =
 pub returns-in_err-bytes-clause-stopped : goal.returns-in_err-bytes-clause-stopped
 returns-in_err-bytes-clause-stopped g c =
     let p = err_from_is_err_and c.from_residual.result c.from_residual.ensures.1 in
-    rw (p.1, p.2) (eval_unread c.args.request.program.now (inl refl) c.in_err-bytes.ensures.unread)
+    rw (p.1, p.2) (eval_program (program_unread c.in_err-bytes.ensures.unread))
 
 pub returns-in_err-program-clause-stopped : goal.returns-in_err-program-clause-stopped
 returns-in_err-program-clause-stopped g c =
     let p = err_from_is_err_and c.from_residual-in_err-program.result c.from_residual-in_err-program.ensures.1 in
     let gives = g.F.Files.gives c.args.files.now in
-    rw (p.1, p.2) (eval_program c.deref.result.now (subst (gives c.args.request.program.now) (sym c.deref.ensures.value) c.in_ok-bytes.ensures.given) (unspelled c.in_err-program.ensures.refused))
+    rw (p.1, p.2) (eval_program (program_refused c.deref.result.now (subst (λ (b : List ℕ). gives c.args.request.program.now (Some b)) (sym c.deref.ensures.value) c.in_ok-bytes.ensures.given) (unspelled c.in_err-program.ensures.refused)))
 
 pub returns-in_err-flat-clause-stopped : goal.returns-in_err-flat-clause-stopped
 returns-in_err-flat-clause-stopped g c =
     let p = err_from_is_err_and c.from_residual-in_err-flat.result c.from_residual-in_err-flat.ensures.1 in
     let gives = g.F.Files.gives c.args.files.now in
-    rw (p.1, p.2) (eval_program c.deref.result.now (subst (gives c.args.request.program.now) (sym c.deref.ensures.value) c.in_ok-bytes.ensures.given) (unruled (program_view c.in_ok-program.program) c.in_ok-program.ensures.spelled c.in_err-flat.ensures.told))
+    rw (p.1, p.2) (eval_program (program_refused c.deref.result.now (subst (λ (b : List ℕ). gives c.args.request.program.now (Some b)) (sym c.deref.ensures.value) c.in_ok-bytes.ensures.given) (unruled (program_view c.in_ok-program.program) c.in_ok-program.ensures.spelled c.in_err-flat.ensures.told)))
 
 pub returns-in_err-table-clause-stopped : goal.returns-in_err-table-clause-stopped
 returns-in_err-table-clause-stopped g c =
     let p = err_from_is_err_and c.from_residual-in_err-table.result c.from_residual-in_err-table.ensures.1 in
-    rw (p.1, p.2) (eval_unread c.args.request.table.now (inr refl) c.in_err-table.ensures.unread)
+    let gives = g.F.Files.gives c.args.files.now in
+    rw (p.1, p.2) (eval_unread c.deref.result.now c.in_ok-flat.flat (subst (λ (b : List ℕ). gives c.args.request.program.now (Some b)) (sym c.deref.ensures.value) c.in_ok-bytes.ensures.given) (record { tree = program_view c.in_ok-program.program; spelled = c.in_ok-program.ensures.spelled; flat_is = c.in_ok-flat.ensures.flat }) c.in_err-table.ensures.unread)
 
 pub returns-in_err-inputs-clause-stopped : goal.returns-in_err-inputs-clause-stopped
 returns-in_err-inputs-clause-stopped g c =
     let p = err_from_is_err_and c.from_residual-in_err-inputs.result c.from_residual-in_err-inputs.ensures.1 in
     let gives = g.F.Files.gives c.args.files.now in
-    rw (p.1, p.2) (eval_table c.deref.result.now c.deref-2.result.now c.in_ok-flat.flat (subst (gives c.args.request.program.now) (sym c.deref.ensures.value) c.in_ok-bytes.ensures.given) (subst (gives c.args.request.table.now) (sym c.deref-2.ensures.value) c.in_ok-table.ensures.given) (record { tree = program_view c.in_ok-program.program; spelled = c.in_ok-program.ensures.spelled; flat_is = c.in_ok-flat.ensures.flat }) c.in_err-inputs.ensures.refused)
+    rw (p.1, p.2) (eval_table c.deref.result.now c.deref-2.result.now c.in_ok-flat.flat (subst (λ (b : List ℕ). gives c.args.request.program.now (Some b)) (sym c.deref.ensures.value) c.in_ok-bytes.ensures.given) (subst (λ (b : List ℕ). gives c.args.request.table.now (Some b)) (sym c.deref-2.ensures.value) c.in_ok-table.ensures.given) (record { tree = program_view c.in_ok-program.program; spelled = c.in_ok-program.ensures.spelled; flat_is = c.in_ok-flat.ensures.flat }) c.in_err-inputs.ensures.refused)

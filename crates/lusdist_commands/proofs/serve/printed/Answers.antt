@@ -1,4 +1,4 @@
-use Rattle.std.proofs.Common.{ap, sym, ◌∙◌}
+use Rattle.std.proofs.Common.{◌++◌, ap, sym, ◌∙◌}
 use Rattle.luworld.specs.World.{reached}
 use Rattle.luworld.specs.Runs.{Run, system_of}
 use Rattle.lusdist_commands.proofs.Worlds.{world_sites}
@@ -10,5 +10,5 @@ text_of_world-requires-clause-plan_is c =
 
 pub text_of_world-requires-clause-all_sites : goal.text_of_world-requires-clause-all_sites
 text_of_world-requires-clause-all_sites c =
-    world_sites c.plan.result.now c.in_ok-world.world.job c.in_ok-world.world.dones c.args.turns.now (text_of_world-requires-clause-plan_is c)
-    (c.in_ok-world.ensures.world.dones_are ∙ sym (ap (λ (j : Run). reached (system_of j) c.args.turns.now) c.in_ok-world.ensures.world.job_is))
+    world_sites c.plan.result.now c.in_ok-world.world.job c.in_ok-world.world.dones (c.args.turns.now ++ c.in_ok-world.ensures.world.more) (text_of_world-requires-clause-plan_is c)
+    (c.in_ok-world.ensures.world.dones_are ∙ sym (ap (λ (j : Run). reached (system_of j) (c.args.turns.now ++ c.in_ok-world.ensures.world.more)) c.in_ok-world.ensures.world.job_is))
