@@ -286,7 +286,7 @@ const MISTAKES: &[(&[&str], u8)] = &[
     (&["lusdist", "replay", "a", "b", "c"], 2),
     (&["lusdist", "replay", "a", "b", "c", "d", "e"], 2),
     (&["lusdist", "replay", "a", "b", "c", "d", "--main"], 2),
-    (&["lusdist", "replay", "a", "b", "c", "d", "--finish"], 2),
+    (&["lusdist", "replay", "a", "b", "c", "d", "--dot"], 2),
 ];
 
 #[test]
