@@ -1,0 +1,29 @@
+use Rattle.std.proofs.Common.{◌+◌, ◌<◌, ℕ, [], ◌∷◌, ◌++◌, sym, ap, ◌∙◌, subst}
+use Rattle.lulink.specs.declared.sender.Offer.TheVariants.{Done}
+use Rattle.lulink.specs.Words.{number, IsFinal}
+use Rattle.lulink.specs.Views.{SenderView}
+use Rattle.lulink.specs.Seen.{put_one, HadRoom}
+use Rattle.lulink.specs.Insides.{sender_view}
+use Rattle.lulink.proofs.Waits.{offered_put}
+use Rattle.lulink.proofs.Ends.{has_slot, next_at, put_length, sender_moved}
+use Rattle.lulink.proofs.sender.Tx.offer.Goals as goal
+
+pub returns-clause-seen : goal.returns-clause-seen
+returns-clause-seen c =
+    let d = c.deref-ring.ensures in
+    let side = c.if-not-has_room.ensures.side in
+    let sought = c.if-not-has_room.ensures.sought in
+    let w = c.has_room.new.self.word in
+    let next = next_at c.self.inside _ _ c.self.invariant c.self.view_is c.requires in
+    let free = (has_slot side sought.2).0 in (
+      w,
+      (
+        sender_moved c.self.inside c.put.new.self w c.args.msg (c.put.ensures.count ∙ ap (λ n. n + 1) sought.0) (c.put.ensures.seen ∙ ap (λ l. l ++ w ∷ []) sought.1) next ∙ ap (λ (s : SenderView). put_one s w c.args.msg) c.self.view_is,
+        subst (λ (s : SenderView). HadRoom s w) c.self.view_is (subst (λ (y : ℕ × ℕ). y.0 < number w + y.1) (λ i. ((sought.0 ∙ sym (put_length c.self.inside c.self.invariant)) i, (d i).shared.key.capacity)) free),
+      ),
+      subst (λ (s : SenderView). IsFinal s.seen w) c.self.view_is (subst (λ l. IsFinal l w) sought.1 side.final),
+    )
+
+pub returns-clause-put : goal.returns-clause-put
+returns-clause-put c =
+    offered_put Done c.args.msg c.args.self.now (returns-clause-seen c).0 (sender_view record { ring = c.self.inside.ring; side = c.put.new.self; link = c.self.inside.link }) (returns-clause-seen c).1

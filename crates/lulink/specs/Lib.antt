@@ -1,0 +1,6 @@
+pub mod Words
+pub mod Lists
+pub mod Rings
+pub mod Views
+pub mod Seen
+pub mod Insides

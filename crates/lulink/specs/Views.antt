@@ -1,0 +1,60 @@
+-- What contracts see of an end of a link, and what each call changes of what was put or taken. Nothing here knows what a link is made of.
+use Rattle.std.specs.Prelude.{◌≡◌, ℕ, List, [], ◌∷◌, ◌++◌, length, Option, Some, None}
+use Rattle.luflow.specs.declared.message.Msg.{Msg}
+use Rattle.luflow.specs.declared.message.Body.TheVariants.{Close}
+use Rattle.luworld.specs.Runs.{Run}
+use Rattle.lulink.specs.declared.sender.Offer.{Offer}
+use Rattle.lulink.specs.declared.sender.Offer.TheVariants.{Done, Full}
+use Rattle.lulink.specs.Lists.{list_of, IsNextOf}
+
+-- The run, the link, the capacity, what was put, and the words by which its calls went, one for each try and each look. Each of them is a word of the receiver's that a load of this end gave: at that call, or where it told of room already, at an earlier one.
+pub record SenderView : Type 0 where
+  pub job : Run
+  pub link : ℕ
+  pub capacity : ℕ
+  pub put : List Msg
+  pub seen : List ℕ
+
+-- The run, the link, the capacity, what was taken, and the words by which its calls went, one for each try and each look. Each of them is a word of the sender's that a load of this end gave: at that call, or where it told of a message already, at an earlier one.
+pub record ReceiverView : Type 0 where
+  pub job : Run
+  pub link : ℕ
+  pub capacity : ℕ
+  pub taken : List Msg
+  pub seen : List ℕ
+
+-- the message is the next to be put
+abbrev pub IsNextToPut : SenderView → Msg → Type 0
+IsNextToPut s m = IsNextOf (list_of s.job s.link) (length s.put) m
+
+-- the message is the next to be taken
+abbrev pub IsNextToTake : ReceiverView → Msg → Type 0
+IsNextToTake r m = IsNextOf (list_of r.job r.link) (length r.taken) m
+
+-- just this message was put
+abbrev pub HasPut : Msg → SenderView → SenderView → Type 0
+HasPut m s t = (t.job ≡ s.job) × (t.link ≡ s.link) × (t.put ≡ s.put ++ m ∷ [])
+
+abbrev pub HasPutNothing : SenderView → SenderView → Type 0
+HasPutNothing s t = (t.job ≡ s.job) × (t.link ≡ s.link) × (t.put ≡ s.put)
+
+-- just this message was taken
+abbrev pub HasTaken : Msg → ReceiverView → ReceiverView → Type 0
+HasTaken m r q = (q.job ≡ r.job) × (q.link ≡ r.link) × (q.taken ≡ r.taken ++ m ∷ [])
+
+abbrev pub HasTakenNothing : ReceiverView → ReceiverView → Type 0
+HasTakenNothing r q = (q.job ≡ r.job) × (q.link ≡ r.link) × (q.taken ≡ r.taken)
+
+-- just the message was put, or nothing was and it comes back
+abbrev pub PutOrBack : Offer → Msg → SenderView → SenderView → Type 0
+PutOrBack Done m s t = HasPut m s t
+PutOrBack (Full back) m s t = (back ≡ m) × HasPutNothing s t
+
+-- just the next message of the list was taken, or nothing was
+abbrev pub TakenOrNot : Option Msg → ReceiverView → ReceiverView → Type 0
+TakenOrNot (Some m) r q = HasTaken m r q × IsNextToTake r m
+TakenOrNot None r q = HasTakenNothing r q
+
+-- nothing follows the close: where it was taken, all of the list was
+abbrev pub IsWholeAt : Msg → ReceiverView → Type 0
+IsWholeAt m r = m.body ≡ Close → r.taken ≡ list_of r.job r.link

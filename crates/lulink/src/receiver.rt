@@ -1,0 +1,122 @@
+//! The receiver's end.
+
+ghost use Rattle.std.specs.Prelude.{◌≡◌, ℕ, IfOk, IfErr, IfSome};
+ghost use Rattle.lulink.specs.Lists.{list_of, IsBeginning};
+ghost use Rattle.lulink.specs.Words.{has_left, IsFinal};
+ghost use Rattle.lulink.specs.Views.{IsNextToTake, IsWholeAt, HasTaken, HasTakenNothing, TakenOrNot};
+ghost use Rattle.lulink.specs.Seen.{took_none, Polled, FoundOne, FoundNothingLeft};
+
+use crate::opening::LinkNo;
+use crate::rule::Ring;
+use crate::take_side::TakeSide;
+use crate::word::pause;
+use luflow::Msg;
+use std::marker::Model;
+use std::sync::{Arc, Wait};
+
+/// The sender has left, and nothing is left to take.
+#[derive(Clone, Copy, Debug, Drop, PartialEq, Eq, thiserror::Error)]
+pub enum TakeError {
+    #[error("Gone")]
+    Gone,
+}
+
+/// The receiver's end. A contract sees its job and link, the capacity, what was taken, and the sender's words by which its
+/// calls went. An end that is dropped leaves.
+pub struct Rx {
+    pub(crate) ring: Arc<Ring>,
+    pub(crate) side: TakeSide,
+    pub(crate) link: LinkNo,
+}
+
+impl Model for Rx {
+    ghost use Rattle.lulink.specs.Views.{ReceiverView};
+
+    ghost Value = { ReceiverView };
+
+    ghost use Rattle.lulink.specs.Insides.{receiver_view, IsReceiver};
+
+    ghost view = { receiver_view };
+
+    ghost invariant = { IsReceiver };
+}
+
+impl Rx {
+    /// The number of the link. Takes no memory.
+    pub fn link(&self) -> LinkNo
+        ensures { result ≡ self.now.link }
+    {
+        self.link
+    }
+
+    /// Takes the next message of the link's list, if it is there. `None`: nothing was taken. Looks at the sender's word once, or
+    /// not at all where the word that it saw last tells of a message; so `None` is as of this call. Never waits, and takes no
+    /// memory.
+    pub fn poll(&mut self) -> Option<Msg>
+        ensures taken { TakenOrNot result self.old self.new }
+        ensures whole { IfSome result (λ m. IsWholeAt m self.new) }
+        ensures seen { (w : ℕ) × Polled result self.old w self.new × IsFinal self.old.seen w }
+    {
+        let ring = &*self.ring;
+        if !self.side.has_message(ring) {
+            return None;
+        }
+        self.side.take(ring)
+    }
+
+    /// Whether the sender has left. Never waits, and takes no memory.
+    pub fn gone(&mut self) -> bool
+        ensures taken { HasTakenNothing self.old self.new }
+        ensures seen { (w : ℕ) × (self.new ≡ took_none self.old w) × (result ≡ has_left w) × IsFinal self.old.seen w }
+    {
+        let ring = &*self.ring;
+        self.side.sees_gone(ring)
+    }
+
+    /// Takes the next message of the link's list. Waits while the link is empty and the sender is there. `Gone`: nothing was
+    /// taken, and all that was put has been. Takes no memory.
+    pub fn take<R: Wait>(&mut self, rt: &R) -> Result<Msg, TakeError>
+        ensures taken { IfOk result (λ m. HasTaken m self.old self.new × IsNextToTake self.old m) }
+        ensures whole { IfOk result (λ m. IsWholeAt m self.new) }
+        ensures gone { IfErr result (λ _. HasTakenNothing self.old self.new) }
+        ensures one { IfOk result (λ _. FoundOne self.old self.new) }
+        ensures none { IfErr result (λ _. FoundNothingLeft self.old self.new) }
+    {
+        let mut tries = 0;
+        for _ in rt.forever() {
+            if let Some(msg) = self.poll() {
+                return Ok(msg);
+            }
+            if self.gone() {
+                return match self.poll() {
+                    Some(msg) => Ok(msg),
+                    None => Err(TakeError::Gone),
+                };
+            }
+            tries = pause(tries);
+        }
+        unreachable!()
+    }
+
+    /// What was taken is a beginning of the link's list.
+    pub fn taken_begins_law(&self)
+        ensures { IsBeginning self.now.taken (list_of self.now.job self.now.link) }
+    {
+        let _side = &self.side;
+    }
+
+    /// Ends the use of this end, as dropping it does: the sender's `gone` is true from then on. Takes no memory.
+    pub fn leave(self) {}
+}
+
+impl Drop for Rx {
+    fn drop(self) {
+        let Rx {
+            ring,
+            mut side,
+            link: _,
+        } = self;
+        let ring = &*ring;
+        side.leave(ring);
+    }
+}

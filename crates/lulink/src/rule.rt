@@ -1,0 +1,123 @@
+//! The rule of a link's ring, which holds between any two steps of its ends, and what each kind of step tells its own end.
+
+use atomic_table::{Play, Seat as TableSeat, Split, Table, TableRule};
+use luflow::Msg;
+use luplace::Job;
+use std::alloc::Global;
+use std::collections::LinkedList;
+use std::snapshot::Snapshot;
+
+/// What a ring is told when it is made.
+#[derive(Drop)]
+pub struct Terms {
+    pub job: Snapshot<Job>,
+    pub link: usize,
+    pub capacity: usize,
+}
+
+/// Whose seat it is: that of the call that opens the link, before it is cut, or one of the two ends.
+pub enum Role {
+    Opener,
+    Producer,
+    Consumer,
+}
+
+/// What a seat knows: its role, the ring's number of slots and list, how many messages its end has passed, the words by which
+/// its calls went, the word that it loaded last, whether it has the slot of its next message, and whether its end has left.
+/// No value of it is made.
+pub struct EndState {
+    pub role: Role,
+    pub room: u64,
+    pub list: LinkedList<Msg>,
+    pub count: u64,
+    pub seen: LinkedList<u64>,
+    pub last: u64,
+    pub busy: bool,
+    pub left: bool,
+}
+
+pub struct RingRule;
+
+impl TableRule<Option<Msg>, EndState, Terms> for RingRule {
+    ghost use Rattle.lulink.specs.Lists.{list_of};
+    ghost use Rattle.lulink.specs.Rings.{Linked, fresh};
+
+    ghost holds = { λ k. Linked k.capacity (list_of k.job.value k.link) };
+
+    ghost first = { λ k. fresh k.capacity (list_of k.job.value k.link) };
+}
+
+pub type Ring = Table<Option<Msg>, EndState, Terms, RingRule, Global>;
+
+pub type Seat = TableSeat<Option<Msg>, EndState>;
+
+/// The opener's seat is cut into the producer's and the consumer's.
+pub struct TwoEnds;
+
+impl Split<EndState> for TwoEnds {
+    ghost use Rattle.lulink.specs.Rings.{seated};
+    ghost use Rattle.lulink.specs.declared.rule.Role.TheVariants.{Producer, Consumer};
+
+    ghost left = { seated Producer };
+
+    ghost right = { seated Consumer };
+}
+
+/// The producer loads the head, and has the slot of its next message where there is room.
+pub struct LoadHead;
+
+impl Play<Option<Msg>, EndState> for LoadHead {
+    ghost use Rattle.lulink.specs.Rings.{SawHead};
+    ghost use Rattle.lulink.specs.Words.{IsFinal};
+
+    ghost then = { λ s m n w. SawHead m.0 n w × IsFinal m.0.seen n };
+}
+
+/// The consumer loads the tail, and has the slot of its next message where there is one.
+pub struct LoadTail;
+
+impl Play<Option<Msg>, EndState> for LoadTail {
+    ghost use Rattle.lulink.specs.Rings.{SawTail};
+    ghost use Rattle.lulink.specs.Words.{IsFinal};
+
+    ghost then = { λ s m n w. SawTail m.0 n w × IsFinal m.0.seen n };
+}
+
+/// The producer stores the tail, one more, and gives its slot back. It has the next one where the head that it loaded last tells
+/// of room.
+pub struct StoreTail;
+
+impl Play<Option<Msg>, EndState> for StoreTail {
+    ghost use Rattle.lulink.specs.Rings.{MovedTail};
+
+    ghost then = { λ s m n w. MovedTail m.0 w };
+}
+
+/// The consumer stores the head, one more, and gives its slot back. It has the next one where the tail that it loaded last tells
+/// of a message.
+pub struct StoreHead;
+
+impl Play<Option<Msg>, EndState> for StoreHead {
+    ghost use Rattle.lulink.specs.Rings.{MovedHead};
+
+    ghost then = { λ s m n w. MovedHead m.0 w };
+}
+
+/// An end loads the other's word, and takes no slot.
+pub struct Look;
+
+impl Play<Option<Msg>, EndState> for Look {
+    ghost use Rattle.lulink.specs.Rings.{Looked};
+    ghost use Rattle.lulink.specs.Words.{IsFinal};
+
+    ghost then = { λ s m n w. Looked m n w × IsFinal m.0.seen n };
+}
+
+/// An end stores its own word with the top bit set.
+pub struct Leave;
+
+impl Play<Option<Msg>, EndState> for Leave {
+    ghost use Rattle.lulink.specs.Rings.{Left};
+
+    ghost then = { λ s m n w. Left m w };
+}

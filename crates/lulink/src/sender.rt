@@ -1,0 +1,129 @@
+//! The sender's end.
+
+ghost use Rattle.std.specs.Prelude.{◌≡◌, ℕ, IfOk, IfErr};
+ghost use Rattle.lulink.specs.Lists.{list_of, IsBeginning};
+ghost use Rattle.lulink.specs.Words.{has_left, IsFinal};
+ghost use Rattle.lulink.specs.Views.{IsNextToPut, HasPut, HasPutNothing, PutOrBack};
+ghost use Rattle.lulink.specs.Seen.{put_none, Offered, FoundRoom, FoundFullAndGone};
+
+use crate::opening::LinkNo;
+use crate::put_side::PutSide;
+use crate::rule::Ring;
+use crate::word::pause;
+use luflow::Msg;
+use std::marker::Model;
+use std::sync::{Arc, Wait};
+
+/// Whether the message was put. Where the link was full, it comes back.
+#[derive(Clone, Copy, Debug, Drop, PartialEq, Eq)]
+pub enum Offer {
+    Done,
+    Full(Msg),
+}
+
+/// The receiver has left, and the link is full. The message comes back.
+#[derive(Clone, Copy, Debug, Drop, PartialEq, Eq, thiserror::Error)]
+pub enum PutError {
+    #[error("Gone")]
+    Gone(Msg),
+}
+
+/// The sender's end. A contract sees its job and link, the capacity, what was put, and the receiver's words by which its calls
+/// went. An end that is dropped leaves.
+pub struct Tx {
+    pub(crate) ring: Arc<Ring>,
+    pub(crate) side: PutSide,
+    pub(crate) link: LinkNo,
+}
+
+impl Model for Tx {
+    ghost use Rattle.lulink.specs.Views.{SenderView};
+
+    ghost Value = { SenderView };
+
+    ghost use Rattle.lulink.specs.Insides.{sender_view, IsSender};
+
+    ghost view = { sender_view };
+
+    ghost invariant = { IsSender };
+}
+
+impl Tx {
+    /// The number of the link. Takes no memory.
+    pub fn link(&self) -> LinkNo
+        ensures { result ≡ self.now.link }
+    {
+        self.link
+    }
+
+    /// Puts the next message of the link's list, if there is room. `Full` hands it back: nothing was put. Looks at the
+    /// receiver's word once, or not at all where the word that it saw last tells of room; so `Full` is as of this call.
+    /// Never waits, and takes no memory.
+    pub fn offer(&mut self, msg: Msg) -> Offer
+        requires { IsNextToPut self.old msg }
+        ensures put { PutOrBack result msg self.old self.new }
+        ensures seen { (w : ℕ) × Offered result msg self.old w self.new × IsFinal self.old.seen w }
+    {
+        let ring = &*self.ring;
+        if !self.side.has_room(ring) {
+            return Offer::Full(msg);
+        }
+        self.side.put(ring, msg);
+        Offer::Done
+    }
+
+    /// Whether the receiver has left. Never waits, and takes no memory.
+    pub fn gone(&mut self) -> bool
+        ensures put { HasPutNothing self.old self.new }
+        ensures seen { (w : ℕ) × (self.new ≡ put_none self.old w) × (result ≡ has_left w) × IsFinal self.old.seen w }
+    {
+        let ring = &*self.ring;
+        self.side.sees_gone(ring)
+    }
+
+    /// Puts the next message of the link's list. Waits while the link is full and the receiver is there; a link with room
+    /// takes the message also where the receiver has left. `Gone` hands the message back: nothing was put. Takes no memory.
+    pub fn put<R: Wait>(&mut self, rt: &R, msg: Msg) -> Result<(), PutError>
+        requires { IsNextToPut self.old msg }
+        ensures put { IfOk result (λ _. HasPut msg self.old self.new) }
+        ensures gone { IfErr result (λ e. (e ≡ PutError.Gone msg) × HasPutNothing self.old self.new) }
+        ensures room { IfOk result (λ _. FoundRoom self.old self.new) }
+        ensures full { IfErr result (λ _. FoundFullAndGone self.old self.new) }
+    {
+        let mut tries = 0;
+        for _ in rt.forever() {
+            match self.offer(msg) {
+                Offer::Done => return Ok(()),
+                Offer::Full(_) => {
+                    if self.gone() {
+                        return Err(PutError::Gone(msg));
+                    }
+                }
+            }
+            tries = pause(tries);
+        }
+        unreachable!()
+    }
+
+    /// What was put is a beginning of the link's list.
+    pub fn put_begins_law(&self)
+        ensures { IsBeginning self.now.put (list_of self.now.job self.now.link) }
+    {
+        let _side = &self.side;
+    }
+
+    /// Ends the use of this end, as dropping it does: the receiver's `gone` is true from then on. Takes no memory.
+    pub fn leave(self) {}
+}
+
+impl Drop for Tx {
+    fn drop(self) {
+        let Tx {
+            ring,
+            mut side,
+            link: _,
+        } = self;
+        let ring = &*ring;
+        side.leave(ring);
+    }
+}
