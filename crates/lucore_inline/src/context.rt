@@ -5,68 +5,79 @@ ghost use Rattle.lutree.specs.Tree.{node_view, program_view};
 ghost use Rattle.lusource.specs.Names.{variables_of, place_of, clock_of};
 ghost use Rattle.lustat_rules.specs.Scope.{kind_of, node_called};
 ghost use Rattle.lucore_list.specs.Layout.{clock_place, inputs_in, list_of};
-ghost use Rattle.lustat_scope.specs.ClockRefs.{the_clock};
+ghost use Rattle.lustat_scope.specs.ClockRefs.{placed_view, IsPlaced};
 ghost use Rattle.lucore_inline.specs.Walks.{flow_on, plain};
 
 use crate::root::{Root, Walked};
 use luflow::{Clock, Flow, Form};
-use lustat_scope::{Catalog, ClockRef, Scope};
+use lustat_scope::{Catalog, ClockRef, PlacedClock, Scope};
 use lutree::Kind;
 
 /// What an expression is laid out in: the program, its node, and the lists of all nodes.
 #[derive(Clone, Copy)]
-pub struct Context<'a> {
-    pub catalog: &'a Catalog<'a>,
-    pub scope: &'a Scope<'a>,
-    pub lists: &'a [Vec<Flow>],
+pub struct Context<'c, 'l, 's> {
+    pub catalog: &'c Catalog<'s>,
+    pub scope: &'c Scope<'s>,
+    pub lists: &'l [Vec<Flow>],
+}
+
+// A place that was looked up; behind all variables where none was found.
+fn place_or_end(scope: &Scope, place: Option<usize>) -> usize
+    ensures { result ≡ unwrap_or place (length (variables_of (node_view scope.now))) }
+{
+    match place {
+        Some(place) => place,
+        None => scope.declarations().len(),
+    }
 }
 
 /// The place of a variable; behind all variables where the name is none.
 pub fn variable_place(scope: &Scope, name: &str) -> usize
     ensures { result ≡ place_of (variables_of (node_view scope.now)) name.now }
 {
-    match scope.place(name) {
-        Some(place) => place,
-        None => scope.declarations().len(),
-    }
+    place_or_end(scope, scope.place(name))
 }
 
 /// The declared clock of a variable; the base clock where the name is none.
-pub fn variable_clock<'a>(scope: &Scope<'a>, name: &str) -> ClockRef<'a>
-    ensures { the_clock result ≡ clock_of (node_view scope.now) name.now }
+pub fn variable_clock<'a>(scope: &Scope<'a>, name: &str) -> PlacedClock<'a>
+    ensures clock { placed_view result ≡ clock_of (node_view scope.now) name.now }
+    ensures placed { IsPlaced (node_view scope.now) result }
 {
-    match scope.clock(name) {
+    match scope.placed_clock(name) {
         Some(clock) => clock,
-        None => ClockRef::Base,
+        None => scope.placed(ClockRef::Base),
     }
 }
 
 /// A clock by the place of its variable.
-pub fn placed_clock(scope: &Scope, clock: ClockRef) -> Clock
-    ensures { result ≡ clock_place (node_view scope.now) (the_clock clock.entry) }
+pub fn clock_by_place(scope: &Scope, clock: PlacedClock) -> Clock
+    requires { IsPlaced (node_view scope.now) clock }
+    ensures { result ≡ clock_place (node_view scope.now) (placed_view clock.entry) }
 {
-    match clock {
+    match clock.clock {
         ClockRef::Base => Clock::Base,
-        ClockRef::On(name, sign) => Clock::On(variable_place(scope, name), sign),
+        ClockRef::On(_name, sign) => Clock::On(place_or_end(scope, clock.place), sign),
     }
 }
 
 /// A flow on a clock; its type is int where it has none.
-pub fn flow_of(scope: &Scope, clock: ClockRef, kind: Option<Kind>, form: Form) -> Flow
-    ensures { result ≡ flow_on (clock_place (node_view scope.now) (the_clock clock.entry)) kind
+pub fn flow_of(scope: &Scope, clock: PlacedClock, kind: Option<Kind>, form: Form) -> Flow
+    requires { IsPlaced (node_view scope.now) clock }
+    ensures { result ≡ flow_on (clock_place (node_view scope.now) (placed_view clock.entry)) kind
         form }
 {
     Flow {
         form,
-        clock: placed_clock(scope, clock),
+        clock: clock_by_place(scope, clock),
         kind: kind.unwrap_or(Kind::Int),
     }
 }
 
 /// A root that is a flow of its own.
-pub fn own(scope: &Scope, clock: ClockRef, kind: Option<Kind>, form: Form) -> Walked
+pub fn own(scope: &Scope, clock: PlacedClock, kind: Option<Kind>, form: Form) -> Walked
+    requires { IsPlaced (node_view scope.now) clock }
     ensures root { result.root ≡ Root.Own (flow_on (clock_place (node_view scope.now)
-        (the_clock clock.entry)) kind form) }
+        (placed_view clock.entry)) kind form) }
     ensures kind { result.kind ≡ kind }
 {
     Walked {

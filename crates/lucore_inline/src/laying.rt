@@ -137,7 +137,7 @@ fn laid_at(
 /// The flat list of a program, given an order of its nodes in which calls go backward. The lists of the nodes that the main node
 /// reaches are made, each once, and no others. Where no node has the main node's name, there is nothing in it.
 ///
-/// The expected time grows with the length of the program and of these lists.
+/// The time grows with the length of the program and of these lists.
 ///
 /// # Errors
 ///

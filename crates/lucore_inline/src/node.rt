@@ -4,7 +4,7 @@ ghost use Rattle.std.specs.Prelude.{◌≡◌, ◌++◌, length, replicate, IfOk
 ghost use Rattle.lutree.specs.Tree.{equation_view, node_view, program_view};
 ghost use Rattle.lusource.specs.Names.{name_at, variables_of, place_of};
 ghost use Rattle.lucore_list.specs.Layout.{clock_place, left_clock, walk_right, inner_flows, inner_owners, variable_count};
-ghost use Rattle.lustat_scope.specs.ClockRefs.{the_clock};
+ghost use Rattle.lustat_scope.specs.ClockRefs.{placed_view, IsPlaced};
 ghost use Rattle.lucore_inline.specs.Walks.{plain, root_view, vacant};
 ghost use Rattle.lucore_inline.specs.Nodes.{flow_named, flows_named, defined_flows};
 
@@ -13,7 +13,7 @@ use crate::root::{Root, sum_of};
 use crate::walk::walk;
 use luflow::{Clock, Datum, Flow, Form};
 use lulist::Name;
-use lustat_scope::{ClockRef, Scope};
+use lustat_scope::{PlacedClock, Scope};
 use lutree::{Equation, Kind};
 use std::alloc::{AllocError, Global};
 
@@ -29,13 +29,14 @@ pub struct Parts {
 // The flow of a variable on the left side of an equation, by its number there.
 fn defined_flow(
     scope: &Scope,
-    clock: ClockRef,
+    clock: PlacedClock,
     root: Root,
     number: usize,
     name: &str,
 ) -> Result<Flow, AllocError>
+    requires { IsPlaced (node_view scope.now) clock }
     ensures { IfOk result (λ f. f ≡ flow_named (node_view scope.now)
-        (clock_place (node_view scope.now) (the_clock clock.entry)) (root_view root) number
+        (clock_place (node_view scope.now) (placed_view clock.entry)) (root_view root) number
         name.now) }
 {
     match root {
@@ -50,14 +51,15 @@ fn defined_flow(
 // The flows of the variables on a left side, behind those before.
 fn push_defined(
     scope: &Scope,
-    clock: ClockRef,
+    clock: PlacedClock,
     root: Root,
     left: &[Name],
     defined: &mut Vec<Flow>,
 ) -> Result<(), AllocError>
+    requires { IsPlaced (node_view scope.now) clock }
     ensures { OnOk result (defined.new.items ≡ defined.old.items
         ++ flows_named (node_view scope.now) (clock_place (node_view scope.now)
-        (the_clock clock.entry)) (root_view root) 0 left.now) }
+        (placed_view clock.entry)) (root_view root) 0 left.now) }
 {
     for (number, name) in left.iter().enumerate() {
         defined.push(defined_flow(scope, clock, root, number, name.as_str())?)?;

@@ -74,7 +74,7 @@ fn push_owners(
 
 /// The open list of a node with its owners, given the lists of the nodes that it calls.
 ///
-/// The expected time grows with the length of the node and of the list.
+/// The time grows with the length of the node and of the list.
 ///
 /// # Errors
 ///

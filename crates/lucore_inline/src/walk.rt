@@ -6,17 +6,17 @@ ghost use Rattle.lutree.specs.Tree as tree;
 ghost use Rattle.lustat_rules.specs.Scope.{node_called};
 ghost use Rattle.lustat_rules.specs.Typing.{type_of, only, call_kinds, arguments_fit};
 ghost use Rattle.lucore_list.specs.Layout.{clock_place, instance, walk as walk_of};
-ghost use Rattle.lustat_scope.specs.ClockRefs.{the_clock};
+ghost use Rattle.lustat_scope.specs.ClockRefs.{placed_view, IsPlaced};
 ghost use Rattle.lucore_inline.specs.Walks.{IsWalked, root_view, plain, prefix_form, prefix_kind, infix_walk, infix_kind, places_of, kinds_of};
 
 use crate::context::{
-    Context, called_list, flow_of, inputs_of, own, placed_clock, variable_clock, variable_place,
+    Context, called_list, clock_by_place, flow_of, inputs_of, own, variable_clock, variable_place,
 };
 use crate::moved::push_moved;
 use crate::root::{Operand, Root, Walked, settled, sum_of};
 use luflow::{Datum, Flow, Form};
 use lulist::Number;
-use lustat_scope::{Catalog, ClockRef, Scope};
+use lustat_scope::{Catalog, ClockRef, PlacedClock, Scope};
 use lutree::{Declaration, Expr, Infix, Kind, Prefix};
 use lutype::{agreed_kind, is_of_kind, kind_of_binary, kind_of_choice, kind_of_unary};
 use std::alloc::{AllocError, Global};
@@ -55,10 +55,11 @@ fn infix(
     op: Infix,
     x: Operand,
     y: Operand,
-    clock: ClockRef,
+    clock: PlacedClock,
 ) -> Result<Walked, AllocError>
+    requires { IsPlaced (node_view scope.now) clock }
     ensures walked { IfOk result (λ w. IsWalked (infix_walk
-        (clock_place (node_view scope.now) (the_clock clock.entry)) op x y) flows.old.items
+        (clock_place (node_view scope.now) (placed_view clock.entry)) op x y) flows.old.items
         flows.new.items (root_view w.root)) }
     ensures kind { IfOk result (λ w. w.kind ≡ infix_kind op x.kind y.kind) }
 {
@@ -121,18 +122,19 @@ fn instance_of(
     flows: &mut Vec<Flow>,
     name: &str,
     arguments: &[Operand],
-    clock: ClockRef,
+    clock: PlacedClock,
 ) -> Result<Walked, AllocError>
+    requires { IsPlaced (node_view context.now.scope.now) clock }
     ensures walked { IfOk result (λ w. IsWalked (instance (program_view context.now.catalog.now)
         (plain context.now.lists.now) name.now (clock_place (node_view context.now.scope.now)
-        (the_clock clock.entry)) (places_of arguments.now)) flows.old.items flows.new.items
+        (placed_view clock.entry)) (places_of arguments.now)) flows.old.items flows.new.items
         (root_view w.root)) }
     ensures kind { IfOk result (λ w. w.kind ≡ only (call_kinds
         (node_called (program_view context.now.catalog.now) name.now) (kinds_of arguments.now))) }
 {
     let outputs = sum_of(flows.len(), inputs_of(context.catalog, name))?;
     let list = called_list(context.catalog, context.lists, name);
-    push_moved(flows, placed_clock(context.scope, clock), arguments, list)?;
+    push_moved(flows, clock_by_place(context.scope, clock), arguments, list)?;
     Ok(Walked {
         root: Root::At(outputs),
         kind: kind_of_call(context.catalog, name, arguments),
@@ -141,7 +143,7 @@ fn instance_of(
 
 /// The walk of an expression of a node, on a clock: puts its inner flows behind those before.
 ///
-/// The expected time grows with the length of the expression and of the lists that it calls.
+/// The time grows with the length of the expression and of the lists that it calls, whatever the length of the clock's name.
 ///
 /// # Errors
 ///
@@ -152,11 +154,12 @@ pub fn walk(
     context: &Context,
     flows: &mut Vec<Flow>,
     e: &Expr,
-    clock: ClockRef,
+    clock: PlacedClock,
 ) -> Result<Walked, AllocError>
+    requires { IsPlaced (node_view context.now.scope.now) clock }
     ensures walked { IfOk result (λ w. IsWalked (walk_of (program_view context.now.catalog.now)
         (plain context.now.lists.now) (node_view context.now.scope.now) (view e.now)
-        (the_clock clock.entry)) flows.old.items flows.new.items (root_view w.root)) }
+        (placed_view clock.entry)) flows.old.items flows.new.items (root_view w.root)) }
     ensures kind { IfOk result (λ w. w.kind ≡ type_of (program_view context.now.catalog.now)
         (node_view context.now.scope.now) (view e.now)) }
 {
@@ -200,19 +203,15 @@ pub fn walk(
             let name = c.variable.as_str();
             let inside = variable_clock(scope, name);
             let x = settled(walk(alloc, context, flows, a, inside)?, flows)?;
-            let sampled = ClockRef::On(name, c.sign);
+            let sampled = scope.placed(ClockRef::On(name, c.sign));
             Ok(own(scope, sampled, x.kind, Form::When(x.place)))
         }
         Expr::Merge(c, a, b) => {
             let name = c.as_str();
-            let x = settled(
-                walk(alloc, context, flows, a, ClockRef::On(name, true))?,
-                flows,
-            )?;
-            let y = settled(
-                walk(alloc, context, flows, b, ClockRef::On(name, false))?,
-                flows,
-            )?;
+            let on = scope.placed(ClockRef::On(name, true));
+            let off = scope.placed(ClockRef::On(name, false));
+            let x = settled(walk(alloc, context, flows, a, on)?, flows)?;
+            let y = settled(walk(alloc, context, flows, b, off)?, flows)?;
             let form = Form::Merge(variable_place(scope, name), x.place, y.place);
             Ok(own(scope, clock, agreed_kind(x.kind, y.kind), form))
         }
@@ -228,11 +227,12 @@ fn call(
     flows: &mut Vec<Flow>,
     name: &str,
     arguments: &[Expr],
-    clock: ClockRef,
+    clock: PlacedClock,
 ) -> Result<Walked, AllocError>
+    requires { IsPlaced (node_view context.now.scope.now) clock }
     ensures walked { IfOk result (λ w. IsWalked (walk_of (program_view context.now.catalog.now)
         (plain context.now.lists.now) (node_view context.now.scope.now)
-        (tree.call name.now (trees_of (views arguments.now))) (the_clock clock.entry))
+        (tree.call name.now (trees_of (views arguments.now))) (placed_view clock.entry))
         flows.old.items flows.new.items (root_view w.root)) }
     ensures kind { IfOk result (λ w. w.kind ≡ type_of (program_view context.now.catalog.now)
         (node_view context.now.scope.now) (tree.call name.now (trees_of (views arguments.now)))) }

@@ -1,18 +1,17 @@
 //! Names in a row, looked up by a table.
 
 ghost use Rattle.std.specs.Prelude.{◌≡◌, ◌↔◌, Some, map, Contains, IfOk, IsTrue, slice_get};
-ghost use Rattle.indexmap.specs.IndexMap.{get_by_text};
-ghost use Rattle.lunames.specs.Places.{first_place, IsPlaces};
+ghost use Rattle.lunames.specs.Places.{first_place, looked_up, IsPlaces};
 
-use indexmap::IndexMap;
 use std::alloc::{AllocError, Global};
+use std::collections::BTreeMap;
 use std::marker::Model;
 
 /// Names in a row, lent, with a table of where each stands first. A contract sees the names, in order.
 #[derive(Drop)]
 pub struct Places<'a> {
     names: Vec<&'a str>,
-    index: IndexMap<String, usize>,
+    index: BTreeMap<&'a str, usize>,
 }
 
 impl<'a> Model for Places<'a> {
@@ -20,28 +19,26 @@ impl<'a> Model for Places<'a> {
 
     ghost Value = { List (List ℕ) };
 
-    ghost use Rattle.indexmap.specs.IndexMap.{get_by_text};
-    ghost use Rattle.lunames.specs.Places.{IsPlaces};
+    ghost use Rattle.lunames.specs.Places.{looked_up, IsPlaces};
 
     ghost view = { λ p. map (λ n. n.now) p.names.items };
 
-    ghost invariant = { λ p. IsPlaces (get_by_text p.index) (map (λ n. n.now) p.names.items) };
+    ghost invariant = { λ p. IsPlaces (looked_up p.index) (map (λ n. n.now) p.names.items) };
 }
 
 // The place of the first of each name.
-fn index_of(alloc: Global, names: &[&str]) -> Result<IndexMap<String, usize>, AllocError>
-    ensures { IfOk result (λ m. IsPlaces (get_by_text m) (map (λ n. n.now) names.now)) }
+fn index_of<'a>(alloc: Global, names: &[&'a str]) -> Result<BTreeMap<&'a str, usize>, AllocError>
+    ensures { IfOk result (λ m. IsPlaces (looked_up m) (map (λ n. n.now) names.now)) }
 {
-    let mut index = IndexMap::new(alloc);
+    let mut index = BTreeMap::new(alloc);
     for i in (0..names.len()).rev() {
-        let key = String::from_str(alloc, names[i])?;
-        index.insert(key, i)?;
+        index.insert(names[i], i)?;
     }
     Ok(index)
 }
 
 impl<'a> Places<'a> {
-    /// The table of these names. Its expected time grows with their length.
+    /// The table of these names. Its time grows with their length, whatever they are.
     pub fn new(alloc: Global, names: Vec<&'a str>) -> Result<Places<'a>, AllocError>
         ensures { IfOk result (λ places. places ≡ map (λ n. n.now) names.entry.items) }
     {

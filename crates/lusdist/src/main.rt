@@ -1,5 +1,5 @@
-//! The program `lusdist`: it checks one Lustre program, evaluates it, spreads it over several sites, and replays the run turn
-//! by turn. What it does stands in the library `lusdist_commands`.
+//! The program `lusdist`: it checks one Lustre program, evaluates it, spreads it over several sites, runs them on threads, and
+//! replays a run turn by turn. What it does stands in the library `lusdist_commands`.
 #![tactic(auto)]
 
 use lusdist_commands::serve_words;
@@ -16,7 +16,10 @@ fn main(rt: HostRuntime) -> ExitCode {
     let mut out = Sink::new(rt.stdout());
     let mut err = Sink::new(rt.stderr());
     let status = match words_of(&rt) {
-        Ok(words) => serve_words(rt.alloc(), &words, &RealFiles::new(&rt), &mut out, &mut err),
+        Ok(words) => {
+            let files = RealFiles::new(&rt);
+            serve_words(&rt, rt.alloc(), &words, &files, &mut out, &mut err)
+        }
         Err(e) => put_unread(&mut err, e.kind()),
     };
     ExitCode::from(status)

@@ -1,5 +1,5 @@
 -- What the end of a call says.
-use Rattle.std.proofs.Common.{Option, ◌≡◌, ◌≢◌, ◌⊎◌, ℕ, List, refl, sym, ◌∙◌, inl, inr, arith}
+use Rattle.std.proofs.Common.{Option, ◌≡◌, ◌≢◌, ◌⊎◌, ℕ, Bool, false, List, [], subst, refl, sym, ◌∙◌, inl, inr, arith}
 use Rattle.std.specs.Io.KnownBytes.{Appends}
 use Rattle.clap.specs.declared.error.kind.ErrorKind.{ErrorKind}
 use Rattle.clap.specs.declared.error.kind.ErrorKind.TheVariants as clap
@@ -10,10 +10,12 @@ use Rattle.luplace_file.specs.declared.error.PlaceError.TheVariants as place
 use Rattle.lutab.specs.declared.error.TabError.TheVariants as tab
 use Rattle.lusdist_shell.specs.declared.schedule.ScheduleError.TheVariants as schedule
 use Rattle.lusdist_shell.specs.declared.request.Request.{Request}
+use Rattle.lusdist_shell.specs.declared.request.Request.TheVariants.{Check, Eval, Plan, Replay, Run}
+use Rattle.lusdist_shell.specs.declared.request.ReplayRequest.{ReplayRequest}
 use Rattle.lusdist_shell.specs.Request.{IsAskedBy}
 use Rattle.lusdist_commands.specs.declared.stop.Stop.{Stop}
-use Rattle.lusdist_commands.specs.declared.stop.Stop.TheVariants.{CannotRead, NotAscii, Syntax, Rules, Flat, Place, Table, Schedule, Fault, OutOfMemory}
-use Rattle.lusdist_commands.specs.Asked.{IsDone}
+use Rattle.lusdist_commands.specs.declared.stop.Stop.TheVariants.{CannotRead, NotAscii, Syntax, Rules, Flat, Place, Table, Schedule, Fault, LinkLost, NoThread, OutOfMemory}
+use Rattle.lusdist_commands.specs.Asked.{IsDone, AreNotes, AreNotesOf, AskForNoTrace}
 use Rattle.lusdist_commands.specs.Statuses.{status_of}
 use Rattle.lusdist_commands.specs.Stopped.{IsRefusal}
 use Rattle.lusdist_commands.specs.Left.{Streams, IsEnded, IsHelp}
@@ -43,6 +45,14 @@ which clap.DisplayVersion = help (inr refl)
 which clap.Io = mistake (λ h. cc) (λ h. cc) (λ h. cc)
 which clap.Format = mistake (λ h. cc) (λ h. cc) (λ h. cc)
 which clap.OutOfMemory = memory refl
+
+-- where no trace is asked for there are no notes
+no_notes : (gives : List ℕ → Option (List ℕ) → Type 0) (request : Request) (notes : List ℕ) → ((replay : ReplayRequest) → request ≡ Replay replay → replay.trace ≡ false) → AreNotes gives request notes → notes ≡ []
+no_notes gives (Check request) notes quiet are = are
+no_notes gives (Eval request) notes quiet are = are
+no_notes gives (Plan request) notes quiet are = are
+no_notes gives (Run request) notes quiet are = are
+no_notes gives (Replay request) notes quiet are = subst (λ (t : Bool). AreNotesOf are.job are.turns request.finish t are.dones notes) (quiet request refl) are.notes_are
 
 -- a refusal has one of three statuses
 pub status_some : (stop : Stop) → (status_of stop ≡ 1) ⊎ ((status_of stop ≡ 2) ⊎ (status_of stop ≡ 3))
@@ -91,6 +101,8 @@ status_some (Schedule (schedule.BadSchedule byte)) = inl refl
 status_some (Schedule schedule.LongSchedule) = inl refl
 status_some (Schedule schedule.OutOfMemory) = inr (inr refl)
 status_some (Fault variable instant kind) = inr (inr refl)
+status_some LinkLost = inr (inr refl)
+status_some NoThread = inr (inr refl)
 status_some OutOfMemory = inr (inr refl)
 
 never_done : (stop : Stop) → status_of stop ≡ 0 → ⊥
@@ -102,12 +114,19 @@ never_done stop e = elim (status_some stop) [
 module _ {W V : Type 0} (gives : List ℕ → Option (List ℕ) → Type 0) (words : List (List ℕ)) (request : Request) (asked : IsAskedBy words request) (status : ℕ) (streams : Streams W V) where
   -- where what is asked for is done, the answer is on the output
   pub done : IsEnded gives request status streams → status ≡ 0 → (text : List ℕ) × IsDone gives words text × Appends (streams.held_out streams.out.writer) (streams.held_out streams.out_after.writer) text
-  done (answered text e answer out) zero = (text, record { request = request; asked = asked; answer = answer }, out.output)
+  done (answered text notes e answer noted out) zero = (text, record { request = request; asked = asked; answer = answer }, out.output)
   done (refused stop e stops err) zero = absurd (never_done stop (sym e ∙ zero))
   done (unwritten text e answer none begun) zero = absurd (omega (arith, e, zero))
 
+  -- where it is done and no trace is asked for, nothing goes to the error stream
+  pub quiet : AskForNoTrace words → IsEnded gives request status streams → status ≡ 0 → streams.err_after ≡ streams.err
+  quiet none (answered text notes e answer noted out) zero =
+      out.silent (no_notes gives request notes (λ replay is. none replay (subst (IsAskedBy words) is asked)) noted)
+  quiet none (refused stop e stops err) zero = absurd (never_done stop (sym e ∙ zero))
+  quiet none (unwritten text e answer out begun) zero = absurd (omega (arith, e, zero))
+
   -- where it ends with status 1 or 2, it is refused
   pub told : (n : ℕ) → (n ≡ 1) ⊎ (n ≡ 2) → IsEnded gives request status streams → status ≡ n → IsRefusal gives words n
-  told n small (answered text e answer out) is = elim small [ inl one ↦ absurd (omega (arith, e, is, one)) | inr two ↦ absurd (omega (arith, e, is, two)) ]
+  told n small (answered text notes e answer noted out) is = elim small [ inl one ↦ absurd (omega (arith, e, is, one)) | inr two ↦ absurd (omega (arith, e, is, two)) ]
   told n small (refused stop e stops err) is = record { request = request; asked = asked; stop = stop; stops = stops; status_is = sym is ∙ e }
   told n small (unwritten text e answer none begun) is = elim small [ inl one ↦ absurd (omega (arith, e, is, one)) | inr two ↦ absurd (omega (arith, e, is, two)) ]

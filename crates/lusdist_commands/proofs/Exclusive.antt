@@ -1,5 +1,5 @@
 -- What has an answer isn't refused.
-use Rattle.std.proofs.Common.{refl, ◌≡◌, ℕ, List, length, map, Option, Some, None, Result, Ok, Err, false, sym, ap, ◌∙◌, subst, arith, inl, inr}
+use Rattle.std.proofs.Common.{refl, ◌≡◌, ℕ, ◌<◌, List, length, map, Option, Some, None, Result, Ok, Err, false, sym, ap, ◌∙◌, subst, arith, inl, inr}
 use Rattle.std.specs.Prelude.{IsUtf8}
 use Rattle.std.proofs.lemmas.Str.{IsUtf8-from_ascii}
 use Rattle.lutree.specs.Tree.{ProgramTree}
@@ -11,7 +11,9 @@ use Rattle.luflow.specs.Rank.{reads_of, IsRankOrder}
 use Rattle.luflow.specs.Solution.{solution}
 use Rattle.luflow.specs.Variables.{inputs_of}
 use Rattle.luflow.proofs.Solutions.{IsSolution-solution}
+use Rattle.luflow.specs.Faults.{IsFault}
 use Rattle.luworld.specs.Needs.{Distribution}
+use Rattle.luworld.specs.Runs.{Run}
 use Rattle.lustat_rules.specs.Accepted.{Rule, Keeps, Breaks, program, node, declaration, equation}
 use Rattle.lustat_rules.specs.Accepted as accepted
 use Rattle.lustat_rules.specs.declared.error.StatError.{StatError}
@@ -43,26 +45,29 @@ use Rattle.lusdist_shell.specs.declared.request.EvalRequest.{EvalRequest}
 use Rattle.lusdist_shell.specs.declared.request.PlanRequest.{PlanRequest}
 use Rattle.lusdist_shell.specs.declared.request.ReplayRequest.{ReplayRequest}
 use Rattle.lusdist_shell.specs.declared.request.Request.{Request}
-use Rattle.lusdist_shell.specs.declared.request.Request.TheVariants.{Check, Eval, Plan, Replay}
+use Rattle.lusdist_shell.specs.declared.request.RunRequest.{RunRequest}
+use Rattle.lusdist_shell.specs.declared.request.Request.TheVariants.{Check, Eval, Plan, Replay, Run as AsksRun}
 use Rattle.lusdist_commands.specs.declared.stop.Stop.{Stop}
-use Rattle.lusdist_commands.specs.declared.stop.Stop.TheVariants.{CannotRead, NotAscii, Syntax, Rules, Flat, Place as BadPlace, Table as BadTable, Schedule, Fault, OutOfMemory}
-use Rattle.lusdist_commands.specs.Asked.{HasFlat, IsPlanOfText, IsChecked, IsPlanned, IsReplayed, IsAnswer}
+use Rattle.lusdist_commands.specs.declared.stop.Stop.TheVariants.{CannotRead, NotAscii, Syntax, Rules, Flat, Place as BadPlace, Table as BadTable, Schedule, Fault, LinkLost, NoThread, OutOfMemory}
+use Rattle.lusdist_commands.specs.Asked.{HasFlat, IsPlanOfText, IsJobFor, IsChecked, IsPlanned, IsReplayed, IsRan, IsAnswer}
 use Rattle.lusdist_commands.specs.Evaluated.{IsPosedBy, IsEvaluated, IsFaultOf, IsFaultTold}
 use Rattle.lusdist_commands.specs.Refused.{IsToldOf, IsProgramRefused, IsTableRefused, IsPlaceRefused}
 use Rattle.lusdist_commands.specs.Refused.IsToldOf.{rule, flat}
-use Rattle.lusdist_commands.specs.Stopped.{IsUnread, IsScheduleRefused, HasNoFlat, StopsAtProgram, StopsAtPlan, IsCheckStopped, IsEvalStopped, IsPlanStopped, IsReplayStopped, IsRequestStopped}
+use Rattle.lusdist_commands.specs.Stopped.{IsUnread, IsScheduleRefused, HasNoFlat, StopsAtProgram, StopsAtPlan, StopsAtJob, IsCheckStopped, IsEvalStopped, IsPlanStopped, IsReplayStopped, IsRunFault, IsRunStopped, IsRequestStopped}
 use Rattle.lusdist_commands.specs.Stopped.HasNoFlat.{unspelled, unruled}
 use Rattle.lusdist_commands.specs.Stopped.StopsAtProgram.{program_unread, program_refused}
 use Rattle.lusdist_commands.specs.Stopped.StopsAtPlan.{no_program, place_unread, place_refused}
 use Rattle.lusdist_commands.specs.Stopped.IsCheckStopped.{check_program, check_memory}
 use Rattle.lusdist_commands.specs.Stopped.IsEvalStopped.{eval_program, eval_unread, eval_table, eval_fault, eval_memory}
 use Rattle.lusdist_commands.specs.Stopped.IsPlanStopped.{plan_files, plan_memory}
-use Rattle.lusdist_commands.specs.Stopped.IsReplayStopped.{replay_plan, replay_table_unread, replay_table, replay_unread, replay_schedule, replay_memory}
-use Rattle.lusdist_commands.specs.Exact.{HasOneText, IsOfMemory}
+use Rattle.lusdist_commands.specs.Stopped.StopsAtJob.{no_plan, table_unread, table_refused}
+use Rattle.lusdist_commands.specs.Stopped.IsReplayStopped.{replay_job, replay_unread, replay_schedule, replay_memory}
+use Rattle.lusdist_commands.specs.Stopped.IsRunStopped.{run_job, run_fault, run_lost, run_thread, run_memory}
+use Rattle.lusdist_commands.specs.Exact.{HasOneText, SaysNothing}
 use Rattle.std.proofs.lemmas.Option.{same_Some}
 
-pub memory_is : (stop other : Stop) → stop ≡ other → IsOfMemory other → IsOfMemory stop
-memory_is stop other e h = subst IsOfMemory (sym e) h
+pub memory_is : (stop other : Stop) → stop ≡ other → SaysNothing other → SaysNothing stop
+memory_is stop other e h = subst SaysNothing (sym e) h
 
 -- ---- one flat program
 
@@ -88,7 +93,7 @@ kept tree main r (node i n at never) keeps = never (keeps.nodes i n at)
 kept tree main r (declaration i j n d at there never) keeps = never (keeps.declarations i j n d at there)
 kept tree main r (equation i j n q at there never) keeps = never (keeps.equations i j n q at there)
 
-rules_memory : (tree : ProgramTree) (main : List ℕ) (told : StatError) → ((r : Rule) → Keeps tree main r) → Tells 3 tree main told → IsOfMemory (Rules told)
+rules_memory : (tree : ProgramTree) (main : List ℕ) (told : StatError) → ((r : Rule) → Keeps tree main r) → Tells 3 tree main told → SaysNothing (Rules told)
 rules_memory tree main (rules.DuplicateName byte) keeps h = absurd (kept tree main accepted.duplicate_name h.1.broken (keeps accepted.duplicate_name))
 rules_memory tree main (rules.UnknownName byte) keeps h = absurd (kept tree main accepted.unknown_name h.1.broken (keeps accepted.unknown_name))
 rules_memory tree main (rules.UnknownNode byte) keeps h = absurd (kept tree main accepted.unknown_node h.1.broken (keeps accepted.unknown_node))
@@ -106,7 +111,7 @@ rules_memory tree main (rules.MaybeNil byte) keeps h = absurd (kept tree main ac
 rules_memory tree main (rules.CurrentMayBeNil byte) keeps h = absurd (kept tree main accepted.current_may_be_nil h.1.broken (keeps accepted.current_may_be_nil))
 rules_memory tree main rules.OutOfMemory keeps h = tt
 
-flat_memory : (tree : ProgramTree) (main : List ℕ) (own : FlatProgram) (told : CoreError) → IsFlatOf tree main own → Refuses tree main told → IsOfMemory (Flat told)
+flat_memory : (tree : ProgramTree) (main : List ℕ) (own : FlatProgram) (told : CoreError) → IsFlatOf tree main own → Refuses tree main told → SaysNothing (Flat told)
 flat_memory tree main own core.TooLarge is h =
     let same = one_list tree main own h.flat (is.accepted accepted.recursive_node) is.laid_out h.laid_out in
     let count = ap (λ (xs : List Flow). length xs) same.flows in
@@ -114,13 +119,13 @@ flat_memory tree main own core.TooLarge is h =
 flat_memory tree main own (core.Cycle name) is h = absurd (is.causal (h.occurrence, h.leads))
 flat_memory tree main own core.OutOfMemory is h = tt
 
-told_memory : (tree : ProgramTree) (main : List ℕ) (own : FlatProgram) (stop : Stop) → IsFlatOf tree main own → IsToldOf tree main stop → IsOfMemory stop
+told_memory : (tree : ProgramTree) (main : List ℕ) (own : FlatProgram) (stop : Stop) → IsFlatOf tree main own → IsToldOf tree main stop → SaysNothing stop
 told_memory tree main own stop is (rule told read e tells same first) = memory_is stop (Rules told) e (rules_memory tree main told is.accepted tells)
 told_memory tree main own stop is (flat told e keeps refuses) = memory_is stop (Flat told) e (flat_memory tree main own told is refuses)
 
 -- ---- a text that spells a program isn't refused
 
-text_memory : (text : List ℕ) (tree : ProgramTree) (stop : Stop) → SpellsText text tree → IsProgramRefused text stop → IsOfMemory stop
+text_memory : (text : List ℕ) (tree : ProgramTree) (stop : Stop) → SpellsText text tree → IsProgramRefused text stop → SaysNothing stop
 text_memory text tree NotAscii spelled h = absurd (h (IsUtf8-from_ascii text spelled.0.1.0.1))
 text_memory text tree (Syntax told) spelled (inl memory) = memory_is (Syntax told) (Syntax syntax.OutOfMemory) (ap (λ (x : SynError). Syntax x) memory) tt
 text_memory text tree (Syntax told) spelled (inr refused) = absurd (not_refused text tree told spelled refused)
@@ -132,8 +137,10 @@ text_memory text tree (BadTable told) spelled h = absurd h
 text_memory text tree (Schedule told) spelled h = absurd h
 text_memory text tree (Fault name instant kind) spelled h = absurd h
 text_memory text tree OutOfMemory spelled h = absurd h
+text_memory text tree LinkLost spelled h = absurd h
+text_memory text tree NoThread spelled h = absurd h
 
-no_flat_memory : (text main : List ℕ) (tree : ProgramTree) (own : FlatProgram) (stop : Stop) → SpellsText text tree → IsFlatOf tree main own → HasNoFlat text main stop → IsOfMemory stop
+no_flat_memory : (text main : List ℕ) (tree : ProgramTree) (own : FlatProgram) (stop : Stop) → SpellsText text tree → IsFlatOf tree main own → HasNoFlat text main stop → SaysNothing stop
 no_flat_memory text main tree own stop spelled is (unspelled refused) = text_memory text tree stop spelled refused
 no_flat_memory text main tree own stop spelled is (unruled other spells told) =
     told_memory tree main own stop is (subst (λ t. IsToldOf t main stop) (one_program text other tree spells spelled) told)
@@ -144,7 +151,7 @@ flats_same text main tree other a b x y is also =
 
 -- ---- the other files
 
-table_memory : (inputs : List Variable) (text : List ℕ) (table : Table) (stop : Stop) → IsTextOf inputs table text → is_too_long text ≡ false → IsUtf8 text → IsTableRefused inputs text stop → IsOfMemory stop
+table_memory : (inputs : List Variable) (text : List ℕ) (table : Table) (stop : Stop) → IsTextOf inputs table text → is_too_long text ≡ false → IsUtf8 text → IsTableRefused inputs text stop → SaysNothing stop
 table_memory inputs text table (BadTable told) is short utf8 (inl bytes) = absurd (bytes.1 utf8)
 table_memory inputs text table (BadTable told) is short utf8 (inr refused) =
     elim (memory_or told) [
@@ -160,6 +167,8 @@ table_memory inputs text table (BadPlace told) is short utf8 h = absurd h
 table_memory inputs text table (Schedule told) is short utf8 h = absurd h
 table_memory inputs text table (Fault name instant kind) is short utf8 h = absurd h
 table_memory inputs text table OutOfMemory is short utf8 h = absurd h
+table_memory inputs text table LinkLost is short utf8 h = absurd h
+table_memory inputs text table NoThread is short utf8 h = absurd h
 
 none_some : {A : Type 0} (o : Option A) (x : A) → o ≡ None → o ≡ Some x → ⊥
 none_some o x h k = absurd cc
@@ -170,7 +179,7 @@ ok_err r x e h k = absurd cc
 ok_same : {A E : Type 0} (r : Result A E) (x y : A) → r ≡ Ok x → r ≡ Ok y → x ≡ y
 ok_same r x y h k = cc
 
-place_memory : (text : List ℕ) (plan : Distribution) (stop : Stop) → IsPlanOfText text plan → IsPlaceRefused plan.flat text stop → IsOfMemory stop
+place_memory : (text : List ℕ) (plan : Distribution) (stop : Stop) → IsPlanOfText text plan → IsPlaceRefused plan.flat text stop → SaysNothing stop
 place_memory text plan (BadPlace told) is (inl bytes) = absurd (bytes.1 is.utf8)
 place_memory text plan (BadPlace told) is (inr (inl memory)) = memory_is (BadPlace told) (BadPlace placing.OutOfMemory) (ap (λ (x : PlaceError). BadPlace x) memory) tt
 place_memory text plan (BadPlace told) is (inr (inr (inl says))) = absurd (ok_err (placement_of text) is.place told is.says says)
@@ -186,8 +195,10 @@ place_memory text plan (BadTable told) is h = absurd h
 place_memory text plan (Schedule told) is h = absurd h
 place_memory text plan (Fault name instant kind) is h = absurd h
 place_memory text plan OutOfMemory is h = absurd h
+place_memory text plan LinkLost is h = absurd h
+place_memory text plan NoThread is h = absurd h
 
-schedule_memory : (text turns : List ℕ) (stop : Stop) → schedule_of text ≡ Ok turns → IsScheduleRefused text stop → IsOfMemory stop
+schedule_memory : (text turns : List ℕ) (stop : Stop) → schedule_of text ≡ Ok turns → IsScheduleRefused text stop → SaysNothing stop
 schedule_memory text turns (Schedule told) is (inl memory) = memory_is (Schedule told) (Schedule schedule.OutOfMemory) (ap (λ (x : ScheduleError). Schedule x) memory) tt
 schedule_memory text turns (Schedule told) is (inr refused) = absurd (ok_err (schedule_of text) turns told is refused)
 schedule_memory text turns (CannotRead path) is h = absurd h
@@ -199,6 +210,8 @@ schedule_memory text turns (BadPlace told) is h = absurd h
 schedule_memory text turns (BadTable told) is h = absurd h
 schedule_memory text turns (Fault name instant kind) is h = absurd h
 schedule_memory text turns OutOfMemory is h = absurd h
+schedule_memory text turns LinkLost is h = absurd h
+schedule_memory text turns NoThread is h = absurd h
 
 -- ---- each command
 
@@ -209,7 +222,7 @@ module _ (gives : List ℕ → Option (List ℕ) → Type 0) (settled : HasOneTe
   pub never_both : (path one : List ℕ) → gives path (Some one) → gives path None → ⊥
   never_both path one a b = none_some None one refl (settled path None (Some one) b a)
 
-  pub unread_memory : (path one : List ℕ) (stop : Stop) → gives path (Some one) → IsUnread gives path stop → IsOfMemory stop
+  pub unread_memory : (path one : List ℕ) (stop : Stop) → gives path (Some one) → IsUnread gives path stop → SaysNothing stop
   unread_memory path one (CannotRead name) given h = absurd (never_both path one given h.1)
   unread_memory path one OutOfMemory given h = tt
   unread_memory path one NotAscii given h = absurd h
@@ -220,20 +233,22 @@ module _ (gives : List ℕ → Option (List ℕ) → Type 0) (settled : HasOneTe
   unread_memory path one (BadTable told) given h = absurd h
   unread_memory path one (Schedule told) given h = absurd h
   unread_memory path one (Fault name instant kind) given h = absurd h
+  unread_memory path one LinkLost given h = absurd h
+  unread_memory path one NoThread given h = absurd h
 
   flats_one : (path main one other : List ℕ) (a b : FlatProgram) → gives path (Some one) → gives path (Some other) → HasFlat one main a → HasFlat other main b → b ≡ a
   flats_one path main one other a b x y has also =
       let same = one_of path other one y x in
       flats_same one main has.tree also.tree a b has.spelled (subst (λ t. SpellsText t also.tree) same also.spelled) has.flat_is also.flat_is
 
-  pub program_memory : (path main source : List ℕ) (own : FlatProgram) (stop : Stop) → gives path (Some source) → HasFlat source main own → StopsAtProgram gives path main stop → IsOfMemory stop
+  pub program_memory : (path main source : List ℕ) (own : FlatProgram) (stop : Stop) → gives path (Some source) → HasFlat source main own → StopsAtProgram gives path main stop → SaysNothing stop
   program_memory path main source own stop given has (program_unread unread) = unread_memory path source stop given unread
   program_memory path main source own stop given has (program_refused bytes other never) =
       let same = one_of path bytes source other given in
       no_flat_memory source main has.tree own stop has.spelled has.flat_is (subst (λ b. HasNoFlat b main stop) same never)
 
   pub plan_memory_of : (path place_path main source place : List ℕ) (plan : Distribution) (stop : Stop) → gives path (Some source) → gives place_path (Some place) → HasFlat source main plan.flat → IsPlanOfText place plan
-      → StopsAtPlan gives path place_path main stop → IsOfMemory stop
+      → StopsAtPlan gives path place_path main stop → SaysNothing stop
   plan_memory_of path place_path main source place plan stop given place_given has is (no_program never) = program_memory path main source plan.flat stop given has never
   plan_memory_of path place_path main source place plan stop given place_given has is (place_unread bytes own other own_is unread) = unread_memory place_path place stop place_given unread
   plan_memory_of path place_path main source place plan stop given place_given has is (place_refused bytes text own other own_is text_given refused) =
@@ -243,14 +258,14 @@ module _ (gives : List ℕ → Option (List ℕ) → Type 0) (settled : HasOneTe
 
   pub refused_memory : (path table_path main source table other text : List ℕ) (own list : FlatProgram) (inputs : Table) (stop : Stop) → gives path (Some source) → gives path (Some other) → HasFlat source main own → HasFlat other main list
       → gives table_path (Some table) → gives table_path (Some text) → IsTextOf (inputs_of own.variables) inputs table → is_too_long table ≡ false → IsUtf8 table
-      → IsTableRefused (inputs_of list.variables) text stop → IsOfMemory stop
+      → IsTableRefused (inputs_of list.variables) text stop → SaysNothing stop
   refused_memory path table_path main source table other text own list inputs stop given other_given has also table_given text_given is short utf8 refused =
       let table_same = one_of table_path text table text_given table_given in
       let flat_eq = flats_one path main source other own list given other_given has also in
       table_memory (inputs_of own.variables) table inputs stop is short utf8
       (subst (λ (f : FlatProgram). IsTableRefused (inputs_of f.variables) table stop) flat_eq (subst (λ b. IsTableRefused (inputs_of list.variables) b stop) table_same refused))
 
-  check_outcome : (request : CheckRequest) (text : List ℕ) (stop : Stop) → IsChecked gives request text → IsCheckStopped gives request stop → IsOfMemory stop
+  check_outcome : (request : CheckRequest) (text : List ℕ) (stop : Stop) → IsChecked gives request text → IsCheckStopped gives request stop → SaysNothing stop
   check_outcome request text stop is (check_program at) =
       program_memory request.program.now request.main.now is.program is.flat stop is.program_given (record { tree = is.tree; spelled = is.spelled; flat_is = is.flat_is }) at
   check_outcome request text stop is (check_memory e) = memory_is stop OutOfMemory e tt
@@ -274,7 +289,7 @@ module _ (gives : List ℕ → Option (List ℕ) → Type 0) (settled : HasOneTe
   pub posed_flat : (request : EvalRequest) (own : FlatProgram) (inputs : Table) (asked : IsPosedBy gives request own inputs) → HasFlat asked.program request.main.now own
   posed_flat request own inputs asked = record { tree = asked.tree; spelled = asked.posed.spelled; flat_is = asked.posed.flat_is }
 
-  eval_outcome : (request : EvalRequest) (text : List ℕ) (stop : Stop) → IsEvaluated gives request text → IsEvalStopped gives request stop → IsOfMemory stop
+  eval_outcome : (request : EvalRequest) (text : List ℕ) (stop : Stop) → IsEvaluated gives request text → IsEvalStopped gives request stop → SaysNothing stop
   eval_outcome request text stop is (eval_program at) =
       program_memory request.program.now request.main.now is.asked.program is.flat stop is.asked.program_given (posed_flat request is.flat is.inputs is.asked) at
   eval_outcome request text stop is (eval_unread bytes own given has unread) = unread_memory request.table.now is.asked.table stop is.asked.table_given unread
@@ -285,34 +300,63 @@ module _ (gives : List ℕ → Option (List ℕ) → Type 0) (settled : HasOneTe
   eval_outcome request text stop is (eval_fault name instant kind e fault) = absurd (fault_never request text is name instant kind fault)
   eval_outcome request text stop is (eval_memory e) = memory_is stop OutOfMemory e tt
 
-  plan_outcome : (request : PlanRequest) (text : List ℕ) (stop : Stop) → IsPlanned gives request text → IsPlanStopped gives request stop → IsOfMemory stop
+  plan_outcome : (request : PlanRequest) (text : List ℕ) (stop : Stop) → IsPlanned gives request text → IsPlanStopped gives request stop → SaysNothing stop
   plan_outcome request text stop is (plan_files at) =
       let asked = is.asked_for in
       plan_memory_of request.program.now request.place.now request.main.now asked.program asked.place is.plan stop asked.program_given asked.place_given asked.flat asked.plan_of at
   plan_outcome request text stop is (plan_memory e) = memory_is stop OutOfMemory e tt
 
+  -- a job that the files give doesn't stop a call
+  pub job_memory_of : (path place_path table_path main : List ℕ) (job : Run) (stop : Stop) → IsJobFor gives path place_path table_path main job → StopsAtJob gives path place_path table_path main stop → SaysNothing stop
+  job_memory_of path place_path table_path main job stop is (no_plan at) =
+      plan_memory_of path place_path main is.program is.place job.plan stop is.program_given is.place_given is.job_is.flat is.job_is.plan at
+  job_memory_of path place_path table_path main job stop is (table_unread plan planned unread) = unread_memory table_path is.table stop is.table_given unread
+  job_memory_of path place_path table_path main job stop is (table_refused plan table planned table_given refused) =
+      refused_memory path table_path main is.program is.table planned.program table job.plan.flat plan.flat job.inputs stop is.program_given planned.program_given is.job_is.flat planned.flat
+      is.table_given table_given is.job_is.inputs is.job_is.short is.job_is.utf8 refused
+
+  -- two jobs of the same files have one flat program and one table
+  jobs_one : (path place_path table_path main : List ℕ) (a b : Run) → IsJobFor gives path place_path table_path main a → IsJobFor gives path place_path table_path main b → (b.plan.flat ≡ a.plan.flat) × (b.inputs ≡ a.inputs)
+  jobs_one path place_path table_path main a b x y =
+      let flat_eq = flats_one path main x.program y.program a.plan.flat b.plan.flat x.program_given y.program_given x.job_is.flat y.job_is.flat in
+      let table_same = one_of table_path y.table x.table y.table_given x.table_given in
+      let columns = subst (λ t. IsTextOf (inputs_of b.plan.flat.variables) b.inputs t) table_same y.job_is.inputs in
+      (flat_eq, one_table (inputs_of a.plan.flat.variables) x.table b.inputs a.inputs (subst (λ (f : FlatProgram). IsTextOf (inputs_of f.variables) b.inputs x.table) flat_eq columns) x.job_is.inputs)
+
   module _ (request : ReplayRequest) (text : List ℕ) (stop : Stop) (is : IsReplayed gives request text) where
-    replay_outcome : IsReplayStopped gives request stop → IsOfMemory stop
-    replay_outcome (replay_plan at) =
-        let asked = is.asked_for in
-        plan_memory_of request.program.now request.place.now request.main.now asked.program asked.place is.job.plan stop asked.program_given asked.place_given asked.job_is.flat asked.job_is.plan at
-    replay_outcome (replay_table_unread bytes place plan given place_given has planned unread) = unread_memory request.table.now is.asked_for.table stop is.asked_for.table_given unread
-    replay_outcome (replay_table bytes place table plan given place_given table_given has planned refused) =
-        let asked = is.asked_for in
-        refused_memory request.program.now request.table.now request.main.now asked.program asked.table bytes table is.job.plan.flat plan.flat is.job.inputs stop asked.program_given given asked.job_is.flat has
-        asked.table_given table_given asked.job_is.inputs asked.job_is.short asked.job_is.utf8 refused
-    replay_outcome (replay_unread bytes place table job given place_given table_given job_is unread) = unread_memory request.schedule.now is.asked_for.schedule stop is.asked_for.schedule_given unread
-    replay_outcome (replay_schedule bytes place table turns job given place_given table_given schedule_given job_is refused) =
+    replay_outcome : IsReplayStopped gives request stop → SaysNothing stop
+    replay_outcome (replay_job at) = job_memory_of request.program.now request.place.now request.table.now request.main.now is.job stop is.asked_for.job_for at
+    replay_outcome (replay_unread job job_is unread) = unread_memory request.schedule.now is.asked_for.schedule stop is.asked_for.schedule_given unread
+    replay_outcome (replay_schedule job turns job_is schedule_given refused) =
         let asked = is.asked_for in
         let same = one_of request.schedule.now turns asked.schedule schedule_given asked.schedule_given in
         schedule_memory asked.schedule is.turns stop asked.turns_are (subst (λ b. IsScheduleRefused b stop) same refused)
     replay_outcome (replay_memory e) = memory_is stop OutOfMemory e tt
 
-  pub one_outcome_of : (request : Request) (text : List ℕ) (stop : Stop) → IsAnswer gives request text → IsRequestStopped gives request stop → IsOfMemory stop
+  module _ (request : RunRequest) (text : List ℕ) (stop : Stop) (is : IsRan gives request text) where
+    -- a run that has outputs has no fault
+    run_never : (name : List ℕ) (instant : ℕ) (kind : FaultKind) → IsRunFault gives request name instant kind → ⊥
+    run_never name instant kind fault =
+        let same = jobs_one request.program.now request.place.now request.table.now request.main.now is.job fault.job is.asked_for fault.asked_for in
+        let at = fault.stopped in
+        let other = subst (λ (i : Table). IsFault is.job.plan.flat i (solution is.job.plan.flat i) at.place instant kind) same.1
+        (subst (λ (f : FlatProgram). IsFault f fault.job.inputs (solution f fault.job.inputs) at.place instant kind) same.0 at.is) in
+        let early = subst (λ (i : Table). instant < i.instants) same.1 at.in_time in
+        is.are_outputs.no_fault (solution is.job.plan.flat is.job.inputs) (IsSolution-solution is.job.plan.flat is.job.inputs is.asked_for.job_is.flat.flat_is.is_flat.ordered) at.place instant kind early other
+
+    run_outcome : IsRunStopped gives request stop → SaysNothing stop
+    run_outcome (run_job at) = job_memory_of request.program.now request.place.now request.table.now request.main.now is.job stop is.asked_for at
+    run_outcome (run_fault name instant kind e fault) = absurd (run_never name instant kind fault)
+    run_outcome (run_lost job job_is e) = memory_is stop LinkLost e tt
+    run_outcome (run_thread job job_is e) = memory_is stop NoThread e tt
+    run_outcome (run_memory e) = memory_is stop OutOfMemory e tt
+
+  pub one_outcome_of : (request : Request) (text : List ℕ) (stop : Stop) → IsAnswer gives request text → IsRequestStopped gives request stop → SaysNothing stop
   one_outcome_of (Check request) text stop answer stopped = check_outcome request text stop answer stopped
   one_outcome_of (Eval request) text stop answer stopped = eval_outcome request text stop answer stopped
   one_outcome_of (Plan request) text stop answer stopped = plan_outcome request text stop answer stopped
   one_outcome_of (Replay request) text stop answer stopped = replay_outcome request text stop answer stopped
+  one_outcome_of (AsksRun request) text stop answer stopped = run_outcome request text stop answer stopped
 
-pub one_outcome : (gives : List ℕ → Option (List ℕ) → Type 0) → HasOneText gives → (request : Request) (text : List ℕ) (stop : Stop) → IsAnswer gives request text → IsRequestStopped gives request stop → IsOfMemory stop
+pub one_outcome : (gives : List ℕ → Option (List ℕ) → Type 0) → HasOneText gives → (request : Request) (text : List ℕ) (stop : Stop) → IsAnswer gives request text → IsRequestStopped gives request stop → SaysNothing stop
 one_outcome gives settled request text stop answer stopped = one_outcome_of gives settled request text stop answer stopped

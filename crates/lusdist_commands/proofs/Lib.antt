@@ -1,7 +1,6 @@
 pub mod NewSites
 pub mod Worlds
 pub mod AskedFor
-pub mod Texts
 pub mod HasOutputs
 pub mod Outcomes
 pub mod Tellings
@@ -9,3 +8,4 @@ pub mod Replays
 pub mod Exclusive
 pub mod Ends
 pub mod OneStatus
+pub mod Ran

@@ -14,24 +14,27 @@ use Rattle.lusdist_shell.specs.declared.schedule.ScheduleError.TheVariants as sc
 use Rattle.lusdist_shell.specs.declared.request.EvalRequest.{EvalRequest}
 use Rattle.lusdist_shell.specs.declared.request.ReplayRequest.{ReplayRequest}
 use Rattle.lusdist_shell.specs.declared.request.Request.{Request}
-use Rattle.lusdist_shell.specs.declared.request.Request.TheVariants.{Check, Eval, Plan, Replay}
+use Rattle.lusdist_shell.specs.declared.request.RunRequest.{RunRequest}
+use Rattle.lusdist_shell.specs.declared.request.Request.TheVariants.{Check, Eval, Plan, Replay, Run as AsksRun}
 use Rattle.lusdist_commands.specs.declared.stop.Stop.{Stop}
-use Rattle.lusdist_commands.specs.declared.stop.Stop.TheVariants.{CannotRead, NotAscii, Syntax, Rules, Flat, Place, Table, Schedule, Fault, OutOfMemory}
+use Rattle.lusdist_commands.specs.declared.stop.Stop.TheVariants.{CannotRead, NotAscii, Syntax, Rules, Flat, Place, Table, Schedule, Fault, LinkLost, NoThread, OutOfMemory}
 use Rattle.lusdist_commands.specs.Statuses.{status_of}
-use Rattle.lusdist_commands.specs.Asked.{HasFlat, IsPlanOfText, IsJobOf}
+use Rattle.lusdist_commands.specs.Asked.{HasFlat, IsPlanFor, IsJobFor}
 use Rattle.lusdist_commands.specs.Evaluated.{IsFaultOf}
 use Rattle.lusdist_commands.specs.Refused.{IsToldOf, IsProgramRefused, IsPlaceRefused, IsTableRefused}
 use Rattle.lusdist_commands.specs.Refused.IsToldOf.{rule, flat}
-use Rattle.lusdist_commands.specs.Stopped.{IsUnread, IsScheduleRefused, HasNoFlat, StopsAtProgram, StopsAtPlan, IsEvalStopped, IsReplayStopped, IsRequestStopped}
+use Rattle.lusdist_commands.specs.Stopped.{IsUnread, IsScheduleRefused, HasNoFlat, StopsAtProgram, StopsAtPlan, StopsAtJob, IsEvalStopped, IsReplayStopped, IsRunStopped, IsRequestStopped}
 use Rattle.lusdist_commands.specs.Stopped.HasNoFlat.{unspelled, unruled}
 use Rattle.lusdist_commands.specs.Stopped.StopsAtProgram.{program_unread, program_refused}
 use Rattle.lusdist_commands.specs.Stopped.StopsAtPlan.{no_program, place_unread, place_refused}
 use Rattle.lusdist_commands.specs.Stopped.IsCheckStopped.{check_program, check_memory}
 use Rattle.lusdist_commands.specs.Stopped.IsEvalStopped.{eval_program, eval_unread, eval_table, eval_fault, eval_memory}
 use Rattle.lusdist_commands.specs.Stopped.IsPlanStopped.{plan_files, plan_memory}
-use Rattle.lusdist_commands.specs.Stopped.IsReplayStopped.{replay_plan, replay_table_unread, replay_table, replay_unread, replay_schedule, replay_memory}
-use Rattle.lusdist_commands.specs.Exact.{HasOneText, IsOfMemory}
-use Rattle.lusdist_commands.proofs.Exclusive.{memory_is, unread_memory, program_memory, plan_memory_of, refused_memory, posed_flat}
+use Rattle.lusdist_commands.specs.Stopped.StopsAtJob.{no_plan, table_unread, table_refused}
+use Rattle.lusdist_commands.specs.Stopped.IsReplayStopped.{replay_job, replay_unread, replay_schedule, replay_memory}
+use Rattle.lusdist_commands.specs.Stopped.IsRunStopped.{run_job, run_fault, run_lost, run_thread, run_memory}
+use Rattle.lusdist_commands.specs.Exact.{HasOneText, SaysNothing}
+use Rattle.lusdist_commands.proofs.Exclusive.{memory_is, unread_memory, program_memory, plan_memory_of, job_memory_of, refused_memory, posed_flat}
 
 -- ---- the status of a stop by what it is of
 
@@ -41,7 +44,7 @@ IsOfText (CannotRead path) = ⊥
 IsOfText (Fault variable instant kind) = ⊥
 IsOfText _ = Unit {0}
 
-one_of_text : (stop : Stop) → IsOfText stop → (¬ IsOfMemory stop) → status_of stop ≡ 1
+one_of_text : (stop : Stop) → IsOfText stop → (¬ SaysNothing stop) → status_of stop ≡ 1
 one_of_text (CannotRead path) is not = absurd is
 one_of_text NotAscii is not = refl
 one_of_text (Syntax (syn.Syntax byte)) is not = refl
@@ -87,6 +90,8 @@ one_of_text (Schedule (schedule.BadSchedule byte)) is not = refl
 one_of_text (Schedule schedule.LongSchedule) is not = refl
 one_of_text (Schedule schedule.OutOfMemory) is not = absurd (not tt)
 one_of_text (Fault variable instant kind) is not = absurd is
+one_of_text LinkLost is not = absurd (not tt)
+one_of_text NoThread is not = absurd (not tt)
 one_of_text OutOfMemory is not = absurd (not tt)
 
 of_text_is : (stop other : Stop) → stop ≡ other → IsOfText other → IsOfText stop
@@ -107,6 +112,8 @@ program_text bytes (Place e) h = tt
 program_text bytes (Table e) h = tt
 program_text bytes (Schedule e) h = tt
 program_text bytes OutOfMemory h = tt
+program_text bytes LinkLost h = tt
+program_text bytes NoThread h = tt
 
 no_flat_text : (bytes main : List ℕ) (stop : Stop) → HasNoFlat bytes main stop → IsOfText stop
 no_flat_text bytes main stop (unspelled h) = program_text bytes stop h
@@ -123,6 +130,8 @@ place_text list bytes (Place e) h = tt
 place_text list bytes (Table e) h = tt
 place_text list bytes (Schedule e) h = tt
 place_text list bytes OutOfMemory h = tt
+place_text list bytes LinkLost h = tt
+place_text list bytes NoThread h = tt
 
 table_text : (inputs : _) (bytes : List ℕ) (stop : Stop) → IsTableRefused inputs bytes stop → IsOfText stop
 table_text inputs bytes (CannotRead path) h = absurd h
@@ -135,6 +144,8 @@ table_text inputs bytes (Place e) h = tt
 table_text inputs bytes (Table e) h = tt
 table_text inputs bytes (Schedule e) h = tt
 table_text inputs bytes OutOfMemory h = tt
+table_text inputs bytes LinkLost h = tt
+table_text inputs bytes NoThread h = tt
 
 schedule_text : (bytes : List ℕ) (stop : Stop) → IsScheduleRefused bytes stop → IsOfText stop
 schedule_text bytes (CannotRead path) h = absurd h
@@ -147,8 +158,10 @@ schedule_text bytes (Place e) h = tt
 schedule_text bytes (Table e) h = tt
 schedule_text bytes (Schedule e) h = tt
 schedule_text bytes OutOfMemory h = tt
+schedule_text bytes LinkLost h = tt
+schedule_text bytes NoThread h = tt
 
-unread_two : (gives : List ℕ → Option (List ℕ) → Type 0) (path : List ℕ) (stop : Stop) → IsUnread gives path stop → (¬ IsOfMemory stop) → (status_of stop ≡ 2) × gives path None
+unread_two : (gives : List ℕ → Option (List ℕ) → Type 0) (path : List ℕ) (stop : Stop) → IsUnread gives path stop → (¬ SaysNothing stop) → (status_of stop ≡ 2) × gives path None
 unread_two gives path (CannotRead name) h not = (refl, h.1)
 unread_two gives path (Fault variable instant kind) h not = absurd h
 unread_two gives path NotAscii h not = absurd h
@@ -158,32 +171,34 @@ unread_two gives path (Flat e) h not = absurd h
 unread_two gives path (Place e) h not = absurd h
 unread_two gives path (Table e) h not = absurd h
 unread_two gives path (Schedule e) h not = absurd h
+unread_two gives path LinkLost h not = absurd h
+unread_two gives path NoThread h not = absurd h
 unread_two gives path OutOfMemory h not = absurd (not tt)
 
 -- ---- two stops of one request
 
 module _ (gives : List ℕ → Option (List ℕ) → Type 0) (settled : HasOneText gives) where
-  both_unread : (path other_path : List ℕ) (a b : Stop) → IsUnread gives path a → IsUnread gives other_path b → (¬ IsOfMemory a) → (¬ IsOfMemory b) → status_of a ≡ status_of b
+  both_unread : (path other_path : List ℕ) (a b : Stop) → IsUnread gives path a → IsUnread gives other_path b → (¬ SaysNothing a) → (¬ SaysNothing b) → status_of a ≡ status_of b
   both_unread path other_path a b x y na nb = (unread_two gives path a x na).0 ∙ sym (unread_two gives other_path b y nb).0
 
-  both_text : (a b : Stop) → IsOfText a → IsOfText b → (¬ IsOfMemory a) → (¬ IsOfMemory b) → status_of a ≡ status_of b
+  both_text : (a b : Stop) → IsOfText a → IsOfText b → (¬ SaysNothing a) → (¬ SaysNothing b) → status_of a ≡ status_of b
   both_text a b x y na nb = one_of_text a x na ∙ sym (one_of_text b y nb)
 
   -- a file that has a text is read
-  never : {X : Type 0} (path text : List ℕ) (stop : Stop) → gives path (Some text) → IsUnread gives path stop → (¬ IsOfMemory stop) → X
+  never : {X : Type 0} (path text : List ℕ) (stop : Stop) → gives path (Some text) → IsUnread gives path stop → (¬ SaysNothing stop) → X
   never path text stop given x not = absurd (not (unread_memory gives settled path text stop given x))
 
-  program_status : (path main : List ℕ) (a b : Stop) → StopsAtProgram gives path main a → StopsAtProgram gives path main b → (¬ IsOfMemory a) → (¬ IsOfMemory b) → status_of a ≡ status_of b
+  program_status : (path main : List ℕ) (a b : Stop) → StopsAtProgram gives path main a → StopsAtProgram gives path main b → (¬ SaysNothing a) → (¬ SaysNothing b) → status_of a ≡ status_of b
   program_status path main a b (program_unread x) (program_unread y) na nb = both_unread path path a b x y na nb
   program_status path main a b (program_unread x) (program_refused text given y) na nb = never path text a given x na
   program_status path main a b (program_refused text given x) (program_unread y) na nb = never path text b given y nb
   program_status path main a b (program_refused text given x) (program_refused other other_given y) na nb = both_text a b (no_flat_text text main a x) (no_flat_text other main b y) na nb
 
   -- a program that has a list program isn't refused
-  past_program : {X : Type 0} (path main program : List ℕ) (own : FlatProgram) (stop : Stop) → gives path (Some program) → HasFlat program main own → StopsAtProgram gives path main stop → (¬ IsOfMemory stop) → X
+  past_program : {X : Type 0} (path main program : List ℕ) (own : FlatProgram) (stop : Stop) → gives path (Some program) → HasFlat program main own → StopsAtProgram gives path main stop → (¬ SaysNothing stop) → X
   past_program path main program own stop given has x not = absurd (not (program_memory gives settled path main program own stop given has x))
 
-  plan_status : (path place_path main : List ℕ) (a b : Stop) → StopsAtPlan gives path place_path main a → StopsAtPlan gives path place_path main b → (¬ IsOfMemory a) → (¬ IsOfMemory b) → status_of a ≡ status_of b
+  plan_status : (path place_path main : List ℕ) (a b : Stop) → StopsAtPlan gives path place_path main a → StopsAtPlan gives path place_path main b → (¬ SaysNothing a) → (¬ SaysNothing b) → status_of a ≡ status_of b
   plan_status path place_path main a b (no_program x) (no_program y) na nb = program_status path main a b x y na nb
   plan_status path place_path main a b (no_program x) (place_unread program own given has y) na nb = past_program path main program own a given has x na
   plan_status path place_path main a b (no_program x) (place_refused program place own given has place_given y) na nb = past_program path main program own a given has x na
@@ -198,13 +213,13 @@ module _ (gives : List ℕ → Option (List ℕ) → Type 0) (settled : HasOneTe
   module _ (request : EvalRequest) where
     -- a table that a fault is of isn't refused
     past_table : {X : Type 0} (program table name : List ℕ) (own : FlatProgram) (instant : ℕ) (kind : FaultKind) (stop : Stop) → gives request.program.now (Some program) → gives request.table.now (Some table) → HasFlat program request.main.now own
-        → IsFaultOf gives request name instant kind → IsTableRefused (inputs_of own.variables) table stop → (¬ IsOfMemory stop) → X
+        → IsFaultOf gives request name instant kind → IsTableRefused (inputs_of own.variables) table stop → (¬ SaysNothing stop) → X
     past_table program table name own instant kind stop given table_given has fault x not =
         let asked = fault.asked in
         absurd (not (refused_memory gives settled request.program.now request.table.now request.main.now asked.program asked.table program table fault.flat own fault.inputs stop asked.program_given given (posed_flat gives settled request fault.flat fault.inputs asked) has
         asked.table_given table_given asked.posed.table_is asked.posed.short asked.posed.utf8 x))
 
-    fault_past : {X : Type 0} (name : List ℕ) (instant : ℕ) (kind : FaultKind) (stop : Stop) → IsFaultOf gives request name instant kind → StopsAtProgram gives request.program.now request.main.now stop → (¬ IsOfMemory stop) → X
+    fault_past : {X : Type 0} (name : List ℕ) (instant : ℕ) (kind : FaultKind) (stop : Stop) → IsFaultOf gives request name instant kind → StopsAtProgram gives request.program.now request.main.now stop → (¬ SaysNothing stop) → X
     fault_past name instant kind stop fault x not =
         let asked = fault.asked in
         past_program request.program.now request.main.now asked.program fault.flat stop asked.program_given (posed_flat gives settled request fault.flat fault.inputs asked) x not
@@ -212,7 +227,7 @@ module _ (gives : List ℕ → Option (List ℕ) → Type 0) (settled : HasOneTe
     three_of_fault : (name : List ℕ) (instant : ℕ) (kind : FaultKind) (stop : Stop) → stop ≡ Fault name instant kind → status_of stop ≡ 3
     three_of_fault name instant kind stop e = ap status_of e
 
-    eval_status : (a b : Stop) → IsEvalStopped gives request a → IsEvalStopped gives request b → (¬ IsOfMemory a) → (¬ IsOfMemory b) → status_of a ≡ status_of b
+    eval_status : (a b : Stop) → IsEvalStopped gives request a → IsEvalStopped gives request b → (¬ SaysNothing a) → (¬ SaysNothing b) → status_of a ≡ status_of b
     eval_status a b (eval_memory e) y na nb = absurd (na (memory_is a OutOfMemory e tt))
     eval_status a b (eval_program x) (eval_memory e) na nb = absurd (nb (memory_is b OutOfMemory e tt))
     eval_status a b (eval_program x) (eval_program y) na nb = program_status request.program.now request.main.now a b x y na nb
@@ -236,54 +251,70 @@ module _ (gives : List ℕ → Option (List ℕ) → Type 0) (settled : HasOneTe
     eval_status a b (eval_fault name instant kind e fault) (eval_table other text list also text_given other_has y) na nb = past_table other text name list instant kind b also text_given other_has fault y nb
     eval_status a b (eval_fault name instant kind e fault) (eval_fault other t k d also) na nb = three_of_fault name instant kind a e ∙ sym (three_of_fault other t k b d)
 
+  module _ (path place_path table_path main : List ℕ) where
+    -- a plan or a job that the files give isn't refused
+    past_plan : {X : Type 0} (plan : Distribution) (stop : Stop) → IsPlanFor gives path place_path main plan → StopsAtPlan gives path place_path main stop → (¬ SaysNothing stop) → X
+    past_plan plan stop is x not =
+        absurd (not (plan_memory_of gives settled path place_path main is.program is.place plan stop is.program_given is.place_given is.flat is.plan_of x))
+
+    past_job : {X : Type 0} (job : Run) (stop : Stop) → IsJobFor gives path place_path table_path main job → StopsAtJob gives path place_path table_path main stop → (¬ SaysNothing stop) → X
+    past_job job stop is x not = absurd (not (job_memory_of gives settled path place_path table_path main job stop is x))
+
+    job_status : (a b : Stop) → StopsAtJob gives path place_path table_path main a → StopsAtJob gives path place_path table_path main b → (¬ SaysNothing a) → (¬ SaysNothing b) → status_of a ≡ status_of b
+    job_status a b (no_plan x) (no_plan y) na nb = plan_status path place_path main a b x y na nb
+    job_status a b (no_plan x) (table_unread plan is y) na nb = past_plan plan a is x na
+    job_status a b (no_plan x) (table_refused plan table is given y) na nb = past_plan plan a is x na
+    job_status a b (table_unread plan is x) (no_plan y) na nb = past_plan plan b is y nb
+    job_status a b (table_unread plan is x) (table_unread other also y) na nb = both_unread table_path table_path a b x y na nb
+    job_status a b (table_unread plan is x) (table_refused other table also given y) na nb = never table_path table a given x na
+    job_status a b (table_refused plan table is given x) (no_plan y) na nb = past_plan plan b is y nb
+    job_status a b (table_refused plan table is given x) (table_unread other also y) na nb = never table_path table b given y nb
+    job_status a b (table_refused plan table is given x) (table_refused other text also text_given y) na nb =
+        both_text a b (table_text (inputs_of plan.flat.variables) table a x) (table_text (inputs_of other.flat.variables) text b y) na nb
+
   module _ (request : ReplayRequest) where
-    past_plan : {X : Type 0} (program place : List ℕ) (plan : Distribution) (stop : Stop) → gives request.program.now (Some program) → gives request.place.now (Some place) → HasFlat program request.main.now plan.flat → IsPlanOfText place plan
-        → StopsAtPlan gives request.program.now request.place.now request.main.now stop → (¬ IsOfMemory stop) → X
-    past_plan program place plan stop given place_given has is x not =
-        absurd (not (plan_memory_of gives settled request.program.now request.place.now request.main.now program place plan stop given place_given has is x))
+    replay_past : {X : Type 0} (job : Run) (stop : Stop) → IsJobFor gives request.program.now request.place.now request.table.now request.main.now job → StopsAtJob gives request.program.now request.place.now request.table.now request.main.now stop → (¬ SaysNothing stop) → X
+    replay_past job stop is x not = past_job request.program.now request.place.now request.table.now request.main.now job stop is x not
 
-    -- a table that a job has isn't refused
-    past_job : {X : Type 0} (program place table other text : List ℕ) (job : Run) (plan : Distribution) (stop : Stop) → gives request.program.now (Some program) → gives request.table.now (Some table) → IsJobOf program place table request.main.now job
-        → gives request.program.now (Some other) → gives request.table.now (Some text) → HasFlat other request.main.now plan.flat → IsTableRefused (inputs_of plan.flat.variables) text stop → (¬ IsOfMemory stop) → X
-    past_job program place table other text job plan stop given table_given is other_given text_given has x not =
-        absurd (not (refused_memory gives settled request.program.now request.table.now request.main.now program table other text job.plan.flat plan.flat job.inputs stop given other_given is.flat has table_given text_given is.inputs is.short is.utf8 x))
-
-    replay_status : (a b : Stop) → IsReplayStopped gives request a → IsReplayStopped gives request b → (¬ IsOfMemory a) → (¬ IsOfMemory b) → status_of a ≡ status_of b
+    replay_status : (a b : Stop) → IsReplayStopped gives request a → IsReplayStopped gives request b → (¬ SaysNothing a) → (¬ SaysNothing b) → status_of a ≡ status_of b
     replay_status a b (replay_memory e) y na nb = absurd (na (memory_is a OutOfMemory e tt))
-    replay_status a b (replay_plan x) (replay_memory e) na nb = absurd (nb (memory_is b OutOfMemory e tt))
-    replay_status a b (replay_plan x) (replay_plan y) na nb = plan_status request.program.now request.place.now request.main.now a b x y na nb
-    replay_status a b (replay_plan x) (replay_table_unread program place plan given place_given has is y) na nb = past_plan program place plan a given place_given has is x na
-    replay_status a b (replay_plan x) (replay_table program place table plan given place_given table_given has is y) na nb = past_plan program place plan a given place_given has is x na
-    replay_status a b (replay_plan x) (replay_unread program place table job given place_given table_given is y) na nb = past_plan program place job.plan a given place_given is.flat is.plan x na
-    replay_status a b (replay_plan x) (replay_schedule program place table turns job given place_given table_given schedule_given is y) na nb = past_plan program place job.plan a given place_given is.flat is.plan x na
-    replay_status a b (replay_table_unread program place plan given place_given has is x) (replay_memory e) na nb = absurd (nb (memory_is b OutOfMemory e tt))
-    replay_status a b (replay_table_unread program place plan given place_given has is x) (replay_plan y) na nb = past_plan program place plan b given place_given has is y nb
-    replay_status a b (replay_table_unread program place plan given place_given has is x) (replay_table_unread p2 l2 plan2 g2 pg2 h2 is2 y) na nb = both_unread request.table.now request.table.now a b x y na nb
-    replay_status a b (replay_table_unread program place plan given place_given has is x) (replay_table p2 l2 table plan2 g2 pg2 table_given h2 is2 y) na nb = never request.table.now table a table_given x na
-    replay_status a b (replay_table_unread program place plan given place_given has is x) (replay_unread p2 l2 table job g2 pg2 table_given is2 y) na nb = never request.table.now table a table_given x na
-    replay_status a b (replay_table_unread program place plan given place_given has is x) (replay_schedule p2 l2 table turns job g2 pg2 table_given sg2 is2 y) na nb = never request.table.now table a table_given x na
-    replay_status a b (replay_table program place table plan given place_given table_given has is x) (replay_memory e) na nb = absurd (nb (memory_is b OutOfMemory e tt))
-    replay_status a b (replay_table program place table plan given place_given table_given has is x) (replay_plan y) na nb = past_plan program place plan b given place_given has is y nb
-    replay_status a b (replay_table program place table plan given place_given table_given has is x) (replay_table_unread p2 l2 plan2 g2 pg2 h2 is2 y) na nb = never request.table.now table b table_given y nb
-    replay_status a b (replay_table program place table plan given place_given table_given has is x) (replay_table p2 l2 t2 plan2 g2 pg2 tg2 h2 is2 y) na nb =
-        both_text a b (table_text (inputs_of plan.flat.variables) table a x) (table_text (inputs_of plan2.flat.variables) t2 b y) na nb
-    replay_status a b (replay_table program place table plan given place_given table_given has is x) (replay_unread p2 l2 t2 job g2 pg2 tg2 is2 y) na nb = past_job p2 l2 t2 program table job plan a g2 tg2 is2 given table_given has x na
-    replay_status a b (replay_table program place table plan given place_given table_given has is x) (replay_schedule p2 l2 t2 turns job g2 pg2 tg2 sg2 is2 y) na nb = past_job p2 l2 t2 program table job plan a g2 tg2 is2 given table_given has x na
-    replay_status a b (replay_unread program place table job given place_given table_given is x) (replay_memory e) na nb = absurd (nb (memory_is b OutOfMemory e tt))
-    replay_status a b (replay_unread program place table job given place_given table_given is x) (replay_plan y) na nb = past_plan program place job.plan b given place_given is.flat is.plan y nb
-    replay_status a b (replay_unread program place table job given place_given table_given is x) (replay_table_unread p2 l2 plan2 g2 pg2 h2 is2 y) na nb = never request.table.now table b table_given y nb
-    replay_status a b (replay_unread program place table job given place_given table_given is x) (replay_table p2 l2 t2 plan2 g2 pg2 tg2 h2 is2 y) na nb = past_job program place table p2 t2 job plan2 b given table_given is g2 tg2 h2 y nb
-    replay_status a b (replay_unread program place table job given place_given table_given is x) (replay_unread p2 l2 t2 job2 g2 pg2 tg2 is2 y) na nb = both_unread request.schedule.now request.schedule.now a b x y na nb
-    replay_status a b (replay_unread program place table job given place_given table_given is x) (replay_schedule p2 l2 t2 turns job2 g2 pg2 tg2 schedule_given is2 y) na nb = never request.schedule.now turns a schedule_given x na
-    replay_status a b (replay_schedule program place table turns job given place_given table_given schedule_given is x) (replay_memory e) na nb = absurd (nb (memory_is b OutOfMemory e tt))
-    replay_status a b (replay_schedule program place table turns job given place_given table_given schedule_given is x) (replay_plan y) na nb = past_plan program place job.plan b given place_given is.flat is.plan y nb
-    replay_status a b (replay_schedule program place table turns job given place_given table_given schedule_given is x) (replay_table_unread p2 l2 plan2 g2 pg2 h2 is2 y) na nb = never request.table.now table b table_given y nb
-    replay_status a b (replay_schedule program place table turns job given place_given table_given schedule_given is x) (replay_table p2 l2 t2 plan2 g2 pg2 tg2 h2 is2 y) na nb = past_job program place table p2 t2 job plan2 b given table_given is g2 tg2 h2 y nb
-    replay_status a b (replay_schedule program place table turns job given place_given table_given schedule_given is x) (replay_unread p2 l2 t2 job2 g2 pg2 tg2 is2 y) na nb = never request.schedule.now turns b schedule_given y nb
-    replay_status a b (replay_schedule program place table turns job given place_given table_given schedule_given is x) (replay_schedule p2 l2 t2 others job2 g2 pg2 tg2 sg2 is2 y) na nb =
+    replay_status a b (replay_job x) (replay_memory e) na nb = absurd (nb (memory_is b OutOfMemory e tt))
+    replay_status a b (replay_job x) (replay_job y) na nb = job_status request.program.now request.place.now request.table.now request.main.now a b x y na nb
+    replay_status a b (replay_job x) (replay_unread job is y) na nb = replay_past job a is x na
+    replay_status a b (replay_job x) (replay_schedule job turns is given y) na nb = replay_past job a is x na
+    replay_status a b (replay_unread job is x) (replay_memory e) na nb = absurd (nb (memory_is b OutOfMemory e tt))
+    replay_status a b (replay_unread job is x) (replay_job y) na nb = replay_past job b is y nb
+    replay_status a b (replay_unread job is x) (replay_unread other also y) na nb = both_unread request.schedule.now request.schedule.now a b x y na nb
+    replay_status a b (replay_unread job is x) (replay_schedule other turns also given y) na nb = never request.schedule.now turns a given x na
+    replay_status a b (replay_schedule job turns is given x) (replay_memory e) na nb = absurd (nb (memory_is b OutOfMemory e tt))
+    replay_status a b (replay_schedule job turns is given x) (replay_job y) na nb = replay_past job b is y nb
+    replay_status a b (replay_schedule job turns is given x) (replay_unread other also y) na nb = never request.schedule.now turns b given y nb
+    replay_status a b (replay_schedule job turns is given x) (replay_schedule other others also others_given y) na nb =
         both_text a b (schedule_text turns a x) (schedule_text others b y) na nb
 
-  pub one_status_of : (request : Request) (a b : Stop) → IsRequestStopped gives request a → IsRequestStopped gives request b → (¬ IsOfMemory a) → (¬ IsOfMemory b) → status_of a ≡ status_of b
+  module _ (request : RunRequest) where
+    run_past : {X : Type 0} (job : Run) (stop : Stop) → IsJobFor gives request.program.now request.place.now request.table.now request.main.now job → StopsAtJob gives request.program.now request.place.now request.table.now request.main.now stop → (¬ SaysNothing stop) → X
+    run_past job stop is x not = past_job request.program.now request.place.now request.table.now request.main.now job stop is x not
+
+    three_is : (name : List ℕ) (instant : ℕ) (kind : FaultKind) (stop : Stop) → stop ≡ Fault name instant kind → status_of stop ≡ 3
+    three_is name instant kind stop e = ap status_of e
+
+    run_status : (a b : Stop) → IsRunStopped gives request a → IsRunStopped gives request b → (¬ SaysNothing a) → (¬ SaysNothing b) → status_of a ≡ status_of b
+    run_status a b (run_memory e) y na nb = absurd (na (memory_is a OutOfMemory e tt))
+    run_status a b (run_lost job is e) y na nb = absurd (na (memory_is a LinkLost e tt))
+    run_status a b (run_thread job is e) y na nb = absurd (na (memory_is a NoThread e tt))
+    run_status a b (run_job x) (run_memory e) na nb = absurd (nb (memory_is b OutOfMemory e tt))
+    run_status a b (run_job x) (run_lost job is e) na nb = absurd (nb (memory_is b LinkLost e tt))
+    run_status a b (run_job x) (run_thread job is e) na nb = absurd (nb (memory_is b NoThread e tt))
+    run_status a b (run_job x) (run_job y) na nb = job_status request.program.now request.place.now request.table.now request.main.now a b x y na nb
+    run_status a b (run_job x) (run_fault name t k e fault) na nb = run_past fault.job a fault.asked_for x na
+    run_status a b (run_fault name t k e fault) (run_memory m) na nb = absurd (nb (memory_is b OutOfMemory m tt))
+    run_status a b (run_fault name t k e fault) (run_lost job is m) na nb = absurd (nb (memory_is b LinkLost m tt))
+    run_status a b (run_fault name t k e fault) (run_thread job is m) na nb = absurd (nb (memory_is b NoThread m tt))
+    run_status a b (run_fault name t k e fault) (run_job y) na nb = run_past fault.job b fault.asked_for y nb
+    run_status a b (run_fault name t k e fault) (run_fault other u l d also) na nb = three_is name t k a e ∙ sym (three_is other u l b d)
+
+  pub one_status_of : (request : Request) (a b : Stop) → IsRequestStopped gives request a → IsRequestStopped gives request b → (¬ SaysNothing a) → (¬ SaysNothing b) → status_of a ≡ status_of b
   one_status_of (Check request) a b (check_program x) (check_program y) na nb = program_status request.program.now request.main.now a b x y na nb
   one_status_of (Check request) a b (check_memory e) y na nb = absurd (na (memory_is a OutOfMemory e tt))
   one_status_of (Check request) a b (check_program x) (check_memory e) na nb = absurd (nb (memory_is b OutOfMemory e tt))
@@ -292,3 +323,4 @@ module _ (gives : List ℕ → Option (List ℕ) → Type 0) (settled : HasOneTe
   one_status_of (Plan request) a b (plan_memory e) y na nb = absurd (na (memory_is a OutOfMemory e tt))
   one_status_of (Plan request) a b (plan_files x) (plan_memory e) na nb = absurd (nb (memory_is b OutOfMemory e tt))
   one_status_of (Replay request) a b x y na nb = replay_status request a b x y na nb
+  one_status_of (AsksRun request) a b x y na nb = run_status request a b x y na nb

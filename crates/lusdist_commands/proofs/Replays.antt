@@ -13,13 +13,13 @@ use Rattle.lusdist_commands.proofs.Tellings.{told_in, told_true}
 pub is_replayed : (gives : List ℕ → Option (List ℕ) → Type 0) (request : ReplayRequest) (job : Run) (turns text : List ℕ) → IsAskedFor gives request job turns → IsPrinted job turns request.finish text → IsReplayed gives request text
 is_replayed gives request job turns text asked printed =
     let w = printed.world in
-    let tree = asked.job_is.flat.tree in
+    let tree = asked.job_for.job_is.flat.tree in
     let found = told_in w text printed.text_is in
     let same = printed.world_is.job_is in
-    let source = asked.job_is.flat.flat_is in
+    let source = asked.job_for.job_is.flat.flat_is in
     let is_flat = subst (λ (j : Run). IsFlat j.plan.flat) (sym same) source.is_flat in
     let faults = subst (λ (j : Run). HasSourceFaults tree request.main.now j.plan.flat) (sym same) source.faults in
-    let meant = subst (λ (j : Run). (σ : SourceStreams) → IsSourceSolution tree request.main.now j.inputs σ → IsMeant j σ) (sym same) asked.job_is.is_meant in
+    let meant = subst (λ (j : Run). (σ : SourceStreams) → IsSourceSolution tree request.main.now j.inputs σ → IsMeant j σ) (sym same) asked.job_for.job_is.is_meant in
     record {
       job = job;
       turns = turns;

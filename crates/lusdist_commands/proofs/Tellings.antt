@@ -24,21 +24,22 @@ use Rattle.luworld.specs.declared.link.Link.{Link}
 use Rattle.luworld.specs.Needs.{sites_of}
 use Rattle.luworld.specs.World.{done, put_count, taken_count}
 use Rattle.luworld.specs.Outline.{HasEnded}
-use Rattle.luworld.specs.Runs.{streams_of, system_of, outline, link_list, carried}
+use Rattle.luworld.specs.Runs.{Run, streams_of, system_of, outline, link_list, carried}
 use Rattle.luworld.specs.Progress.{Progress, IsBeginning, AllEnded, taken_of, queued_of}
 use Rattle.lusource.specs.Source.{SourceStreams, IsSourceSolution}
 use Rattle.lusource.specs.Faults.{IsSourceFault}
 use Rattle.lucore.specs.Result.{HasSourceFaults}
 use Rattle.lumeaning.specs.Meaning.{IsMeant, source_list, source_stream}
 use Rattle.lumeaning.specs.Telling.{LinkTold, ended, SiteTold, Telling, HasEndedSites, main_marks, IsLinkTrue, IsLinkWhole, IsOutputTrue, IsOutputWhole, IsEndingTrue, IsSiteTrue, IsTrueOf}
-use Rattle.lusite.specs.Machine.{IsStanding}
+use Rattle.lusite.specs.declared.next.Fault.{Fault}
+use Rattle.lusite.specs.Machine.{IsStanding, IsFaultAt}
 use Rattle.lusite.specs.declared.report.Standing.{Standing}
 use Rattle.lusite.specs.declared.report.Standing.TheVariants.{Ended, Faulted, Cut}
 use Rattle.lusite.proofs.Outputs.{output_there}
 use Rattle.luweave.specs.Headline.{IsFaithful}
-use Rattle.lusdist_commands.specs.WorldText.{body_text, site_name, site_line, standing_text, line_of, AreSiteLines, NoSites, OneSiteMore, AreOutputLines, NoVariables, NoOutput, OneOutputMore, IsWorldText}
+use Rattle.luweave_text.specs.WorldText.{body_text, site_name, site_line, standing_text, line_of, AreSiteLines, NoSites, OneSiteMore, AreOutputLines, NoVariables, NoOutput, OneOutputMore, IsWorldText}
 use Rattle.lusdist_commands.specs.TellingText.{link_text, ending_text, site_text, output_text, telling_text, link_told, link_there, links_told, ending_of, IsSiteTold, IsOutputTold, IsToldBy}
-use Rattle.lusdist_commands.proofs.Texts.{count_told, count_other}
+use Rattle.luweave_text.proofs.Texts.{count_told, count_other}
 use Rattle.lusdist_commands.proofs.NewSites.{pushed}
 
 -- the bodies of numbered messages
@@ -64,6 +65,27 @@ of_all P xs all k x at = subst P (get_or_from_slice_get xs k x x at) (all k x (s
 
 index_is : (xs : List ℕ) (i x : ℕ) → slice_get xs i ≡ Some x → slice_index xs i ≡ x
 index_is xs i x at = get_or_from_slice_get xs i x 0 at
+
+-- the main variable in whose equation a flow stands
+pub record Owner (job : Run) (place v : ℕ) : Type 0 where
+  pub number : ℕ
+  pub variable : Variable
+  pub owner : slice_get job.plan.flat.owners place ≡ Some number
+  pub there : slice_get job.plan.flat.variables number ≡ Some variable
+  pub is : number ≡ v
+  pub inside : number < length job.plan.flat.variables
+  pub named : variable.name ≡ variable_name job.plan.flat v
+
+-- a fault at which a site stopped is told by the variable of its flow
+pub owner_of : (job : Run) (s : ℕ) (fault : Fault) → IsFlat job.plan.flat → (at : IsFaultAt job s fault) → Owner job at.place fault.variable
+owner_of job s fault is at =
+    let flat = job.plan.flat in
+    let owner = some_at flat.owners at.place (subst (λ n. at.place < n) (sym is.owners_len) at.inside) in
+    let owner_is : owner.0 ≡ fault.variable = sym (index_is flat.owners at.place owner.0 owner.1) ∙ at.owner in
+    let inside : owner.0 < length flat.variables = of_all (λ v. v < length flat.variables) flat.owners is.owners_in at.place owner.0 owner.1 in
+    let x = some_at flat.variables owner.0 inside in
+    let named : x.0.name ≡ variable_name flat fault.variable = sym (ap (λ o. unwrap_or (option_map (λ (y : Variable). y.name) o) []) x.1) ∙ ap (variable_name flat) owner_is in
+    record { number = owner.0; variable = x.0; owner = owner.1; there = x.1; is = owner_is; inside = inside; named = named }
 
 module _ (w : Progress) where
   abbrev there : ℕ → List LinkTold
@@ -228,15 +250,10 @@ module _ (w : Progress) where
   ending_true program main σ is faults solves s Ended stands = tt
   ending_true program main σ is faults solves s Cut stands = tt
   ending_true program main σ is faults solves s (Faulted fault) stands =
-      let flat = w.job.plan.flat in
       let at = stands.1 in
-      let owner = some_at flat.owners at.place (subst (λ n. at.place < n) (sym is.owners_len) at.inside) in
-      let owner_is : owner.0 ≡ fault.variable = sym (index_is flat.owners at.place owner.0 owner.1) ∙ at.owner in
-      let inside : owner.0 < length flat.variables = of_all (λ v. v < length flat.variables) flat.owners is.owners_in at.place owner.0 owner.1 in
-      let x = some_at flat.variables owner.0 inside in
-      let named : x.0.name ≡ variable_name flat fault.variable = sym (ap (λ o. unwrap_or (option_map (λ (y : Variable). y.name) o) []) x.1) ∙ ap (variable_name flat) owner_is in
-      subst (λ n. IsSourceFault program main w.job.inputs σ n fault.instant fault.kind) named
-      (faults w.job.inputs σ (streams_of w.job) solves (IsSolution-solution flat w.job.inputs is.ordered) at.place owner.0 fault.instant fault.kind x.0 at.is owner.1 x.1)
+      let owner = owner_of w.job s fault is at in
+      subst (λ n. IsSourceFault program main w.job.inputs σ n fault.instant fault.kind) owner.named
+      (faults w.job.inputs σ (streams_of w.job) solves (IsSolution-solution w.job.plan.flat w.job.inputs is.ordered) at.place owner.number fault.instant fault.kind owner.variable at.is owner.owner owner.there)
 
   site_true : (program : ProgramTree) (main : List ℕ) (σ : SourceStreams) → IsFlat w.job.plan.flat → HasSourceFaults program main w.job.plan.flat → IsSourceSolution program main w.job.inputs σ
       → (s : ℕ) (site : SiteTold) → IsSiteTold w s site → IsSiteTrue program main w.job.inputs σ site

@@ -1,4 +1,4 @@
--- What the texts of a check, of a plan and of a replay say, and what their files gave.
+-- What the texts of a check, of a plan, of a replay and of a run say, and what their files gave.
 use Rattle.std.specs.Prelude.{◌≡◌, ℕ, false, List, Option, Some, Ok, IsUtf8, [], ◌∷◌, ◌++◌, Bool, true}
 use Rattle.lutree.specs.Tree.{ProgramTree}
 use Rattle.luflow.specs.Program.{FlatProgram}
@@ -25,15 +25,19 @@ use Rattle.lusdist_shell.specs.declared.request.PlanForm.{PlanForm}
 use Rattle.lusdist_shell.specs.declared.request.PlanForm.TheVariants.{Report, Table, Graph}
 use Rattle.lusdist_shell.specs.declared.request.PlanRequest.{PlanRequest}
 use Rattle.lusdist_shell.specs.declared.request.ReplayRequest.{ReplayRequest}
+use Rattle.lusdist_shell.specs.declared.request.RunRequest.{RunRequest}
 use Rattle.lusdist_shell.specs.declared.request.Request.{Request}
-use Rattle.lusdist_shell.specs.declared.request.Request.TheVariants.{Check, Eval, Plan, Replay}
+use Rattle.lusdist_shell.specs.declared.request.Request.TheVariants.{Check, Eval, Plan, Replay, Run as AsksRun}
 use Rattle.lusdist_shell.specs.Request.{IsAskedBy}
 use Rattle.luworld.specs.Progress.{Progress}
 use Rattle.luweave.specs.Headline.{IsFaithful}
 use Rattle.lumeaning.specs.Telling.{Telling, IsTrueOf}
-use Rattle.lusdist_commands.specs.WorldText.{IsWorldText}
+use Rattle.luweave_text.specs.WorldText.{IsWorldText}
+use Rattle.luweave_text.specs.Traced.{IsTraced}
 use Rattle.lusdist_commands.specs.TellingText.{telling_text, IsToldBy}
-use Rattle.lusdist_commands.specs.Evaluated.{IsEvaluated}
+use Rattle.luflow.specs.Tables.{OutputColumn}
+use Rattle.lutab.specs.Outputs.{output_text}
+use Rattle.lusdist_commands.specs.Evaluated.{AreOutputsOf, IsEvaluated}
 
 -- the flat program, from this main node, of the program that a text spells
 pub record HasFlat (text main : List ℕ) (flat : FlatProgram) : Type 0 where
@@ -61,17 +65,21 @@ pub record IsJobOf (program place table main : List ℕ) (job : Run) : Type 0 wh
   pub one_meaning : HasOneMeaning flat.tree main job.inputs
   pub is_meant : (σ : SourceStreams) → IsSourceSolution flat.tree main job.inputs σ → IsMeant job σ
 
--- a job and its turns are those of texts that the files of a request gave
-pub record IsAskedFor (gives : List ℕ → Option (List ℕ) → Type 0) (request : ReplayRequest) (job : Run) (turns : List ℕ) : Type 0 where
+-- The job of the program, the placement and the table that the files of three paths gave.
+pub record IsJobFor (gives : List ℕ → Option (List ℕ) → Type 0) (path place_path table_path main : List ℕ) (job : Run) : Type 0 where
   pub program : List ℕ
   pub place : List ℕ
   pub table : List ℕ
+  pub program_given : gives path (Some program)
+  pub place_given : gives place_path (Some place)
+  pub table_given : gives table_path (Some table)
+  pub job_is : IsJobOf program place table main job
+
+-- a job and its turns are those of texts that the files of a request gave
+pub record IsAskedFor (gives : List ℕ → Option (List ℕ) → Type 0) (request : ReplayRequest) (job : Run) (turns : List ℕ) : Type 0 where
+  pub job_for : IsJobFor gives request.program.now request.place.now request.table.now request.main.now job
   pub schedule : List ℕ
-  pub program_given : gives request.program.now (Some program)
-  pub place_given : gives request.place.now (Some place)
-  pub table_given : gives request.table.now (Some table)
   pub schedule_given : gives request.schedule.now (Some schedule)
-  pub job_is : IsJobOf program place table request.main.now job
   pub turns_are : schedule_of schedule ≡ Ok turns
 
 -- The world that a job's turns make of its new sites. Where it is to be finished, more turns follow until none moves any more, and no others.
@@ -81,6 +89,11 @@ pub record IsWorldOf (job : Run) (turns : List ℕ) (finish : Bool) (world : Pro
   pub dones_are : world.dones ≡ reached (system_of job) (turns ++ more)
   pub no_more : finish ≡ false → more ≡ []
   pub quiet : finish ≡ true → NoTurnMoves (system_of job) world.dones
+
+-- What a replay notes of its turns beside its answer: where it is asked to trace them, a line for each that moved; else nothing.
+abbrev pub AreNotesOf : Run → List ℕ → Bool → Bool → List ℕ → List ℕ → Type 0
+AreNotesOf job turns finish true dones notes = IsTraced job turns finish dones notes
+AreNotesOf job turns finish false dones notes = notes ≡ []
 
 -- the text of the world of a job after its turns, which keeps what the source says
 pub record IsPrinted (job : Run) (turns : List ℕ) (finish : Bool) (text : List ℕ) : Type 0 where
@@ -99,7 +112,16 @@ pub record IsReplayed (gives : List ℕ → Option (List ℕ) → Type 0) (reque
   pub told : Telling
   pub told_by : IsToldBy printed.world told
   pub spelled : text ≡ telling_text told
-  pub is_true : IsTrueOf asked_for.job_is.flat.tree request.main.now job.inputs told
+  pub is_true : IsTrueOf asked_for.job_for.job_is.flat.tree request.main.now job.inputs told
+
+-- The text of a run of what a request asks for: the table of the outputs of the program at the input table. Each is what every
+-- solution of the program that the file spells gives that variable at all instants, and no operator is a fault.
+pub record IsRan (gives : List ℕ → Option (List ℕ) → Type 0) (request : RunRequest) (text : List ℕ) : Type 0 where
+  pub job : Run
+  pub asked_for : IsJobFor gives request.program.now request.place.now request.table.now request.main.now job
+  pub outputs : List OutputColumn
+  pub are_outputs : AreOutputsOf asked_for.job_is.flat.tree request.main.now job.plan.flat job.inputs outputs
+  pub text_is : text ≡ output_text outputs
 
 -- the text of a check of what a request asks for: the program that the file's bytes spell keeps all rules and has a flat program,
 -- and the text is its canonical one, which spells that program too if it isn't longer than a text may be
@@ -142,6 +164,24 @@ IsAnswer gives (Check request) text = IsChecked gives request text
 IsAnswer gives (Eval request) text = IsEvaluated gives request text
 IsAnswer gives (Plan request) text = IsPlanned gives request text
 IsAnswer gives (Replay request) text = IsReplayed gives request text
+IsAnswer gives (AsksRun request) text = IsRan gives request text
+
+-- what a replay notes of the turns of what a request asks for
+pub record IsNotedReplay (gives : List ℕ → Option (List ℕ) → Type 0) (request : ReplayRequest) (notes : List ℕ) : Type 0 where
+  pub job : Run
+  pub turns : List ℕ
+  pub asked_for : IsAskedFor gives request job turns
+  pub dones : List ℕ
+  pub notes_are : AreNotesOf job turns request.finish request.trace dones notes
+
+-- what is noted on the error stream beside an answer: the turns of a replay, where that is asked for
+abbrev pub AreNotes : (List ℕ → Option (List ℕ) → Type 0) → Request → List ℕ → Type 0
+AreNotes gives (Replay request) notes = IsNotedReplay gives request notes
+AreNotes gives _ notes = notes ≡ []
+
+-- the words ask for no trace
+abbrev pub AskForNoTrace : List (List ℕ) → Type 0
+AskForNoTrace words = (request : ReplayRequest) → IsAskedBy words (Replay request) → request.trace ≡ false
 
 -- the text of what the words ask for
 pub record IsDone (gives : List ℕ → Option (List ℕ) → Type 0) (words : List (List ℕ)) (text : List ℕ) : Type 0 where

@@ -1,16 +1,16 @@
 -- What a call leaves in its two streams, and with which status it ends.
-use Rattle.std.specs.Prelude.{◌≡◌, ◌⊎◌, ℕ, true, List, Option, codes}
+use Rattle.std.specs.Prelude.{◌≡◌, ◌⊎◌, ℕ, true, List, [], Option, codes}
 use Rattle.std.specs.Io.KnownBytes.{Appends}
 use Rattle.clap.specs.Words.{fault_of, IsAmong}
 use Rattle.clap.specs.declared.error.kind.ErrorKind.{ErrorKind}
 use Rattle.clap.specs.declared.error.kind.ErrorKind.TheVariants.{DisplayHelp, DisplayVersion}
 use Rattle.lusdist_shell.specs.declared.request.Request.{Request}
 use Rattle.lusdist_shell.specs.declared.sink.Sink.{Sink}
-use Rattle.lusdist_shell.specs.Sinks.{HasLine, HasBeginning}
+use Rattle.lusdist_shell.specs.Sinks.{HasPut, HasLine, HasBeginning}
 use Rattle.lusdist_shell.specs.CommandLine.{lusdist}
 use Rattle.lusdist_shell.specs.Request.{IsAskedBy}
 use Rattle.lusdist_commands.specs.declared.stop.Stop.{Stop}
-use Rattle.lusdist_commands.specs.Asked.{IsAnswer}
+use Rattle.lusdist_commands.specs.Asked.{IsAnswer, AreNotes}
 use Rattle.lusdist_commands.specs.Stopped.{IsRequestStopped}
 use Rattle.lusdist_commands.specs.Statuses.{status_of}
 use Rattle.lusdist_commands.specs.Lines.{line_of}
@@ -24,10 +24,12 @@ pub record Streams (W V : Type 0) : Type 0 where
   pub held_out : W → Option (List ℕ)
   pub held_err : V → Option (List ℕ)
 
--- the output has these bytes more, and the error stream is as it was
-pub record HasOutput {W V : Type 0} (streams : Streams W V) (bytes : List ℕ) : Type 0 where
+-- the output has these bytes more, and the error stream has these notes more, unless a write of them failed; without notes it is as
+-- it was
+pub record HasOutput {W V : Type 0} (streams : Streams W V) (bytes notes : List ℕ) : Type 0 where
   pub output : Appends (streams.held_out streams.out.writer) (streams.held_out streams.out_after.writer) bytes
-  pub silent : streams.err_after ≡ streams.err
+  pub noted : HasPut streams.held_err streams.err streams.err_after notes
+  pub silent : notes ≡ [] → streams.err_after ≡ streams.err
 
 -- the error stream has this line more, and the output is as it was
 pub record HasError {W V : Type 0} (streams : Streams W V) (line : List ℕ) : Type 0 where
@@ -39,10 +41,10 @@ pub record HasNoOutput {W V : Type 0} (streams : Streams W V) : Type 0 where
   pub failed : streams.out_after.failed ≡ true
   pub error : HasLine streams.held_err streams.err streams.err_after (codes "F02 CannotWrite")
 
--- What is asked for ends with this status: with 0 where the answer is printed, with that of a refusal, whose line is told, or with
+-- What is asked for ends with this status: with 0 where the answer is printed, with its notes on the error stream, with that of a refusal, whose line is told, or with
 -- 3 where the answer couldn't be written, of which the output has a beginning.
 pub data IsEnded {W V : Type 0} (gives : List ℕ → Option (List ℕ) → Type 0) (request : Request) (status : ℕ) (streams : Streams W V) : Type 0 where
-  answered : (text : List ℕ) → status ≡ 0 → IsAnswer gives request text → HasOutput streams text → IsEnded gives request status streams
+  answered : (text notes : List ℕ) → status ≡ 0 → IsAnswer gives request text → AreNotes gives request notes → HasOutput streams text notes → IsEnded gives request status streams
   refused : (stop : Stop) → status ≡ status_of stop → IsRequestStopped gives request stop → HasError streams (line_of stop) → IsEnded gives request status streams
   unwritten : (text : List ℕ) → status ≡ 3 → IsAnswer gives request text → HasNoOutput streams → HasBeginning streams.held_out streams.out streams.out_after text → IsEnded gives request status streams
 

@@ -1,6 +1,5 @@
 pub mod Statuses
 pub mod Asked
-pub mod WorldText
 pub mod Refused
 pub mod Stopped
 pub mod Evaluated
@@ -8,3 +7,4 @@ pub mod TellingText
 pub mod Lines
 pub mod Left
 pub mod Exact
+pub mod Ran

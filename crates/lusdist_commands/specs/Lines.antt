@@ -9,7 +9,7 @@ use Rattle.luplace_file.specs.Lines.{line_of as place_line}
 use Rattle.lutab.specs.Lines.{line_of as table_line}
 use Rattle.lusdist_shell.specs.Lines.{line_of as schedule_line}
 use Rattle.lusdist_commands.specs.declared.stop.Stop.{Stop}
-use Rattle.lusdist_commands.specs.declared.stop.Stop.TheVariants.{CannotRead, NotAscii, Syntax, Rules, Flat, Place, Table, Schedule, Fault, OutOfMemory}
+use Rattle.lusdist_commands.specs.declared.stop.Stop.TheVariants.{CannotRead, NotAscii, Syntax, Rules, Flat, Place, Table, Schedule, Fault, LinkLost, NoThread, OutOfMemory}
 
 -- a code and a name, and what there is to tell; no line feed
 abbrev pub line_of : Stop → List ℕ
@@ -23,3 +23,5 @@ line_of (Table refusal) = table_line refusal
 line_of (Schedule refusal) = schedule_line refusal
 line_of (Fault variable instant kind) = codes "R1 Fault " ++ (variable ++ (codes " " ++ (decimal instant ++ (codes " " ++ kind_text kind))))
 line_of OutOfMemory = codes "R2 OutOfMemory"
+line_of LinkLost = codes "R3 LinkLost"
+line_of NoThread = codes "R4 NoThread"

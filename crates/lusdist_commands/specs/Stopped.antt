@@ -13,13 +13,18 @@ use Rattle.lusdist_shell.specs.declared.request.CheckRequest.{CheckRequest}
 use Rattle.lusdist_shell.specs.declared.request.EvalRequest.{EvalRequest}
 use Rattle.lusdist_shell.specs.declared.request.PlanRequest.{PlanRequest}
 use Rattle.lusdist_shell.specs.declared.request.ReplayRequest.{ReplayRequest}
+use Rattle.lusdist_shell.specs.declared.request.RunRequest.{RunRequest}
 use Rattle.lusdist_shell.specs.declared.request.Request.{Request}
-use Rattle.lusdist_shell.specs.declared.request.Request.TheVariants.{Check, Eval, Plan, Replay}
+use Rattle.lusdist_shell.specs.declared.request.Request.TheVariants.{Check, Eval, Plan, Replay, Run as AsksRun}
 use Rattle.lusdist_shell.specs.Request.{IsAskedBy}
 use Rattle.lusdist_commands.specs.declared.stop.Stop.{Stop}
-use Rattle.lusdist_commands.specs.declared.stop.Stop.TheVariants.{CannotRead, Schedule, Fault, OutOfMemory}
+use Rattle.lusdist_commands.specs.declared.stop.Stop.TheVariants.{CannotRead, Schedule, Fault, LinkLost, NoThread, OutOfMemory}
 use Rattle.lusdist_commands.specs.Statuses.{status_of}
-use Rattle.lusdist_commands.specs.Asked.{HasFlat, IsPlanOfText, IsJobOf}
+use Rattle.luflow.specs.Variables.{variable_name}
+use Rattle.lusource.specs.Source.{SourceStreams, IsSourceSolution}
+use Rattle.lusource.specs.Faults.{IsSourceFault}
+use Rattle.lusite.specs.Machine.{IsFaultAt}
+use Rattle.lusdist_commands.specs.Asked.{HasFlat, IsPlanFor, IsJobFor}
 use Rattle.lusdist_commands.specs.Evaluated.{IsFaultOf}
 use Rattle.lusdist_commands.specs.Refused.{IsToldOf, IsProgramRefused, IsPlaceRefused, IsTableRefused}
 
@@ -69,15 +74,38 @@ pub data IsPlanStopped (gives : List ℕ → Option (List ℕ) → Type 0) (requ
   plan_files : StopsAtPlan gives request.program.now request.place.now request.main.now stop → IsPlanStopped gives request stop
   plan_memory : stop ≡ OutOfMemory → IsPlanStopped gives request stop
 
--- A replay of what a request asks for stops so: as its plan does; where there is a plan, at its table; and where there is a
--- job, at its schedule.
+-- It stops as at a plan; or, where there is a plan, at the table of a third path.
+pub data StopsAtJob (gives : List ℕ → Option (List ℕ) → Type 0) (path place_path table_path main : List ℕ) (stop : Stop) : Type 0 where
+  no_plan : StopsAtPlan gives path place_path main stop → StopsAtJob gives path place_path table_path main stop
+  table_unread : (plan : Distribution) → IsPlanFor gives path place_path main plan → IsUnread gives table_path stop → StopsAtJob gives path place_path table_path main stop
+  table_refused : (plan : Distribution) (table : List ℕ) → IsPlanFor gives path place_path main plan → gives table_path (Some table) → IsTableRefused (inputs_of plan.flat.variables) table stop → StopsAtJob gives path place_path table_path main stop
+
+-- A replay of what a request asks for stops so: at its job, or, where there is one, at its schedule.
 pub data IsReplayStopped (gives : List ℕ → Option (List ℕ) → Type 0) (request : ReplayRequest) (stop : Stop) : Type 0 where
-  replay_plan : StopsAtPlan gives request.program.now request.place.now request.main.now stop → IsReplayStopped gives request stop
-  replay_table_unread : (program place : List ℕ) (plan : Distribution) → gives request.program.now (Some program) → gives request.place.now (Some place) → HasFlat program request.main.now plan.flat → IsPlanOfText place plan → IsUnread gives request.table.now stop → IsReplayStopped gives request stop
-  replay_table : (program place table : List ℕ) (plan : Distribution) → gives request.program.now (Some program) → gives request.place.now (Some place) → gives request.table.now (Some table) → HasFlat program request.main.now plan.flat → IsPlanOfText place plan → IsTableRefused (inputs_of plan.flat.variables) table stop → IsReplayStopped gives request stop
-  replay_unread : (program place table : List ℕ) (job : Run) → gives request.program.now (Some program) → gives request.place.now (Some place) → gives request.table.now (Some table) → IsJobOf program place table request.main.now job → IsUnread gives request.schedule.now stop → IsReplayStopped gives request stop
-  replay_schedule : (program place table turns : List ℕ) (job : Run) → gives request.program.now (Some program) → gives request.place.now (Some place) → gives request.table.now (Some table) → gives request.schedule.now (Some turns) → IsJobOf program place table request.main.now job → IsScheduleRefused turns stop → IsReplayStopped gives request stop
+  replay_job : StopsAtJob gives request.program.now request.place.now request.table.now request.main.now stop → IsReplayStopped gives request stop
+  replay_unread : (job : Run) → IsJobFor gives request.program.now request.place.now request.table.now request.main.now job → IsUnread gives request.schedule.now stop → IsReplayStopped gives request stop
+  replay_schedule : (job : Run) (turns : List ℕ) → IsJobFor gives request.program.now request.place.now request.table.now request.main.now job → gives request.schedule.now (Some turns) → IsScheduleRefused turns stop → IsReplayStopped gives request stop
   replay_memory : stop ≡ OutOfMemory → IsReplayStopped gives request stop
+
+-- A fault of the run that a request asks for, told by the name of the main variable in whose equation it stands: it is the one at which a
+-- site of the run stopped, and a fault of the source.
+pub record IsRunFault (gives : List ℕ → Option (List ℕ) → Type 0) (request : RunRequest) (name : List ℕ) (instant : ℕ) (kind : FaultKind) : Type 0 where
+  pub job : Run
+  pub asked_for : IsJobFor gives request.program.now request.place.now request.table.now request.main.now job
+  pub site : ℕ
+  pub variable : ℕ
+  pub stopped : IsFaultAt job site (record { variable = variable; instant = instant; kind = kind })
+  pub named : name ≡ variable_name job.plan.flat variable
+  pub source : (σ : SourceStreams) → IsSourceSolution asked_for.job_is.flat.tree request.main.now job.inputs σ → IsSourceFault asked_for.job_is.flat.tree request.main.now job.inputs σ name instant kind
+
+-- A run of what a request asks for stops so: at its job; or, where there is one, at a fault, or because a site was left by another or a
+-- thread was refused.
+pub data IsRunStopped (gives : List ℕ → Option (List ℕ) → Type 0) (request : RunRequest) (stop : Stop) : Type 0 where
+  run_job : StopsAtJob gives request.program.now request.place.now request.table.now request.main.now stop → IsRunStopped gives request stop
+  run_fault : (name : List ℕ) (instant : ℕ) (kind : FaultKind) → stop ≡ Fault name instant kind → IsRunFault gives request name instant kind → IsRunStopped gives request stop
+  run_lost : (job : Run) → IsJobFor gives request.program.now request.place.now request.table.now request.main.now job → stop ≡ LinkLost → IsRunStopped gives request stop
+  run_thread : (job : Run) → IsJobFor gives request.program.now request.place.now request.table.now request.main.now job → stop ≡ NoThread → IsRunStopped gives request stop
+  run_memory : stop ≡ OutOfMemory → IsRunStopped gives request stop
 
 -- what a request asks for stops so
 abbrev pub IsRequestStopped : (List ℕ → Option (List ℕ) → Type 0) → Request → Stop → Type 0
@@ -85,6 +113,7 @@ IsRequestStopped gives (Check request) stop = IsCheckStopped gives request stop
 IsRequestStopped gives (Eval request) stop = IsEvalStopped gives request stop
 IsRequestStopped gives (Plan request) stop = IsPlanStopped gives request stop
 IsRequestStopped gives (Replay request) stop = IsReplayStopped gives request stop
+IsRequestStopped gives (AsksRun request) stop = IsRunStopped gives request stop
 
 -- what the words ask for stops so, with this status
 pub record IsRefusal (gives : List ℕ → Option (List ℕ) → Type 0) (words : List (List ℕ)) (status : ℕ) : Type 0 where

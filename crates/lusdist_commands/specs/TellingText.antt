@@ -16,7 +16,7 @@ use Rattle.lumeaning.specs.Telling.{LinkTold, Ending, ended, open_yet, faulted, 
 use Rattle.lusite.specs.Machine.{IsStanding}
 use Rattle.lusite.specs.declared.report.Standing.{Standing}
 use Rattle.lusite.specs.declared.report.Standing.TheVariants.{Ended, Faulted, Cut}
-use Rattle.lusdist_commands.specs.WorldText.{body_text, site_name, output_line}
+use Rattle.luweave_text.specs.WorldText.{body_text, site_name, output_line}
 
 -- `link VARIABLE FROM TO taken`, a space and a value or `close` for each message, `queued` and a number
 abbrev pub link_text : LinkTold → List ℕ

@@ -12,7 +12,13 @@ use lutab::write_outputs;
 use std::alloc::Global;
 
 /// The stop for a fault in the equation of this main variable.
-fn fault_stop(alloc: Global, flat: &Flat, variable: usize, instant: u32, kind: FaultKind) -> Stop
+pub(crate) fn fault_stop(
+    alloc: Global,
+    flat: &Flat,
+    variable: usize,
+    instant: u32,
+    kind: FaultKind,
+) -> Stop
     requires { variable < length flat.now.variables }
     ensures { IsStopFor flat.now variable instant kind result }
 {

@@ -4,15 +4,15 @@ ghost use Rattle.lusdist_commands.specs.Exact.{HasOneOutcome, HasOneStatus};
 
 use lusdist_shell::Files;
 
-/// Where each file has one text or none, what has an answer isn't refused, unless memory ran out; and what is refused has no
-/// answer.
+/// Where each file has one text or none, what has an answer isn't refused, unless by a stop that says nothing of the
+/// files; and what is refused has no answer.
 pub fn one_outcome_law<F: Files>(files: &F)
     ensures { HasOneOutcome (F.gives files.now) }
 {
     let _ = files;
 }
 
-/// Two refusals of one request have one status, where each file has one text or none and memory sufficed.
+/// Two refusals of one request have one status, where each file has one text or none and neither says nothing of them.
 pub fn one_status_law<F: Files>(files: &F)
     ensures { HasOneStatus (F.gives files.now) }
 {

@@ -2,9 +2,10 @@
 //!
 //! - [`serve_words`]: a call, from its words to its exit status.
 //! - [`sources`]: from the texts of the files to a program, its flat program, a plan, a job, its turns, a table.
+//! - [`jobs`]: the job of a program, a placement and a table.
 //! - [`planning`]: the plan of a program at a placement, and its texts.
-//! - [`evaluating`]: the table of a program's outputs.
-//! - [`sites`]: the new sites of a job; [`text`]: what a replay prints.
+//! - [`evaluating`]: the table of a program's outputs; [`running`]: the same, made by its sites on threads.
+//! - [`sites`]: the new sites of a job.
 //! - [`Stop`]: why a call stops, and with which status.
 //! - [`laws`]: a call has one outcome.
 //!
@@ -12,13 +13,14 @@
 #![tactic(auto)]
 
 pub mod evaluating;
+pub mod jobs;
 pub mod laws;
 pub mod planning;
+pub mod running;
 mod serve;
 pub mod sites;
 pub mod sources;
 mod stop;
-pub mod text;
 
 pub use serve::{replayed, serve_words};
 pub use stop::Stop;

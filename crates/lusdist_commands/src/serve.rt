@@ -1,35 +1,42 @@
 //! A call of the program.
 
-ghost use Rattle.std.specs.Prelude.{◌≡◌, ◌<◌, ◌⊎◌, ℕ, length, true, List, map, IfOk, IfErr, string_bytes};
+ghost use Rattle.std.specs.Prelude.{◌≡◌, ◌<◌, ◌⊎◌, ℕ, [], length, true, List, map, IfOk, IfErr, string_bytes, codes};
 ghost use Rattle.std.specs.Io.KnownBytes.{Appends};
 ghost use Rattle.clap.specs.Words.{takes};
 ghost use Rattle.lusdist_shell.specs.CommandLine.{lusdist};
+ghost use Rattle.lusdist_shell.specs.Request.{AreFew, HasFewWorkers};
+ghost use Rattle.lusdist_shell.specs.Sinks.{HasPut, HasLine, HasBeginning};
 ghost use Rattle.luweave.specs.Headline.{IsFaithful};
-ghost use Rattle.lusdist_commands.specs.Asked.{IsAskedFor, IsWorldOf, IsPrinted, IsReplayed, IsChecked, IsPlanned, IsAnswer, IsDone};
+ghost use Rattle.luweave_text.specs.Traced.{IsTraced};
+ghost use Rattle.lusdist_commands.specs.Asked.{IsAskedFor, IsWorldOf, AreNotesOf, IsPrinted, IsReplayed, IsRan, IsChecked, IsPlanned, IsAnswer, IsNotedReplay, AreNotes, AskForNoTrace, IsDone};
 ghost use Rattle.luflow.specs.Sound.{IsFit};
 ghost use Rattle.luflow.specs.Variables.{outputs_of};
 ghost use Rattle.lusdist_commands.specs.Evaluated.{IsPosedBy, IsEvaluated};
-ghost use Rattle.lusdist_commands.specs.Stopped.{IsCheckStopped, IsEvalStopped, IsPlanStopped, IsReplayStopped, IsRequestStopped, IsRefusal};
+ghost use Rattle.lusdist_commands.specs.Stopped.{IsCheckStopped, IsEvalStopped, IsPlanStopped, IsReplayStopped, IsRunStopped, IsRequestStopped, IsRefusal};
 ghost use Rattle.lusdist_commands.specs.Left.{IsEnded, IsCallEnded};
 ghost use Rattle.lusdist_commands.specs.declared.stop.Stop.{Stop};
 ghost use Rattle.lusdist_commands.specs.declared.stop.Stop.TheVariants.{OutOfMemory};
 
 use crate::evaluating::output_table;
+use crate::jobs::job_for;
 use crate::planning::{plan_text, planned};
+use crate::running::run_table;
 use crate::sites::new_sites;
-use crate::sources::{flattened, inputs_in, job_of, program_of, read, turns_of};
+use crate::sources::{flattened, inputs_in, program_of, read, turns_of};
 use crate::stop::Stop;
-use crate::text::text_of_world;
 use luflow::{Flat, Inputs};
 use luplace::Job;
 use lusdist_shell::{
-    CheckRequest, EvalRequest, Files, PlanRequest, ReplayRequest, Request, Sink, parse,
-    put_mistake, put_out,
+    CheckRequest, EvalRequest, Files, PlanRequest, ReplayRequest, Request, RunRequest, Sink, parse,
+    put_mistake, put_notes, put_out,
 };
 use lusyn::print_program;
 use luweave::{World, replay};
+use luweave_text::{text_of_world, trace};
 use std::alloc::Global;
 use std::io::Write;
+use std::sync::Wait;
+use std::thread::Threads;
 
 /// The job of the files that a replay asks for, and its turns. They are read and refused in the order of the words.
 fn job_and_turns<F: Files>(
@@ -41,9 +48,14 @@ fn job_and_turns<F: Files>(
         found.1.items) }
     ensures stopped { IfErr result (IsReplayStopped (F.gives files.now) request.entry) }
 {
-    let plan = planned(alloc, files, request.program, request.place, request.main)?;
-    let table = read(alloc, files, request.table)?;
-    let job = job_of(alloc, plan, &table)?;
+    let job = job_for(
+        alloc,
+        files,
+        request.program,
+        request.place,
+        request.table,
+        request.main,
+    )?;
     let schedule = read(alloc, files, request.schedule)?;
     let turns = turns_of(alloc, &schedule)?;
     Ok((job, turns))
@@ -64,28 +76,84 @@ pub fn replayed(alloc: Global, job: &Job, turns: &[u8], finish: bool) -> Result<
     Ok(world)
 }
 
-/// What a replay of a job prints.
-fn printed(alloc: Global, job: &Job, turns: &[u8], finish: bool) -> Result<String, Stop>
-    ensures text { IfOk result (λ text. IsPrinted job.now turns.now finish (string_bytes text)) }
+/// The same world, and a line for each turn that moved.
+fn traced(alloc: Global, job: &Job, turns: &[u8], finish: bool) -> Result<(World, String), Stop>
+    ensures world { IfOk result (λ x. IsWorldOf job.now turns.now finish x.0) }
+    ensures faithful { IfOk result (λ x. IsFaithful x.0.job x.0.dones) }
+    ensures notes { IfOk result (λ x. IsTraced job.now turns.now finish x.0.dones
+        (string_bytes x.1)) }
     ensures memory { IfErr result (λ stop. stop ≡ OutOfMemory) }
 {
+    let sites = new_sites(alloc, job)?;
+    let (world, notes) = trace(alloc, job.plan(), sites, turns, finish)?;
+    Ok((world, notes))
+}
+
+/// The same world, and the notes of its turns.
+fn noted(
+    alloc: Global,
+    job: &Job,
+    turns: &[u8],
+    finish: bool,
+    trace: bool,
+) -> Result<(World, String), Stop>
+    ensures world { IfOk result (λ x. IsWorldOf job.now turns.now finish x.0) }
+    ensures faithful { IfOk result (λ x. IsFaithful x.0.job x.0.dones) }
+    ensures notes { IfOk result (λ x. AreNotesOf job.now turns.now finish trace x.0.dones
+        (string_bytes x.1)) }
+    ensures memory { IfErr result (λ stop. stop ≡ OutOfMemory) }
+{
+    if trace {
+        return traced(alloc, job, turns, finish);
+    }
     let world = replayed(alloc, job, turns, finish)?;
-    Ok(text_of_world(alloc, job.plan(), &world)?)
+    Ok((world, String::new(alloc)))
+}
+
+/// What a call prints: its answer, and the notes beside it.
+#[derive(Drop)]
+struct Said {
+    text: String,
+    notes: String,
+}
+
+/// An answer without notes.
+fn plain(alloc: Global, text: String) -> Said
+    ensures text { result.text ≡ text }
+    ensures notes { string_bytes result.notes ≡ [] }
+{
+    let notes = String::new(alloc);
+    Said { text, notes }
+}
+
+/// What a replay of a job prints.
+fn printed(alloc: Global, job: &Job, turns: &[u8], finish: bool, trace: bool) -> Result<Said, Stop>
+    ensures text { IfOk result (λ a. IsPrinted job.now turns.now finish (string_bytes a.text)) }
+    ensures notes { IfOk result (λ a. (dones : List ℕ) × AreNotesOf job.now turns.now finish trace
+        dones (string_bytes a.notes)) }
+    ensures memory { IfErr result (λ stop. stop ≡ OutOfMemory) }
+{
+    let (world, notes) = noted(alloc, job, turns, finish, trace)?;
+    let text = text_of_world(alloc, job.plan(), &world)?;
+    Ok(Said { text, notes })
 }
 
 /// What a replay prints.
-fn replay_text<F: Files>(
+fn replay_answer<F: Files>(
     alloc: Global,
     request: ReplayRequest<'_>,
     files: &F,
-) -> Result<String, Stop>
-    ensures text { IfOk result (λ text. IsReplayed (F.gives files.now) request.entry
-        (string_bytes text)) }
+) -> Result<Said, Stop>
+    ensures text { IfOk result (λ a. IsReplayed (F.gives files.now) request.entry
+        (string_bytes a.text)) }
+    ensures notes { IfOk result (λ a. IsNotedReplay (F.gives files.now) request.entry
+        (string_bytes a.notes)) }
     ensures stopped { IfErr result (IsReplayStopped (F.gives files.now) request.entry) }
 {
     let finish = request.finish;
+    let trace = request.trace;
     let (job, turns) = job_and_turns(alloc, request, files)?;
-    printed(alloc, &job, &turns, finish)
+    printed(alloc, &job, &turns, finish, trace)
 }
 
 /// What a check prints: the canonical text of the program, which keeps all rules and has a flat program.
@@ -143,28 +211,82 @@ fn plan_answer<F: Files>(alloc: Global, request: PlanRequest<'_>, files: &F) -> 
     Ok(text)
 }
 
-/// What the command that is asked for prints.
-fn answer<F: Files>(alloc: Global, request: Request<'_>, files: &F) -> Result<String, Stop>
-    ensures text { IfOk result (λ text. IsAnswer (F.gives files.now) request.entry
+/// What a run prints: the table of the outputs of the program, which its sites gave together.
+fn run_text<R: Threads + Wait + Sync, F: Files>(
+    rt: &R,
+    alloc: Global,
+    request: RunRequest<'_>,
+    files: &F,
+) -> Result<String, Stop>
+    requires { AreFew request.workers }
+    ensures text { IfOk result (λ text. IsRan (F.gives files.now) request.entry
         (string_bytes text)) }
+    ensures stopped { IfErr result (IsRunStopped (F.gives files.now) request.entry) }
+{
+    let workers = request.workers;
+    let job = job_for(
+        alloc,
+        files,
+        request.program,
+        request.place,
+        request.table,
+        request.main,
+    )?;
+    run_table(rt, alloc, &job, workers)
+}
+
+/// What the command that is asked for prints.
+fn answer<R: Threads + Wait + Sync, F: Files>(
+    rt: &R,
+    alloc: Global,
+    request: Request<'_>,
+    files: &F,
+) -> Result<Said, Stop>
+    requires { HasFewWorkers request }
+    ensures text { IfOk result (λ a. IsAnswer (F.gives files.now) request.entry
+        (string_bytes a.text)) }
+    ensures notes { IfOk result (λ a. AreNotes (F.gives files.now) request.entry
+        (string_bytes a.notes)) }
     ensures stopped { IfErr result (IsRequestStopped (F.gives files.now) request.entry) }
 {
     match request {
-        Request::Check(request) => check_text(alloc, request, files),
-        Request::Eval(request) => eval_text(alloc, request, files),
-        Request::Plan(request) => plan_answer(alloc, request, files),
-        Request::Replay(request) => replay_text(alloc, request, files),
+        Request::Check(request) => Ok(plain(alloc, check_text(alloc, request, files)?)),
+        Request::Eval(request) => Ok(plain(alloc, eval_text(alloc, request, files)?)),
+        Request::Plan(request) => Ok(plain(alloc, plan_answer(alloc, request, files)?)),
+        Request::Replay(request) => replay_answer(alloc, request, files),
+        Request::Run(request) => Ok(plain(alloc, run_text(rt, alloc, request, files)?)),
     }
 }
 
+/// Writes an answer to the output, and then its notes to the error stream. Answers the status: 0, or 3 where the output can't be
+/// written, which the error stream then tells, and no notes.
+fn put_said<W: Write, V: Write>(out: &mut Sink<W>, err: &mut Sink<V>, said: &Said) -> u8
+    ensures status { (result ≡ 0) ⊎ ((result ≡ 3) × (out.new.failed ≡ true)) }
+    ensures written { result ≡ 0 → Appends (W.contents out.old.writer) (W.contents out.new.writer)
+        (string_bytes said.now.text) }
+    ensures noted { result ≡ 0 → HasPut V.contents err.old err.new (string_bytes said.now.notes) }
+    ensures silent { result ≡ 0 → string_bytes said.now.notes ≡ [] → err.new ≡ err.old }
+    ensures beginning { HasBeginning W.contents out.old out.new (string_bytes said.now.text) }
+    ensures line { result ≡ 3 → HasLine V.contents err.old err.new (codes "F02 CannotWrite") }
+{
+    let status = put_out(out, err, said.text.as_bytes());
+    if status != 0 {
+        return status;
+    }
+    put_notes(err, said.notes.as_bytes());
+    0
+}
+
 /// Does what the words asked for.
-fn perform<F: Files, W: Write, V: Write>(
+fn perform<R: Threads + Wait + Sync, F: Files, W: Write, V: Write>(
+    rt: &R,
     alloc: Global,
     request: Request<'_>,
     files: &F,
     out: &mut Sink<W>,
     err: &mut Sink<V>,
 ) -> u8
+    requires { HasFewWorkers request }
     ensures { IsEnded (F.gives files.now) request.entry result (record {
       out = out.old;
       out_after = out.new;
@@ -174,8 +296,8 @@ fn perform<F: Files, W: Write, V: Write>(
       held_err = V.contents;
     }) }
 {
-    match answer(alloc, request, files) {
-        Ok(text) => put_out(out, err, text.as_bytes()),
+    match answer(rt, alloc, request, files) {
+        Ok(found) => put_said(out, err, &found),
         Err(stop) => {
             let status = stop.status();
             err.put_line(stop);
@@ -185,10 +307,11 @@ fn perform<F: Files, W: Write, V: Write>(
 }
 
 /// One call of the program, of which the first word is the program's name. Answers the exit status: 0 where it is done,
-/// also where a site faulted, and for help; 1 where a text is refused; 2 for a mistake in the words or a file that can't
-/// be read; 3 for a fault of an evaluation, want of memory, or output that can't be written. A refusal is one line on the
-/// error stream.
-pub fn serve_words<F: Files, W: Write, V: Write>(
+/// also where a site of a replay faulted, and for help; 1 where a text is refused; 2 for a mistake in the words or a file that
+/// can't be read; 3 for a fault of an evaluation or a run, a run that was cut short, want of memory, or output that can't be
+/// written. A refusal is one line on the error stream; where a replay is asked to trace its turns, they are told there. A run waits for its threads; the other commands wait for nobody.
+pub fn serve_words<R: Threads + Wait + Sync, F: Files, W: Write, V: Write>(
+    rt: &R,
     alloc: Global,
     words: &[String],
     files: &F,
@@ -220,11 +343,12 @@ pub fn serve_words<F: Files, W: Write, V: Write>(
     ensures file { takes lusdist (map string_bytes words.entry.now) ≡ true → result ≡ 2
         → IsRefusal (F.gives files.now) (map string_bytes words.entry.now) 2 }
 
-    // Where the call is done, nothing goes to the error stream.
-    ensures silent { result ≡ 0 → err.new ≡ err.old }
+    // Where the call is done and no trace is asked for, nothing goes to the error stream.
+    ensures silent { result ≡ 0 → AskForNoTrace (map string_bytes words.entry.now)
+        → err.new ≡ err.old }
 {
     match parse(alloc, words) {
-        Ok(request) => perform(alloc, request, files, out, err),
+        Ok(request) => perform(rt, alloc, request, files, out, err),
         Err(mistake) => put_mistake(out, err, &mistake),
     }
 }

@@ -45,6 +45,10 @@ pub enum Stop {
     },
     /// Memory ran out.
     OutOfMemory,
+    /// A site of a run was left before the end of its script, and none faulted.
+    LinkLost,
+    /// A thread of a run was refused.
+    NoThread,
 }
 
 impl fmt::Display for Stop {
@@ -69,6 +73,8 @@ impl fmt::Display for Stop {
                 kind,
             } => write!(f, "R1 Fault {} {instant} {kind}", variable.as_str()),
             Stop::OutOfMemory => f.write_str("R2 OutOfMemory"),
+            Stop::LinkLost => f.write_str("R3 LinkLost"),
+            Stop::NoThread => f.write_str("R4 NoThread"),
         }
     }
 }
@@ -85,8 +91,8 @@ impl From<AllocError> for Stop {
 }
 
 impl Stop {
-    /// The exit status: 1 where a text is refused, 2 where a file can't be read, 3 where an evaluation is a fault or memory ran
-    /// out.
+    /// The exit status: 1 where a text is refused, 2 where a file can't be read, 3 where an evaluation or a run is a fault, a run
+    /// was cut short or memory ran out.
     pub fn status(&self) -> u8
         ensures { result ≡ status_of self.now }
     {
@@ -99,7 +105,9 @@ impl Stop {
             | Stop::Table(TabError::OutOfMemory)
             | Stop::Schedule(ScheduleError::OutOfMemory)
             | Stop::Fault { .. }
-            | Stop::OutOfMemory => 3,
+            | Stop::OutOfMemory
+            | Stop::LinkLost
+            | Stop::NoThread => 3,
             _ => 1,
         }
     }

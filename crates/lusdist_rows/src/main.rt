@@ -2,11 +2,16 @@
 //! the same transcript with what each command answers; README.md has the form of its lines.
 #![tactic(auto)]
 
+mod driver;
+
+use crate::driver::{put_tried, words_of};
 use lusdist_commands::serve_words;
 use lusdist_shell::{Files, ReadError, RealFiles, Sink};
 use std::alloc::{AllocError, Global};
 use std::io;
 use std::io::Write;
+use std::sync::Wait;
+use std::thread::Threads;
 
 /// The longest output that is written whole, in bytes.
 const LONGEST: usize = 65_536;
@@ -77,14 +82,6 @@ fn add_more(
     Ok(())
 }
 
-fn words_of(alloc: Global, line: &str) -> Result<Vec<String>, AllocError> {
-    let mut words = Vec::new(alloc);
-    for word in line.split_whitespace() {
-        words.push(String::from_str(alloc, word)?)?;
-    }
-    Ok(words)
-}
-
 /// Writes what a command wrote to its output: whole, or how long it is and how it ends.
 fn put_output(rt: &HostRuntime, out: &[u8]) -> io::Result<()> {
     if out.len() <= LONGEST {
@@ -95,11 +92,16 @@ fn put_output(rt: &HostRuntime, out: &[u8]) -> io::Result<()> {
 }
 
 /// Writes what a command answers: its output, behind `! ` what went to the error stream, and behind `= ` its status.
-fn put_answer(rt: &HostRuntime, case: &Case<'_>, line: &str) -> io::Result<()> {
+fn put_answer<R: Threads + Wait + Sync>(
+    threads: &R,
+    rt: &HostRuntime,
+    case: &Case<'_>,
+    line: &str,
+) -> io::Result<()> {
     let words = words_of(rt.alloc(), line)?;
     let mut out = Sink::new(Vec::new(rt.alloc()));
     let mut err = Sink::new(Vec::new(rt.alloc()));
-    let status = serve_words(rt.alloc(), &words, case, &mut out, &mut err);
+    let status = serve_words(threads, rt.alloc(), &words, case, &mut out, &mut err);
     put_output(rt, out.writer())?;
     if !err.writer().is_empty() {
         print!(rt; "! ")?;
@@ -109,14 +111,20 @@ fn put_answer(rt: &HostRuntime, case: &Case<'_>, line: &str) -> io::Result<()> {
 }
 
 /// Does what a line says.
-fn take_line(rt: &HostRuntime, case: &mut Case<'_>, line: &str) -> io::Result<()> {
+fn take_line<R: Threads + Wait + Sync>(
+    threads: &R,
+    rt: &HostRuntime,
+    case: &mut Case<'_>,
+    line: &str,
+) -> io::Result<()> {
     let (mark, rest) = line.split_once(' ').unwrap_or((line, ""));
     let (name, text) = rest.split_once(' ').unwrap_or((rest, ""));
     match mark {
         "#" => case.texts.clear(),
         "file" => add_file(rt.alloc(), case, name, text)?,
         "more" => add_more(rt.alloc(), case, name.parse().unwrap_or(0), text)?,
-        "$" => put_answer(rt, case, rest)?,
+        "$" => put_answer(threads, rt, case, rest)?,
+        "@" => put_tried(threads, rt, case, text, name.parse().unwrap_or(0))?,
         _ => {}
     }
     Ok(())
@@ -130,7 +138,7 @@ fn main(rt: HostRuntime) -> io::Result<()> {
     for line in rt.lines(rt.alloc()) {
         let line = line?;
         println!(rt; "{line}")?;
-        take_line(&rt, &mut case, line.as_str())?;
+        take_line(&rt, &rt, &mut case, line.as_str())?;
     }
     Ok(())
 }

@@ -62,15 +62,16 @@ no_help : (words : List Text) → fault_of lusdist words ≡ [] → IsNoHelp (st
 no_help words none =
     walk_no_help (built lusdist).top (names_of (built lusdist)) refl (walk_from nothing_held) (argument_words lusdist words) (λ p e. absurd cc) (left_nil _ _ none)
 
--- what is found among five is one of the first four, or the fifth passes
-one_of_five : (a b d e f : Bool) (x y z u w found : Shape) → cond a (Some x) (cond b (Some y) (cond d (Some z) (cond e (Some u) (cond f (Some w) None)))) ≡ Some found
-    → ((found ≡ x) ⊎ ((found ≡ y) ⊎ ((found ≡ z) ⊎ (found ≡ u)))) ⊎ (f ≡ true)
-one_of_five true b d e f x y z u w found is = inl (inl (let s : found ≡ x = cc in s))
-one_of_five false true d e f x y z u w found is = inl (inr (inl (let s : found ≡ y = cc in s)))
-one_of_five false false true e f x y z u w found is = inl (inr (inr (inl (let s : found ≡ z = cc in s))))
-one_of_five false false false true f x y z u w found is = inl (inr (inr (inr (let s : found ≡ u = cc in s))))
-one_of_five false false false false true x y z u w found is = inr refl
-one_of_five false false false false false x y z u w found is = absurd cc
+-- what is found among six is one of the first five, or the sixth passes
+one_of_six : (a b d e g f : Bool) (x y z u v w found : Shape) → cond a (Some x) (cond b (Some y) (cond d (Some z) (cond e (Some u) (cond g (Some v) (cond f (Some w) None))))) ≡ Some found
+    → ((found ≡ x) ⊎ ((found ≡ y) ⊎ ((found ≡ z) ⊎ ((found ≡ u) ⊎ (found ≡ v))))) ⊎ (f ≡ true)
+one_of_six true b d e g f x y z u v w found is = inl (inl (let s : found ≡ x = cc in s))
+one_of_six false true d e g f x y z u v w found is = inl (inr (inl (let s : found ≡ y = cc in s)))
+one_of_six false false true e g f x y z u v w found is = inl (inr (inr (inl (let s : found ≡ z = cc in s))))
+one_of_six false false false true g f x y z u v w found is = inl (inr (inr (inr (inl (let s : found ≡ u = cc in s)))))
+one_of_six false false false false true f x y z u v w found is = inl (inr (inr (inr (inr (let s : found ≡ v = cc in s)))))
+one_of_six false false false false false true x y z u v w found is = inr refl
+one_of_six false false false false false false x y z u v w found is = absurd cc
 
 abbrev shape_at : ℕ → Shape
 shape_at k = get_or (built lusdist).subs k help_shape
@@ -83,14 +84,15 @@ is_command_at (Some p) other some =
     name_of : Shape → Text
     name_of s = s.name
 
-    one_of : {found : Shape} → (found ≡ shape_at 0) ⊎ ((found ≡ shape_at 1) ⊎ ((found ≡ shape_at 2) ⊎ (found ≡ shape_at 3)))
-        → (found.name ≡ codes "check") ⊎ ((found.name ≡ codes "eval") ⊎ ((found.name ≡ codes "plan") ⊎ (found.name ≡ codes "replay")))
+    one_of : {found : Shape} → (found ≡ shape_at 0) ⊎ ((found ≡ shape_at 1) ⊎ ((found ≡ shape_at 2) ⊎ ((found ≡ shape_at 3) ⊎ (found ≡ shape_at 4))))
+        → (found.name ≡ codes "check") ⊎ ((found.name ≡ codes "eval") ⊎ ((found.name ≡ codes "plan") ⊎ ((found.name ≡ codes "replay") ⊎ (found.name ≡ codes "run"))))
     one_of (inl first) = inl (ap name_of first)
     one_of (inr (inl second)) = inr (inl (ap name_of second))
     one_of (inr (inr (inl third))) = inr (inr (inl (ap name_of third)))
-    one_of (inr (inr (inr fourth))) = inr (inr (inr (ap name_of fourth)))
+    one_of (inr (inr (inr (inl fourth)))) = inr (inr (inr (inl (ap name_of fourth))))
+    one_of (inr (inr (inr (inr fifth)))) = inr (inr (inr (inr (ap name_of fifth))))
 
-    is_help : answers_to p.0 (label_of (shape_at 4)) ≡ true → ⊥
+    is_help : answers_to p.0 (label_of (shape_at 5)) ≡ true → ⊥
     is_help e = other p refl (sym ((bytes_eq-Decides (codes "help") p.0).0 (sym (or-false _) ∙ e)))
 
     go : (o : Option Shape) → find (λ s. answers_to p.0 (label_of s)) (built lusdist).subs ≡ o → is_some (option_map (λ s. rows_at s p.1) o) ≡ true
@@ -99,7 +101,7 @@ is_command_at (Some p) other some =
     go (Some found) e is = record {
       found = rows_at found p.1;
       is = refl;
-      named = elim (one_of_five (answers_to p.0 (label_of (shape_at 0))) (answers_to p.0 (label_of (shape_at 1))) (answers_to p.0 (label_of (shape_at 2))) (answers_to p.0 (label_of (shape_at 3))) (answers_to p.0 (label_of (shape_at 4))) (shape_at 0) (shape_at 1) (shape_at 2) (shape_at 3) (shape_at 4) found e) [
+      named = elim (one_of_six (answers_to p.0 (label_of (shape_at 0))) (answers_to p.0 (label_of (shape_at 1))) (answers_to p.0 (label_of (shape_at 2))) (answers_to p.0 (label_of (shape_at 3))) (answers_to p.0 (label_of (shape_at 4))) (answers_to p.0 (label_of (shape_at 5))) (shape_at 0) (shape_at 1) (shape_at 2) (shape_at 3) (shape_at 4) (shape_at 5) found e) [
         | inl named ↦ one_of named
         | inr help ↦ absurd (is_help help)
       ];

@@ -1,8 +1,9 @@
 -- The command line of the program, in the words of the crate that parses it.
-use Rattle.std.specs.Prelude.{[], ◌∷◌, true, codes, Some}
+use Rattle.std.specs.Prelude.{ℕ, [], ◌∷◌, true, codes, Some}
 use Rattle.clap.specs.Walk.{Rule, Text}
 use Rattle.clap.specs.Simple.{App, new_app, new_rule, on_top, with_rule, with_subcommand}
 use Rattle.clap.specs.declared.builder.action.ArgAction.TheVariants.{Set, SetTrue}
+use Rattle.clap.specs.declared.builder.value_parser.ValueParser.TheVariants.{Unsigned}
 
 -- a path that must be given
 abbrev pub path_rule : Text → Rule
@@ -30,14 +31,31 @@ plan =
     with_rule (with_rule (with_rule (with_rule (with_rule (new_app (codes "plan")) main_rule)
     (flag_rule (codes "text"))) (flag_rule (codes "dot"))) (path_rule (codes "PROGRAM"))) (path_rule (codes "PLACE"))
 
--- `replay PROGRAM PLACE TABLE SCHEDULE [--main NAME] [--finish]`
+-- `replay PROGRAM PLACE TABLE SCHEDULE [--main NAME] [--finish] [--trace]`
 abbrev pub replay : App
 replay =
-    with_rule (with_rule (with_rule (with_rule (with_rule (with_rule (new_app (codes "replay")) main_rule)
-    (flag_rule (codes "finish"))) (path_rule (codes "PROGRAM"))) (path_rule (codes "PLACE"))) (path_rule (codes "TABLE"))) (path_rule (codes "SCHEDULE"))
+    with_rule (with_rule (with_rule (with_rule (with_rule (with_rule (with_rule (new_app (codes "replay")) main_rule)
+    (flag_rule (codes "finish"))) (flag_rule (codes "trace"))) (path_rule (codes "PROGRAM"))) (path_rule (codes "PLACE"))) (path_rule (codes "TABLE"))) (path_rule (codes "SCHEDULE"))
+
+-- how many workers may serve the sites
+abbrev pub fewest_workers : ℕ
+fewest_workers = 1
+
+abbrev pub most_workers : ℕ
+most_workers = 16
+
+-- `--workers W`, a decimal number from 1 to 16
+abbrev pub workers_rule : Rule
+workers_rule = record (new_rule (codes "workers")) { long = Some (codes "workers"); value_names = 1; parser = Some (Unsigned fewest_workers most_workers) }
+
+-- `run PROGRAM PLACE TABLE [--main NAME] [--workers W]`
+abbrev pub run : App
+run =
+    with_rule (with_rule (with_rule (with_rule (with_rule (new_app (codes "run")) main_rule) workers_rule)
+    (path_rule (codes "PROGRAM"))) (path_rule (codes "PLACE"))) (path_rule (codes "TABLE"))
 
 -- `lusdist` and one of its commands, or `lusdist --version`
 abbrev pub lusdist : App
 lusdist =
     let top = on_top (λ top. record top { has_version = true; subcommand_required = true }) (new_app (codes "lusdist")) in
-    with_subcommand (with_subcommand (with_subcommand (with_subcommand top check.top) eval.top) plan.top) replay.top
+    with_subcommand (with_subcommand (with_subcommand (with_subcommand (with_subcommand top check.top) eval.top) plan.top) replay.top) run.top

@@ -1,6 +1,8 @@
 -- What a command line asks for.
-use Rattle.std.specs.Prelude.{◌≡◌, ◌⊎◌, Bool, List, [], codes, unwrap_or, Option, Some, if◌then◌else◌}
+use Rattle.std.specs.Prelude.{◌≡◌, ◌⊎◌, ◌≤◌, ℕ, Bool, IfSome, List, [], codes, unwrap_or, Option, Some, None, if◌then◌else◌}
 use Rattle.std.specs.Str.{bytes_eq}
+use Rattle.std.specs.Str.Parse.{digits_value, without_leading_plus}
+use Rattle.clap.specs.Values.{IsUnsignedIn}
 use Rattle.clap.specs.Walk.{Row, Text, first_of}
 use Rattle.clap.specs.Simple.{subcommand_of}
 use Rattle.lusdist_shell.specs.declared.request.CheckRequest.{CheckRequest}
@@ -9,9 +11,10 @@ use Rattle.lusdist_shell.specs.declared.request.PlanForm.{PlanForm}
 use Rattle.lusdist_shell.specs.declared.request.PlanForm.TheVariants.{Report, Table, Graph}
 use Rattle.lusdist_shell.specs.declared.request.PlanRequest.{PlanRequest}
 use Rattle.lusdist_shell.specs.declared.request.ReplayRequest.{ReplayRequest}
+use Rattle.lusdist_shell.specs.declared.request.RunRequest.{RunRequest}
 use Rattle.lusdist_shell.specs.declared.request.Request.{Request}
-use Rattle.lusdist_shell.specs.declared.request.Request.TheVariants.{Check, Eval, Plan, Replay}
-use Rattle.lusdist_shell.specs.CommandLine.{lusdist}
+use Rattle.lusdist_shell.specs.declared.request.Request.TheVariants.{Check, Eval, Plan, Replay, Run}
+use Rattle.lusdist_shell.specs.CommandLine.{fewest_workers, most_workers, lusdist}
 
 -- the text that the matches of a command hold for an argument
 abbrev pub text_in : List Row → Text → Text
@@ -25,11 +28,21 @@ is_given matches flag = bytes_eq (text_in matches flag) (codes "true")
 abbrev pub form_in : List Row → PlanForm
 form_in matches = if is_given matches (codes "dot") then Graph else (if is_given matches (codes "text") then Table else Report)
 
--- there is a command, and it is `check`, `eval`, `plan` or `replay`
+-- The number of workers that the text for them spells, in decimal; there is none where there is no text. The command line takes
+-- no other text than that of a number from 1 to 16.
+abbrev pub AreWorkersIn : Option Text → Option ℕ → Type 0
+AreWorkersIn None workers = workers ≡ None
+AreWorkersIn (Some text) workers = IsUnsignedIn fewest_workers most_workers text → workers ≡ Some (digits_value 10 (without_leading_plus text))
+
+-- where there is a number of workers, it is one from 1 to 16
+abbrev pub AreFew : Option ℕ → Type 0
+AreFew workers = IfSome workers (λ n. (fewest_workers ≤ n) × (n ≤ most_workers))
+
+-- there is a command, and it is `check`, `eval`, `plan`, `replay` or `run`
 pub record IsCommand (command : Option (Text × List Row)) : Type 0 where
   pub found : Text × List Row
   pub is : command ≡ Some found
-  pub named : (found.0 ≡ codes "check") ⊎ ((found.0 ≡ codes "eval") ⊎ ((found.0 ≡ codes "plan") ⊎ (found.0 ≡ codes "replay")))
+  pub named : (found.0 ≡ codes "check") ⊎ ((found.0 ≡ codes "eval") ⊎ ((found.0 ≡ codes "plan") ⊎ ((found.0 ≡ codes "replay") ⊎ (found.0 ≡ codes "run"))))
 
 -- The command is `check`, and the request is what its matches hold, argument by argument.
 pub record IsCheckIn (command : Option (Text × List Row)) (request : CheckRequest) : Type 0 where
@@ -65,6 +78,18 @@ pub record IsReplayIn (command : Option (Text × List Row)) (request : ReplayReq
   pub table : request.table.now ≡ text_in matches (codes "TABLE")
   pub schedule : request.schedule.now ≡ text_in matches (codes "SCHEDULE")
   pub finish : request.finish ≡ is_given matches (codes "finish")
+  pub trace : request.trace ≡ is_given matches (codes "trace")
+
+-- The command is `run`, and the request is what its matches hold, argument by argument.
+pub record IsRunIn (command : Option (Text × List Row)) (request : RunRequest) : Type 0 where
+  pub matches : List Row
+  pub named : command ≡ Some (codes "run", matches)
+  pub main : request.main.now ≡ text_in matches (codes "main")
+  pub program : request.program.now ≡ text_in matches (codes "PROGRAM")
+  pub place : request.place.now ≡ text_in matches (codes "PLACE")
+  pub table : request.table.now ≡ text_in matches (codes "TABLE")
+  pub workers : AreWorkersIn (first_of (codes "workers") matches) request.workers
+  pub few : AreFew request.workers
 
 -- the request is for the command, with what its matches hold
 abbrev pub IsFoundIn : Option (Text × List Row) → Request → Type 0
@@ -72,6 +97,12 @@ IsFoundIn command (Check request) = IsCheckIn command request
 IsFoundIn command (Eval request) = IsEvalIn command request
 IsFoundIn command (Plan request) = IsPlanIn command request
 IsFoundIn command (Replay request) = IsReplayIn command request
+IsFoundIn command (Run request) = IsRunIn command request
+
+-- where the request is for a run, its workers are from 1 to 16
+abbrev pub HasFewWorkers : Request → Type 0
+HasFewWorkers (Run request) = AreFew request.workers
+HasFewWorkers _ = Unit {0}
 
 -- The request is for the command that the words name, with what they give its arguments.
 abbrev pub IsAskedBy : List Text → Request → Type 0

@@ -4,20 +4,28 @@ ghost use Rattle.std.specs.Prelude.{◌≡◌, IfOk, false, codes};
 ghost use Rattle.clap.specs.Words.{rule_of, app_of};
 ghost use Rattle.clap.specs.Simple.{new_app};
 ghost use Rattle.clap.specs.declared.builder.command.Command.TheViews.{out-Command};
-ghost use Rattle.lusdist_shell.specs.CommandLine.{path_rule, main_rule, flag_rule, check, eval, plan, replay, lusdist};
+ghost use Rattle.lusdist_shell.specs.CommandLine.{path_rule, main_rule, flag_rule, workers_rule, check, eval, plan, replay, run, lusdist};
 
+use clap::builder::ValueParser;
 use clap::{Arg, ArgAction, Command};
 use std::alloc::{AllocError, Global};
 
 /// The version that `--version` prints.
 const VERSION: &str = "0.1.0";
 
+/// The fewest workers that may serve the sites.
+const FEWEST_WORKERS: u64 = 1;
+
+/// The most workers that may serve the sites.
+const MOST_WORKERS: u64 = 16;
+
 /// What the exit statuses mean, which stands at the end of each help.
 const STATUSES: &str = "Exit status:
   0  the answer is printed; where a site of a replay faulted, the answer says so
   1  a text is refused
   2  a mistake on the command line, or a file that can't be read
-  3  a fault of an evaluation, memory ran out, or the output can't be written";
+  3  a fault of an evaluation or a run, memory ran out, a thread can't be started,
+     or the output can't be written";
 
 /// A path that must be given.
 fn path<'a>(alloc: Global, name: &'a str, help: &'a str) -> Arg<'a>
@@ -133,6 +141,30 @@ fn finish_flag<'a>(alloc: Global) -> Arg<'a>
     )
 }
 
+/// Whether a replay tells what each turn did.
+fn trace_flag<'a>(alloc: Global) -> Arg<'a>
+    ensures rule { rule_of result ≡ flag_rule (codes "trace") }
+    ensures local { result.global ≡ false }
+{
+    flag(
+        alloc,
+        "trace",
+        "Tells on the error stream what each turn did that moved, a line each",
+    )
+}
+
+/// How many threads serve the sites.
+fn workers<'a>(alloc: Global) -> Arg<'a>
+    ensures rule { rule_of result ≡ workers_rule }
+    ensures local { result.global ≡ false }
+{
+    Arg::new(alloc, "workers")
+        .long("workers")
+        .value_name("W")
+        .value_parser(ValueParser::Unsigned(FEWEST_WORKERS, MOST_WORKERS))
+        .help("How many threads serve the sites, 1 to 16; without it each site has its own")
+}
+
 /// A command with no arguments yet.
 fn named<'a>(alloc: Global, name: &'a str, about: &'a str) -> Command<'a>
     ensures app { app_of result ≡ new_app name.entry.now }
@@ -185,10 +217,24 @@ fn replay<'a>(alloc: Global) -> Result<Command<'a>, AllocError>
     named(alloc, "replay", about)
         .arg(main_name(alloc))?
         .arg(finish_flag(alloc))?
+        .arg(trace_flag(alloc))?
         .arg(program(alloc))?
         .arg(place(alloc))?
         .arg(table(alloc))?
         .arg(schedule(alloc))
+}
+
+fn run<'a>(alloc: Global) -> Result<Command<'a>, AllocError>
+    ensures app { IfOk result (λ c. app_of c ≡ run) }
+    ensures local { IfOk result (λ c. (out-Command c).has_globals ≡ false) }
+{
+    let about = "Runs a program at several sites, on threads, and prints the table of its outputs";
+    named(alloc, "run", about)
+        .arg(main_name(alloc))?
+        .arg(workers(alloc))?
+        .arg(program(alloc))?
+        .arg(place(alloc))?
+        .arg(table(alloc))
 }
 
 /// The whole command line. Help calls the program `lusdist`, whatever its file is called.
@@ -199,6 +245,7 @@ pub fn lusdist<'a>(alloc: Global) -> Result<Command<'a>, AllocError>
     let eval = eval(alloc)?;
     let plan = plan(alloc)?;
     let replay = replay(alloc)?;
+    let run = run(alloc)?;
     named(
         alloc,
         "lusdist",
@@ -210,5 +257,6 @@ pub fn lusdist<'a>(alloc: Global) -> Result<Command<'a>, AllocError>
     .subcommand(check)?
     .subcommand(eval)?
     .subcommand(plan)?
-    .subcommand(replay)
+    .subcommand(replay)?
+    .subcommand(run)
 }

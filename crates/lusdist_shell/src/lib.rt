@@ -17,9 +17,9 @@ mod sink;
 mod text;
 
 pub use files::{Files, ReadError, RealFiles};
-pub use put::{put_mistake, put_out, put_unread};
+pub use put::{put_mistake, put_notes, put_out, put_unread};
 pub use request::{
-    CheckRequest, EvalRequest, PlanForm, PlanRequest, ReplayRequest, Request, parse,
+    CheckRequest, EvalRequest, PlanForm, PlanRequest, ReplayRequest, Request, RunRequest, parse,
 };
 pub use schedule::{ScheduleError, read_schedule};
 pub use sink::Sink;

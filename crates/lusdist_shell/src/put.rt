@@ -1,11 +1,11 @@
 //! Writing to the output and to the error stream.
 
-ghost use Rattle.std.specs.Prelude.{◌≡◌, ◌≢◌, ◌⊎◌, false, true, codes};
+ghost use Rattle.std.specs.Prelude.{◌≡◌, ◌≢◌, ◌⊎◌, [], false, true, codes};
 ghost use Rattle.std.specs.Io.KnownBytes.{Appends};
 ghost use Rattle.clap.specs.Words.{kind_of};
 ghost use Rattle.clap.specs.declared.error.kind.ErrorKind.TheVariants.{OutOfMemory, DisplayHelp, DisplayVersion};
 ghost use Rattle.std.specs.declared.io.ErrorKind.TheVariants.{OutOfMemory as NoMemory};
-ghost use Rattle.lusdist_shell.specs.Sinks.{HasLine, HasBeginning};
+ghost use Rattle.lusdist_shell.specs.Sinks.{HasPut, HasLine, HasBeginning};
 
 use crate::sink::Sink;
 use clap::error::ErrorKind;
@@ -38,6 +38,16 @@ pub fn put_out<W: Write, V: Write>(out: &mut Sink<W>, err: &mut Sink<V>, bytes: 
 {
     out.put(bytes);
     written(out, err)
+}
+
+/// Writes notes to the error stream; nothing where there are none.
+pub fn put_notes<V: Write>(err: &mut Sink<V>, notes: &[u8])
+    ensures put { HasPut V.contents err.old err.new notes.now }
+    ensures silent { notes.now ≡ [] → err.new ≡ err.old }
+{
+    if !notes.is_empty() {
+        err.put(notes);
+    }
 }
 
 /// Tells on the error stream why the words of the command line can't be read, and answers the program's status: 3 for want

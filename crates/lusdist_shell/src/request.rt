@@ -1,10 +1,10 @@
 //! What the command line asks for.
 
-ghost use Rattle.std.specs.Prelude.{◌≡◌, IfOk, IfErr, map, true, string_bytes, codes, Some};
-ghost use Rattle.clap.specs.Words.{kind_of, takes, found_of, rows_of, subcommand_of, subcommand_rows_of, FailsBy, fault_of};
+ghost use Rattle.std.specs.Prelude.{◌≡◌, IfOk, IfErr, map, option_map, true, string_bytes, codes, Some};
+ghost use Rattle.clap.specs.Words.{kind_of, takes, found_of, first_of, rows_of, subcommand_of, subcommand_rows_of, FailsBy, fault_of};
 ghost use Rattle.clap.specs.declared.error.kind.ErrorKind.TheVariants.{OutOfMemory};
 ghost use Rattle.lusdist_shell.specs.CommandLine.{lusdist};
-ghost use Rattle.lusdist_shell.specs.Request.{text_in, is_given, form_in, IsCommand, IsCheckIn, IsEvalIn, IsPlanIn, IsReplayIn, IsFoundIn, IsAskedBy};
+ghost use Rattle.lusdist_shell.specs.Request.{text_in, is_given, form_in, IsCommand, IsCheckIn, IsEvalIn, IsPlanIn, IsReplayIn, IsRunIn, AreWorkersIn, AreFew, HasFewWorkers, IsFoundIn, IsAskedBy};
 
 use crate::command::lusdist;
 use clap::{ArgMatches, Error};
@@ -69,6 +69,23 @@ pub struct ReplayRequest<'a> {
     pub schedule: &'a str,
     /// Whether it goes on after the schedule until no turn moves.
     pub finish: bool,
+    /// Whether each turn that moves is told on the error stream.
+    pub trace: bool,
+}
+
+/// What a run is asked of.
+#[derive(Clone, Copy, Debug, PartialEq, Eq)]
+pub struct RunRequest<'a> {
+    /// The name of the main node.
+    pub main: &'a str,
+    /// The path of the program.
+    pub program: &'a str,
+    /// The path of the placement.
+    pub place: &'a str,
+    /// The path of the input table.
+    pub table: &'a str,
+    /// How many threads serve the sites, 1 to 16; where there is none, each site has a thread of its own.
+    pub workers: Option<u8>,
 }
 
 /// What the command line asks for.
@@ -82,6 +99,8 @@ pub enum Request<'a> {
     Plan(PlanRequest<'a>),
     /// A replay of these files.
     Replay(ReplayRequest<'a>),
+    /// A run of these files on threads.
+    Run(RunRequest<'a>),
 }
 
 /// The text of an argument, which is empty where it has none.
@@ -158,19 +177,59 @@ fn replay_in<'a>(matches: &ArgMatches<'a>) -> ReplayRequest<'a>
         table: text(matches, "TABLE"),
         schedule: text(matches, "SCHEDULE"),
         finish: is_given(matches, "finish"),
+        trace: is_given(matches, "trace"),
+    }
+}
+
+/// The number of workers that a text spells.
+fn workers_of(text: Option<&str>) -> Option<u8>
+    ensures said { AreWorkersIn (option_map (λ s. s.now) text.entry) result }
+    ensures few { AreFew result }
+{
+    let Ok(workers) = text?.parse::<u8>() else {
+        return None;
+    };
+    if 1 <= workers && workers <= 16 {
+        Some(workers)
+    } else {
+        None
+    }
+}
+
+/// The number of workers, where it is given.
+fn workers_in<'a>(matches: &ArgMatches<'a>) -> Option<u8>
+    ensures said { AreWorkersIn (first_of (codes "workers") (rows_of (found_of matches.now)))
+        result }
+    ensures few { AreFew result }
+{
+    workers_of(matches.get_str("workers"))
+}
+
+/// What the matches of `run` ask for.
+fn run_in<'a>(matches: &ArgMatches<'a>) -> RunRequest<'a>
+    ensures { IsRunIn (Some (codes "run", rows_of (found_of matches.now))) result }
+{
+    RunRequest {
+        main: text(matches, "main"),
+        program: text(matches, "PROGRAM"),
+        place: text(matches, "PLACE"),
+        table: text(matches, "TABLE"),
+        workers: workers_in(matches),
     }
 }
 
 /// What the matches of the one command ask for.
 fn request_in<'a>(matches: &ArgMatches<'a>) -> Request<'a>
     requires { IsCommand (subcommand_rows_of matches.now) }
-    ensures { IsFoundIn (subcommand_rows_of matches.now) result }
+    ensures found { IsFoundIn (subcommand_rows_of matches.now) result }
+    ensures few { HasFewWorkers result }
 {
     match matches.subcommand() {
         Some((name, found)) if name == "check" => Request::Check(check_in(found)),
         Some((name, found)) if name == "eval" => Request::Eval(eval_in(found)),
         Some((name, found)) if name == "plan" => Request::Plan(plan_in(found)),
-        Some((_, found)) => Request::Replay(replay_in(found)),
+        Some((name, found)) if name == "replay" => Request::Replay(replay_in(found)),
+        Some((_, found)) => Request::Run(run_in(found)),
         None => unreachable!(),
     }
 }
@@ -191,6 +250,7 @@ fn matches_in<'a>(alloc: Global, words: &'a [String]) -> Result<ArgMatches<'a>, 
 /// shown by `put_mistake`.
 pub fn parse<'a>(alloc: Global, words: &'a [String]) -> Result<Request<'a>, Error>
     ensures asked { IfOk result (IsAskedBy (map string_bytes words.entry.now)) }
+    ensures few { IfOk result HasFewWorkers }
 
     // Words that the command line takes are refused for want of memory alone.
     ensures taken { IfErr result (λ e. takes lusdist (map string_bytes words.entry.now) ≡ true

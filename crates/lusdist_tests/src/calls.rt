@@ -5,7 +5,9 @@ use crate::shell::{Full, words};
 use lusdist_commands::serve_words;
 use lusdist_shell::{Files, ReadError, Sink};
 use std::alloc::{AllocError, Global};
+use std::sync::Wait;
 use std::test::Fail;
+use std::thread::Threads;
 
 /// The four files of two counters that feed each other, over three instants and four turns.
 #[derive(Drop)]
@@ -47,11 +49,17 @@ impl Files for NoMemory {
 }
 
 /// Whether a call whose output takes nothing answers 3 with this line.
-fn stops(alloc: Global, all: &[&str], files: &impl Files, line: &[u8]) -> Result<bool, AllocError> {
+fn stops<R: Threads + Wait + Sync>(
+    threads: &R,
+    alloc: Global,
+    all: &[&str],
+    files: &impl Files,
+    line: &[u8],
+) -> Result<bool, AllocError> {
     let words = words(alloc, all)?;
     let mut out = Sink::new(Full);
     let mut err = Sink::new(Vec::new(alloc));
-    let status = serve_words(alloc, &words, files, &mut out, &mut err);
+    let status = serve_words(threads, alloc, &words, files, &mut out, &mut err);
     Ok(status == 3 && err.writer().as_slice() == line)
 }
 
@@ -62,13 +70,15 @@ const CALLS: &[&[&str]] = &[
     &["lusdist", "plan", "p.lus", "p.toml", "--text"],
     &["lusdist", "plan", "p.lus", "p.toml", "--dot"],
     &["lusdist", "replay", "p.lus", "p.toml", "t.csv", "s.txt"],
+    &["lusdist", "run", "p.lus", "p.toml", "t.csv"],
+    &["lusdist", "run", "p.lus", "p.toml", "t.csv", "--workers", "2"],
 ];
 
 #[test]
 fn output_that_cannot_be_written_and_files_without_memory(rt: HostRuntime) -> Result<(), Fail> {
     for all in CALLS {
-        let full = stops(rt.alloc(), *all, &Counters, b"F02 CannotWrite\n")?;
-        let no_memory = stops(rt.alloc(), *all, &NoMemory, b"R2 OutOfMemory\n")?;
+        let full = stops(&rt, rt.alloc(), *all, &Counters, b"F02 CannotWrite\n")?;
+        let no_memory = stops(&rt, rt.alloc(), *all, &NoMemory, b"R2 OutOfMemory\n")?;
         assert!(rt; full && no_memory, "{all:?}");
     }
     Ok(())

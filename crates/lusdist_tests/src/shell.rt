@@ -6,7 +6,8 @@ ghost use Rattle.lusdist_tests.specs.Files.{file_at};
 use clap::error::ErrorKind;
 use lusdist_shell::{
     CheckRequest, EvalRequest, Files, PlanForm, PlanRequest, ReadError, RealFiles, ReplayRequest,
-    Request, ScheduleError, Sink, parse, put_mistake, put_out, put_unread, read_schedule, text_of,
+    Request, RunRequest, ScheduleError, Sink, parse, put_mistake, put_out, put_unread,
+    read_schedule, text_of,
 };
 use std::alloc::{AllocError, Global};
 use std::io;
@@ -169,6 +170,36 @@ fn replay_is_asked_for(rt: HostRuntime) -> Result<(), Fail> {
             table: "c",
             schedule: "d",
             finish: false,
+            trace: false,
+        });
+        assert!(rt; is_asked(rt.alloc(), *all, want)?, "{all:?}");
+    }
+    Ok(())
+}
+
+const RUNS: &[(&[&str], &str, Option<u8>)] = &[
+    (&["lusdist", "run", "a", "b", "c"], "main", None),
+    (
+        &["lusdist", "run", "a", "b", "c", "--workers", "1"],
+        "main",
+        Some(1),
+    ),
+    (
+        &["lusdist", "run", "--workers=16", "a", "--main", "top", "b", "c"],
+        "top",
+        Some(16),
+    ),
+];
+
+#[test]
+fn run_is_asked_for(rt: HostRuntime) -> Result<(), Fail> {
+    for (all, main, workers) in RUNS {
+        let want = Request::Run(RunRequest {
+            main: *main,
+            program: "a",
+            place: "b",
+            table: "c",
+            workers: *workers,
         });
         assert!(rt; is_asked(rt.alloc(), *all, want)?, "{all:?}");
     }

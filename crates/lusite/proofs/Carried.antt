@@ -62,7 +62,7 @@ module _ (plan : Distribution) where
   from_home ok l k e = each_at FromHome plan.links (subst (Each FromHome) (sym ok.links_are) (all_home (range_with_len 0 (length plan.flat.variables)))) l k e
 
 -- two tests that agree on a range leave the same of it
-filter_same : (p q : ℕ → Bool) (a n : ℕ) → ((k : ℕ) → a ≤ k → k < a + n → p k ≡ q k) → filter p (range_with_len a n) ≡ filter q (range_with_len a n)
+pub filter_same : (p q : ℕ → Bool) (a n : ℕ) → ((k : ℕ) → a ≤ k → k < a + n → p k ≡ q k) → filter p (range_with_len a n) ≡ filter q (range_with_len a n)
 filter_same p q a zero h = refl
 filter_same p q a (suc n) h =
     ap₂ (λ b xs. cond b (a ∷ xs) xs) (h a (omega arith) (omega arith)) (filter_same p q (a + 1) n (λ k le lt. h k (omega arith) (omega arith)))

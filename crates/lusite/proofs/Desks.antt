@@ -1,11 +1,11 @@
 -- The same, for the desk of a site.
-use Rattle.std.proofs.Common.{inl, inr, ◌≡◌, ℕ, ◌+◌, ◌<◌, ◌≤◌, Bool, false, List, length, set, Some, sym, ap, ap₂, ◌∙◌, subst, arith}
+use Rattle.std.proofs.Common.{inl, inr, ◌≡◌, ℕ, ◌+◌, ◌<◌, ◌≤◌, Bool, true, false, List, length, set, Some, sym, ap, ap₂, ◌∙◌, subst, arith}
 use Rattle.std.specs.Prelude.{slice_get, slice_index, All}
 use Rattle.std.proofs.lemmas.Bool.{cases_lt}
 use Rattle.luflow.specs.declared.data.Status.{Status}
 use Rattle.luflow.specs.declared.data.Status.TheVariants.{Absent}
 use Rattle.luworld.specs.Needs.{Distribution}
-use Rattle.luworld.specs.Runs.{streams_of, cell, items_before}
+use Rattle.luworld.specs.Runs.{streams_of, knows, cell, items_before}
 use Rattle.lueval.specs.declared.kernel.Past.{Past}
 use Rattle.lusite.specs.declared.desk.Desk.{Desk}
 use Rattle.lueval.specs.Frames.{later}
@@ -13,18 +13,18 @@ use Rattle.std.specs.Prelude.{unwrap_or}
 use Rattle.luflow.specs.Program.{flow_at, flows_of}
 use Rattle.luplace.proofs.OwnColumns.{map_range}
 use Rattle.lusite.specs.Programs.{SitePlan, part_of, part_at, no_part}
-use Rattle.lusite.specs.Machine.{is_faulted, Stands, StandsAt, IsSet, IsReadyAt, Ready, cell_size, cell_size_of, done_of}
+use Rattle.lusite.specs.Machine.{is_faulted, Stands, StandsAt, IsSet, IsReadyAt, Ready, cell_size, cell_size_of, done_of, shown_of, pasts_of}
 use Rattle.lusite.proofs.Machine.{there, stands_pass, stands_tick, size_here}
 
 -- the facts of a desk that goes on, about its job
 pub record Going (a : Desk) : Type 0 where
   pub set : IsSet a
-  pub stands : Stands a.inputs.job a.inputs.site a.shown.items a.pasts.items a.instant a.place a.step false
+  pub stands : Stands a.inputs.job a.inputs.site (shown_of a) (pasts_of a) a.instant a.place a.step false
   pub goes : (is_faulted a) ≡ false
 
 pub going : (a : Desk) → IsSet a → StandsAt a → (is_faulted a) ≡ false → Going a
 going a set st go =
-    record { set = set; stands = subst (λ (b : Bool). Stands a.inputs.job a.inputs.site a.shown.items a.pasts.items a.instant a.place a.step b) go st; goes = go }
+    record { set = set; stands = subst (λ (b : Bool). Stands a.inputs.job a.inputs.site (shown_of a) (pasts_of a) a.instant a.place a.step b) go st; goes = go }
 
 -- a site's part in a flow of its plan
 pub part_there : (p : SitePlan) (i : ℕ) → i < flows_of p.plan.flat → part_at p i ≡ part_of p.plan p.site i
@@ -52,28 +52,28 @@ size_desk a g lp =
     let lp' = place_in_job a g.set lp in
     let i = slice_index a.inputs.job.plan.flat.order a.place in
     ap (cell_size a) (flow_same a g.set)
-    ∙ ap₂ (λ part flow. cell_size_of part flow a.inputs.job.inputs.instants a.instant a.shown.items) (part_here a i g.set (here_in a g.set lp')) (ap (λ (q : Distribution). flow_at q.flat i) g.set.plan_is)
-    ∙ size_here a.inputs.job a.inputs.site g.set.is_job a.shown.items a.pasts.items a.instant a.place a.step g.stands lp'
+    ∙ ap₂ (λ part flow. cell_size_of part flow a.inputs.job.inputs.instants a.instant (shown_of a)) (part_here a i g.set (here_in a g.set lp')) (ap (λ (q : Distribution). flow_at q.flat i) g.set.plan_is)
+    ∙ size_here a.inputs.job a.inputs.site g.set.is_job (shown_of a) (pasts_of a) a.instant a.place a.step g.stands lp'
 
-pub pass_desk : (a : Desk) (now' : List Status) → Going a → a.place < length a.program.plan.flat.order → a.step ≡ cell_size a (slice_index a.program.plan.flat.order a.place) → (a.step ≡ 0 → now' ≡ set a.shown.items (slice_index a.program.plan.flat.order a.place) Absent) → (0 < a.step → now' ≡ a.shown.items) → Stands a.inputs.job a.inputs.site now' a.pasts.items a.instant (a.place + 1) 0 (is_faulted a) × (items_before a.inputs.job (streams_of a.inputs.job) a.inputs.site a.instant (a.place + 1) 0 ≡ done_of a)
+pub pass_desk : (a : Desk) (now' : List Status) → Going a → a.place < length a.program.plan.flat.order → a.step ≡ cell_size a (slice_index a.program.plan.flat.order a.place) → (a.step ≡ 0 → now' ≡ set (shown_of a) (slice_index a.program.plan.flat.order a.place) Absent) → (0 < a.step → now' ≡ (shown_of a)) → Stands a.inputs.job a.inputs.site now' (pasts_of a) a.instant (a.place + 1) 0 (is_faulted a) × (items_before a.inputs.job (streams_of a.inputs.job) a.inputs.site a.instant (a.place + 1) 0 ≡ done_of a)
 pass_desk a now' g lp all cleared left =
     let lp' = subst (λ (q : Distribution). a.place < length q.flat.order) g.set.plan_is lp in
-    let r = stands_pass a.inputs.job a.inputs.site g.set.is_job a.shown.items now' a.pasts.items a.instant a.place a.step g.stands lp' (all ∙ size_desk a g lp) (λ e. cleared e ∙ ap (λ (q : Distribution). set a.shown.items (slice_index q.flat.order a.place) Absent) g.set.plan_is) left in
-    (subst (λ (b : Bool). Stands a.inputs.job a.inputs.site now' a.pasts.items a.instant (a.place + 1) 0 b) (sym g.goes) r.0, r.1)
+    let r = stands_pass a.inputs.job a.inputs.site g.set.is_job (shown_of a) now' (pasts_of a) a.instant a.place a.step g.stands lp' (all ∙ size_desk a g lp) (λ e. cleared e ∙ ap (λ (q : Distribution). set (shown_of a) (slice_index q.flat.order a.place) Absent) g.set.plan_is) left in
+    (subst (λ (b : Bool). Stands a.inputs.job a.inputs.site now' (pasts_of a) a.instant (a.place + 1) 0 b) (sym g.goes) r.0, r.1)
 
 -- past the last flow no item is done
 pub no_step : (a : Desk) → Going a → a.place ≡ length a.inputs.job.plan.flat.order → a.step ≡ 0
 no_step a g end = elim (cases_lt 0 a.step) [ inl l ↦ let w = (g.stands.step_le l).0 in absurd (omega arith) | inr l ↦ omega arith ]
 
-pub tick_desk : (a : Desk) (pasts' : List Past) → Going a → a.place ≡ length a.program.plan.flat.order → a.instant < a.inputs.job.inputs.instants → length pasts' ≡ length a.pasts.items → ((i : ℕ) (x : Status) (y : Past) → slice_get a.shown.items i ≡ Some x → slice_get a.pasts.items i ≡ Some y → slice_get pasts' i ≡ Some (later x y)) → All (λ x. x.count ≤ a.instant + 1) pasts' → Stands a.inputs.job a.inputs.site a.shown.items pasts' (a.instant + 1) 0 0 (is_faulted a) × (items_before a.inputs.job (streams_of a.inputs.job) a.inputs.site (a.instant + 1) 0 0 ≡ done_of a)
+pub tick_desk : (a : Desk) (pasts' : List Past) → Going a → a.place ≡ length a.program.plan.flat.order → a.instant < a.inputs.job.inputs.instants → length pasts' ≡ length (pasts_of a) → ((i : ℕ) → i < flows_of a.inputs.job.plan.flat → knows a.inputs.job.plan a.inputs.site i ≡ true → (x : Status) (y : Past) → slice_get (shown_of a) i ≡ Some x → slice_get (pasts_of a) i ≡ Some y → slice_get pasts' i ≡ Some (later x y)) → All (λ x. x.count ≤ a.instant + 1) pasts' → Stands a.inputs.job a.inputs.site (shown_of a) pasts' (a.instant + 1) 0 0 (is_faulted a) × (items_before a.inputs.job (streams_of a.inputs.job) a.inputs.site (a.instant + 1) 0 0 ≡ done_of a)
 tick_desk a pasts' g end lt len each counts =
     let σ = streams_of a.inputs.job in
     let end' = end ∙ ap (λ (q : Distribution). length q.flat.order) g.set.plan_is in
     let step = no_step a g end' in
     let lt' : a.instant < a.inputs.job.inputs.instants = lt in
-    let st = subst (λ (p : ℕ). Stands a.inputs.job a.inputs.site a.shown.items a.pasts.items a.instant p 0 false) end' (subst (λ (j : ℕ). Stands a.inputs.job a.inputs.site a.shown.items a.pasts.items a.instant a.place j false) step g.stands) in
-    let r = stands_tick a.inputs.job a.inputs.site g.set.is_job a.shown.items a.pasts.items pasts' a.instant st lt' len each counts in
-    (subst (λ (b : Bool). Stands a.inputs.job a.inputs.site a.shown.items pasts' (a.instant + 1) 0 0 b) (sym g.goes) r.0, r.1 ∙ ap₂ (items_before a.inputs.job σ a.inputs.site a.instant) (sym end') (sym step))
+    let st = subst (λ (p : ℕ). Stands a.inputs.job a.inputs.site (shown_of a) (pasts_of a) a.instant p 0 false) end' (subst (λ (j : ℕ). Stands a.inputs.job a.inputs.site (shown_of a) (pasts_of a) a.instant a.place j false) step g.stands) in
+    let r = stands_tick a.inputs.job a.inputs.site g.set.is_job (shown_of a) (pasts_of a) pasts' a.instant st lt' len each counts in
+    (subst (λ (b : Bool). Stands a.inputs.job a.inputs.site (shown_of a) pasts' (a.instant + 1) 0 0 b) (sym g.goes) r.0, r.1 ∙ ap₂ (items_before a.inputs.job σ a.inputs.site a.instant) (sym end') (sym step))
 
 pub ready_desk : (a : Desk) → Going a → a.place < length a.program.plan.flat.order → a.step < cell_size a (slice_index a.program.plan.flat.order a.place) → IsReadyAt a
 ready_desk a g lp l =

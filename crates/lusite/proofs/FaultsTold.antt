@@ -6,7 +6,7 @@ use Rattle.luworld.proofs.Outlines.{bool_cases}
 use Rattle.luflow.proofs.Solutions.{some_at}
 use Rattle.luworld.specs.Runs.{streams_of, cell, script, HasNoStop}
 use Rattle.lusite.specs.declared.desk.Desk.{Desk}
-use Rattle.lusite.specs.Machine.{is_faulted, Stands, IsSet, StandsAt, IsReadyAt, Ready, Over, done_of}
+use Rattle.lusite.specs.Machine.{is_faulted, Stands, IsSet, StandsAt, IsReadyAt, Ready, Over, done_of, shown_of, pasts_of}
 use Rattle.lusite.proofs.Machine.{ended}
 use Rattle.lusite.proofs.Desks.{Going, going}
 use Rattle.lusite.proofs.Offers.{Here, hand_next}
@@ -21,8 +21,8 @@ free_end a g (Ready lp lj) n =
     absurd (omega (arith, l, n))
 free_end a g (Over et ep ej) n =
     let job = a.inputs.job in
-    let st = subst (λ (j : ℕ). Stands job a.inputs.site a.shown.items a.pasts.items job.inputs.instants (length job.plan.flat.order) j false) ej (subst (λ (p : ℕ). Stands job a.inputs.site a.shown.items a.pasts.items job.inputs.instants p a.step false) ep (subst (λ (t : ℕ). Stands job a.inputs.site a.shown.items a.pasts.items t a.place a.step false) et g.stands)) in
-    (ended job a.inputs.site g.set.is_job a.shown.items a.pasts.items st).1
+    let st = subst (λ (j : ℕ). Stands job a.inputs.site (shown_of a) (pasts_of a) job.inputs.instants (length job.plan.flat.order) j false) ej (subst (λ (p : ℕ). Stands job a.inputs.site (shown_of a) (pasts_of a) job.inputs.instants p a.step false) ep (subst (λ (t : ℕ). Stands job a.inputs.site (shown_of a) (pasts_of a) t a.place a.step false) et g.stands)) in
+    (ended job a.inputs.site g.set.is_job (shown_of a) (pasts_of a) st).1
 
 pub told_stopped : (a : Desk) → StandsAt a → IsSome a.fault → (done_of a ≡ length (script a.inputs.job (streams_of a.inputs.job) a.inputs.site)) × (HasNoStop a.inputs.job a.inputs.site → ⊥)
 told_stopped a st some = st.stopped some

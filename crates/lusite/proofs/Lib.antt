@@ -10,3 +10,9 @@ pub mod Ranges
 pub mod Passed
 pub mod Carried
 pub mod Widths
+pub mod Sifted
+pub mod Skips
+pub mod Moves
+pub mod Held
+pub mod Posts
+pub mod Counting

@@ -233,7 +233,7 @@ module _ (job : Run) (s : ℕ) (ij : IsJob job) where
         n,
       )
 
-  past_after : (now : List Status) (pasts pasts' : List Past) (t : ℕ) → Stands job s now pasts t (length job.plan.flat.order) 0 false → t < job.inputs.instants → ((i : ℕ) (x : Status) (y : Past) → slice_get now i ≡ Some x → slice_get pasts i ≡ Some y → slice_get pasts' i ≡ Some (later x y)) → (i : ℕ) → i < flows_of job.plan.flat → knows job.plan s i ≡ true → IsPast job.plan.flat job.inputs (streams_of job) pasts' (suc t) i
+  past_after : (now : List Status) (pasts pasts' : List Past) (t : ℕ) → Stands job s now pasts t (length job.plan.flat.order) 0 false → t < job.inputs.instants → ((i : ℕ) → i < flows_of job.plan.flat → knows job.plan s i ≡ true → (x : Status) (y : Past) → slice_get now i ≡ Some x → slice_get pasts i ≡ Some y → slice_get pasts' i ≡ Some (later x y)) → (i : ℕ) → i < flows_of job.plan.flat → knows job.plan s i ≡ true → IsPast job.plan.flat job.inputs (streams_of job) pasts' (suc t) i
   past_after now pasts pasts' t st lt each i li known =
       let order = job.plan.flat.order in
       let w = place_in order i (ij.is_plan.ordered.all_flows i li) in
@@ -245,14 +245,14 @@ module _ (job : Run) (s : ℕ) (ij : IsJob job) where
       let clock = ap (λ o. clock_of_flow job.inputs (streams_of job) o t) is in
       record {
         past = later sh.status old.past;
-        there = each i sh.status old.past sh.there old.there;
+        there = each i li known sh.status old.past sh.there old.there;
         last = last_later (streams_of job i t) sh.status (before (streams_of job i) t) old.past sh.is old.last;
         ticks = tick_later (clock_of_flow job.inputs (streams_of job) (flow_at job.plan.flat i) t) (ticked (clock_of_flow job.inputs (streams_of job) (flow_at job.plan.flat i)) t) (value_at job.inputs (streams_of job) f.0.clock f.0.form t) (streams_of job i t) sh.status old.past sh.is (e ∙ ap (λ c. under c (value_at job.inputs (streams_of job) f.0.clock f.0.form t)) (sym clock)) old.ticks;
         count = count_later (streams_of job i t) sh.status (presents (streams_of job i) t) old.past sh.is old.count;
       }
 
   -- from the last flow of an instant to the next instant
-  pub stands_tick : (now : List Status) (pasts pasts' : List Past) (t : ℕ) → Stands job s now pasts t (length job.plan.flat.order) 0 false → t < job.inputs.instants → length pasts' ≡ length pasts → ((i : ℕ) (x : Status) (y : Past) → slice_get now i ≡ Some x → slice_get pasts i ≡ Some y → slice_get pasts' i ≡ Some (later x y)) → All (λ x. x.count ≤ t + 1) pasts' → Stands job s now pasts' (t + 1) 0 0 false × (items_before job (streams_of job) s (t + 1) 0 0 ≡ items_before job (streams_of job) s t (length job.plan.flat.order) 0)
+  pub stands_tick : (now : List Status) (pasts pasts' : List Past) (t : ℕ) → Stands job s now pasts t (length job.plan.flat.order) 0 false → t < job.inputs.instants → length pasts' ≡ length pasts → ((i : ℕ) → i < flows_of job.plan.flat → knows job.plan s i ≡ true → (x : Status) (y : Past) → slice_get now i ≡ Some x → slice_get pasts i ≡ Some y → slice_get pasts' i ≡ Some (later x y)) → All (λ x. x.count ≤ t + 1) pasts' → Stands job s now pasts' (t + 1) 0 0 false × (items_before job (streams_of job) s (t + 1) 0 0 ≡ items_before job (streams_of job) s t (length job.plan.flat.order) 0)
   stands_tick now pasts pasts' t st lt len each counts =
       let n = before_next_instant job (streams_of job) s t in (
         record {

@@ -39,7 +39,7 @@ use Rattle.lusite.specs.declared.next.Next.{Next}
 use Rattle.lusite.specs.declared.next.Next.TheVariants.{Local, Take, Put, Ended, Faulted}
 use Rattle.lusite.specs.declared.desk.Desk.{Desk}
 use Rattle.lusite.specs.Programs.{part_of}
-use Rattle.lusite.specs.Machine.{is_faulted, Stands, StandsAt, IsSet, IsReadyAt, Ready, Over, Computes, outcome_of, count_kept, datum_shown, offered_own, offered_part, offered_at, offered, done_of, IsNext}
+use Rattle.lusite.specs.Machine.{is_faulted, Stands, StandsAt, IsSet, IsReadyAt, Ready, Over, Computes, outcome_of, count_kept, datum_shown, offered_own, offered_part, offered_at, offered, done_of, IsNext, shown_of, pasts_of}
 use Rattle.lusite.proofs.Machine.{there, equation, reads_shown, next_item, ended, script_take}
 use Rattle.lusite.proofs.Desks.{Going, going, part_here, here_in}
 use Rattle.lusite.proofs.Told.{lt-false}
@@ -157,19 +157,19 @@ computed_is a i o g lp ei own lt open' c =
     let known_i = known_of_own job.plan a.inputs.site i own in
     let knows_clock = plan_ok.needs_clock a.inputs.site i f.0 is known_i in
     let first = all_left (λ r. Contains (take a.place job.plan.flat.order) r) (form_reads f.0.form) (clock_reads f.0.clock) (plan_ok.ordered.reads_first a.place f.0 lp f.1) in
-    let shown = reads_shown job a.inputs.site g.set.is_job a.shown.items t a.place (form_reads f.0.form) (g.stands.shown lt) (reads_places (λ r. knows job.plan a.inputs.site r ≡ true) f.0.form knows_ops) first in
+    let shown = reads_shown job a.inputs.site g.set.is_job (shown_of a) t a.place (form_reads f.0.form) (g.stands.shown lt) (reads_places (λ r. knows job.plan a.inputs.site r ≡ true) f.0.form knows_ops) first in
     let mine = g.stands.kept i li known_i in
     let past = λ (r : ℕ) (lr : r < flows_of job.plan.flat) (k : knows job.plan a.inputs.site r ≡ true). g.stands.kept r lr k in
-    let pasts_all : All (IsPast job.plan.flat job.inputs σ a.pasts.items t) (places f.0.form) = λ k d l. past (get_or (places f.0.form) k d) (plan_ok.ordered.places_in i f.0 is k d l) (knows_ops k d l) in
-    let clock_then : All (IsPast job.plan.flat job.inputs σ a.pasts.items t) (clock_reads f.0.clock) = λ k d l. past (get_or (clock_reads f.0.clock) k d) (plan_ok.ordered.clocks_in i f.0 is k d l) (knows_clock k d l) in
-    let holds : Holds job.plan.flat job.inputs σ f.0.clock f.0.form i t c.given a.shown.items a.pasts.items = record {
+    let pasts_all : All (IsPast job.plan.flat job.inputs σ (pasts_of a) t) (places f.0.form) = λ k d l. past (get_or (places f.0.form) k d) (plan_ok.ordered.places_in i f.0 is k d l) (knows_ops k d l) in
+    let clock_then : All (IsPast job.plan.flat job.inputs σ (pasts_of a) t) (clock_reads f.0.clock) = λ k d l. past (get_or (clock_reads f.0.clock) k d) (plan_ok.ordered.clocks_in i f.0 is k d l) (knows_clock k d l) in
+    let holds : Holds job.plan.flat job.inputs σ f.0.clock f.0.form i t c.given (shown_of a) (pasts_of a) = record {
       reads = shown;
       then = pasts_all;
-      was = ticked_there (slice_get a.pasts.items i) mine.past (ticked (clock_at job.inputs σ f.0.clock) t) mine.there (sym (ap (λ o. ticked (clock_of_flow job.inputs σ o) t) is) ∙ mine.ticks);
+      was = ticked_there (slice_get (pasts_of a) i) mine.past (ticked (clock_at job.inputs σ f.0.clock) t) mine.there (sym (ap (λ o. ticked (clock_of_flow job.inputs σ o) t) is) ∙ mine.ticks);
       input = λ k e. c.is_given k f.0 same e (subst (λ (n : ℕ). stands job.plan n a.inputs.site ≡ true) (sym (plan_ok.input_there i k f.0 is e)) own);
     } in
-    let v = value_read job.plan.flat job.inputs σ f.0.clock f.0.form i t c.given a.shown.items a.pasts.items holds in
-    let o_is : o ≡ value_of f.0.form (view_in c.given a.shown.items a.pasts.items i) = c.is ∙ ap (outcome_of c.given a.shown.items a.pasts.items i) same in
+    let v = value_read job.plan.flat job.inputs σ f.0.clock f.0.form i t c.given (shown_of a) (pasts_of a) holds in
+    let o_is : o ≡ value_of f.0.form (view_in c.given (shown_of a) (pasts_of a) i) = c.is ∙ ap (outcome_of c.given (shown_of a) (pasts_of a) i) same in
     let k = sym (ap (λ o. clock_of_flow job.inputs σ o t) is) ∙ open' in
     record {
       flow = f.0;
@@ -178,9 +178,9 @@ computed_is a i o g lp ei own lt open' c =
       clock = k;
       value = v ∙ sym o_is;
       unbroken = record {
-        now = All-weaker (IsShown σ a.shown.items t) (λ r. σ r t ≢ Broken) (λ r w. known_unbroken (σ r t) w.status w.is) (form_reads f.0.form) shown;
-        then = λ u lu. All-weaker (IsPast job.plan.flat job.inputs σ a.pasts.items t) (λ r. σ r u ≢ Broken) (λ r w. before_known (σ r) t w.past.last w.last u lu) (places f.0.form) pasts_all;
-        clock_then = λ u lu. All-weaker (IsPast job.plan.flat job.inputs σ a.pasts.items t) (λ r. σ r u ≢ Broken) (λ r w. before_known (σ r) t w.past.last w.last u lu) (clock_reads f.0.clock) clock_then;
+        now = All-weaker (IsShown σ (shown_of a) t) (λ r. σ r t ≢ Broken) (λ r w. known_unbroken (σ r t) w.status w.is) (form_reads f.0.form) shown;
+        then = λ u lu. All-weaker (IsPast job.plan.flat job.inputs σ (pasts_of a) t) (λ r. σ r u ≢ Broken) (λ r w. before_known (σ r) t w.past.last w.last u lu) (places f.0.form) pasts_all;
+        clock_then = λ u lu. All-weaker (IsPast job.plan.flat job.inputs σ (pasts_of a) t) (λ r. σ r u ≢ Broken) (λ r w. before_known (σ r) t w.past.last w.last u lu) (clock_reads f.0.clock) clock_then;
       };
       mark = equation job a.inputs.site g.set.is_job i t f.0 is li lt ∙ ap₂ under k (v ∙ sym o_is);
     }
@@ -253,7 +253,7 @@ pub record Here (a : Desk) : Type 0 where
   pub step_lt : a.step < length (cell a.inputs.job (streams_of a.inputs.job) a.inputs.site a.instant (slice_index a.inputs.job.plan.flat.order a.place))
 
 -- the datum of a flow that was computed or taken at this instant
-datum_here : (a : Desk) → (h : Here a) → a.instant < a.inputs.job.inputs.instants → 0 < a.step → clock_of_flow a.inputs.job.inputs (streams_of a.inputs.job) (flow_at a.inputs.job.plan.flat (slice_index a.inputs.job.plan.flat.order a.place)) a.instant ≡ Some true → streams_of a.inputs.job (slice_index a.inputs.job.plan.flat.order a.place) a.instant ≡ Known (Present (datum_shown a.shown.items (slice_index a.inputs.job.plan.flat.order a.place)))
+datum_here : (a : Desk) → (h : Here a) → a.instant < a.inputs.job.inputs.instants → 0 < a.step → clock_of_flow a.inputs.job.inputs (streams_of a.inputs.job) (flow_at a.inputs.job.plan.flat (slice_index a.inputs.job.plan.flat.order a.place)) a.instant ≡ Some true → streams_of a.inputs.job (slice_index a.inputs.job.plan.flat.order a.place) a.instant ≡ Known (Present (datum_shown (shown_of a) (slice_index a.inputs.job.plan.flat.order a.place)))
 datum_here a h lt some open' =
     let job = a.inputs.job in
     let σ = streams_of job in
@@ -265,11 +265,11 @@ datum_here a h lt some open' =
     let v = value_at job.inputs σ f.0.clock f.0.form a.instant in
     let e = equation job a.inputs.site g.set.is_job i a.instant f.0 f.1 f.2 lt ∙ ap (λ c. under c v) k in
     let d = shown_datum v w.status (sym e ∙ w.is) in
-    let there' : slice_get a.shown.items i ≡ Some (Present d.0) = w.there ∙ ap Some d.1 in
-    let same : datum_shown a.shown.items i ≡ d.0 = ap (λ o. unwrap_or (datum_there o) Nil) there' in
+    let there' : slice_get (shown_of a) i ≡ Some (Present d.0) = w.there ∙ ap Some d.1 in
+    let same : datum_shown (shown_of a) i ≡ d.0 = ap (λ o. unwrap_or (datum_there o) Nil) there' in
     w.is ∙ ap Known d.1 ∙ ap (λ x. Known (Present x)) (sym same)
 
-pub put_early : (a : Desk) (h : Here a) (k : ℕ) → stands a.inputs.job.plan (slice_index a.inputs.job.plan.flat.order a.place) a.inputs.site ≡ true → a.instant < a.inputs.job.inputs.instants → a.step ≡ suc k → clock_of_flow a.inputs.job.inputs (streams_of a.inputs.job) (flow_at a.inputs.job.plan.flat (slice_index a.inputs.job.plan.flat.order a.place)) a.instant ≡ Some true → k < length (sends a.inputs.job.plan a.inputs.site (slice_index a.inputs.job.plan.flat.order a.place)) → slice_get (link_list a.inputs.job (streams_of a.inputs.job) (slice_index (sends a.inputs.job.plan a.inputs.site (slice_index a.inputs.job.plan.flat.order a.place)) k)) (presents (streams_of a.inputs.job (slice_index a.inputs.job.plan.flat.order a.place)) a.instant) ≡ Some (record { no = presents (streams_of a.inputs.job (slice_index a.inputs.job.plan.flat.order a.place)) a.instant; body = Value (datum_shown a.shown.items (slice_index a.inputs.job.plan.flat.order a.place)) })
+pub put_early : (a : Desk) (h : Here a) (k : ℕ) → stands a.inputs.job.plan (slice_index a.inputs.job.plan.flat.order a.place) a.inputs.site ≡ true → a.instant < a.inputs.job.inputs.instants → a.step ≡ suc k → clock_of_flow a.inputs.job.inputs (streams_of a.inputs.job) (flow_at a.inputs.job.plan.flat (slice_index a.inputs.job.plan.flat.order a.place)) a.instant ≡ Some true → k < length (sends a.inputs.job.plan a.inputs.site (slice_index a.inputs.job.plan.flat.order a.place)) → slice_get (link_list a.inputs.job (streams_of a.inputs.job) (slice_index (sends a.inputs.job.plan a.inputs.site (slice_index a.inputs.job.plan.flat.order a.place)) k)) (presents (streams_of a.inputs.job (slice_index a.inputs.job.plan.flat.order a.place)) a.instant) ≡ Some (record { no = presents (streams_of a.inputs.job (slice_index a.inputs.job.plan.flat.order a.place)) a.instant; body = Value (datum_shown (shown_of a) (slice_index a.inputs.job.plan.flat.order a.place)) })
 put_early a h k own lt ek open' within =
     let job = a.inputs.job in
     let σ = streams_of job in
@@ -279,7 +279,7 @@ put_early a h k own lt ek open' within =
     let f = there job a.inputs.site g.set.is_job a.place h.place_lt in
     let w = g.stands.kept i f.2 (known_of_own job.plan a.inputs.site i own) in
     ap (λ xs. slice_get xs (presents (σ i) a.instant)) (link_is job l i (let c = carrier_is job.plan a.inputs.site i k within in flow_of_carried job.plan l i c.0 c.1))
-    ∙ message_at (σ i) job.inputs.instants a.instant w.past.last (datum_shown a.shown.items i) lt w.last (datum_here a h lt (omega arith) open')
+    ∙ message_at (σ i) job.inputs.instants a.instant w.past.last (datum_shown (shown_of a) i) lt w.last (datum_here a h lt (omega arith) open')
 
 pub put_late : (a : Desk) (h : Here a) (k : ℕ) → stands a.inputs.job.plan (slice_index a.inputs.job.plan.flat.order a.place) a.inputs.site ≡ true → a.instant ≡ a.inputs.job.inputs.instants → k < length (sends a.inputs.job.plan a.inputs.site (slice_index a.inputs.job.plan.flat.order a.place)) → slice_get (link_list a.inputs.job (streams_of a.inputs.job) (slice_index (sends a.inputs.job.plan a.inputs.site (slice_index a.inputs.job.plan.flat.order a.place)) k)) (presents (streams_of a.inputs.job (slice_index a.inputs.job.plan.flat.order a.place)) a.instant) ≡ Some (record { no = presents (streams_of a.inputs.job (slice_index a.inputs.job.plan.flat.order a.place)) a.instant; body = Close })
 put_late a h k own end within =
@@ -295,12 +295,12 @@ put_late a h k own end within =
     ∙ close_at (σ i) job.inputs.instants w.past.last (subst (λ (t : ℕ). before (σ i) t ≡ Some w.past.last) end w.last)
     ∙ ap (λ t. Some (record { no = presents (σ i) t; body = Close })) (sym end)
 
-count_here : (a : Desk) (h : Here a) → stands a.inputs.job.plan (slice_index a.inputs.job.plan.flat.order a.place) a.inputs.site ≡ true → count_kept a.pasts.items (slice_index a.inputs.job.plan.flat.order a.place) ≡ presents (streams_of a.inputs.job (slice_index a.inputs.job.plan.flat.order a.place)) a.instant
+count_here : (a : Desk) (h : Here a) → stands a.inputs.job.plan (slice_index a.inputs.job.plan.flat.order a.place) a.inputs.site ≡ true → count_kept (pasts_of a) (slice_index a.inputs.job.plan.flat.order a.place) ≡ presents (streams_of a.inputs.job (slice_index a.inputs.job.plan.flat.order a.place)) a.instant
 count_here a h own =
     let job = a.inputs.job in
     let i = slice_index job.plan.flat.order a.place in
     let f = there job a.inputs.site h.going_on.set.is_job a.place h.place_lt in
-    count_is job.plan.flat job.inputs (streams_of job) a.pasts.items a.instant i (h.going_on.stands.kept i f.2 (known_of_own job.plan a.inputs.site i own))
+    count_is job.plan.flat job.inputs (streams_of job) (pasts_of a) a.instant i (h.going_on.stands.kept i f.2 (known_of_own job.plan a.inputs.site i own))
 
 -- the number of puts before the one at hand
 put_no : (a : Desk) (h : Here a) (k : ℕ) → stands a.inputs.job.plan (slice_index a.inputs.job.plan.flat.order a.place) a.inputs.site ≡ true → k < length (sends a.inputs.job.plan a.inputs.site (slice_index a.inputs.job.plan.flat.order a.place)) → slice_get (cell a.inputs.job (streams_of a.inputs.job) a.inputs.site a.instant (slice_index a.inputs.job.plan.flat.order a.place)) a.step ≡ Some (Puts (slice_index (sends a.inputs.job.plan a.inputs.site (slice_index a.inputs.job.plan.flat.order a.place)) k)) → puts_before (system_of a.inputs.job) (slice_index (sends a.inputs.job.plan a.inputs.site (slice_index a.inputs.job.plan.flat.order a.place)) k) a.inputs.site (done_of a) ≡ presents (streams_of a.inputs.job (slice_index a.inputs.job.plan.flat.order a.place)) a.instant
@@ -314,7 +314,7 @@ put_no a h k own within item =
     let w = g.stands.kept i f.2 (known_of_own job.plan a.inputs.site i own) in
     let c = carrier_is job.plan a.inputs.site i k within in
     let at_home = ap (home job.plan) c.1 ∙ c.2 in
-    ap (count_by (puts l)) (script_take job a.inputs.site g.set.is_job a.shown.items a.pasts.items a.instant a.place a.step g.stands)
+    ap (count_by (puts l)) (script_take job a.inputs.site g.set.is_job (shown_of a) (pasts_of a) a.instant a.place a.step g.stands)
     ∙ puts_done job σ (is_outline job g.set.is_job) a.inputs.site a.instant a.place a.step l g.stands.instant_le h.place_lt c.0 at_home item
     ∙ ap (λ x. shows (outline job σ) x a.instant) c.1
     ∙ shows_is job g.set.is_job i a.instant w.past.last f.2 g.stands.instant_le w.last
@@ -345,7 +345,7 @@ take_no a h l into item =
     let f = there job a.inputs.site g.set.is_job a.place h.place_lt in
     let w = g.stands.kept i f.2 (known_of_link job.plan a.inputs.site i l into) in
     let c = into_is job.plan a.inputs.site i l into in
-    ap (count_by (takes l)) (script_take job a.inputs.site g.set.is_job a.shown.items a.pasts.items a.instant a.place a.step g.stands)
+    ap (count_by (takes l)) (script_take job a.inputs.site g.set.is_job (shown_of a) (pasts_of a) a.instant a.place a.step g.stands)
     ∙ takes_done job σ (is_outline job g.set.is_job) a.inputs.site a.instant a.place a.step l g.stands.instant_le h.place_lt c.0 c.2 item
     ∙ ap (λ x. shows (outline job σ) x a.instant) c.1
     ∙ shows_is job g.set.is_job i a.instant w.past.last f.2 g.stands.instant_le w.last
@@ -364,10 +364,10 @@ suc_not_zero k = elim (bool_cases (suc k == 0)) [ inl e ↦ let h = eqb-true (su
 
 module _ (a : Desk) (i : ℕ) (outs : List ℕ) where
   abbrev put_value : ℕ → Next
-  put_value k = Put (slice_index outs k) (record { no = count_kept a.pasts.items i; body = Value (datum_shown a.shown.items i) })
+  put_value k = Put (slice_index outs k) (record { no = count_kept (pasts_of a) i; body = Value (datum_shown (shown_of a) i) })
 
   abbrev put_close : Next
-  put_close = Put (slice_index outs a.step) (record { no = count_kept a.pasts.items i; body = Close })
+  put_close = Put (slice_index outs a.step) (record { no = count_kept (pasts_of a) i; body = Close })
 
   offered_local : nat_lt a.instant a.inputs.job.inputs.instants ≡ true → a.step ≡ 0 → offered_own a i outs ≡ Local
   offered_local early z =
@@ -394,7 +394,7 @@ part_take a i plan s other = ap (λ b. if b then offered_own a i (sends plan s i
 -- the item at hand is the script's
 pub hand_next : (a : Desk) (h : Here a) → slice_get (script a.inputs.job (streams_of a.inputs.job) a.inputs.site) (done_of a) ≡ slice_get (cell a.inputs.job (streams_of a.inputs.job) a.inputs.site a.instant (slice_index a.inputs.job.plan.flat.order a.place)) a.step
 hand_next a h =
-    next_item a.inputs.job a.inputs.site h.going_on.set.is_job a.shown.items a.pasts.items a.instant a.place a.step h.going_on.stands h.place_lt h.step_lt
+    next_item a.inputs.job a.inputs.site h.going_on.set.is_job (shown_of a) (pasts_of a) a.instant a.place a.step h.going_on.stands h.place_lt h.step_lt
 
 offer_here : (a : Desk) (h : Here a) → AtHand a (slice_index a.inputs.job.plan.flat.order a.place) → IsNext a.inputs.job a.inputs.site (done_of a) (offered a)
 offer_here a h (ComputeAt own lt z open' item) =
@@ -409,7 +409,7 @@ offer_here a h (PutEarly own lt k ek open' item within) =
     let i = slice_index job.plan.flat.order a.place in
     let outs = sends job.plan a.inputs.site i in
     let e = offered_here a h ∙ part_own a i job.plan a.inputs.site own ∙ offered_put a i outs k (lt-ltb a.instant job.inputs.instants lt) ek
-    ∙ ap (λ n. Put (slice_index outs k) (record { no = n; body = Value (datum_shown a.shown.items i) })) (count_here a h own) in
+    ∙ ap (λ n. Put (slice_index outs k) (record { no = n; body = Value (datum_shown (shown_of a) i) })) (count_here a h own) in
     subst (IsNext job a.inputs.site (done_of a)) (sym e) (hand_next a h ∙ item, ap (slice_get (link_list job σ (slice_index outs k))) (put_no a h k own within item) ∙ put_early a h k own lt ek open' within)
 offer_here a h (PutLate own end item within) =
     let job = a.inputs.job in
@@ -438,8 +438,8 @@ offer_going a g (Over et ep ej) =
     let job = a.inputs.job in
     let past : slice_get a.program.plan.flat.order a.place ≡ None = ap (λ (q : Distribution). slice_get q.flat.order a.place) g.set.plan_is ∙ slice_get_past job.plan.flat.order a.place (omega arith) in
     let e : offered a ≡ Ended = ap (λ b. if b then Faulted else offered_at a (slice_get a.program.plan.flat.order a.place)) g.goes ∙ ap (offered_at a) past in
-    let st = subst (λ (j : ℕ). Stands job a.inputs.site a.shown.items a.pasts.items job.inputs.instants (length job.plan.flat.order) j false) ej (subst (λ (p : ℕ). Stands job a.inputs.site a.shown.items a.pasts.items job.inputs.instants p a.step false) ep (subst (λ (t : ℕ). Stands job a.inputs.site a.shown.items a.pasts.items t a.place a.step false) et g.stands)) in
-    let w = ended job a.inputs.site g.set.is_job a.shown.items a.pasts.items st in
+    let st = subst (λ (j : ℕ). Stands job a.inputs.site (shown_of a) (pasts_of a) job.inputs.instants (length job.plan.flat.order) j false) ej (subst (λ (p : ℕ). Stands job a.inputs.site (shown_of a) (pasts_of a) job.inputs.instants p a.step false) ep (subst (λ (t : ℕ). Stands job a.inputs.site (shown_of a) (pasts_of a) t a.place a.step false) et g.stands)) in
+    let w = ended job a.inputs.site g.set.is_job (shown_of a) (pasts_of a) st in
     let n : done_of a ≡ items_before job (streams_of job) a.inputs.site job.inputs.instants (length job.plan.flat.order) 0 =
     ap (λ t. items_before job (streams_of job) a.inputs.site t a.place a.step) et ∙ ap₂ (items_before job (streams_of job) a.inputs.site job.inputs.instants) ep ej in
     subst (IsNext job a.inputs.site (done_of a)) (sym e) (n ∙ w.0, w.1)

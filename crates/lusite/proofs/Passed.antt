@@ -59,7 +59,7 @@ add_none : (b : Bool) (n : ℕ) → n + add_if b ≤ n → b ≡ false
 add_none true n l = absurd (omega (arith, l))
 add_none false n l = refl
 
-lt_no : (m n : ℕ) → nat_lt m n ≡ false → n ≤ m
+pub lt_no : (m n : ℕ) → nat_lt m n ≡ false → n ≤ m
 lt_no m n e = elim (cases_lt m n) [ inl lt ↦ absurd (false≢true (sym e ∙ lt-ltb m n lt)) | inr ge ↦ ge ]
 
 module _ (job : Run) (s : ℕ) (ij : IsJob job) where

@@ -18,7 +18,7 @@ use Rattle.luworld.specs.Needs.{Distribution, stands, home}
 use Rattle.luworld.specs.Runs.{Run, streams_of, knows, IsJob, link_into}
 use Rattle.lusite.specs.Logs.{Log, add_if, IsRow, IsLogged, IsLoggedAt, is_wanted, is_noted, passed_to, IsNoted, IsNewRow}
 use Rattle.luworld.specs.Progress.{IsFirst}
-use Rattle.lusite.specs.Machine.{Stands, is_faulted}
+use Rattle.lusite.specs.Machine.{Stands, is_faulted, shown_of, pasts_of}
 use Rattle.lusite.specs.declared.desk.Desk.{Desk}
 use Rattle.lusite.specs.declared.program.Part.{Part}
 use Rattle.lusite.proofs.Machine.{slice_get-set_same, slice_get-set_other}
@@ -193,7 +193,7 @@ module _ (a : Desk) (g : Going a) (lp : a.place < length a.program.plan.flat.ord
   same_absent xs k status l e = sym (same_Some Absent status (sym (slice_get-set_same xs k Absent l) ∙ e))
 
   -- from one flow to the next
-  pub note_pass : (now' : List Status) (logs' : List Log) (faulted : Bool) → Stands a.inputs.job a.inputs.site now' a.pasts.items a.instant (a.place + 1) 0 faulted → (a.step ≡ 0 → now' ≡ set a.shown.items i Absent) → (0 < a.step → logs' ≡ a.logs.items) → (a.step ≡ 0 → is_noted a i ≡ false → logs' ≡ a.logs.items) → (a.step ≡ 0 → is_noted a i ≡ true → (x : Log) → slice_get a.logs.items i ≡ Some x → IsNoted a.logs.items i x Absent logs') → IsLogged a.inputs.job a.inputs.site logs' a.instant (a.place + 1)
+  pub note_pass : (now' : List Status) (logs' : List Log) (faulted : Bool) → Stands a.inputs.job a.inputs.site now' (pasts_of a) a.instant (a.place + 1) 0 faulted → (a.step ≡ 0 → now' ≡ set (shown_of a) i Absent) → (0 < a.step → logs' ≡ a.logs.items) → (a.step ≡ 0 → is_noted a i ≡ false → logs' ≡ a.logs.items) → (a.step ≡ 0 → is_noted a i ≡ true → (x : Log) → slice_get a.logs.items i ≡ Some x → IsNoted a.logs.items i x Absent logs') → IsLogged a.inputs.job a.inputs.site logs' a.instant (a.place + 1)
   note_pass now' logs' faulted st cleared kept left noted = elim (cases_lt 0 a.step) [
     | inl some ↦
         subst (λ (ls : List Log). IsLogged a.inputs.job a.inputs.site ls a.instant (a.place + 1)) (sym (kept some))
@@ -208,7 +208,7 @@ module _ (a : Desk) (g : Going a) (lp : a.place < length a.program.plan.flat.ord
         let own = wanted_known job a.inputs.site k g.set.is_job (here_in a g.set lp') w.1 in
         let sh = st.shown w.0 a.place (omega arith) (known_of_own job a.inputs.site k own) in
         let len = here_in a g.set lp' in
-        let e : sh.status ≡ Absent = same_absent a.shown.items k sh.status (let n = g.stands.now_len in omega (arith, len, n)) (ap (λ xs. slice_get xs k) (sym (cleared z ∙ ap (λ j. set a.shown.items j Absent) (flow_same a g.set))) ∙ sh.there) in
+        let e : sh.status ≡ Absent = same_absent (shown_of a) k sh.status (let n = g.stands.now_len in omega (arith, len, n)) (ap (λ xs. slice_get xs k) (sym (cleared z ∙ ap (λ j. set (shown_of a) j Absent) (flow_same a g.set))) ∙ sh.there) in
         sh.is ∙ ap Known e) (noted z)
   ]
     where

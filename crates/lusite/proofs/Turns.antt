@@ -34,7 +34,7 @@ use Rattle.luworld.proofs.Cursor.{before_step, before_end}
 use Rattle.luworld.proofs.Messages.{message_at, no_message_at}
 use Rattle.lusite.specs.declared.next.Fault.{Fault}
 use Rattle.lusite.specs.declared.desk.Desk.{Desk}
-use Rattle.lusite.specs.Machine.{is_faulted, IsFaultAt, Stands, IsSet, StandsAt, IsReadyAt, Ready, Over, Computes, done_of, IsLocalNext, IsPutNext, IsTakeNext, with_body}
+use Rattle.lusite.specs.Machine.{is_faulted, IsFaultAt, Stands, IsSet, StandsAt, IsReadyAt, Ready, Over, Computes, done_of, IsLocalNext, IsPutNext, IsTakeNext, with_body, shown_of, pasts_of}
 use Rattle.lusite.proofs.Machine.{stops_at, script_take, there, equation, stands_step, stands_stop, slice_get-set_same, slice_get-set_other}
 use Rattle.lusite.proofs.Desks.{Going, going, here_in, flow_same}
 use Rattle.lusite.proofs.Told.{lt-false}
@@ -57,7 +57,7 @@ over_none a x g et ep ej e =
     omega (arith, n)
 
 -- where an item is next, a flow is at hand
-here_from : (a : Desk) (x : Item) → Going a → IsReadyAt a → slice_get (script a.inputs.job (streams_of a.inputs.job) a.inputs.site) (done_of a) ≡ Some x → Here a
+pub here_from : (a : Desk) (x : Item) → Going a → IsReadyAt a → slice_get (script a.inputs.job (streams_of a.inputs.job) a.inputs.site) (done_of a) ≡ Some x → Here a
 here_from a x g (Ready lp lj) e = record { going_on = g; place_lt = lp; step_lt = lj }
 here_from a x g (Over et ep ej) e = absurd (over_none a x g et ep ej e)
 
@@ -92,7 +92,7 @@ one_step a z =
     let one : a.step + 1 ≡ 1 = omega (arith, z) in
     (one, ap (items_before a.inputs.job (streams_of a.inputs.job) a.inputs.site a.instant a.place) (sym one) ∙ before_step a.inputs.job (streams_of a.inputs.job) a.inputs.site a.instant a.place a.step)
 
-pub work_gives : (a : Desk) (d : Datum) (g : Going a) → IsReadyAt a → IsLocalNext a.inputs.job a.inputs.site (done_of a) → Computes a (slice_index a.program.plan.flat.order a.place) (flow_at a.program.plan.flat (slice_index a.program.plan.flat.order a.place)) (Gives d) → Stands a.inputs.job a.inputs.site (set a.shown.items (slice_index a.program.plan.flat.order a.place) (Present d)) a.pasts.items a.instant a.place 1 (is_faulted a) × (items_before a.inputs.job (streams_of a.inputs.job) a.inputs.site a.instant a.place 1 ≡ done_of a + 1)
+pub work_gives : (a : Desk) (d : Datum) (g : Going a) → IsReadyAt a → IsLocalNext a.inputs.job a.inputs.site (done_of a) → Computes a (slice_index a.program.plan.flat.order a.place) (flow_at a.program.plan.flat (slice_index a.program.plan.flat.order a.place)) (Gives d) → Stands a.inputs.job a.inputs.site (set (shown_of a) (slice_index a.program.plan.flat.order a.place) (Present d)) (pasts_of a) a.instant a.place 1 (is_faulted a) × (items_before a.inputs.job (streams_of a.inputs.job) a.inputs.site a.instant a.place 1 ≡ done_of a + 1)
 work_gives a d g ready next c =
     let job = a.inputs.job in
     let σ = streams_of job in
@@ -100,21 +100,21 @@ work_gives a d g ready next c =
     let ij = g.set.is_job in
     let wa = work_at a (Gives d) g ready next c in
     let w = wa.1 in
-    let li : i < length a.shown.items = let n = g.stands.now_len in let m = w.works.inside in omega (arith, n, m) in
-    let r = stands_step job a.inputs.site ij a.shown.items (set a.shown.items i (Present d)) a.pasts.items a.instant a.place a.step (Compute i a.instant) g.stands wa.0 w.item (not_broken job ij i a.instant (ap is_broken w.works.mark)) (length-set a.shown.items i (Present d)) (λ r ne. slice_get-set_other a.shown.items i r (Present d) ne) (λ lt. record { status = Present d; there = slice_get-set_same a.shown.items i (Present d) li; is = w.works.mark }) in
+    let li : i < length (shown_of a) = let n = g.stands.now_len in let m = w.works.inside in omega (arith, n, m) in
+    let r = stands_step job a.inputs.site ij (shown_of a) (set (shown_of a) i (Present d)) (pasts_of a) a.instant a.place a.step (Compute i a.instant) g.stands wa.0 w.item (not_broken job ij i a.instant (ap is_broken w.works.mark)) (length-set (shown_of a) i (Present d)) (λ r ne. slice_get-set_other (shown_of a) i r (Present d) ne) (λ lt. record { status = Present d; there = slice_get-set_same (shown_of a) i (Present d) li; is = w.works.mark }) in
     let one = one_step a w.first in
-    (subst (λ (b : Bool). Stands job a.inputs.site (set a.shown.items (slice_index a.program.plan.flat.order a.place) (Present d)) a.pasts.items a.instant a.place 1 b) (sym g.goes) (subst (λ (k : ℕ). Stands job a.inputs.site (set a.shown.items k (Present d)) a.pasts.items a.instant a.place 1 false) (sym (flow_same a g.set)) (subst (λ (j : ℕ). Stands job a.inputs.site (set a.shown.items i (Present d)) a.pasts.items a.instant a.place j false) one.0 r)), one.1)
+    (subst (λ (b : Bool). Stands job a.inputs.site (set (shown_of a) (slice_index a.program.plan.flat.order a.place) (Present d)) (pasts_of a) a.instant a.place 1 b) (sym g.goes) (subst (λ (k : ℕ). Stands job a.inputs.site (set (shown_of a) k (Present d)) (pasts_of a) a.instant a.place 1 false) (sym (flow_same a g.set)) (subst (λ (j : ℕ). Stands job a.inputs.site (set (shown_of a) i (Present d)) (pasts_of a) a.instant a.place j false) one.0 r)), one.1)
 
-pub work_faults : (a : Desk) (kind : FaultKind) (g : Going a) → IsReadyAt a → IsLocalNext a.inputs.job a.inputs.site (done_of a) → Computes a (slice_index a.program.plan.flat.order a.place) (flow_at a.program.plan.flat (slice_index a.program.plan.flat.order a.place)) (Faults kind) → Stands a.inputs.job a.inputs.site a.shown.items a.pasts.items a.instant a.place 1 true × (items_before a.inputs.job (streams_of a.inputs.job) a.inputs.site a.instant a.place 1 ≡ done_of a + 1)
+pub work_faults : (a : Desk) (kind : FaultKind) (g : Going a) → IsReadyAt a → IsLocalNext a.inputs.job a.inputs.site (done_of a) → Computes a (slice_index a.program.plan.flat.order a.place) (flow_at a.program.plan.flat (slice_index a.program.plan.flat.order a.place)) (Faults kind) → Stands a.inputs.job a.inputs.site (shown_of a) (pasts_of a) a.instant a.place 1 true × (items_before a.inputs.job (streams_of a.inputs.job) a.inputs.site a.instant a.place 1 ≡ done_of a + 1)
 work_faults a kind g ready next c =
     let job = a.inputs.job in
     let i = slice_index job.plan.flat.order a.place in
     let ij = g.set.is_job in
     let wa = work_at a (Faults kind) g ready next c in
     let w = wa.1 in
-    let r = stands_stop job a.inputs.site ij a.shown.items a.pasts.items a.instant a.place a.step (Compute i a.instant) g.stands wa.0 w.item w.first (broken_is job ij i a.instant w.works.inside w.early ∙ ap is_broken w.works.mark) in
+    let r = stands_stop job a.inputs.site ij (shown_of a) (pasts_of a) a.instant a.place a.step (Compute i a.instant) g.stands wa.0 w.item w.first (broken_is job ij i a.instant w.works.inside w.early ∙ ap is_broken w.works.mark) in
     let one = one_step a w.first in
-    (subst (λ (j : ℕ). Stands job a.inputs.site a.shown.items a.pasts.items a.instant a.place j true) one.0 r, one.1)
+    (subst (λ (j : ℕ). Stands job a.inputs.site (shown_of a) (pasts_of a) a.instant a.place j true) one.0 r, one.1)
 
 -- a computation that faults is the last item of the script
 last_item : (a : Desk) (kind : FaultKind) (g : Going a) → IsReadyAt a → IsLocalNext a.inputs.job a.inputs.site (done_of a) → Computes a (slice_index a.program.plan.flat.order a.place) (flow_at a.program.plan.flat (slice_index a.program.plan.flat.order a.place)) (Faults kind) → slice_get (script a.inputs.job (streams_of a.inputs.job) a.inputs.site) (length (script a.inputs.job (streams_of a.inputs.job) a.inputs.site) - 1) ≡ Some (Compute (slice_index a.inputs.job.plan.flat.order a.place) a.instant)
@@ -232,7 +232,7 @@ put_here a h l e (PutLate own end item within) =
 put_here a h l e (TakeEarly other lt z open' into item) = let n = sym item ∙ sym (hand_next a h) ∙ e in absurd cc
 put_here a h l e (TakeLate other end into item) = let n = sym item ∙ sym (hand_next a h) ∙ e in absurd cc
 
-pub sent_next : (a : Desk) → IsSet a → StandsAt a → (is_faulted a) ≡ false → IsReadyAt a → IsPutNext a.inputs.job a.inputs.site (done_of a) → (a.step < 65538) × Stands a.inputs.job a.inputs.site a.shown.items a.pasts.items a.instant a.place (a.step + 1) (is_faulted a) × (items_before a.inputs.job (streams_of a.inputs.job) a.inputs.site a.instant a.place (a.step + 1) ≡ done_of a + 1)
+pub sent_next : (a : Desk) → IsSet a → StandsAt a → (is_faulted a) ≡ false → IsReadyAt a → IsPutNext a.inputs.job a.inputs.site (done_of a) → (a.step < 65538) × Stands a.inputs.job a.inputs.site (shown_of a) (pasts_of a) a.instant a.place (a.step + 1) (is_faulted a) × (items_before a.inputs.job (streams_of a.inputs.job) a.inputs.site a.instant a.place (a.step + 1) ≡ done_of a + 1)
 sent_next a is st go ready next =
     let job = a.inputs.job in
     let σ = streams_of job in
@@ -240,8 +240,8 @@ sent_next a is st go ready next =
     let g = going a is st go in
     let h = here_from a (Puts next.0) g ready next.1 in
     let w = put_here a h next.0 next.1 (hand_of a h) in
-    let r = stands_step job a.inputs.site is.is_job a.shown.items a.shown.items a.pasts.items a.instant a.place a.step (Puts next.0) g.stands h.place_lt (sym (hand_next a h) ∙ next.1) refl refl (λ r ne. refl) (λ lt. g.stands.here lt (w.0 lt) refl) in
-    (w.1, subst (λ (b : Bool). Stands job a.inputs.site a.shown.items a.pasts.items a.instant a.place (a.step + 1) b) (sym go) r, before_step job σ a.inputs.site a.instant a.place a.step)
+    let r = stands_step job a.inputs.site is.is_job (shown_of a) (shown_of a) (pasts_of a) a.instant a.place a.step (Puts next.0) g.stands h.place_lt (sym (hand_next a h) ∙ next.1) refl refl (λ r ne. refl) (λ lt. g.stands.here lt (w.0 lt) refl) in
+    (w.1, subst (λ (b : Bool). Stands job a.inputs.site (shown_of a) (pasts_of a) a.instant a.place (a.step + 1) b) (sym go) r, before_step job σ a.inputs.site a.instant a.place a.step)
 
 -- what a taken message says of its flow
 taken_mark : (s : ℕ → Mark) (n t : ℕ) (d : Datum) (v : Outcome) (m : Msg) → t < n → before s t ≡ Some d → s t ≡ mark_of v → slice_get (messages 0 (marks s n)) (presents s t) ≡ Some m → (x : Datum) × (s t ≡ Known (Present x)) × (m.body ≡ Value x)
@@ -284,11 +284,11 @@ take_goes a g l m at =
     let σ = streams_of job in
     let k = takes_before (system_of job) l a.inputs.site (done_of a) in
     let lt : k < length (link_list job σ l) = slice_get_within (link_list job σ l) k m at in
-    let e : k ≡ count_by (takes l) (take (done_of a) (endless job σ a.inputs.site)) = ap (count_by (takes l)) (script_take job a.inputs.site g.set.is_job a.shown.items a.pasts.items a.instant a.place a.step g.stands) in
+    let e : k ≡ count_by (takes l) (take (done_of a) (endless job σ a.inputs.site)) = ap (count_by (takes l)) (script_take job a.inputs.site g.set.is_job (shown_of a) (pasts_of a) a.instant a.place a.step g.stands) in
     let n = list_long job g.set.is_job l (link_there job l (takes_before (system_of job) l a.inputs.site (done_of a)) m at) in
     lt-leb (messages_from (outline job σ) (carried job.plan l) 0 job.inputs.instants) (count_by (takes l) (take (done_of a) (endless job σ a.inputs.site))) (omega (arith, lt, e, n))
 
-pub given_next : (a : Desk) (m : Msg) → IsSet a → StandsAt a → (is_faulted a) ≡ false → IsReadyAt a → IsTakeNext a.inputs.job a.inputs.site (done_of a) m → Stands a.inputs.job a.inputs.site (with_body a.shown.items (slice_index a.program.plan.flat.order a.place) m.body) a.pasts.items a.instant a.place 1 (is_faulted a) × (items_before a.inputs.job (streams_of a.inputs.job) a.inputs.site a.instant a.place 1 ≡ done_of a + 1)
+pub given_next : (a : Desk) (m : Msg) → IsSet a → StandsAt a → (is_faulted a) ≡ false → IsReadyAt a → IsTakeNext a.inputs.job a.inputs.site (done_of a) m → Stands a.inputs.job a.inputs.site (with_body (shown_of a) (slice_index a.program.plan.flat.order a.place) m.body) (pasts_of a) a.instant a.place 1 (is_faulted a) × (items_before a.inputs.job (streams_of a.inputs.job) a.inputs.site a.instant a.place 1 ≡ done_of a + 1)
 given_next a m is st go ready next =
     let job = a.inputs.job in
     let σ = streams_of job in
@@ -298,10 +298,10 @@ given_next a m is st go ready next =
     let ei : slice_index a.program.plan.flat.order a.place ≡ i = flow_same a is in
     let w = take_here a h next.0 m next.1 next.2 (hand_of a h) in
     let f = there job a.inputs.site is.is_job a.place h.place_lt in
-    let li : i < length a.shown.items = omega (arith, g.stands.now_len, f.2) in
-    let r = stands_step job a.inputs.site is.is_job a.shown.items (with_body a.shown.items i m.body) a.pasts.items a.instant a.place a.step (Takes next.0) g.stands h.place_lt (sym (hand_next a h) ∙ next.1) (take_goes a g next.0 m next.2) (body_len a.shown.items i m.body) (λ r ne. body_other a.shown.items i r m.body ne) (λ lt. let v = w.2 lt in record { status = Present v.0; there = ap (λ b. slice_get (with_body a.shown.items i b) i) v.2 ∙ slice_get-set_same a.shown.items i (Present v.0) li; is = v.1 }) in
+    let li : i < length (shown_of a) = omega (arith, g.stands.now_len, f.2) in
+    let r = stands_step job a.inputs.site is.is_job (shown_of a) (with_body (shown_of a) i m.body) (pasts_of a) a.instant a.place a.step (Takes next.0) g.stands h.place_lt (sym (hand_next a h) ∙ next.1) (take_goes a g next.0 m next.2) (body_len (shown_of a) i m.body) (λ r ne. body_other (shown_of a) i r m.body ne) (λ lt. let v = w.2 lt in record { status = Present v.0; there = ap (λ b. slice_get (with_body (shown_of a) i b) i) v.2 ∙ slice_get-set_same (shown_of a) i (Present v.0) li; is = v.1 }) in
     let one : a.step + 1 ≡ 1 = omega (arith, w.0) in
-    (subst (λ (b : Bool). Stands job a.inputs.site (with_body a.shown.items (slice_index a.program.plan.flat.order a.place) m.body) a.pasts.items a.instant a.place 1 b) (sym go) (subst (λ (k : ℕ). Stands job a.inputs.site (with_body a.shown.items k m.body) a.pasts.items a.instant a.place 1 false) (sym ei) (subst (λ (j : ℕ). Stands job a.inputs.site (with_body a.shown.items i m.body) a.pasts.items a.instant a.place j false) one r)), ap (items_before job σ a.inputs.site a.instant a.place) (sym one) ∙ before_step job σ a.inputs.site a.instant a.place a.step)
+    (subst (λ (b : Bool). Stands job a.inputs.site (with_body (shown_of a) (slice_index a.program.plan.flat.order a.place) m.body) (pasts_of a) a.instant a.place 1 b) (sym go) (subst (λ (k : ℕ). Stands job a.inputs.site (with_body (shown_of a) k m.body) (pasts_of a) a.instant a.place 1 false) (sym ei) (subst (λ (j : ℕ). Stands job a.inputs.site (with_body (shown_of a) i m.body) (pasts_of a) a.instant a.place j false) one r)), ap (items_before job σ a.inputs.site a.instant a.place) (sym one) ∙ before_step job σ a.inputs.site a.instant a.place a.step)
 
 -- where the next item is a put, the flow was computed, or the closes are on
 pub sent_at : (a : Desk) → IsSet a → StandsAt a → (is_faulted a) ≡ false → IsReadyAt a → IsPutNext a.inputs.job a.inputs.site (done_of a) → (0 < a.step) ⊎ (a.inputs.job.inputs.instants ≤ a.instant)

@@ -1,6 +1,6 @@
 -- What is left of a site, by how many items each flow has.
-use Rattle.std.proofs.Common.{◌≡◌, ℕ, zero, suc, ◌+◌, ◌-◌, ◌*◌, ◌<◌, ◌≤◌, inl, inr, ⊎_elim, Bool, true, false, cond, List, [], ◌∷◌, ◌++◌, length, map, filter, drop, get_or, Option, Some, None, refl, sym, ap, ap₂, ◌∙◌, subst, arith, length-append, nat_eq}
-use Rattle.std.specs.Prelude.{slice_get, slice_index, nat_lt, is_some, sum_by, unwrap_or, ◌&&◌, ◌||◌}
+use Rattle.std.proofs.Common.{◌≡◌, ℕ, zero, suc, ◌+◌, ◌-◌, ◌*◌, ◌<◌, ◌≤◌, inl, inr, Bool, true, false, cond, List, [], ◌∷◌, ◌++◌, length, map, filter, drop, Option, Some, None, refl, sym, ap, ap₂, ◌∙◌, subst, arith, nat_eq}
+use Rattle.std.specs.Prelude.{slice_index, nat_lt, is_some, sum_by, unwrap_or, ◌&&◌, ◌||◌}
 use Rattle.std.specs.List.{range_with_len, list_any}
 use Rattle.std.proofs.Math.Seq.{drop-cons}
 use Rattle.std.proofs.lemmas.List.{length-map}
@@ -9,25 +9,25 @@ use Rattle.std.proofs.lemmas.List.Sums.{sum_by-cons}
 use Rattle.std.proofs.lemmas.List.Folds.{list_any_at}
 use Rattle.std.proofs.lemmas.List.Elements.{All-get_or}
 use Rattle.std.proofs.lemmas.Option.{slice_get_within, slice_get_past, get_or_from_slice_get}
-use Rattle.std.proofs.lemmas.Bool.{cases_lt, lt-ltb, le-ltb, ltb-true, eq-eqb, ne_eqb, false≢true}
-use Rattle.luflow.specs.Program.{flow_at, flows_of, reads}
+use Rattle.std.proofs.lemmas.Bool.{cases_lt, lt-ltb, le-ltb, eq-eqb, ne_eqb, false≢true}
+use Rattle.luflow.specs.Program.{flows_of, reads}
 use Rattle.luflow.proofs.Solutions.{some_at, IsSolution-solution}
 use Rattle.lueval.proofs.Steps.{fault_broken}
 use Rattle.luflow.specs.Streams.{is_broken}
 use Rattle.luworld.specs.Needs.{Distribution, stands, home}
 use Rattle.luworld.specs.World.{Item, Compute, Puts, Takes}
 use Rattle.luworld.specs.Outline.{Outline, Cell, cells, size, left_in, left_after, faulted_after, is_break, stops, NoStop, compute_items, message_items, flow_items}
-use Rattle.luworld.specs.Runs.{Run, IsRun, IsJob, Fits, streams_of, outline, script, cell, items_before, sends, link_into, listed, carriers, carried, HasNoStop}
-use Rattle.luworld.proofs.Outlines.{bool_cases, message_is, broken_is}
+use Rattle.luworld.specs.Runs.{Run, IsRun, IsJob, streams_of, outline, script, cell, items_before, sends, link_into, listed, carriers, carried, HasNoStop}
+use Rattle.luworld.proofs.Outlines.{message_is, broken_is}
 use Rattle.luworld.proofs.Remaining.{cell_of, row, later, left_here, left_over, later_size, later_none, sum_drop_same, size_map}
 use Rattle.lusite.specs.declared.program.Part.{Part}
 use Rattle.lusite.specs.declared.next.Fault.{Fault}
 use Rattle.lusite.specs.declared.desk.Desk.{Desk}
-use Rattle.lusite.specs.Programs.{SitePlan, part_of, part_at, parts_of, no_part}
-use Rattle.lusite.specs.Machine.{in_cell, is_faulted, Stands, IsSet, StandsAt, IsReadyAt, Ready, Over, IsFaultAt, TellsFault, done_of}
+use Rattle.lusite.specs.Programs.{SitePlan, part_of, parts_of, no_part}
+use Rattle.lusite.specs.Machine.{in_cell, is_faulted, Stands, IsSet, StandsAt, IsReadyAt, Ready, Over, TellsFault, done_of, shown_of, pasts_of}
 use Rattle.lusite.specs.Widths.{width_of, width, widths}
 use Rattle.lusite.proofs.Machine.{ended}
-use Rattle.lusite.proofs.Desks.{Going, going, part_here}
+use Rattle.lusite.proofs.Desks.{Going, part_here}
 use Rattle.lusite.proofs.Offers.{Here, hand_next}
 
 -- a width is small
@@ -211,8 +211,8 @@ module _ (a : Desk) (g : Going a) where
       ended_here : a.instant ≡ a.inputs.job.inputs.instants → a.place ≡ length a.inputs.job.plan.flat.order → a.step ≡ 0 → (items_before a.inputs.job (streams_of a.inputs.job) a.inputs.site a.inputs.job.inputs.instants (length a.inputs.job.plan.flat.order) 0 ≡ length (script a.inputs.job (streams_of a.inputs.job) a.inputs.site)) × HasNoStop a.inputs.job a.inputs.site
       ended_here et ep ej =
           let job = a.inputs.job in
-          let st = subst (λ (j : ℕ). Stands job a.inputs.site a.shown.items a.pasts.items job.inputs.instants (length job.plan.flat.order) j false) ej (subst (λ (p : ℕ). Stands job a.inputs.site a.shown.items a.pasts.items job.inputs.instants p a.step false) ep (subst (λ (t : ℕ). Stands job a.inputs.site a.shown.items a.pasts.items t a.place a.step false) et g.stands)) in
-          ended job a.inputs.site g.set.is_job a.shown.items a.pasts.items st
+          let st = subst (λ (j : ℕ). Stands job a.inputs.site (shown_of a) (pasts_of a) job.inputs.instants (length job.plan.flat.order) j false) ej (subst (λ (p : ℕ). Stands job a.inputs.site (shown_of a) (pasts_of a) job.inputs.instants p a.step false) ep (subst (λ (t : ℕ). Stands job a.inputs.site (shown_of a) (pasts_of a) t a.place a.step false) et g.stands)) in
+          ended job a.inputs.site g.set.is_job (shown_of a) (pasts_of a) st
 
       both : (b : Bool) → (b && false) ≡ false
       both true = refl

@@ -1,5 +1,5 @@
 -- Where a site stands in its script.
-use Rattle.std.specs.Prelude.{◌≡◌, ℕ, ◌+◌, ◌-◌, ◌*◌, ◌<◌, ◌≤◌, Bool, true, false, ◌||◌, ◌==◌, nat_lt, not, cond, if◌then◌else◌, List, length, Option, Some, None, is_some, slice_get, slice_set, slice_index, take, All, unwrap_or}
+use Rattle.std.specs.Prelude.{◌≡◌, ℕ, ◌+◌, ◌-◌, ◌*◌, ◌<◌, ◌≤◌, Bool, true, false, ◌||◌, ◌==◌, nat_lt, not, cond, if◌then◌else◌, List, [], ◌∷◌, length, Option, Some, None, is_some, slice_get, slice_set, slice_index, take, All, unwrap_or}
 use Rattle.std.specs.Option.{option_map}
 use Rattle.luflow.specs.declared.data.Datum.{Datum}
 use Rattle.luflow.specs.declared.data.Datum.TheVariants.{Nil}
@@ -19,6 +19,8 @@ use Rattle.luworld.specs.World.{Compute, Puts, Takes, puts_before, takes_before}
 use Rattle.luworld.specs.Needs.{stands}
 use Rattle.luworld.specs.Runs.{Run, IsJob, knows, cell, endless, script, system_of, is_open, HasNoStop, IsFree, items_before, link_list, streams_of}
 use Rattle.lueval.specs.declared.kernel.Past.{Past}
+use Rattle.lueval.specs.declared.cell.Cell.{Cell}
+use Rattle.lueval.specs.Cells.{statuses, last_of, ticks_of, is_absent}
 use Rattle.lueval.specs.Frames.{clock_in, datum_in, view_in, IsShown, IsPast}
 use Rattle.lusite.specs.declared.next.Next.{Next}
 use Rattle.lusite.specs.declared.next.Next.TheVariants.{Local, Take, Put, Ended, Faulted}
@@ -27,7 +29,7 @@ use Rattle.lusite.specs.declared.report.Standing.{Standing}
 use Rattle.lusite.specs.declared.report.Standing.TheVariants.{Ended as StandsEnded, Faulted as StandsFaulted, Cut}
 use Rattle.lusite.specs.declared.program.Part.{Part}
 use Rattle.lusite.specs.declared.desk.Desk.{Desk}
-use Rattle.lusite.specs.Programs.{part_at}
+use Rattle.lusite.specs.Programs.{part_at, rank_at}
 
 abbrev pub is_faulted : Desk → Bool
 is_faulted a = is_some a.fault
@@ -61,18 +63,39 @@ pub data IsReady (job : Run) (s t p j : ℕ) : Type 0 where
   Ready : p < length job.plan.flat.order → j < length (cell job (streams_of job) s t (slice_index job.plan.flat.order p)) → IsReady job s t p j
   Over : t ≡ job.inputs.instants → p ≡ length job.plan.flat.order → j ≡ 0 → IsReady job s t p j
 
--- a site's own part of its job
+-- what a machine holds of the flows: their statuses now, and what is kept of them from the instants before
+abbrev pub past_of : Cell → ℕ → Past
+past_of cell n = record { last = last_of cell; ticked = ticks_of cell; count = n }
+
+unfoldable pub pasts_in : List Cell → List ℕ → List Past
+pasts_in [] ns = []
+pasts_in (x ∷ xs) [] = []
+pasts_in (x ∷ xs) (n ∷ ns) = past_of x n ∷ pasts_in xs ns
+
+abbrev pub shown_of : Desk → List Status
+shown_of a = statuses a.shown.items
+
+abbrev pub pasts_of : Desk → List Past
+pasts_of a = pasts_in a.lasts.items a.counts.items
+
+-- how often a flow was present, one instant later
+abbrev pub more_of : Cell → ℕ → ℕ
+more_of cell n = cond (is_absent cell) n (n + 1)
+
+-- a site's own part of its job; it stands at the rank of one of the flows that it knows, or behind the last
 pub record IsSet (a : Desk) : Type 0 where
   pub is_job : IsJob a.inputs.job
   pub plan_is : a.program.plan ≡ a.inputs.job.plan
   pub site_is : a.program.site ≡ a.inputs.site
+  pub rank_is : a.place ≡ rank_at a.program a.row
+  pub pasts_fit : length a.lasts.items ≡ length a.counts.items
 
 -- the fault that a machine tells is one
 abbrev pub TellsFault : Desk → Type 0
 TellsFault a = (fault : Fault) → a.fault ≡ Some fault → IsFaultAt a.inputs.job a.inputs.site fault
 
 abbrev pub StandsAt : Desk → Type 0
-StandsAt a = Stands a.inputs.job a.inputs.site a.shown.items a.pasts.items a.instant a.place a.step (is_faulted a)
+StandsAt a = Stands a.inputs.job a.inputs.site (shown_of a) (pasts_of a) a.instant a.place a.step (is_faulted a)
 
 abbrev pub done_of : Desk → ℕ
 done_of a = items_before a.inputs.job (streams_of a.inputs.job) a.inputs.site a.instant a.place a.step
@@ -105,7 +128,7 @@ abbrev pub cell_size_of : Part → Option Flow → ℕ → ℕ → List Status �
 cell_size_of part flow n t now = in_cell (not (nat_lt t n) || is_open (clock_there now flow)) part.own (nat_lt t n) (length part.to) (is_some part.from)
 
 abbrev pub cell_size : Desk → ℕ → ℕ
-cell_size a i = cell_size_of (part_at a.program i) (flow_at a.program.plan.flat i) a.inputs.job.inputs.instants a.instant a.shown.items
+cell_size a i = cell_size_of (part_at a.program i) (flow_at a.program.plan.flat i) a.inputs.job.inputs.instants a.instant (shown_of a)
 
 -- the value that the machine of a site works out for flow i, where its input is given
 abbrev pub outcome_of : Option Datum → List Status → List Past → ℕ → Option Flow → Outcome
@@ -120,7 +143,7 @@ IsGiven a flow given = (c : ℕ) (f : Flow) → flow ≡ Some f → f.form ≡ I
 pub record Computes (a : Desk) (i : ℕ) (flow : Option Flow) (outcome : Outcome) : Type 0 where
   pub given : Option Datum
   pub is_given : IsGiven a flow given
-  pub is : outcome ≡ outcome_of given a.shown.items a.pasts.items i flow
+  pub is : outcome ≡ outcome_of given (shown_of a) (pasts_of a) i flow
 
 abbrev pub count_kept : List Past → ℕ → ℕ
 count_kept pasts i = unwrap_or (option_map (λ (x : Past). x.count) (slice_get pasts i)) 0
@@ -134,8 +157,8 @@ offered_own a i outs =
     if nat_lt a.instant a.inputs.job.inputs.instants
     then (if a.step == 0
     then Local
-    else Put (slice_index outs (a.step - 1)) (record { no = count_kept a.pasts.items i; body = Value (datum_shown a.shown.items i) }))
-    else Put (slice_index outs a.step) (record { no = count_kept a.pasts.items i; body = Close })
+    else Put (slice_index outs (a.step - 1)) (record { no = count_kept (pasts_of a) i; body = Value (datum_shown (shown_of a) i) }))
+    else Put (slice_index outs a.step) (record { no = count_kept (pasts_of a) i; body = Close })
 
 abbrev pub offered_part : Desk → ℕ → Part → Next
 offered_part a i part = if part.own then offered_own a i part.to else Take (unwrap_or part.from 0)

@@ -1,13 +1,15 @@
 -- What of a plan a site runs.
-use Rattle.std.specs.Prelude.{◌≡◌, ℕ, Bool, false, ◌&&◌, nat_eq, List, [], map, Option, None, Some, slice_get, unwrap_or}
+use Rattle.std.specs.Prelude.{◌≡◌, ℕ, Bool, false, ◌&&◌, ◌||◌, nat_eq, List, [], length, map, filter, Option, None, Some, is_some, slice_get, slice_index, unwrap_or}
 use Rattle.std.specs.List.{range_with_len}
 use Rattle.luflow.specs.declared.form.Flow.{Flow}
 use Rattle.luflow.specs.Program.{flows_of}
 use Rattle.luworld.specs.Needs.{Distribution, IsPlan, sites_of, stands, home}
-use Rattle.luworld.specs.Runs.{link_into, sends, outputs_of}
+use Rattle.luworld.specs.Runs.{link_into, sends, outputs_of, knows}
 use Rattle.luflow.specs.declared.variable.Variable.{Variable}
 use Rattle.std.specs.Option.{option_map}
+use Rattle.lueval.specs.Cells.{IsLine}
 use Rattle.lusite.specs.declared.program.Part.{Part}
+use Rattle.lusite.specs.declared.program.Post.{Post}
 use Rattle.luflow.specs.Variables.{is_output_of, is_output, variable_name}
 
 -- the plan and the site that a site's program is of
@@ -28,6 +30,34 @@ no_part = record { own = false; told = false; from = None; to = [] }
 abbrev pub part_at : SitePlan → ℕ → Part
 part_at p i = unwrap_or (slice_get (parts_of p.plan p.site) i) no_part
 
+-- whether it computes or takes the flow
+abbrev pub knows_in : Part → Bool
+knows_in part = part.own || is_some part.from
+
+-- the ranks of the flows that a site computes or takes, in order, and the places of these flows
+abbrev pub ranks_of : Distribution → ℕ → List ℕ
+ranks_of plan s = filter (λ p. knows plan s (slice_index plan.flat.order p)) (range_with_len 0 (length plan.flat.order))
+
+abbrev pub places_of : Distribution → ℕ → List ℕ
+places_of plan s = map (slice_index plan.flat.order) (ranks_of plan s)
+
+-- the rank of number k of them; behind the last the end of all ranks
+abbrev pub rank_at : SitePlan → ℕ → ℕ
+rank_at p k = unwrap_or (slice_get (ranks_of p.plan p.site) k) (length p.plan.flat.order)
+
+-- what the machine of a site has of the flow of rank p
+pub record IsPost (plan : Distribution) (s p : ℕ) (post : Post) : Type 0 where
+  pub line : IsLine plan.flat p post.line
+  pub own : post.own ≡ (part_of plan s (slice_index plan.flat.order p)).own
+  pub told : post.told ≡ (part_of plan s (slice_index plan.flat.order p)).told
+  pub from : post.from ≡ (part_of plan s (slice_index plan.flat.order p)).from
+  pub outs : post.outs ≡ length (part_of plan s (slice_index plan.flat.order p)).to
+
+-- the same of each flow that the site computes or takes, in order of rank
+pub record ArePosts (plan : Distribution) (s : ℕ) (posts : List Post) : Type 0 where
+  pub len : length posts ≡ length (ranks_of plan s)
+  pub each : (k p : ℕ) (post : Post) → slice_get (ranks_of plan s) k ≡ Some p → slice_get posts k ≡ Some post → IsPost plan s p post
+
 -- the names of the main outputs, in order of declaration
 abbrev pub output_names : Distribution → List (List ℕ)
 output_names plan = map (variable_name plan.flat) (outputs_of plan)
@@ -40,12 +70,15 @@ is_home plan s (Some i) = nat_eq (home plan i) s
 abbrev pub reports_output : Distribution → ℕ → ℕ → Bool
 reports_output plan s k = is_home plan s (slice_get (outputs_of plan) k)
 
-pub record IsProgram (plan : Distribution) (site : ℕ) (flows : List Flow) (order owners : List ℕ) (parts : List Part) (outputs : List ℕ) (sites : ℕ) (names : List (List ℕ)) : Type 0 where
+pub record IsProgram (plan : Distribution) (site : ℕ) (flows : List Flow) (order owners : List ℕ) (parts : List Part) (ranks places : List ℕ) (posts : List Post) (outputs : List ℕ) (sites : ℕ) (names : List (List ℕ)) : Type 0 where
   pub plan_is : IsPlan plan
   pub flows_are : flows ≡ plan.flat.flows
   pub order_is : order ≡ plan.flat.order
   pub owners_are : owners ≡ plan.flat.owners
   pub parts_are : parts ≡ parts_of plan site
+  pub ranks_are : ranks ≡ ranks_of plan site
+  pub places_are : places ≡ places_of plan site
+  pub posts_are : ArePosts plan site posts
   pub outputs_are : outputs ≡ outputs_of plan
   pub sites_are : sites ≡ sites_of plan
   pub names_are : names ≡ output_names plan

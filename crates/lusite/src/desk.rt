@@ -1,23 +1,26 @@
 //! The machine of one site in plain fields: a place in the script, and what is known there.
 
-ghost use Rattle.std.specs.Prelude.{◌≡◌, ℕ, ◌+◌, ◌<◌, ◌≤◌, ◌==◌, ◌&&◌, List, length, All, true, false, Option, Some, slice_get, slice_set, slice_index, unwrap_or};
-ghost use Rattle.std.specs.Option.{option_copied};
+ghost use Rattle.std.specs.Prelude.{◌≡◌, ◌≢◌, ℕ, ◌+◌, ◌<◌, ◌≤◌, ◌||◌, ◌&&◌, ◌==◌, not, nat_lt, is_some, List, length, All, true, false, Option, Some, slice_get, slice_set, slice_index, unwrap_or};
+ghost use Rattle.std.specs.Option.{ForSome};
 ghost use Rattle.lulimits.specs.Limits.{most_instants};
-ghost use Rattle.luflow.specs.declared.data.Status.{Status};
 ghost use Rattle.luflow.specs.Program.{flow_at, column_of};
 ghost use Rattle.luworld.specs.Needs.{stands};
-ghost use Rattle.luworld.specs.Runs.{is_open, outputs_of};
-ghost use Rattle.lueval.specs.declared.kernel.Past.{Past};
-ghost use Rattle.lueval.specs.Frames.{later};
-ghost use Rattle.lusite.specs.Programs.{part_at};
+ghost use Rattle.luworld.specs.Runs.{outputs_of};
+ghost use Rattle.luflow.specs.declared.data.Status.{Status as AnyStatus};
+ghost use Rattle.lueval.specs.Cells.{status_of, statuses, held, newest, outcome_of, clock_of};
+ghost use Rattle.lueval.specs.Frames.{clock_in};
+ghost use Rattle.lueval.specs.Operations.{form_of};
+ghost use Rattle.lusite.specs.Programs.{part_at, places_of, IsPost};
 ghost use Rattle.lusite.specs.Logs.{IsLoggedAt, is_noted, log_at, told_at};
-ghost use Rattle.lusite.specs.Machine.{IsSet, StandsAt, IsSameRun, IsReadyAt, TellsFault, Computes, done_of, rest_of, cell_size, clock_there, count_kept, datum_shown, offered_own, offered, with_body, is_faulted, IsLocalNext, IsPutNext, IsTakeNext};
+ghost use Rattle.lusite.specs.Machine.{IsSet, StandsAt, IsSameRun, IsReadyAt, TellsFault, Computes, done_of, rest_of, cell_size, in_cell, shown_of, more_of, offered_own, offered, with_body, is_faulted, IsLocalNext, IsPutNext, IsTakeNext};
 
 use crate::logs::note;
 use crate::next::{Fault, LinkNo, Next};
-use crate::program::SiteProgram;
-use lueval::{Past, clock_now, datum_at, kept, value};
-use luflow::{Body, Datum, Flow, Form, Msg, Outcome, Status};
+use crate::program::{Post, SiteProgram};
+use lueval::{
+    Answer, Cell, Line, cell_at, cell_of, column_of, is_absent, is_on, status, value_with,
+};
+use luflow::{Body, Datum, Form, Msg, Status};
 use luplace::SiteInputs;
 
 /// The machine of one site.
@@ -25,13 +28,17 @@ use luplace::SiteInputs;
 pub struct Desk {
     pub program: SiteProgram,
     pub inputs: SiteInputs,
-    /// The status now of each flow that the site knows and has passed.
-    pub shown: Vec<Status>,
-    /// What is kept of each flow from the instants before.
-    pub pasts: Vec<Past>,
+    /// What each flow that the site knows and has passed shows now.
+    pub shown: Vec<Cell>,
+    /// The last value of each flow before this instant; absent before the first.
+    pub lasts: Vec<Cell>,
+    /// At how many instants before this one each flow was present.
+    pub counts: Vec<u32>,
     /// For each flow that the site reports, its statuses so far.
     pub logs: Vec<Vec<Status>>,
     pub instant: u32,
+    /// The number of the flow at hand among those that the site computes or takes.
+    pub row: usize,
     /// The rank of the flow at hand.
     pub place: usize,
     /// How many of that flow's items are done at this instant.
@@ -39,88 +46,179 @@ pub struct Desk {
     pub fault: Option<Fault>,
 }
 
-/// Adds an instant to what is kept.
-fn age(now: &[Status], pasts: &mut Vec<Past>, instant: u32)
-    requires lens { length now.now ≡ length pasts.old.items }
-    requires counts { All (λ x. x.count ≤ instant) pasts.old.items }
+/// The last value of flow i, one instant later.
+#[inline(always)]
+fn renew(lasts: &mut Vec<Cell>, i: usize, cell: Cell)
+    requires { i < length lasts.old.items }
+    ensures { ForSome (slice_get lasts.old.items i) (λ y. lasts.new.items
+        ≡ slice_set lasts.old.items i (newest cell y)) }
+{
+    if is_absent(cell) {
+        return;
+    }
+    lasts[i] = cell;
+}
+
+/// How often flow i was present, one instant later.
+#[inline(always)]
+fn count(counts: &mut Vec<u32>, i: usize, cell: Cell)
+    requires within { i < length counts.old.items }
+    requires few { ForSome (slice_get counts.old.items i) (λ n. n < most_instants) }
+    ensures { ForSome (slice_get counts.old.items i) (λ n. counts.new.items
+        ≡ slice_set counts.old.items i (more_of cell n)) }
+{
+    if is_absent(cell) {
+        return;
+    }
+    counts[i] += 1;
+}
+
+/// Adds an instant to what is kept of the flows of these places: their last values, and how often they were present.
+fn age(places: &[usize], shown: &[Cell], lasts: &mut Vec<Cell>, counts: &mut Vec<u32>, instant: u32)
+    requires lasts_len { length shown.now ≡ length lasts.old.items }
+    requires counts_len { length shown.now ≡ length counts.old.items }
+    requires within { (k : ℕ) → k < length places.now → slice_index places.now k
+        < length shown.now }
+    requires once { (j k : ℕ) → j < k → k < length places.now → slice_index places.now j
+        ≢ slice_index places.now k }
+    requires counts { All (λ n. n ≤ instant) counts.old.items }
     requires few { instant < most_instants }
-    ensures each { (i : ℕ) (x : Status) (y : Past) → slice_get now.now i ≡ Some x
-        → slice_get pasts.old.items i ≡ Some y → slice_get pasts.new.items i ≡ Some (later x y) }
-    ensures len { length pasts.new.items ≡ length pasts.old.items }
-    ensures counts { All (λ x. x.count ≤ instant + 1) pasts.new.items }
+    ensures lasts { (k : ℕ) (x y : Cell) → k < length places.now
+        → slice_get shown.now (slice_index places.now k) ≡ Some x
+        → slice_get lasts.old.items (slice_index places.now k) ≡ Some y
+        → slice_get lasts.new.items (slice_index places.now k) ≡ Some (newest x y) }
+    ensures counted { (k : ℕ) (x : Cell) (n : ℕ) → k < length places.now
+        → slice_get shown.now (slice_index places.now k) ≡ Some x
+        → slice_get counts.old.items (slice_index places.now k) ≡ Some n
+        → slice_get counts.new.items (slice_index places.now k) ≡ Some (more_of x n) }
+    ensures lasts_len { length lasts.new.items ≡ length lasts.old.items }
+    ensures counts_len { length counts.new.items ≡ length counts.old.items }
+    ensures counts { All (λ n. n ≤ instant + 1) counts.new.items }
 {
-    for i in 0..pasts.len() {
-        pasts[i] = kept(now[i], pasts[i]);
+    for k in 0..places.len() {
+        let i = places[k];
+        let cell = shown[i];
+        renew(lasts, i, cell);
+        count(counts, i, cell);
     }
 }
 
-/// A flow that had nothing to do is absent.
-fn clear(now: &mut Vec<Status>, i: usize, step: usize)
-    requires within { i < length now.old.items }
-    ensures cleared { step ≡ 0 → now.new.items ≡ slice_set now.old.items i Status.Absent }
-    ensures left { 0 < step → now.new.items ≡ now.old.items }
+/// Whether an item is left after those done, of a flow that is present or closes.
+#[inline(always)]
+fn is_left(done: usize, early: bool, own: bool, outs: usize, into: bool) -> bool
+    ensures { result ≡ nat_lt done (in_cell true own early outs into) }
 {
-    if step == 0 {
-        now[i] = Status::Absent;
+    if own {
+        if early {
+            return done <= outs;
+        }
+        return done < outs;
     }
+    into && done == 0
 }
 
-/// Whether the clock of a flow is true.
-fn open_clock(now: &[Status], flow: Option<&Flow>) -> bool
-    ensures { result ≡ is_open (clock_there now.now (option_copied flow.entry)) }
+fn link_at(links: &[LinkNo], k: usize) -> LinkNo
+    ensures { result ≡ slice_index links.now k }
 {
-    match flow {
-        Some(flow) => clock_now(now, flow.clock) == Some(true),
-        None => false,
-    }
-}
-
-fn count_kept(pasts: &[Past], i: usize) -> u32
-    ensures { result ≡ count_kept pasts.now i }
-{
-    match pasts.get(i) {
-        Some(x) => x.count,
+    match links.get(k) {
+        Some(link) => *link,
         None => 0,
     }
 }
 
-fn datum_shown(shown: &[Status], i: usize) -> Datum
-    ensures { result ≡ datum_shown shown.now i }
+/// A flow that had nothing to do is absent.
+fn clear(shown: &mut Vec<Cell>, i: usize, step: usize)
+    requires within { i < length shown.old.items }
+    ensures cleared { step ≡ 0 → statuses shown.new.items ≡ slice_set (statuses shown.old.items) i
+        AnyStatus.Absent }
+    ensures left { 0 < step → statuses shown.new.items ≡ statuses shown.old.items }
 {
-    datum_at(shown, i).unwrap_or(Datum::Nil)
-}
-
-/// The flow of place i has this value now.
-fn show(shown: &mut Vec<Status>, i: usize, d: Datum)
-    ensures { shown.new.items ≡ slice_set shown.old.items i (Status.Present d) }
-{
-    if i < shown.len() {
-        shown[i] = Status::Present(d);
+    if step == 0 {
+        shown[i] = Cell::Absent;
     }
 }
 
-fn show_body(shown: &mut Vec<Status>, i: usize, body: Body)
-    ensures { shown.new.items ≡ with_body shown.old.items i body }
+fn count_at(counts: &[u32], i: usize) -> u32
+    ensures { result ≡ unwrap_or (slice_get counts.now i) 0 }
+{
+    match counts.get(i) {
+        Some(count) => *count,
+        None => 0,
+    }
+}
+
+/// The datum that a cell holds, and nil where it holds none.
+fn datum_of(cell: Cell) -> Datum
+    ensures { result ≡ unwrap_or (held cell) Datum.Nil }
+{
+    match cell {
+        Cell::Number(n) => Datum::Int(n),
+        Cell::Truth(b) => Datum::Bool(b),
+        _ => Datum::Nil,
+    }
+}
+
+/// The flow of place i shows this now.
+fn show(shown: &mut Vec<Cell>, i: usize, cell: Cell)
+    ensures { statuses shown.new.items ≡ slice_set (statuses shown.old.items) i (status_of cell) }
+{
+    if i < shown.len() {
+        shown[i] = cell;
+    }
+}
+
+fn show_body(shown: &mut Vec<Cell>, i: usize, body: Body)
+    ensures { statuses shown.new.items ≡ with_body (statuses shown.old.items) i body }
 {
     match body {
-        Body::Value(d) => show(shown, i, d),
+        Body::Value(d) => show(shown, i, cell_of(d)),
         Body::Close => {}
     }
 }
 
 impl Desk {
-    /// Whether the status of flow i is to be told at this instant.
-    fn noted(&self, i: usize) -> bool
-        ensures { result ≡ is_noted self.now i }
+    /// The flow at hand.
+    #[inline(always)]
+    fn post(&self) -> &Post
+        requires set { IsSet self.now }
+        requires within { self.now.row < length (places_of self.now.program.plan
+            self.now.program.site) }
+        ensures { IsPost self.now.program.plan self.now.program.site self.now.place result.now }
     {
-        self.instant < self.inputs.instants() && self.program.told(i)
+        &self.program.posts()[self.row]
     }
 
-    /// Whether flow i, whose items are all done, is to be told as absent.
-    fn absent_noted(&self, i: usize) -> bool
-        ensures { result ≡ (self.now.step == 0 && is_noted self.now i) }
+    /// Whether the site reports the flow at hand.
+    fn told_here(&self) -> bool
+        requires set { IsSet self.now }
+        requires within { self.now.row < length (places_of self.now.program.plan
+            self.now.program.site) }
+        ensures { result ≡ (part_at self.now.program (slice_index
+            self.now.program.plan.flat.order self.now.place)).told }
     {
-        self.step == 0 && self.noted(i)
+        self.post().told
+    }
+
+    /// Whether the status of the flow at hand is to be told at this instant.
+    fn noted(&self) -> bool
+        requires set { IsSet self.now }
+        requires within { self.now.row < length (places_of self.now.program.plan
+            self.now.program.site) }
+        ensures { result ≡ is_noted self.now (slice_index self.now.program.plan.flat.order
+            self.now.place) }
+    {
+        self.instant < self.inputs.instants() && self.told_here()
+    }
+
+    /// Whether the flow at hand, whose items are all done, is to be told as absent.
+    fn absent_noted(&self) -> bool
+        requires set { IsSet self.now }
+        requires within { self.now.row < length (places_of self.now.program.plan
+            self.now.program.site) }
+        ensures { result ≡ (self.now.step == 0 && is_noted self.now (slice_index
+            self.now.program.plan.flat.order self.now.place)) }
+    {
+        self.step == 0 && self.noted()
     }
 
     /// Whether the site reports output k.
@@ -151,17 +249,47 @@ impl Desk {
         }
     }
 
-    /// How many items the flow of place i has at this instant.
-    fn cell_len(&self, i: usize) -> usize
-        ensures { result ≡ cell_size self.now i }
+    /// Whether a line's clock is true, or the table is over.
+    #[inline(always)]
+    fn is_open(&self, line: &Line, early: bool) -> bool
+        ensures { result ≡ (not early || unwrap_or (clock_in (shown_of self.now)
+            (clock_of line.now.clock)) false) }
     {
-        let early = self.instant < self.inputs.instants();
-        let flow = self.program.flows().get(i);
-        if early && !open_clock(&self.shown, flow) {
-            0
-        } else {
-            self.width(i, early)
+        if early {
+            return is_on(&self.shown, line.clock);
         }
+        true
+    }
+
+    /// Whether a flow of which nothing is done has an item at this instant.
+    #[inline(always)]
+    fn has_first(&self, post: &Post, early: bool) -> bool
+        ensures { result ≡ nat_lt 0 (in_cell (not early || unwrap_or (clock_in (shown_of self.now)
+            (clock_of post.now.line.clock)) false) post.now.own early post.now.outs
+            (is_some post.now.from)) }
+    {
+        if self.is_open(&post.line, early) {
+            return is_left(0, early, post.own, post.outs, post.from.is_some());
+        }
+        false
+    }
+
+    /// Whether an item of the flow at hand is left at this instant.
+    fn has_item(&self) -> bool
+        requires set { IsSet self.now }
+        requires within { self.now.row < length (places_of self.now.program.plan
+            self.now.program.site) }
+        requires begun { 0 < self.now.step → self.now.step ≤ cell_size self.now (slice_index
+            self.now.program.plan.flat.order self.now.place) }
+        ensures { result ≡ nat_lt self.now.step (cell_size self.now (slice_index
+            self.now.program.plan.flat.order self.now.place)) }
+    {
+        let post = self.post();
+        let early = self.instant < self.inputs.instants();
+        if self.step == 0 {
+            return self.has_first(post, early);
+        }
+        is_left(self.step, early, post.own, post.outs, post.from.is_some())
     }
 
     /// From a flow whose items are all done to the next one.
@@ -170,23 +298,27 @@ impl Desk {
         requires stands { StandsAt self.old }
         requires logged { IsLoggedAt self.old }
         requires going { is_faulted self.old ≡ false }
+        requires row { self.old.row < length (places_of self.old.program.plan
+            self.old.program.site) }
         requires within { self.old.place < length self.old.program.plan.flat.order }
         requires there { slice_index self.old.program.plan.flat.order self.old.place
             < length self.old.shown.items }
         requires all { self.old.step ≡ cell_size self.old (slice_index
             self.old.program.plan.flat.order self.old.place) }
         ensures same { IsSameRun self.old self.new }
+        ensures set { IsSet self.new }
         ensures stands { StandsAt self.new }
         ensures logged { IsLoggedAt self.new }
         ensures fault { self.new.fault ≡ self.old.fault }
         ensures done { done_of self.new ≡ done_of self.old }
         ensures less { rest_of self.new < rest_of self.old }
     {
-        let i = self.program.order()[self.place];
+        let i = self.program.places()[self.row];
+        let wanted = self.absent_noted();
         clear(&mut self.shown, i, self.step);
-        let wanted = self.absent_noted(i);
         note(&mut self.logs, wanted, i, Status::Absent);
-        self.place += 1;
+        self.row += 1;
+        self.place = self.program.rank(self.row);
         self.step = 0;
     }
 
@@ -199,15 +331,23 @@ impl Desk {
         requires last { self.old.place ≡ length self.old.program.plan.flat.order }
         requires early { self.old.instant < self.old.inputs.job.inputs.instants }
         ensures same { IsSameRun self.old self.new }
+        ensures set { IsSet self.new }
         ensures stands { StandsAt self.new }
         ensures logged { IsLoggedAt self.new }
         ensures fault { self.new.fault ≡ self.old.fault }
         ensures done { done_of self.new ≡ done_of self.old }
         ensures less { rest_of self.new < rest_of self.old }
     {
-        age(&self.shown, &mut self.pasts, self.instant);
+        age(
+            self.program.places(),
+            &self.shown,
+            &mut self.lasts,
+            &mut self.counts,
+            self.instant,
+        );
         self.instant += 1;
-        self.place = 0;
+        self.row = 0;
+        self.place = self.program.rank(0);
         self.step = 0;
     }
 
@@ -226,9 +366,8 @@ impl Desk {
         ensures ready { result ≡ false → IsReadyAt self.new }
         ensures less { result ≡ true → rest_of self.new < rest_of self.old }
     {
-        if self.place < self.program.order().len() {
-            let i = self.program.order()[self.place];
-            if self.step < self.cell_len(i) {
+        if self.row < self.program.places().len() {
+            if self.has_item() {
                 return false;
             }
             self.pass();
@@ -258,66 +397,93 @@ impl Desk {
         'on: while self.advance() {}
     }
 
-    /// The value that the table gives a flow of this form now, where the flow is an input of the site's.
-    fn given(&self, form: Form) -> Option<Datum>
-        ensures { (c : ℕ) → form ≡ Form.Input c → stands self.now.inputs.job.plan c
-            self.now.inputs.site ≡ true → result ≡ slice_get
-            (column_of self.now.inputs.job.inputs c) self.now.instant }
+    /// What the table gives a line now, where it is an input of the site's; absent where it gives nothing.
+    fn given(&self, line: &Line) -> Cell
+        ensures { (c : ℕ) → form_of line.now.operation ≡ Form.Input c
+            → stands self.now.inputs.job.plan c self.now.inputs.site ≡ true → held result
+            ≡ slice_get (column_of self.now.inputs.job.inputs c) self.now.instant }
     {
-        match form {
-            Form::Input(c) => self.inputs.given(c, self.instant),
-            _ => None,
+        let Some(c) = column_of(line) else {
+            return Cell::Absent;
+        };
+        match self.inputs.given(c as usize, self.instant) {
+            Some(d) => cell_of(d),
+            None => Cell::Absent,
         }
     }
 
-    /// The value of flow i now.
-    fn compute(&self, i: usize) -> Outcome
-        ensures { Computes self.now i (flow_at self.now.program.plan.flat i) result }
+    /// The value of the flow at hand now.
+    fn compute(&self) -> Answer
+        requires set { IsSet self.now }
+        requires within { self.now.row < length (places_of self.now.program.plan
+            self.now.program.site) }
+        ensures { Computes self.now (slice_index self.now.program.plan.flat.order self.now.place)
+            (flow_at self.now.program.plan.flat (slice_index self.now.program.plan.flat.order
+            self.now.place)) (outcome_of result) }
     {
-        match self.program.flows().get(i) {
-            Some(flow) => value(
-                flow.form,
-                i,
-                self.given(flow.form),
-                &self.shown,
-                &self.pasts,
-            ),
-            None => Outcome::Stuck,
-        }
+        let post = self.post();
+        let line = &post.line;
+        value_with(line, self.given(line), &self.shown, &self.lasts)
     }
 
     /// What the machine offers next.
     pub fn offer(&self) -> Next
+        requires { IsSet self.now }
         ensures { result ≡ offered self.now }
     {
         if self.fault.is_some() {
             return Next::Faulted;
         }
-        match self.program.order().get(self.place).copied() {
-            Some(i) => {
-                if self.program.owned(i) {
-                    self.offer_own(i, self.program.to(i))
-                } else {
-                    Next::Take(self.program.from(i).unwrap_or(0))
-                }
-            }
-            None => Next::Ended,
+        if self.row >= self.program.places().len() {
+            return Next::Ended;
+        }
+        let post = self.post();
+        if post.own {
+            self.offer_own(post)
+        } else {
+            Next::Take(post.from.unwrap_or(0))
         }
     }
 
-    fn offer_own(&self, i: usize, outs: &[LinkNo]) -> Next
-        ensures { result ≡ offered_own self.now i outs.now }
+    fn offer_own(&self, post: &Post) -> Next
+        requires { IsSet self.now }
+        ensures { result ≡ offered_own self.now post.now.line.place (part_at self.now.program
+            post.now.line.place).to }
     {
-        let no = count_kept(&self.pasts, i);
         if self.instant < self.inputs.instants() {
             if self.step == 0 {
                 return Next::Local;
             }
-            let body = Body::Value(datum_shown(&self.shown, i));
-            let link = outs.get(self.step - 1).copied().unwrap_or(0);
-            return Next::Put(link, Msg { no, body });
+            return self.offer_value(post);
         }
-        let link = outs.get(self.step).copied().unwrap_or(0);
+        self.offer_close(post)
+    }
+
+    /// The put at hand of a value.
+    fn offer_value(&self, post: &Post) -> Next
+        requires set { IsSet self.now }
+        requires early { self.now.instant < self.now.inputs.job.inputs.instants }
+        requires some { 0 < self.now.step }
+        ensures { result ≡ offered_own self.now post.now.line.place (part_at self.now.program
+            post.now.line.place).to }
+    {
+        let i = post.line.place as usize;
+        let link = link_at(self.program.to(i), self.step - 1);
+        let no = count_at(&self.counts, i);
+        let body = Body::Value(datum_of(cell_at(&self.shown, post.line.place)));
+        Next::Put(link, Msg { no, body })
+    }
+
+    /// The put at hand of the close.
+    fn offer_close(&self, post: &Post) -> Next
+        requires set { IsSet self.now }
+        requires late { self.now.inputs.job.inputs.instants ≤ self.now.instant }
+        ensures { result ≡ offered_own self.now post.now.line.place (part_at self.now.program
+            post.now.line.place).to }
+    {
+        let i = post.line.place as usize;
+        let link = link_at(self.program.to(i), self.step);
+        let no = count_at(&self.counts, i);
         Next::Put(
             link,
             Msg {
@@ -327,10 +493,14 @@ impl Desk {
         )
     }
 
+    /// The place of the flow at hand.
     fn flow_here(&self) -> usize
+        requires set { IsSet self.now }
+        requires within { self.now.row < length (places_of self.now.program.plan
+            self.now.program.site) }
         ensures { result ≡ slice_index self.now.program.plan.flat.order self.now.place }
     {
-        self.program.order().get(self.place).copied().unwrap_or(0)
+        self.post().line.place as usize
     }
 
     /// Computes the flow at hand.
@@ -349,15 +519,15 @@ impl Desk {
         ensures done { done_of self.new ≡ done_of self.old + 1 }
     {
         let i = self.flow_here();
-        let v = self.compute(i);
-        let wanted = self.noted(i);
+        let answer = self.compute();
+        let wanted = self.noted();
         self.step = 1;
-        match v {
-            Outcome::Gives(d) => {
-                show(&mut self.shown, i, d);
-                note(&mut self.logs, wanted, i, Status::Present(d));
+        match answer {
+            Answer::Gives(cell) => {
+                show(&mut self.shown, i, cell);
+                note(&mut self.logs, wanted, i, status(cell));
             }
-            Outcome::Faults(kind) => {
+            Answer::Faults(kind) => {
                 let variable = self.program.owner(i);
                 self.fault = Some(Fault {
                     variable,
@@ -365,7 +535,7 @@ impl Desk {
                     kind,
                 });
             }
-            Outcome::Stuck => unreachable!(),
+            Answer::Stuck => unreachable!(),
         }
     }
 

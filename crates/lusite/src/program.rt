@@ -3,9 +3,10 @@
 ghost use Rattle.std.specs.Prelude.{◌≡◌, ◌<◌, [], slice_get, slice_index, unwrap_or, IfOk, Option};
 ghost use Rattle.luworld.specs.Needs.{IsPlan, sites_of};
 ghost use Rattle.luworld.specs.Runs.{outputs_of};
-ghost use Rattle.lusite.specs.Programs.{part_at, no_part, output_names};
+ghost use Rattle.lusite.specs.Programs.{part_at, no_part, output_names, ranks_of, places_of, rank_at, ArePosts};
 
 use crate::next::LinkNo;
+use lueval::Line;
 use luflow::Flow;
 use lulist::{Name, Row};
 use luplace::Plan;
@@ -25,6 +26,21 @@ pub struct Part {
     pub to: Row<LinkNo>,
 }
 
+/// A flow that a site computes or takes, as the site's machine has it.
+#[derive(Clone, Copy, Drop)]
+pub struct Post {
+    /// The flow, with its place.
+    pub line: Line,
+    /// Whether the site computes the flow.
+    pub own: bool,
+    /// Whether the site reports the flow, as an output.
+    pub told: bool,
+    /// The link by which the site takes the flow.
+    pub from: Option<LinkNo>,
+    /// By how many links the site sends the flow.
+    pub outs: usize,
+}
+
 /// What of a plan a site runs: the flows, and the site's part in each. It keeps, for contracts alone, which plan it is of.
 #[derive(Drop)]
 pub struct SiteProgram {
@@ -33,6 +49,12 @@ pub struct SiteProgram {
     pub(crate) order: Row<usize>,
     pub(crate) owners: Row<usize>,
     pub(crate) parts: Row<Part>,
+    /// The ranks of the flows that the site computes or takes, in order.
+    pub(crate) ranks: Row<usize>,
+    /// The places of these flows, in order of rank.
+    pub(crate) places: Row<usize>,
+    /// These flows, in order of rank.
+    pub(crate) posts: Row<Post>,
     pub(crate) outputs: Row<usize>,
     pub(crate) sites: u8,
     pub(crate) names: Row<Name>,
@@ -46,10 +68,10 @@ impl Model for SiteProgram {
 
     ghost view = { λ a. record { plan = a.plan.value; site = a.site } };
 
-    ghost invariant = { λ a. IsProgram a.plan.value a.site a.flows a.order a.owners a.parts a.outputs a.sites a.names };
+    ghost invariant = { λ a. IsProgram a.plan.value a.site a.flows a.order a.owners a.parts a.ranks a.places a.posts a.outputs a.sites a.names };
 }
 
-fn own_at(parts: &[Part], place: usize) -> bool
+pub(crate) fn own_at(parts: &[Part], place: usize) -> bool
     ensures { result ≡ (unwrap_or (slice_get parts.now place) no_part).own }
 {
     match parts.get(place) {
@@ -58,7 +80,7 @@ fn own_at(parts: &[Part], place: usize) -> bool
     }
 }
 
-fn told_at(parts: &[Part], place: usize) -> bool
+pub(crate) fn told_at(parts: &[Part], place: usize) -> bool
     ensures { result ≡ (unwrap_or (slice_get parts.now place) no_part).told }
 {
     match parts.get(place) {
@@ -67,7 +89,7 @@ fn told_at(parts: &[Part], place: usize) -> bool
     }
 }
 
-fn from_at(parts: &[Part], place: usize) -> Option<LinkNo>
+pub(crate) fn from_at(parts: &[Part], place: usize) -> Option<LinkNo>
     ensures { result ≡ (unwrap_or (slice_get parts.now place) no_part).from }
 {
     match parts.get(place) {
@@ -76,7 +98,7 @@ fn from_at(parts: &[Part], place: usize) -> Option<LinkNo>
     }
 }
 
-fn to_at(parts: &[Part], place: usize) -> &[LinkNo]
+pub(crate) fn to_at(parts: &[Part], place: usize) -> &[LinkNo]
     ensures { result.now ≡ (unwrap_or (slice_get parts.now place) no_part).to }
 {
     match parts.get(place) {
@@ -106,6 +128,30 @@ impl SiteProgram {
         ensures { result.now ≡ self.now.plan.flat.order }
     {
         self.order.as_slice()
+    }
+
+    /// The places of the flows that the site computes or takes, in order of rank.
+    pub fn places(&self) -> &[usize]
+        ensures { result.now ≡ places_of self.now.plan self.now.site }
+    {
+        self.places.as_slice()
+    }
+
+    /// The flows that the site computes or takes, in order of rank, as its machine has them.
+    pub(crate) fn posts(&self) -> &[Post]
+        ensures { ArePosts self.now.plan self.now.site result.now }
+    {
+        self.posts.as_slice()
+    }
+
+    /// The rank of flow number k of those that the site computes or takes; behind the last the number of all flows.
+    pub fn rank(&self, k: usize) -> usize
+        ensures { result ≡ rank_at self.now k }
+    {
+        match self.ranks.as_slice().get(k) {
+            Some(rank) => *rank,
+            None => self.order.as_slice().len(),
+        }
     }
 
     /// The number of the main variable in whose equation a flow stands.

@@ -4,12 +4,13 @@ ghost use Rattle.std.specs.Prelude.{◌≡◌, ℕ, ◌+◌, ◌<◌, ◌&&◌, 
 ghost use Rattle.std.specs.List.{range_with_len};
 ghost use Rattle.luworld.specs.Needs.{sites_of, home, stands};
 ghost use Rattle.luworld.specs.Runs.{link_into, sends};
-ghost use Rattle.lusite.specs.Programs.{part_of, parts_of, role_at};
+ghost use Rattle.lusite.specs.Programs.{part_of, parts_of, no_part, knows_in, ranks_of, places_of, IsPost, ArePosts, role_at};
 ghost use Rattle.luflow.specs.Variables.{is_output_of, is_output, variable_name};
 
 use crate::carriers::{carriers_of, take_row};
 use crate::next::LinkNo;
-use crate::program::{Part, SiteProgram};
+use crate::program::{Part, Post, SiteProgram, from_at, own_at, to_at, told_at};
+use lueval::line_of;
 use luflow::{Flat, Role, Variable};
 use lulist::{Name, Row};
 use luplace::Plan;
@@ -135,6 +136,88 @@ fn parts(alloc: Global, plan: &Plan, site: u8) -> Result<Vec<Part>, AllocError>
     Ok(all)
 }
 
+/// Whether a site computes or takes a flow.
+fn is_known(parts: &[Part], place: usize) -> bool
+    ensures { result ≡ knows_in (unwrap_or (slice_get parts.now place) no_part) }
+{
+    match parts.get(place) {
+        Some(part) => part.own || part.from.is_some(),
+        None => false,
+    }
+}
+
+/// The ranks of the flows that a site computes or takes, in order.
+fn known_ranks(
+    alloc: Global,
+    plan: &Plan,
+    site: u8,
+    parts: &[Part],
+) -> Result<Vec<usize>, AllocError>
+    requires { parts.now ≡ parts_of plan.now site }
+    ensures { IfOk result (λ v. v.items ≡ ranks_of plan.now site) }
+{
+    let order = plan.flat().rank();
+    let mut found = Vec::new(alloc);
+    for p in 0..order.len() {
+        push_if(&mut found, is_known(parts, order[p]), p)?;
+    }
+    Ok(found)
+}
+
+/// The places of these flows.
+fn known_places(
+    alloc: Global,
+    plan: &Plan,
+    site: u8,
+    ranks: &[usize],
+) -> Result<Vec<usize>, AllocError>
+    requires { ranks.now ≡ ranks_of plan.now site }
+    ensures { IfOk result (λ v. v.items ≡ places_of plan.now site) }
+{
+    let order = plan.flat().rank();
+    let mut places = Vec::with_capacity(alloc, ranks.len())?;
+    for rank in ranks {
+        places.push_reserved(number_at(order, *rank));
+    }
+    Ok(places)
+}
+
+/// The flow of a rank, as the machine of a site has it.
+fn post(plan: &Plan, site: u8, parts: &[Part], rank: usize) -> Post
+    requires rank { rank < length plan.now.flat.order }
+    requires parts { parts.now ≡ parts_of plan.now site }
+    ensures { IsPost plan.now site rank result }
+{
+    let line = line_of(plan.flat(), rank);
+    let place = line.place as usize;
+    Post {
+        line,
+        own: own_at(parts, place),
+        told: told_at(parts, place),
+        from: from_at(parts, place),
+        outs: to_at(parts, place).len(),
+    }
+}
+
+/// The flows that a site computes or takes, in order of rank, as its machine has them.
+fn posts(
+    alloc: Global,
+    plan: &Plan,
+    site: u8,
+    parts: &[Part],
+    ranks: &[usize],
+) -> Result<Vec<Post>, AllocError>
+    requires parts { parts.now ≡ parts_of plan.now site }
+    requires ranks { ranks.now ≡ ranks_of plan.now site }
+    ensures { IfOk result (λ v. ArePosts plan.now site v.items) }
+{
+    let mut posts = Vec::with_capacity(alloc, ranks.len())?;
+    for rank in ranks {
+        posts.push_reserved(post(plan, site, parts, *rank));
+    }
+    Ok(posts)
+}
+
 /// What of a plan a site runs.
 pub fn project(alloc: Global, plan: &Plan, site: u8) -> Result<SiteProgram, AllocError>
     requires { site < sites_of plan.now }
@@ -144,6 +227,9 @@ pub fn project(alloc: Global, plan: &Plan, site: u8) -> Result<SiteProgram, Allo
     let order = Vec::from_slice(alloc, plan.flat().rank())?;
     let owners = Vec::from_slice(alloc, plan.flat().owners())?;
     let parts = parts(alloc, plan, site)?;
+    let ranks = known_ranks(alloc, plan, site, parts.as_slice())?;
+    let places = known_places(alloc, plan, site, ranks.as_slice())?;
+    let posts = posts(alloc, plan, site, parts.as_slice(), ranks.as_slice())?;
     let outputs = told_places(alloc, plan.flat().variables())?;
     let names = names_of(alloc, plan.flat(), outputs.as_slice())?;
     Ok(SiteProgram {
@@ -152,6 +238,9 @@ pub fn project(alloc: Global, plan: &Plan, site: u8) -> Result<SiteProgram, Allo
         order: Row::new(order),
         owners: Row::new(owners),
         parts: Row::new(parts),
+        ranks: Row::new(ranks),
+        places: Row::new(places),
+        posts: Row::new(posts),
         outputs: Row::new(outputs),
         sites: plan.sites().len() as u8,
         names: Row::new(names),

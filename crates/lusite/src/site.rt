@@ -13,8 +13,8 @@ ghost use Rattle.lusite.specs.Widths.{most_left};
 use crate::desk::Desk;
 use crate::next::{Fault, Next};
 use crate::program::SiteProgram;
-use lueval::Past;
-use luflow::{Datum, Msg, Status};
+use lueval::Cell;
+use luflow::{Msg, Status};
 use lulist::Name;
 use luplace::SiteInputs;
 use std::alloc::{AllocError, Global};
@@ -73,22 +73,21 @@ impl Site {
         ensures done { IfOk result (λ x. x.done ≡ 0) }
     {
         let flows = program.flows().len();
-        let shown = Vec::from_elem(alloc, Status::Absent, flows)?;
-        let start = Past {
-            last: Datum::Nil,
-            ticked: false,
-            count: 0,
-        };
-        let pasts = Vec::from_elem(alloc, start, flows)?;
+        let shown = Vec::from_elem(alloc, Cell::Absent, flows)?;
+        let lasts = Vec::from_elem(alloc, Cell::Absent, flows)?;
+        let counts = Vec::from_elem(alloc, 0, flows)?;
         let logs = new_logs(alloc, &program, flows, inputs.instants())?;
+        let place = program.rank(0);
         let mut desk = Desk {
             program,
             inputs,
             shown,
-            pasts,
+            lasts,
+            counts,
             logs,
             instant: 0,
-            place: 0,
+            row: 0,
+            place,
             step: 0,
             fault: None,
         };

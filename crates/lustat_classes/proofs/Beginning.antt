@@ -1,12 +1,18 @@
 -- Equations that begin with a truth value.
-use Rattle.std.proofs.Common.{◌≡◌, inl, inr, ◌↔◌, ℕ, Bool, List, [], ◌∷◌, ◌++◌, IsTrue, refl, sym, subst, map, Contains}
+use Rattle.std.proofs.Common.{◌≡◌, ◌∙◌, inl, inr, ◌↔◌, ℕ, Bool, true, false, cond, List, [], ◌∷◌, ◌++◌, Option, Some, None, IsTrue, refl, sym, subst, map, Contains}
+use Rattle.std.specs.Option.{option_map, unwrap_or, is_some}
 use Rattle.std.proofs.lemmas.List.Elements.{Contains-push, Contains-push_cases, Contains-append_left}
 use Rattle.lutree.specs.declared.expr.Infix.TheVariants.{Arrow, FollowedBy}
 use Rattle.lutree.specs.declared.program.Node.{Node}
-use Rattle.lutree.specs.Tree.{Tree, EquationTree, equation_view, node_view}
+use Rattle.lutree.specs.Tree.{Tree, EquationTree, NodeTree, equation_view, node_view}
 use Rattle.lutree.specs.Tree as tree
+use Rattle.lutree.specs.declared.expr.Condition.{Condition}
+use Rattle.lunames.specs.Places.{first_place}
+use Rattle.lunames.proofs.Finding.{has_by_place}
+use Rattle.lustat_rules.specs.Scope.{Clock, clock_of}
+use Rattle.lustat_rules.specs.Clocks.{base}
 use Rattle.lustat_rules.specs.Classes.{StartsWith, IsTrueAtFirst}
-use Rattle.lustat_classes.specs.Currents.{StartsInside, Begins, AreBegun}
+use Rattle.lustat_classes.specs.Currents.{StartsInside, Begins, AreBegun, IsStarted, starts_among}
 
 pub begins : (sign : Bool) (e : Tree) → StartsWith sign e → StartsInside sign e
 begins sign _ (StartsWith.arrow e) = refl
@@ -57,3 +63,31 @@ at_first m names x sign s b begun is table =
       λ h. let found = (begun x).0 (table.0 h) in (found.0, found.1, found.2.0, found.2.1),
       λ h. table.1 ((begun x).1 (h.0, h.1, (h.2, h.3))),
     )
+
+no_clock : (c : Condition) → None ≡ Some (Some c) → ⊥
+no_clock c e = cc
+
+-- what is no variable has no clock
+pub stray_started : (n : NodeTree) (x : List ℕ) → clock_of n x ≡ None → IsStarted n x
+stray_started n x at = record { clock = λ c has. absurd (no_clock c (sym at ∙ has)) }
+
+-- what the mark of its declared clock tells of a variable
+module _ (m : Node) (truths falses : List (List ℕ)) (t : AreBegun true (map equation_view m.equations) truths) (f : AreBegun false (map equation_view m.equations) falses) (x : List ℕ) (b : Bool) where
+  by_sign : (c : Condition) (s : Bool) → c.sign ≡ s → b ≡ is_some (first_place (cond s truths falses) c.variable) → IsTrue b ↔ IsTrueAtFirst (node_view m) c
+  by_sign c true is e = at_first m truths c.variable c.sign true b t is (has_by_place truths c.variable b e)
+  by_sign c false is e = at_first m falses c.variable c.sign false b f is (has_by_place falses c.variable b e)
+
+  same_condition : (c d : Condition) → Some (Some c) ≡ Some (Some d) → c ≡ d
+  same_condition c d e = cc
+
+  no_base : (c : Condition) → Some base ≡ Some (Some c) → ⊥
+  no_base c e = cc
+
+  pub is_started : (o : Option Clock) → clock_of (node_view m) x ≡ o → b ≡ unwrap_or (option_map (starts_among truths falses) o) true → IsTrue b ↔ IsStarted (node_view m) x
+  is_started None at e = (λ h. stray_started (node_view m) x at, λ h. e)
+  is_started (Some None) at e = (λ h. record { clock = λ c has. absurd (no_base c (sym at ∙ has)) }, λ h. e)
+  is_started (Some (Some c)) at e =
+      let here = by_sign c c.sign refl e in (
+        λ h. record { clock = λ d has. subst (IsTrueAtFirst (node_view m)) (same_condition c d (sym at ∙ has)) (here.0 h) },
+        λ h. here.1 (h.clock c at),
+      )

@@ -1,9 +1,11 @@
 -- Uses of `current`, form by form.
-use Rattle.std.specs.Prelude.{◌≡◌, ◌↔◌, ℕ, Bool, List, [], ◌∷◌, Contains}
+use Rattle.std.specs.Prelude.{◌≡◌, ◌↔◌, ℕ, Bool, true, List, [], ◌∷◌, Some, None, Contains, is_some, if◌then◌else◌}
 use Rattle.lutree.specs.declared.expr.Infix.TheVariants.{Arrow, FollowedBy}
 use Rattle.lutree.specs.Tree.{Tree, Trees, EquationTree, NodeTree}
 use Rattle.lutree.specs.Tree as tree
+use Rattle.lustat_rules.specs.Scope.{Clock}
 use Rattle.lustat_rules.specs.Classes.{StartsWith, ClockIsTrueAtFirst}
+use Rattle.lunames.specs.Places.{first_place}
 
 -- what is true of each name after `current`
 abbrev mutual
@@ -40,3 +42,8 @@ StartsInside sign e = ⊥
 -- the clock of a variable, if it has one, is true at first
 pub record IsStarted (n : NodeTree) (x : List ℕ) : Type 0 where
   pub clock : ClockIsTrueAtFirst n x
+
+-- whether a clock, if it isn't the base clock, is true at first, where these names begin with true and those with false
+abbrev pub starts_among : List (List ℕ) → List (List ℕ) → Clock → Bool
+starts_among truths falses None = true
+starts_among truths falses (Some c) = is_some (first_place (if c.sign then truths else falses) c.variable)

@@ -39,7 +39,7 @@ pub fn is_one(scope: &Scope, marks: &[bool], e: &Expr) -> bool
 /// Whether what an expression needs in class 0 is there: what stands after `pre`, on the right of `fby` and in a branch of `merge`, the
 /// variable after `current`, and the arguments of calls. Takes no memory.
 ///
-/// The expected time grows with the length of the expression: a class never comes from behind what needs one, so no part is looked at
+/// The time grows with the length of the expression: a class never comes from behind what needs one, so no part is looked at
 /// for more than one need.
 #[cycle(needs)]
 pub fn needs_met(scope: &Scope, marks: &[bool], e: &Expr) -> bool

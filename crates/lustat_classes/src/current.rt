@@ -1,13 +1,14 @@
 //! The condition of `current`.
 
-ghost use Rattle.std.specs.Prelude.{◌≡◌, ◌↔◌, ℕ, List, IsTrue, true, false, map, IfOk, IfNone, IfSome};
+ghost use Rattle.std.specs.Prelude.{◌≡◌, ◌↔◌, ◌++◌, ℕ, List, IsTrue, true, false, map, IfOk, IfNone, IfSome, OnOk};
 ghost use Rattle.lutree.specs.Tree.{equation_view, node_view, view, views, trees_of};
 ghost use Rattle.lustat_rules.specs.Classes.{StartsWith, IsTrueAtFirst, CurrentsStart};
 ghost use Rattle.lutree.specs.Tree as tree;
-ghost use Rattle.lustat_classes.specs.Currents.{StartsInside, IsStarted, EachCurrent, EachCurrentOfAll, Begins, AreBegun};
+ghost use Rattle.lustat_classes.specs.Currents.{StartsInside, IsStarted, EachCurrent, EachCurrentOfAll, Begins, AreBegun, starts_among};
+ghost use Rattle.lustat_scope.specs.Scopes.{declared_in, clock_list};
 
-use lustat_scope::{ClockRef, Places, Scope};
-use lutree::{Equation, Expr, Infix, Node};
+use lustat_scope::{Places, Scope};
+use lutree::{Declaration, Equation, Expr, Infix, Node};
 use std::alloc::{AllocError, Global};
 use std::marker::Model;
 
@@ -83,12 +84,58 @@ fn begun_table<'a>(
     Places::new(alloc, names)
 }
 
-/// Which variables of a node are true at first, and which are false, by the form of their equations. A contract sees the node.
+// Whether the clock of a declaration, if it has one, is true at first, by the names that begin with true and with false.
+fn starts_by(truths: &Places, falses: &Places, declaration: &Declaration) -> bool
+    ensures { result ≡ starts_among truths.now falses.now declaration.now.clock }
+{
+    match &declaration.clock {
+        None => true,
+        Some(c) if c.sign => truths.find(c.variable.as_str()).is_some(),
+        Some(c) => falses.find(c.variable.as_str()).is_some(),
+    }
+}
+
+// For each of some declarations whether its clock is true at first, behind the marks before.
+fn push_starts(
+    marks: &mut Vec<bool>,
+    truths: &Places,
+    falses: &Places,
+    declarations: &[Declaration],
+) -> Result<(), AllocError>
+    ensures { OnOk result (marks.new.items ≡ marks.old.items
+        ++ map (starts_among truths.now falses.now) (clock_list declarations.now)) }
+{
+    for d in declarations {
+        marks.push(starts_by(truths, falses, d))?;
+    }
+    Ok(())
+}
+
+// For each declaration of a node whether its clock is true at first.
+fn starts_in(
+    alloc: Global,
+    truths: &Places,
+    falses: &Places,
+    node: &Node,
+) -> Result<Vec<bool>, AllocError>
+    ensures { IfOk result (λ marks. marks.items
+        ≡ map (starts_among truths.now falses.now) (clock_list (declared_in node.now))) }
+{
+    let mut marks = Vec::new(alloc);
+    push_starts(&mut marks, truths, falses, node.inputs.as_slice())?;
+    push_starts(&mut marks, truths, falses, node.outputs.as_slice())?;
+    push_starts(&mut marks, truths, falses, node.locals.as_slice())?;
+    Ok(marks)
+}
+
+/// Which variables of a node are true at first, and which are false, by the form of their equations; and for each declaration whether
+/// its clock is true at first. A contract sees the node.
 #[derive(Drop)]
 pub struct Firsts<'a> {
     node: &'a Node,
     truths: Places<'a>,
     falses: Places<'a>,
+    started: Vec<bool>,
 }
 
 impl<'a> Model for Firsts<'a> {
@@ -108,7 +155,7 @@ impl<'a> Model for Firsts<'a> {
 }
 
 impl<'a> Firsts<'a> {
-    /// The tables of a node. Their expected time grows with the length of the node.
+    /// The tables of a node. Their time grows with the length of the node.
     ///
     /// # Errors
     ///
@@ -118,10 +165,12 @@ impl<'a> Firsts<'a> {
     {
         let truths = begun_table(alloc, node.equations.as_slice(), true)?;
         let falses = begun_table(alloc, node.equations.as_slice(), false)?;
+        let started = starts_in(alloc, &truths, &falses, node)?;
         Ok(Firsts {
             node,
             truths,
             falses,
+            started,
         })
     }
 
@@ -137,14 +186,14 @@ impl<'a> Firsts<'a> {
         }
     }
 
-    // Whether the clock of a variable is true at first, if it has one.
+    // Whether the clock of a variable is true at first, if it has one. The clock's name isn't looked at.
     fn starts(&self, scope: &Scope, name: &str) -> bool
         requires { scope.now ≡ self.now }
         ensures { IsTrue result ↔ IsStarted (node_view self.now) name.now }
     {
-        match scope.clock(name) {
-            Some(ClockRef::On(c, sign)) => self.is_true_at_first(c, sign),
-            _ => true,
+        match scope.place(name) {
+            None => true,
+            Some(place) => self.started.get(place).copied().unwrap_or(true),
         }
     }
 
@@ -185,7 +234,7 @@ impl<'a> Firsts<'a> {
     }
 
     /// `E31`: whether `current` stands in an equation only before variables whose clock is true at first. `scope` is the same node's.
-    /// The expected time grows with the length of the equation. Takes no memory.
+    /// The time grows with the length of the equation, whatever the length of the clocks' names. Takes no memory.
     pub fn currents_start(&self, scope: &Scope, equation: &Equation) -> bool
         requires { scope.now ≡ self.now }
         ensures { IsTrue result ↔ CurrentsStart (node_view self.now) (equation_view equation.now) }

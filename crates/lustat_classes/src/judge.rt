@@ -100,7 +100,7 @@ fn push_samplers_of_equations<'a>(
     Ok(())
 }
 
-/// The variables of a node that the clocks of declarations, `when` and `merge` name, with a table of them. The expected time grows with
+/// The variables of a node that the clocks of declarations, `when` and `merge` name, with a table of them. The time grows with
 /// the length of the node.
 ///
 /// # Errors
@@ -144,7 +144,7 @@ fn are_free(scope: &Scope, named: &Places, names: &[Name]) -> bool
 
 /// Whether an equation keeps the rules of classes: what its right side needs in class 0 is there, and where it is of class 1 it defines
 /// no input, no output and no variable that a clock names. `classes` are the marks by place of declaration, `named` is what
-/// [`clocks_named`] gives. The expected time grows with the length of the equation. Takes no memory.
+/// [`clocks_named`] gives. The time grows with the length of the equation. Takes no memory.
 pub fn keeps_classes(scope: &Scope, classes: &[bool], named: &Places, equation: &Equation) -> bool
     requires { named.now ≡ clock_variables (node_view scope.now) }
     ensures { IsTrue result

@@ -150,7 +150,7 @@ fn starts_of(
 
 /// The least classes of a node's variables that aren't below those of their right sides, by place of declaration: true is class 1.
 /// Behind them stand the classes of the right sides, by place of equation.
-/// The expected time grows with the length of the node.
+/// The time grows with the length of the node.
 ///
 /// # Errors
 ///

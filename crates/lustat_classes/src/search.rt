@@ -140,7 +140,7 @@ fn nodes_fault(
 /// Whether a program keeps the rules of initialisation: the least classes of each node, or the least fault, that of the least byte,
 /// at equal bytes that of the least number. Classes are judged at each equation with the least classes of its node.
 ///
-/// What the equations define has to be declared, as the rules of names ask ([`crate::laws::lefts_law`]). The expected time grows with the
+/// What the equations define has to be declared, as the rules of names ask ([`crate::laws::lefts_law`]). The time grows with the
 /// size of the program.
 ///
 /// # Errors

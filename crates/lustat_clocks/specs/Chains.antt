@@ -1,12 +1,12 @@
 -- Chains of clocks, by place of declaration.
-use Rattle.std.specs.Prelude.{◌≡◌, ◌↔◌, ◌<◌, ℕ, Bool, List, Option, Some, None, slice_get, map, Contains}
+use Rattle.std.specs.Prelude.{◌≡◌, ◌↔◌, ◌<◌, ℕ, Bool, List, Some, None, slice_get, map, Contains}
 use Rattle.std.specs.Borrow.{Bor}
 use Rattle.lutree.specs.declared.program.Declaration.{Declaration}
 use Rattle.lutree.specs.Tree.{DeclarationTree, NodeTree, declaration_view}
-use Rattle.lustat_rules.specs.Scope.{Clock, declarations_of, names_of}
+use Rattle.lustat_rules.specs.Scope.{declarations_of}
 use Rattle.lustat_rules.specs.Clocks.{Ends}
 use Rattle.lugraph.specs.Search.{Has}
-use Rattle.lunames.specs.Places.{first_place}
+use Rattle.lustat_scope.specs.ClockRefs.{place_before}
 use Rattle.lugraph.specs.declared.link.Link.{Link}
 use Rattle.lugraph.specs.Reach.{link}
 
@@ -17,11 +17,6 @@ MarksEnds n marks = (i : ℕ) (d : DeclarationTree) → slice_get (declarations_
 -- declarations that are lent
 abbrev pub lent_view : List (Bor Declaration) → List DeclarationTree
 lent_view = map (λ d. declaration_view d.now)
-
--- the place of the variable that a clock names
-abbrev pub place_before : NodeTree → Clock → Option ℕ
-place_before n None = None
-place_before n (Some c) = first_place (names_of (declarations_of n)) c.variable
 
 -- the declaration at a place has no clock
 abbrev pub IsBased : List DeclarationTree → ℕ → Type 0

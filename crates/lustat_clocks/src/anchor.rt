@@ -23,7 +23,7 @@ fn anchor_of_current<'a>(scope: &Scope<'a>, name: &str) -> Option<ClockRef<'a>>
 
 // The clock that the first part with one names.
 #[cycle(anchors)]
-fn anchor_of<'a>(scope: &Scope<'a>, e: &'a Expr) -> Option<ClockRef<'a>>
+fn anchor_of<'s: 'e, 'e>(scope: &Scope<'s>, e: &'e Expr) -> Option<ClockRef<'e>>
     ensures { option_map the_clock result ≡ anchor (node_view scope.now) (view e.now) }
 {
     match e {
@@ -50,7 +50,7 @@ fn anchor_of<'a>(scope: &Scope<'a>, e: &'a Expr) -> Option<ClockRef<'a>>
 
 // The clock that the first argument with one names.
 #[cycle(anchors)]
-fn anchor_of_arguments<'a>(scope: &Scope<'a>, arguments: &'a [Expr]) -> Option<ClockRef<'a>>
+fn anchor_of_arguments<'s: 'e, 'e>(scope: &Scope<'s>, arguments: &'e [Expr]) -> Option<ClockRef<'e>>
     ensures { option_map the_clock result ≡ anchor_of_all (node_view scope.now)
         (trees_of (views arguments.now)) }
 {
@@ -63,7 +63,7 @@ fn anchor_of_arguments<'a>(scope: &Scope<'a>, arguments: &'a [Expr]) -> Option<C
 }
 
 /// Whether there is a clock that an expression fits.
-pub fn fits_some<'a>(scope: &Scope<'a>, e: &'a Expr) -> bool
+pub fn fits_some(scope: &Scope, e: &Expr) -> bool
     ensures { IsTrue result ↔ ((k : Clock) × Fits (node_view scope.now) (view e.now) k) }
 {
     match anchor_of(scope, e) {

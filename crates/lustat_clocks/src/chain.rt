@@ -6,7 +6,8 @@ ghost use Rattle.lustat_rules.specs.Scope.{declarations_of};
 ghost use Rattle.lustat_rules.specs.Clocks.{IsTruth, IsClock, ClocksAreTruths};
 ghost use Rattle.lugraph.specs.Search.{Has};
 ghost use Rattle.lustat_clocks.specs.Named.{EachClock, EachClockOfAll};
-ghost use Rattle.lustat_clocks.specs.Chains.{MarksEnds, lent_view, place_before, AreBased, AreClocked};
+ghost use Rattle.lustat_clocks.specs.Chains.{MarksEnds, lent_view, AreBased, AreClocked};
+ghost use Rattle.lustat_scope.specs.ClockRefs.{place_before};
 
 use lugraph::{Link, reached};
 use lustat_scope::Scope;
@@ -56,7 +57,7 @@ fn clocked(
 }
 
 /// For each declaration of a node, inputs, outputs and locals in order, whether its chain of clocks ends at the base clock.
-/// The expected time grows with the length of the declarations.
+/// The time grows with the length of the declarations.
 ///
 /// # Errors
 ///

@@ -4,36 +4,52 @@ ghost use Rattle.std.specs.Prelude.{◌≡◌, ◌↔◌, IsTrue, Some};
 ghost use Rattle.lutree.specs.Tree.{view, views, trees_of, node_view};
 ghost use Rattle.lutree.specs.Tree as tree;
 ghost use Rattle.lustat_rules.specs.Clocks.{HasClock, Fits, FitsInside, AllFitInside};
-ghost use Rattle.lustat_scope.specs.ClockRefs.{the_clock};
+ghost use Rattle.lustat_scope.specs.ClockRefs.{the_clock, placed_view, clock_under, IsPlaced};
 
-use lustat_scope::{ClockRef, Scope};
+use lustat_scope::{ClockRef, PlacedClock, Scope};
 use lutree::Expr;
 
 /// Whether a variable has a clock.
-pub fn has_clock(scope: &Scope, name: &str, k: ClockRef) -> bool
-    ensures { IsTrue result ↔ HasClock (node_view scope.now) name.now (the_clock k.entry) }
+pub fn has_clock(scope: &Scope, name: &str, k: PlacedClock) -> bool
+    requires { IsPlaced (node_view scope.now) k }
+    ensures { IsTrue result ↔ HasClock (node_view scope.now) name.now (placed_view k.entry) }
 {
-    match scope.clock(name) {
+    match scope.placed_clock(name) {
         None => false,
-        Some(j) => j.is(&k),
+        Some(j) => scope.are_one(j, k),
+    }
+}
+
+// Whether the variable that a clock names has another clock.
+fn is_under(scope: &Scope, j: PlacedClock, k: PlacedClock) -> bool
+    requires sampled { IsPlaced (node_view scope.now) j }
+    requires under { IsPlaced (node_view scope.now) k }
+    ensures { IsTrue result
+        ↔ (clock_under (node_view scope.now) (placed_view j.entry) ≡ Some (placed_view k.entry)) }
+{
+    match scope.clock_under(j) {
+        None => false,
+        Some(i) => scope.are_one(i, k),
     }
 }
 
 // Whether `current` of a variable fits a clock.
-fn current_fits(scope: &Scope, name: &str, k: ClockRef) -> bool
+fn current_fits(scope: &Scope, name: &str, k: PlacedClock) -> bool
+    requires { IsPlaced (node_view scope.now) k }
     ensures { IsTrue result ↔ FitsInside (node_view scope.now) (tree.current name.now)
-        (the_clock k.entry) }
+        (placed_view k.entry) }
 {
-    match scope.clock(name) {
-        Some(ClockRef::On(c, _)) => has_clock(scope, c, k),
-        _ => false,
+    match scope.placed_clock(name) {
+        None => false,
+        Some(j) => is_under(scope, j, k),
     }
 }
 
 // Whether an expression fits a clock, form by form.
 #[cycle(fits)]
-fn fits_inside(scope: &Scope, e: &Expr, k: ClockRef) -> bool
-    ensures { IsTrue result ↔ FitsInside (node_view scope.now) (view e.now) (the_clock k.entry) }
+fn fits_inside(scope: &Scope, e: &Expr, k: PlacedClock) -> bool
+    requires { IsPlaced (node_view scope.now) k }
+    ensures { IsTrue result ↔ FitsInside (node_view scope.now) (view e.now) (placed_view k.entry) }
 {
     match e {
         Expr::Number(_) | Expr::Truth(_) => true,
@@ -44,9 +60,9 @@ fn fits_inside(scope: &Scope, e: &Expr, k: ClockRef) -> bool
             fits_inside(scope, c, k) && fits_inside(scope, a, k) && fits_inside(scope, b, k)
         }
         Expr::When(a, c) => {
-            let name = c.variable.as_str();
-            k.is(&ClockRef::On(name, c.sign))
-                && match scope.clock(name) {
+            let sampled = scope.placed(ClockRef::On(c.variable.as_str(), c.sign));
+            scope.are_one(k, sampled)
+                && match scope.clock_under(sampled) {
                     None => false,
                     Some(j) => fits_inside(scope, a, j),
                 }
@@ -55,8 +71,8 @@ fn fits_inside(scope: &Scope, e: &Expr, k: ClockRef) -> bool
         Expr::Merge(c, a, b) => {
             let name = c.as_str();
             has_clock(scope, name, k)
-                && fits_inside(scope, a, ClockRef::On(name, true))
-                && fits_inside(scope, b, ClockRef::On(name, false))
+                && fits_inside(scope, a, scope.placed(ClockRef::On(name, true)))
+                && fits_inside(scope, b, scope.placed(ClockRef::On(name, false)))
         }
         Expr::Call(_, arguments) => all_fit(scope, arguments, k),
     }
@@ -64,9 +80,10 @@ fn fits_inside(scope: &Scope, e: &Expr, k: ClockRef) -> bool
 
 // Whether all arguments of a call fit a clock.
 #[cycle(fits)]
-fn all_fit(scope: &Scope, arguments: &[Expr], k: ClockRef) -> bool
+fn all_fit(scope: &Scope, arguments: &[Expr], k: PlacedClock) -> bool
+    requires { IsPlaced (node_view scope.now) k }
     ensures { IsTrue result ↔ AllFitInside (node_view scope.now) (trees_of (views arguments.now))
-        (the_clock k.entry) }
+        (placed_view k.entry) }
 {
     for a in arguments {
         if fits_inside(scope, a, k) {
@@ -77,9 +94,19 @@ fn all_fit(scope: &Scope, arguments: &[Expr], k: ClockRef) -> bool
     true
 }
 
-/// Whether an expression of a node fits a clock. The expected time grows with the length of the expression. Takes no memory.
+/// Whether an expression of a node fits a clock whose variable's place is known. The time grows with the length of the expression,
+/// whatever the length of the clock's name. Takes no memory.
+pub fn fits_placed(scope: &Scope, e: &Expr, k: PlacedClock) -> bool
+    requires { IsPlaced (node_view scope.now) k }
+    ensures { IsTrue result ↔ Fits (node_view scope.now) (view e.now) (placed_view k.entry) }
+{
+    fits_inside(scope, e, k)
+}
+
+/// Whether an expression of a node fits a clock. The time grows with the length of the expression and of the clock's name. Takes no
+/// memory.
 pub fn fits(scope: &Scope, e: &Expr, k: ClockRef) -> bool
     ensures { IsTrue result ↔ Fits (node_view scope.now) (view e.now) (the_clock k.entry) }
 {
-    fits_inside(scope, e, k)
+    fits_placed(scope, e, scope.placed(k))
 }

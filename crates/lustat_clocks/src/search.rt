@@ -89,7 +89,7 @@ impl<'r, 'a> Stage<'a> for ClockStage<'r, 'a> {
 }
 
 /// The least fault of a program by the rules of clocks: that of the least byte, at equal bytes that of the least number. None where
-/// all these rules are kept. Its expected time grows with the size of the program.
+/// all these rules are kept. Its time grows with the size of the program.
 ///
 /// # Errors
 ///

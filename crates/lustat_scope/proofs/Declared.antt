@@ -1,6 +1,6 @@
 -- The declarations of a node, in memory and as its view has them.
-use Rattle.std.proofs.Common.{◌≡◌, ◌∙◌, ℕ, suc, ◌+◌, Bool, true, false, List, [], ◌∷◌, ◌++◌, map, Option, Some, None, cond, refl, sym, ap, add-one, Bor, length, ◌<◌, arith, get_or}
-use Rattle.std.specs.Prelude.{slice_get, option_copied}
+use Rattle.std.proofs.Common.{◌≡◌, ◌∙◌, ℕ, suc, Bool, true, false, List, [], ◌∷◌, ◌++◌, map, Option, Some, None, cond, refl, sym, ap, Bor, length, ◌<◌, arith, get_or}
+use Rattle.std.specs.Prelude.{option_copied}
 use Rattle.std.proofs.lemmas.Option.{slice_get-map, slice_get_within, slice_get_read}
 use Rattle.lunames.proofs.Finding.{there}
 use Rattle.lunames.proofs.Sought.{at, at_suc, shifted_first}
@@ -58,7 +58,7 @@ pub same_node_spellings : (ns : List Node) → node_spellings ns ≡ names_of_no
 same_node_spellings [] = refl
 same_node_spellings (n ∷ ns) = ap (λ l. n.name ∷ l) (same_node_spellings ns)
 
-at_map : {A B : Type 0} (f : A → B) (xs : List A) (o : Option ℕ) → at (map f xs) o ≡ option_map f (at xs o)
+pub at_map : {A B : Type 0} (f : A → B) (xs : List A) (o : Option ℕ) → at (map f xs) o ≡ option_map f (at xs o)
 at_map f xs None = refl
 at_map f xs (Some k) = slice_get-map f xs k
 

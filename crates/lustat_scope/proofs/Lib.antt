@@ -1,2 +1,3 @@
 pub mod Declared
 pub mod Keeping
+pub mod Placed

@@ -2,6 +2,7 @@
 use Rattle.std.specs.Prelude.{ℕ, List, ◌++◌, map}
 use Rattle.lutree.specs.declared.program.Declaration.{Declaration}
 use Rattle.lutree.specs.declared.program.Node.{Node}
+use Rattle.lustat_rules.specs.Scope.{Clock}
 
 -- the variables of a node: inputs, outputs and locals, each in order of declaration
 abbrev pub declared_in : Node → List Declaration
@@ -9,6 +10,9 @@ declared_in n = n.inputs ++ (n.outputs ++ n.locals)
 
 abbrev pub spellings : List Declaration → List (List ℕ)
 spellings = map (λ (d : Declaration). d.name)
+
+abbrev pub clock_list : List Declaration → List Clock
+clock_list = map (λ (d : Declaration). d.clock)
 
 abbrev pub node_spellings : List Node → List (List ℕ)
 node_spellings = map (λ (n : Node). n.name)

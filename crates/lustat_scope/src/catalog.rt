@@ -59,7 +59,7 @@ fn places_of_nodes(alloc: Global, nodes: &[Node]) -> Result<Places<'_>, AllocErr
 }
 
 impl<'a> Catalog<'a> {
-    /// The tables of a program. Their expected time grows with the length of its names.
+    /// The tables of a program. Their time grows with the length of its names.
     pub fn new(alloc: Global, program: &'a Program) -> Result<Catalog<'a>, AllocError>
         ensures { IfOk result (λ catalog. catalog ≡ program.now) }
     {

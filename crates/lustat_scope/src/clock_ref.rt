@@ -22,3 +22,11 @@ impl<'a> ClockRef<'a> {
         }
     }
 }
+
+/// A clock, lent, and where its variable is declared first in a node; no place where it has no variable, or none that is declared.
+/// Places are compared in place of names, however long those are.
+#[derive(Clone, Copy, Debug)]
+pub struct PlacedClock<'a> {
+    pub clock: ClockRef<'a>,
+    pub place: Option<usize>,
+}

@@ -1,13 +1,14 @@
 //! A node with the tables of its variables.
 
-ghost use Rattle.std.specs.Prelude.{◌≡◌, ◌↔◌, ◌++◌, map, option_map, option_copied, IfOk, OnOk, IsTrue, slice_get};
+ghost use Rattle.std.specs.Prelude.{◌≡◌, ◌↔◌, ◌++◌, map, option_map, option_copied, IfOk, IfSome, OnOk, IsTrue, slice_get};
+ghost use Rattle.lutree.specs.declared.expr.Condition.{Condition};
 ghost use Rattle.lutree.specs.Tree.{declaration_view, node_view};
 ghost use Rattle.lustat_rules.specs.Scope.{declarations_of, names_of, meaning, kind_of, clock_of, IsInput, IsOutput};
 ghost use Rattle.lunames.specs.Places.{first_place};
-ghost use Rattle.lustat_scope.specs.Scopes.{declared_in, spellings};
-ghost use Rattle.lustat_scope.specs.ClockRefs.{the_clock};
+ghost use Rattle.lustat_scope.specs.Scopes.{declared_in, spellings, clock_list};
+ghost use Rattle.lustat_scope.specs.ClockRefs.{the_clock, placed_view, place_among, clock_under, IsPlaced};
 
-use crate::clock_ref::ClockRef;
+use crate::clock_ref::{ClockRef, PlacedClock};
 use lunames::Places;
 use lutree::{Declaration, Kind, Node};
 use std::alloc::{AllocError, Global};
@@ -21,6 +22,7 @@ pub struct Scope<'a> {
     variables: Places<'a>,
     inputs: Places<'a>,
     outputs: Places<'a>,
+    clocks: Vec<PlacedClock<'a>>,
 }
 
 impl<'a> Model for Scope<'a> {
@@ -89,8 +91,56 @@ fn places_of_lent<'a>(
     Places::new(alloc, names)
 }
 
+// Whether two clocks have one sign, or are both the base clock.
+fn have_one_sign(j: ClockRef, k: ClockRef) -> bool
+    ensures { IsTrue result
+        ↔ (option_map (λ (c : Condition). c.sign) (the_clock j.entry)
+        ≡ option_map (λ (c : Condition). c.sign) (the_clock k.entry)) }
+{
+    match (j, k) {
+        (ClockRef::Base, ClockRef::Base) => true,
+        (ClockRef::On(_, s), ClockRef::On(_, t)) => s == t,
+        _ => false,
+    }
+}
+
+// The clock of a declaration, with the place of its variable in a table.
+fn declared_clock<'a>(variables: &Places, declaration: &'a Declaration) -> PlacedClock<'a>
+    ensures clock { placed_view result ≡ declaration.now.clock }
+    ensures place { result.place ≡ place_among variables.now declaration.now.clock }
+{
+    match &declaration.clock {
+        None => PlacedClock {
+            clock: ClockRef::Base,
+            place: None,
+        },
+        Some(c) => PlacedClock {
+            clock: ClockRef::On(c.variable.as_str(), c.sign),
+            place: variables.find(c.variable.as_str()),
+        },
+    }
+}
+
+// The clocks of declarations that are lent, with the places of their variables in a table.
+fn declared_clocks<'a>(
+    alloc: Global,
+    variables: &Places,
+    declarations: &[&'a Declaration],
+) -> Result<Vec<PlacedClock<'a>>, AllocError>
+    ensures clocks { IfOk result
+        (λ v. map placed_view v.items ≡ clock_list (map (λ d. d.now) declarations.now)) }
+    ensures places { IfOk result (λ v. map (λ k. k.place) v.items
+        ≡ map (place_among variables.now) (clock_list (map (λ d. d.now) declarations.now))) }
+{
+    let mut all = Vec::with_capacity(alloc, declarations.len())?;
+    for d in declarations {
+        all.push(declared_clock(variables, d))?;
+    }
+    Ok(all)
+}
+
 impl<'a> Scope<'a> {
-    /// The tables of a node. Their expected time grows with the length of its names.
+    /// The tables of a node. Their time grows with the length of its names.
     pub fn new(alloc: Global, node: &'a Node) -> Result<Scope<'a>, AllocError>
         ensures { IfOk result (λ scope. scope ≡ node.now) }
     {
@@ -98,12 +148,14 @@ impl<'a> Scope<'a> {
         let variables = places_of_lent(alloc, &declarations)?;
         let inputs = places_of(alloc, node.inputs.as_slice())?;
         let outputs = places_of(alloc, node.outputs.as_slice())?;
+        let clocks = declared_clocks(alloc, &variables, &declarations)?;
         Ok(Scope {
             node,
             declarations,
             variables,
             inputs,
             outputs,
+            clocks,
         })
     }
 
@@ -155,6 +207,66 @@ impl<'a> Scope<'a> {
         match &d.clock {
             None => Some(ClockRef::Base),
             Some(c) => Some(ClockRef::On(c.variable.as_str(), c.sign)),
+        }
+    }
+
+    /// The clock of the declaration at a place, counted from 0 over inputs, outputs and locals; none behind the last.
+    pub fn clock_at(&self, place: usize) -> Option<PlacedClock<'a>>
+        ensures clock { option_map placed_view result
+            ≡ slice_get (clock_list (declared_in self.now)) place }
+        ensures placed { IfSome result (IsPlaced (node_view self.now)) }
+    {
+        self.clocks.get(place).copied()
+    }
+
+    /// The clock of a variable, with the place of the variable that it names.
+    pub fn placed_clock(&self, name: &str) -> Option<PlacedClock<'a>>
+        ensures clock { option_map placed_view result ≡ clock_of (node_view self.now) name.now }
+        ensures placed { IfSome result (IsPlaced (node_view self.now)) }
+    {
+        match self.place(name) {
+            None => None,
+            Some(place) => self.clock_at(place),
+        }
+    }
+
+    /// The clock of the variable that a clock names; none where it names no variable. No name is looked up.
+    pub fn clock_under(&self, k: PlacedClock) -> Option<PlacedClock<'a>>
+        requires { IsPlaced (node_view self.now) k }
+        ensures clock { option_map placed_view result
+            ≡ clock_under (node_view self.now) (placed_view k.entry) }
+        ensures placed { IfSome result (IsPlaced (node_view self.now)) }
+    {
+        match k.place {
+            None => None,
+            Some(place) => self.clock_at(place),
+        }
+    }
+
+    /// A clock with the place of the variable that it names.
+    pub fn placed<'b>(&self, clock: ClockRef<'b>) -> PlacedClock<'b>
+        ensures clock { placed_view result ≡ the_clock clock.entry }
+        ensures placed { IsPlaced (node_view self.now) result }
+    {
+        match clock {
+            ClockRef::Base => PlacedClock { clock, place: None },
+            ClockRef::On(name, _) => PlacedClock {
+                clock,
+                place: self.place(name),
+            },
+        }
+    }
+
+    /// Whether two clocks of the node are one. Names are compared only where neither is declared.
+    pub fn are_one(&self, j: PlacedClock, k: PlacedClock) -> bool
+        requires first { IsPlaced (node_view self.now) j }
+        requires second { IsPlaced (node_view self.now) k }
+        ensures { IsTrue result ↔ (placed_view j.entry ≡ placed_view k.entry) }
+    {
+        match (j.place, k.place) {
+            (None, None) => j.clock.is(&k.clock),
+            (Some(u), Some(v)) => u == v && have_one_sign(j.clock, k.clock),
+            _ => false,
         }
     }
 

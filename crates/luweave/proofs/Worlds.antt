@@ -13,11 +13,11 @@ use Rattle.luworld.proofs.Runs.{good_next, good_new, good_reached, puts_there, t
 use Rattle.luworld.proofs.Ends.{same_end}
 use Rattle.luworld.proofs.Enabled.{never_stuck_at}
 use Rattle.luworld.proofs.Ended.{done_ends}
-use Rattle.luworld.specs.Runs.{Run, IsJob, streams_of, script, link_list, system_of, outline}
+use Rattle.luworld.specs.Runs.{Run, IsJob, IsFree, streams_of, script, link_list, system_of, outline}
 use Rattle.luflow.specs.declared.message.Msg.{Msg}
 use Rattle.luworld.specs.Needs.{Distribution, sites_of}
 use Rattle.lusite.specs.declared.next.Next.{Next}
-use Rattle.lusite.specs.declared.next.Next.TheVariants.{Take, Put}
+use Rattle.lusite.specs.declared.next.Next.TheVariants.{Take, Put, Ended}
 use Rattle.luweave.specs.declared.lane.Lane.{Lane}
 use Rattle.lusite.specs.Machine.{IsNext, IsTakeNext}
 use Rattle.lusite.specs.Sites.{SiteAt}
@@ -83,6 +83,16 @@ pub next_is : (job : Run) (sites : List SiteAt) (lanes : List Lane) (capacity s 
 next_is job sites lanes capacity s v x w at h =
     let e = w.sites_are s v at in
     subst (λ (n : ℕ). IsNext job n v.done x) e.1 (subst (λ (j : Run). IsNext j v.site v.done x) e.0 h)
+
+-- a number that is no site's does nothing
+pub none_beyond : (job : Run) (sites : List SiteAt) (lanes : List Lane) (capacity s : ℕ) → IsWorld job sites lanes capacity → length sites ≤ s → IsNext job s (done (dones_of sites) s) Ended
+none_beyond job sites lanes capacity s w beyond =
+    let long = w.good.long in
+    let n = length-map sites (λ (v : SiteAt). v.done) in
+    let none : script job (streams_of job) s ≡ [] = (is_wired job w.is_job).no_more_sites s (omega (arith, long, n, beyond)) in
+    let empty : length (script job (streams_of job) s) ≡ 0 = ap (length {A = Item}) none in
+    let inside = w.good.inside s in
+    (omega (arith, empty, inside), subst (IsFree job) (sym none) tt)
 
 -- a site of a world, and what it offers
 pub record Offer (job : Run) (sites : List SiteAt) (s : ℕ) (x : Next) : Type 0 where

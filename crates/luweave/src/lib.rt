@@ -8,9 +8,10 @@ mod enabled;
 mod finish;
 mod lane;
 mod left;
+mod next;
 mod offers;
 mod world;
 
-pub use lusite::{LinkNo, Site};
+pub use lusite::{LinkNo, Next, Site};
 pub use luworld::Turn;
 pub use world::{World, replay};

@@ -1,7 +1,7 @@
 use Rattle.std.proofs.Common.{◌≡◌, take}
 use Rattle.lutree.specs.Tree.{views, trees_of, node_view, program_view}
 use Rattle.lustat_rules.specs.Typing.{types_of}
-use Rattle.lustat_scope.specs.ClockRefs.{the_clock}
+use Rattle.lustat_scope.specs.ClockRefs.{placed_view}
 use Rattle.lucore_inline.specs.Walks.{plain, places_of, kinds_of}
 use Rattle.lucore_inline.proofs.Forms.{AreMade}
 use Rattle.lucore_inline.proofs.walk.+walk.Given as goal
@@ -9,6 +9,6 @@ use Rattle.lucore_inline.proofs.walk.+walk.Given as goal
 abbrev pub invariant-call-loop-a : goal.invariant-call-loop-a
 invariant-call-loop-a l =
     record {
-      made : AreMade (program_view l.context.catalog.now) (plain l.context.lists.now) (node_view l.context.scope.now) (trees_of (views (take l.a-index l.arguments))) (the_clock l.clock) l.initial.flows.items l.flows.items (places_of l.operands.items);
+      made : AreMade (program_view l.context.catalog.now) (plain l.context.lists.now) (node_view l.context.scope.now) (trees_of (views (take l.a-index l.arguments))) (placed_view l.clock) l.initial.flows.items l.flows.items (places_of l.operands.items);
       kinds : kinds_of l.operands.items ≡ types_of (program_view l.context.catalog.now) (node_view l.context.scope.now) (trees_of (views (take l.a-index l.arguments)));
     }

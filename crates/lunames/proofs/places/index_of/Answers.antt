@@ -1,8 +1,7 @@
-use Rattle.std.proofs.Common.{◌≡◌, ◌∙◌, ◌+◌, ◌-◌, drop, Some, cond, string_bytes, sym, ap, arith, Bor, ℕ, List, get_or, ◌<◌, length, []}
+use Rattle.std.proofs.Common.{◌≡◌, ◌∙◌, ◌+◌, ◌-◌, drop, Some, cond, sym, ap, arith, Bor, ℕ, List, get_or, ◌<◌, length, []}
 use Rattle.std.specs.Str.{bytes_eq}
-use Rattle.std.proofs.lemmas.Map.Text.{hash_map_updates_text}
-use Rattle.indexmap.specs.IndexMap.{get_by_text}
-use Rattle.lunames.specs.Places.{place_from}
+use Rattle.std.proofs.lemmas.Map.Text.{btree_map_updates_str}
+use Rattle.lunames.specs.Places.{place_from, looked_up}
 use Rattle.lunames.proofs.Finding.{first_step, texts}
 use Rattle.lunames.proofs.places.index_of.Goals as goal
 
@@ -10,15 +9,13 @@ pub loop-i-preserved : goal.loop-i-preserved
 loop-i-preserved c = λ x.
     let names = c.args.names.now in
     let i = c.loop-i.i - 1 in
-    let key = c.in_ok-key.key in
     let none : Bor (List ℕ) = record { ref_ptr = (0, 0); now = [] } in
     let s = get_or names i none in
     let lt : i < length names = omega arith in
-    let set_there = hash_map_updates_text (string_bytes key) c.loop-i.index c.insert.new.self (Some i) c.in_ok-insert.ensures.updates x in
+    let set_there = btree_map_updates_str s.now c.loop-i.index c.insert.new.self (Some i) c.in_ok-insert.ensures.updates x in
     let again : i + 1 ≡ c.loop-i.i = omega arith in
-    let rest : get_by_text c.loop-i.index x ≡ place_from (i + 1) (texts (drop (i + 1) names)) x =
+    let rest : looked_up c.loop-i.index x ≡ place_from (i + 1) (texts (drop (i + 1) names)) x =
     c.loop-i.invariant x ∙ ap (λ k. place_from k (texts (drop k names)) x) (sym again) in
     set_there
-    ∙ ap (λ bs. cond (bytes_eq bs x) (Some i) (get_by_text c.loop-i.index x)) c.in_ok-key.ensures.ok
     ∙ ap (λ o. cond (bytes_eq s.now x) (Some i) o) rest
     ∙ sym (first_step names i none x lt)

@@ -1,18 +1,61 @@
-use Rattle.std.proofs.Common.{◌<◌, ap, length, get_or, arith}
-use Rattle.lusite.specs.Machine.{cell_size}
-use Rattle.lusite.proofs.Desks.{going, ready_desk, full_desk}
+use Rattle.std.proofs.Common.{◌≡◌, ℕ, ◌<◌, slice_index, ap, length, arith, sym, subst, ◌∙◌}
+use Rattle.luworld.specs.Needs.{Distribution}
+use Rattle.lusite.specs.Machine.{cell_size, Over, shown_of}
+use Rattle.lusite.specs.Programs.{places_of}
+use Rattle.lusite.proofs.Desks.{going, size_desk, ready_desk, full_desk, no_step}
+use Rattle.lusite.proofs.Moves.{place_within, place_over, place_shown}
+use Rattle.lusite.proofs.Skips.{place_here}
+use Rattle.std.proofs.lemmas.List.{length-map}
+use Rattle.lueval.specs.Cells.{status_of}
+use Rattle.std.proofs.lemmas.Bool.{ltb-true}
+use Rattle.lusite.proofs.Passed.{lt_no}
 use Rattle.lusite.proofs.desk.Desk.advance.Goals as goal
 
-pub returns-then-self-cell_len-clause-ready : goal.returns-then-self-cell_len-clause-ready
-returns-then-self-cell_len-clause-ready c _ =
+pub has_item-requires-clause-begun : goal.has_item-requires-clause-begun
+has_item-requires-clause-begun c some =
     let a = c.args.self.now in
-    let lp : a.place < length a.program.plan.flat.order = omega (arith, ap length c.order.ensures) in
-    let i = ap (λ xs. cell_size a (get_or xs a.place 0)) c.order-then-self-order.ensures in
-    ready_desk a (going a c.requires.set c.requires.stands c.requires.going) lp (omega (arith, c.cell_len.ensures, i))
+    let g = going a c.requires.set c.requires.stands c.requires.going in
+    let l : a.row < length (places_of a.program.plan a.program.site) = omega (arith, ap length c.places.ensures) in
+    let size = size_desk a g (place_within a c.requires.set l) in
+    let w = (g.stands.step_le some).1 in
+    omega (arith, size, w)
+
+pub pass-requires-clause-within : goal.pass-requires-clause-within
+pass-requires-clause-within c =
+    let a = c.args.self.now in
+    place_within a c.requires.set (omega (arith, ap length c.places.ensures))
+
+pub pass-requires-clause-there : goal.pass-requires-clause-there
+pass-requires-clause-there c =
+    let a = c.args.self.now in
+    let l : a.row < length (places_of a.program.plan a.program.site) = omega (arith, ap length c.places.ensures) in
+    let e = place_here a.program a.row a.place c.requires.set.rank_is in
+    let n = length-map a.shown.items status_of in
+    let w = subst (λ (i : ℕ). i < length (shown_of a)) e (place_shown a c.requires.set (shown_of a) c.requires.stands.now_len a.row l) in
+    omega (arith, n, w)
 
 pub pass-requires-clause-all : goal.pass-requires-clause-all
 pass-requires-clause-all c =
     let a = c.args.self.now in
-    let lp : a.place < length a.program.plan.flat.order = omega (arith, ap length c.order.ensures) in
-    let i = ap (λ xs. cell_size a (get_or xs a.place 0)) c.order-then-self-order.ensures in
-    full_desk a (going a c.requires.set c.requires.stands c.requires.going) lp (omega (arith, c.cell_len.ensures, i))
+    let l : a.row < length (places_of a.program.plan a.program.site) = omega (arith, ap length c.places.ensures) in
+    let i = slice_index a.program.plan.flat.order a.place in
+    full_desk a (going a c.requires.set c.requires.stands c.requires.going) (place_within a c.requires.set l) (lt_no a.step (cell_size a i) (sym c.has_item.ensures ∙ c.if-has_item.false))
+
+pub returns-then-has_item-clause-ready : goal.returns-then-has_item-clause-ready
+returns-then-has_item-clause-ready c _ =
+    let a = c.args.self.now in
+    let l : a.row < length (places_of a.program.plan a.program.site) = omega (arith, ap length c.places.ensures) in
+    let i = slice_index a.program.plan.flat.order a.place in
+    ready_desk a (going a c.requires.set c.requires.stands c.requires.going) (place_within a c.requires.set l) (ltb-true a.step (cell_size a i) (sym c.has_item.ensures ∙ c.if-has_item.true))
+
+pub tick-requires-clause-last : goal.tick-requires-clause-last
+tick-requires-clause-last c =
+    let a = c.args.self.now in
+    place_over a c.requires.set (omega (arith, ap length c.places.ensures))
+
+pub returns-clause-ready : goal.returns-clause-ready
+returns-clause-ready c _ =
+    let a = c.args.self.now in
+    let g = going a c.requires.set c.requires.stands c.requires.going in
+    let end : a.place ≡ length a.inputs.job.plan.flat.order = place_over a c.requires.set (omega (arith, ap length c.places.ensures)) ∙ ap (λ (q : Distribution). length q.flat.order) c.requires.set.plan_is in
+    Over (omega (arith, c.requires.stands.instant_le, c.if-self-instants.false, c.instants.ensures)) end (no_step a g end)

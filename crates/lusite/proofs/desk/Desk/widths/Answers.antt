@@ -1,6 +1,5 @@
-use Rattle.std.proofs.Common.{ap, sym, ◌∙◌, arith, length, ◌≡◌, ◌≤◌, ◌+◌, drop, List, ℕ}
+use Rattle.std.proofs.Common.{ap, arith, length}
 use Rattle.std.specs.Prelude.{slice_index}
-use Rattle.lusite.specs.Widths.{width, widths}
 use Rattle.lusite.proofs.Widths.{width_short, order_short, widths_next}
 use Rattle.lusite.proofs.desk.Desk.widths.Goals as goal
 

@@ -1,88 +1,144 @@
-use Rattle.std.proofs.Common.{◌≡◌, ℕ, ◌<◌, List, length, Some, set, refl, sym, ap, ◌∙◌, subst}
+use Rattle.std.proofs.Common.{◌≡◌, ℕ, ◌<◌, List, length, Some, set, refl, sym, ap, ap₂, ◌∙◌, subst}
 use Rattle.std.specs.Prelude.{slice_get, slice_index, vec_capacity}
 use Rattle.std.proofs.lemmas.Option.{same_Some}
 use Rattle.luflow.specs.declared.data.Status.{Status}
 use Rattle.luflow.specs.declared.data.Status.TheVariants.{Present}
-use Rattle.luflow.specs.declared.form.Outcome.TheVariants.{Gives, Faults, Stuck}
+use Rattle.luflow.specs.declared.form.Outcome.{Outcome}
+use Rattle.luflow.specs.declared.form.Outcome.TheVariants.{Gives, Faults}
+use Rattle.luflow.specs.Program.{flow_at}
+use Rattle.luflow.specs.Values.{gives}
+use Rattle.luworld.specs.World.{Compute}
 use Rattle.lusite.specs.declared.next.Fault.{Fault}
-use Rattle.lusite.specs.Machine.{Stands, IsFaultAt, is_faulted}
-use Rattle.lusite.specs.Logs.{Log, is_noted, IsNoted}
+use Rattle.lusite.specs.Machine.{Stands, Computes, IsFaultAt, is_faulted, shown_of, pasts_of}
+use Rattle.lusite.specs.Logs.{Log, IsNoted}
 use Rattle.lusite.proofs.Desks.{going}
+use Rattle.lusite.proofs.Held.{gives_datum}
+use Rattle.lusite.proofs.Posts.{row_within}
 use Rattle.lusite.proofs.Told.{note_room, note_here, noted_step, note_fault}
-use Rattle.lusite.proofs.Turns.{work_at, work_gives, work_faults, work_fault, work_stuck, compute_here, place_in_plan}
+use Rattle.lusite.proofs.Turns.{here_from, work_at, work_gives, work_faults, work_fault, work_stuck, place_in_plan}
 use Rattle.lusite.proofs.desk.Desk.work.Goals as goal
+
+pub flow_here-i-requires-clause-within : goal.flow_here-i-requires-clause-within
+flow_here-i-requires-clause-within c =
+    let a = c.args.self.now in
+    let r = c.requires in
+    let g = going a r.set r.stands r.going in
+    row_within a r.set (here_from a (Compute r.next.0 r.next.1) g r.ready r.next.2).place_lt
+
+pub compute-answer-requires-clause-within : goal.compute-answer-requires-clause-within
+compute-answer-requires-clause-within c =
+    let a = c.args.self.now in
+    let r = c.requires in
+    let g = going a r.set r.stands r.going in
+    row_within a r.set (here_from a (Compute r.next.0 r.next.1) g r.ready r.next.2).place_lt
+
+pub noted-wanted-requires-clause-within : goal.noted-wanted-requires-clause-within
+noted-wanted-requires-clause-within c =
+    let a = c.args.self.now in
+    let r = c.requires in
+    let g = going a r.set r.stands r.going in
+    row_within a r.set (here_from a (Compute r.next.0 r.next.1) g r.ready r.next.2).place_lt
 
 pub note-requires-clause-within : goal.note-requires-clause-within
 note-requires-clause-within c on =
     let a = c.args.self.now in
     let r = c.requires in
     let g = going a r.set r.stands r.going in
+    let i = slice_index a.program.plan.flat.order a.place in
     let ei = c.flow_here-i.ensures in
-    let w = work_at a (Gives c.in-Gives.d) g r.ready r.next (compute_here a c.flow_here-i.result (Gives c.in-Gives.d) ei c.in-Gives.ensures) in
-    subst (λ (k : ℕ). k < length a.logs.items) (sym ei) (note_room a g (place_in_plan a g w.0) r.logged w.1.first (sym (ap (is_noted a) ei) ∙ sym c.noted-wanted.ensures ∙ on)).0
+    let is : Outcome → Type 0 = Computes a i (flow_at a.program.plan.flat i) in
+    let go = gives_datum c.in-Gives.cell (λ e. work_stuck a g r.ready r.next (subst is e c.in-Gives.ensures)) in
+    let d = go.0 in
+    let computes : is (Gives d) = subst is (ap gives go.1) c.in-Gives.ensures in
+    let w = work_at a (Gives d) g r.ready r.next computes in
+    subst (λ (k : ℕ). k < length a.logs.items) (sym ei) (note_room a g (place_in_plan a g w.0) r.logged w.1.first (sym c.noted-wanted.ensures ∙ on)).0
 
 pub note-requires-clause-room : goal.note-requires-clause-room
 note-requires-clause-room c on =
     let a = c.args.self.now in
     let r = c.requires in
     let g = going a r.set r.stands r.going in
+    let i = slice_index a.program.plan.flat.order a.place in
     let ei = c.flow_here-i.ensures in
-    let w = work_at a (Gives c.in-Gives.d) g r.ready r.next (compute_here a c.flow_here-i.result (Gives c.in-Gives.d) ei c.in-Gives.ensures) in
-    subst (λ (k : ℕ). (x : Log) → slice_get a.logs.items k ≡ Some x → length x.items < vec_capacity x) (sym ei) (note_room a g (place_in_plan a g w.0) r.logged w.1.first (sym (ap (is_noted a) ei) ∙ sym c.noted-wanted.ensures ∙ on)).1
+    let is : Outcome → Type 0 = Computes a i (flow_at a.program.plan.flat i) in
+    let go = gives_datum c.in-Gives.cell (λ e. work_stuck a g r.ready r.next (subst is e c.in-Gives.ensures)) in
+    let d = go.0 in
+    let computes : is (Gives d) = subst is (ap gives go.1) c.in-Gives.ensures in
+    let w = work_at a (Gives d) g r.ready r.next computes in
+    subst (λ (k : ℕ). (x : Log) → slice_get a.logs.items k ≡ Some x → length x.items < vec_capacity x) (sym ei) (note_room a g (place_in_plan a g w.0) r.logged w.1.first (sym c.noted-wanted.ensures ∙ on)).1
 
 pub unreachable-requires : goal.unreachable-requires
 unreachable-requires c =
     let a = c.args.self.now in
     let r = c.requires in
-    work_stuck a (going a r.set r.stands r.going) r.ready r.next (compute_here a c.flow_here-i.result Stuck c.flow_here-i.ensures c.in-Stuck.ensures)
+    work_stuck a (going a r.set r.stands r.going) r.ready r.next c.in-Stuck.ensures
 
 pub returns-in-Gives-clause-stands : goal.returns-in-Gives-clause-stands
 returns-in-Gives-clause-stands c =
     let a = c.args.self.now in
     let r = c.requires in
+    let g = going a r.set r.stands r.going in
+    let i = slice_index a.program.plan.flat.order a.place in
     let ei = c.flow_here-i.ensures in
-    let d = c.in-Gives.d in
-    let e = c.show.ensures ∙ ap (λ k. set a.shown.items k (Present d)) ei in
-    subst (λ (xs : List Status). Stands a.inputs.job a.inputs.site xs a.pasts.items a.instant a.place 1 (is_faulted a)) (sym e)
-    (work_gives a d (going a r.set r.stands r.going) r.ready r.next (compute_here a c.flow_here-i.result (Gives d) ei c.in-Gives.ensures)).0
+    let is : Outcome → Type 0 = Computes a i (flow_at a.program.plan.flat i) in
+    let go = gives_datum c.in-Gives.cell (λ e. work_stuck a g r.ready r.next (subst is e c.in-Gives.ensures)) in
+    let d = go.0 in
+    let computes : is (Gives d) = subst is (ap gives go.1) c.in-Gives.ensures in
+    let e = c.show.ensures ∙ ap₂ (λ (k : ℕ) (s : Status). set (shown_of a) k s) ei go.2 in
+    subst (λ (xs : List Status). Stands a.inputs.job a.inputs.site xs (pasts_of a) a.instant a.place 1 (is_faulted a)) (sym e)
+    (work_gives a d g r.ready r.next computes).0
 
 pub returns-in-Gives-clause-done : goal.returns-in-Gives-clause-done
 returns-in-Gives-clause-done c =
     let a = c.args.self.now in
     let r = c.requires in
-    (work_gives a c.in-Gives.d (going a r.set r.stands r.going) r.ready r.next (compute_here a c.flow_here-i.result (Gives c.in-Gives.d) c.flow_here-i.ensures c.in-Gives.ensures)).1
+    let g = going a r.set r.stands r.going in
+    let i = slice_index a.program.plan.flat.order a.place in
+    let ei = c.flow_here-i.ensures in
+    let is : Outcome → Type 0 = Computes a i (flow_at a.program.plan.flat i) in
+    let go = gives_datum c.in-Gives.cell (λ e. work_stuck a g r.ready r.next (subst is e c.in-Gives.ensures)) in
+    let d = go.0 in
+    let computes : is (Gives d) = subst is (ap gives go.1) c.in-Gives.ensures in
+    (work_gives a d g r.ready r.next computes).1
 
 pub returns-in-Gives-clause-logged : goal.returns-in-Gives-clause-logged
 returns-in-Gives-clause-logged c =
     let a = c.args.self.now in
     let r = c.requires in
     let g = going a r.set r.stands r.going in
+    let i = slice_index a.program.plan.flat.order a.place in
     let ei = c.flow_here-i.ensures in
-    let d = c.in-Gives.d in
-    let w = work_at a (Gives d) g r.ready r.next (compute_here a c.flow_here-i.result (Gives d) ei c.in-Gives.ensures) in
-    let e = c.noted-wanted.ensures ∙ ap (is_noted a) ei in
+    let is : Outcome → Type 0 = Computes a i (flow_at a.program.plan.flat i) in
+    let go = gives_datum c.in-Gives.cell (λ e. work_stuck a g r.ready r.next (subst is e c.in-Gives.ensures)) in
+    let d = go.0 in
+    let computes : is (Gives d) = subst is (ap gives go.1) c.in-Gives.ensures in
+    let w = work_at a (Gives d) g r.ready r.next computes in
+    let e = c.noted-wanted.ensures in
+    let told : c.status.result ≡ Present d = c.status.ensures ∙ go.2 in
     noted_step a c.note.new.logs.items g
     (note_here a g (place_in_plan a g w.0) r.logged (Present d) c.note.new.logs.items w.1.first (λ off. c.note.ensures.left (e ∙ off)) (λ _. w.1.works.mark)
-    (λ on. subst (λ (k : ℕ). (x : Log) → slice_get a.logs.items k ≡ Some x → IsNoted a.logs.items k x (Present d) c.note.new.logs.items) ei (λ x ex. c.note.ensures.noted (e ∙ on) x ex)))
+    (λ on. subst (λ (k : ℕ). (x : Log) → slice_get a.logs.items k ≡ Some x → IsNoted a.logs.items k x (Present d) c.note.new.logs.items) ei (λ x ex. subst (λ (s : Status). IsNoted a.logs.items c.flow_here-i.result x s c.note.new.logs.items) told (c.note.ensures.noted (e ∙ on) x ex))))
 
 pub returns-in-Faults-clause-stands : goal.returns-in-Faults-clause-stands
 returns-in-Faults-clause-stands c =
     let a = c.args.self.now in
     let r = c.requires in
-    (work_faults a c.in-Faults.kind (going a r.set r.stands r.going) r.ready r.next (compute_here a c.flow_here-i.result (Faults c.in-Faults.kind) c.flow_here-i.ensures c.in-Faults.ensures)).0
+    let k = c.in-Faults.kind in
+    (work_faults a k (going a r.set r.stands r.going) r.ready r.next c.in-Faults.ensures).0
 
 pub returns-in-Faults-clause-done : goal.returns-in-Faults-clause-done
 returns-in-Faults-clause-done c =
     let a = c.args.self.now in
     let r = c.requires in
-    (work_faults a c.in-Faults.kind (going a r.set r.stands r.going) r.ready r.next (compute_here a c.flow_here-i.result (Faults c.in-Faults.kind) c.flow_here-i.ensures c.in-Faults.ensures)).1
+    let k = c.in-Faults.kind in
+    (work_faults a k (going a r.set r.stands r.going) r.ready r.next c.in-Faults.ensures).1
 
 pub returns-in-Faults-clause-logged : goal.returns-in-Faults-clause-logged
 returns-in-Faults-clause-logged c =
     let a = c.args.self.now in
     let r = c.requires in
     let k = c.in-Faults.kind in
-    let w = work_at a (Faults k) (going a r.set r.stands r.going) r.ready r.next (compute_here a c.flow_here-i.result (Faults k) c.flow_here-i.ensures c.in-Faults.ensures) in
+    let w = work_at a (Faults k) (going a r.set r.stands r.going) r.ready r.next c.in-Faults.ensures in
     note_fault a r.logged w.1.first
 
 pub returns-in-Faults-clause-tells : goal.returns-in-Faults-clause-tells
@@ -93,4 +149,4 @@ returns-in-Faults-clause-tells c fault e =
     let ei = c.flow_here-i.ensures in
     let told : Fault = record { variable = c.owner-variable.result; instant = a.instant; kind = k } in
     subst (λ (f : Fault). IsFaultAt a.inputs.job a.inputs.site f) (same_Some told fault e)
-    (work_fault a told (going a r.set r.stands r.going) r.ready r.next (compute_here a c.flow_here-i.result (Faults k) ei c.in-Faults.ensures) (c.owner-variable.ensures ∙ ap (slice_index a.program.plan.flat.owners) ei) refl)
+    (work_fault a told (going a r.set r.stands r.going) r.ready r.next c.in-Faults.ensures (c.owner-variable.ensures ∙ ap (slice_index a.program.plan.flat.owners) ei) refl)

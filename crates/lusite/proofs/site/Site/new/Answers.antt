@@ -1,18 +1,23 @@
-use Rattle.std.proofs.Common.{◌≡◌, ℕ, ◌<◌, false, length, replicate, sym, ap, ap₂, ◌∙◌, subst, rules, arith}
+use Rattle.std.proofs.Common.{◌≡◌, ℕ, ◌<◌, true, false, length, replicate, sym, ap, ap₂, ◌∙◌, subst, rules, arith}
 use Rattle.std.proofs.lemmas.Option.{slice_get_within}
-use Rattle.luflow.specs.declared.data.Datum.TheVariants.{Nil}
-use Rattle.luflow.specs.declared.data.Status.TheVariants.{Absent}
+use Rattle.std.proofs.lemmas.List.{length-replicate}
+use Rattle.lueval.specs.declared.cell.Cell.TheVariants.{Absent}
+use Rattle.lueval.specs.Cells.{statuses}
 use Rattle.luflow.specs.Program.{flows_of}
 use Rattle.luworld.proofs.Cursor.{before_start}
 use Rattle.luworld.specs.Needs.{Distribution}
-use Rattle.luworld.specs.Runs.{Run, IsRun, IsJob, streams_of}
+use Rattle.luworld.specs.Runs.{Run, IsRun, IsJob, streams_of, items_before}
 use Rattle.luworld.proofs.Fitting.{job_of_run}
 use Rattle.luplace.specs.SiteTables.{SiteTable}
 use Rattle.lusite.specs.declared.program.Part.{Part}
-use Rattle.lusite.specs.Logs.{IsNewRow, is_wanted}
-use Rattle.lusite.specs.Programs.{part_of}
+use Rattle.lusite.specs.Logs.{IsNewRow, IsLogged, is_wanted}
+use Rattle.lusite.specs.Machine.{Stands, pasts_in}
+use Rattle.lusite.proofs.Held.{new_statuses, new_pasts}
+use Rattle.lusite.specs.Programs.{part_of, rank_at}
+use Rattle.lusite.proofs.Skips.{stands_skip, before_skip, logged_skip}
+use Rattle.lusite.proofs.Moves.{start_next}
 use Rattle.lusite.proofs.Starts.{stands_start}
-use Rattle.lusite.proofs.Told.{logged_new}
+use Rattle.lusite.proofs.Told.{logged_new, none_yet}
 use Rattle.lusite.proofs.Desks.{part_there}
 use Rattle.lusite.proofs.Machine.{there}
 use Rattle.lusite.proofs.site.Site.new.Goals as goal
@@ -25,20 +30,41 @@ settle-requires-clause-set c = record {
   is_job = run_ok c.args.inputs c.inputs.inside.job.value c.inputs.inside.site c.inputs.view_is c.inputs.invariant.is_run;
   plan_is = c.requires.plan_is;
   site_is = c.requires.site_is;
+  rank_is = c.rank-place.ensures;
+  pasts_fit =
+      let m = length c.flows-flows.result.now in
+      let el : c.in_ok-lasts.lasts.items ≡ replicate m Absent = c.in_ok-lasts.ensures.items_if_clones_equal (λ y k. search rules) in
+      let en : c.in_ok-counts.counts.items ≡ replicate m 0 = c.in_ok-counts.ensures.items_if_clones_equal (λ y k. search rules) in
+      ap length el ∙ length-replicate m Absent ∙ sym (ap length en ∙ length-replicate m 0);
 }
 
 pub settle-requires-clause-stands : goal.settle-requires-clause-stands
 settle-requires-clause-stands c =
     let job = c.args.inputs.job in
     let n : c.flows-flows.result.now ≡ job.plan.flat.flows = c.flows-flows.ensures ∙ ap (λ (q : Distribution). q.flat.flows) c.requires.plan_is in
-    let es : c.in_ok-shown.shown.items ≡ replicate (length c.flows-flows.result.now) Absent = c.in_ok-shown.ensures.items_if_clones_equal (λ y k. search rules) in
-    let ep : c.in_ok-pasts.pasts.items ≡ replicate (length c.flows-flows.result.now) (record { last = Nil; ticked = false; count = 0 }) = c.in_ok-pasts.ensures.items_if_clones_equal (λ y k. search rules) in
-    stands_start job c.args.inputs.site c.in_ok-shown.shown.items c.in_ok-pasts.pasts.items
-    (es ∙ ap (λ xs. replicate (length xs) Absent) n)
-    (ep ∙ ap (λ xs. replicate (length xs) (record { last = Nil; ticked = false; count = 0 })) n)
+    let m = flows_of job.plan.flat in
+    let es : c.in_ok-shown.shown.items ≡ replicate m Absent = c.in_ok-shown.ensures.items_if_clones_equal (λ y k. search rules) ∙ ap (λ xs. replicate (length xs) Absent) n in
+    let el : c.in_ok-lasts.lasts.items ≡ replicate m Absent = c.in_ok-lasts.ensures.items_if_clones_equal (λ y k. search rules) ∙ ap (λ xs. replicate (length xs) Absent) n in
+    let en : c.in_ok-counts.counts.items ≡ replicate m 0 = c.in_ok-counts.ensures.items_if_clones_equal (λ y k. search rules) ∙ ap (λ xs. replicate (length xs) 0) n in
+    let s = c.args.inputs.site in
+    let shown = statuses c.in_ok-shown.shown.items in
+    let pasts = pasts_in c.in_ok-lasts.lasts.items c.in_ok-counts.counts.items in
+    let st = stands_start job s shown pasts (ap statuses es ∙ new_statuses m) (ap₂ pasts_in el en ∙ new_pasts m) in
+    let at = start_next c.args.program job s c.requires.plan_is c.requires.site_is in
+    let ok = run_ok c.args.inputs c.inputs.inside.job.value c.inputs.inside.site c.inputs.view_is c.inputs.invariant.is_run in
+    subst (λ (p : ℕ). Stands job s shown pasts 0 p 0 false) (sym c.rank-place.ensures)
+    (stands_skip job s ok shown pasts 0 0 (rank_at c.args.program 0) st (omega arith) at.0 at.1)
 
 pub returns-clause-done : goal.returns-clause-done
-returns-clause-done c = c.settle.ensures.done ∙ before_start c.args.inputs.job (streams_of c.args.inputs.job) c.args.inputs.site
+returns-clause-done c =
+    let job = c.args.inputs.job in
+    let s = c.args.inputs.site in
+    let at = start_next c.args.program job s c.requires.plan_is c.requires.site_is in
+    let ok = run_ok c.args.inputs c.inputs.inside.job.value c.inputs.inside.site c.inputs.view_is c.inputs.invariant.is_run in
+    c.settle.ensures.done
+    ∙ ap (λ p. items_before job (streams_of job) s 0 p 0) c.rank-place.ensures
+    ∙ before_skip job s ok 0 0 (rank_at c.args.program 0) (omega arith) at.0 at.1
+    ∙ before_start job (streams_of job) s
 
 pub settle-requires-clause-logged : goal.settle-requires-clause-logged
 settle-requires-clause-logged c =
@@ -49,9 +75,14 @@ settle-requires-clause-logged c =
     let logs = c.in_ok-logs.logs.items in
     let e = c.in_ok-logs.ensures in
     let len : length logs ≡ flows_of job.plan.flat = e.len ∙ ap length n in
-    logged_new job s logs len (λ q lq. (there job s (run_ok c.args.inputs c.inputs.inside.job.value c.inputs.inside.site c.inputs.view_is c.inputs.invariant.is_run) q lq).2)
+    let at = start_next p job s c.requires.plan_is c.requires.site_is in
+    let ok = run_ok c.args.inputs c.inputs.inside.job.value c.inputs.inside.site c.inputs.view_is c.inputs.invariant.is_run in
+    none_yet job s logs 0 c.rank-place.result true
+    (subst (λ (r : ℕ). IsLogged job s logs 0 r) (sym c.rank-place.ensures)
+    (logged_skip job s ok logs 0 0 (rank_at p 0) (omega arith) at.1
+    (logged_new job s logs len (λ q lq. (there job s ok q lq).2)
     (λ i y at.
     let li = slice_get_within logs i y at in
     let mine : i < flows_of job.plan.flat = omega (arith, li, len) in
     let part = part_there p i (subst (λ (q : Distribution). i < flows_of q.flat) (sym c.requires.plan_is) mine) ∙ ap₂ (λ q k. part_of q k i) c.requires.plan_is c.requires.site_is in
-    subst (λ (m : ℕ). IsNewRow (is_wanted job s i) m y) c.instants.ensures (subst (λ (x : Part). IsNewRow x.told c.instants.result y) part (e.each i y at)))
+    subst (λ (m : ℕ). IsNewRow (is_wanted job s i) m y) c.instants.ensures (subst (λ (x : Part). IsNewRow x.told c.instants.result y) part (e.each i y at))))))

@@ -8,4 +8,5 @@ invariant_of-result c =
     record {
       truths = subst (λ qs. AreBegun true (map equation_view qs) c.in_ok-truths.truths) c.as_slice.ensures c.in_ok-truths.ensures;
       falses = subst (λ qs. AreBegun false (map equation_view qs) c.in_ok-falses.falses) c.as_slice-2.ensures c.in_ok-falses.ensures;
+      started = c.in_ok-started.ensures;
     }

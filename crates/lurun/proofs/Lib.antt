@@ -1,0 +1,10 @@
+pub mod Told
+pub mod Acts
+pub mod Moves
+pub mod Endings
+pub mod Named
+pub mod Rearranged
+pub mod Dealing
+pub mod Answers
+pub mod Benches
+pub mod Crosses

@@ -1,0 +1,8 @@
+pub mod Reports
+pub mod Answers
+pub mod Stations
+pub mod Inside
+pub mod Workers
+pub mod Making
+pub mod Crew
+pub mod Hands

@@ -1,0 +1,131 @@
+//! The stations of a job.
+
+ghost use Rattle.std.specs.Prelude.{◌≡◌, ◌<◌, ◌≤◌, ◌+◌, IfOk, OnOk, length, slice_get, Some};
+ghost use Rattle.luworld.specs.Needs.{sites_of};
+ghost use Rattle.lurun.specs.declared.making.Bench.{Bench};
+ghost use Rattle.lurun.specs.Reports.{AreComplete};
+ghost use Rattle.lurun.specs.Stations.{AreStations, AreOf, sites_at, sender_at, receiver_at};
+ghost use Rattle.lurun.specs.Making.{IsBench, AreBenches, IsSenderAdded, IsReceiverAdded};
+
+use crate::station::Station;
+use lulink::{Rx, Tx, open_link};
+use luplace::{Job, Plan};
+use lusite::{LinkNo, Site, project};
+use luworld::Link;
+use std::alloc::{AllocError, Global};
+
+/// A new site, and the ends of its links so far.
+#[derive(Drop)]
+pub struct Bench {
+    pub site: Site,
+    pub txs: Vec<Tx>,
+    pub rxs: Vec<Rx>,
+}
+
+fn new_bench(alloc: Global, job: &Job, site: u8) -> Result<Bench, AllocError>
+    requires { site < sites_of job.now.plan }
+    ensures { IfOk result (IsBench job.now 0 site) }
+{
+    let program = project(alloc, job.plan(), site)?;
+    let inputs = job.inputs_at(alloc, site)?;
+    let site = Site::new(alloc, program, inputs)?;
+    Ok(Bench {
+        site,
+        txs: Vec::new(alloc),
+        rxs: Vec::new(alloc),
+    })
+}
+
+fn new_benches(alloc: Global, job: &Job) -> Result<Vec<Bench>, AllocError>
+    ensures { IfOk result (λ benches. AreBenches job.now 0 benches.items) }
+{
+    let count = job.plan().sites().len() as u8;
+    let mut benches = Vec::with_capacity(alloc, usize::from(count))?;
+    for site in 0..count {
+        let bench = new_bench(alloc, job, site)?;
+        benches.push_reserved(bench);
+    }
+    Ok(benches)
+}
+
+fn add_sender(benches: &mut Vec<Bench>, s: usize, tx: Tx) -> Result<(), AllocError>
+    requires { s < length benches.old.items }
+    ensures { OnOk result ((b : Bench) → slice_get benches.old.items s ≡ Some b → IsSenderAdded benches.old.items s b tx benches.new.items) }
+{
+    let bench = &mut benches[s];
+    bench.txs.push(tx)?;
+    Ok(())
+}
+
+fn add_receiver(benches: &mut Vec<Bench>, s: usize, rx: Rx) -> Result<(), AllocError>
+    requires { s < length benches.old.items }
+    ensures { OnOk result ((b : Bench) → slice_get benches.old.items s ≡ Some b → IsReceiverAdded benches.old.items s b rx benches.new.items) }
+{
+    let bench = &mut benches[s];
+    bench.rxs.push(rx)?;
+    Ok(())
+}
+
+fn link_at(plan: &Plan, l: LinkNo) -> &Link
+    requires { l < length plan.now.links }
+    ensures { slice_get plan.now.links l ≡ Some result.now }
+{
+    &plan.links()[l]
+}
+
+/// The site that sends a link.
+fn sender_of(job: &Job, l: LinkNo) -> usize
+    requires { l < length job.now.plan.links }
+    ensures is { result ≡ sender_at job.now.plan l }
+    ensures inside { result < sites_of job.now.plan }
+{
+    let plan = job.plan();
+    let link = link_at(plan, l);
+    usize::from(link.from)
+}
+
+/// The site that takes a link.
+fn receiver_of(job: &Job, l: LinkNo) -> usize
+    requires { l < length job.now.plan.links }
+    ensures is { result ≡ receiver_at job.now.plan l }
+    ensures inside { result < sites_of job.now.plan }
+{
+    let plan = job.plan();
+    let link = link_at(plan, l);
+    usize::from(link.to)
+}
+
+/// Opens link l, and adds its ends.
+fn add_link(alloc: Global, job: &Job, benches: &mut Vec<Bench>, l: LinkNo) -> Result<(), AllocError>
+    requires within { l < length job.now.plan.links }
+    requires room { 1 ≤ job.now.plan.capacity }
+    requires so_far { AreBenches job.now l benches.old.items }
+    ensures { OnOk result (AreBenches job.now (l + 1) benches.new.items) }
+{
+    let from = sender_of(job, l);
+    let to = receiver_of(job, l);
+    let Ok((tx, rx)) = open_link(alloc, job, l, job.plan().capacity()) else {
+        return Err(AllocError);
+    };
+    add_sender(benches, from, tx)?;
+    add_receiver(benches, to, rx)?;
+    Ok(())
+}
+
+/// The stations of a job, in order of sites: all links, with the plan's capacity, and all sites, new.
+pub fn stations(alloc: Global, job: &Job) -> Result<Vec<Station>, AllocError>
+    ensures new { IfOk result (λ stations. AreStations job.now stations.items) }
+    ensures of { IfOk result (λ stations. AreOf job.now stations.items) }
+    ensures complete { IfOk result (λ stations. AreComplete job.now (sites_at stations.items)) }
+{
+    let mut benches = new_benches(alloc, job)?;
+    for l in 0..job.plan().links().len() {
+        add_link(alloc, job, &mut benches, l)?;
+    }
+    let mut stations = Vec::with_capacity(alloc, benches.len())?;
+    for bench in benches {
+        let Bench { site, txs, rxs } = bench;
+        stations.push_reserved(Station::new(site, txs, rxs));
+    }
+    Ok(stations)
+}

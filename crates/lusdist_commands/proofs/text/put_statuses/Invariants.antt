@@ -1,6 +1,0 @@
-use Rattle.std.proofs.Common.{◌≡◌, ◌++◌, take, string_bytes}
-use Rattle.lusdist_commands.specs.WorldText.{statuses_text}
-use Rattle.lusdist_commands.proofs.text.put_statuses.Given as goal
-
-abbrev pub invariant-loop-status : goal.invariant-loop-status
-invariant-loop-status l = string_bytes l.text ≡ string_bytes l.initial.text ++ statuses_text (take l.status-index l.statuses)

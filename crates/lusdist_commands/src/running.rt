@@ -1,0 +1,84 @@
+//! A run of a job on threads.
+
+ghost use Rattle.std.specs.Prelude.{◌≡◌, ◌<◌, length, IfOk, IfErr, MatchResult, string_bytes};
+ghost use Rattle.luflow.specs.Variables.{outputs_of};
+ghost use Rattle.lurun.specs.Reports.{AreOutputsOf};
+ghost use Rattle.lusdist_shell.specs.Request.{AreFew};
+ghost use Rattle.lusdist_commands.specs.Ran.{IsRunError, IsStopOfRun, IsRunTable};
+
+use crate::evaluating::fault_stop;
+use crate::stop::Stop;
+use luflow::Outputs;
+use luplace::Job;
+use lurun::{Gate, RunError, run_crew, run_threads, stations};
+use lutab::write_outputs;
+use std::alloc::Global;
+use std::sync::Wait;
+use std::thread::Threads;
+
+/// The gate that holds nothing back.
+#[derive(Drop)]
+struct Open;
+
+impl Gate for Open {
+    fn before(&self, _site: u8, _step: u64) {}
+}
+
+/// The outputs of a job that is run by so many workers, or with a thread for each site.
+fn outputs_of_run<R: Threads + Wait + Sync>(
+    rt: &R,
+    alloc: Global,
+    job: &Job,
+    workers: Option<u8>,
+) -> Result<Outputs, RunError>
+    requires few { AreFew workers }
+    requires some { 0 < length (outputs_of job.now.plan.flat.variables) }
+    ensures { MatchResult result (AreOutputsOf job.now) (IsRunError job.now) }
+{
+    let stations = stations(alloc, job)?;
+    match workers {
+        Some(workers) => run_crew(rt, alloc, stations, workers, &Open),
+        None => run_threads(rt, alloc, stations, &Open),
+    }
+}
+
+/// The stop for a run that has no outputs.
+fn stop_of(alloc: Global, job: &Job, error: RunError) -> Stop
+    requires { IsRunError job.now error }
+    ensures { IsStopOfRun job.now result }
+{
+    let flat = job.plan().flat();
+    match error {
+        RunError::Fault {
+            variable,
+            instant,
+            kind,
+        } => fault_stop(alloc, flat, variable, instant, kind),
+        RunError::OutOfMemory => Stop::OutOfMemory,
+        RunError::LinkLost => Stop::LinkLost,
+        RunError::NoThread => Stop::NoThread,
+        RunError::WrongReports => unreachable!(),
+    }
+}
+
+/// The table of the outputs of a job that is run by so many workers, 1 to 16, or with a thread for each site; or why there is
+/// none. All its threads have ended when it returns.
+pub fn run_table<R: Threads + Wait + Sync>(
+    rt: &R,
+    alloc: Global,
+    job: &Job,
+    workers: Option<u8>,
+) -> Result<String, Stop>
+    requires few { AreFew workers }
+    requires some { 0 < length (outputs_of job.now.plan.flat.variables) }
+    ensures text { IfOk result (λ text. IsRunTable job.now (string_bytes text)) }
+    ensures stopped { IfErr result (IsStopOfRun job.now) }
+{
+    match outputs_of_run(rt, alloc, job, workers) {
+        Ok(outputs) => {
+            let text = write_outputs(alloc, &outputs)?;
+            Ok(text)
+        }
+        Err(error) => Err(stop_of(alloc, job, error)),
+    }
+}

@@ -1,0 +1,198 @@
+//! An example by many schedules at several capacities, and by several crews: each has to end as its evaluation does.
+
+use lusdist_commands::serve_words;
+use lusdist_shell::{Files, ReadError, Sink, text_of};
+use std::alloc::{AllocError, Global};
+use std::io;
+use std::io::Write;
+use std::sync::Wait;
+use std::thread::Threads;
+
+/// How many messages a link may hold.
+const CAPACITIES: &[u16] = &[1, 2, 16];
+
+/// Who serves the sites of a run.
+const CREWS: &[&str] = &[
+    "",
+    " --workers 1",
+    " --workers 2",
+    " --workers 3",
+    " --workers 16",
+];
+
+/// How many turns a schedule has before the sites that can move are taken in order.
+const TURNS: u32 = 600;
+
+/// The files of an example, with another capacity and another schedule.
+#[derive(Drop)]
+struct Tried<'a, F> {
+    files: &'a F,
+    place: String,
+    schedule: String,
+}
+
+impl<F: Files> Files for Tried<'_, F> {
+    ghost gives = { λ _ _ _. Unit {0} };
+
+    fn read(&self, alloc: Global, path: &str) -> Result<Vec<u8>, ReadError> {
+        let text = match path {
+            "place" => &self.place,
+            "schedule" => &self.schedule,
+            _ => return self.files.read(alloc, path),
+        };
+        Vec::from_slice(alloc, text.as_bytes()).map_err(|_| ReadError::OutOfMemory)
+    }
+}
+
+/// The words of a command.
+pub fn words_of(alloc: Global, line: &str) -> Result<Vec<String>, AllocError> {
+    let mut words = Vec::new(alloc);
+    for word in line.split_whitespace() {
+        words.push(String::from_str(alloc, word)?)?;
+    }
+    Ok(words)
+}
+
+/// What a command prints; nothing where it isn't done.
+fn printed<R: Threads + Wait + Sync, F: Files>(
+    threads: &R,
+    alloc: Global,
+    files: &F,
+    line: &str,
+) -> Result<String, AllocError> {
+    let words = words_of(alloc, line)?;
+    let mut out = Sink::new(Vec::new(alloc));
+    let mut err = Sink::new(Vec::new(alloc));
+    if serve_words(threads, alloc, &words, files, &mut out, &mut err) != 0 {
+        return Ok(String::new(alloc));
+    }
+    String::from_str(alloc, text_of(out.writer()).unwrap_or(""))
+}
+
+/// The text of a file.
+fn text_in<F: Files>(alloc: Global, files: &F, path: &str) -> Result<String, AllocError> {
+    let Ok(bytes) = files.read(alloc, path) else {
+        return Ok(String::new(alloc));
+    };
+    String::from_str(alloc, text_of(&bytes).unwrap_or(""))
+}
+
+/// The lines of a replay that tell the outputs of this table, all of them whole.
+fn output_lines(alloc: Global, table: &str) -> Result<String, AllocError> {
+    let mut text = String::new(alloc);
+    let columns = table.lines().next().unwrap_or("").split(',').count();
+    for column in 0..columns {
+        text.push_str("output")?;
+        for line in table.lines() {
+            text.push(' ')?;
+            text.push_str(line.split(',').nth(column).unwrap_or(""))?;
+        }
+        text.push('\n')?;
+    }
+    Ok(text)
+}
+
+/// A placement with another capacity.
+fn with_capacity(alloc: Global, place: &str, capacity: u16) -> Result<String, AllocError> {
+    let mut text = String::new(alloc);
+    write!(text, "capacity = {capacity}\n")?;
+    for line in place.lines().filter(|line| !line.starts_with("capacity")) {
+        text.push_str(line)?;
+        text.push('\n')?;
+    }
+    Ok(text)
+}
+
+/// A schedule by chance: s becomes (s * 1103515245 + 12345) mod 2^31, and the next site is s div 65536, mod 4.
+fn schedule_of(alloc: Global, seed: u32) -> Result<String, AllocError> {
+    let mut text = String::new(alloc);
+    let mut state = seed;
+    for _ in 0..TURNS {
+        state = state.wrapping_mul(1_103_515_245).wrapping_add(12_345) & 0x7fff_ffff;
+        write!(text, "{:x}", state / 65_536 % 4)?;
+    }
+    Ok(text)
+}
+
+/// Whether all sites of a replay have ended, and its outputs are these.
+fn is_whole(replay: &str, outputs: &str) -> bool {
+    !replay.is_empty()
+        && replay.ends_with(outputs)
+        && replay
+            .lines()
+            .filter(|line| line.starts_with("site "))
+            .all(|line| line.ends_with(" ended"))
+}
+
+/// How many of so many schedules end so, at the capacity that the files have.
+fn schedules_kept<R: Threads + Wait + Sync, F: Files>(
+    threads: &R,
+    alloc: Global,
+    tried: &mut Tried<'_, F>,
+    name: &str,
+    table: &str,
+    count: u32,
+) -> io::Result<u32> {
+    let outputs = output_lines(alloc, table)?;
+    let mut line = String::new(alloc);
+    write!(
+        line,
+        "lusdist replay {name}/program.lus place {name}/table.csv schedule --finish"
+    )?;
+    let mut kept = 0_u32;
+    for seed in 0..count {
+        tried.schedule = schedule_of(alloc, seed)?;
+        let replay = printed(threads, alloc, tried, line.as_str())?;
+        kept = kept.saturating_add(u32::from(is_whole(replay.as_str(), outputs.as_str())));
+    }
+    Ok(kept)
+}
+
+/// How many of the crews print this table, at the capacity that the files have.
+fn crews_kept<R: Threads + Wait + Sync, F: Files>(
+    threads: &R,
+    alloc: Global,
+    tried: &Tried<'_, F>,
+    name: &str,
+    table: &str,
+) -> io::Result<u32> {
+    let mut kept = 0_u32;
+    for crew in CREWS {
+        let mut line = String::new(alloc);
+        write!(
+            line,
+            "lusdist run {name}/program.lus place {name}/table.csv{crew}"
+        )?;
+        let found = printed(threads, alloc, tried, line.as_str())?;
+        kept = kept.saturating_add(u32::from(!table.is_empty() && found.as_str() == table));
+    }
+    Ok(kept)
+}
+
+/// Writes how many of so many schedules of an example, and of its crews, end as its evaluation does, at each capacity.
+pub fn put_tried<R: Threads + Wait + Sync, F: Files>(
+    threads: &R,
+    rt: &HostRuntime,
+    files: &F,
+    name: &str,
+    count: u32,
+) -> io::Result<()> {
+    let alloc = rt.alloc();
+    let mut line = String::new(alloc);
+    write!(line, "lusdist eval {name}/program.lus {name}/table.csv")?;
+    let table = printed(threads, alloc, files, line.as_str())?;
+    let mut path = String::new(alloc);
+    write!(path, "{name}/placement.toml")?;
+    let place = text_in(alloc, files, path.as_str())?;
+    for capacity in CAPACITIES {
+        let mut tried = Tried {
+            files,
+            place: with_capacity(alloc, place.as_str(), *capacity)?,
+            schedule: String::new(alloc),
+        };
+        let schedules = schedules_kept(threads, alloc, &mut tried, name, table.as_str(), count)?;
+        let crews = crews_kept(threads, alloc, &tried, name, table.as_str())?;
+        println!(rt; "= capacity {capacity}: {schedules} schedules, {crews} crews")?;
+    }
+    Ok(())
+}

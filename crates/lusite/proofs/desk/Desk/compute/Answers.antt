@@ -1,0 +1,18 @@
+use Rattle.std.proofs.Common.{List, refl, ap₂, ◌∙◌}
+use Rattle.luflow.specs.Values.{value_of}
+use Rattle.lueval.specs.declared.cell.Cell.{Cell}
+use Rattle.lueval.specs.Cells.{held, statuses, view_of}
+use Rattle.lueval.specs.Operations.{form_of}
+use Rattle.lusite.proofs.Moves.{place_within}
+use Rattle.lusite.proofs.Posts.{computes_is}
+use Rattle.lusite.proofs.desk.Desk.compute.Goals as goal
+
+pub returns : goal.returns
+returns c =
+    let a = c.args.self.now in
+    let post = c.post-post.result.now in
+    let d = held c.given.result in
+    computes_is a c.requires.set post c.post-post.ensures (place_within a c.requires.set c.requires.within) d _
+    (c.value_with.ensures (λ n. d) (λ n e. refl)
+    ∙ ap₂ (λ (ys zs : List Cell). value_of (form_of post.line.operation) (view_of (λ n. d) (statuses ys) zs post.line.place)) c.deref.ensures.value c.deref-2.ensures.value)
+    c.given.ensures

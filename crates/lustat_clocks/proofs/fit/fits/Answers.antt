@@ -1,8 +1,0 @@
-use Rattle.lutree.specs.Tree.{node_view, view}
-use Rattle.lustat_scope.specs.ClockRefs.{the_clock}
-use Rattle.lustat_rules.proofs.Fitting.{inside, outside}
-use Rattle.lustat_clocks.proofs.fit.fits.Goals as goal
-
-pub returns : goal.returns
-returns c =
-    (λ h. outside (node_view c.args.scope.now) (view c.args.e.now) (the_clock c.args.k) (c.fits_inside.ensures.0 h), λ h. c.fits_inside.ensures.1 (inside h))

@@ -1,0 +1,31 @@
+use Rattle.std.proofs.Common.{[], refl, ap, ◌∙◌, string_bytes}
+use Rattle.luworld.specs.Runs.{Run}
+use Rattle.luweave_text.specs.Traced.{HasMore}
+use Rattle.luweave_text.proofs.Lines.{no_lines, traced_whole, world_plan}
+use Rattle.luweave_text.proofs.tracing.trace.Goals as goal
+
+pub traced_turns-requires : goal.traced_turns-requires
+traced_turns-requires c = world_plan c.args.plan.now c.args.sites.items c.in_ok-world.world.job c.requires c.in_ok-world.ensures.job
+
+pub traced_finish-requires-clause-plan_is : goal.traced_finish-requires-clause-plan_is
+traced_finish-requires-clause-plan_is c =
+    ap (λ (j : Run). j.plan) c.traced_turns.ensures.job ∙ world_plan c.args.plan.now c.args.sites.items c.in_ok-world.world.job c.requires c.in_ok-world.ensures.job
+
+pub returns-then-not-finish-clause-traced : goal.returns-then-not-finish-clause-traced
+returns-then-not-finish-clause-traced c =
+    let new = c.in_ok-world.world in
+    let w = c.traced_turns.new.world in
+    let text = string_bytes c.traced_turns.new.text in
+    let made = c.in_ok-moves.ensures in
+    let none : HasMore w c.in_ok-moves.moves text w.dones text = record { more = []; dones_are = refl; text_is = no_lines w c.in_ok-moves.moves text } in
+    traced_whole c.args.turns.now c.args.finish new w w c.in_ok-moves.moves (string_bytes c.new-text.result) text text c.in_ok-world.ensures.dones c.new-text.ensures.bytes
+    made.job made.dones made.moves made.text refl none (λ e. refl) (λ e. absurd cc)
+
+pub returns-clause-traced : goal.returns-clause-traced
+returns-clause-traced c =
+    let new = c.in_ok-world.world in
+    let w = c.traced_turns.new.world in
+    let made = c.in_ok-moves.ensures in
+    let done = c.in_ok-traced_finish.ensures in
+    traced_whole c.args.turns.now c.args.finish new w c.traced_finish.new.world c.in_ok-moves.moves (string_bytes c.new-text.result) (string_bytes c.traced_turns.new.text) (string_bytes c.traced_finish.new.text) c.in_ok-world.ensures.dones c.new-text.ensures.bytes
+    made.job made.dones made.moves made.text done.job done.more (λ e. absurd cc) (λ e. done.quiet)

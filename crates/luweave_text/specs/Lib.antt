@@ -1,0 +1,2 @@
+pub mod WorldText
+pub mod Traced

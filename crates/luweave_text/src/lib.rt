@@ -1,0 +1,11 @@
+//! What is told of a world as a text.
+//!
+//! - [`text_of_world`]: its links, sites and outputs as they stand.
+//! - [`trace`]: the world after turns, and what each of them did, line by line.
+#![tactic(auto)]
+
+mod text;
+mod tracing;
+
+pub use text::text_of_world;
+pub use tracing::trace;

@@ -1,0 +1,223 @@
+//! What the turns of a replay did, told line by line.
+
+ghost use Rattle.std.specs.Prelude.{◌≡◌, ◌++◌, ◌≤◌, ◌+◌, ℕ, List, Some, true, IfOk, is_some, length, slice_get, string_bytes};
+ghost use Rattle.std.specs.Option.{ForSome};
+ghost use Rattle.luflow.specs.Variables.{variable_name};
+ghost use Rattle.luworld.specs.World.{Item, done, next_item, run, step, NoTurnMoves};
+ghost use Rattle.luworld.specs.Runs.{Run, carried, script, streams_of, system_of};
+ghost use Rattle.lusite.specs.Machine.{IsNext};
+ghost use Rattle.luweave.specs.Worlds.{IsNewWorld};
+ghost use Rattle.luweave.specs.Headline.{IsFaithful};
+ghost use Rattle.luweave_text.specs.WorldText.{Adds};
+ghost use Rattle.luweave_text.specs.Traced.{message_text, item_text, item_line, next_line, turn_text, turn_of, one_if, trace_text, moves_of, HasMore, IsTraced};
+
+use crate::text::{put_message, site_name, variable_name};
+use luflow::Msg;
+use luplace::Plan;
+use luweave::{LinkNo, Next, Site, Turn, World};
+use std::alloc::{AllocError, Global};
+
+/// The number of a message, and what it says.
+fn put_numbered(text: &mut String, message: Option<Msg>) -> Result<(), AllocError>
+    ensures { Adds result text.old text.new (message_text message) }
+{
+    match message {
+        Some(message) => {
+            write!(text, " {}", message.no)?;
+            put_message(text, message)
+        }
+        None => Ok(()),
+    }
+}
+
+/// The name of the flow that a link carries.
+fn flow_name(plan: &Plan, link: LinkNo) -> &str
+    ensures { result.now ≡ variable_name plan.now.flat (carried plan.now link) }
+{
+    let flow = match plan.links().get(link) {
+        Some(found) => found.flow,
+        None => 0,
+    };
+    variable_name(plan.flat(), flow)
+}
+
+/// What a site does next, where it does anything.
+fn put_item(
+    text: &mut String,
+    plan: &Plan,
+    world: &World,
+    site: u8,
+    next: Next,
+) -> Result<(), AllocError>
+    requires plan_is { world.now.job.plan ≡ plan.now }
+    requires next { IsNext world.now.job site (done world.now.dones site) next }
+    ensures { (item : Item) → next_item (system_of world.now.job) world.now.dones site ≡ Some item
+        → Adds result text.old text.new (item_text world.now site item) }
+{
+    match next {
+        Next::Local => text.push_str("compute"),
+        Next::Put(link, message) => {
+            write!(text, "put {}", flow_name(plan, link))?;
+            put_numbered(text, Some(message))
+        }
+        Next::Take(link) => {
+            write!(text, "take {}", flow_name(plan, link))?;
+            put_numbered(text, world.queued(link).first().copied())
+        }
+        Next::Ended => Ok(()),
+        Next::Faulted => Ok(()),
+    }
+}
+
+/// Whether a site does anything more.
+fn goes_on(next: Next) -> bool
+    ensures { (job : Run) (s n : ℕ) → IsNext job s n next → result ≡ is_some (slice_get (script job (streams_of job) s) n) }
+{
+    match next {
+        Next::Local => true,
+        Next::Put(_, _) => true,
+        Next::Take(_) => true,
+        Next::Ended => false,
+        Next::Faulted => false,
+    }
+}
+
+/// A line: how many turns have moved before, the site, and what it does next.
+fn put_line(
+    text: &mut String,
+    plan: &Plan,
+    world: &World,
+    moves: usize,
+    site: u8,
+    next: Next,
+) -> Result<(), AllocError>
+    requires plan_is { world.now.job.plan ≡ plan.now }
+    requires next { IsNext world.now.job site (done world.now.dones site) next }
+    ensures { (item : Item) → next_item (system_of world.now.job) world.now.dones site ≡ Some item
+        → Adds result text.old text.new (item_line world.now moves site item) }
+{
+    write!(text, "{moves} {} ", site_name(plan.sites(), site))?;
+    put_item(text, plan, world, site, next)?;
+    text.push('\n')
+}
+
+/// The line of a turn of the site, if it moves; nothing where the site does nothing more.
+fn next_line(
+    alloc: Global,
+    plan: &Plan,
+    world: &World,
+    moves: usize,
+    site: u8,
+) -> Result<String, AllocError>
+    requires { world.now.job.plan ≡ plan.now }
+    ensures { IfOk result (λ line. string_bytes line ≡ next_line world.now moves site
+        (next_item (system_of world.now.job) world.now.dones site)) }
+{
+    let mut line = String::new(alloc);
+    let next = world.next(site);
+    if goes_on(next) {
+        put_line(&mut line, plan, world, moves, site, next)?;
+    }
+    Ok(line)
+}
+
+/// A turn, with its line where it moves. Answers how many turns have moved then.
+fn traced_turn(
+    alloc: Global,
+    text: &mut String,
+    plan: &Plan,
+    world: &mut World,
+    moves: usize,
+    site: u8,
+) -> Result<usize, AllocError>
+    requires plan_is { world.old.job.plan ≡ plan.now }
+    requires few { moves ≤ length (string_bytes text.old) }
+    ensures job { world.new.job ≡ world.old.job }
+    ensures dones { IfOk result (λ _. world.new.dones ≡ step (system_of world.old.job) world.old.dones site) }
+    ensures text { Adds result text.old text.new (turn_text world.old moves site) }
+    ensures moves { IfOk result (λ n. n ≡ moves + one_if (turn_of world.old site)) }
+    ensures few { IfOk result (λ n. n ≤ length (string_bytes text.new)) }
+{
+    let line = next_line(alloc, plan, world, moves, site)?;
+    match world.turn(site) {
+        Turn::Moved => {
+            text.push_str(line.as_str())?;
+            Ok(moves + 1)
+        }
+        Turn::Blocked => Ok(moves),
+        Turn::Over => Ok(moves),
+    }
+}
+
+/// Turns in order, each with its line where it moves. Answers how many have moved.
+fn traced_turns(
+    alloc: Global,
+    text: &mut String,
+    plan: &Plan,
+    world: &mut World,
+    turns: &[u8],
+) -> Result<usize, AllocError>
+    requires { world.old.job.plan ≡ plan.now }
+    ensures job { world.new.job ≡ world.old.job }
+    ensures dones { IfOk result (λ _. world.new.dones ≡ run (system_of world.old.job) world.old.dones turns.now) }
+    ensures text { Adds result text.old text.new (trace_text world.old 0 turns.now) }
+    ensures moves { IfOk result (λ n. n ≡ moves_of world.old turns.now) }
+    ensures few { IfOk result (λ n. n ≤ length (string_bytes text.new)) }
+{
+    let mut moves = 0;
+    for site in turns {
+        moves = traced_turn(alloc, text, plan, world, moves, *site)?;
+    }
+    Ok(moves)
+}
+
+/// Gives the turn of the least site that can move until none can, each with its line.
+fn traced_finish(
+    alloc: Global,
+    text: &mut String,
+    plan: &Plan,
+    world: &mut World,
+    before: usize,
+) -> Result<(), AllocError>
+    requires plan_is { world.old.job.plan ≡ plan.now }
+    requires few { before ≤ length (string_bytes text.old) }
+    ensures job { world.new.job ≡ world.old.job }
+    ensures more { IfOk result (λ _. HasMore world.old before (string_bytes text.old) world.new.dones
+        (string_bytes text.new)) }
+    ensures quiet { IfOk result (λ _. NoTurnMoves (system_of world.new.job) world.new.dones) }
+{
+    let mut moves = before;
+    while let Some(site) = world.enabled() {
+        let _ = world.left();
+        moves = traced_turn(alloc, text, plan, world, moves, site)?;
+    }
+    Ok(())
+}
+
+/// The world of new sites after the turns of a schedule, in order; and, where it is to be finished, after more, each of the
+/// least site that can move, until none can. With it a line for each turn that moved: how many had moved before, the site,
+/// and what it did. The sites are gone where memory ran out.
+pub fn trace(
+    alloc: Global,
+    plan: &Plan,
+    sites: Vec<Site>,
+    turns: &[u8],
+    finish: bool,
+) -> Result<(World, String), AllocError>
+    requires { IsNewWorld plan.now sites.items }
+    ensures job { IfOk result (λ x. ForSome (slice_get sites.items 0) (λ v. x.0.job ≡ v.job)) }
+    ensures traced { IfOk result (λ x. IsTraced x.0.job turns.now finish x.0.dones
+        (string_bytes x.1)) }
+    ensures faithful { IfOk result (λ x. IsFaithful x.0.job x.0.dones) }
+{
+    let mut world = World::new(alloc, plan, sites)?;
+    let mut text = String::new(alloc);
+    let moves = traced_turns(alloc, &mut text, plan, &mut world, turns)?;
+    if !finish {
+        world.faithful();
+        return Ok((world, text));
+    }
+    traced_finish(alloc, &mut text, plan, &mut world, moves)?;
+    world.faithful();
+    Ok((world, text))
+}
