@@ -44,7 +44,7 @@ fn column(
 }
 
 /// A table for the program, of so many instants.
-fn table(alloc: Global, instants: u32) -> Result<Option<Inputs>, AllocError> {
+pub(crate) fn table(alloc: Global, instants: u32) -> Result<Option<Inputs>, AllocError> {
     let mut columns = Vec::new(alloc);
     columns.push(column(alloc, "x", Kind::Int, instants)?)?;
     columns.push(column(alloc, "c", Kind::Bool, instants)?)?;
@@ -57,7 +57,7 @@ fn has_streams(alloc: Global, flat: &Flat, inputs: &Inputs) -> bool {
 }
 
 /// Prints what an evaluation takes.
-fn evaluation(rt: &HostRuntime, flat: &Flat, inputs: &Inputs) -> io::Result<()> {
+pub(crate) fn evaluation(rt: &HostRuntime, flat: &Flat, inputs: &Inputs) -> io::Result<()> {
     let start = Instant::now(rt)?;
     let good = has_streams(rt.alloc(), flat, inputs);
     let time = timing::since(rt, &start)?;

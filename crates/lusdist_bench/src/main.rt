@@ -1,5 +1,6 @@
-//! The program `lusdist_bench`: it measures how long it takes to evaluate a program, to read a table and to write one, and to
-//! plan a program. `programs` makes a program, `evaluating`, `tables` and `planning` measure, and `timing` tells time and memory.
+//! The program `lusdist_bench`: it measures how long it takes to evaluate a program, to read a table and to write one, to plan a
+//! program, and to run it at several sites in one thread. `programs` makes a program, `evaluating`, `tables`, `planning` and
+//! `running` measure, and `timing` tells time and memory.
 #![tactic(auto)]
 
 ghost use Rattle.std.specs.Prelude.{◌≤◌, IfSome};
@@ -7,6 +8,7 @@ ghost use Rattle.std.specs.Prelude.{◌≤◌, IfSome};
 mod evaluating;
 mod planning;
 mod programs;
+mod running;
 mod tables;
 mod timing;
 
@@ -15,10 +17,12 @@ use std::{env, io};
 const USAGE: &str = "usage: lusdist_bench eval [FLOWS] [INSTANTS]
        lusdist_bench tables [LINES] [COLUMNS]
        lusdist_bench plan [VARIABLES] [SITES]
+       lusdist_bench sites [FLOWS] [SITES] [INSTANTS]
 
 eval    evaluates a program of about FLOWS flows (1000) at INSTANTS instants (100000)
 tables  reads the text of a table of LINES lines (1000000) of COLUMNS columns (5), and writes one
 plan    reads a placement of VARIABLES entries (2000) at SITES sites (16), and plans a program of about twice as many flows
+sites   runs a program of about FLOWS flows (1000) at SITES sites (4) in one thread, at INSTANTS instants (10000)
 ";
 
 /// The count in the word at this place, from 1 to 1,000,000; the usual one where there is no such word.
@@ -60,6 +64,13 @@ fn run(rt: &HostRuntime, words: &[String]) -> io::Result<()> {
         && let Some(sites) = count(words, 3, 16)
     {
         return planning::measure(rt, variables, sites);
+    }
+    if is_task(words, "sites")
+        && let Some(flows) = count(words, 2, 1000)
+        && let Some(sites) = count(words, 3, 4)
+        && let Some(instants) = count(words, 4, 10_000)
+    {
+        return running::measure(rt, flows, sites, instants);
     }
     print!(rt; "{USAGE}")?;
     Ok(())

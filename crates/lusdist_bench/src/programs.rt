@@ -35,9 +35,14 @@ var y0: int; d0: bool;
 /// How many flows a stage is of, where it is called.
 const FLOWS_OF_STAGE: u32 = 68;
 
+/// How many stages a program of about so many flows has.
+pub(crate) fn stages(flows: u32) -> u32 {
+    (flows / FLOWS_OF_STAGE).max(1)
+}
+
 /// The text of a program in which stages of about so many flows follow one another, of the inputs `x: int` and `c: bool`.
 pub(crate) fn chain(alloc: Global, flows: u32) -> Result<String, AllocError> {
-    let stages = (flows / FLOWS_OF_STAGE).max(1);
+    let stages = stages(flows);
     let mut text = String::from_str(alloc, BEGINNING)?;
     for i in 1..=stages {
         writeln!(text, "  y{i}: int; d{i}: bool;")?;
