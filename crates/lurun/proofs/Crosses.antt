@@ -42,8 +42,7 @@ inputs_field_send = inputs_send
 inside_program : IsSend program.the_row
 inside_program =
     recorded_send program.the_field.row _ _ program.the_type.to_one
-    (struct_send (shape program.the_type)
-    (
+    (struct_send (shape program.the_type) (
       search sendable,
       (
         search (sendable, crosses, row.the_send, flow.the_send) depth 12,
@@ -67,18 +66,18 @@ inside_program =
                           search (sendable, crosses, row.the_send, name.the_send) depth 12,
                           (
                             search sendable,
-                            tt
-                          )
-                        )
-                      )
-                    )
-                  )
-                )
-              )
-            )
-          )
-        )
-      )
+                            tt,
+                          ),
+                        ),
+                      ),
+                    ),
+                  ),
+                ),
+              ),
+            ),
+          ),
+        ),
+      ),
     ))
 
 pub program_send : IsSend SiteProgram.the_row
@@ -89,8 +88,7 @@ program_field_send = program_send
 
 pub desk_field_send : IsSend Desk.the_field.row
 desk_field_send =
-    struct_send (shape Desk.the_type)
-    (
+    struct_send (shape Desk.the_type) (
       program_send,
       (
         inputs_send,
@@ -112,17 +110,17 @@ desk_field_send =
                         search sendable,
                         (
                           search (sendable, fault.the_send) depth 12,
-                          tt
-                        )
-                      )
-                    )
-                  )
-                )
-              )
-            )
-          )
-        )
-      )
+                          tt,
+                        ),
+                      ),
+                    ),
+                  ),
+                ),
+              ),
+            ),
+          ),
+        ),
+      ),
     )
 
 inside_site : IsSend site.the_row

@@ -71,7 +71,15 @@ const CALLS: &[&[&str]] = &[
     &["lusdist", "plan", "p.lus", "p.toml", "--dot"],
     &["lusdist", "replay", "p.lus", "p.toml", "t.csv", "s.txt"],
     &["lusdist", "run", "p.lus", "p.toml", "t.csv"],
-    &["lusdist", "run", "p.lus", "p.toml", "t.csv", "--workers", "2"],
+    &[
+        "lusdist",
+        "run",
+        "p.lus",
+        "p.toml",
+        "t.csv",
+        "--workers",
+        "2",
+    ],
 ];
 
 #[test]

@@ -73,7 +73,7 @@ moved_more w before text moves dones text' h now is s moves2 dones2 text2 ed et 
     let tail : moves_of (at w more) (s ∷ []) ≡ one_if (turn_of (at w more) s) + 0 = refl in
     let one : one_if (turn_of now s) ≡ one_if (turn_of (at w more) s) = ap (λ (p : Progress). one_if (turn_of p s)) here in
     let line : turn_text now moves s ≡ trace_text (at w more) (before + moves_of w more) (s ∷ []) =
-        ap₂ (λ (p : Progress) (n : ℕ). turn_text p n s) here h.moves_are ∙ sym (append-nil (turn_text (at w more) (before + moves_of w more) s)) in
+    ap₂ (λ (p : Progress) (n : ℕ). turn_text p n s) here h.moves_are ∙ sym (append-nil (turn_text (at w more) (before + moves_of w more) s)) in
     record {
       has = record {
         more = more ++ s ∷ [];
@@ -141,14 +141,14 @@ traced_whole turns finish new w last moves none text text2 begins empty same ed 
     let whole : last.job ≡ new.job = same2 ∙ same in
     let sys = system_of new.job in
     let traced : IsTraced new.job turns finish last.dones text2 =
-        record {
-          more = has.more;
-          dones_are = has.dones_are ∙ ap₂ (λ (j : Run) (ds : List ℕ). run (system_of j) ds has.more) same ed ∙ sym (run_append sys new.dones turns has.more) ∙ ap (λ (ds : List ℕ). run sys ds (turns ++ has.more)) begins;
-          no_more = no_more;
-          quiet = λ e. subst (λ (j : Run). NoTurnMoves (system_of j) last.dones) whole (quiet e);
-          text_is = traced_on new w turns has.more moves text text2 (progress_is w new.job (run sys new.dones turns) same ed) em (et ∙ ap (λ (xs : List ℕ). xs ++ trace_text new 0 turns) empty) has.text_is
-              ∙ ap (λ (p : Progress). trace_text p 0 (turns ++ has.more)) (progress_is new new.job (new_world sys) refl begins);
-        } in
+    record {
+      more = has.more;
+      dones_are = has.dones_are ∙ ap₂ (λ (j : Run) (ds : List ℕ). run (system_of j) ds has.more) same ed ∙ sym (run_append sys new.dones turns has.more) ∙ ap (λ (ds : List ℕ). run sys ds (turns ++ has.more)) begins;
+      no_more = no_more;
+      quiet = λ e. subst (λ (j : Run). NoTurnMoves (system_of j) last.dones) whole (quiet e);
+      text_is = traced_on new w turns has.more moves text text2 (progress_is w new.job (run sys new.dones turns) same ed) em (et ∙ ap (λ (xs : List ℕ). xs ++ trace_text new 0 turns) empty) has.text_is
+          ∙ ap (λ (p : Progress). trace_text p 0 (turns ++ has.more)) (progress_is new new.job (new_world sys) refl begins);
+    } in
     subst (λ (j : Run). IsTraced j turns finish last.dones text2) (sym whole) traced
 
 pub no_lines : (w : Progress) (moves : ℕ) (text : List ℕ) → text ≡ text ++ trace_text w moves []
