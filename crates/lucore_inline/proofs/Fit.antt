@@ -6,7 +6,7 @@ use Rattle.lutree.specs.declared.program.Declaration.{Declaration}
 use Rattle.lutree.specs.declared.program.Kind.{Kind}
 use Rattle.lutree.specs.Tree.{DeclarationTree, NodeTree, declarations_view}
 use Rattle.lustat_rules.specs.Typing.{arguments_fit, call_kinds, has_kind}
-use Rattle.lucore_inline.specs.declared.root.Operand.{Operand}
+use Rattle.lucore_moved.specs.declared.operand.Operand.{Operand}
 use Rattle.lucore_inline.specs.Walks.{kinds_of}
 
 fit_nil : (xs : List Declaration) → arguments_fit [] (declarations_view xs) ≡ eqb (length xs) 0

@@ -22,8 +22,9 @@ use Rattle.lusource.specs.Source.{condition}
 use Rattle.lustat_rules.specs.Typing.{agreed, double_kind, choice_kind, type_of, types_of}
 use Rattle.lucore_list.specs.Layout.{Root, root_flows, root_place, Walking, leaf, after, clock_place, flow_of, variable_place, walk, walk_all}
 use Rattle.lucore_list.specs.Layout.Root.{own, at}
-use Rattle.lucore_inline.specs.declared.root.Operand.{Operand}
-use Rattle.lucore_inline.specs.Walks.{IsWalked, flow_on, prefix_form, prefix_kind, infix_walk, infix_kind, places_of, kinds_of}
+use Rattle.lucore_moved.specs.declared.operand.Operand.{Operand}
+use Rattle.lucore_inline.specs.Walks.{IsWalked, flow_on, prefix_form, prefix_kind, infix_walk, infix_kind, kinds_of}
+use Rattle.lucore_moved.specs.Operands.{places_of}
 use Rattle.lucore_inline.proofs.Walking.{IsMade, settled_is, after_is, leaf_is}
 
 module _ (p : ProgramTree) (l : List (List Flow)) (n : NodeTree) where

@@ -18,7 +18,7 @@ use Rattle.lustat_scope.specs.declared.clock_ref.PlacedClock.{PlacedClock}
 use Rattle.luflow.specs.declared.form.Clock.TheVariants.{On}
 use Rattle.lucore_list.specs.Layout.{clock_place}
 use Rattle.lunames.proofs.Sought.{shifted_first}
-use Rattle.lustat_scope.specs.Scopes.{declared_in}
+use Rattle.lustat_rules.specs.Faults.{declared_in}
 use Rattle.lucore_list.proofs.Names.{clock_cases, clock_named}
 
 one_more : (o : Option ℕ) (n : ℕ) → unwrap_or (option_map suc o) (suc n) ≡ suc (unwrap_or o n)

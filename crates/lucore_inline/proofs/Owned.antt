@@ -10,7 +10,8 @@ use Rattle.luflow.specs.declared.form.Flow.{Flow}
 use Rattle.lusource.specs.Names.{variables_of, place_of, name_at}
 use Rattle.lustat_rules.specs.Scope.{lefts_of, names_of}
 use Rattle.lunames.specs.Places.{first_place}
-use Rattle.lustat_scope.specs.Scopes.{declared_in, spellings}
+use Rattle.lustat_scope.specs.Scopes.{spellings}
+use Rattle.lustat_rules.specs.Faults.{declared_in}
 use Rattle.lustat_scope.proofs.Declared.{same_spellings, view_of_declared}
 use Rattle.lunames.proofs.Sought.{shifted_first}
 use Rattle.lucore_list.specs.Layout.{owner_of, inner_owners, variable_count, node_owners}

@@ -18,7 +18,7 @@ use Rattle.lucore_list.specs.Layout.{Root as LaidRoot, Walking, leaf, after}
 use Rattle.lucore_list.specs.Layout.Root.{own, at}
 use Rattle.lucore_inline.specs.declared.root.Root.{Root}
 use Rattle.lucore_inline.specs.declared.root.Root.TheVariants.{Own, At}
-use Rattle.lucore_inline.specs.declared.root.Operand.{Operand}
+use Rattle.lucore_moved.specs.declared.operand.Operand.{Operand}
 
 -- a root as the layout has it
 abbrev pub root_view : Root → LaidRoot
@@ -54,10 +54,7 @@ infix_walk k (Data op) x y = leaf (flow_on k (double_kind op x.kind y.kind) (Bin
 infix_walk k Starts x y = leaf (flow_on k (agreed x.kind y.kind) (Arrow x.place y.place))
 infix_walk k FollowedBy x y = after (leaf (flow_on k y.kind (Pre y.place))) (λ z. leaf (flow_on k (agreed x.kind y.kind) (Arrow x.place z)))
 
--- where the arguments of a call stand
-abbrev pub places_of : List Operand → List ℕ
-places_of = map (λ x. x.place)
-
+-- the types of the arguments of a call
 abbrev pub kinds_of : List Operand → List (Option Kind)
 kinds_of = map (λ x. x.kind)
 

@@ -9,7 +9,6 @@
 
 mod context;
 mod laying;
-mod moved;
 mod needed;
 mod node;
 mod open;

@@ -9,8 +9,9 @@ ghost use Rattle.lucore_inline.specs.Walks.{plain, root_view, vacant};
 ghost use Rattle.lucore_inline.specs.Nodes.{flow_named, flows_named, defined_flows};
 
 use crate::context::{Context, flow_of, variable_clock, variable_place};
-use crate::root::{Root, sum_of};
+use crate::root::Root;
 use crate::walk::walk;
+use lucore_moved::sum_of;
 use luflow::{Clock, Datum, Flow, Form};
 use lulist::Name;
 use lustat_scope::{PlacedClock, Scope};

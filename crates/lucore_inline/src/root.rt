@@ -1,9 +1,10 @@
 //! Roots and operands.
 
-ghost use Rattle.std.specs.Prelude.{◌≡◌, ◌+◌, ◌++◌, length, IfOk, OnOk};
+ghost use Rattle.std.specs.Prelude.{◌≡◌, ◌++◌, length, IfOk, OnOk};
 ghost use Rattle.lucore_list.specs.Layout.{root_flows, root_place};
 ghost use Rattle.lucore_inline.specs.Walks.{root_view};
 
+use lucore_moved::Operand;
 use luflow::Flow;
 use lutree::Kind;
 use std::alloc::AllocError;
@@ -20,24 +21,6 @@ pub enum Root {
 pub struct Walked {
     pub root: Root,
     pub kind: Option<Kind>,
-}
-
-/// The place of an operand and its type.
-#[derive(Clone, Copy, Drop)]
-pub struct Operand {
-    pub place: usize,
-    pub kind: Option<Kind>,
-}
-
-/// The sum of two places.
-///
-/// # Errors
-///
-/// An error means that no memory has such a place.
-pub fn sum_of(a: usize, b: usize) -> Result<usize, AllocError>
-    ensures { IfOk result (λ sum. sum ≡ a + b) }
-{
-    a.checked_add(b).ok_or(AllocError)
 }
 
 /// The walked expression as an operand: a flow of its own is put behind those before.

@@ -7,13 +7,14 @@ ghost use Rattle.lustat_rules.specs.Scope.{node_called};
 ghost use Rattle.lustat_rules.specs.Typing.{type_of, only, call_kinds, arguments_fit};
 ghost use Rattle.lucore_list.specs.Layout.{clock_place, instance, walk as walk_of};
 ghost use Rattle.lustat_scope.specs.ClockRefs.{placed_view, IsPlaced};
-ghost use Rattle.lucore_inline.specs.Walks.{IsWalked, root_view, plain, prefix_form, prefix_kind, infix_walk, infix_kind, places_of, kinds_of};
+ghost use Rattle.lucore_inline.specs.Walks.{IsWalked, root_view, plain, prefix_form, prefix_kind, infix_walk, infix_kind, kinds_of};
+ghost use Rattle.lucore_moved.specs.Operands.{places_of};
 
 use crate::context::{
     Context, called_list, clock_by_place, flow_of, inputs_of, own, variable_clock, variable_place,
 };
-use crate::moved::push_moved;
-use crate::root::{Operand, Root, Walked, settled, sum_of};
+use crate::root::{Root, Walked, settled};
+use lucore_moved::{Operand, push_moved, sum_of};
 use luflow::{Datum, Flow, Form};
 use lulist::Number;
 use lustat_scope::{Catalog, ClockRef, PlacedClock, Scope};

@@ -4,7 +4,5 @@ pub mod Leasts
 pub mod Telling
 pub mod Lent
 pub mod Starting
-pub mod Beginning
-pub mod Naming
 pub mod Equations
 pub mod Rowing

@@ -4,13 +4,11 @@
 //! - [`lefts_are_known`], [`all_lefts_known`]: whether what equations define is declared.
 //! - [`least_classes`]: the least classes of a node's variables.
 //! - [`clocks_named`], [`keeps_classes`]: whether an equation keeps the rules of classes.
-//! - [`Firsts`]: which clocks are true at first, by the form of their equations, and which uses of `current` that allows.
 //! - [`initialise`], [`Initialised`]: whether a program keeps these rules: the classes of each node, or the fault that is told.
 //! - [`laws`]: what the least classes decide.
 #![tactic(auto)]
 
 mod class;
-mod current;
 mod judge;
 mod known;
 pub mod laws;
@@ -18,7 +16,6 @@ mod least;
 mod search;
 
 pub use class::{is_one, needs_met};
-pub use current::Firsts;
 pub use judge::{clocks_named, keeps_classes};
 pub use known::{all_lefts_known, lefts_are_known};
 pub use least::least_classes;

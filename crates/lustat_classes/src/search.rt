@@ -10,9 +10,9 @@ ghost use Rattle.lustat_classes.specs.Faults.{EquationKept, EquationFault, AreKe
 ghost use Rattle.lustat_classes.specs.Served.{Serves, AreLeast};
 ghost use Rattle.lustat_classes.specs.Rows.{plain, GiveLeastBelow, AreClasses, IfKept, IfBroken, fault_of};
 
-use crate::current::Firsts;
 use crate::judge::{clocks_named, keeps_classes};
 use crate::least::least_classes;
+use lustat_currents::Firsts;
 use lustat_rules::{StatError, lesser, told};
 use lustat_scope::{Catalog, Places, Scope, Stage, least_fault};
 use lutree::{Declaration, Equation};

@@ -8,7 +8,7 @@ use Rattle.lutree.specs.declared.program.Node.{Node}
 use Rattle.lutree.specs.declared.expr.Condition.{Condition}
 use Rattle.lutree.specs.Tree.{declaration_view, declarations_view, node_view}
 use Rattle.lustat_rules.specs.Scope.{declarations_of}
-use Rattle.lustat_scope.specs.Scopes.{declared_in}
+use Rattle.lustat_rules.specs.Faults.{declared_in}
 use Rattle.lustat_scope.proofs.Declared.{view_of_declared}
 use Rattle.lustat_clocks.specs.Chains.{lent_view}
 

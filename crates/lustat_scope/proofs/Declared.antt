@@ -13,7 +13,8 @@ use Rattle.lutree.specs.Tree.{DeclarationTree, NodeTree, declaration_view, decla
 use Rattle.lustat_rules.specs.Scope.{declarations_of, names_of, first_declared, meaning, node_called}
 use Rattle.lustat_rules.specs.Naming.{node_place}
 use Rattle.lunames.specs.Places.{place_from, first_place}
-use Rattle.lustat_scope.specs.Scopes.{declared_in, spellings, node_spellings}
+use Rattle.lustat_scope.specs.Scopes.{spellings, node_spellings}
+use Rattle.lustat_rules.specs.Faults.{declared_in}
 
 pub view_of_declared : (n : Node) → declarations_view (declared_in n) ≡ declarations_of (node_view n)
 view_of_declared n =

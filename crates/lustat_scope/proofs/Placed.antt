@@ -13,7 +13,8 @@ use Rattle.lustat_rules.specs.Clocks.{on}
 use Rattle.lunames.specs.Places.{first_place}
 use Rattle.lunames.proofs.Finding.{there}
 use Rattle.lunames.proofs.Sought.{at}
-use Rattle.lustat_scope.specs.Scopes.{declared_in, spellings, clock_list}
+use Rattle.lustat_scope.specs.Scopes.{spellings, clock_list}
+use Rattle.lustat_rules.specs.Faults.{declared_in}
 use Rattle.lustat_scope.specs.ClockRefs.{placed_view, place_among, place_before, clock_under, IsPlaced}
 use Rattle.lustat_scope.specs.declared.clock_ref.PlacedClock.{PlacedClock}
 use Rattle.lustat_scope.proofs.Declared.{view_of_declared, at_map, first_at_place, names_in_view}

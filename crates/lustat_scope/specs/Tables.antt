@@ -1,7 +1,8 @@
 -- What the tables of a node hold.
 use Rattle.std.specs.Prelude.{◌≡◌, map}
 use Rattle.lustat_scope.specs.declared.scope.Scope.TheInside.{Inside}
-use Rattle.lustat_scope.specs.Scopes.{declared_in, spellings, clock_list}
+use Rattle.lustat_scope.specs.Scopes.{spellings, clock_list}
+use Rattle.lustat_rules.specs.Faults.{declared_in}
 use Rattle.lustat_scope.specs.ClockRefs.{placed_view, place_among}
 
 pub record AreTables (s : Inside) : Type 0 where

@@ -5,7 +5,8 @@ ghost use Rattle.lutree.specs.declared.expr.Condition.{Condition};
 ghost use Rattle.lutree.specs.Tree.{declaration_view, node_view};
 ghost use Rattle.lustat_rules.specs.Scope.{declarations_of, names_of, meaning, kind_of, clock_of, IsInput, IsOutput};
 ghost use Rattle.lunames.specs.Places.{first_place};
-ghost use Rattle.lustat_scope.specs.Scopes.{declared_in, spellings, clock_list};
+ghost use Rattle.lustat_scope.specs.Scopes.{spellings, clock_list};
+ghost use Rattle.lustat_rules.specs.Faults.{declared_in};
 ghost use Rattle.lustat_scope.specs.ClockRefs.{the_clock, placed_view, place_among, clock_under, IsPlaced};
 
 use crate::clock_ref::{ClockRef, PlacedClock};

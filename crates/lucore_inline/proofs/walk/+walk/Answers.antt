@@ -18,7 +18,8 @@ use Rattle.lustat_rules.specs.Typing.{agreed, choice_kind, type_of, types_of, on
 use Rattle.lucore_list.specs.Layout.{clock_place, instance, variable_place, walk}
 use Rattle.lucore_list.specs.Layout.Root.{own, at}
 use Rattle.lustat_scope.specs.ClockRefs.{placed_view}
-use Rattle.lucore_inline.specs.Walks.{IsWalked, root_view, plain, flow_on, prefix_form, prefix_kind, places_of, kinds_of}
+use Rattle.lucore_inline.specs.Walks.{IsWalked, root_view, plain, flow_on, prefix_form, prefix_kind, kinds_of}
+use Rattle.lucore_moved.specs.Operands.{places_of}
 use Rattle.lucore_inline.proofs.Views.{viewed-Number, viewed-Truth, viewed-Variable, viewed-Current, viewed-Call, viewed-Unary, viewed-Binary, viewed-If, viewed-When, viewed-Merge}
 use Rattle.lucore_inline.proofs.Forms.{AreMade, none_made, argument_made, argument_typed, operand_is, operand_typed, formed, number_is, truth_is, variable_is, current_is, unary_is, binary_is, choice_is, when_is, merge_is, prefix_typed, infix_typed, choice_typed}
 use Rattle.lucore_inline.proofs.walk.+walk.Goals as goal

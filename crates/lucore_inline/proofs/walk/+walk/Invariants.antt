@@ -2,7 +2,8 @@ use Rattle.std.proofs.Common.{◌≡◌, take}
 use Rattle.lutree.specs.Tree.{views, trees_of, node_view, program_view}
 use Rattle.lustat_rules.specs.Typing.{types_of}
 use Rattle.lustat_scope.specs.ClockRefs.{placed_view}
-use Rattle.lucore_inline.specs.Walks.{plain, places_of, kinds_of}
+use Rattle.lucore_inline.specs.Walks.{plain, kinds_of}
+use Rattle.lucore_moved.specs.Operands.{places_of}
 use Rattle.lucore_inline.proofs.Forms.{AreMade}
 use Rattle.lucore_inline.proofs.walk.+walk.Given as goal
 

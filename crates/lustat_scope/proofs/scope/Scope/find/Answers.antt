@@ -1,6 +1,6 @@
 use Rattle.std.proofs.Common.{◌∙◌, sym, ap, Some, None, refl, arith}
 use Rattle.std.specs.Prelude.{option_copied}
-use Rattle.lustat_scope.specs.Scopes.{declared_in}
+use Rattle.lustat_rules.specs.Faults.{declared_in}
 use Rattle.lustat_scope.proofs.Declared.{found_meaning, within_items, read_at}
 use Rattle.std.proofs.lemmas.Grind.{common_steps}
 use Rattle.lustat_scope.proofs.scope.Scope.find.Goals as goal

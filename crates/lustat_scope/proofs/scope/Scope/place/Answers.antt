@@ -1,6 +1,7 @@
 use Rattle.std.proofs.Common.{◌∙◌, ap, sym}
 use Rattle.lunames.specs.Places.{first_place}
-use Rattle.lustat_scope.specs.Scopes.{declared_in, spellings}
+use Rattle.lustat_scope.specs.Scopes.{spellings}
+use Rattle.lustat_rules.specs.Faults.{declared_in}
 use Rattle.lustat_scope.proofs.Declared.{names_in_view}
 use Rattle.lustat_scope.proofs.scope.Scope.place.Goals as goal
 
