@@ -1,5 +1,5 @@
 -- What contracts see of a station: a site, and the ends of its links.
-use Rattle.std.specs.Prelude.{◌≡◌, ℕ, Bool, true, false, nat_eq, List, [], length, map, filter, All, Option, Some, None, slice_get, slice_set, unwrap_or}
+use Rattle.std.specs.Prelude.{◌≡◌, ◌+◌, ℕ, Bool, true, false, nat_eq, List, [], length, map, filter, All, Option, Some, None, slice_get, slice_set, unwrap_or}
 use Rattle.std.specs.List.{range_with_len}
 use Rattle.std.specs.Option.{option_map}
 use Rattle.std.specs.List.Sorted.{IsPermutation}
@@ -108,6 +108,11 @@ AreReportsOf stations reports = IsPermutation (places stations) (map place_of re
 
 abbrev pub IsSameSite : SiteAt → SiteAt → Type 0
 IsSameSite v w = (w.job ≡ v.job) × (w.site ≡ v.site)
+
+-- a site has done one item more, or stands where it stood
+abbrev pub Moves : Bool → SiteAt → SiteAt → Type 0
+Moves true v w = w.done ≡ v.done + 1
+Moves false v w = w.done ≡ v.done
 
 -- what a put changes of the ends: one is another now, which has put the message, or nothing
 abbrev pub PutAs : Bool → Msg → SenderView → SenderView → Type 0

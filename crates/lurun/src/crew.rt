@@ -4,8 +4,8 @@ ghost use Rattle.std.specs.Prelude.{◌≡◌, ◌≤◌, ◌<◌, ◌+◌, ◌+
 ghost use Rattle.std.specs.List.Sorted.{IsPermutation};
 ghost use Rattle.luworld.specs.Runs.{Run};
 ghost use Rattle.lurun.specs.Answers.{IsRunAnswer};
-ghost use Rattle.lurun.specs.Stations.{AreOf, AreReportsOf, IsSameSite, ReportsFor, place_of, places};
-ghost use Rattle.lurun.specs.Crew.{HasRoom, dealt, held};
+ghost use Rattle.lurun.specs.Stations.{AreOf, AreReportsOf, IsSameSite, Moves, ReportsFor, place_of, places};
+ghost use Rattle.lurun.specs.Crew.{HasRoom, dealt, held, is_done};
 ghost use Rattle.lurun.specs.Hands.{promised};
 
 use crate::collecting::collect;
@@ -89,7 +89,8 @@ impl Seat {
 
     /// Tries the item at hand.
     fn try_item(&mut self) -> Tried
-        ensures { IsSameSite self.old.at self.new.at }
+        ensures moved { Moves (is_done result) self.old.at self.new.at }
+        ensures site { IsSameSite self.old.at self.new.at }
     {
         match self.site.next() {
             Next::Ended => Tried::Over,

@@ -1,9 +1,9 @@
 //! A site's items over the ends of its links.
 
-ghost use Rattle.std.specs.Prelude.{◌≡◌, ◌<◌, IfSome, length, List, slice_get, Some};
+ghost use Rattle.std.specs.Prelude.{◌≡◌, ◌+◌, ◌<◌, IfSome, length, List, slice_get, Some};
 ghost use Rattle.lulink.specs.Views.{SenderView, ReceiverView, IsNextToPut};
 ghost use Rattle.lusite.specs.Machine.{IsNext};
-ghost use Rattle.lurun.specs.Stations.{AreSenders, AreReceivers, IsSameSite, IsSenderAt, IsReceiverAt, IsPutAt, IsTakenAt};
+ghost use Rattle.lurun.specs.Stations.{AreSenders, AreReceivers, IsSameSite, Moves, IsSenderAt, IsReceiverAt, IsPutAt, IsTakenAt};
 
 use luflow::Msg;
 use lulink::{Rx, Tx};
@@ -75,12 +75,13 @@ fn take_at<R: Wait>(rt: &R, rxs: &mut Vec<Rx>, i: usize) -> Option<Msg>
     }
 }
 
-/// Puts the message at hand. False where the receiver is gone.
+/// Puts the message at hand. False where the receiver is gone, and then the item isn't done.
 pub fn put_one<R: Wait>(rt: &R, site: &mut Site, txs: &mut Vec<Tx>, link: LinkNo, msg: Msg) -> bool
     requires senders { AreSenders site.old txs.old.items }
     requires next { IsNext site.old.job site.old.site site.old.done (Next.Put link msg) }
     ensures senders { AreSenders site.new txs.new.items }
     ensures receivers { (rxs : List ReceiverView) → AreReceivers site.old rxs → AreReceivers site.new rxs }
+    ensures moved { Moves result site.old site.new }
     ensures site { IsSameSite site.old site.new }
 {
     match sender_place(txs, link) {
@@ -96,12 +97,13 @@ pub fn put_one<R: Wait>(rt: &R, site: &mut Site, txs: &mut Vec<Tx>, link: LinkNo
     }
 }
 
-/// Takes the message at hand. False where the sender is gone and nothing is left.
+/// Takes the message at hand. False where the sender is gone and nothing is left, and then the item isn't done.
 pub fn take_one<R: Wait>(rt: &R, site: &mut Site, rxs: &mut Vec<Rx>, link: LinkNo) -> bool
     requires receivers { AreReceivers site.old rxs.old.items }
     requires next { IsNext site.old.job site.old.site site.old.done (Next.Take link) }
     ensures receivers { AreReceivers site.new rxs.new.items }
     ensures senders { (txs : List SenderView) → AreSenders site.old txs → AreSenders site.new txs }
+    ensures moved { Moves result site.old site.new }
     ensures site { IsSameSite site.old site.new }
 {
     match receiver_place(rxs, link) {
@@ -121,6 +123,7 @@ pub fn take_one<R: Wait>(rt: &R, site: &mut Site, rxs: &mut Vec<Rx>, link: LinkN
 /// Does the computation at hand.
 pub fn work_one(site: &mut Site)
     requires { IsNext site.old.job site.old.site site.old.done Next.Local }
+    ensures done { site.new.done ≡ site.old.done + 1 }
     ensures senders { (txs : List SenderView) → AreSenders site.old txs → AreSenders site.new txs }
     ensures receivers { (rxs : List ReceiverView) → AreReceivers site.old rxs → AreReceivers site.new rxs }
     ensures site { IsSameSite site.old site.new }

@@ -3,7 +3,7 @@
 ghost use Rattle.std.specs.Prelude.{◌≡◌, ◌≤◌, ℕ, true, IfOk, vec_len, vec_capacity};
 ghost use Rattle.luworld.specs.Runs.{Run};
 ghost use Rattle.lurun.specs.Answers.{IsRunAnswer};
-ghost use Rattle.lurun.specs.Stations.{AreOf, AreReportsOf, Fits, IsSameSite, ReportsFor};
+ghost use Rattle.lurun.specs.Stations.{AreOf, AreReportsOf, Fits, IsSameSite, Moves, ReportsFor};
 ghost use Rattle.lurun.specs.Workers.{promised};
 
 use crate::collecting::collect;
@@ -31,6 +31,7 @@ fn do_item<R: Wait, G: Gate>(
 ) -> bool
     requires { Fits site.old txs.old.items rxs.old.items }
     ensures fits { Fits site.new txs.new.items rxs.new.items }
+    ensures moved { Moves result site.old site.new }
     ensures site { IsSameSite site.old site.new }
 {
     match site.next() {

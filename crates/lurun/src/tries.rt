@@ -4,7 +4,7 @@ ghost use Rattle.std.specs.Prelude.{◌≡◌, ◌<◌, length, List, slice_get,
 ghost use Rattle.lulink.specs.Views.{SenderView, ReceiverView, IsNextToPut};
 ghost use Rattle.lusite.specs.Machine.{IsNext};
 ghost use Rattle.lurun.specs.Crew.{is_done};
-ghost use Rattle.lurun.specs.Stations.{AreSenders, AreReceivers, IsSameSite, IsPutAt, IsTakenAt, PutAs, TakenAs};
+ghost use Rattle.lurun.specs.Stations.{AreSenders, AreReceivers, IsSameSite, Moves, IsPutAt, IsTakenAt, PutAs, TakenAs};
 
 use crate::ends::{receiver_place, sender_place};
 use luflow::Msg;
@@ -72,12 +72,13 @@ fn poll_at(rxs: &mut Vec<Rx>, i: usize) -> (Option<Msg>, bool)
     poll_end(rx)
 }
 
-/// Tries the put at hand.
+/// Tries the put at hand. It is done where the answer says so, and else nothing has changed.
 pub fn offer_one(site: &mut Site, txs: &mut Vec<Tx>, link: LinkNo, msg: Msg) -> Tried
     requires senders { AreSenders site.old txs.old.items }
     requires next { IsNext site.old.job site.old.site site.old.done (Next.Put link msg) }
     ensures senders { AreSenders site.new txs.new.items }
     ensures receivers { (rxs : List ReceiverView) → AreReceivers site.old rxs → AreReceivers site.new rxs }
+    ensures moved { Moves (is_done result) site.old site.new }
     ensures site { IsSameSite site.old site.new }
 {
     match sender_place(txs, link) {
@@ -95,12 +96,13 @@ pub fn offer_one(site: &mut Site, txs: &mut Vec<Tx>, link: LinkNo, msg: Msg) -> 
     }
 }
 
-/// Tries the take at hand.
+/// Tries the take at hand. It is done where the answer says so, and else nothing has changed.
 pub fn poll_one(site: &mut Site, rxs: &mut Vec<Rx>, link: LinkNo) -> Tried
     requires receivers { AreReceivers site.old rxs.old.items }
     requires next { IsNext site.old.job site.old.site site.old.done (Next.Take link) }
     ensures receivers { AreReceivers site.new rxs.new.items }
     ensures senders { (txs : List SenderView) → AreSenders site.old txs → AreSenders site.new txs }
+    ensures moved { Moves (is_done result) site.old site.new }
     ensures site { IsSameSite site.old site.new }
 {
     match receiver_place(rxs, link) {
