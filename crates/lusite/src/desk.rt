@@ -127,6 +127,7 @@ fn link_at(links: &[LinkNo], k: usize) -> LinkNo
 }
 
 /// A flow that had nothing to do is absent.
+#[inline(always)]
 fn clear(shown: &mut Vec<Cell>, i: usize, step: usize)
     requires within { i < length shown.old.items }
     ensures cleared { step ≡ 0 → statuses shown.new.items ≡ slice_set (statuses shown.old.items) i
@@ -159,6 +160,7 @@ fn datum_of(cell: Cell) -> Datum
 }
 
 /// The flow of place i shows this now.
+#[inline(always)]
 fn show(shown: &mut Vec<Cell>, i: usize, cell: Cell)
     ensures { statuses shown.new.items ≡ slice_set (statuses shown.old.items) i (status_of cell) }
 {
@@ -189,6 +191,7 @@ impl Desk {
     }
 
     /// Whether the site reports the flow at hand.
+    #[inline(always)]
     fn told_here(&self) -> bool
         requires set { IsSet self.now }
         requires within { self.now.row < length (places_of self.now.program.plan
@@ -200,6 +203,7 @@ impl Desk {
     }
 
     /// Whether the status of the flow at hand is to be told at this instant.
+    #[inline(always)]
     fn noted(&self) -> bool
         requires set { IsSet self.now }
         requires within { self.now.row < length (places_of self.now.program.plan
@@ -211,6 +215,7 @@ impl Desk {
     }
 
     /// Whether the flow at hand, whose items are all done, is to be told as absent.
+    #[inline(always)]
     fn absent_noted(&self) -> bool
         requires set { IsSet self.now }
         requires within { self.now.row < length (places_of self.now.program.plan
@@ -275,6 +280,7 @@ impl Desk {
     }
 
     /// Whether an item of the flow at hand is left at this instant.
+    #[inline(always)]
     fn has_item(&self) -> bool
         requires set { IsSet self.now }
         requires within { self.now.row < length (places_of self.now.program.plan
@@ -293,6 +299,7 @@ impl Desk {
     }
 
     /// From a flow whose items are all done to the next one.
+    #[inline(always)]
     fn pass(&mut self)
         requires set { IsSet self.old }
         requires stands { StandsAt self.old }
@@ -352,6 +359,7 @@ impl Desk {
     }
 
     /// One move over what does nothing. False where an item is at hand or the script is over.
+    #[inline(always)]
     fn advance(&mut self) -> bool
         requires set { IsSet self.old }
         requires stands { StandsAt self.old }
@@ -398,6 +406,7 @@ impl Desk {
     }
 
     /// What the table gives a line now, where it is an input of the site's; absent where it gives nothing.
+    #[inline(always)]
     fn given(&self, line: &Line) -> Cell
         ensures { (c : ℕ) → form_of line.now.operation ≡ Form.Input c
             → stands self.now.inputs.job.plan c self.now.inputs.site ≡ true → held result
@@ -413,6 +422,7 @@ impl Desk {
     }
 
     /// The value of the flow at hand now.
+    #[inline(always)]
     fn compute(&self) -> Answer
         requires set { IsSet self.now }
         requires within { self.now.row < length (places_of self.now.program.plan
@@ -427,6 +437,7 @@ impl Desk {
     }
 
     /// What the machine offers next.
+    #[inline(always)]
     pub fn offer(&self) -> Next
         requires { IsSet self.now }
         ensures { result ≡ offered self.now }
@@ -445,6 +456,7 @@ impl Desk {
         }
     }
 
+    #[inline(always)]
     fn offer_own(&self, post: &Post) -> Next
         requires { IsSet self.now }
         ensures { result ≡ offered_own self.now post.now.line.place (part_at self.now.program
@@ -494,6 +506,7 @@ impl Desk {
     }
 
     /// The place of the flow at hand.
+    #[inline(always)]
     fn flow_here(&self) -> usize
         requires set { IsSet self.now }
         requires within { self.now.row < length (places_of self.now.program.plan

@@ -19,6 +19,7 @@ fn push_log(logs: &mut Vec<Vec<Status>>, i: usize, status: Status)
 }
 
 /// Adds a status to the log of flow i, if it is wanted.
+#[inline(always)]
 pub fn note(logs: &mut Vec<Vec<Status>>, wanted: bool, i: usize, status: Status)
     requires within { wanted ≡ true → i < length logs.old.items }
     requires room { wanted ≡ true → ForSome (slice_get logs.old.items i)

@@ -132,6 +132,7 @@ impl Site {
     }
 
     /// Exactly the next item of the site's script; at its end whether it ended or faulted. Takes no memory.
+    #[inline(always)]
     pub fn next(&self) -> Next
         ensures { IsNext self.now.job self.now.site self.now.done result }
     {
@@ -173,6 +174,7 @@ impl Site {
     }
 
     /// Computes the flow at hand.
+    #[inline(always)]
     pub fn work(&mut self)
         requires { IsLocalNext self.old.job self.old.site self.old.done }
         ensures job { self.new.job ≡ self.old.job }

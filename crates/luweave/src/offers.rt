@@ -9,6 +9,7 @@ use crate::lane::Lane;
 use lusite::{Next, Site};
 
 /// What a site offers next.
+#[inline(always)]
 pub fn next_of(sites: &Vec<Site>, s: usize) -> Next
     requires { s < length sites.now.items }
     ensures { ForSome (slice_get sites.now.items s) (λ v. IsNext v.job v.site v.done result) }

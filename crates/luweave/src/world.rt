@@ -46,6 +46,7 @@ impl Model for World {
     ghost invariant = { λ a. IsWorld a.first.value.job a.sites.items a.lanes.items a.capacity };
 }
 
+#[inline(always)]
 fn work_at(sites: &mut Vec<Site>, s: usize)
     requires within { s < length sites.old.items }
     requires next { ForSome (slice_get sites.old.items s) (λ v. IsLocalNext v.job v.site v.done) }
