@@ -2,6 +2,7 @@
 use Rattle.std.proofs.Common.{refl, ◌≡◌, ℕ, ◌<◌, List, length, map, Option, Some, None, Result, Ok, Err, false, sym, ap, ◌∙◌, subst, arith, inl, inr}
 use Rattle.std.specs.Prelude.{IsUtf8}
 use Rattle.std.proofs.lemmas.Str.{IsUtf8-from_ascii}
+use Rattle.lutree.specs.Places.{NodePlaces}
 use Rattle.lutree.specs.Tree.{ProgramTree}
 use Rattle.luflow.specs.declared.form.Flow.{Flow}
 use Rattle.luflow.specs.declared.form.FaultKind.{FaultKind}
@@ -93,7 +94,7 @@ kept tree main r (node i n at never) keeps = never (keeps.nodes i n at)
 kept tree main r (declaration i j n d at there never) keeps = never (keeps.declarations i j n d at there)
 kept tree main r (equation i j n q at there never) keeps = never (keeps.equations i j n q at there)
 
-rules_memory : (tree : ProgramTree) (main : List ℕ) (told : StatError) → ((r : Rule) → Keeps tree main r) → Tells 3 tree main told → SaysNothing (Rules told)
+pub rules_memory : (tree : ProgramTree) (main : List ℕ) (told : StatError) → ((r : Rule) → Keeps tree main r) → Tells 3 tree main told → SaysNothing (Rules told)
 rules_memory tree main (rules.DuplicateName byte) keeps h = absurd (kept tree main accepted.duplicate_name h.1.broken (keeps accepted.duplicate_name))
 rules_memory tree main (rules.UnknownName byte) keeps h = absurd (kept tree main accepted.unknown_name h.1.broken (keeps accepted.unknown_name))
 rules_memory tree main (rules.UnknownNode byte) keeps h = absurd (kept tree main accepted.unknown_node h.1.broken (keeps accepted.unknown_node))
@@ -119,16 +120,16 @@ flat_memory tree main own core.TooLarge is h =
 flat_memory tree main own (core.Cycle name) is h = absurd (is.causal (h.occurrence, h.leads))
 flat_memory tree main own core.OutOfMemory is h = tt
 
-told_memory : (tree : ProgramTree) (main : List ℕ) (own : FlatProgram) (stop : Stop) → IsFlatOf tree main own → IsToldOf tree main stop → SaysNothing stop
-told_memory tree main own stop is (rule told read e tells same first) = memory_is stop (Rules told) e (rules_memory tree main told is.accepted tells)
-told_memory tree main own stop is (flat told e keeps refuses) = memory_is stop (Flat told) e (flat_memory tree main own told is refuses)
+told_memory : (tree : ProgramTree) (places : List NodePlaces) (main : List ℕ) (own : FlatProgram) (stop : Stop) → IsFlatOf tree main own → IsToldOf tree places main stop → SaysNothing stop
+told_memory tree places main own stop is (rule told read e tells same there first) = memory_is stop (Rules told) e (rules_memory tree main told is.accepted tells)
+told_memory tree places main own stop is (flat told e keeps refuses) = memory_is stop (Flat told) e (flat_memory tree main own told is refuses)
 
 -- ---- a text that spells a program isn't refused
 
-text_memory : (text : List ℕ) (tree : ProgramTree) (stop : Stop) → SpellsText text tree → IsProgramRefused text stop → SaysNothing stop
+pub text_memory : (text : List ℕ) (tree : ProgramTree) (stop : Stop) → SpellsText text tree → IsProgramRefused text stop → SaysNothing stop
 text_memory text tree NotAscii spelled h = absurd (h (IsUtf8-from_ascii text spelled.0.1.0.1))
 text_memory text tree (Syntax told) spelled (inl memory) = memory_is (Syntax told) (Syntax syntax.OutOfMemory) (ap (λ (x : SynError). Syntax x) memory) tt
-text_memory text tree (Syntax told) spelled (inr refused) = absurd (not_refused text tree told spelled refused)
+text_memory text tree (Syntax told) spelled (inr (utf8, refused)) = absurd (not_refused text tree told spelled refused)
 text_memory text tree (CannotRead path) spelled h = absurd h
 text_memory text tree (Rules told) spelled h = absurd h
 text_memory text tree (Flat told) spelled h = absurd h
@@ -142,10 +143,10 @@ text_memory text tree NoThread spelled h = absurd h
 
 no_flat_memory : (text main : List ℕ) (tree : ProgramTree) (own : FlatProgram) (stop : Stop) → SpellsText text tree → IsFlatOf tree main own → HasNoFlat text main stop → SaysNothing stop
 no_flat_memory text main tree own stop spelled is (unspelled refused) = text_memory text tree stop spelled refused
-no_flat_memory text main tree own stop spelled is (unruled other spells told) =
-    told_memory tree main own stop is (subst (λ t. IsToldOf t main stop) (one_program text other tree spells spelled) told)
+no_flat_memory text main tree own stop spelled is (unruled other places spells there told) =
+    told_memory tree places main own stop is (subst (λ t. IsToldOf t places main stop) (one_program text other tree spells spelled) told)
 
-flats_same : (text main : List ℕ) (tree other : ProgramTree) (a b : FlatProgram) → SpellsText text tree → SpellsText text other → IsFlatOf tree main a → IsFlatOf other main b → b ≡ a
+pub flats_same : (text main : List ℕ) (tree other : ProgramTree) (a b : FlatProgram) → SpellsText text tree → SpellsText text other → IsFlatOf tree main a → IsFlatOf other main b → b ≡ a
 flats_same text main tree other a b x y is also =
     flat_same tree main b a (subst (λ t. IsFlatOf t main b) (one_program text other tree y x) also) is
 
@@ -153,7 +154,7 @@ flats_same text main tree other a b x y is also =
 
 table_memory : (inputs : List Variable) (text : List ℕ) (table : Table) (stop : Stop) → IsTextOf inputs table text → is_too_long text ≡ false → IsUtf8 text → IsTableRefused inputs text stop → SaysNothing stop
 table_memory inputs text table (BadTable told) is short utf8 (inl bytes) = absurd (bytes.1 utf8)
-table_memory inputs text table (BadTable told) is short utf8 (inr refused) =
+table_memory inputs text table (BadTable told) is short utf8 (inr (same, refused)) =
     elim (memory_or told) [
       | inl memory ↦ memory_is (BadTable told) (BadTable tab.OutOfMemory) (ap (λ (x : TabError). BadTable x) memory) tt
       | inr other ↦ absurd (table_fine inputs text table told is short (refused other))
@@ -181,9 +182,9 @@ ok_same r x y h k = cc
 
 place_memory : (text : List ℕ) (plan : Distribution) (stop : Stop) → IsPlanOfText text plan → IsPlaceRefused plan.flat text stop → SaysNothing stop
 place_memory text plan (BadPlace told) is (inl bytes) = absurd (bytes.1 is.utf8)
-place_memory text plan (BadPlace told) is (inr (inl memory)) = memory_is (BadPlace told) (BadPlace placing.OutOfMemory) (ap (λ (x : PlaceError). BadPlace x) memory) tt
-place_memory text plan (BadPlace told) is (inr (inr (inl says))) = absurd (ok_err (placement_of text) is.place told is.says says)
-place_memory text plan (BadPlace told) is (inr (inr (inr (other, says, refused)))) =
+place_memory text plan (BadPlace told) is (inr (utf8, inl memory)) = memory_is (BadPlace told) (BadPlace placing.OutOfMemory) (ap (λ (x : PlaceError). BadPlace x) memory) tt
+place_memory text plan (BadPlace told) is (inr (utf8, inr (inl says))) = absurd (ok_err (placement_of text) is.place told is.says says)
+place_memory text plan (BadPlace told) is (inr (utf8, inr (inr (other, says, refused)))) =
     let same = ok_same (placement_of text) other is.place says is.says in
     absurd (none_some (refusal plan.flat is.place) told is.plan_is.accepted (ap (refusal plan.flat) (sym same) ∙ refused))
 place_memory text plan (CannotRead path) is h = absurd h
@@ -216,7 +217,7 @@ schedule_memory text turns NoThread is h = absurd h
 -- ---- each command
 
 module _ (gives : List ℕ → Option (List ℕ) → Type 0) (settled : HasOneText gives) where
-  one_of : (path one other : List ℕ) → gives path (Some one) → gives path (Some other) → one ≡ other
+  pub one_of : (path one other : List ℕ) → gives path (Some one) → gives path (Some other) → one ≡ other
   one_of path one other a b = same_Some one other (settled path (Some one) (Some other) a b)
 
   pub never_both : (path one : List ℕ) → gives path (Some one) → gives path None → ⊥
@@ -236,7 +237,7 @@ module _ (gives : List ℕ → Option (List ℕ) → Type 0) (settled : HasOneTe
   unread_memory path one LinkLost given h = absurd h
   unread_memory path one NoThread given h = absurd h
 
-  flats_one : (path main one other : List ℕ) (a b : FlatProgram) → gives path (Some one) → gives path (Some other) → HasFlat one main a → HasFlat other main b → b ≡ a
+  pub flats_one : (path main one other : List ℕ) (a b : FlatProgram) → gives path (Some one) → gives path (Some other) → HasFlat one main a → HasFlat other main b → b ≡ a
   flats_one path main one other a b x y has also =
       let same = one_of path other one y x in
       flats_same one main has.tree also.tree a b has.spelled (subst (λ t. SpellsText t also.tree) same also.spelled) has.flat_is also.flat_is

@@ -9,3 +9,4 @@ pub mod Exclusive
 pub mod Ends
 pub mod OneStatus
 pub mod Ran
+pub mod OneRefusal

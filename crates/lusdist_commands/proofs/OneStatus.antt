@@ -97,9 +97,9 @@ one_of_text OutOfMemory is not = absurd (not tt)
 of_text_is : (stop other : Stop) → stop ≡ other → IsOfText other → IsOfText stop
 of_text_is stop other e h = subst IsOfText (sym e) h
 
-told_text : (tree : _) (main : List ℕ) (stop : Stop) → IsToldOf tree main stop → IsOfText stop
-told_text tree main stop (rule told read e tells same first) = of_text_is stop (Rules told) e tt
-told_text tree main stop (flat told e keeps refuses) = of_text_is stop (Flat told) e tt
+told_text : (tree : _) (places : _) (main : List ℕ) (stop : Stop) → IsToldOf tree places main stop → IsOfText stop
+told_text tree places main stop (rule told read e tells same there first) = of_text_is stop (Rules told) e tt
+told_text tree places main stop (flat told e keeps refuses) = of_text_is stop (Flat told) e tt
 
 program_text : (bytes : List ℕ) (stop : Stop) → IsProgramRefused bytes stop → IsOfText stop
 program_text bytes (CannotRead path) h = absurd h
@@ -117,7 +117,7 @@ program_text bytes NoThread h = tt
 
 no_flat_text : (bytes main : List ℕ) (stop : Stop) → HasNoFlat bytes main stop → IsOfText stop
 no_flat_text bytes main stop (unspelled h) = program_text bytes stop h
-no_flat_text bytes main stop (unruled tree spelled told) = told_text tree main stop told
+no_flat_text bytes main stop (unruled tree places spelled there told) = told_text tree places main stop told
 
 place_text : (list : FlatProgram) (bytes : List ℕ) (stop : Stop) → IsPlaceRefused list bytes stop → IsOfText stop
 place_text list bytes (CannotRead path) h = absurd h
@@ -185,7 +185,7 @@ module _ (gives : List ℕ → Option (List ℕ) → Type 0) (settled : HasOneTe
   both_text a b x y na nb = one_of_text a x na ∙ sym (one_of_text b y nb)
 
   -- a file that has a text is read
-  never : {X : Type 0} (path text : List ℕ) (stop : Stop) → gives path (Some text) → IsUnread gives path stop → (¬ SaysNothing stop) → X
+  pub never : {X : Type 0} (path text : List ℕ) (stop : Stop) → gives path (Some text) → IsUnread gives path stop → (¬ SaysNothing stop) → X
   never path text stop given x not = absurd (not (unread_memory gives settled path text stop given x))
 
   program_status : (path main : List ℕ) (a b : Stop) → StopsAtProgram gives path main a → StopsAtProgram gives path main b → (¬ SaysNothing a) → (¬ SaysNothing b) → status_of a ≡ status_of b
@@ -195,7 +195,7 @@ module _ (gives : List ℕ → Option (List ℕ) → Type 0) (settled : HasOneTe
   program_status path main a b (program_refused text given x) (program_refused other other_given y) na nb = both_text a b (no_flat_text text main a x) (no_flat_text other main b y) na nb
 
   -- a program that has a list program isn't refused
-  past_program : {X : Type 0} (path main program : List ℕ) (own : FlatProgram) (stop : Stop) → gives path (Some program) → HasFlat program main own → StopsAtProgram gives path main stop → (¬ SaysNothing stop) → X
+  pub past_program : {X : Type 0} (path main program : List ℕ) (own : FlatProgram) (stop : Stop) → gives path (Some program) → HasFlat program main own → StopsAtProgram gives path main stop → (¬ SaysNothing stop) → X
   past_program path main program own stop given has x not = absurd (not (program_memory gives settled path main program own stop given has x))
 
   plan_status : (path place_path main : List ℕ) (a b : Stop) → StopsAtPlan gives path place_path main a → StopsAtPlan gives path place_path main b → (¬ SaysNothing a) → (¬ SaysNothing b) → status_of a ≡ status_of b
@@ -212,14 +212,14 @@ module _ (gives : List ℕ → Option (List ℕ) → Type 0) (settled : HasOneTe
 
   module _ (request : EvalRequest) where
     -- a table that a fault is of isn't refused
-    past_table : {X : Type 0} (program table name : List ℕ) (own : FlatProgram) (instant : ℕ) (kind : FaultKind) (stop : Stop) → gives request.program.now (Some program) → gives request.table.now (Some table) → HasFlat program request.main.now own
+    pub past_table : {X : Type 0} (program table name : List ℕ) (own : FlatProgram) (instant : ℕ) (kind : FaultKind) (stop : Stop) → gives request.program.now (Some program) → gives request.table.now (Some table) → HasFlat program request.main.now own
         → IsFaultOf gives request name instant kind → IsTableRefused (inputs_of own.variables) table stop → (¬ SaysNothing stop) → X
     past_table program table name own instant kind stop given table_given has fault x not =
         let asked = fault.asked in
         absurd (not (refused_memory gives settled request.program.now request.table.now request.main.now asked.program asked.table program table fault.flat own fault.inputs stop asked.program_given given (posed_flat gives settled request fault.flat fault.inputs asked) has
         asked.table_given table_given asked.posed.table_is asked.posed.short asked.posed.utf8 x))
 
-    fault_past : {X : Type 0} (name : List ℕ) (instant : ℕ) (kind : FaultKind) (stop : Stop) → IsFaultOf gives request name instant kind → StopsAtProgram gives request.program.now request.main.now stop → (¬ SaysNothing stop) → X
+    pub fault_past : {X : Type 0} (name : List ℕ) (instant : ℕ) (kind : FaultKind) (stop : Stop) → IsFaultOf gives request name instant kind → StopsAtProgram gives request.program.now request.main.now stop → (¬ SaysNothing stop) → X
     fault_past name instant kind stop fault x not =
         let asked = fault.asked in
         past_program request.program.now request.main.now asked.program fault.flat stop asked.program_given (posed_flat gives settled request fault.flat fault.inputs asked) x not
@@ -253,11 +253,11 @@ module _ (gives : List ℕ → Option (List ℕ) → Type 0) (settled : HasOneTe
 
   module _ (path place_path table_path main : List ℕ) where
     -- a plan or a job that the files give isn't refused
-    past_plan : {X : Type 0} (plan : Distribution) (stop : Stop) → IsPlanFor gives path place_path main plan → StopsAtPlan gives path place_path main stop → (¬ SaysNothing stop) → X
+    pub past_plan : {X : Type 0} (plan : Distribution) (stop : Stop) → IsPlanFor gives path place_path main plan → StopsAtPlan gives path place_path main stop → (¬ SaysNothing stop) → X
     past_plan plan stop is x not =
         absurd (not (plan_memory_of gives settled path place_path main is.program is.place plan stop is.program_given is.place_given is.flat is.plan_of x))
 
-    past_job : {X : Type 0} (job : Run) (stop : Stop) → IsJobFor gives path place_path table_path main job → StopsAtJob gives path place_path table_path main stop → (¬ SaysNothing stop) → X
+    pub past_job : {X : Type 0} (job : Run) (stop : Stop) → IsJobFor gives path place_path table_path main job → StopsAtJob gives path place_path table_path main stop → (¬ SaysNothing stop) → X
     past_job job stop is x not = absurd (not (job_memory_of gives settled path place_path table_path main job stop is x))
 
     job_status : (a b : Stop) → StopsAtJob gives path place_path table_path main a → StopsAtJob gives path place_path table_path main b → (¬ SaysNothing a) → (¬ SaysNothing b) → status_of a ≡ status_of b
@@ -273,7 +273,7 @@ module _ (gives : List ℕ → Option (List ℕ) → Type 0) (settled : HasOneTe
         both_text a b (table_text (inputs_of plan.flat.variables) table a x) (table_text (inputs_of other.flat.variables) text b y) na nb
 
   module _ (request : ReplayRequest) where
-    replay_past : {X : Type 0} (job : Run) (stop : Stop) → IsJobFor gives request.program.now request.place.now request.table.now request.main.now job → StopsAtJob gives request.program.now request.place.now request.table.now request.main.now stop → (¬ SaysNothing stop) → X
+    pub replay_past : {X : Type 0} (job : Run) (stop : Stop) → IsJobFor gives request.program.now request.place.now request.table.now request.main.now job → StopsAtJob gives request.program.now request.place.now request.table.now request.main.now stop → (¬ SaysNothing stop) → X
     replay_past job stop is x not = past_job request.program.now request.place.now request.table.now request.main.now job stop is x not
 
     replay_status : (a b : Stop) → IsReplayStopped gives request a → IsReplayStopped gives request b → (¬ SaysNothing a) → (¬ SaysNothing b) → status_of a ≡ status_of b
@@ -293,7 +293,7 @@ module _ (gives : List ℕ → Option (List ℕ) → Type 0) (settled : HasOneTe
         both_text a b (schedule_text turns a x) (schedule_text others b y) na nb
 
   module _ (request : RunRequest) where
-    run_past : {X : Type 0} (job : Run) (stop : Stop) → IsJobFor gives request.program.now request.place.now request.table.now request.main.now job → StopsAtJob gives request.program.now request.place.now request.table.now request.main.now stop → (¬ SaysNothing stop) → X
+    pub run_past : {X : Type 0} (job : Run) (stop : Stop) → IsJobFor gives request.program.now request.place.now request.table.now request.main.now job → StopsAtJob gives request.program.now request.place.now request.table.now request.main.now stop → (¬ SaysNothing stop) → X
     run_past job stop is x not = past_job request.program.now request.place.now request.table.now request.main.now job stop is x not
 
     three_is : (name : List ℕ) (instant : ℕ) (kind : FaultKind) (stop : Stop) → stop ≡ Fault name instant kind → status_of stop ≡ 3

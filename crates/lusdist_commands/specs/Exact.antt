@@ -7,8 +7,9 @@ use Rattle.luplace_file.specs.declared.error.PlaceError.TheVariants as place
 use Rattle.lutab.specs.declared.error.TabError.TheVariants as tab
 use Rattle.lusdist_shell.specs.declared.schedule.ScheduleError.TheVariants as schedule
 use Rattle.lusdist_shell.specs.declared.request.Request.{Request}
+use Rattle.lusdist_shell.specs.declared.request.Request.TheVariants.{Run as AsksRun}
 use Rattle.lusdist_commands.specs.declared.stop.Stop.{Stop}
-use Rattle.lusdist_commands.specs.declared.stop.Stop.TheVariants.{Syntax, Rules, Flat, Place, Table, Schedule, LinkLost, NoThread, OutOfMemory}
+use Rattle.lusdist_commands.specs.declared.stop.Stop.TheVariants.{Syntax, Rules, Flat, Place, Table, Schedule, Fault, LinkLost, NoThread, OutOfMemory}
 use Rattle.lusdist_commands.specs.Asked.{IsAnswer}
 use Rattle.lusdist_commands.specs.Stopped.{IsRequestStopped}
 use Rattle.lusdist_commands.specs.Statuses.{status_of}
@@ -43,3 +44,16 @@ HasOneStatus gives =
     HasOneText gives → (request : Request) (one other : Stop)
     → IsRequestStopped gives request one → IsRequestStopped gives request other
     → (¬ SaysNothing one) → (¬ SaysNothing other) → status_of one ≡ status_of other
+
+-- a fault that a run on threads tells, which is one at which a site stopped
+abbrev pub IsFaultOfRun : Request → Stop → Type 0
+IsFaultOfRun (AsksRun request) (Fault name instant kind) = Unit {0}
+IsFaultOfRun request stop = ⊥
+
+-- Two refusals of one request are the same, where each file has one text or none, neither says nothing of them, and they are no faults of a run on
+-- threads.
+abbrev pub HasOneRefusal : (List ℕ → Option (List ℕ) → Type 0) → Type 0
+HasOneRefusal gives =
+    HasOneText gives → (request : Request) (one other : Stop)
+    → IsRequestStopped gives request one → IsRequestStopped gives request other
+    → (¬ SaysNothing one) → (¬ SaysNothing other) → (¬ IsFaultOfRun request one) → one ≡ other

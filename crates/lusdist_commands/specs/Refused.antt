@@ -1,6 +1,7 @@
 -- What a call that stops says of the program.
 use Rattle.std.specs.Prelude.{◌≡◌, ◌≢◌, ◌⊎◌, ℕ, List, Some, Ok, Err, IsUtf8}
 use Rattle.lutree.specs.declared.program.Program.{Program}
+use Rattle.lutree.specs.Places.{NodePlaces, places_view}
 use Rattle.lutree.specs.Tree.{ProgramTree, program_view}
 use Rattle.lustat_rules.specs.Accepted.{IsAccepted}
 use Rattle.lustat_rules.specs.Told.{Tells}
@@ -21,26 +22,28 @@ use Rattle.lutab.specs.Table.{IsRefused as IsRefusedTable}
 use Rattle.lusdist_commands.specs.declared.stop.Stop.{Stop}
 use Rattle.lusdist_commands.specs.declared.stop.Stop.TheVariants.{NotAscii, Syntax, Rules, Flat, Place as PlaceStop, Table}
 
--- A rule that the program breaks, where all rules of the stages before it are kept, and of its own stage none that is broken is told before it; or,
--- of a program that keeps all rules, why it has no flat program.
-pub data IsToldOf (tree : ProgramTree) (main : List ℕ) (stop : Stop) : Type 0 where
-  rule : (refusal : StatError) (read : Program) → stop ≡ Rules refusal → Tells 3 tree main refusal → tree ≡ program_view read → IsToldFirst read main refusal → IsToldOf tree main stop
-  flat : (refusal : CoreError) → stop ≡ Flat refusal → IsAccepted tree main → Refuses tree main refusal → IsToldOf tree main stop
+-- A rule that the program breaks, where all rules of the stages before it are kept: of its own stage the fault of the least byte, at equal bytes of the
+-- least number, each at its place, as a program in memory with this tree and these places has them. Or, of a program that keeps all rules, why it has
+-- no flat program.
+pub data IsToldOf (tree : ProgramTree) (places : List NodePlaces) (main : List ℕ) (stop : Stop) : Type 0 where
+  rule : (refusal : StatError) (read : Program) → stop ≡ Rules refusal → Tells 3 tree main refusal → tree ≡ program_view read → places ≡ places_view read → IsToldFirst read main refusal → IsToldOf tree places main stop
+  flat : (refusal : CoreError) → stop ≡ Flat refusal → IsAccepted tree main → Refuses tree main refusal → IsToldOf tree places main stop
 
 -- the bytes of a program's file are no text, or a text that is refused so
 abbrev pub IsProgramRefused : List ℕ → Stop → Type 0
 IsProgramRefused bytes NotAscii = ¬ IsUtf8 bytes
-IsProgramRefused bytes (Syntax e) = (e ≡ syntax.OutOfMemory) ⊎ IsRefusedProgram bytes e
+IsProgramRefused bytes (Syntax e) = (e ≡ syntax.OutOfMemory) ⊎ (IsUtf8 bytes × IsRefusedProgram bytes e)
 IsProgramRefused bytes _ = ⊥
 
 -- the bytes of a table's file are no text, which is told as a bad header, or a text that is refused so
 abbrev pub IsTableRefused : List Variable → List ℕ → Stop → Type 0
-IsTableRefused inputs bytes (Table e) = ((e ≡ table.BadHeader) × (¬ IsUtf8 bytes)) ⊎ (e ≢ table.OutOfMemory → IsRefusedTable inputs bytes e)
+IsTableRefused inputs bytes (Table e) = ((e ≡ table.BadHeader) × (¬ IsUtf8 bytes)) ⊎ (IsUtf8 bytes × (e ≢ table.OutOfMemory → IsRefusedTable inputs bytes e))
 IsTableRefused inputs bytes _ = ⊥
 
 -- the bytes of a placement's file are no text, which is told as no TOML, or a text that is refused so, or one whose placement is refused so for
 -- the program
 abbrev pub IsPlaceRefused : FlatProgram → List ℕ → Stop → Type 0
 IsPlaceRefused program bytes (PlaceStop e) =
-    ((e ≡ placing.NotToml) × (¬ IsUtf8 bytes)) ⊎ ((e ≡ placing.OutOfMemory) ⊎ ((placement_of bytes ≡ Err e) ⊎ ((place : Placement) × (placement_of bytes ≡ Ok place) × (refusal program place ≡ Some e))))
+    ((e ≡ placing.NotToml) × (¬ IsUtf8 bytes))
+    ⊎ (IsUtf8 bytes × ((e ≡ placing.OutOfMemory) ⊎ ((placement_of bytes ≡ Err e) ⊎ ((place : Placement) × (placement_of bytes ≡ Ok place) × (refusal program place ≡ Some e)))))
 IsPlaceRefused program bytes _ = ⊥

@@ -1,11 +1,13 @@
 -- Why a call stops before it prints anything.
 use Rattle.std.specs.Prelude.{◌≡◌, ◌⊎◌, ℕ, List, Option, Some, None, Err}
+use Rattle.lutree.specs.Places.{NodePlaces}
 use Rattle.lutree.specs.Tree.{ProgramTree}
 use Rattle.luflow.specs.Program.{FlatProgram}
 use Rattle.luflow.specs.Variables.{inputs_of}
 use Rattle.luflow.specs.declared.form.FaultKind.{FaultKind}
 use Rattle.luworld.specs.Needs.{Distribution}
 use Rattle.luworld.specs.Runs.{Run}
+use Rattle.lusyn.specs.Places.{ArePlacesOf}
 use Rattle.lusyn.specs.Texts.{SpellsText}
 use Rattle.lusdist_shell.specs.ScheduleText.{schedule_of}
 use Rattle.lusdist_shell.specs.declared.schedule.ScheduleError.TheVariants as schedule
@@ -42,7 +44,7 @@ IsScheduleRefused bytes _ = ⊥
 -- the bytes of a program's file spell no program, or one that has no flat program from this main node
 pub data HasNoFlat (bytes main : List ℕ) (stop : Stop) : Type 0 where
   unspelled : IsProgramRefused bytes stop → HasNoFlat bytes main stop
-  unruled : (tree : ProgramTree) → SpellsText bytes tree → IsToldOf tree main stop → HasNoFlat bytes main stop
+  unruled : (tree : ProgramTree) (places : List NodePlaces) → SpellsText bytes tree → ArePlacesOf bytes places → IsToldOf tree places main stop → HasNoFlat bytes main stop
 
 -- A call stops at the program of this path: it can't be read, or has no flat program from this main node.
 pub data StopsAtProgram (gives : List ℕ → Option (List ℕ) → Type 0) (path main : List ℕ) (stop : Stop) : Type 0 where

@@ -1,6 +1,6 @@
 //! What holds of the definitions, as contracts of functions that do nothing.
 
-ghost use Rattle.lusdist_commands.specs.Exact.{HasOneOutcome, HasOneStatus};
+ghost use Rattle.lusdist_commands.specs.Exact.{HasOneOutcome, HasOneStatus, HasOneRefusal};
 
 use lusdist_shell::Files;
 
@@ -15,6 +15,14 @@ pub fn one_outcome_law<F: Files>(files: &F)
 /// Two refusals of one request have one status, where each file has one text or none and neither says nothing of them.
 pub fn one_status_law<F: Files>(files: &F)
     ensures { HasOneStatus (F.gives files.now) }
+{
+    let _ = files;
+}
+
+/// Two refusals of one request are the same, where each file has one text or none, neither says nothing of them, and they are
+/// no faults of a run on threads.
+pub fn one_refusal_law<F: Files>(files: &F)
+    ensures { HasOneRefusal (F.gives files.now) }
 {
     let _ = files;
 }

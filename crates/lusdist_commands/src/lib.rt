@@ -7,7 +7,7 @@
 //! - [`evaluating`]: the table of a program's outputs; [`running`]: the same, made by its sites on threads.
 //! - [`sites`]: the new sites of a job.
 //! - [`Stop`]: why a call stops, and with which status.
-//! - [`laws`]: a call has one outcome.
+//! - [`laws`]: a call has one outcome, one refusal and one status.
 //!
 //! It is a library, so that it is checked without the linking of a program; `lusdist` is its `main`.
 #![tactic(auto)]

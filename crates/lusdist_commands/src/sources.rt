@@ -1,9 +1,11 @@
 //! From the texts of the files to a plan, a job and its turns.
 
 ghost use Rattle.std.specs.Prelude.{◌≡◌, Some, IfOk, IfErr, IsUtf8, Ok, false};
+ghost use Rattle.lutree.specs.Places.{places_view};
 ghost use Rattle.lutree.specs.Tree.{program_view};
 ghost use Rattle.lucore.specs.Result.{IsFlatOf};
 ghost use Rattle.lusdist_shell.specs.ScheduleText.{schedule_of};
+ghost use Rattle.lusyn.specs.Places.{ArePlacesOf};
 ghost use Rattle.lusyn.specs.Texts.{SpellsText};
 ghost use Rattle.luflow.specs.Sound.{IsFit};
 ghost use Rattle.luflow.specs.Tables.{Fits};
@@ -44,6 +46,7 @@ pub fn read<F: Files>(alloc: Global, files: &F, path: &str) -> Result<Vec<u8>, S
 /// The program that the bytes of a program's file spell.
 pub fn program_of(alloc: Global, bytes: &[u8]) -> Result<Program, Stop>
     ensures spelled { IfOk result (λ program. SpellsText bytes.now (program_view program)) }
+    ensures places { IfOk result (λ program. ArePlacesOf bytes.now (places_view program)) }
     ensures refused { IfErr result (IsProgramRefused bytes.now) }
 {
     let Some(text) = text_of(bytes) else {
@@ -58,7 +61,8 @@ pub fn program_of(alloc: Global, bytes: &[u8]) -> Result<Program, Stop>
 /// The flat program of a program, from its main node of this name, where the program keeps all rules.
 pub fn flattened(alloc: Global, program: &Program, main: &str) -> Result<Flat, Stop>
     ensures flat { IfOk result (IsFlatOf (program_view program.now) main.now) }
-    ensures told { IfErr result (IsToldOf (program_view program.now) main.now) }
+    ensures told { IfErr result (IsToldOf (program_view program.now) (places_view program.now)
+        main.now) }
 {
     let checked = match check(alloc, program, main) {
         Ok(checked) => checked,

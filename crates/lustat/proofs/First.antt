@@ -8,7 +8,7 @@ use Rattle.lustat_rules.specs.declared.error.StatError.TheVariants.{DuplicateNam
 use Rattle.lustat_rules.specs.Told.{rule_of, number_told, RuleTold, Tells}
 use Rattle.lustat_rules.specs.Faults.{IsJudged, IsFault, AreKept}
 use Rattle.lustat_scope.proofs.Keeping.{broken_somewhere}
-use Rattle.lutype.specs.Named.{IsToldFirst as IsFirstOfNames}
+use Rattle.lutype.specs.First.{IsToldFirst as IsFirstOfNames}
 use Rattle.lustat_clocks.specs.Asked.{is_asked}
 use Rattle.lustat_classes.specs.Faults.{IsFault as IsClassFault, AreKept as AreClassesKept, TellsBroken}
 use Rattle.lustat.specs.First.{stage_told, IsToldFirst}
@@ -68,7 +68,7 @@ first_of_names p main e tells (inr least) = by_rule (rule_of e) refl tells
 pub first_of_clocks : (p : Program) (main : List ℕ) (e : StatError) → IsJudged (IsFault is_asked p main) (AreKept is_asked p main) (Some e) → IsToldFirst p main e
 first_of_clocks p main e judged =
     let b = broken_somewhere is_asked p main e judged.0 in
-    IsToldFirst.clocks (stage_of_told e b.rule b.told ∙ second b.rule b.one) judged.1
+    IsToldFirst.clocks (stage_of_told e b.rule b.told ∙ second b.rule b.one) judged
 
 pub first_of_classes : (p : Program) (main : List ℕ) (e : StatError) → TellsBroken (program_view p) main e → IsJudged (IsClassFault p.nodes) (AreClassesKept p.nodes) (Some e) → IsToldFirst p main e
-first_of_classes p main e b judged = IsToldFirst.classes (stage_of_told e b.rule b.told ∙ b.third) judged.1
+first_of_classes p main e b judged = IsToldFirst.classes (stage_of_told e b.rule b.told ∙ b.third) judged

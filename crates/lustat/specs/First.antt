@@ -4,8 +4,9 @@ use Rattle.lutree.specs.declared.program.Program.{Program}
 use Rattle.lustat_rules.specs.declared.error.StatError.{StatError}
 use Rattle.lustat_rules.specs.declared.error.StatError.TheVariants.{OutOfMemory}
 use Rattle.lustat_rules.specs.Told.{number_of}
-use Rattle.lustat_rules.specs.Faults.{IsAtMost, IsFault}
-use Rattle.lutype.specs.Asked.{is_asked as is_name_rule}
+use Rattle.lustat_rules.specs.Faults.{IsFault}
+use Rattle.lustat_rules.specs.Least.{IsLeastFault}
+use Rattle.lutype.specs.First.{IsNameFault}
 use Rattle.lustat_clocks.specs.Asked.{is_asked as is_clock_rule}
 use Rattle.lustat_classes.specs.Faults.{IsFault as IsClassFault}
 
@@ -13,9 +14,9 @@ use Rattle.lustat_classes.specs.Faults.{IsFault as IsClassFault}
 abbrev pub stage_told : StatError → ℕ
 stage_told e = number_of e / 10
 
--- No fault of the stage of a refusal is told before it, of the first stage none but that of recursion, unless memory ran out.
+-- A refusal is the least fault of its stage, at its place in the text, unless memory ran out.
 pub data IsToldFirst (p : Program) (main : List ℕ) (e : StatError) : Type 0 where
   memory : e ≡ OutOfMemory → IsToldFirst p main e
-  names : stage_told e ≡ 1 → ((f : StatError) → IsFault is_name_rule p main f → IsAtMost e f) → IsToldFirst p main e
-  clocks : stage_told e ≡ 2 → ((f : StatError) → IsFault is_clock_rule p main f → IsAtMost e f) → IsToldFirst p main e
-  classes : stage_told e ≡ 3 → ((f : StatError) → IsClassFault p.nodes f → IsAtMost e f) → IsToldFirst p main e
+  names : stage_told e ≡ 1 → IsLeastFault (IsNameFault p main) e → IsToldFirst p main e
+  clocks : stage_told e ≡ 2 → IsLeastFault (IsFault is_clock_rule p main) e → IsToldFirst p main e
+  classes : stage_told e ≡ 3 → IsLeastFault (IsClassFault p.nodes) e → IsToldFirst p main e

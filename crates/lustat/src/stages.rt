@@ -40,8 +40,8 @@ fn last_stage(alloc: Global, typed: Typed<'_>) -> Result<Checked<'_>, StatError>
 /// # Errors
 ///
 /// An error other than the want of memory tells a rule that is broken, where all rules of the stages before are kept: of its stage the
-/// fault of the least byte, at equal bytes that of the least number. Of several nodes that reach themselves by calls only the first in
-/// order of text is thought of.
+/// fault of the least byte, at equal bytes that of the least number, each at its place in the text. Of several nodes that reach
+/// themselves by calls only the first in order of text is thought of.
 pub fn check<'a>(
     alloc: Global,
     program: &'a Program,

@@ -10,3 +10,4 @@ pub mod Told
 pub mod Faults
 pub mod Lines
 pub mod ClassVectors
+pub mod Least

@@ -1,9 +1,9 @@
 -- A canonical text is read back.
-use Rattle.std.proofs.Common.{◌≡◌, ◌≤◌, ℕ, length, List, Result, Ok, Err, IfOk, subst, sym}
+use Rattle.std.proofs.Common.{◌≡◌, ℕ, List, Result, Ok, Err, IfOk, subst, sym}
 use Rattle.lutree.specs.Tree.{ProgramTree}
 use Rattle.lusyn_printer.specs.Canonical.{canonical}
 use Rattle.lusyn_printer.proofs.ReadBack.{read_back, ascii}
-use Rattle.lusyn.specs.Texts.{SpellsText, IsReadBack}
+use Rattle.lusyn.specs.Texts.{IsReadBack}
 
 canonical-again : (found : ProgramTree) → IsReadBack (canonical found) found
 canonical-again found source ((ts, (plain, has, runs), spells), few) short =

@@ -23,7 +23,7 @@ ok_same r a b h k = cc
 ok_or_err : {A E : Type 0} (r : Result A E) (a : A) (e : E) → r ≡ Ok a → r ≡ Err e → ⊥
 ok_or_err r a e h k = absurd cc
 
-tokens_same : (text : List ℕ) (a b : List Placed) → IsLexed text a → IsLexed text b → a ≡ b
+pub tokens_same : (text : List ℕ) (a b : List Placed) → IsLexed text a → IsLexed text b → a ≡ b
 tokens_same text a b x y = ok_same _ a b (lexed-whole text a x) (lexed-whole text b y)
 
 tree_same : (ts : List Tok) (one other : ProgramTree) → Spells ts one → Spells ts other → one ≡ other
@@ -41,7 +41,7 @@ none_wrong : (before rest : List Tok) (found : ProgramTree) → NoneGoesOn befor
 none_wrong before [] found none s = none found (subst (λ ts. Spells ts found) (append-nil before) s)
 none_wrong before (refused ∷ rest) found none s = none rest found s
 
-not_wrong : (text : List ℕ) (ts : List Placed) (byte : ℕ) (found : ProgramTree) → Spells (unplaced ts) found → IsWrongFrom ts (length text) byte → ⊥
+pub not_wrong : (text : List ℕ) (ts : List Placed) (byte : ℕ) (found : ProgramTree) → Spells (unplaced ts) found → IsWrongFrom ts (length text) byte → ⊥
 not_wrong text ts byte found s wrong =
     let parts : unplaced wrong.before ++ unplaced wrong.rest ≡ unplaced ts = sym (map-append (λ (x : Placed). x.1) wrong.before wrong.rest) ∙ ap unplaced wrong.parts in
     none_wrong (unplaced wrong.before) (unplaced wrong.rest) found wrong.none (subst (λ us. Spells us found) (sym parts) s)

@@ -1,3 +1,5 @@
 pub mod Again
 pub mod Whole
 pub mod Exclusive
+pub mod Places
+pub mod OneRefusal

@@ -12,3 +12,7 @@ OneProgramLaw = (text : List ℕ) (one other : ProgramTree) → SpellsText text 
 -- no refusal is true of a text that spells a program
 abbrev pub NotRefusedLaw : Type 0
 NotRefusedLaw = (text : List ℕ) (found : ProgramTree) (refusal : SynError) → SpellsText text found → ¬ IsRefused text refusal
+
+-- no two refusals are true of one text
+abbrev pub OneRefusalLaw : Type 0
+OneRefusalLaw = (text : List ℕ) (one other : SynError) → IsRefused text one → IsRefused text other → one ≡ other

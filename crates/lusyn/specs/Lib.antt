@@ -3,3 +3,4 @@ pub mod Refusals
 pub mod Texts
 pub mod Lines
 pub mod Laws
+pub mod Places

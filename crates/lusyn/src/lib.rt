@@ -9,10 +9,10 @@
 //! - `text`: from a text to the tree.
 //! - `print`: from a tree to its canonical text.
 //! - `error`: why a text is refused.
-//! - [`laws`]: a text spells one program at most, and isn't refused where it spells one.
+//! - [`laws`]: a text spells one program at most, isn't refused where it spells one, nor in two ways, and has one list of places.
 //!
-//! What a text has to be is said in `specs/`: `Texts.antt` which program a text spells, and `Refusals.antt` which refusal is
-//! true of a text that spells none.
+//! What a text has to be is said in `specs/`: `Texts.antt` which program a text spells, `Places.antt` where its parts stand, and
+//! `Refusals.antt` which refusal is true of a text that spells none.
 #![tactic(auto)]
 
 mod error;

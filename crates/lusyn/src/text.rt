@@ -2,8 +2,10 @@
 
 ghost use Rattle.std.specs.Prelude.{◌≡◌, ◌⊎◌, IfOk};
 ghost use Rattle.std.specs.Result.{IfErr};
+ghost use Rattle.lutree.specs.Places.{places_view};
 ghost use Rattle.lutree.specs.Tree.{ProgramTree, program_view};
 ghost use Rattle.lusyn.specs.Gives.{IsAnswered, Refuses};
+ghost use Rattle.lusyn.specs.Places.{ArePlacesOf};
 ghost use Rattle.lusyn.specs.Refusals.{IsRefused};
 ghost use Rattle.lusyn.specs.Texts.{SpellsText};
 
@@ -22,6 +24,8 @@ use std::alloc::Global;
 pub fn read_program(alloc: Global, text: &str) -> Result<Program, SynError>
     // What is read is spelled so.
     ensures spelled { IfOk result (λ found. SpellsText text.now (program_view found)) }
+    // The places that it keeps are those of the text.
+    ensures places { IfOk result (λ found. ArePlacesOf text.now (places_view found)) }
     // What is spelled so is read, unless memory runs out. So no text spells two programs.
     ensures only { (tree : ProgramTree) → SpellsText text.now tree → IsAnswered result tree }
     // A refusal other than want of memory is true of the text.

@@ -15,3 +15,4 @@ pub mod LocalPrograms
 pub mod Viable
 pub mod ViableExpressions
 pub mod ViablePrograms
+pub mod Plain

@@ -45,7 +45,7 @@ names_sound n ts x e =
       stands = ap (λ (xs : List (List ℕ)). y.0 ∷ xs) (sym (flat_map-alone k.written)) ∙ k.stands;
     }
 
-kind-is : (ts : List Tok) (x : Kind × List Tok) → kind ts ≡ Ok x → fixed (kind_token x.0) ∷ x.1 ≡ ts
+pub kind-is : (ts : List Tok) (x : Kind × List Tok) → kind ts ≡ Ok x → fixed (kind_token x.0) ∷ x.1 ≡ ts
 kind-is [] x e = absurd cc
 kind-is (identifier v ∷ ts) x e = absurd cc
 kind-is (number n ∷ ts) x e = absurd cc
@@ -59,7 +59,7 @@ clock_by-is ts (Ok rest) x h e =
     let (y, one, two) = bind_ok (condition rest) (λ y. Ok (Some y.0, y.1)) x e in
     ap (λ (z : Option Condition × List Tok). w.clock z.0 z.1) (sym (same_ok (Some y.0, y.1) x two)) ∙ condition-is rest y one ∙ after-is f.When ts rest h
 
-clocked-is : (ts : List Tok) (x : Option Condition × List Tok) → clocked ts ≡ Ok x → w.clock x.0 x.1 ≡ ts
+pub clocked-is : (ts : List Tok) (x : Option Condition × List Tok) → clocked ts ≡ Ok x → w.clock x.0 x.1 ≡ ts
 clocked-is ts x e = clock_by-is ts (after f.When ts) x refl e
 
 declaration_spelled : (d : WrittenDeclaration) (ts us a b rest : List Tok) → separated f.Comma w.name d.names us ≡ ts → fixed f.Colon ∷ a ≡ us → fixed (kind_token d.kind) ∷ b ≡ a → w.clock d.clock rest ≡ b

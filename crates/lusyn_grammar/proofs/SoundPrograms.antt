@@ -105,7 +105,7 @@ equation_by_sound n ts x (Ok rest) h e =
     let k : Reads w.equation equation_tree IsProperEquation (fixed f.Open ∷ rest) x = tuple_sound n rest x e in
     record { written = k.written; proper = k.proper; spelled = k.spelled ∙ after-is f.Open ts rest h; stands = k.stands }
 
-equation_sound : (n : ℕ) (ts : List Tok) (x : EquationTree × List Tok) → equation n ts ≡ Ok x → Reads w.equation equation_tree IsProperEquation ts x
+pub equation_sound : (n : ℕ) (ts : List Tok) (x : EquationTree × List Tok) → equation n ts ≡ Ok x → Reads w.equation equation_tree IsProperEquation ts x
 unfolding equation
 equation_sound n ts x e = equation_by_sound n ts x (after f.Open ts) refl e
 
@@ -126,7 +126,7 @@ ended_equation_sound n found ts x e =
 abbrev equations_tree : List WrittenEquation → List EquationTree
 equations_tree = map equation_tree
 
-equations_sound : (n : ℕ) (ts : List Tok) (x : List EquationTree × List Tok) → equations n ts ≡ Ok x → Reads (repeated ended_tokens) equations_tree (Each IsProperEquation) ts x
+pub equations_sound : (n : ℕ) (ts : List Tok) (x : List EquationTree × List Tok) → equations n ts ≡ Ok x → Reads (repeated ended_tokens) equations_tree (Each IsProperEquation) ts x
 unfolding equations
 equations_sound n ts x e =
     let k : Begins (repeated ended_tokens) (flat_map equation_trees) (Each IsProperEquation) [] ts x =

@@ -3,3 +3,4 @@ pub mod Reading
 pub mod Printing
 pub mod Laws
 pub mod Examples
+pub mod Places

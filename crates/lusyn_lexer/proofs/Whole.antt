@@ -13,11 +13,11 @@ use Rattle.lusyn_lexer.specs.Scanning.{Lexed, lex, count, short, limited}
 use Rattle.lusyn_lexer.proofs.Cuts.{Outcome, found, no_token, large_number, outcome, has-lex, no_token-lex, large-lex}
 use Rattle.lusyn_lexer.proofs.Runs.{count-short, count-too_many, short-count, too_many-count}
 
-abbrev whole : List ℕ → Lexed
+abbrev pub whole : List ℕ → Lexed
 whole text = limited (lex 0 0 text)
 
 -- what an answer says of a text whose bytes are few and below 128
-abbrev IsAnswer : List ℕ → Lexed → Type 0
+abbrev pub IsAnswer : List ℕ → Lexed → Type 0
 IsAnswer text (Ok ts) = IsLexed text ts
 IsAnswer text (Err e) = IsRefused text e
 
@@ -32,7 +32,7 @@ answer-from text plain (found ts has) =
 answer-from text plain (no_token byte none) = let P : Lexed → Type 0 = λ l. IsAnswer text (limited l) in subst P (sym (no_token-lex text byte none)) (plain, none)
 answer-from text plain (large_number byte large) = let P : Lexed → Type 0 = λ l. IsAnswer text (limited l) in subst P (sym (large-lex text byte large)) (plain, large)
 
-answer-is : (text : List ℕ) (l : Lexed) → IsPlain text → whole text ≡ l → IsAnswer text l
+pub answer-is : (text : List ℕ) (l : Lexed) → IsPlain text → whole text ≡ l → IsAnswer text l
 answer-is text l plain e = let P : Lexed → Type 0 = IsAnswer text in subst P e (answer-from text plain (outcome text))
 
 -- the other way

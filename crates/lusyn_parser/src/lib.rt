@@ -8,8 +8,8 @@
 //! - `nodes`: from tokens to nodes and programs.
 //! - `error`: why tokens are refused.
 //!
-//! `specs/Gives.antt` says what a reading function of the code answers, against the reading of `lusyn_grammar`, and
-//! `specs/Refused.antt` what a refusal tells.
+//! `specs/Gives.antt` says what a reading function of the code answers, against the reading of `lusyn_grammar`,
+//! `specs/Places.antt` which places it answers, against those that the tokens tell, and `specs/Refused.antt` what a refusal tells.
 #![tactic(auto)]
 
 mod error;

@@ -1,11 +1,14 @@
 //! Nodes and whole programs, from the tokens.
 
-ghost use Rattle.std.specs.Prelude.{ℕ, ◌<◌, suc, length, IfOk};
+ghost use Rattle.std.specs.Prelude.{◌≡◌, [], ◌∷◌, ℕ, ◌<◌, suc, length, map, IfOk};
 ghost use Rattle.std.specs.Result.{IfErr};
 ghost use Rattle.lutree.specs.Tree.{ProgramTree, node_view, program_view};
+ghost use Rattle.lutree.specs.Places.{node_places, places_view};
 ghost use Rattle.lusyn_tokens.specs.Tokens.{toks, located};
 ghost use Rattle.lusyn_grammar.specs.Grammar.{Spells};
+ghost use Rattle.lusyn_grammar.specs.Places.{places_in};
 ghost use Rattle.lusyn_grammar.specs.Reading as reading;
+ghost use Rattle.lusyn_parser.specs.Places.{Grows, HeadingPlaces, BodyPlaces};
 ghost use Rattle.lusyn_parser.specs.Gives.{Gives, ahead, equations_view, nodes_view, heading_view, Reads, ReadsInto};
 ghost use Rattle.lusyn_parser.specs.Refused.{IsAnswered, IsRefused, IsRefusedAt, IsWrongFrom};
 
@@ -24,6 +27,7 @@ impl<'t> Reader<'t> {
     fn heading(&self, at: usize) -> Result<(Heading, usize), Stop>
         ensures heading { Reads self.now.tokens.now at heading_view result
             (reading.heading (suc (length self.now.tokens.now))) }
+        ensures places { IfOk result (λ x. HeadingPlaces self.now.tokens.now at x.1 x.0) }
         ensures within { IfOk result (λ x. at < x.1) }
     {
         let next = self.after(Fixed::Node, at)?;
@@ -50,6 +54,7 @@ impl<'t> Reader<'t> {
     fn body(&self, at: usize) -> Result<(Vec<Equation>, usize), Stop>
         ensures body { Reads self.now.tokens.now at (λ a. equations_view a.items) result
             (reading.body (suc (length self.now.tokens.now))) }
+        ensures places { IfOk result (λ x. BodyPlaces self.now.tokens.now at x.1 x.0.items) }
         ensures within { IfOk result (λ x. at < x.1) }
     {
         let next = self.after(Fixed::Let, at)?;
@@ -62,6 +67,8 @@ impl<'t> Reader<'t> {
     fn node(&self, at: usize) -> Result<(Node, usize), Stop>
         ensures node { Reads self.now.tokens.now at node_view result
             (reading.node (suc (length self.now.tokens.now))) }
+        ensures places { IfOk result (λ x. Grows self.now.tokens.now at x.1 []
+            (map node_places (x.0 ∷ []))) }
         ensures within { IfOk result (λ x. at < x.1) }
     {
         let (heading, next) = self.heading(at)?;
@@ -81,6 +88,8 @@ impl<'t> Reader<'t> {
     fn further_node(&self, found: &mut Vec<Node>, at: usize) -> Result<usize, Stop>
         ensures node { ReadsInto self.now.tokens.now at (nodes_view found.new.items) result
             (reading.further_node (suc (length self.now.tokens.now)) (nodes_view found.old.items)) }
+        ensures places { IfOk result (λ next. Grows self.now.tokens.now at next
+            (map node_places found.old.items) (map node_places found.new.items)) }
         ensures within { IfOk result (λ next. at < next) }
     {
         let (node, next) = self.node(at)?;
@@ -91,8 +100,10 @@ impl<'t> Reader<'t> {
     /// `node { node }`
     #[tactic(auto, unfolding(lusyn_grammar::specs::Reading::program))]
     fn program(&self, at: usize) -> Result<(Vec<Node>, usize), Stop>
-        ensures { Reads self.now.tokens.now at (λ a. nodes_view a.items) result
+        ensures program { Reads self.now.tokens.now at (λ a. nodes_view a.items) result
             (reading.program (suc (length self.now.tokens.now))) }
+        ensures places { IfOk result (λ x. Grows self.now.tokens.now at x.1 []
+            (map node_places x.0.items)) }
     {
         let mut found = Vec::new(self.alloc);
         let mut next = self.further_node(&mut found, at)?;
@@ -105,7 +116,8 @@ impl<'t> Reader<'t> {
 
 #[tactic(auto, unfolding(lusyn_grammar::specs::Reading::all_of))]
 fn all(alloc: Global, tokens: &[Lexeme<'_>], end: usize) -> Result<Program, Stop>
-    ensures { Gives tokens.now program_view result (reading.all_of (toks tokens.now)) }
+    ensures program { Gives tokens.now program_view result (reading.all_of (toks tokens.now)) }
+    ensures places { IfOk result (λ found. places_view found ≡ places_in (located tokens.now)) }
 {
     let reader = Reader { alloc, tokens, end };
     let (nodes, next) = reader.program(0)?;
@@ -122,6 +134,8 @@ fn all(alloc: Global, tokens: &[Lexeme<'_>], end: usize) -> Result<Program, Stop
 pub fn parse_tokens(alloc: Global, tokens: &[Lexeme<'_>], end: usize) -> Result<Program, ParseError>
     // What is answered is spelled so.
     ensures spelled { IfOk result (λ found. Spells (toks tokens.now) (program_view found)) }
+    // Its places are those of the tokens.
+    ensures places { IfOk result (λ found. places_view found ≡ places_in (located tokens.now)) }
     // What is spelled so is answered, unless memory runs out. So no tokens spell two programs.
     ensures only { (tree : ProgramTree) → Spells (toks tokens.now) tree → IsAnswered result tree }
     // The tokens before the one that is told begin a program, and no program goes on with it.

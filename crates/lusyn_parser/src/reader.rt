@@ -4,9 +4,13 @@ ghost use Rattle.std.specs.Prelude.{◌≡◌, ◌≢◌, ◌+◌, ◌<◌, ◌+
 ghost use Rattle.std.specs.Result.{IfErr};
 ghost use Rattle.lutree.specs.Tree.{view, views, declarations_view, equation_view};
 ghost use Rattle.lutree.specs.Tree as t;
+ghost use Rattle.lutree.specs.Places.{declaration_places, equation_places};
 ghost use Rattle.lusyn_tokens.specs.Tokens.{tok};
 ghost use Rattle.lusyn_grammar.specs.Grammar.{declared};
 ghost use Rattle.lusyn_grammar.specs.Reading as reading;
+ghost use Rattle.lusyn_grammar.specs.Places.{first};
+ghost use Rattle.lusyn_parser.specs.Places.{from, name_places, Declares, Defines, LocalsPlaces};
+ghost use Rattle.lusyn_parser.specs.Refused.{place};
 ghost use Rattle.lusyn_parser.specs.Gives.{Gives, GivesPlace, EndsOperand, atom, ahead, next_view, operand_view, name_behind, names_view, equations_view, Reads, ReadsInto};
 
 use crate::error::Stop;
@@ -38,7 +42,9 @@ impl<'t> Reader<'t> {
     }
 
     /// The place in the text of this token, or the text's end.
-    pub(crate) fn byte(&self, at: usize) -> usize {
+    pub(crate) fn byte(&self, at: usize) -> usize
+        ensures { result ≡ place self.now.end (from self.now.tokens.now at) }
+    {
         byte_of(self.tokens, self.end, at)
     }
 
@@ -500,6 +506,8 @@ impl<'t> Reader<'t> {
     fn name_behind(&self, found: &mut Vec<PlacedName>, at: usize) -> Result<usize, Stop>
         ensures name { ReadsInto self.now.tokens.now at (names_view found.new.items) result
             (name_behind (names_view found.old.items)) }
+        ensures places { IfOk result (λ next. Declares self.now.tokens.now at next
+            (name_places found.old.items) (name_places found.new.items)) }
         ensures within { IfOk result (λ next. at < next) }
     {
         let byte = self.byte(at);
@@ -513,6 +521,8 @@ impl<'t> Reader<'t> {
         ensures names { ReadsInto self.now.tokens.now at (names_view found.new.items) result
             (reading.many (reading.begins Fixed.Comma) reading.further_name
             (suc (length self.now.tokens.now)) (names_view found.old.items)) }
+        ensures places { IfOk result (λ next. Declares self.now.tokens.now at next
+            (name_places found.old.items) (name_places found.new.items)) }
         ensures within { IfOk result (λ next. at ≤ next) }
     {
         let mut next = at;
@@ -527,6 +537,8 @@ impl<'t> Reader<'t> {
     fn names(&self, at: usize) -> Result<(Vec<PlacedName>, usize), Stop>
         ensures names { Reads self.now.tokens.now at (λ a. names_view a.items) result
             (reading.names (suc (length self.now.tokens.now))) }
+        ensures places { IfOk result (λ x. Declares self.now.tokens.now at x.1 []
+            (name_places x.0.items)) }
         ensures within { IfOk result (λ x. at < x.1) }
     {
         let byte = self.byte(at);
@@ -570,6 +582,8 @@ impl<'t> Reader<'t> {
         ensures ok { IfOk result (λ _. declarations_view found.new.items
             ≡ declarations_view found.old.items ++ map (declared kind clock.now)
             (names_view names.now)) }
+        ensures places { IfOk result (λ _. declaration_places found.new.items
+            ≡ declaration_places found.old.items ++ name_places names.now) }
         ensures err { IfErr result (λ e. e ≡ Stop.OutOfMemory) }
     {
         for placed in names {
@@ -592,6 +606,8 @@ impl<'t> Reader<'t> {
         ensures declaration { ReadsInto self.now.tokens.now at (declarations_view found.new.items)
             result (reading.declaration (suc (length self.now.tokens.now))
             (declarations_view found.old.items)) }
+        ensures places { IfOk result (λ next. Declares self.now.tokens.now at next
+            (declaration_places found.old.items) (declaration_places found.new.items)) }
         ensures within { IfOk result (λ next. at < next) }
     {
         let (names, next) = self.names(at)?;
@@ -607,6 +623,8 @@ impl<'t> Reader<'t> {
     pub(crate) fn declarations(&self, at: usize) -> Result<(Vec<Declaration>, usize), Stop>
         ensures declarations { Reads self.now.tokens.now at (λ a. declarations_view a.items) result
             (reading.declarations (suc (length self.now.tokens.now))) }
+        ensures places { IfOk result (λ x. Declares self.now.tokens.now at x.1 []
+            (declaration_places x.0.items)) }
         ensures within { IfOk result (λ x. at ≤ x.1) }
     {
         let mut found = Vec::new(self.alloc);
@@ -622,6 +640,8 @@ impl<'t> Reader<'t> {
     pub(crate) fn inputs(&self, at: usize) -> Result<(Vec<Declaration>, usize), Stop>
         ensures declarations { Reads self.now.tokens.now at (λ a. declarations_view a.items) result
             (reading.inputs (suc (length self.now.tokens.now))) }
+        ensures places { IfOk result (λ x. Declares self.now.tokens.now at x.1 []
+            (declaration_places x.0.items)) }
         ensures within { IfOk result (λ x. at ≤ x.1) }
     {
         if self.begins(Fixed::Close, at) {
@@ -635,6 +655,8 @@ impl<'t> Reader<'t> {
         ensures declaration { ReadsInto self.now.tokens.now at (declarations_view found.new.items)
             result (reading.ended_declaration (suc (length self.now.tokens.now))
             (declarations_view found.old.items)) }
+        ensures places { IfOk result (λ next. Declares self.now.tokens.now at next
+            (declaration_places found.old.items) (declaration_places found.new.items)) }
         ensures within { IfOk result (λ next. at < next) }
     {
         let next = self.declaration(found, at)?;
@@ -646,6 +668,8 @@ impl<'t> Reader<'t> {
     pub(crate) fn locals(&self, at: usize) -> Result<(Vec<Declaration>, usize), Stop>
         ensures declarations { Reads self.now.tokens.now at (λ a. declarations_view a.items) result
             (reading.locals (suc (length self.now.tokens.now))) }
+        ensures places { IfOk result (λ x. reading.begins Fixed.Let (ahead self.now.tokens.now x.1)
+            ≡ true → LocalsPlaces self.now.tokens.now at x.1 x.0.items) }
         ensures within { IfOk result (λ x. at ≤ x.1) }
     {
         let mut found = Vec::new(self.alloc);
@@ -667,6 +691,7 @@ impl<'t> Reader<'t> {
     fn single(&self, at: usize) -> Result<(Equation, usize), Stop>
         ensures equation { Reads self.now.tokens.now at equation_view result
             (reading.single (suc (length self.now.tokens.now))) }
+        ensures place { IfOk result (λ x. x.0.byte ≡ first (from self.now.tokens.now at)) }
         ensures within { IfOk result (λ x. at < x.1) }
     {
         let byte = self.byte(at);
@@ -711,6 +736,7 @@ impl<'t> Reader<'t> {
     fn tuple(&self, at: usize, byte: usize) -> Result<(Equation, usize), Stop>
         ensures equation { Reads self.now.tokens.now at equation_view result
             (reading.tuple (suc (length self.now.tokens.now))) }
+        ensures place { IfOk result (λ x. x.0.byte ≡ byte) }
         ensures within { IfOk result (λ x. at < x.1) }
     {
         let (names, next) = self.tuple_names(at)?;
@@ -724,6 +750,7 @@ impl<'t> Reader<'t> {
     fn equation(&self, at: usize) -> Result<(Equation, usize), Stop>
         ensures equation { Reads self.now.tokens.now at equation_view result
             (reading.equation (suc (length self.now.tokens.now))) }
+        ensures place { IfOk result (λ x. x.0.byte ≡ first (from self.now.tokens.now at)) }
         ensures within { IfOk result (λ x. at < x.1) }
     {
         match self.passed(Fixed::Open, at) {
@@ -737,6 +764,8 @@ impl<'t> Reader<'t> {
         ensures equation { ReadsInto self.now.tokens.now at (equations_view found.new.items) result
             (reading.ended_equation (suc (length self.now.tokens.now))
             (equations_view found.old.items)) }
+        ensures places { IfOk result (λ next. Defines self.now.tokens.now at next
+            (equation_places found.old.items) (equation_places found.new.items)) }
         ensures within { IfOk result (λ next. at < next) }
     {
         let (equation, next) = self.equation(at)?;
@@ -756,6 +785,8 @@ impl<'t> Reader<'t> {
     pub(crate) fn equations(&self, at: usize) -> Result<(Vec<Equation>, usize), Stop>
         ensures equations { Reads self.now.tokens.now at (λ a. equations_view a.items) result
             (reading.equations (suc (length self.now.tokens.now))) }
+        ensures places { IfOk result (λ x. Defines self.now.tokens.now at x.1 []
+            (equation_places x.0.items)) }
         ensures within { IfOk result (λ x. at ≤ x.1) }
     {
         let mut found = Vec::new(self.alloc);

@@ -35,7 +35,7 @@ both_ways b t f = false≢true (sym f ∙ t)
 other_rest : (inputs : List Variable) (x y : List ℕ) → x ≡ y → is_bad_row (length inputs) x ≡ true → is_bad_row (length inputs) y ≡ false → ⊥
 other_rest inputs x y e t f = both_ways (is_bad_row (length inputs) y) (ap (is_bad_row (length inputs)) (sym e) ∙ t) f
 
-one_refusal : (inputs : List Variable) (text : List ℕ) (e f : TabError) → IsRefused inputs text e → IsRefused inputs text f → e ≡ f
+pub one_refusal : (inputs : List Variable) (text : List ℕ) (e f : TabError) → IsRefused inputs text e → IsRefused inputs text f → e ≡ f
 one_refusal inputs text TooLong TooLong a b = refl
 one_refusal inputs text TooLong BadHeader a b = absurd (both_ways _ a b.0)
 one_refusal inputs text TooLong (BadRow n) a b = absurd (both_ways _ a b.1.short)

@@ -4,7 +4,8 @@
 //! - [`Expr`] and its operators: the right sides.
 //! - [`Kind`], [`Condition`]: the type and the clock of a variable.
 //!
-//! Contracts see a tree without where it lies in memory and without places, as `Tree.antt` of `specs/` says.
+//! Contracts see a tree without where it lies in memory and without places, as `Tree.antt` of `specs/` says, and its places
+//! by themselves, as `Places.antt` says.
 #![tactic(auto)]
 
 mod expr;

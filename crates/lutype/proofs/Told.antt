@@ -1,21 +1,23 @@
 -- What the check of names tells.
-use Rattle.std.proofs.Common.{◌≡◌, ◌<◌, ◌≤◌, inl, inr, ⊎_elim, ℕ, List, length, Option, Some, IsTrue, refl, sym, ap, subst, arith, true≢false}
+use Rattle.std.proofs.Common.{◌≡◌, ◌<◌, ◌≤◌, inl, inr, ⊎_elim, ℕ, List, length, Option, Some, IsTrue, refl, sym, ap, ◌∙◌, subst, arith, true≢false}
 use Rattle.std.proofs.lemmas.List.{length-map}
-use Rattle.std.proofs.lemmas.Option.{slice_get_within}
+use Rattle.std.proofs.lemmas.Option.{slice_get_within, same_Some}
+use Rattle.std.specs.Prelude.{slice_get}
 use Rattle.lutree.specs.declared.program.Node.{Node}
 use Rattle.lutree.specs.declared.program.Program.{Program}
-use Rattle.lutree.specs.Tree.{ProgramTree, node_view, program_view}
+use Rattle.lutree.specs.Tree.{NodeTree, ProgramTree, node_view, program_view}
 use Rattle.lustat_rules.specs.Naming.{Reaches}
 use Rattle.lustat_rules.specs.Accepted.{Rule, duplicate_name, unknown_name, unknown_node, type_mismatch, wrong_arity, undefined, defined_twice, recursive_node, no_main, clock_mismatch, not_a_clock, clocked_parameter, hidden_clock, maybe_nil, current_may_be_nil, stage, Keeps, Breaks, IsNamed, IsRefused}
 use Rattle.lustat_rules.specs.declared.error.StatError.{StatError}
 use Rattle.lustat_rules.specs.declared.error.StatError.TheVariants.{RecursiveNode}
 use Rattle.lustat_rules.specs.Told.{byte_of, number_of, RuleTold, Tells}
-use Rattle.lustat_rules.specs.Faults.{lesser_of, IsJudged, IsFault, AreKept}
+use Rattle.lustat_rules.specs.Faults.{lesser_of, IsAtMost, IsJudged, IsFault, AreKept}
 use Rattle.lustat_rules.proofs.Judging.{judged_joined}
-use Rattle.lustat_scope.proofs.Keeping.{broken_somewhere}
-use Rattle.lutype.specs.CallGraph.{IsRecursive}
+use Rattle.lustat_scope.proofs.Keeping.{broken_somewhere, view_item, item_view}
+use Rattle.lugraph.proofs.Marks.{below_or_not}
+use Rattle.lutype.specs.CallGraph.{IsRecursive, NoneRecursiveBefore}
 use Rattle.lutype.specs.Asked.{is_asked}
-use Rattle.lutype.specs.Named.{IsToldFirst}
+use Rattle.lutype.specs.First.{IsRecursionFault, IsNameFault, IsToldFirst}
 
 -- no stage is before the first
 stage_least : (rule : Rule) → 1 ≤ stage rule
@@ -85,18 +87,45 @@ told_recursive p main place byte h =
     let one : stage recursive_node ≤ 1 = omega arith in
     (one, refused_first (program_view p) main recursive_node one (Breaks.node place h.0 h.1 (λ no. no h.2)))
 
-pub told_alone : (p : Program) (main : List ℕ) (e : StatError) → IsJudged (IsFault is_asked p main) (AreKept is_asked p main) (Some e) → Tells 1 (program_view p) main e × IsToldFirst p main e
-told_alone p main e h = (told_asked p main e h.0, inr h.1)
+pub told_alone : (p : Program) (main : List ℕ) (e : StatError) → IsJudged (IsFault is_asked p main) (AreKept is_asked p main) (Some e) → ((f : List ℕ) → ¬ Reaches (program_view p) f f)
+    → Tells 1 (program_view p) main e × IsToldFirst p main e
+told_alone p main e h straight =
+    let least : (f : StatError) → IsNameFault p main f → IsAtMost e f = λ f fault. ⊎_elim {C = IsAtMost e f} (λ own. h.1 f own) (λ r. absurd (straight r.node.name r.recursive)) fault in
+    (told_asked p main e h.0, inr (inl h.0, least))
+
+-- of two places of recursion faults neither is before the other
+not_before : (p : Program) (e f : StatError) (a : IsRecursionFault p e) (b : IsRecursionFault p f) → a.place < b.place → ⊥
+not_before p e f a b lt = b.first a.place (node_view a.node) lt (item_view node_view p.nodes a.place a.node a.there) a.recursive
+
+-- there is one recursion fault at most
+one_recursion : (p : Program) (e f : StatError) → IsRecursionFault p e → IsRecursionFault p f → e ≡ f
+one_recursion p e f a b =
+    let one : a.place ≡ b.place = elim (below_or_not a.place b.place) [
+      | inl lt ↦ absurd (not_before p e f a b lt)
+      | inr past ↦ elim (below_or_not b.place a.place) [ inl lt ↦ absurd (not_before p f e b a lt) | inr other ↦ omega (arith, past, other) ]
+    ] in
+    let same : a.node ≡ b.node = same_Some a.node b.node (sym a.there ∙ ap (slice_get p.nodes) one ∙ b.there) in
+    a.told ∙ ap (λ (n : Node). RecursiveNode n.byte) same ∙ sym b.told
 
 -- the fault of recursion among others
 pub told_with : (p : Program) (main : List ℕ) (place byte : ℕ) (found : Option StatError) (r : StatError) → IsJudged (IsFault is_asked p main) (AreKept is_asked p main) found
-    → IsRecursive (program_view p) place → Some r ≡ lesser_of found (Some (RecursiveNode byte)) → Tells 1 (program_view p) main r × IsToldFirst p main r
-told_with p main place byte found r judged recursive is =
-    let own : IsJudged (λ g. g ≡ RecursiveNode byte) (Unit {0}) (Some (RecursiveNode byte)) =
-    (refl, λ f e. inr (ap byte_of (sym e), (let n = ap number_of e in omega (arith, n)))) in
-    let both = judged_joined (IsFault is_asked p main) (λ g. g ≡ RecursiveNode byte) (AreKept is_asked p main) (Unit {0}) found (Some (RecursiveNode byte)) (Some r) is judged own in (
-      ⊎_elim {C = Tells 1 (program_view p) main r} (told_asked p main r) (λ e. subst (Tells 1 (program_view p) main) (sym e) (told_recursive p main place byte recursive)) both.0,
-      inr (λ f fault. both.1 f (inl fault)),
+    → IsRecursive (program_view p) place → NoneRecursiveBefore (program_view p) place → ((node : Node) → slice_get p.nodes place ≡ Some node → byte ≡ node.byte)
+    → Some r ≡ lesser_of found (Some (RecursiveNode byte)) → Tells 1 (program_view p) main r × IsToldFirst p main r
+told_with p main place byte found r judged recursive first at is =
+    let (node, there, seen) = view_item node_view p.nodes place recursive.0 recursive.1 in
+    let fault : IsRecursionFault p (RecursiveNode byte) = record {
+      place = place;
+      node = node;
+      there = there;
+      recursive = subst (λ (n : NodeTree). Reaches (program_view p) n.name n.name) (sym seen) recursive.2;
+      first = first;
+      told = ap RecursiveNode (at node there);
+    } in
+    let own : IsJudged (IsRecursionFault p) (Unit {0}) (Some (RecursiveNode byte)) =
+    (fault, λ f other. let e = one_recursion p (RecursiveNode byte) f fault other in inr (ap byte_of e, (let n = ap number_of e in omega (arith, n)))) in
+    let both = judged_joined (IsFault is_asked p main) (IsRecursionFault p) (AreKept is_asked p main) (Unit {0}) found (Some (RecursiveNode byte)) (Some r) is judged own in (
+      ⊎_elim {C = Tells 1 (program_view p) main r} (told_asked p main r) (λ (o : IsRecursionFault p r). subst (Tells 1 (program_view p) main) (sym o.told) (told_recursive p main place o.node.byte recursive)) both.0,
+      inr both,
     )
 
 pub recursive_within : (p : Program) (scopes : List Node) (place : ℕ) → scopes ≡ p.nodes → IsRecursive (program_view p) place → place < length scopes

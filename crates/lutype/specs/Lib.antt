@@ -6,3 +6,4 @@ pub mod Tables
 pub mod Named
 pub mod CallGraph
 pub mod CallAnswer
+pub mod First

@@ -1,11 +1,12 @@
 //! The check of names and types.
 
-ghost use Rattle.std.specs.Prelude.{◌≡◌, ◌<◌, Some, IfOk, IfErr, length};
+ghost use Rattle.std.specs.Prelude.{◌≡◌, ◌<◌, Some, IfOk, IfErr, length, slice_get};
+ghost use Rattle.lutree.specs.declared.program.Node.{Node};
 ghost use Rattle.lutree.specs.Tree.{program_view};
 ghost use Rattle.lustat_rules.specs.Accepted.{IsNamed};
 ghost use Rattle.lustat_rules.specs.Told.{Tells};
 ghost use Rattle.lustat_rules.specs.Faults.{lesser_of};
-ghost use Rattle.lutype.specs.Named.{IsToldFirst};
+ghost use Rattle.lutype.specs.First.{IsToldFirst};
 
 use crate::order::{CallOrder, call_order};
 use crate::search::least_fault;
@@ -34,6 +35,7 @@ fn with_recursion(found: Option<StatError>, recursion: StatError) -> StatError
 /// The place of a node's name in the text.
 fn byte_of_node(catalog: &Catalog, place: usize) -> usize
     requires { place < length catalog.now.nodes }
+    ensures { (node : Node) → slice_get catalog.now.nodes place ≡ Some node → result ≡ node.byte }
 {
     catalog.program().nodes.as_slice()[place].byte
 }
@@ -47,7 +49,7 @@ fn byte_of_node(catalog: &Catalog, place: usize) -> usize
 /// # Errors
 ///
 /// An error other than the want of memory tells a rule that is broken: that of the least byte, at equal bytes that of the
-/// least number. Of several nodes that reach themselves only the first in order of text is thought of.
+/// least number. Of several nodes that reach themselves only the first in order of text is thought of, at its name.
 pub fn names<'a>(alloc: Global, program: &'a Program, main: &'a str) -> Result<Typed<'a>, StatError>
     ensures program { IfOk result (λ typed. typed.program ≡ program.now) }
     ensures main { IfOk result (λ typed. typed.main ≡ main.now) }

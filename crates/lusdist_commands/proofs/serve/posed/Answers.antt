@@ -1,4 +1,5 @@
 use Rattle.std.proofs.Common.{Some, List, ℕ, sym, subst}
+use Rattle.lutree.specs.Places.{places_view}
 use Rattle.lutree.specs.Tree.{program_view}
 use Rattle.lusdist_commands.proofs.HasOutputs.{some_output}
 use Rattle.lusdist_commands.proofs.Outcomes.{posed}
@@ -40,7 +41,7 @@ pub returns-in_err-flat-clause-stopped : goal.returns-in_err-flat-clause-stopped
 returns-in_err-flat-clause-stopped g c =
     let p = err_from_is_err_and c.from_residual-in_err-flat.result c.from_residual-in_err-flat.ensures.1 in
     let gives = g.F.Files.gives c.args.files.now in
-    rw (p.1, p.2) (eval_program (program_refused c.deref.result.now (subst (λ (b : List ℕ). gives c.args.request.program.now (Some b)) (sym c.deref.ensures.value) c.in_ok-bytes.ensures.given) (unruled (program_view c.in_ok-program.program) c.in_ok-program.ensures.spelled c.in_err-flat.ensures.told)))
+    rw (p.1, p.2) (eval_program (program_refused c.deref.result.now (subst (λ (b : List ℕ). gives c.args.request.program.now (Some b)) (sym c.deref.ensures.value) c.in_ok-bytes.ensures.given) (unruled (program_view c.in_ok-program.program) (places_view c.in_ok-program.program) c.in_ok-program.ensures.spelled c.in_ok-program.ensures.places c.in_err-flat.ensures.told)))
 
 pub returns-in_err-table-clause-stopped : goal.returns-in_err-table-clause-stopped
 returns-in_err-table-clause-stopped g c =

@@ -6,7 +6,7 @@ use Rattle.lusdist_commands.specs.Refused.IsToldOf.{rule, flat}
 use Rattle.lusdist_commands.proofs.sources.flattened.Goals as goal
 
 pub returns-in-Err-clause-told : goal.returns-in-Err-clause-told
-returns-in-Err-clause-told c = rule c.in-Err.e c.args.program.now refl c.in-Err.ensures.told refl c.in-Err.ensures.first
+returns-in-Err-clause-told c = rule c.in-Err.e c.args.program.now refl c.in-Err.ensures.told refl refl c.in-Err.ensures.first
 
 pub returns-clause-told : goal.returns-clause-told
 returns-clause-told c =

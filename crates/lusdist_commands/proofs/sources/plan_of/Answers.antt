@@ -8,15 +8,17 @@ returns-in_default-clause-refused c = inl (refl, c.in_default.ensures)
 pub returns-in-Err-clause-refused : goal.returns-in-Err-clause-refused
 returns-in-Err-clause-refused c =
     let same = ap placement_of c.in-Some.ensures.0 in
+    let utf8 = c.in-Some.ensures.1 in
     elim c.in-Err.ensures.exact [
-      | inl memory ↦ inr (inl memory)
-      | inr told ↦ inr (inr (inl (sym same ∙ told)))
+      | inl memory ↦ inr (utf8, inl memory)
+      | inr told ↦ inr (utf8, inr (inl (sym same ∙ told)))
     ]
 
 pub returns-clause-refused : goal.returns-clause-refused
 returns-clause-refused c =
     let same = ap placement_of c.in-Some.ensures.0 in
+    let utf8 = c.in-Some.ensures.1 in
     elim c.in-Err-make.ensures.refused [
-      | inl memory ↦ inr (inl memory)
-      | inr told ↦ inr (inr (inr (c.in-Ok.place, sym same ∙ c.in-Ok.ensures.exact, told)))
+      | inl memory ↦ inr (utf8, inl memory)
+      | inr told ↦ inr (utf8, inr (inr (c.in-Ok.place, sym same ∙ c.in-Ok.ensures.exact, told)))
     ]

@@ -1,8 +1,8 @@
-use Rattle.std.proofs.Common.{Vec, Global, ◌∙◌, sym, arith}
+use Rattle.std.proofs.Common.{Vec, Global, sym, arith}
 use Rattle.std.proofs.lemmas.Result.{err_from_is_err_and}
 use Rattle.lusyn_tokens.specs.declared.token.Lexeme.{Lexeme}
-use Rattle.lusyn.specs.declared.error.SynError.TheVariants.{TooLong}
 use Rattle.lusyn.proofs.Whole.{lexer-only, lexer-refuses, scanned, parser-only, parser-refuses, many-only, many-refused, found-refuses, few-spelled, few-only}
+use Rattle.lusyn.proofs.Places.{places_of}
 use Rattle.lusyn.proofs.text.read_program.Goals as goal
 
 pub returns-in_err-tokens-clause-only : goal.returns-in_err-tokens-clause-only
@@ -61,3 +61,8 @@ returns-clause-refuses c = λ error h.
     let few = rw c.as_slice.ensures at c.if-as_slice-gt-MOST_NODES.false in
     let many = (found-refuses c.args.text.now c.deref.result.now c.in_ok-program.program error s c.in_ok-program.ensures.only c.in_ok-program.ensures.refuses h).1 in
     absurd (omega (arith, few, many))
+
+pub returns-clause-places : goal.returns-clause-places
+returns-clause-places c =
+    let s = scanned (λ (v : Vec Lexeme Global). v.items) c.in_ok-tokens.tokens c.args.text.now c.deref.result.now c.deref.ensures.value c.in_ok-tokens.ensures.tokens c.in_ok-tokens.ensures.only c.in_ok-tokens.ensures.refuses in
+    places_of c.args.text.now c.deref.result.now c.in_ok-program.program s c.in_ok-program.ensures.places

@@ -1,7 +1,9 @@
-use Rattle.std.proofs.Common.{suc, ◌-◌, ◌≤◌, length}
+use Rattle.std.proofs.Common.{suc, ◌-◌, ◌≤◌, length, []}
 use Rattle.lutree.specs.Tree.{declarations_view}
 use Rattle.lusyn_grammar.specs.Reading.{many, begins_name, ended_declaration}
 use Rattle.lusyn_parser.specs.Gives.{ahead}
+use Rattle.lusyn_parser.specs.Places.{Declares}
+use Rattle.lutree.specs.Places.{declaration_places}
 use Rattle.lusyn_parser.proofs.Loops.{Continues}
 use Rattle.lusyn_parser.proofs.reader.Reader.locals.Given as goal
 
@@ -12,6 +14,7 @@ invariant-loop-found l =
           (many begins_name (ended_declaration (suc (length l.self.tokens.now))) (suc (length l.self.tokens.now)) (declarations_view l.initial.found.items) (ahead l.self.tokens.now l.initial.next))
           (declarations_view l.found.items) l.self.tokens.now l.next;
       more : l.fn.at ≤ l.next;
+      places : Declares l.self.tokens.now l.after l.next [] (declaration_places l.found.items);
     }
 
 abbrev pub decreases-loop-found : goal.decreases-loop-found

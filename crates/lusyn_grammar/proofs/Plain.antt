@@ -1,0 +1,224 @@
+-- Which keywords and signs stand in no expression, and which in no declaration and no equation.
+use Rattle.std.proofs.Common.{◌≡◌, ℕ, Bool, true, false, true≢false, not, ◌||◌, List, [], ◌∷◌, ◌++◌, Option, Some, None, refl, ap, sym, ◌∙◌, append_assoc}
+use Rattle.lutree.specs.declared.expr.UnaryOperator.TheVariants as u
+use Rattle.lutree.specs.declared.expr.BinaryOperator.TheVariants as b
+use Rattle.lutree.specs.declared.expr.Prefix.{Prefix}
+use Rattle.lutree.specs.declared.expr.Prefix.TheVariants as p
+use Rattle.lutree.specs.declared.expr.Infix.{Infix}
+use Rattle.lutree.specs.declared.expr.Infix.TheVariants as i
+use Rattle.lutree.specs.declared.expr.Condition.{Condition}
+use Rattle.lutree.specs.declared.program.Kind.{Kind}
+use Rattle.lutree.specs.declared.program.Kind.TheVariants as kinds
+use Rattle.lusyn_tokens.specs.declared.token.Fixed.{Fixed}
+use Rattle.lusyn_tokens.specs.declared.token.Fixed.TheVariants as f
+use Rattle.lusyn_tokens.specs.Tokens.{Tok, identifier, fixed}
+use Rattle.lusyn_tokens.specs.Tokens as tok
+use Rattle.lusyn_tokens.specs.Tokens.{prefix_token, infix_token}
+use Rattle.lusyn_grammar.specs.Grammar.{Written, Writtens, Each, WrittenDeclaration, WrittenEquation, repeated, led, ended, separated, name, truth_token, sign_tokens, when_tokens, tokens, further, kind_token, clock, declaration, left_tokens, equation}
+use Rattle.lusyn_grammar.specs.Grammar as w
+use Rattle.lusyn_grammar.specs.Places.{is}
+
+-- a keyword at which a part of a program begins or ends
+abbrev pub is_edge : Tok → Bool
+is_edge t = is f.Node t || is f.Returns t || is f.Var t || is f.Let t || is f.Tel t
+
+abbrev pub IsPlain : Tok → Type 0
+IsPlain t = not (is_edge t) ≡ true
+
+-- nor a semicolon
+abbrev pub IsInner : Tok → Type 0
+IsInner t = not (is_edge t || is f.Semicolon t) ≡ true
+
+neither : (a b : Bool) → not (a || b) ≡ true → (not a ≡ true) × (b ≡ false)
+neither true b e = absurd (true≢false (sym e))
+neither false true e = absurd (true≢false (sym e))
+neither false false e = (refl, refl)
+
+is_false : (a : Bool) → not a ≡ true → a ≡ false
+is_false true e = absurd (true≢false (sym e))
+is_false false e = refl
+
+-- what such a token isn't
+pub record NoEdge (t : Tok) : Type 0 where
+  pub node : is f.Node t ≡ false
+  pub returns : is f.Returns t ≡ false
+  pub locals : is f.Var t ≡ false
+  pub begins : is f.Let t ≡ false
+  pub ends : is f.Tel t ≡ false
+
+pub no_edge : (t : Tok) → IsPlain t → NoEdge t
+no_edge t e =
+    let (abcd, ends) = neither (is f.Node t || is f.Returns t || is f.Var t || is f.Let t) (is f.Tel t) e in
+    let (abc, begins) = neither (is f.Node t || is f.Returns t || is f.Var t) (is f.Let t) abcd in
+    let (ab, locals) = neither (is f.Node t || is f.Returns t) (is f.Var t) abc in
+    let (a, returns) = neither (is f.Node t) (is f.Returns t) ab in
+    record { node = is_false (is f.Node t) a; returns = returns; locals = locals; begins = begins; ends = ends }
+
+pub inner_plain : (t : Tok) → IsInner t → IsPlain t
+inner_plain t e = (neither (is_edge t) (is f.Semicolon t) e).0
+
+pub inner_semicolon : (t : Tok) → IsInner t → is f.Semicolon t ≡ false
+inner_semicolon t e = (neither (is_edge t) (is f.Semicolon t) e).1
+
+-- a piece has tokens of its own, each of which keeps P, and then the rest
+pub record Own (P : Tok → Type 0) (d : List Tok → List Tok) : Type 0 where
+  pub own : List Tok
+  pub keeps : Each P own
+  pub split : (rest : List Tok) → d rest ≡ own ++ rest
+
+each_append : (P : Tok → Type 0) (xs ys : List Tok) → Each P xs → Each P ys → Each P (xs ++ ys)
+each_append P [] ys h k = k
+each_append P (x ∷ xs) ys h k = (h.0, each_append P xs ys h.1 k)
+
+each_more : (P Q : Tok → Type 0) → ((t : Tok) → P t → Q t) → (xs : List Tok) → Each P xs → Each Q xs
+each_more P Q implies [] h = tt
+each_more P Q implies (x ∷ xs) h = (implies x h.0, each_more P Q implies xs h.1)
+
+pub more : {P Q : Tok → Type 0} {d : List Tok → List Tok} → ((t : Tok) → P t → Q t) → Own P d → Own Q d
+more {P = P} {Q = Q} h o = record { own = o.own; keeps = each_more P Q h o.own o.keeps; split = o.split }
+
+module _ {P : Tok → Type 0} where
+  pub here : Own P (λ rest. rest)
+  here = record { own = []; keeps = tt; split = λ rest. refl }
+
+  pub token : {d : List Tok → List Tok} (t : Tok) → P t → Own P d → Own P (λ rest. t ∷ d rest)
+  token t h o = record { own = t ∷ o.own; keeps = (h, o.keeps); split = λ rest. ap (λ (us : List Tok). t ∷ us) (o.split rest) }
+
+  pub both : {d e : List Tok → List Tok} → Own P d → Own P e → Own P (λ rest. d (e rest))
+  both {e = e} o k = record {
+    own = o.own ++ k.own;
+    keeps = each_append P o.own k.own o.keeps k.keeps;
+    split = λ rest. o.split (e rest) ∙ ap (λ (us : List Tok). o.own ++ us) (k.split rest) ∙ sym (append_assoc o.own k.own rest);
+  }
+
+  repeated_own : {A : Type 0} (piece : A → List Tok → List Tok) → ((x : A) → Own P (piece x)) → (xs : List A) → Own P (repeated piece xs)
+  repeated_own piece h [] = here
+  repeated_own piece h (x ∷ xs) = both (h x) (repeated_own piece h xs)
+
+  pub separated_own : {A : Type 0} (sign : Fixed) (piece : A → List Tok → List Tok) → P (fixed sign) → ((x : A) → Own P (piece x)) → (xs : List A) → Own P (separated sign piece xs)
+  separated_own sign piece s h [] = here
+  separated_own sign piece s h (x ∷ xs) = both (h x) (repeated_own (led sign piece) (λ y. token (fixed sign) s (h y)) xs)
+
+  pub ended_own : {A : Type 0} (sign : Fixed) (piece : A → List Tok → List Tok) → P (fixed sign) → ((x : A) → Own P (piece x)) → (xs : List A) → Own P (repeated (ended sign piece) xs)
+  ended_own sign piece s h xs = repeated_own (ended sign piece) (λ y. both (h y) (token (fixed sign) s here)) xs
+
+-- EXPRESSIONS
+
+prefix_inner : (op : Prefix) → IsInner (fixed (prefix_token op))
+prefix_inner (p.Data u.Minus) = refl
+prefix_inner (p.Data u.Not) = refl
+prefix_inner p.Pre = refl
+
+infix_inner : (op : Infix) → IsInner (fixed (infix_token op))
+infix_inner i.Arrow = refl
+infix_inner i.FollowedBy = refl
+infix_inner (i.Data b.Implies) = refl
+infix_inner (i.Data b.Or) = refl
+infix_inner (i.Data b.Xor) = refl
+infix_inner (i.Data b.And) = refl
+infix_inner (i.Data b.Equal) = refl
+infix_inner (i.Data b.Unequal) = refl
+infix_inner (i.Data b.Less) = refl
+infix_inner (i.Data b.LessEqual) = refl
+infix_inner (i.Data b.Greater) = refl
+infix_inner (i.Data b.GreaterEqual) = refl
+infix_inner (i.Data b.Add) = refl
+infix_inner (i.Data b.Subtract) = refl
+infix_inner (i.Data b.Multiply) = refl
+infix_inner (i.Data b.Divide) = refl
+infix_inner (i.Data b.Modulo) = refl
+
+truth_inner : (v : Bool) → IsInner (fixed (truth_token v))
+truth_inner true = refl
+truth_inner false = refl
+
+sign_inner : (v : Bool) → Own IsInner (sign_tokens v)
+sign_inner true = here
+sign_inner false = token (fixed f.Not) refl here
+
+when_inner : (c : Condition) → Own IsInner (when_tokens c)
+when_inner c = token (fixed f.When) refl (both (sign_inner c.sign) (token (identifier c.variable) refl here))
+
+mutual
+  pub inner : (c : Written) → Own IsInner (tokens c)
+  inner (w.number n) = token (tok.number n) refl here
+  inner (w.truth v) = token (fixed (truth_token v)) (truth_inner v) here
+  inner (w.variable x) = token (identifier x) refl here
+  inner (w.unary op c) = token (fixed (prefix_token op)) (prefix_inner op) (inner c)
+  inner (w.binary op c e) = both (inner c) (token (fixed (infix_token op)) (infix_inner op) (inner e))
+  inner (w.choice c e g) =
+      token (fixed f.If) refl (both (inner c) (token (fixed f.Then) refl (both (inner e) (token (fixed f.Else) refl (inner g)))))
+  inner (w.when c sampler) = both (inner c) (when_inner sampler)
+  inner (w.current x) = token (fixed f.Current) refl (token (identifier x) refl here)
+  inner (w.merge x c e) =
+      token (fixed f.Merge) refl (token (identifier x) refl
+      (token (fixed f.Open) refl (token (fixed f.True) refl (token (fixed f.Arrow) refl (both (inner c) (token (fixed f.Close) refl
+      (token (fixed f.Open) refl (token (fixed f.False) refl (token (fixed f.Arrow) refl (both (inner e) (token (fixed f.Close) refl here)))))))))))
+  inner (w.call g w.none) = token (identifier g) refl (token (fixed f.Open) refl (token (fixed f.Close) refl here))
+  inner (w.call g (w.more c cs)) = token (identifier g) refl (token (fixed f.Open) refl (both (inner c) (both (inners cs) (token (fixed f.Close) refl here))))
+  inner (w.paren c) = token (fixed f.Open) refl (both (inner c) (token (fixed f.Close) refl here))
+
+  inners : (cs : Writtens) → Own IsInner (further cs)
+  inners w.none = here
+  inners (w.more c cs) = token (fixed f.Comma) refl (both (inner c) (inners cs))
+
+-- EQUATIONS
+
+names_inner : (xs : List (List ℕ)) → Own IsInner (separated f.Comma name xs)
+names_inner xs = separated_own f.Comma name refl (λ x. token (identifier x) refl here) xs
+
+-- what stands behind the first token of an equation's left side, and that token
+pub record Begun (P : Tok → Type 0) (d : List Tok → List Tok) : Type 0 where
+  pub front : Tok
+  pub fits : P front
+  pub others : List Tok → List Tok
+  pub own : Own P others
+  pub split : (rest : List Tok) → d rest ≡ front ∷ others rest
+
+left_inner : (xs : List (List ℕ)) → Begun IsInner (left_tokens xs)
+left_inner [] = record { front = fixed f.Open; fits = refl; others = λ rest. fixed f.Close ∷ rest; own = token (fixed f.Close) refl here; split = λ rest. refl }
+left_inner (x ∷ []) = record { front = identifier x; fits = refl; others = λ rest. rest; own = here; split = λ rest. refl }
+left_inner (x ∷ y ∷ zs) = record {
+  front = fixed f.Open;
+  fits = refl;
+  others = λ rest. separated f.Comma name (x ∷ y ∷ zs) (fixed f.Close ∷ rest);
+  own = both (names_inner (x ∷ y ∷ zs)) (token (fixed f.Close) refl here);
+  split = λ rest. refl;
+}
+
+pub equation_inner : (e : WrittenEquation) → Begun IsInner (equation e)
+equation_inner e =
+    let h = left_inner e.left in
+    record {
+      front = h.front;
+      fits = h.fits;
+      others = λ rest. h.others (fixed f.Equal ∷ tokens e.right rest);
+      own = both h.own (token (fixed f.Equal) refl (inner e.right));
+      split = λ rest. h.split (fixed f.Equal ∷ tokens e.right rest);
+    }
+
+equation_own : {P : Tok → Type 0} {d : List Tok → List Tok} → Begun P d → Own P d
+equation_own h = record { own = h.front ∷ h.own.own; keeps = (h.fits, h.own.keeps); split = λ rest. h.split rest ∙ ap (λ (us : List Tok). h.front ∷ us) (h.own.split rest) }
+
+pub equations_plain : (es : List WrittenEquation) → Own IsPlain (repeated (ended f.Semicolon equation) es)
+equations_plain es = ended_own f.Semicolon equation refl (λ e. more inner_plain (equation_own (equation_inner e))) es
+
+-- DECLARATIONS
+
+kind_inner : (k : Kind) → IsInner (fixed (kind_token k))
+kind_inner kinds.Int = refl
+kind_inner kinds.Bool = refl
+
+clock_inner : (c : Option Condition) → Own IsInner (clock c)
+clock_inner None = here
+clock_inner (Some c) = when_inner c
+
+declaration_plain : (d : WrittenDeclaration) → Own IsPlain (declaration d)
+declaration_plain d =
+    more inner_plain (both (names_inner d.names) (token (fixed f.Colon) refl (token (fixed (kind_token d.kind)) (kind_inner d.kind) (clock_inner d.clock))))
+
+pub declarations_plain : (ds : List WrittenDeclaration) → Own IsPlain (separated f.Semicolon declaration ds)
+declarations_plain ds = separated_own f.Semicolon declaration refl declaration_plain ds
+
+pub locals_plain : (ds : List WrittenDeclaration) → Own IsPlain (repeated (ended f.Semicolon declaration) ds)
+locals_plain ds = ended_own f.Semicolon declaration refl declaration_plain ds
