@@ -1,11 +1,7 @@
 -- Which keywords and signs stand in no expression, and which in no declaration and no equation.
 use Rattle.std.proofs.Common.{◌≡◌, ℕ, Bool, true, false, true≢false, not, ◌||◌, List, [], ◌∷◌, ◌++◌, Option, Some, None, refl, ap, sym, ◌∙◌, append_assoc}
-use Rattle.lutree.specs.declared.expr.UnaryOperator.TheVariants as u
-use Rattle.lutree.specs.declared.expr.BinaryOperator.TheVariants as b
 use Rattle.lutree.specs.declared.expr.Prefix.{Prefix}
-use Rattle.lutree.specs.declared.expr.Prefix.TheVariants as p
 use Rattle.lutree.specs.declared.expr.Infix.{Infix}
-use Rattle.lutree.specs.declared.expr.Infix.TheVariants as i
 use Rattle.lutree.specs.declared.expr.Condition.{Condition}
 use Rattle.lutree.specs.declared.program.Kind.{Kind}
 use Rattle.lutree.specs.declared.program.Kind.TheVariants as kinds
@@ -13,10 +9,12 @@ use Rattle.lusyn_tokens.specs.declared.token.Fixed.{Fixed}
 use Rattle.lusyn_tokens.specs.declared.token.Fixed.TheVariants as f
 use Rattle.lusyn_tokens.specs.Tokens.{Tok, identifier, fixed}
 use Rattle.lusyn_tokens.specs.Tokens as tok
-use Rattle.lusyn_tokens.specs.Tokens.{prefix_token, infix_token}
+use Rattle.lusyn_tokens.specs.Tokens.{prefix_token, infix_token, prefix_of}
 use Rattle.lusyn_grammar.specs.Grammar.{Written, Writtens, Each, WrittenDeclaration, WrittenEquation, repeated, led, ended, separated, name, truth_token, sign_tokens, when_tokens, tokens, further, kind_token, clock, declaration, left_tokens, equation}
 use Rattle.lusyn_grammar.specs.Grammar as w
+use Rattle.lusyn_grammar.specs.Reading.{next, nothing}
 use Rattle.lusyn_grammar.specs.Places.{is}
+use Rattle.lusyn_grammar.proofs.Tables.{same-is, next-operator_token, prefix_of-token}
 
 -- a keyword at which a part of a program begins or ends
 abbrev pub is_edge : Tok → Bool
@@ -104,29 +102,46 @@ module _ {P : Tok → Type 0} where
 
 -- EXPRESSIONS
 
+false_unless : (a : Bool) → (a ≡ true → ⊥) → a ≡ false
+false_unless true h = absurd (h refl)
+false_unless false h = refl
+
+none_of : (a b c d e s : Bool) → a ≡ false → b ≡ false → c ≡ false → d ≡ false → e ≡ false → s ≡ false → not ((a || b || c || d || e) || s) ≡ true
+none_of true b c d e s p q r u v x = absurd (true≢false p)
+none_of false true c d e s p q r u v x = absurd (true≢false q)
+none_of false false true d e s p q r u v x = absurd (true≢false r)
+none_of false false false true e s p q r u v x = absurd (true≢false u)
+none_of false false false false true s p q r u v x = absurd (true≢false v)
+none_of false false false false false true p q r u v x = absurd (true≢false x)
+none_of false false false false false false p q r u v x = refl
+
+-- a keyword or sign that is none of these
+fixed_inner : (g : Fixed) → (f.Node ≡ g → ⊥) → (f.Returns ≡ g → ⊥) → (f.Var ≡ g → ⊥) → (f.Let ≡ g → ⊥) → (f.Tel ≡ g → ⊥) → (f.Semicolon ≡ g → ⊥) → IsInner (fixed g)
+fixed_inner g a b c d e s =
+    let other : (h : Fixed) → (h ≡ g → ⊥) → is h (fixed g) ≡ false = λ h no. false_unless (is h (fixed g)) (λ same. no (same-is h g same)) in
+    none_of (is f.Node (fixed g)) (is f.Returns (fixed g)) (is f.Var (fixed g)) (is f.Let (fixed g)) (is f.Tel (fixed g)) (is f.Semicolon (fixed g))
+    (other f.Node a) (other f.Returns b) (other f.Var c) (other f.Let d) (other f.Tel e) (other f.Semicolon s)
+
+-- what is no operator isn't the token of one
+no_infix : (op : Infix) (h : Fixed) → next (fixed h ∷ []) ≡ nothing → h ≡ infix_token op → ⊥
+no_infix op h none e =
+    let there = next-operator_token op [] in
+    let same = ap (λ (g : Fixed). next (fixed g ∷ [])) e in
+    absurd cc
+
+no_prefix : (op : Prefix) (h : Fixed) → prefix_of h ≡ None → h ≡ prefix_token op → ⊥
+no_prefix op h none e =
+    let there = prefix_of-token op in
+    let same = ap prefix_of e in
+    absurd cc
+
 prefix_inner : (op : Prefix) → IsInner (fixed (prefix_token op))
-prefix_inner (p.Data u.Minus) = refl
-prefix_inner (p.Data u.Not) = refl
-prefix_inner p.Pre = refl
+prefix_inner op =
+    fixed_inner (prefix_token op) (no_prefix op f.Node refl) (no_prefix op f.Returns refl) (no_prefix op f.Var refl) (no_prefix op f.Let refl) (no_prefix op f.Tel refl) (no_prefix op f.Semicolon refl)
 
 infix_inner : (op : Infix) → IsInner (fixed (infix_token op))
-infix_inner i.Arrow = refl
-infix_inner i.FollowedBy = refl
-infix_inner (i.Data b.Implies) = refl
-infix_inner (i.Data b.Or) = refl
-infix_inner (i.Data b.Xor) = refl
-infix_inner (i.Data b.And) = refl
-infix_inner (i.Data b.Equal) = refl
-infix_inner (i.Data b.Unequal) = refl
-infix_inner (i.Data b.Less) = refl
-infix_inner (i.Data b.LessEqual) = refl
-infix_inner (i.Data b.Greater) = refl
-infix_inner (i.Data b.GreaterEqual) = refl
-infix_inner (i.Data b.Add) = refl
-infix_inner (i.Data b.Subtract) = refl
-infix_inner (i.Data b.Multiply) = refl
-infix_inner (i.Data b.Divide) = refl
-infix_inner (i.Data b.Modulo) = refl
+infix_inner op =
+    fixed_inner (infix_token op) (no_infix op f.Node refl) (no_infix op f.Returns refl) (no_infix op f.Var refl) (no_infix op f.Let refl) (no_infix op f.Tel refl) (no_infix op f.Semicolon refl)
 
 truth_inner : (v : Bool) → IsInner (fixed (truth_token v))
 truth_inner true = refl
