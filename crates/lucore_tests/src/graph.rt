@@ -1,10 +1,12 @@
-//! Orders, cycles and chains of graphs: the tests of `lugraph`.
+//! Orders, cycles, chains and what is reached: the tests of `lugraph`.
 
-use lugraph::{Order, cycles_of, ends_of, order_of};
+ghost use Rattle.std.specs.Prelude.{◌≡◌};
+
+use lugraph::{Link, Order, cycles_of, ends_of, order_of, reached};
 use std::alloc::{AllocError, Global};
 use std::test::Fail;
 
-// A graph from its lists.
+/// A graph from its lists.
 fn graph_of(alloc: Global, rows: &[&[usize]]) -> Result<Vec<Vec<usize>>, AllocError> {
     let mut graph = Vec::with_capacity(alloc, rows.len())?;
     for row in rows {
@@ -13,142 +15,91 @@ fn graph_of(alloc: Global, rows: &[&[usize]]) -> Result<Vec<Vec<usize>>, AllocEr
     Ok(graph)
 }
 
-// What is said of the order of a graph.
-#[derive(Clone, Copy)]
-enum Said {
-    // The vertices stand so.
-    Sorted(&'static [usize]),
-    // There is none, for this vertex reaches itself.
-    Cyclic(usize),
+/// A graph in which each vertex points to all before it.
+fn all_before(alloc: Global, count: usize) -> Result<Vec<Vec<usize>>, AllocError> {
+    let mut graph = Vec::with_capacity(alloc, count)?;
+    for vertex in 0..count {
+        graph.push((0..vertex).collect(alloc)?)?;
+    }
+    Ok(graph)
 }
 
-fn is_so(order: &Order, said: Said) -> bool {
-    match (order, said) {
-        (Order::Sorted(places), Said::Sorted(want)) => places.as_slice() == want,
-        (Order::Cyclic(vertex), Said::Cyclic(want)) => *vertex == want,
-        _ => false,
+/// Whether this order is found, or the first vertex that is marked.
+fn is_found(order: &Order, sorted: &[usize], marks: &[bool]) -> bool {
+    match order {
+        Order::Sorted(places) => places.as_slice() == sorted,
+        Order::Cyclic(vertex) => marks.iter().position(|mark| *mark) == Some(*vertex),
     }
 }
 
-fn has_order(alloc: Global, rows: &[&[usize]], said: Said) -> Result<bool, AllocError> {
-    let graph = graph_of(alloc, rows)?;
-    let order = order_of(alloc, &graph)?;
-    Ok(is_so(&order, said))
+/// Whether a graph has this order, if no vertex is marked, and the marked vertices alone reach themselves.
+fn is_so(
+    alloc: Global,
+    graph: &[Vec<usize>],
+    sorted: &[usize],
+    marks: &[bool],
+) -> Result<bool, AllocError> {
+    Ok(
+        is_found(&order_of(alloc, graph)?, sorted, marks)
+            && cycles_of(alloc, graph)?.as_slice() == marks,
+    )
 }
 
-fn have_orders(alloc: Global, cases: &[(&[&[usize]], Said)]) -> Result<bool, AllocError> {
-    for (rows, said) in cases {
-        if !has_order(alloc, rows, *said)? {
-            return Ok(false);
-        }
-    }
-    Ok(true)
-}
+/// A graph, its order where it has one, and which vertices reach themselves.
+type Case = (
+    &'static [&'static [usize]],
+    &'static [usize],
+    &'static [bool],
+);
 
-const ORDERS: &[(&[&[usize]], Said)] = &[
+const GRAPHS: &[Case] = &[
     (
         &[&[2, 1, 9], &[], &[1, 3, 3], &[]],
-        Said::Sorted(&[1, 3, 2, 0]),
+        &[1, 3, 2, 0],
+        &[false, false, false, false],
     ),
     // A graph of nothing has an order.
-    (&[], Said::Sorted(&[])),
-];
-
-#[test]
-fn an_order_has_each_vertex_behind_those_it_points_to(rt: HostRuntime) -> Result<(), Fail> {
-    assert!(rt; have_orders(rt.alloc(), ORDERS)?);
-    Ok(())
-}
-
-const LEAST_CYCLES: &[(&[&[usize]], Said)] = &[
-    (&[&[3], &[2], &[3, 1], &[4], &[3]], Said::Cyclic(1)),
-    (&[&[], &[0, 1]], Said::Cyclic(1)),
-];
-
-#[test]
-fn the_least_vertex_that_reaches_itself_is_found(rt: HostRuntime) -> Result<(), Fail> {
-    assert!(rt; have_orders(rt.alloc(), LEAST_CYCLES)?);
-    Ok(())
-}
-
-fn has_marks(alloc: Global, rows: &[&[usize]], want: &[bool]) -> Result<bool, AllocError> {
-    let graph = graph_of(alloc, rows)?;
-    let marks = cycles_of(alloc, &graph)?;
-    Ok(marks.as_slice() == want)
-}
-
-const MARKS: &[(&[&[usize]], &[bool])] = &[
+    (&[], &[], &[]),
+    (
+        &[&[3], &[2], &[3, 1], &[4], &[3]],
+        &[],
+        &[false, true, true, true, true],
+    ),
+    (&[&[], &[0, 1]], &[], &[false, true]),
     // 0 leads to the cycle 1, 2, 3, that to 4, and that to 5, which points to itself and to 6.
     (
         &[&[1], &[2, 9], &[3, 4], &[2, 1], &[5], &[6, 5], &[]],
+        &[],
         &[false, true, true, true, false, true, false],
     ),
     // Two cycles with an edge between them, and one vertex between two cycles.
     (
         &[&[1], &[0, 2], &[3], &[4], &[3]],
+        &[],
         &[true, true, false, true, true],
     ),
 ];
 
 #[test]
-fn exactly_those_on_a_cycle_are_marked(rt: HostRuntime) -> Result<(), Fail> {
-    for (rows, want) in MARKS {
-        assert!(rt; has_marks(rt.alloc(), rows, want)?);
+fn graphs_have_orders_or_cycles(rt: HostRuntime) -> Result<(), Fail> {
+    for (rows, sorted, marks) in GRAPHS {
+        let graph = graph_of(rt.alloc(), rows)?;
+        assert!(rt; is_so(rt.alloc(), &graph, sorted, marks)?, "{rows:?}");
     }
     Ok(())
 }
 
-// A chain from each vertex to the one behind it; the last points to no vertex.
-fn long_chain(alloc: Global, length: usize) -> Result<Vec<Option<usize>>, AllocError> {
-    let mut next = Vec::with_capacity(alloc, length)?;
-    for vertex in 0..length {
-        next.push(Some(vertex + 1))?;
+/// Whether vertices that each point to all before them stand in their own order.
+fn is_counted(alloc: Global, count: usize) -> Result<bool, AllocError> {
+    match order_of(alloc, &all_before(alloc, count)?)? {
+        Order::Sorted(places) => Ok(places.iter().copied().eq(0..count)),
+        Order::Cyclic(_) => Ok(false),
     }
-    Ok(next)
-}
-
-// The same, where the last points to a vertex.
-fn long_chain_to(
-    alloc: Global,
-    length: usize,
-    last: usize,
-) -> Result<Vec<Option<usize>>, AllocError> {
-    let mut next = long_chain(alloc, length)?;
-    next.push(Some(last))?;
-    Ok(next)
-}
-
-// Whether there are so many marks, and all are this one.
-fn are_all(marks: &[bool], length: usize, want: bool) -> bool {
-    for mark in marks {
-        if *mark != want {
-            return false;
-        }
-    }
-    marks.len() == length
-}
-
-// Whether the chains of so many vertices, all of them, end or don't.
-fn all_end(
-    alloc: Global,
-    next: &[Option<usize>],
-    length: usize,
-    want: bool,
-) -> Result<bool, AllocError> {
-    Ok(are_all(&ends_of(alloc, next)?, length, want))
 }
 
 #[test]
-fn a_chain_of_ten_thousand_ends(rt: HostRuntime) -> Result<(), Fail> {
-    let next = long_chain(rt.alloc(), 10_000)?;
-    assert!(rt; all_end(rt.alloc(), &next, 10_000, true)?);
-    Ok(())
-}
-
-#[test]
-fn no_vertex_of_a_long_loop_ends(rt: HostRuntime) -> Result<(), Fail> {
-    let next = long_chain_to(rt.alloc(), 10_000, 0)?;
-    assert!(rt; all_end(rt.alloc(), &next, 10_001, false)?);
+fn many_vertices_that_point_to_all_before_them_stand_in_order(rt: HostRuntime) -> Result<(), Fail> {
+    assert!(rt; is_counted(rt.alloc(), 256)?);
     Ok(())
 }
 
@@ -166,18 +117,37 @@ const INTO_LOOPS: &[Option<usize>] = &[
 
 const INTO_LOOPS_END: &[bool] = &[false, false, true, false, true, true, false, false];
 
-fn have_ends(alloc: Global, next: &[Option<usize>], want: &[bool]) -> Result<bool, AllocError> {
-    Ok(ends_of(alloc, next)?.as_slice() == want)
+/// Whether all chains of ten thousand vertices, of which each points to the one behind it and the last to this one, end or don't.
+fn all_end(alloc: Global, last: usize, want: bool) -> Result<bool, AllocError> {
+    let mut next = Vec::with_capacity(alloc, 10_000)?;
+    for vertex in 1..10_000 {
+        next.push(Some(vertex))?;
+    }
+    next.push(Some(last))?;
+    let ends = ends_of(alloc, &next)?;
+    Ok(ends.len() == 10_000 && ends.iter().all(|end| *end == want))
 }
 
 #[test]
-fn no_chain_into_a_loop_ends(rt: HostRuntime) -> Result<(), Fail> {
-    assert!(rt; have_ends(rt.alloc(), INTO_LOOPS, INTO_LOOPS_END)?);
+fn chains_end_or_lead_into_a_loop(rt: HostRuntime) -> Result<(), Fail> {
+    assert!(rt; ends_of(rt.alloc(), INTO_LOOPS)?.as_slice() == INTO_LOOPS_END);
+    assert!(rt; ends_of(rt.alloc(), &[])?.is_empty());
+    assert!(rt; all_end(rt.alloc(), 10_000, true)? && all_end(rt.alloc(), 0, false)?);
     Ok(())
 }
 
+fn link(from: usize, to: usize) -> Link
+    ensures { result ≡ record { from = from; to = to } }
+{
+    Link { from, to }
+}
+
 #[test]
-fn nothing_has_no_chains(rt: HostRuntime) -> Result<(), Fail> {
-    assert!(rt; have_ends(rt.alloc(), &[], &[])?);
+fn what_links_lead_to_is_marked(rt: HostRuntime) -> Result<(), Fail> {
+    let links = [link(2, 0), link(0, 3), link(1, 2), link(3, 3)];
+    let marks = reached(rt.alloc(), 5, &[2], &links)?;
+    let none = reached(rt.alloc(), 5, &[], &links)?;
+    assert!(rt; marks.as_slice() == [true, false, true, true, false].as_slice());
+    assert!(rt; none.as_slice() == [false; 5].as_slice());
     Ok(())
 }

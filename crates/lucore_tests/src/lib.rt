@@ -1,28 +1,18 @@
-//! Flat lists, ranks, graphs, calls, look-ups and rules by example: tests alone.
+//! What only code can show of graphs, of stages alone, and of flat programs: tests alone.
 //!
-//! - `lists`, `sizes`, `cycles`: the flat lists, orders of ranks and refusals of program texts (`lucore`, `lucore_inline`, `lucore_size`, `lucore_rank`).
-//! - `rank`: `lucore_rank`. `graph`, `reach`: `lugraph`. `call`: the orders of `lutype`. `scope`: `lustat_scope`. `rules`: `lustat_rules`.
+//! - `graph`: `lugraph`.
+//! - `stages`: clocks and initialisation of texts that the stage before refuses, and of programs that no text has.
+//! - `flats`: what a program that keeps all rules lends, and flat lists with their ranks and owners (`lustat`, `lucore`).
+//! - `streams`: tables that fit a program, its streams and outputs (`luflow`, `lueval`).
 //!
-//! Expected values are worked out by hand, by the rules of the layout, but for one order of ranks, which a slow program finds.
+//! Expected values are worked out by hand, by the rules of the language and of the layout.
 #![tactic(auto)]
 
 #[cfg(test)]
-mod call;
-#[cfg(test)]
-mod cycles;
+mod flats;
 #[cfg(test)]
 mod graph;
 #[cfg(test)]
-mod lists;
+mod stages;
 #[cfg(test)]
-mod rank;
-#[cfg(test)]
-mod reach;
-#[cfg(test)]
-mod rules;
-#[cfg(test)]
-mod scope;
-#[cfg(test)]
-mod shown;
-#[cfg(test)]
-mod sizes;
+mod streams;

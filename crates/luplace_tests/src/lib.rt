@@ -1,20 +1,10 @@
-//! Placement files that `luplace_file` reads, and those that it refuses, a module each; the order of the refusals; files
-//! as long as they may be; and the lines of the refusals.
+//! Placements that are read, and placements of many parts: the tests of `luplace_file` that need code. Placements that are refused
+//! are cases of `lusdist_rows`.
 //!
-//! What a file is read as, and its refusal, are worked out by hand, by the rules of the format.
+//! Expected answers are worked out by hand, by the format of a placement.
 #![tactic(auto)]
 
 #[cfg(test)]
-mod given;
-#[cfg(test)]
-mod kinds;
-#[cfg(test)]
-mod lines;
-#[cfg(test)]
 mod long;
 #[cfg(test)]
-mod order;
-#[cfg(test)]
 mod read;
-#[cfg(test)]
-mod values;

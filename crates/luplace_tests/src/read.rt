@@ -1,6 +1,5 @@
 //! Texts that are read, and as what.
 
-use lulist::Name;
 use luplace_file::{Place, PlaceError, Placed, read_place};
 use std::alloc::Global;
 use std::test::Fail;
@@ -14,41 +13,25 @@ type Read = (
     &'static [(&'static str, &'static [u8])],
 );
 
-/// Whether names are these.
-fn are_names(names: &[Name], want: &[&str]) -> bool {
-    if names.len() != want.len() {
-        return false;
-    }
-    for i in 0..names.len() {
-        if !names[i].is(want[i]) {
-            return false;
-        }
-    }
-    true
-}
-
-fn is_placed(placed: &Placed, want: (&str, &[u8])) -> bool {
+fn is_placed(placed: &Placed, want: &(&str, &[u8])) -> bool {
     placed.variable.is(want.0) && placed.sites.as_slice() == want.1
 }
 
-/// Whether variables stand at these sites.
-fn are_placed(placed: &[Placed], want: &[(&str, &[u8])]) -> bool {
-    if placed.len() != want.len() {
-        return false;
-    }
-    for i in 0..placed.len() {
-        if !is_placed(&placed[i], want[i]) {
-            return false;
-        }
-    }
-    true
-}
-
 fn is_read_so(place: &Place, want: Read) -> bool {
-    are_names(place.sites(), want.0)
+    place.sites().len() == want.0.len()
+        && place
+            .sites()
+            .iter()
+            .zip(want.0)
+            .all(|(name, text)| name.is(*text))
         && place.default_sites() == want.1
         && place.capacity() == want.2
-        && are_placed(place.entries(), want.3)
+        && place.entries().len() == want.3.len()
+        && place
+            .entries()
+            .iter()
+            .zip(want.3)
+            .all(|(placed, want)| is_placed(placed, want))
 }
 
 fn is_read(alloc: Global, text: &str, want: Read) -> Result<bool, PlaceError> {

@@ -1,362 +1,214 @@
 //! The plain programs of `lusdist_plain` at two counters that feed each other, each at a site of its own, with a step of 1 and with
-//! one so large that the second sum has no value.
+//! one so large that the second sum has no value; and what a site is handed.
 
-ghost use Rattle.std.specs.Prelude.{◌≡◌, codes, IfOk};
-ghost use Rattle.lusdist_tests.specs.Counters.{counter_flows, counter_order, counter_owners, counter_variables, counters, flow, step_of};
-
-use crate::made;
-use luflow::{Body, Datum, Flat, Flow, Form, Inputs, Msg, Role, Status, Variable};
-use lulist::Row;
-use luplace::{Job, PlaceError, Plan, read_place};
+use luflow::{Body, Datum, Msg, Status};
+use luplace::Job;
+use lusdist_commands::Stop;
+use lusdist_commands::sources::{flat_of, job_of, plan_of};
 use lusdist_plain::{Item, Mark, Marks, list_of_link, marks_of, script_of, world_after};
-use lutree::{BinaryOperator, Kind};
 use std::alloc::{AllocError, Global};
 use std::test::Fail;
 
-const TWO_SITES: &str = "sites = [\"A\", \"B\"]\ncapacity = 1\n[place]\na = \"A\"\nb = \"B\"\n";
-
-fn flow(form: Form) -> Flow
-    ensures { result ≡ flow form }
-{
-    made::flow(form, Kind::Int)
+/// The job of these texts.
+pub(crate) fn job(alloc: Global, program: &str, place: &str, table: &str) -> Result<Job, Stop> {
+    let flat = flat_of(alloc, program.as_bytes(), "main")?;
+    let plan = plan_of(alloc, flat, place.as_bytes())?;
+    job_of(alloc, plan, table.as_bytes())
 }
 
-fn constant(n: i64) -> Flow
-    ensures { result ≡ flow (Form.Constant (Datum.Int n)) }
-{
-    flow(Form::Constant(Datum::Int(n)))
+/// A flow, and its first marks.
+type FlowMarks = (usize, &'static [Mark]);
+
+/// A site, the length of its script, and an item of it, with its place.
+type ScriptItem = (u8, usize, usize, Item);
+
+/// What the plain programs say of a program of two variables at two sites, `a` at the first and `b` at the second, over three
+/// instants: the first marks of flows, the lists of the links and of what is no link, items, and how much the sites have done
+/// after some turns, so many times.
+struct Counted {
+    program: &'static str,
+    marks: &'static [FlowMarks],
+    lists: &'static [&'static [Body]],
+    items: &'static [ScriptItem],
+    worlds: &'static [(&'static [u8], usize, &'static [usize])],
 }
 
-fn sum(a: usize, b: usize) -> Flow
-    ensures { result ≡ flow (Form.Binary BinaryOperator.Add a b) }
-{
-    flow(Form::Binary(BinaryOperator::Add, a, b))
+const ZERO: Mark = Mark::Known(Status::Present(Datum::Int(0)));
+
+const ONE: Mark = Mark::Known(Status::Present(Datum::Int(1)));
+
+const TWO: Mark = Mark::Known(Status::Present(Datum::Int(2)));
+
+const GREATEST: Mark = Mark::Known(Status::Present(Datum::Int(9_223_372_036_854_775_807)));
+
+const NIL: Mark = Mark::Known(Status::Present(Datum::Nil));
+
+const ABSENT: Mark = Mark::Known(Status::Absent);
+
+const COUNTS: &[Body] = &[
+    Body::Value(Datum::Int(0)),
+    Body::Value(Datum::Int(1)),
+    Body::Value(Datum::Int(2)),
+    Body::Close,
+];
+
+/// No close follows a fault.
+const CUT: &[Body] = &[
+    Body::Value(Datum::Int(0)),
+    Body::Value(Datum::Int(9_223_372_036_854_775_807)),
+];
+
+const COUNTED: &[Counted] = &[
+    Counted {
+        program: "node main() returns (a: int; b: int); let a = 0 -> pre b + 1; b = 0 -> pre a + 1; tel",
+        marks: &[
+            (0, &[ZERO, ONE, TWO, ABSENT]),
+            (1, &[ZERO, ONE, TWO, ABSENT]),
+            (3, &[NIL, ZERO, ONE, ABSENT]),
+        ],
+        lists: &[COUNTS, COUNTS, &[]],
+        // In the first script a put stands behind its sum, and at the head of the second a take.
+        items: &[
+            (
+                0,
+                23,
+                4,
+                Item::Compute {
+                    flow: 0,
+                    instant: 0,
+                },
+            ),
+            (0, 23, 5, Item::Put { link: 0 }),
+            (1, 23, 0, Item::Take { link: 0 }),
+        ],
+        // One site alone, or what is no site, waits at its first wait.
+        worlds: &[
+            (&[], 0, &[0, 0]),
+            (&[0], 9, &[6, 0]),
+            (&[1], 9, &[0, 0]),
+            (&[2], 9, &[0, 0]),
+            (&[0, 1], 60, &[23, 23]),
+        ],
+    },
+    Counted {
+        program: "node main() returns (a: int; b: int); let a = 0 -> pre b + 9223372036854775807; b = 0 -> pre a + 9223372036854775807; tel",
+        marks: &[
+            (0, &[ZERO, GREATEST, Mark::Broken, ABSENT]),
+            (1, &[ZERO, GREATEST, Mark::Broken, ABSENT]),
+        ],
+        lists: &[CUT],
+        // The scripts end at the fault, and at the take of what never comes.
+        items: &[
+            (
+                0,
+                18,
+                17,
+                Item::Compute {
+                    flow: 5,
+                    instant: 2,
+                },
+            ),
+            (1, 15, 14, Item::Take { link: 0 }),
+        ],
+        worlds: &[(&[0, 1], 60, &[18, 14])],
+    },
+];
+
+fn have_marks(rows: &[Marks], wanted: &[FlowMarks]) -> bool {
+    wanted.iter().all(|(flow, marks)| {
+        rows.get(*flow).is_some_and(|row| row.as_slice() == *marks)
+    })
 }
 
-/// The step of the counters.
-fn step_of(large: bool) -> i64
-    ensures { result ≡ step_of large }
-{
-    if large { i64::MAX } else { 1 }
+fn has_item(alloc: Global, job: &Job, wanted: &ScriptItem) -> Result<bool, AllocError> {
+    let (site, length, place, item) = *wanted;
+    let script = script_of(alloc, job, site)?;
+    Ok(script.len() == length && script.get(place).copied() == Some(item))
 }
 
-fn flows(alloc: Global, large: bool) -> Result<Row<Flow>, AllocError>
-    ensures { IfOk result (λ row. row ≡ counter_flows large) }
-{
-    let flows = vec![in alloc;
-        flow(Form::Arrow(2, 5)),
-        flow(Form::Arrow(6, 9)),
-        constant(0),
-        flow(Form::Pre(1)),
-        constant(step_of(large)),
-        sum(3, 4),
-        constant(0),
-        flow(Form::Pre(0)),
-        constant(step_of(large)),
-        sum(7, 8),
-    ]?;
-    Ok(Row::new(flows))
+/// Whether a list has these bodies, numbered from 0.
+fn is_list(list: &[Msg], bodies: &[Body]) -> bool {
+    list.len() == bodies.len()
+        && list
+            .iter()
+            .zip(bodies)
+            .zip(0..)
+            .all(|((msg, body), no)| msg.no == no && msg.body == *body)
 }
 
-fn order(alloc: Global) -> Result<Row<usize>, AllocError>
-    ensures { IfOk result (λ row. row ≡ counter_order) }
-{
-    let order = vec![in alloc; 2, 3, 4, 5, 0, 6, 7, 8, 9, 1]?;
-    Ok(Row::new(order))
-}
-
-fn owners(alloc: Global) -> Result<Row<usize>, AllocError>
-    ensures { IfOk result (λ row. row ≡ counter_owners) }
-{
-    let owners = vec![in alloc; 0, 1, 0, 0, 0, 0, 1, 1, 1, 1]?;
-    Ok(Row::new(owners))
-}
-
-fn variables(alloc: Global) -> Result<Row<Variable>, AllocError>
-    ensures { IfOk result (λ row. row ≡ counter_variables (codes "a") (codes "b")) }
-{
-    let a = made::variable(alloc, "a", Role::Output, Kind::Int)?;
-    let b = made::variable(alloc, "b", Role::Output, Kind::Int)?;
-    let variables = vec![in alloc; a, b]?;
-    Ok(Row::new(variables))
-}
-
-/// The program `node main() returns (a: int; b: int); let a = 0 -> pre b + step; b = 0 -> pre a + step; tel`.
-fn two_counters(alloc: Global, large: bool) -> Result<Flat, AllocError>
-    ensures { IfOk result (λ flat. flat ≡ counters large (codes "a") (codes "b")) }
-{
-    let flows = flows(alloc, large)?;
-    let order = order(alloc)?;
-    let owners = owners(alloc)?;
-    let variables = variables(alloc)?;
-    Ok(Flat::new(flows, order, owners, variables))
-}
-
-fn plan_of_counters(alloc: Global, large: bool) -> Result<Plan, PlaceError>
-    ensures { IfOk result (λ plan. plan.flat ≡ counters large (codes "a") (codes "b")) }
-{
-    let place = read_place(alloc, TWO_SITES)?;
-    Plan::make(alloc, two_counters(alloc, large)?, &place)
-}
-
-/// The counters at two sites, over three instants.
-fn job_of_counters(alloc: Global, large: bool) -> Result<Job, Fail> {
-    let plan = plan_of_counters(alloc, large)?;
-    let found = Inputs::new(3, Vec::new(alloc));
-    match found {
-        Some(inputs) => Ok(Job::new(plan, inputs)),
-        None => Err("no table")?,
-    }
-}
-
-fn known(n: i64) -> Mark {
-    Mark::Known(Status::Present(Datum::Int(n)))
-}
-
-fn known_nil() -> Mark {
-    Mark::Known(Status::Present(Datum::Nil))
-}
-
-fn compute(flow: usize) -> Item {
-    Item::Compute { flow, instant: 0 }
-}
-
-fn marks_are(rows: &[Marks], flow: usize, want: &[Mark]) -> bool {
-    match rows.get(flow) {
-        Some(row) => row.as_slice() == want,
-        None => false,
-    }
-}
-
-fn are_counts(rows: &[Marks]) -> bool {
-    let absent = Mark::Known(Status::Absent);
-    rows.len() == 10
-        && marks_are(rows, 0, &[known(0), known(1), known(2), absent])
-        && marks_are(rows, 1, &[known(0), known(1), known(2), absent])
-        && marks_are(rows, 3, &[known_nil(), known(0), known(1), absent])
-}
-
-/// Whether the marks of the first four instants are those of two counters.
-fn counts(alloc: Global, job: &Job) -> Result<bool, Fail> {
-    let rows = marks_of(alloc, job.plan().flat(), job.inputs(), 4)?;
-    Ok(are_counts(&rows))
-}
-
-fn value_no(no: u32, n: i64) -> Msg {
-    Msg {
-        no,
-        body: Body::Value(Datum::Int(n)),
-    }
-}
-
-fn close_no(no: u32) -> Msg {
-    Msg {
-        no,
-        body: Body::Close,
-    }
-}
-
-fn carries(alloc: Global, job: &Job, link: usize, want: &[Msg]) -> Result<bool, Fail> {
-    Ok(list_of_link(alloc, job, link)?.as_slice() == want)
-}
-
-/// Whether a link carries the counts of three instants, and the close.
-fn carries_counts(alloc: Global, job: &Job, link: usize) -> Result<bool, Fail> {
-    let want = [value_no(0, 0), value_no(1, 1), value_no(2, 2), close_no(3)];
-    carries(alloc, job, link, &want)
-}
-
-/// Whether both links carry the counts, and what is no link carries nothing.
-fn both_carry_counts(alloc: Global, job: &Job) -> Result<bool, Fail> {
-    Ok(
-        carries_counts(alloc, job, 0)?
-            && carries_counts(alloc, job, 1)?
-            && carries(alloc, job, 2, &[])?,
-    )
-}
-
-fn are_broken(rows: &[Marks]) -> bool {
-    let want = [known(0), known(i64::MAX), Mark::Broken];
-    marks_are(rows, 0, &want) && marks_are(rows, 1, &want)
-}
-
-/// Whether both counters break at the third instant.
-fn both_break(alloc: Global, job: &Job) -> Result<bool, Fail> {
-    let rows = marks_of(alloc, job.plan().flat(), job.inputs(), 3)?;
-    Ok(are_broken(&rows))
-}
-
-/// Whether the first link carries the values before the fault, and nothing more.
-fn carries_no_close(alloc: Global, job: &Job) -> Result<bool, Fail> {
-    carries(alloc, job, 0, &[value_no(0, 0), value_no(1, i64::MAX)])
-}
-
-/// Whether a site's script has so many items, and this one among them at a place.
-fn has_items(
+/// Whether the sites have done so much after these turns, so many times.
+fn is_reached(
     alloc: Global,
     job: &Job,
-    site: u8,
-    count: usize,
-    place: usize,
-    want: Item,
-) -> Result<bool, Fail> {
-    let script = script_of(alloc, job, site)?;
-    Ok(script.len() == count && script.as_slice().get(place).copied() == Some(want))
-}
-
-/// Whether each script has 23 items, in the first a put behind its sum, and in the second a take at its head.
-fn has_whole_scripts(alloc: Global, job: &Job) -> Result<bool, Fail> {
-    Ok(
-        has_items(alloc, job, 0, 23, 4, compute(0))?
-            && has_items(alloc, job, 0, 23, 5, Item::Put { link: 0 })?
-            && has_items(alloc, job, 1, 23, 0, Item::Take { link: 0 })?,
-    )
-}
-
-fn has_no_script(alloc: Global, job: &Job, site: u8) -> Result<bool, Fail> {
-    Ok(script_of(alloc, job, site)?.is_empty())
-}
-
-/// Whether the scripts end at the fault, and at the take of what never comes.
-fn has_cut_scripts(alloc: Global, job: &Job) -> Result<bool, Fail> {
-    let broken = Item::Compute {
-        flow: 5,
-        instant: 2,
-    };
-    Ok(
-        has_items(alloc, job, 0, 18, 17, broken)?
-            && has_items(alloc, job, 1, 15, 14, Item::Take { link: 0 })?,
-    )
-}
-
-fn ends_at(alloc: Global, job: &Job, turns: &[u8], want: &[usize]) -> Result<bool, Fail> {
-    Ok(world_after(alloc, job, turns)?.as_slice() == want)
-}
-
-/// Whether turns of one site alone, or of what is no site, end at its first wait.
-fn waits_alone(alloc: Global, job: &Job) -> Result<bool, Fail> {
-    Ok(
-        ends_at(alloc, job, &[], &[0, 0])?
-            && ends_at(alloc, job, &[0; 9], &[6, 0])?
-            && ends_at(alloc, job, &[1; 9], &[0, 0])?
-            && ends_at(alloc, job, &[2; 9], &[0, 0])?,
-    )
-}
-
-/// So many turns of both sites, one after the other.
-fn both_sites(alloc: Global, count: usize) -> Result<Vec<u8>, AllocError> {
-    let mut turns = Vec::new(alloc);
-    for _ in 0..count {
-        turns.push(0)?;
-        turns.push(1)?;
+    turns: &[u8],
+    times: usize,
+    dones: &[usize],
+) -> Result<bool, AllocError> {
+    let mut all = Vec::new(alloc);
+    for _ in 0..times {
+        all.extend_from_slice(turns)?;
     }
-    Ok(turns)
+    Ok(world_after(alloc, job, &all)?.as_slice() == dones)
 }
 
-/// Whether sixty turns of both sites end here.
-fn end_together(alloc: Global, job: &Job, want: &[usize]) -> Result<bool, Fail> {
-    let turns = both_sites(alloc, 60)?;
-    ends_at(alloc, job, &turns, want)
-}
-
-/// What each test says of the counters.
-#[derive(Clone, Copy)]
-enum Fact {
-    Counts,
-    Breaks,
-    LinksCarryCounts,
-    LinkCarriesNoClose,
-    ScriptsAreWhole,
-    ScriptsAreCut,
-    NoSiteHasNoScript,
-    SiteAloneWaits,
-    SitesEnd,
-    SitesEndAtFault,
-}
-
-fn is_true(alloc: Global, job: &Job, fact: Fact) -> Result<bool, Fail> {
-    match fact {
-        Fact::Counts => counts(alloc, job),
-        Fact::Breaks => both_break(alloc, job),
-        Fact::LinksCarryCounts => both_carry_counts(alloc, job),
-        Fact::LinkCarriesNoClose => carries_no_close(alloc, job),
-        Fact::ScriptsAreWhole => has_whole_scripts(alloc, job),
-        Fact::ScriptsAreCut => has_cut_scripts(alloc, job),
-        Fact::NoSiteHasNoScript => has_no_script(alloc, job, 2),
-        Fact::SiteAloneWaits => waits_alone(alloc, job),
-        Fact::SitesEnd => end_together(alloc, job, &[23, 23]),
-        Fact::SitesEndAtFault => end_together(alloc, job, &[18, 14]),
+/// Whether the plain programs say so.
+fn is_counted(alloc: Global, job: &Job, counted: &Counted) -> Result<bool, AllocError> {
+    let rows = marks_of(alloc, job.plan().flat(), job.inputs(), 4)?;
+    let mut good = have_marks(&rows, counted.marks) && script_of(alloc, job, 2)?.is_empty();
+    for (link, list) in counted.lists.iter().enumerate() {
+        good &= is_list(&list_of_link(alloc, job, link)?, *list);
     }
+    for item in counted.items {
+        good &= has_item(alloc, job, item)?;
+    }
+    for (turns, times, dones) in counted.worlds {
+        good &= is_reached(alloc, job, turns, *times, dones)?;
+    }
+    Ok(good)
 }
 
-/// Whether it is true of the counters with a step of 1.
-fn holds(alloc: Global, fact: Fact) -> Result<bool, Fail> {
-    let job = job_of_counters(alloc, false)?;
-    is_true(alloc, &job, fact)
-}
-
-/// Whether it is true of the counters with the largest step.
-fn holds_at_a_fault(alloc: Global, fact: Fact) -> Result<bool, Fail> {
-    let job = job_of_counters(alloc, true)?;
-    is_true(alloc, &job, fact)
-}
+const TWO_SITES: &str = "sites = [\"A\", \"B\"]\ncapacity = 1\n[place]\na = \"A\"\nb = \"B\"\n";
 
 #[test]
-fn counters_count(rt: HostRuntime) -> Result<(), Fail> {
-    assert!(rt; holds(rt.alloc(), Fact::Counts)?);
+fn counters_count_until_a_fault(rt: HostRuntime) -> Result<(), Fail> {
+    for counted in COUNTED {
+        let job = job(rt.alloc(), counted.program, TWO_SITES, "\n\n\n\n")?;
+        assert!(rt;
+            is_counted(rt.alloc(), &job, counted)?,
+            "{}",
+            counted.program
+        );
+    }
     Ok(())
 }
 
-#[test]
-fn links_carry_the_counts_and_the_close(rt: HostRuntime) -> Result<(), Fail> {
-    assert!(rt; holds(rt.alloc(), Fact::LinksCarryCounts)?);
-    Ok(())
+/// Whether the first of two sites has the column of the input over both instants, and the second needs the input and has no column.
+fn is_handed(alloc: Global, job: &Job) -> Result<bool, AllocError> {
+    if job.plan().sites().len() != 2 {
+        return Ok(false);
+    }
+    let own = job.inputs_at(alloc, 0)?;
+    let other = job.inputs_at(alloc, 1)?;
+    let data = [
+        own.given(0, 0),
+        own.given(0, 1),
+        own.given(0, 2),
+        other.given(0, 0),
+    ];
+    Ok(
+        data == [Some(Datum::Int(5)), Some(Datum::Int(7)), None, None]
+            && (own.site(), other.site()) == (0, 1)
+            && (own.instants(), other.instants()) == (2, 2)
+            && job.plan().needs(0).is_empty()
+            && job.plan().needs(1) == [0].as_slice(),
+    )
 }
 
 #[test]
-fn a_sum_that_does_not_fit_breaks_both(rt: HostRuntime) -> Result<(), Fail> {
-    assert!(rt; holds_at_a_fault(rt.alloc(), Fact::Breaks)?);
-    Ok(())
-}
-
-#[test]
-fn no_close_follows_a_fault(rt: HostRuntime) -> Result<(), Fail> {
-    assert!(rt; holds_at_a_fault(rt.alloc(), Fact::LinkCarriesNoClose)?);
-    Ok(())
-}
-
-#[test]
-fn scripts_have_forty_six_items(rt: HostRuntime) -> Result<(), Fail> {
-    assert!(rt; holds(rt.alloc(), Fact::ScriptsAreWhole)?);
-    Ok(())
-}
-
-#[test]
-fn no_site_has_no_script(rt: HostRuntime) -> Result<(), Fail> {
-    assert!(rt; holds(rt.alloc(), Fact::NoSiteHasNoScript)?);
-    Ok(())
-}
-
-#[test]
-fn a_fault_cuts_both_scripts(rt: HostRuntime) -> Result<(), Fail> {
-    assert!(rt; holds_at_a_fault(rt.alloc(), Fact::ScriptsAreCut)?);
-    Ok(())
-}
-
-#[test]
-fn a_site_alone_is_blocked(rt: HostRuntime) -> Result<(), Fail> {
-    assert!(rt; holds(rt.alloc(), Fact::SiteAloneWaits)?);
-    Ok(())
-}
-
-#[test]
-fn both_sites_together_end(rt: HostRuntime) -> Result<(), Fail> {
-    assert!(rt; holds(rt.alloc(), Fact::SitesEnd)?);
-    Ok(())
-}
-
-#[test]
-fn both_sites_together_end_at_a_fault(rt: HostRuntime) -> Result<(), Fail> {
-    assert!(rt; holds_at_a_fault(rt.alloc(), Fact::SitesEndAtFault)?);
+fn a_site_has_the_columns_of_its_own_inputs_alone(rt: HostRuntime) -> Result<(), Fail> {
+    let program = "node main(x: int) returns (y: int); let y = x; tel";
+    let place = "sites = [\"A\", \"B\"]\n[place]\nx = \"A\"\ny = \"B\"\n";
+    let job = job(rt.alloc(), program, place, "x\n5\n7\n")?;
+    assert!(rt; is_handed(rt.alloc(), &job)?);
     Ok(())
 }

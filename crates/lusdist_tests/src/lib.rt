@@ -1,9 +1,11 @@
-//! What a call and a run at several sites stand on, over texts and by hand: the tests of `lulist`, `luplace`,
-//! `lusdist_plain`, `lutab`, `lusdist_shell` and `lusdist_commands`, as far as they need code; whole commands over files are
-//! cases of `lusdist_rows`.
+//! What only code can show of whole calls and of runs at several sites: the tests of `lusdist_shell`, `lusdist_commands`,
+//! `lusdist_plain` and `luplace`, as far as they need code; whole commands over files are cases of `lusdist_rows`.
 //!
-//! Expected plans, counts, messages, tables and answers are worked out by hand, by the rules of the language and of the
-//! texts.
+//! - `calls`: output that can't be written, files without memory, words that can't be read, and the lines of refused memory.
+//! - `counters`: the plain programs of `lusdist_plain`, and what a site is handed, by hand.
+//! - `schedules`: all schedules of eight turns over three sites, against the plain programs.
+//!
+//! Expected counts, messages and answers are worked out by hand, by the rules of the language and of the texts.
 #![tactic(auto)]
 
 #[cfg(test)]
@@ -11,16 +13,4 @@ mod calls;
 #[cfg(test)]
 mod counters;
 #[cfg(test)]
-mod lists;
-#[cfg(test)]
-mod made;
-#[cfg(test)]
-mod plans;
-#[cfg(test)]
 mod schedules;
-#[cfg(test)]
-mod shell;
-#[cfg(test)]
-mod sources;
-#[cfg(test)]
-mod tables;

@@ -3,10 +3,10 @@
 ghost use Rattle.std.specs.Prelude.{◌≡◌};
 ghost use Rattle.lusdist_plain.specs.Scripts.{AreScripts};
 
+use crate::counters::job;
 use luflow::{Msg, Status};
 use lulist::Row;
 use luplace::Job;
-use lusdist_commands::sources::{flat_of, job_of, plan_of};
 use lusdist_commands::{Stop, replayed};
 use lusdist_plain::{Item, Mark, Marks, list_of_link, marks_of, scripts_of, world_by};
 use luweave::World;
@@ -14,18 +14,11 @@ use std::alloc::{AllocError, Global};
 use std::test::Fail;
 
 /// Three counters in a ring.
-const RING: &[u8] =
-    b"node main() returns (a: int; b: int; c: int); let a = 0 -> pre c + 1; b = 0 -> pre a + 1; c = 0 -> pre b + 1; tel";
+const RING: &str =
+    "node main() returns (a: int; b: int; c: int); let a = 0 -> pre c + 1; b = 0 -> pre a + 1; c = 0 -> pre b + 1; tel";
 
-const THREE_SITES: &[u8] =
-    b"sites = [\"A\", \"B\", \"C\"]\ncapacity = 1\n[place]\na = \"A\"\nb = \"B\"\nc = \"C\"\n";
-
-/// The ring over two instants.
-fn ring(alloc: Global) -> Result<Job, Stop> {
-    let flat = flat_of(alloc, RING, "main")?;
-    let plan = plan_of(alloc, flat, THREE_SITES)?;
-    job_of(alloc, plan, b"\n\n\n")
-}
+const THREE_SITES: &str =
+    "sites = [\"A\", \"B\", \"C\"]\ncapacity = 1\n[place]\na = \"A\"\nb = \"B\"\nc = \"C\"\n";
 
 /// These turns, and eight more: the digits of the number to the base 3.
 fn schedule(alloc: Global, first: &[u8], number: u32) -> Result<Vec<u8>, AllocError> {
@@ -165,22 +158,19 @@ fn all_agree_after(
     Ok(true)
 }
 
-fn all_agree(alloc: Global, first: &[u8]) -> Result<bool, Stop> {
-    let job = ring(alloc)?;
-    let plain = plain_of(alloc, &job)?;
-    let scripts = scripts_of(alloc, &job)?;
-    all_agree_after(alloc, &job, &plain, &scripts, first)
-}
+/// Turns to begin with: none, or those of the first messages.
+const FIRST: &[&[u8]] = &[&[], &[0, 0, 0, 0, 0, 1, 1, 1, 1, 1, 2, 2, 2, 2, 2]];
 
 #[test]
 fn every_schedule_of_eight_turns(rt: HostRuntime) -> Result<(), Fail> {
-    assert!(rt; all_agree(rt.alloc(), &[])?);
-    Ok(())
-}
-
-#[test]
-fn every_schedule_of_eight_turns_from_the_first_messages_on(rt: HostRuntime) -> Result<(), Fail> {
-    let first = [0, 0, 0, 0, 0, 1, 1, 1, 1, 1, 2, 2, 2, 2, 2];
-    assert!(rt; all_agree(rt.alloc(), &first)?);
+    let job = job(rt.alloc(), RING, THREE_SITES, "\n\n\n")?;
+    let plain = plain_of(rt.alloc(), &job)?;
+    let scripts = scripts_of(rt.alloc(), &job)?;
+    for first in FIRST {
+        assert!(rt;
+            all_agree_after(rt.alloc(), &job, &plain, &scripts, first)?,
+            "{first:?}"
+        );
+    }
     Ok(())
 }

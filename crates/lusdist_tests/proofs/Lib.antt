@@ -1,4 +1,0 @@
-pub mod CopyOfInputFlat
-pub mod TwoInputsFlat
-pub mod Bare
-pub mod CountersFlat

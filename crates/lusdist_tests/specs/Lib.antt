@@ -1,4 +1,0 @@
-pub mod CopyOfInput
-pub mod TwoInputs
-pub mod Counters
-pub mod Files
