@@ -15,8 +15,11 @@ pub(crate) const HEAD: usize = 16;
 /// The bit by which a word says that its end has left.
 pub(crate) const TOP: u64 = 1 << 63;
 
-/// How often a call spins before it lets other threads run.
-const SPINS: u32 = 64;
+/// How often a call looks again before it lets other threads run.
+const LOOKS: u32 = 6;
+
+/// How long a call spins between two looks: so long that some messages pass meanwhile, which then cost one look together.
+const SPINS: u32 = 24;
 
 /// Whether the end whose word this is has left.
 pub(crate) fn says_gone(word: u64) -> bool
@@ -44,8 +47,10 @@ pub(crate) fn next_slot(slot: usize, room: usize) -> usize
 
 /// Spins at first, and then lets other threads run. The answer is for the next try.
 pub(crate) fn pause(tries: u32) -> u32 {
-    if tries < SPINS {
-        hint::spin_loop();
+    if tries < LOOKS {
+        for _ in 0..SPINS {
+            hint::spin_loop();
+        }
         tries + 1
     } else {
         thread::yield_now();

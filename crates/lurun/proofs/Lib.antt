@@ -1,4 +1,5 @@
 pub mod Told
+pub mod Columns
 pub mod Acts
 pub mod Moves
 pub mod Endings

@@ -1,5 +1,5 @@
 -- What the reports of a run's sites tell together.
-use Rattle.std.specs.Prelude.{◌≡◌, ◌⊎◌, ℕ, ◌<◌, ◌≤◌, Bool, true, false, ◌&&◌, nat_eq, nat_lt, List, [], length, map, filter, All, Option, Some, None, slice_get, Result, MatchResult}
+use Rattle.std.specs.Prelude.{◌≡◌, ◌≢◌, ◌⊎◌, ℕ, ◌<◌, ◌≤◌, Bool, true, false, ◌&&◌, nat_eq, nat_lt, List, [], ◌∷◌, length, map, filter, All, Option, Some, None, slice_get, Result, MatchResult}
 use Rattle.std.specs.List.{range_with_len, list_all}
 use Rattle.luflow.specs.declared.data.Status.{Status}
 use Rattle.luflow.specs.declared.variable.Variable.{Variable}
@@ -89,6 +89,17 @@ pub data IsToldBySome (reports : List SiteAt) (k : ℕ) (xs : List Status) : Typ
 pub record AreColumns (reports : List SiteAt) (names : List (List ℕ)) (columns : List OutputColumn) : Type 0 where
   pub len : length columns ≡ length names
   pub each : (k : ℕ) (x : OutputColumn) → slice_get columns k ≡ Some x → (slice_get names k ≡ Some x.name) × IsToldBySome reports k x.statuses
+
+-- what one site more tells of an output, or what was told before where it tells nothing
+abbrev pub later : List Status → List Status → List Status
+later told [] = told
+later told (x ∷ xs) = x ∷ xs
+
+-- column k has these statuses now, or those that it had where these are none; the others are as they were
+pub record IsFilled (columns : List OutputColumn) (k : ℕ) (xs : List Status) (columns' : List OutputColumn) : Type 0 where
+  pub len : length columns' ≡ length columns
+  pub here : (c : OutputColumn) → slice_get columns k ≡ Some c → slice_get columns' k ≡ Some (record { name = c.name; statuses = later c.statuses xs })
+  pub others : (j : ℕ) → j ≢ k → slice_get columns' j ≡ slice_get columns j
 
 -- The whole outputs of a run: those of the main node by name, in order of declaration, each with all its statuses in the one
 -- solution of the run's program on its inputs; and in each solution of its source. No flow breaks.

@@ -1,12 +1,12 @@
 //! What the reports of a run's sites tell together.
 
-ghost use Rattle.std.specs.Prelude.{◌≡◌, ◌++◌, ◌∷◌, [], true, false, All, IfOk, List, Some, length, filter, slice_get};
+ghost use Rattle.std.specs.Prelude.{◌≡◌, ℕ, ◌++◌, ◌∷◌, [], true, false, All, IfOk, OnOk, List, Some, length, filter, slice_get};
 ghost use Rattle.std.specs.List.{list_all, range_with_len};
 ghost use Rattle.luflow.specs.Tables.{output_view, outputs_view};
 ghost use Rattle.luworld.specs.Needs.{sites_of};
 ghost use Rattle.luworld.specs.Runs.{Run};
 ghost use Rattle.lusite.specs.Sites.{SiteAt};
-ghost use Rattle.lurun.specs.Reports.{AreToldOf, is_of, is_one, are_complete, HasEnded, IsLeast, SomeNotEnded, IsToldBySome, AreColumns, IsCollected};
+ghost use Rattle.lurun.specs.Reports.{AreToldOf, is_of, is_one, are_complete, HasEnded, IsLeast, SomeNotEnded, AreColumns, IsFilled, IsCollected};
 
 use crate::error::RunError;
 use luflow::{Outputs, Status};
@@ -108,60 +108,89 @@ fn have_ended(reports: &[SiteReport]) -> bool
     true
 }
 
-/// What the sites tell of output k.
-fn output_of(reports: &[SiteReport], k: usize) -> &[Status]
-    ensures { IsToldBySome reports.now k result.now }
-{
-    for i in 0..reports.len() {
-        let statuses = reports[i].outputs(k);
-        if !statuses.is_empty() {
-            return statuses;
-        }
-    }
-    &[]
-}
-
-fn column_of(
-    alloc: Global,
-    name: &Name,
-    statuses: &[Status],
-) -> Result<(String, Vec<Status>), AllocError>
-    ensures { IfOk result (λ column. output_view column ≡ record { name = name.now; statuses = statuses.now }) }
+/// A column of this name, with no statuses yet.
+fn blank_column(alloc: Global, name: &Name) -> Result<(String, Vec<Status>), AllocError>
+    ensures { IfOk result (λ column. output_view column
+        ≡ record { name = name.now; statuses = [] }) }
 {
     let name = String::from_str(alloc, name.as_str())?;
-    let statuses = Vec::from_slice(alloc, statuses)?;
-    Ok((name, statuses))
+    Ok((name, Vec::new(alloc)))
 }
 
-/// A column for each name, of what the sites tell of the output of its number.
-fn columns_of(
-    alloc: Global,
-    reports: &[SiteReport],
-    names: &[Name],
-) -> Result<Vec<(String, Vec<Status>)>, AllocError>
-    ensures { IfOk result (λ columns. AreColumns reports.now names.now (outputs_view columns.items)) }
+/// A column for each name: what no sites tell.
+fn blank_columns(alloc: Global, names: &[Name]) -> Result<Vec<(String, Vec<Status>)>, AllocError>
+    ensures { IfOk result (λ columns. AreColumns [] names.now (outputs_view columns.items)) }
 {
     let mut columns = Vec::with_capacity(alloc, names.len())?;
     for k in 0..names.len() {
-        let column = column_of(alloc, &names[k], output_of(reports, k))?;
+        let column = blank_column(alloc, &names[k])?;
         columns.push_reserved(column);
     }
     Ok(columns)
 }
 
-/// The whole outputs of a job, from one report of each of its sites, all ended. `WrongReports` where there is no output.
-fn outputs_of(
-    alloc: Global,
-    reports: &[SiteReport],
-    first: &SiteReport,
-) -> Result<Outputs, RunError>
-    requires first { slice_get reports.now 0 ≡ Some first.now }
-    requires complete { are_complete (sites_of first.now.job.plan) reports.now ≡ true }
-    requires ended { All HasEnded reports.now }
-    ensures { (job : Run) → AreToldOf job reports.now → IsCollected job reports.now result }
+/// Moves statuses into column k. Where there are none, the column stays.
+fn fill(columns: &mut Vec<(String, Vec<Status>)>, k: usize, statuses: Vec<Status>)
+    ensures { IsFilled (outputs_view columns.old.items) k statuses.items
+        (outputs_view columns.new.items) }
 {
+    if statuses.is_empty() {
+        return;
+    }
+    if k < columns.len() {
+        columns[k].1 = statuses;
+    }
+}
+
+/// Moves what one site more tells into the columns.
+fn add_site(
+    alloc: Global,
+    columns: &mut Vec<(String, Vec<Status>)>,
+    report: SiteReport,
+) -> Result<(), AllocError>
+    ensures { OnOk result ((reports : List SiteAt) (names : List (List ℕ))
+        → AreColumns reports names (outputs_view columns.old.items)
+        → AreColumns (reports ++ report ∷ []) names (outputs_view columns.new.items)) }
+{
+    let mut rows = report.into_outputs(alloc)?.into_iter();
+    for k in 0..columns.len() {
+        let Some(statuses) = rows.next() else {
+            return Ok(());
+        };
+        fill(columns, k, statuses);
+    }
+    Ok(())
+}
+
+/// Moves what the sites tell into the columns.
+fn add_sites(
+    alloc: Global,
+    columns: &mut Vec<(String, Vec<Status>)>,
+    reports: Vec<SiteReport>,
+) -> Result<(), AllocError>
+    ensures { OnOk result ((names : List (List ℕ))
+        → AreColumns [] names (outputs_view columns.old.items)
+        → AreColumns reports.items names (outputs_view columns.new.items)) }
+{
+    for report in reports {
+        add_site(alloc, columns, report)?;
+    }
+    Ok(())
+}
+
+/// The whole outputs of a job, from one report of each of its sites, all ended. `WrongReports` where there is no output.
+fn outputs_of(alloc: Global, reports: Vec<SiteReport>) -> Result<Outputs, RunError>
+    requires complete { (first : SiteAt) → slice_get reports.items 0 ≡ Some first
+        → are_complete (sites_of first.job.plan) reports.items ≡ true }
+    requires ended { All HasEnded reports.items }
+    ensures { (job : Run) → AreToldOf job reports.items → IsCollected job reports.items result }
+{
+    let Some(first) = reports.first() else {
+        return Err(RunError::WrongReports);
+    };
     let _instants = first.instants();
-    let columns = columns_of(alloc, reports, first.names())?;
+    let mut columns = blank_columns(alloc, first.names())?;
+    add_sites(alloc, &mut columns, reports)?;
     match Outputs::new(columns) {
         Some(outputs) => Ok(outputs),
         None => Err(RunError::WrongReports),
@@ -175,7 +204,8 @@ fn outputs_of(
 ///
 /// [`RunError::WrongReports`] where the reports aren't one of each site, [`RunError::Fault`] of the faulted site of least
 /// number, [`RunError::LinkLost`] where a site was cut, [`RunError::WrongReports`] where the job has no output.
-/// [`RunError::OutOfMemory`] may come in place of any answer. The reports are gone.
+/// [`RunError::OutOfMemory`] may come in place of any answer. The reports are gone: their statuses are moved into the answer, and
+/// not copied.
 pub fn collect(alloc: Global, reports: Vec<SiteReport>) -> Result<Outputs, RunError>
     ensures { (job : Run) → AreToldOf job reports.items → IsCollected job reports.items result }
 {
@@ -196,5 +226,5 @@ pub fn collect(alloc: Global, reports: Vec<SiteReport>) -> Result<Outputs, RunEr
     if !have_ended(all) {
         return Err(RunError::LinkLost);
     }
-    outputs_of(alloc, all, first)
+    outputs_of(alloc, reports)
 }

@@ -16,3 +16,4 @@ pub mod Moves
 pub mod Held
 pub mod Posts
 pub mod Counting
+pub mod Drawn

@@ -6,7 +6,7 @@ use Rattle.luworld.specs.Needs.{home}
 use Rattle.luworld.specs.Progress.{IsFirst, IsBegun, IsWhole, AreAllPassed}
 use Rattle.luworld.specs.Runs.{Run, script, HasNoStop, outputs_of, streams_of}
 use Rattle.lusite.specs.declared.desk.Desk.{Desk}
-use Rattle.lusite.specs.Programs.{part_at}
+use Rattle.lusite.specs.Programs.{SitePlan, part_at}
 use Rattle.lusite.specs.Machine.{is_faulted}
 use Rattle.luflow.specs.Variables.{is_output_of}
 
@@ -71,9 +71,13 @@ abbrev pub told_at : Desk → Option ℕ → Bool
 told_at a None = false
 told_at a (Some i) = (part_at a.program i).told
 
+-- what the logs have of a flow that is reported
+abbrev pub log_in : SitePlan → List Log → Option ℕ → List Status
+log_in p logs None = []
+log_in p logs (Some i) = cond (part_at p i).told (row_items (slice_get logs i)) []
+
 abbrev pub log_at : Desk → Option ℕ → List Status
-log_at a None = []
-log_at a (Some i) = cond (part_at a.program i).told (row_items (slice_get a.logs.items i)) []
+log_at a o = log_in a.program a.logs.items o
 
 pub record IsNewRow (wanted : Bool) (instants : ℕ) (row : Log) : Type 0 where
   pub empty : row.items ≡ []

@@ -1,16 +1,17 @@
 //! What a site leaves.
 
-ghost use Rattle.std.specs.Prelude.{◌≡◌, true};
-ghost use Rattle.lusite.specs.Logs.{IsOutput};
+ghost use Rattle.std.specs.Prelude.{◌≡◌, ℕ, true, IfOk, length, slice_get};
+ghost use Rattle.lusite.specs.Logs.{IsOutput, row_items};
 ghost use Rattle.lusite.specs.Machine.{IsNext, IsStanding};
 ghost use Rattle.lusite.specs.Programs.{output_names, reports_output};
 ghost use Rattle.luworld.specs.Needs.{sites_of};
-ghost use Rattle.luworld.specs.Runs.{IsJob};
+ghost use Rattle.luworld.specs.Runs.{IsJob, outputs_of};
 
 use crate::next::{Fault, Next};
 use crate::site::Site;
 use luflow::Status;
 use lulist::Name;
+use std::alloc::{AllocError, Global};
 use std::marker::Model;
 
 /// How a site stands.
@@ -122,5 +123,15 @@ impl SiteReport {
         ensures { IsOutput self.now.job self.now.site self.now.done k result.now }
     {
         self.site.outputs(k)
+    }
+
+    /// All outputs, by number, each as [`SiteReport::outputs`] tells it: they are moved out of the report, and not copied.
+    pub fn into_outputs(self, alloc: Global) -> Result<Vec<Vec<Status>>, AllocError>
+        ensures len { IfOk result (λ rows. length rows.items ≡ length (outputs_of self.job.plan)) }
+        ensures each { IfOk result (λ rows. (k : ℕ) → IsOutput self.job self.site self.done k
+            (row_items (slice_get rows.items k))) }
+    {
+        let SiteReport { site } = self;
+        site.into_outputs(alloc)
     }
 }

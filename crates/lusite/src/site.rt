@@ -4,13 +4,14 @@ ghost use Rattle.std.specs.Prelude.{◌≡◌, ◌↔◌, ℕ, ◌+◌, ◌<◌,
 ghost use Rattle.std.specs.Option.{ForSome};
 ghost use Rattle.luworld.specs.Needs.{sites_of};
 ghost use Rattle.luworld.specs.Outline.{left_after};
-ghost use Rattle.luworld.specs.Runs.{IsJob, IsRun, outline, streams_of};
-ghost use Rattle.lusite.specs.Logs.{IsOutput, IsNewRow, Log};
+ghost use Rattle.luworld.specs.Runs.{IsJob, IsRun, outline, outputs_of, streams_of};
+ghost use Rattle.lusite.specs.Logs.{IsOutput, IsNewRow, Log, row_items};
 ghost use Rattle.lusite.specs.Machine.{IsNext, IsLocalNext, IsPutNext, IsTakeNext, IsFaultAt};
 ghost use Rattle.lusite.specs.Programs.{part_at, output_names, reports_output};
 ghost use Rattle.lusite.specs.Widths.{most_left};
 
 use crate::desk::Desk;
+use crate::logs::drawn;
 use crate::next::{Fault, Next};
 use crate::program::SiteProgram;
 use lueval::Cell;
@@ -146,6 +147,17 @@ impl Site {
         ensures { IsOutput self.now.job self.now.site self.now.done k result.now }
     {
         self.desk.output(k)
+    }
+
+    /// All outputs so far, as `outputs` tells them, moved out.
+    pub(crate) fn into_outputs(self, alloc: Global) -> Result<Vec<Vec<Status>>, AllocError>
+        ensures len { IfOk result (λ rows. length rows.items ≡ length (outputs_of self.job.plan)) }
+        ensures each { IfOk result (λ rows. (k : ℕ) → IsOutput self.job self.site self.done k
+            (row_items (slice_get rows.items k))) }
+    {
+        let Site { desk } = self;
+        let Desk { program, logs, .. } = desk;
+        drawn(alloc, &program, logs)
     }
 
     /// The fault of the site's last computation, which is one of the program's solution; there is one exactly where

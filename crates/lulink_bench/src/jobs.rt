@@ -1,0 +1,27 @@
+//! A job of two sites, of which the first sends its input to the second.
+
+use luplace::Job;
+use lusdist_commands::Stop;
+use lusdist_commands::sources::{flat_of, job_of, plan_of};
+use std::alloc::{AllocError, Global};
+
+const PROGRAM: &[u8] = b"node main(x: int) returns (y: int); let y = x + 1; tel";
+
+const TWO_SITES: &[u8] = b"sites = [\"A\", \"B\"]\n[place]\nx = \"A\"\ny = \"B\"\n";
+
+/// A table of so many rows, all alike.
+fn table_of(alloc: Global, instants: u32) -> Result<String, AllocError> {
+    let mut table = String::from_str(alloc, "x\n")?;
+    for _ in 0..instants {
+        table.push_str("7\n")?;
+    }
+    Ok(table)
+}
+
+/// The job over so many instants.
+pub(crate) fn job_of_samples(alloc: Global, instants: u32) -> Result<Job, Stop> {
+    let flat = flat_of(alloc, PROGRAM, "main")?;
+    let plan = plan_of(alloc, flat, TWO_SITES)?;
+    let table = table_of(alloc, instants)?;
+    job_of(alloc, plan, table.as_bytes())
+}
