@@ -2,7 +2,7 @@
 
 ghost use Rattle.std.specs.Prelude.{◌≡◌};
 
-use lugraph::{Link, Order, cycles_of, ends_of, order_of, reached};
+use lugraph::{Link, Order, cycles_of, order_of, reached};
 use std::alloc::{AllocError, Global};
 use std::test::Fail;
 
@@ -100,39 +100,6 @@ fn is_counted(alloc: Global, count: usize) -> Result<bool, AllocError> {
 #[test]
 fn many_vertices_that_point_to_all_before_them_stand_in_order(rt: HostRuntime) -> Result<(), Fail> {
     assert!(rt; is_counted(rt.alloc(), 256)?);
-    Ok(())
-}
-
-// 0 leads to the loop 1, 3; 2 points to nothing, 4 to 2, 5 to no vertex, 6 to itself and 7 to 6.
-const INTO_LOOPS: &[Option<usize>] = &[
-    Some(1),
-    Some(3),
-    None,
-    Some(1),
-    Some(2),
-    Some(9),
-    Some(6),
-    Some(6),
-];
-
-const INTO_LOOPS_END: &[bool] = &[false, false, true, false, true, true, false, false];
-
-/// Whether all chains of ten thousand vertices, of which each points to the one behind it and the last to this one, end or don't.
-fn all_end(alloc: Global, last: usize, want: bool) -> Result<bool, AllocError> {
-    let mut next = Vec::with_capacity(alloc, 10_000)?;
-    for vertex in 1..10_000 {
-        next.push(Some(vertex))?;
-    }
-    next.push(Some(last))?;
-    let ends = ends_of(alloc, &next)?;
-    Ok(ends.len() == 10_000 && ends.iter().all(|end| *end == want))
-}
-
-#[test]
-fn chains_end_or_lead_into_a_loop(rt: HostRuntime) -> Result<(), Fail> {
-    assert!(rt; ends_of(rt.alloc(), INTO_LOOPS)?.as_slice() == INTO_LOOPS_END);
-    assert!(rt; ends_of(rt.alloc(), &[])?.is_empty());
-    assert!(rt; all_end(rt.alloc(), 10_000, true)? && all_end(rt.alloc(), 0, false)?);
     Ok(())
 }
 

@@ -28,9 +28,19 @@ impl Model for Flat {
 
     ghost use Rattle.luflow.specs.Flats.{IsFlat};
 
-    ghost view = { λ a. record { flows = a.flows; order = a.order; owners = a.owners; variables = a.variables } };
+    ghost view = { λ a. record {
+      flows = a.flows;
+      order = a.order;
+      owners = a.owners;
+      variables = a.variables;
+    } };
 
-    ghost invariant = { λ a. IsFlat (record { flows = a.flows; order = a.order; owners = a.owners; variables = a.variables }) };
+    ghost invariant = { λ a. IsFlat (record {
+      flows = a.flows;
+      order = a.order;
+      owners = a.owners;
+      variables = a.variables;
+    }) };
 }
 
 impl Flat {

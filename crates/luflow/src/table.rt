@@ -28,7 +28,8 @@ impl Model for Inputs {
 
     ghost view = { λ a. record { instants = a.instants; columns = columns_view a.columns.items } };
 
-    ghost invariant = { λ a. IsTable (record { instants = a.instants; columns = columns_view a.columns.items }) };
+    ghost invariant = { λ a. IsTable
+        (record { instants = a.instants; columns = columns_view a.columns.items }) };
 }
 
 fn are_long(columns: &[(String, Vec<Datum>)], instants: u32) -> bool

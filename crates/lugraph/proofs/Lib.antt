@@ -7,8 +7,6 @@ pub mod Bounds
 pub mod Grouping
 pub mod Leaving
 pub mod Going
-pub mod Endings
-pub mod Loops
 pub mod LinkRows
 pub mod Entering
 pub mod Reaching

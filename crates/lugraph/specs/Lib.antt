@@ -3,7 +3,5 @@ pub mod Answer
 pub mod Search
 pub mod Grouped
 pub mod States
-pub mod Chain
-pub mod Walk
 pub mod Reach
 pub mod ReachStates

@@ -1,11 +1,10 @@
-//! Orders of directed graphs, cycles, chains, and what is reached.
+//! Orders of directed graphs, cycles, and what is reached.
 //!
 //! A graph is a list of lists: the vertices are its places, from 0, and the list at a place has the places that it points to, in any order and any number of times.
-//! A number that is no place of the graph is passed over. Where each vertex points to one other at most, a graph is a list of options: a chain goes on from each.
+//! A number that is no place of the graph is passed over.
 //!
 //! - [`order_of`], [`Order`]: an order with each vertex behind those that it points to, or the least vertex that reaches itself. There is an order exactly where none does.
 //! - [`cycles_of`]: for each vertex whether it reaches itself.
-//! - [`ends_of`]: for each vertex whether the chain from it ends. Where it doesn't, it leads into a loop, and needn't be on it.
 //! - [`reached`], [`Link`]: a mark for each number that links lead to from where one starts.
 //! - [`laws`]: what holds of the definitions.
 //!
@@ -16,14 +15,13 @@
 //!
 //! An order is found by a search in depth with marks "entered" and "placed": an edge to a vertex that is entered and not placed closes a cycle.
 //! The least vertex on a cycle is told by a second search, made only then, that groups vertices which reach each other.
-//! `specs/Graph.antt` has the definitions of edges, ways and orders and `specs/Chain.antt` those of chains. The other files of `specs/` say what holds in the middle of a search.
+//! `specs/Graph.antt` has the definitions of edges, ways and orders. The other files of `specs/` say what holds in the middle of a search.
 //!
 //! # Use
 //!
 //! In an order ([`Order::Sorted`]) the places serve as ranks: an edge leads to a lesser place (`IsOrder`, `behind`). So what is computed along edges can be computed in that order.
 #![tactic(auto)]
 
-mod chains;
 mod groups;
 pub mod laws;
 mod link;
@@ -31,7 +29,6 @@ mod order;
 mod reach;
 mod search;
 
-pub use chains::ends_of;
 pub use link::Link;
 pub use order::{Order, cycles_of, order_of};
 pub use reach::reached;

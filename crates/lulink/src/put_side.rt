@@ -66,7 +66,8 @@ impl PutSide {
         ensures side { IsPutSide ring.now.shared.table_id ring.now.shared.key self.new }
         ensures count { self.new.count ≡ self.old.count }
         ensures seen { self.new.seat.me.0.seen ≡ self.old.seat.me.0.seen ++ self.new.word ∷ [] }
-        ensures gone { (result ≡ has_left self.new.word) × IsFinal self.old.seat.me.0.seen self.new.word }
+        ensures gone { (result ≡ has_left self.new.word)
+            × IsFinal self.old.seat.me.0.seen self.new.word }
     {
         let word = ring.shared.load::<Look>(&mut self.seat, HEAD);
         self.word = word;

@@ -67,7 +67,8 @@ impl Rx {
     /// Whether the sender has left. Never waits, and takes no memory.
     pub fn gone(&mut self) -> bool
         ensures taken { HasTakenNothing self.old self.new }
-        ensures seen { (w : ℕ) × (self.new ≡ took_none self.old w) × (result ≡ has_left w) × IsFinal self.old.seen w }
+        ensures seen { (w : ℕ) × (self.new ≡ took_none self.old w) × (result ≡ has_left w)
+            × IsFinal self.old.seen w }
     {
         let ring = &*self.ring;
         self.side.sees_gone(ring)

@@ -75,7 +75,8 @@ impl Tx {
     /// Whether the receiver has left. Never waits, and takes no memory.
     pub fn gone(&mut self) -> bool
         ensures put { HasPutNothing self.old self.new }
-        ensures seen { (w : ℕ) × (self.new ≡ put_none self.old w) × (result ≡ has_left w) × IsFinal self.old.seen w }
+        ensures seen { (w : ℕ) × (self.new ≡ put_none self.old w) × (result ≡ has_left w)
+            × IsFinal self.old.seen w }
     {
         let ring = &*self.ring;
         self.side.sees_gone(ring)
@@ -86,7 +87,8 @@ impl Tx {
     pub fn put<R: Wait>(&mut self, rt: &R, msg: Msg) -> Result<(), PutError>
         requires { IsNextToPut self.old msg }
         ensures put { IfOk result (λ _. HasPut msg self.old self.new) }
-        ensures gone { IfErr result (λ e. (e ≡ PutError.Gone msg) × HasPutNothing self.old self.new) }
+        ensures gone { IfErr result
+            (λ e. (e ≡ PutError.Gone msg) × HasPutNothing self.old self.new) }
         ensures room { IfOk result (λ _. FoundRoom self.old self.new) }
         ensures full { IfErr result (λ _. FoundFullAndGone self.old self.new) }
     {

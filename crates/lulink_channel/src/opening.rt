@@ -25,9 +25,12 @@ pub fn open_link(
     capacity: u16,
 ) -> Result<(Tx, Rx), LinkError>
     requires { 0 < capacity }
-    ensures sender { IfOk result (λ ends. (ends.0.job ≡ job.now) × (ends.0.link ≡ link) × (ends.0.put ≡ [])) }
-    ensures receiver { IfOk result (λ ends. (ends.1.job ≡ job.now) × (ends.1.link ≡ link) × (ends.1.taken ≡ [])) }
-    ensures room { IfOk result (λ ends. (ends.0.capacity ≡ capacity) × (ends.1.capacity ≡ capacity)) }
+    ensures sender { IfOk result
+        (λ ends. (ends.0.job ≡ job.now) × (ends.0.link ≡ link) × (ends.0.put ≡ [])) }
+    ensures receiver { IfOk result
+        (λ ends. (ends.1.job ≡ job.now) × (ends.1.link ≡ link) × (ends.1.taken ≡ [])) }
+    ensures room { IfOk result
+        (λ ends. (ends.0.capacity ≡ capacity) × (ends.1.capacity ≡ capacity)) }
     ensures unseen { IfOk result (λ ends. (ends.0.seen ≡ []) × (ends.1.seen ≡ [])) }
 {
     let room = usize::from(capacity);

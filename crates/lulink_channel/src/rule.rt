@@ -85,8 +85,10 @@ pub fn part<J: Terms>(
 ) -> Seat
     requires channel { IsSeatAt (sends_on end.now) first.old × (view first.old ≡ fresh) }
     requires terms { (J.list ≡ list_of job.now link) × (J.room ≡ capacity) }
-    ensures sender { IsSeatAt (sends_on end.now) first.new × (view first.new ≡ sender capacity (list_of job.now link) []) }
-    ensures receiver { IsSeatAt (sends_on end.now) result × (view result ≡ receiver capacity (list_of job.now link) []) }
+    ensures sender { IsSeatAt (sends_on end.now) first.new
+        × (view first.new ≡ sender capacity (list_of job.now link) []) }
+    ensures receiver { IsSeatAt (sends_on end.now) result
+        × (view result ≡ receiver capacity (list_of job.now link) []) }
 {
     end.another::<TwoEnds<J>>(first)
 }

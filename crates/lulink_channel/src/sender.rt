@@ -69,7 +69,8 @@ impl Tx {
     pub fn put<R: Wait>(&mut self, rt: &R, msg: Msg) -> Result<(), PutError>
         requires { IsNextToPut self.old msg }
         ensures put { IfOk result (λ _. HasPut msg self.old self.new) }
-        ensures gone { IfErr result (λ e. (e ≡ PutError.Gone msg) × HasPutNothing self.old self.new) }
+        ensures gone { IfErr result
+            (λ e. (e ≡ PutError.Gone msg) × HasPutNothing self.old self.new) }
     {
         for _ in rt.forever() {
             match self.offer(rt, msg) {

@@ -17,7 +17,8 @@ struct Feeder<S: Sends> {
     tx: S,
     list: Vec<Msg>,
     at: usize,
-    ghost fed: { (list.items ≡ list_of (S.sent tx).job (S.sent tx).link) × (length (S.sent tx).put ≡ at) },
+    ghost fed: { (list.items ≡ list_of (S.sent tx).job (S.sent tx).link)
+        × (length (S.sent tx).put ≡ at) },
 }
 
 impl<S: Sends> Feeder<S> {

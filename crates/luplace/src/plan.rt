@@ -34,9 +34,23 @@ impl Model for Plan {
 
     ghost Value = { Distribution };
 
-    ghost view = { λ a. record { flat = a.flat; names = a.names; placed = a.placed; needs = a.needs; links = a.links; capacity = a.capacity } };
+    ghost view = { λ a. record {
+      flat = a.flat;
+      names = a.names;
+      placed = a.placed;
+      needs = a.needs;
+      links = a.links;
+      capacity = a.capacity;
+    } };
 
-    ghost invariant = { λ a. IsPlan (record { flat = a.flat; names = a.names; placed = a.placed; needs = a.needs; links = a.links; capacity = a.capacity }) };
+    ghost invariant = { λ a. IsPlan (record {
+      flat = a.flat;
+      names = a.names;
+      placed = a.placed;
+      needs = a.needs;
+      links = a.links;
+      capacity = a.capacity;
+    }) };
 }
 
 /// The plan of a program whose main variables stand at these sites.

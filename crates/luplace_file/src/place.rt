@@ -31,9 +31,19 @@ impl Model for Place {
 
     ghost Value = { Placement };
 
-    ghost view = { λ a. record { sites = a.names; default = a.default; capacity = a.capacity; place = a.entries } };
+    ghost view = { λ a. record {
+      sites = a.names;
+      default = a.default;
+      capacity = a.capacity;
+      place = a.entries;
+    } };
 
-    ghost invariant = { λ a. IsLawful (record { sites = a.names; default = a.default; capacity = a.capacity; place = a.entries }) };
+    ghost invariant = { λ a. IsLawful (record {
+      sites = a.names;
+      default = a.default;
+      capacity = a.capacity;
+      place = a.entries;
+    }) };
 }
 
 impl Place {
@@ -44,8 +54,10 @@ impl Place {
         capacity: u16,
         entries: Row<Placed>,
     ) -> Place
-        requires { IsLawful (record { sites = names; default = default; capacity = capacity; place = entries }) }
-        ensures { result ≡ record { sites = names; default = default; capacity = capacity; place = entries } }
+        requires { IsLawful
+            (record { sites = names; default = default; capacity = capacity; place = entries }) }
+        ensures { result
+            ≡ record { sites = names; default = default; capacity = capacity; place = entries } }
     {
         Place {
             names,

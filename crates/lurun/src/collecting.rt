@@ -53,7 +53,8 @@ fn are_complete(reports: &[SiteReport], sites: u8) -> bool
 
 /// The fault of the faulted site of least number, after one report more.
 fn lesser(least: Option<(u8, Fault)>, report: &SiteReport) -> Option<(u8, Fault)>
-    ensures { (reports : List SiteAt) → IsLeast reports least → IsLeast (reports ++ report.now ∷ []) result }
+    ensures { (reports : List SiteAt) → IsLeast reports least
+        → IsLeast (reports ++ report.now ∷ []) result }
 {
     let fault = match report.standing() {
         Standing::Faulted(fault) => fault,

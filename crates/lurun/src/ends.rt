@@ -80,7 +80,8 @@ pub fn put_one<R: Wait>(rt: &R, site: &mut Site, txs: &mut Vec<Tx>, link: LinkNo
     requires senders { AreSenders site.old txs.old.items }
     requires next { IsNext site.old.job site.old.site site.old.done (Next.Put link msg) }
     ensures senders { AreSenders site.new txs.new.items }
-    ensures receivers { (rxs : List ReceiverView) → AreReceivers site.old rxs → AreReceivers site.new rxs }
+    ensures receivers { (rxs : List ReceiverView) → AreReceivers site.old rxs
+        → AreReceivers site.new rxs }
     ensures moved { Moves result site.old site.new }
     ensures site { IsSameSite site.old site.new }
 {
@@ -125,7 +126,8 @@ pub fn work_one(site: &mut Site)
     requires { IsNext site.old.job site.old.site site.old.done Next.Local }
     ensures done { site.new.done ≡ site.old.done + 1 }
     ensures senders { (txs : List SenderView) → AreSenders site.old txs → AreSenders site.new txs }
-    ensures receivers { (rxs : List ReceiverView) → AreReceivers site.old rxs → AreReceivers site.new rxs }
+    ensures receivers { (rxs : List ReceiverView) → AreReceivers site.old rxs
+        → AreReceivers site.new rxs }
     ensures site { IsSameSite site.old site.new }
 {
     site.work();

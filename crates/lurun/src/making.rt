@@ -50,7 +50,8 @@ fn new_benches(alloc: Global, job: &Job) -> Result<Vec<Bench>, AllocError>
 
 fn add_sender(benches: &mut Vec<Bench>, s: usize, tx: Tx) -> Result<(), AllocError>
     requires { s < length benches.old.items }
-    ensures { OnOk result ((b : Bench) → slice_get benches.old.items s ≡ Some b → IsSenderAdded benches.old.items s b tx benches.new.items) }
+    ensures { OnOk result ((b : Bench) → slice_get benches.old.items s ≡ Some b
+        → IsSenderAdded benches.old.items s b tx benches.new.items) }
 {
     let bench = &mut benches[s];
     bench.txs.push(tx)?;
@@ -59,7 +60,8 @@ fn add_sender(benches: &mut Vec<Bench>, s: usize, tx: Tx) -> Result<(), AllocErr
 
 fn add_receiver(benches: &mut Vec<Bench>, s: usize, rx: Rx) -> Result<(), AllocError>
     requires { s < length benches.old.items }
-    ensures { OnOk result ((b : Bench) → slice_get benches.old.items s ≡ Some b → IsReceiverAdded benches.old.items s b rx benches.new.items) }
+    ensures { OnOk result ((b : Bench) → slice_get benches.old.items s ≡ Some b
+        → IsReceiverAdded benches.old.items s b rx benches.new.items) }
 {
     let bench = &mut benches[s];
     bench.rxs.push(rx)?;

@@ -77,7 +77,8 @@ pub fn offer_one(site: &mut Site, txs: &mut Vec<Tx>, link: LinkNo, msg: Msg) -> 
     requires senders { AreSenders site.old txs.old.items }
     requires next { IsNext site.old.job site.old.site site.old.done (Next.Put link msg) }
     ensures senders { AreSenders site.new txs.new.items }
-    ensures receivers { (rxs : List ReceiverView) → AreReceivers site.old rxs → AreReceivers site.new rxs }
+    ensures receivers { (rxs : List ReceiverView) → AreReceivers site.old rxs
+        → AreReceivers site.new rxs }
     ensures moved { Moves (is_done result) site.old site.new }
     ensures site { IsSameSite site.old site.new }
 {

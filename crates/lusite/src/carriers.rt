@@ -21,7 +21,8 @@ pub struct Carriers {
 /// No source for any place.
 fn no_sources(alloc: Global, flows: usize) -> Result<Vec<Option<LinkNo>>, AllocError>
     ensures len { IfOk result (λ v. length v.items ≡ flows) }
-    ensures each { IfOk result (λ v. (i : ℕ) → ForSome (slice_get v.items i) (λ x. x ≡ Option.None)) }
+    ensures each { IfOk result
+        (λ v. (i : ℕ) → ForSome (slice_get v.items i) (λ x. x ≡ Option.None)) }
 {
     let mut sources = Vec::with_capacity(alloc, flows)?;
     for _i in 0..flows {
@@ -70,7 +71,8 @@ fn note_row(
     flow: usize,
     link: LinkNo,
 ) -> Result<(), AllocError>
-    ensures { OnOk result (AreLonger rows.old.items (λ i. nat_eq flow i && wanted) link rows.new.items) }
+    ensures { OnOk result (AreLonger rows.old.items
+        (λ i. nat_eq flow i && wanted) link rows.new.items) }
 {
     if wanted && flow < rows.len() {
         push_at(rows, flow, link)?;
@@ -85,7 +87,8 @@ pub fn carriers_of(
     site: u8,
     flows: usize,
 ) -> Result<Carriers, AllocError>
-    ensures { IfOk result (λ x. AreCarriers plan.now.links site flows x.sources.items x.rows.items) }
+    ensures { IfOk result
+        (λ x. AreCarriers plan.now.links site flows x.sources.items x.rows.items) }
 {
     let mut sources = no_sources(alloc, flows)?;
     let mut rows = no_rows(alloc, flows)?;

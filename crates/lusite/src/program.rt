@@ -68,7 +68,8 @@ impl Model for SiteProgram {
 
     ghost view = { λ a. record { plan = a.plan.value; site = a.site } };
 
-    ghost invariant = { λ a. IsProgram a.plan.value a.site a.flows a.order a.owners a.parts a.ranks a.places a.posts a.outputs a.sites a.names };
+    ghost invariant = { λ a. IsProgram a.plan.value a.site a.flows a.order a.owners a.parts a.ranks
+        a.places a.posts a.outputs a.sites a.names };
 }
 
 pub(crate) fn own_at(parts: &[Part], place: usize) -> bool

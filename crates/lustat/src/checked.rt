@@ -35,9 +35,19 @@ impl<'a> Model for Checked<'a> {
     ghost use Rattle.lustat_classes.specs.Rows.{plain};
     ghost use Rattle.lustat.specs.Whole.{IsSound};
 
-    ghost view = { λ t. record { program = t.typed.program; main = t.typed.main; order = t.typed.order; classes = plain t.classes.items } };
+    ghost view = { λ t. record {
+      program = t.typed.program;
+      main = t.typed.main;
+      order = t.typed.order;
+      classes = plain t.classes.items;
+    } };
 
-    ghost invariant = { λ t. IsSound (record { program = t.typed.program; main = t.typed.main; order = t.typed.order; classes = plain t.classes.items }) };
+    ghost invariant = { λ t. IsSound (record {
+      program = t.typed.program;
+      main = t.typed.main;
+      order = t.typed.order;
+      classes = plain t.classes.items;
+    }) };
 }
 
 impl<'a> Checked<'a> {

@@ -104,7 +104,8 @@ fn push_equation(
     number: usize,
 ) -> Result<(), AllocError>
     ensures { OnOk result (links.new.items ≡ links.old.items
-        ++ (reads_in (node_view scope.now) number (view equation.now.right) ++ writes_in (node_view scope.now) number equation.now.left)) }
+        ++ (reads_in (node_view scope.now) number (view equation.now.right)
+        ++ writes_in (node_view scope.now) number equation.now.left)) }
 {
     push_reads(links, scope, &equation.right, number)?;
     push_writes(links, scope, equation.left.as_slice(), number)

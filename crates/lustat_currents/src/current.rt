@@ -2,7 +2,7 @@
 
 ghost use Rattle.std.specs.Prelude.{◌≡◌, ◌↔◌, ◌++◌, ℕ, List, IsTrue, true, false, map, IfOk, IfNone, IfSome, OnOk};
 ghost use Rattle.lutree.specs.Tree.{equation_view, node_view, view, views, trees_of};
-ghost use Rattle.lustat_rules.specs.Classes.{StartsWith, IsTrueAtFirst, CurrentsStart};
+ghost use Rattle.lustat_rules.specs.Classes.{StartsWith, CurrentsStart};
 ghost use Rattle.lutree.specs.Tree as tree;
 ghost use Rattle.lustat_currents.specs.Currents.{StartsInside, IsStarted, EachCurrent, EachCurrentOfAll, Begins, AreBegun, starts_among};
 ghost use Rattle.lustat_scope.specs.Scopes.{clock_list};
@@ -173,18 +173,6 @@ impl<'a> Firsts<'a> {
             falses,
             started,
         })
-    }
-
-    /// Whether a clock is true at the first instant of its own clock, by the form of its variable's equation.
-    pub fn is_true_at_first(&self, variable: &str, sign: bool) -> bool
-        ensures { IsTrue result ↔ IsTrueAtFirst (node_view self.now)
-            (record { variable = variable.now; sign = sign }) }
-    {
-        if sign {
-            self.truths.has(variable)
-        } else {
-            self.falses.has(variable)
-        }
     }
 
     // Whether the clock of a variable is true at first, if it has one. The clock's name isn't looked at.

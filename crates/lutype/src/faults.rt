@@ -50,7 +50,8 @@ fn has_main(catalog: &Catalog, main: &str) -> bool
 /// Whether an equation is well typed, or isn't ready to be asked.
 fn is_typed(catalog: &Catalog, scope: &Scope, equation: &Equation, is_ready: bool) -> bool
     requires { IsTrue is_ready ↔ (NamesKnown (node_view scope.now) (equation_view equation.now)
-        × CallsKnown (program_view catalog.now) (equation_view equation.now) × AritiesRight (program_view catalog.now) (equation_view equation.now)) }
+        × CallsKnown (program_view catalog.now) (equation_view equation.now)
+        × AritiesRight (program_view catalog.now) (equation_view equation.now)) }
     ensures { IsTrue result ↔ IsTyped (program_view catalog.now) (node_view scope.now)
         (equation_view equation.now) }
 {
@@ -89,7 +90,8 @@ pub fn declaration_fault(
     requires same { definitions.now ≡ scope.now }
     requires at { slice_get (declared_in scope.now) place ≡ Some declaration.now }
     ensures { (program : Program) → (main : List ℕ)
-        → IsJudged (DeclarationFault is_asked program main scope.now place declaration.now) (DeclarationKept is_asked program main scope.now place declaration.now) result }
+        → IsJudged (DeclarationFault is_asked program main scope.now place declaration.now)
+        (DeclarationKept is_asked program main scope.now place declaration.now) result }
 {
     let byte = declaration.byte;
     let is_new = is_new_variable(scope, place, declaration);

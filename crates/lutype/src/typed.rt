@@ -32,7 +32,8 @@ impl<'a> Model for Typed<'a> {
 
     ghost view = { λ t. record { program = t.catalog; main = t.main.now; order = t.order.items } };
 
-    ghost invariant = { λ t. AreInOrder (record { program = t.catalog; main = t.main.now; order = t.order.items }) };
+    ghost invariant = { λ t. AreInOrder
+        (record { program = t.catalog; main = t.main.now; order = t.order.items }) };
 }
 
 impl<'a> Typed<'a> {

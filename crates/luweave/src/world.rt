@@ -151,7 +151,8 @@ impl World {
         ensures source { InEachSource self.now.job
             (λ σ. IsBeginning result.now (source_list self.now.job σ link)) }
         ensures source_whole { InEachSource self.now.job
-            (λ σ. AllEnded self.now.job self.now.dones → result.now ≡ source_list self.now.job σ link) }
+            (λ σ. AllEnded self.now.job self.now.dones
+            → result.now ≡ source_list self.now.job σ link) }
     {
         taken_at(&self.lanes, link)
     }

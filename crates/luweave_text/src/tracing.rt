@@ -71,7 +71,8 @@ fn put_item(
 
 /// Whether a site does anything more.
 fn goes_on(next: Next) -> bool
-    ensures { (job : Run) (s n : ℕ) → IsNext job s n next → result ≡ is_some (slice_get (script job (streams_of job) s) n) }
+    ensures { (job : Run) (s n : ℕ) → IsNext job s n next
+        → result ≡ is_some (slice_get (script job (streams_of job) s) n) }
 {
     match next {
         Next::Local => true,
@@ -133,7 +134,8 @@ fn traced_turn(
     requires plan_is { world.old.job.plan ≡ plan.now }
     requires few { moves ≤ length (string_bytes text.old) }
     ensures job { world.new.job ≡ world.old.job }
-    ensures dones { IfOk result (λ _. world.new.dones ≡ step (system_of world.old.job) world.old.dones site) }
+    ensures dones { IfOk result
+        (λ _. world.new.dones ≡ step (system_of world.old.job) world.old.dones site) }
     ensures text { Adds result text.old text.new (turn_text world.old moves site) }
     ensures moves { IfOk result (λ n. n ≡ moves + one_if (turn_of world.old site)) }
     ensures few { IfOk result (λ n. n ≤ length (string_bytes text.new)) }
@@ -159,7 +161,8 @@ fn traced_turns(
 ) -> Result<usize, AllocError>
     requires { world.old.job.plan ≡ plan.now }
     ensures job { world.new.job ≡ world.old.job }
-    ensures dones { IfOk result (λ _. world.new.dones ≡ run (system_of world.old.job) world.old.dones turns.now) }
+    ensures dones { IfOk result
+        (λ _. world.new.dones ≡ run (system_of world.old.job) world.old.dones turns.now) }
     ensures text { Adds result text.old text.new (trace_text world.old 0 turns.now) }
     ensures moves { IfOk result (λ n. n ≡ moves_of world.old turns.now) }
     ensures few { IfOk result (λ n. n ≤ length (string_bytes text.new)) }
@@ -182,7 +185,8 @@ fn traced_finish(
     requires plan_is { world.old.job.plan ≡ plan.now }
     requires few { before ≤ length (string_bytes text.old) }
     ensures job { world.new.job ≡ world.old.job }
-    ensures more { IfOk result (λ _. HasMore world.old before (string_bytes text.old) world.new.dones
+    ensures more { IfOk result
+        (λ _. HasMore world.old before (string_bytes text.old) world.new.dones
         (string_bytes text.new)) }
     ensures quiet { IfOk result (λ _. NoTurnMoves (system_of world.new.job) world.new.dones) }
 {
