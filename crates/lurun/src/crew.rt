@@ -11,7 +11,7 @@ ghost use Rattle.lurun.specs.Hands.{promised};
 use crate::collecting::collect;
 use crate::ends::work_one;
 use crate::error::RunError;
-use crate::gate::Gate;
+use crate::gate::{Gate, call, call_last};
 use crate::station::Station;
 use crate::tries::{Tried, offer_one, poll_one};
 use luflow::Outputs;
@@ -69,7 +69,7 @@ impl Seat {
         ensures { self.new ≡ self.old }
     {
         if !self.called {
-            gate.before(self.site.site(), self.step);
+            call(gate, &self.site, self.step);
             self.called = true;
         }
     }
@@ -120,6 +120,7 @@ impl Seat {
     {
         for _ in rt.forever() {
             if self.is_over() {
+                call_last(gate, &self.site);
                 return true;
             }
             self.call(gate);
@@ -154,7 +155,8 @@ fn go_at<R: Wait, G: Gate>(rt: &R, seats: &mut Vec<Seat>, at: usize, gate: &G) -
 
 fn take_out(seats: &mut Vec<Seat>, at: usize) -> SiteReport
     requires { at < vec_len seats.old }
-    ensures one { IsPermutation (places seats.old.items) (place_of result ∷ places seats.new.items) }
+    ensures one { IsPermutation (places seats.old.items)
+        (place_of result ∷ places seats.new.items) }
     ensures len { vec_len seats.new + 1 ≡ vec_len seats.old }
 {
     let seat = seats.swap_remove(at);
@@ -235,7 +237,8 @@ fn start<'s, E, R: Wait + Sync, G: Gate>(
 
 fn deal_to(shares: &mut Vec<Vec<Seat>>, to: usize, seat: Seat) -> Result<(), AllocError>
     requires { to < vec_len shares.old }
-    ensures one { OnOk result (IsPermutation (seat ∷ dealt shares.old.items) (dealt shares.new.items)) }
+    ensures one { OnOk result
+        (IsPermutation (seat ∷ dealt shares.old.items) (dealt shares.new.items)) }
     ensures len { vec_len shares.new ≡ vec_len shares.old }
 {
     let share = &mut shares[to];
@@ -372,8 +375,10 @@ pub fn run_crew<R: Threads + Wait + Sync, G: Gate>(
         thread::scope_env(),
         rt,
         |scope| -> (Vec<SiteReport>, bool)
-            requires room { (vec_len hands ≤ vec_capacity children) × (vec_len children ≡ 0) × All HasRoom hands.items }
-            requires reports { (length (held hands.items) ≤ vec_capacity reports) × (vec_len reports ≡ 0) }
+            requires room { (vec_len hands ≤ vec_capacity children) × (vec_len children ≡ 0)
+                × All HasRoom hands.items }
+            requires reports { (length (held hands.items) ≤ vec_capacity reports)
+                × (vec_len reports ≡ 0) }
             ensures { result.1 ≡ true → AreReportsOf (held hands.items) result.0.items }
         {
             let (children, all) = start_all(scope, rt, hands, gate, children);

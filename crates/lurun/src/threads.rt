@@ -9,7 +9,7 @@ ghost use Rattle.lurun.specs.Workers.{promised};
 use crate::collecting::collect;
 use crate::ends::{put_one, take_one, work_one};
 use crate::error::RunError;
-use crate::gate::Gate;
+use crate::gate::{Gate, call, call_last};
 use crate::station::Station;
 use luflow::Outputs;
 use lulink::{Rx, Tx};
@@ -38,16 +38,16 @@ fn do_item<R: Wait, G: Gate>(
         Next::Ended => false,
         Next::Faulted => false,
         Next::Local => {
-            gate.before(site.site(), step);
+            call(gate, site, step);
             work_one(site);
             true
         }
         Next::Put(link, msg) => {
-            gate.before(site.site(), step);
+            call(gate, site, step);
             put_one(rt, site, txs, link, msg)
         }
         Next::Take(link) => {
-            gate.before(site.site(), step);
+            call(gate, site, step);
             take_one(rt, site, rxs, link)
         }
     }
@@ -69,6 +69,7 @@ fn serve<R: Wait, G: Gate>(rt: &R, station: Station, gate: &G) -> SiteReport
         }
         step = step.wrapping_add(1);
     }
+    call_last(gate, &site);
     drop(txs);
     drop(rxs);
     site.report()
@@ -166,7 +167,8 @@ pub fn run_threads<R: Threads + Wait + Sync, G: Gate>(
         thread::scope_env(),
         rt,
         |scope| -> (Vec<SiteReport>, bool)
-            requires { (vec_len stations ≤ vec_capacity children) × (vec_len children ≡ 0) × (vec_len stations ≤ vec_capacity reports) × (vec_len reports ≡ 0) }
+            requires { (vec_len stations ≤ vec_capacity children) × (vec_len children ≡ 0)
+                × (vec_len stations ≤ vec_capacity reports) × (vec_len reports ≡ 0) }
             ensures { result.1 ≡ true → AreReportsOf stations.items result.0.items }
         {
             let (children, all) = start_all(scope, rt, stations, gate, children);

@@ -15,18 +15,30 @@ const LOOKS: u64 = 10_000_000;
 /// How often a gate looks while it holds an item.
 const MORE_LOOKS: u64 = 1_000_000;
 
-/// Holds each item of a site until the other one has come to its own of that number.
+/// Holds each item of a site until the other one has come to its own of that number. Fails where a site doesn't stand at the instant
+/// of its item, of which each has five.
 #[derive(Drop)]
 struct Pairs {
     came: [AtomicU64; 2],
+    reached: [AtomicU64; 2],
     failed: AtomicU64,
 }
 
 impl Gate for Pairs {
+    fn at(&self, site: u8, instant: u32) {
+        let me = usize::from(site);
+        if me <= 1 {
+            self.reached[me].store(u64::from(instant), Ordering::SeqCst);
+        }
+    }
+
     fn before(&self, site: u8, step: u64) {
         let me = usize::from(site);
         if me > 1 {
             return;
+        }
+        if self.reached[me].load(Ordering::SeqCst) != step / 5 {
+            self.failed.store(1, Ordering::SeqCst);
         }
         self.came[me].fetch_add(1, Ordering::SeqCst);
         for _ in 0..LOOKS {
@@ -43,12 +55,15 @@ impl Gate for Pairs {
 fn meet<R: Threads + Wait + Sync>(rt: &R, alloc: Global, how: How) -> Result<bool, Fail> {
     let gate = Pairs {
         came: [AtomicU64::new(0), AtomicU64::new(0)],
+        reached: [AtomicU64::new(0), AtomicU64::new(0)],
         failed: AtomicU64::new(0),
     };
     let printed = prints(rt, alloc, APART, how, &gate)?;
     let all = gate.came[0].load(Ordering::SeqCst) == 15
         && gate.came[1].load(Ordering::SeqCst) == 15;
-    Ok(printed && all && gate.failed.load(Ordering::SeqCst) == 0)
+    let over = gate.reached[0].load(Ordering::SeqCst) == 3
+        && gate.reached[1].load(Ordering::SeqCst) == 3;
+    Ok(printed && all && over && gate.failed.load(Ordering::SeqCst) == 0)
 }
 
 #[test]

@@ -3,7 +3,7 @@
 #![tactic(auto)]
 
 use lusdist_commands::serve_words;
-use lusdist_shell::{RealFiles, Sink, put_unread};
+use lusdist_shell::{Meter, RealFiles, Sink, put_unread};
 use std::process::ExitCode;
 use std::{env, io};
 
@@ -18,7 +18,8 @@ fn main(rt: HostRuntime) -> ExitCode {
     let status = match words_of(&rt) {
         Ok(words) => {
             let files = RealFiles::new(&rt);
-            serve_words(&rt, rt.alloc(), &words, &files, &mut out, &mut err)
+            let meter = Meter::new(&rt);
+            serve_words(&rt, rt.alloc(), &words, &files, &meter, &mut out, &mut err)
         }
         Err(e) => put_unread(&mut err, e.kind()),
     };

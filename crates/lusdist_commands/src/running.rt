@@ -11,34 +11,53 @@ use crate::stop::Stop;
 use luflow::Outputs;
 use luplace::Job;
 use lurun::{Gate, RunError, run_crew, run_threads, stations};
+use lusdist_shell::Progress;
 use lutab::write_outputs;
 use std::alloc::Global;
 use std::sync::Wait;
 use std::thread::Threads;
 
-/// The gate that holds nothing back.
+/// The gate that holds nothing back. It hands on how far a site has come, where somebody asked for that.
 #[derive(Drop)]
-struct Open;
+struct Open<'p, P> {
+    progress: Option<&'p P>,
+}
 
-impl Gate for Open {
+impl<'p, P: Progress> Gate for Open<'p, P> {
     fn before(&self, _site: u8, _step: u64) {}
+
+    fn at(&self, site: u8, instant: u32) {
+        if let Some(progress) = self.progress {
+            progress.reach(site, instant);
+        }
+    }
+}
+
+/// The gate for a run of a job: it tells the progress where that is given.
+fn gate_for<'p, P: Progress>(job: &Job, progress: Option<&'p P>) -> Open<'p, P> {
+    if let Some(progress) = progress {
+        progress.begin(job.plan().sites().len(), job.instants());
+    }
+    Open { progress }
 }
 
 /// The outputs of a job that is run by so many workers, or with a thread for each site.
-fn outputs_of_run<R: Threads + Wait + Sync>(
+fn outputs_of_run<R: Threads + Wait + Sync, P: Progress>(
     rt: &R,
     alloc: Global,
     job: &Job,
     workers: Option<u8>,
+    progress: Option<&P>,
 ) -> Result<Outputs, RunError>
     requires few { AreFew workers }
     requires some { 0 < length (outputs_of job.now.plan.flat.variables) }
     ensures { MatchResult result (AreOutputsOf job.now) (IsRunError job.now) }
 {
     let stations = stations(alloc, job)?;
+    let gate = gate_for(job, progress);
     match workers {
-        Some(workers) => run_crew(rt, alloc, stations, workers, &Open),
-        None => run_threads(rt, alloc, stations, &Open),
+        Some(workers) => run_crew(rt, alloc, stations, workers, &gate),
+        None => run_threads(rt, alloc, stations, &gate),
     }
 }
 
@@ -62,19 +81,20 @@ fn stop_of(alloc: Global, job: &Job, error: RunError) -> Stop
 }
 
 /// The table of the outputs of a job that is run by so many workers, 1 to 16, or with a thread for each site; or why there is
-/// none. All its threads have ended when it returns.
-pub fn run_table<R: Threads + Wait + Sync>(
+/// none. All its threads have ended when it returns. Where a progress is given, it is told how far the sites have come.
+pub fn run_table<R: Threads + Wait + Sync, P: Progress>(
     rt: &R,
     alloc: Global,
     job: &Job,
     workers: Option<u8>,
+    progress: Option<&P>,
 ) -> Result<String, Stop>
     requires few { AreFew workers }
     requires some { 0 < length (outputs_of job.now.plan.flat.variables) }
     ensures text { IfOk result (λ text. IsRunTable job.now (string_bytes text)) }
     ensures stopped { IfErr result (IsStopOfRun job.now) }
 {
-    match outputs_of_run(rt, alloc, job, workers) {
+    match outputs_of_run(rt, alloc, job, workers, progress) {
         Ok(outputs) => {
             let text = write_outputs(alloc, &outputs)?;
             Ok(text)

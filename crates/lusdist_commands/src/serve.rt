@@ -27,8 +27,8 @@ use crate::stop::Stop;
 use luflow::{Flat, Inputs};
 use luplace::Job;
 use lusdist_shell::{
-    CheckRequest, EvalRequest, Files, PlanRequest, ReplayRequest, Request, RunRequest, Sink, parse,
-    put_mistake, put_notes, put_out,
+    CheckRequest, EvalRequest, Files, PlanRequest, Progress, ReplayRequest, Request, RunRequest,
+    Sink, parse, put_mistake, put_notes, put_out,
 };
 use lusyn::print_program;
 use luweave::{World, replay};
@@ -212,11 +212,12 @@ fn plan_answer<F: Files>(alloc: Global, request: PlanRequest<'_>, files: &F) -> 
 }
 
 /// What a run prints: the table of the outputs of the program, which its sites gave together.
-fn run_text<R: Threads + Wait + Sync, F: Files>(
+fn run_text<R: Threads + Wait + Sync, F: Files, P: Progress>(
     rt: &R,
     alloc: Global,
     request: RunRequest<'_>,
     files: &F,
+    progress: &P,
 ) -> Result<String, Stop>
     requires { AreFew request.workers }
     ensures text { IfOk result (λ text. IsRan (F.gives files.now) request.entry
@@ -224,6 +225,7 @@ fn run_text<R: Threads + Wait + Sync, F: Files>(
     ensures stopped { IfErr result (IsRunStopped (F.gives files.now) request.entry) }
 {
     let workers = request.workers;
+    let asked = request.progress;
     let job = job_for(
         alloc,
         files,
@@ -232,15 +234,16 @@ fn run_text<R: Threads + Wait + Sync, F: Files>(
         request.table,
         request.main,
     )?;
-    run_table(rt, alloc, &job, workers)
+    run_table(rt, alloc, &job, workers, asked.then_some(progress))
 }
 
 /// What the command that is asked for prints.
-fn answer<R: Threads + Wait + Sync, F: Files>(
+fn answer<R: Threads + Wait + Sync, F: Files, P: Progress>(
     rt: &R,
     alloc: Global,
     request: Request<'_>,
     files: &F,
+    progress: &P,
 ) -> Result<Said, Stop>
     requires { HasFewWorkers request }
     ensures text { IfOk result (λ a. IsAnswer (F.gives files.now) request.entry
@@ -254,7 +257,7 @@ fn answer<R: Threads + Wait + Sync, F: Files>(
         Request::Eval(request) => Ok(plain(alloc, eval_text(alloc, request, files)?)),
         Request::Plan(request) => Ok(plain(alloc, plan_answer(alloc, request, files)?)),
         Request::Replay(request) => replay_answer(alloc, request, files),
-        Request::Run(request) => Ok(plain(alloc, run_text(rt, alloc, request, files)?)),
+        Request::Run(request) => Ok(plain(alloc, run_text(rt, alloc, request, files, progress)?)),
     }
 }
 
@@ -278,11 +281,12 @@ fn put_said<W: Write, V: Write>(out: &mut Sink<W>, err: &mut Sink<V>, said: &Sai
 }
 
 /// Does what the words asked for.
-fn perform<R: Threads + Wait + Sync, F: Files, W: Write, V: Write>(
+fn perform<R: Threads + Wait + Sync, F: Files, P: Progress, W: Write, V: Write>(
     rt: &R,
     alloc: Global,
     request: Request<'_>,
     files: &F,
+    progress: &P,
     out: &mut Sink<W>,
     err: &mut Sink<V>,
 ) -> u8
@@ -296,7 +300,7 @@ fn perform<R: Threads + Wait + Sync, F: Files, W: Write, V: Write>(
       held_err = V.contents;
     }) }
 {
-    match answer(rt, alloc, request, files) {
+    match answer(rt, alloc, request, files, progress) {
         Ok(found) => put_said(out, err, &found),
         Err(stop) => {
             let status = stop.status();
@@ -310,11 +314,15 @@ fn perform<R: Threads + Wait + Sync, F: Files, W: Write, V: Write>(
 /// also where a site of a replay faulted, and for help; 1 where a text is refused; 2 for a mistake in the words or a file that
 /// can't be read; 3 for a fault of an evaluation or a run, a run that was cut short, want of memory, or output that can't be
 /// written. A refusal is one line on the error stream; where a replay is asked to trace its turns, they are told there. A run waits for its threads; the other commands wait for nobody.
-pub fn serve_words<R: Threads + Wait + Sync, F: Files, W: Write, V: Write>(
+///
+/// Where a run is asked to tell how far it has come, the progress is told, by the threads that serve the sites. It is handed the number
+/// of a site and an instant and nothing of the values; what it does with them isn't in the contract.
+pub fn serve_words<R: Threads + Wait + Sync, F: Files, P: Progress, W: Write, V: Write>(
     rt: &R,
     alloc: Global,
     words: &[String],
     files: &F,
+    progress: &P,
     out: &mut Sink<W>,
     err: &mut Sink<V>,
 ) -> u8
@@ -348,7 +356,7 @@ pub fn serve_words<R: Threads + Wait + Sync, F: Files, W: Write, V: Write>(
         → err.new ≡ err.old }
 {
     match parse(alloc, words) {
-        Ok(request) => perform(rt, alloc, request, files, out, err),
+        Ok(request) => perform(rt, alloc, request, files, progress, out, err),
         Err(mistake) => put_mistake(out, err, &mistake),
     }
 }

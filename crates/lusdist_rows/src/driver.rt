@@ -1,7 +1,7 @@
 //! An example by many schedules at several capacities, and by several crews: each has to end as its evaluation does.
 
 use lusdist_commands::serve_words;
-use lusdist_shell::{Files, ReadError, Sink, text_of};
+use lusdist_shell::{Files, ReadError, Silent, Sink, text_of};
 use std::alloc::{AllocError, Global};
 use std::io;
 use std::io::Write;
@@ -63,7 +63,7 @@ fn printed<R: Threads + Wait + Sync, F: Files>(
     let words = words_of(alloc, line)?;
     let mut out = Sink::new(Vec::new(alloc));
     let mut err = Sink::new(Vec::new(alloc));
-    if serve_words(threads, alloc, &words, files, &mut out, &mut err) != 0 {
+    if serve_words(threads, alloc, &words, files, &Silent, &mut out, &mut err) != 0 {
         return Ok(String::new(alloc));
     }
     String::from_str(alloc, text_of(out.writer()).unwrap_or(""))

@@ -6,7 +6,7 @@ mod driver;
 
 use crate::driver::{put_tried, words_of};
 use lusdist_commands::serve_words;
-use lusdist_shell::{Files, ReadError, RealFiles, Sink};
+use lusdist_shell::{Files, ReadError, RealFiles, Silent, Sink};
 use std::alloc::{AllocError, Global};
 use std::io;
 use std::io::Write;
@@ -101,7 +101,15 @@ fn put_answer<R: Threads + Wait + Sync>(
     let words = words_of(rt.alloc(), line)?;
     let mut out = Sink::new(Vec::new(rt.alloc()));
     let mut err = Sink::new(Vec::new(rt.alloc()));
-    let status = serve_words(threads, rt.alloc(), &words, case, &mut out, &mut err);
+    let status = serve_words(
+        threads,
+        rt.alloc(),
+        &words,
+        case,
+        &Silent,
+        &mut out,
+        &mut err,
+    );
     put_output(rt, out.writer())?;
     if !err.writer().is_empty() {
         print!(rt; "! ")?;

@@ -48,11 +48,11 @@ most_workers = 16
 abbrev pub workers_rule : Rule
 workers_rule = record (new_rule (codes "workers")) { long = Some (codes "workers"); value_names = 1; parser = Some (Unsigned fewest_workers most_workers) }
 
--- `run PROGRAM PLACE TABLE [--main NAME] [--workers W]`
+-- `run PROGRAM PLACE TABLE [--main NAME] [--workers W] [--progress]`
 abbrev pub run : App
 run =
-    with_rule (with_rule (with_rule (with_rule (with_rule (new_app (codes "run")) main_rule) workers_rule)
-    (path_rule (codes "PROGRAM"))) (path_rule (codes "PLACE"))) (path_rule (codes "TABLE"))
+    with_rule (with_rule (with_rule (with_rule (with_rule (with_rule (new_app (codes "run")) main_rule) workers_rule)
+    (flag_rule (codes "progress"))) (path_rule (codes "PROGRAM"))) (path_rule (codes "PLACE"))) (path_rule (codes "TABLE"))
 
 -- `lusdist` and one of its commands, or `lusdist --version`
 abbrev pub lusdist : App

@@ -89,6 +89,7 @@ pub record IsRunIn (command : Option (Text × List Row)) (request : RunRequest) 
   pub place : request.place.now ≡ text_in matches (codes "PLACE")
   pub table : request.table.now ≡ text_in matches (codes "TABLE")
   pub workers : AreWorkersIn (first_of (codes "workers") matches) request.workers
+  pub progress : request.progress ≡ is_given matches (codes "progress")
   pub few : AreFew request.workers
 
 -- the request is for the command, with what its matches hold

@@ -153,6 +153,18 @@ fn trace_flag<'a>(alloc: Global) -> Arg<'a>
     )
 }
 
+/// Whether a run tells how far it has come.
+fn progress_flag<'a>(alloc: Global) -> Arg<'a>
+    ensures rule { rule_of result ≡ flag_rule (codes "progress") }
+    ensures local { result.global ≡ false }
+{
+    flag(
+        alloc,
+        "progress",
+        "Tells on the error stream how many instants the slowest site has done, at most twice a second",
+    )
+}
+
 /// How many threads serve the sites.
 fn workers<'a>(alloc: Global) -> Arg<'a>
     ensures rule { rule_of result ≡ workers_rule }
@@ -232,6 +244,7 @@ fn run<'a>(alloc: Global) -> Result<Command<'a>, AllocError>
     named(alloc, "run", about)
         .arg(main_name(alloc))?
         .arg(workers(alloc))?
+        .arg(progress_flag(alloc))?
         .arg(program(alloc))?
         .arg(place(alloc))?
         .arg(table(alloc))

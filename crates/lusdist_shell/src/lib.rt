@@ -4,12 +4,14 @@
 //! - [`Files`] is where texts come from: [`RealFiles`], or files in memory.
 //! - [`text_of`] sees bytes as text, where they are text.
 //! - [`read_schedule`] reads whose turn it is, turn by turn.
+//! - [`Progress`] is what is told how far a run has come: [`Meter`] tells a person, [`Silent`] nobody.
 //! - A [`Sink`] is a stream that remembers whether a write has failed; [`put_out`] writes to the output, and [`put_unread`]
 //!   tells why there are no words.
 #![tactic(auto)]
 
 mod command;
 mod files;
+mod progress;
 mod put;
 mod request;
 mod schedule;
@@ -17,6 +19,7 @@ mod sink;
 mod text;
 
 pub use files::{Files, ReadError, RealFiles};
+pub use progress::{Meter, Progress, Silent};
 pub use put::{put_mistake, put_notes, put_out, put_unread};
 pub use request::{
     CheckRequest, EvalRequest, PlanForm, PlanRequest, ReplayRequest, Request, RunRequest, parse,

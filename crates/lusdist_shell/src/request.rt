@@ -11,7 +11,7 @@ use clap::{ArgMatches, Error};
 use std::alloc::Global;
 
 /// What a check is asked of.
-#[derive(Clone, Copy, Debug, PartialEq, Eq)]
+#[derive(Clone, Copy)]
 pub struct CheckRequest<'a> {
     /// The name of the main node.
     pub main: &'a str,
@@ -20,7 +20,7 @@ pub struct CheckRequest<'a> {
 }
 
 /// What an evaluation is asked of.
-#[derive(Clone, Copy, Debug, PartialEq, Eq)]
+#[derive(Clone, Copy)]
 pub struct EvalRequest<'a> {
     /// The name of the main node.
     pub main: &'a str,
@@ -31,7 +31,7 @@ pub struct EvalRequest<'a> {
 }
 
 /// How a plan is told.
-#[derive(Clone, Copy, Debug, PartialEq, Eq)]
+#[derive(Clone, Copy)]
 pub enum PlanForm {
     /// As the report, for other programs.
     Report,
@@ -42,7 +42,7 @@ pub enum PlanForm {
 }
 
 /// What a plan is asked of.
-#[derive(Clone, Copy, Debug, PartialEq, Eq)]
+#[derive(Clone, Copy)]
 pub struct PlanRequest<'a> {
     /// The name of the main node.
     pub main: &'a str,
@@ -55,7 +55,7 @@ pub struct PlanRequest<'a> {
 }
 
 /// What a replay is asked of.
-#[derive(Clone, Copy, Debug, PartialEq, Eq)]
+#[derive(Clone, Copy)]
 pub struct ReplayRequest<'a> {
     /// The name of the main node.
     pub main: &'a str,
@@ -74,7 +74,7 @@ pub struct ReplayRequest<'a> {
 }
 
 /// What a run is asked of.
-#[derive(Clone, Copy, Debug, PartialEq, Eq)]
+#[derive(Clone, Copy)]
 pub struct RunRequest<'a> {
     /// The name of the main node.
     pub main: &'a str,
@@ -86,10 +86,12 @@ pub struct RunRequest<'a> {
     pub table: &'a str,
     /// How many threads serve the sites, 1 to 16; where there is none, each site has a thread of its own.
     pub workers: Option<u8>,
+    /// Whether it is told on the error stream how far the sites have come.
+    pub progress: bool,
 }
 
 /// What the command line asks for.
-#[derive(Clone, Copy, Debug, PartialEq, Eq)]
+#[derive(Clone, Copy)]
 pub enum Request<'a> {
     /// A check of a program.
     Check(CheckRequest<'a>),
@@ -215,6 +217,7 @@ fn run_in<'a>(matches: &ArgMatches<'a>) -> RunRequest<'a>
         place: text(matches, "PLACE"),
         table: text(matches, "TABLE"),
         workers: workers_in(matches),
+        progress: is_given(matches, "progress"),
     }
 }
 

@@ -2,7 +2,9 @@
 
 use luplace::PlaceError;
 use lusdist_commands::serve_words;
-use lusdist_shell::{Files, ReadError, RealFiles, ScheduleError, Sink, put_out, put_unread};
+use lusdist_shell::{
+    Files, ReadError, RealFiles, ScheduleError, Silent, Sink, put_out, put_unread,
+};
 use lustat_rules::StatError;
 use lusyn_lexer::LexError;
 use lutab::TabError;
@@ -68,7 +70,9 @@ fn stops<R: Threads + Wait + Sync>(
     }
     let mut out = Sink::new(Full);
     let mut err = Sink::new(Vec::new(alloc));
-    let status = serve_words(threads, alloc, &words, &Counters, &mut out, &mut err);
+    let status = serve_words(
+        threads, alloc, &words, &Counters, &Silent, &mut out, &mut err,
+    );
     Ok(status == want.0 && err.writer().starts_with(want.1.as_bytes()))
 }
 

@@ -17,3 +17,4 @@ pub mod Held
 pub mod Posts
 pub mod Counting
 pub mod Drawn
+pub mod Instants

@@ -1,5 +1,5 @@
 -- Where a site stands in its script.
-use Rattle.std.specs.Prelude.{◌≡◌, ℕ, ◌+◌, ◌-◌, ◌*◌, ◌<◌, ◌≤◌, Bool, true, false, ◌||◌, ◌==◌, nat_lt, not, cond, if◌then◌else◌, List, [], ◌∷◌, length, Option, Some, None, is_some, slice_get, slice_set, slice_index, take, All, unwrap_or}
+use Rattle.std.specs.Prelude.{◌≡◌, ◌⊎◌, ℕ, ◌+◌, ◌-◌, ◌*◌, ◌<◌, ◌≤◌, Bool, true, false, ◌||◌, ◌==◌, nat_lt, not, cond, if◌then◌else◌, List, [], ◌∷◌, length, Option, Some, None, is_some, slice_get, slice_set, slice_index, take, All, unwrap_or}
 use Rattle.std.specs.Option.{option_map}
 use Rattle.luflow.specs.declared.data.Datum.{Datum}
 use Rattle.luflow.specs.declared.data.Datum.TheVariants.{Nil}
@@ -62,6 +62,17 @@ pub record Stands (job : Run) (s : ℕ) (now : List Status) (pasts : List Past) 
 pub data IsReady (job : Run) (s t p j : ℕ) : Type 0 where
   Ready : p < length job.plan.flat.order → j < length (cell job (streams_of job) s t (slice_index job.plan.flat.order p)) → IsReady job s t p j
   Over : t ≡ job.inputs.instants → p ≡ length job.plan.flat.order → j ≡ 0 → IsReady job s t p j
+
+-- A site that has done n items of its script stands at instant t: behind all items of the instants before, at one of this instant or,
+-- behind the last instant, of its closes. There is an item left for it there, or the script is done.
+pub record IsAtInstant (job : Run) (s n t : ℕ) : Type 0 where
+  pub place : ℕ
+  pub step : ℕ
+  pub inside : t ≤ job.inputs.instants
+  pub step_le : 0 < step → (place < length job.plan.flat.order) × (step ≤ length (cell job (streams_of job) s t (slice_index job.plan.flat.order place)))
+  pub place_le : place ≤ length job.plan.flat.order
+  pub is : n ≡ items_before job (streams_of job) s t place step
+  pub left : IsReady job s t place step ⊎ (n ≡ length (script job (streams_of job) s))
 
 -- what a machine holds of the flows: their statuses now, and what is kept of them from the instants before
 abbrev pub past_of : Cell → ℕ → Past

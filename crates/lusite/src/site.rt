@@ -6,7 +6,7 @@ ghost use Rattle.luworld.specs.Needs.{sites_of};
 ghost use Rattle.luworld.specs.Outline.{left_after};
 ghost use Rattle.luworld.specs.Runs.{IsJob, IsRun, outline, outputs_of, streams_of};
 ghost use Rattle.lusite.specs.Logs.{IsOutput, IsNewRow, Log, row_items};
-ghost use Rattle.lusite.specs.Machine.{IsNext, IsLocalNext, IsPutNext, IsTakeNext, IsFaultAt};
+ghost use Rattle.lusite.specs.Machine.{IsAtInstant, IsNext, IsLocalNext, IsPutNext, IsTakeNext, IsFaultAt};
 ghost use Rattle.lusite.specs.Programs.{part_at, output_names, reports_output};
 ghost use Rattle.lusite.specs.Widths.{most_left};
 
@@ -109,6 +109,15 @@ impl Site {
         ensures job { IsJob self.now.job }
     {
         self.desk.inputs.instants()
+    }
+
+    /// The instant at which the site stands, from 0: it has done all its items of the instants before. Once it has done all
+    /// instants it is their number, 0 to 1,000,000; where it has faulted, the instant of the fault. Takes no memory.
+    #[inline(always)]
+    pub fn instant(&self) -> u32
+        ensures { IsAtInstant self.now.job self.now.site self.now.done result }
+    {
+        self.desk.instant
     }
 
     /// The number of sites of the run, 1 to 16. Takes no memory.
