@@ -37,11 +37,12 @@ def tokens(text):
         if not token:
             raise Refused('E01 Syntax at %d' % byte)
         if not token[1]:
-            if token[0][0].isdigit() and int(token[0]) > GREATEST:
+            word = token[0].lstrip('0') or '0' if token[0][0].isdigit() else token[0]
+            if word[0].isdigit() and (len(word) > 19 or int(word) > GREATEST):
                 raise Refused('E02 NumberTooLarge at %d' % byte)
-            run = 0 if token[0] == ';' else run + 1
+            run = 0 if word == ';' else run + 1
             long_run = byte if run == 1001 and long_run is None else long_run
-            found.append((token[0], byte))
+            found.append((word, byte))
         byte = token.end()
     if long_run is not None:
         raise Refused('E05 LongRun at %d' % long_run)
