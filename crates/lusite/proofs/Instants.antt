@@ -1,5 +1,5 @@
 -- At which instant a site stands.
-use Rattle.std.proofs.Common.{◌≡◌, ◌⊎◌, inl, inr, Bool, true, false, refl, sym, ◌∙◌, length}
+use Rattle.std.proofs.Common.{◌≡◌, ◌⊎◌, inl, inr, Bool, true, false, refl, length}
 use Rattle.luworld.specs.Runs.{script, streams_of}
 use Rattle.lusite.specs.declared.desk.Desk.{Desk}
 use Rattle.lusite.specs.Machine.{IsAtInstant, IsReady, is_faulted, done_of}
