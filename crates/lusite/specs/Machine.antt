@@ -63,8 +63,19 @@ pub data IsReady (job : Run) (s t p j : ℕ) : Type 0 where
   Ready : p < length job.plan.flat.order → j < length (cell job (streams_of job) s t (slice_index job.plan.flat.order p)) → IsReady job s t p j
   Over : t ≡ job.inputs.instants → p ≡ length job.plan.flat.order → j ≡ 0 → IsReady job s t p j
 
--- A site that has done n items of its script stands at instant t: behind all items of the instants before, at one of this instant or,
--- behind the last instant, of its closes. There is an item left for it there, or the script is done.
+-- none of the n done items stopped the site, and the next one is here; or all are done, and t is the number of instants
+pub record IsGoingAt (job : Run) (s n t p j : ℕ) : Type 0 where
+  pub free : IsFree job (take n (endless job (streams_of job) s))
+  pub ready : IsReady job s t p j
+
+-- the script is done, and its last item, the computation here, stopped the site
+pub record IsStoppedAt (job : Run) (s n j : ℕ) : Type 0 where
+  pub done : n ≡ length (script job (streams_of job) s)
+  pub stopped : HasNoStop job s → ⊥
+  pub computed : j ≡ 1
+
+-- A site that has done n items of its script stands at instant t: behind all its items of the instants before, and the next one is of
+-- this instant, or of the closes, where t is the number of instants; or the computation that stopped it is of this instant.
 pub record IsAtInstant (job : Run) (s n t : ℕ) : Type 0 where
   pub place : ℕ
   pub step : ℕ
@@ -72,7 +83,7 @@ pub record IsAtInstant (job : Run) (s n t : ℕ) : Type 0 where
   pub step_le : 0 < step → (place < length job.plan.flat.order) × (step ≤ length (cell job (streams_of job) s t (slice_index job.plan.flat.order place)))
   pub place_le : place ≤ length job.plan.flat.order
   pub is : n ≡ items_before job (streams_of job) s t place step
-  pub left : IsReady job s t place step ⊎ (n ≡ length (script job (streams_of job) s))
+  pub here : IsGoingAt job s n t place step ⊎ IsStoppedAt job s n step
 
 -- what a machine holds of the flows: their statuses now, and what is kept of them from the instants before
 abbrev pub past_of : Cell → ℕ → Past
