@@ -44,7 +44,7 @@ form_reads_all P (Pre a) all = All-nil P
 form_reads_all P (Arrow a b) all = all
 form_reads_all P (When a) all = all
 form_reads_all P (Current a) all = all
-form_reads_all P (Merge c a b) all = all
+form_reads_all P (Merge c xs) all = all
 
 -- the reads of flows whose operands are places
 reads_closed : (flows : List Flow)

@@ -2,6 +2,7 @@
 use Rattle.std.proofs.Common.{◌≡◌, ℕ, zero, suc, ◌+◌, ◌<◌, List, [], ◌∷◌, ◌++◌, length, map, Option, Some, None, refl, sym, ap, ◌∙◌, subst, arith}
 use Rattle.std.specs.Prelude.{slice_get, slice_index, true, false, pos}
 use Rattle.std.proofs.lemmas.List.{length-map}
+use Rattle.lutree.specs.declared.expr.Pattern.TheVariants as patterns
 use Rattle.lutree.specs.declared.expr.Condition.{Condition}
 use Rattle.lutree.specs.declared.expr.Prefix.TheVariants.{Data as Data1, Pre as Before}
 use Rattle.lutree.specs.declared.expr.Infix.TheVariants.{Data as Data2, Arrow as Starts, FollowedBy}
@@ -195,12 +196,12 @@ module _ (G : Occurrence → Occurrence → Type 0) (I : Instance → Type 0) (p
           makes_leaf G Own A (flow_of p lists node (tree.current x) k (Current (variable_place p lists node x))) w (out (tree.current x) t)
           (λ m a j. one_read m k (operator here.path t) (variable here.path x) (variable_place p lists node x) known (ag m a) ((ag m a).1 x well) h.0)
       makes A ag (tree.merge c a b) k t w te known well h =
-          let ka = condition c true in
-          let kb = condition c false in
+          let ka = condition c (patterns.Truth true) in
+          let kb = condition c (patterns.Truth false) in
           let cp = variable_place p lists node c in
           let ia = items p here node a ka (operand t 0) in
           let ib = items p here node b kb (operand t 1) in
-          makes_two G Own A (walk p lists node a ka) (walk p lists node b kb) (λ x y. flow_of p lists node (tree.merge c a b) k (Merge cp x y)) w (out a (operand t 0)) (out b (operand t 1)) (out (tree.merge c a b) t) (root_own a ka (operand t 0) te) (root_own b kb (operand t 1) te)
+          makes_two G Own A (walk p lists node a ka) (walk p lists node b kb) (λ x y. flow_of p lists node (tree.merge c a b) k (Merge cp (x ∷ y ∷ []))) w (out a (operand t 0)) (out b (operand t 1)) (out (tree.merge c a b) t) (root_own a ka (operand t 0) te) (root_own b kb (operand t 1) te)
           (makes A ag a ka (operand t 0) 1 te well.0 well.1 (every_left Holds ia ib h.1)) (makes A ag b kb (operand t 1) 1 te well.0 well.2 (every_right Holds ia ib h.1))
           (λ x y m am e e' j. three_read m k (operator here.path t) (variable here.path c) (value p here node a (operand t 0)) (value p here node b (operand t 1)) cp x y known (ag m am) ((ag m am).1 c well.0) e e' h.0)
       makes A ag (tree.call f all) k t w te known well h =

@@ -8,6 +8,7 @@ use Rattle.luflow.specs.declared.form.Form.TheVariants.{Input, Constant, Copied,
 use Rattle.luflow.specs.declared.form.Flow.{Flow}
 use Rattle.lucore_list.specs.Layout.{Root, moved_form, moved_clock, moved}
 use Rattle.lucore_list.specs.Layout.Root.{own, at}
+use Rattle.lucore_list.proofs.Open.{map-map}
 use Rattle.lucore_list.proofs.Each.{Each, each_unmap, each_map, each_shift, each_unshift, each_at, each_all}
 
 -- P OF EACH MEMBER
@@ -61,11 +62,11 @@ module _ {V : Type 0} where
   form_targets m (Arrow a b) = m.on a ∷ m.on b ∷ []
   form_targets m (When a) = m.on a ∷ []
   form_targets m (Current a) = m.on a ∷ []
-  form_targets m (Merge c a b) = m.on c ∷ m.on a ∷ m.on b ∷ []
+  form_targets m (Merge c xs) = m.on c ∷ map m.on xs
 
   abbrev pub clock_targets : Model V → Clock → List V
   clock_targets m Base = m.base
-  clock_targets m (On c sign) = m.on c ∷ []
+  clock_targets m (On c d) = m.on c ∷ []
 
   abbrev pub targets : Model V → Flow → List V
   targets m f = form_targets m f.form ++ clock_targets m f.clock
@@ -86,11 +87,11 @@ module _ {V : Type 0} where
   form_moved m b k xs (Arrow x y) = refl
   form_moved m b k xs (When x) = refl
   form_moved m b k xs (Current x) = refl
-  form_moved m b k xs (Merge c x y) = refl
+  form_moved m b k xs (Merge c ys) = ap (λ l. m.on (b + c) ∷ l) (map-map m.on (λ x. b + x) ys)
 
   clock_moved : (m : Model V) (b : ℕ) (k : Clock) (xs : List ℕ) (c : Clock) → clock_targets m (moved_clock b k c) ≡ clock_targets (moved_model m b k xs) c
   clock_moved m b k xs Base = refl
-  clock_moved m b k xs (On c sign) = refl
+  clock_moved m b k xs (On c d) = refl
 
   pub flow_moved : (m : Model V) (b : ℕ) (k : Clock) (xs : List ℕ) (f : Flow) → targets m (moved b k xs f) ≡ targets (moved_model m b k xs) f
   flow_moved m b k xs f =

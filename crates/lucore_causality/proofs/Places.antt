@@ -1,6 +1,7 @@
 -- The place of each occurrence in the flat list.
 use Rattle.std.proofs.Common.{◌≡◌, ℕ, zero, suc, ◌+◌, ◌<◌, ◌⊎◌, List, [], ◌∷◌, length, map, Option, Some, None}
 use Rattle.std.specs.Prelude.{slice_get, true, false}
+use Rattle.lutree.specs.declared.expr.Pattern.TheVariants as patterns
 use Rattle.lutree.specs.declared.expr.Condition.{Condition}
 use Rattle.lutree.specs.declared.expr.Prefix.TheVariants.{Pre as Before}
 use Rattle.lutree.specs.declared.expr.Infix.TheVariants.{Data as Data2, Arrow as Starts, FollowedBy}
@@ -62,8 +63,8 @@ module _ (p : ProgramTree) (lists : List (List Flow)) (node : NodeTree) where
   operand_spot (tree.choice c a b) k s (suc (suc n)) = spot b k (next a k (next c k s))
   operand_spot (tree.when a c) k s n = spot a (clock_of node c.variable) s
   operand_spot (tree.current x) k s n = nowhere
-  operand_spot (tree.merge c a b) k s zero = spot a (condition c true) s
-  operand_spot (tree.merge c a b) k s (suc n) = spot b (condition c false) (next a (condition c true) s)
+  operand_spot (tree.merge c a b) k s zero = spot a (condition c (patterns.Truth true)) s
+  operand_spot (tree.merge c a b) k s (suc n) = spot b (condition c (patterns.Truth false)) (next a (condition c (patterns.Truth true)) s)
   operand_spot (tree.call f all) k s n = argument_spot all k s n
 
   -- where the right side of equation n stands

@@ -3,6 +3,7 @@ use Rattle.std.proofs.Common.{◌≡◌, ℕ, zero, suc, ◌+◌, ◌<◌, inl, 
 use Rattle.std.specs.Prelude.{slice_get, slice_index, true, false}
 use Rattle.std.proofs.lemmas.List.{append-nil}
 use Rattle.std.proofs.lemmas.Option.{same_Some}
+use Rattle.lutree.specs.declared.expr.Pattern.TheVariants as patterns
 use Rattle.lutree.specs.declared.expr.Condition.{Condition}
 use Rattle.lutree.specs.declared.expr.Prefix.TheVariants.{Data as Data1, Pre as Before}
 use Rattle.lutree.specs.declared.expr.Infix.TheVariants.{Data as Data2, Arrow as Starts, FollowedBy}
@@ -237,8 +238,8 @@ module _ (p : ProgramTree) (lists : List (List Flow)) (main : List ℕ) (flat : 
     good (tree.current x) k t s w well is hold = λ y e holds.
         ((steps (op t) (m.on y) (variable here.path x ∷ clocked p here node k) _ e (one_same k (variable here.path x) _ (variable_spot x)) holds, tt), λ j. (e, tt))
     good (tree.merge c a b) k t s w well is hold = λ y e holds.
-        let ka = condition c true in
-        let kb = condition c false in
+        let ka = condition c (patterns.Truth true) in
+        let kb = condition c (patterns.Truth false) in
         let s' = next p lists node a ka s in
         let hb = each_left (FlowHolds G m) s' (made (W b kb s')) [] (each_right (FlowHolds G m) s (made (W a ka s)) (made (W b kb s') ++ []) hold) in
         let ga = from_good a ka t 0 s (sub_at t (tree.merge c a b) k s 0 is) (λ h. good a ka (operand t 0) s 1 well.1 (sub_at t (tree.merge c a b) k s 0 is) h) (each_left (FlowHolds G m) s (made (W a ka s)) (made (W b kb s') ++ []) hold) in

@@ -52,11 +52,11 @@ module _ {V : Type 0} (on : ℕ → V) where
   form_read (Arrow a b) = refl
   form_read (When a) = refl
   form_read (Current a) = refl
-  form_read (Merge c a b) = refl
+  form_read (Merge c xs) = refl
 
   clock_read : (k : Clock) → clock_targets outer k ≡ map on (clock_reads k)
   clock_read Base = refl
-  clock_read (On c sign) = refl
+  clock_read (On c d) = refl
 
   joined : (xs ys : List ℕ) → map on xs ++ map on ys ≡ map on (xs ++ ys)
   joined [] ys = refl

@@ -2,6 +2,7 @@
 use Rattle.std.specs.Prelude.{ℕ, suc, true, false, List, [], ◌∷◌, ◌++◌, Option, Some, None, slice_get, Contains}
 use Rattle.lutree.specs.declared.expr.Prefix.TheVariants.{Data as Data1, Pre}
 use Rattle.lutree.specs.declared.expr.Infix.TheVariants.{Data as Data2, Arrow, FollowedBy}
+use Rattle.lutree.specs.declared.expr.Pattern.TheVariants as patterns
 use Rattle.lutree.specs.declared.expr.Condition.{Condition}
 use Rattle.lutree.specs.Tree.{Tree, Trees, DeclarationTree, EquationTree, NodeTree, ProgramTree}
 use Rattle.lutree.specs.Tree as tree
@@ -96,7 +97,7 @@ module _ (program : ProgramTree) (here : Instance) (node : NodeTree) where
     items (tree.current x) k at = reading (operator here.path at) (variable here.path x ∷ clocked k) ∷ []
     items (tree.merge c a b) k at =
         reading (operator here.path at) (variable here.path c ∷ value a (operand at 0) ∷ value b (operand at 1) ∷ clocked k)
-        ∷ items a (condition c true) (operand at 0) ++ items b (condition c false) (operand at 1)
+        ∷ items a (condition c (patterns.Truth true)) (operand at 0) ++ items b (condition c (patterns.Truth false)) (operand at 1)
     items (tree.call f all) k at =
         calling (record { path = at ∷ here.path; node = f; clock = clocked k; arguments = values all at 0 })
         ∷ items_in all k at 0

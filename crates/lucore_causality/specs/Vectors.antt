@@ -3,14 +3,15 @@ use Rattle.std.specs.Prelude.{ℕ, true, List, [], ◌∷◌, codes, Option, Som
 use Rattle.lutree.specs.declared.expr.BinaryOperator.TheVariants.{Add, Equal}
 use Rattle.lutree.specs.declared.expr.Prefix.TheVariants.{Pre}
 use Rattle.lutree.specs.declared.expr.Infix.TheVariants.{Data as Data2, Arrow}
+use Rattle.lutree.specs.declared.expr.Pattern.TheVariants as patterns
 use Rattle.lutree.specs.declared.expr.Condition.{Condition}
 use Rattle.lutree.specs.declared.program.Kind.TheVariants.{Int as Ints, Bool as Truths}
-use Rattle.lutree.specs.Tree.{Tree, DeclarationTree, NodeTree}
+use Rattle.lutree.specs.Tree.{Tree, DeclarationTree, NodeTree, program_of}
 use Rattle.lutree.specs.Tree as tree
 use Rattle.lucore_causality.specs.Laws.{HasCycle}
 
 abbrev pub where_c : Condition
-where_c = record { variable = codes "c"; sign = true }
+where_c = record { variable = codes "c"; pattern = patterns.Truth true }
 
 abbrev pub int_named : List ℕ → Option Condition → DeclarationTree
 int_named name clock = record { name = name; kind = Ints; clock = clock }
@@ -60,6 +61,6 @@ through_clock =
     }
 
 pub record VectorsLaw : Type 0 where
-  pub call_closes : HasCycle (same ∷ through_call ∷ []) (codes "main")
-  pub clock_closes : HasCycle (through_clock ∷ []) (codes "main")
-  pub pre_breaks : ¬ HasCycle (counter ∷ []) (codes "main")
+  pub call_closes : HasCycle (program_of (same ∷ through_call ∷ [])) (codes "main")
+  pub clock_closes : HasCycle (program_of (through_clock ∷ [])) (codes "main")
+  pub pre_breaks : ¬ HasCycle (program_of (counter ∷ [])) (codes "main")

@@ -44,7 +44,7 @@ pub none_built : (p : ProgramTree) (order : List ℕ) (marks : List Bool) (built
 none_built p order marks built lists are m i lt at has = absurd (omega (arith, lt))
 
 module _ (p : ProgramTree) (order : List ℕ) (marks : List Bool) (calls : IsCallOrder p order) (closed : AreClosed p marks) (k i : ℕ) (built : List (List Flow)) (are_built : AreBuilt p order marks k built) (at : slice_get order k ≡ Some i) where
-  module _ (n : NodeTree) (there : slice_get p i ≡ Some n) (has : Has marks i) where
+  module _ (n : NodeTree) (there : slice_get p.nodes i ≡ Some n) (has : Has marks i) where
     called_same : (lists : List (List Flow)) → AreLists p lists → (f : List ℕ) → Contains (called_by n) f → list_of p built f ≡ list_of p lists f
     called_same lists are f called = go (node_place p f) refl
       where
@@ -79,7 +79,7 @@ module _ (p : ProgramTree) (order : List ℕ) (marks : List Bool) (calls : IsCal
         (same_or_not j i)
 
   -- a node without a mark needs no list, and a place of no node has none
-  pub none_more : length built ≡ length p → (i < length p → Has marks i → ⊥) → AreBuilt p order marks (k + 1) built
+  pub none_more : length built ≡ length p.nodes → (i < length p.nodes → Has marks i → ⊥) → AreBuilt p order marks (k + 1) built
   none_more long lacks lists are m j lt at_m marked =
       ⊎_elim
       (λ (low : m < k). are_built lists are m j low at_m marked)
@@ -87,8 +87,8 @@ module _ (p : ProgramTree) (order : List ℕ) (marks : List Bool) (calls : IsCal
       let e : m ≡ k = omega (arith, lt, high) in
       let same : j ≡ i = same_Some j i (sym at_m ∙ ap (slice_get order) e ∙ at) in
       ⊎_elim
-      (λ (inside : i < length p). absurd (lacks inside (subst (Has marks) same marked)))
-      (λ (past : length p ≤ i).
+      (λ (inside : i < length p.nodes). absurd (lacks inside (subst (Has marks) same marked)))
+      (λ (past : length p.nodes ≤ i).
       slice_get_past built j (omega (arith, past, long, same)) ∙ sym (slice_get_past lists j (omega (arith, past, same, are.count))))
-      (cases_lt i (length p)))
+      (cases_lt i (length p.nodes)))
       (cases_lt m k)

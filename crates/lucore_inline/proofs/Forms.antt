@@ -7,6 +7,7 @@ use Rattle.lutree.specs.declared.expr.Prefix.{Prefix}
 use Rattle.lutree.specs.declared.expr.Prefix.TheVariants.{Data as Data1, Pre as Before}
 use Rattle.lutree.specs.declared.expr.Infix.{Infix}
 use Rattle.lutree.specs.declared.expr.Infix.TheVariants.{Data as Data2, Arrow as Starts, FollowedBy}
+use Rattle.lutree.specs.declared.expr.Pattern.TheVariants as patterns
 use Rattle.lutree.specs.declared.expr.Condition.{Condition}
 use Rattle.lutree.specs.declared.program.Kind.{Kind}
 use Rattle.lutree.specs.declared.program.Kind.TheVariants.{Int as Ints, Bool as Truths}
@@ -88,18 +89,18 @@ module _ (p : ProgramTree) (l : List (List Flow)) (n : NodeTree) where
       (leaf_is (flow_of p l n (tree.when a c) (Some c) (When x.place)) (flow_on ck x.kind (When x.place)) mid (ap (λ q. flow_on ck q (When x.place)) e))
 
   pub merge_is : (c : List ℕ) (a b : Tree) (k : Option Condition) (old m1 m2 : List Flow) (x y : Operand) →
-      IsMade (walk p l n a (condition c true)) old m1 x.place → IsMade (walk p l n b (condition c false)) m1 m2 y.place → x.kind ≡ type_of p n a → y.kind ≡ type_of p n b →
-      IsWalked (walk p l n (tree.merge c a b) k) old m2 (own (flow_on (clock_place n k) (agreed x.kind y.kind) (Merge (variable_place p l n c) x.place y.place)))
+      IsMade (walk p l n a (condition c (patterns.Truth true))) old m1 x.place → IsMade (walk p l n b (condition c (patterns.Truth false))) m1 m2 y.place → x.kind ≡ type_of p n a → y.kind ≡ type_of p n b →
+      IsWalked (walk p l n (tree.merge c a b) k) old m2 (own (flow_on (clock_place n k) (agreed x.kind y.kind) (Merge (variable_place p l n c) (x.place ∷ y.place ∷ []))))
   merge_is c a b k old m1 m2 x y ma mb e g =
       let ck = clock_place n k in
       let v = variable_place p l n c in
-      let f = λ (i j : ℕ). leaf (flow_of p l n (tree.merge c a b) k (Merge v i j)) in
-      let root = flow_on ck (agreed x.kind y.kind) (Merge v x.place y.place) in
-      let same : root ≡ flow_of p l n (tree.merge c a b) k (Merge v x.place y.place) =
-      ap (λ q. flow_on ck (agreed q y.kind) (Merge v x.place y.place)) e ∙ ap (λ q. flow_on ck (agreed (type_of p n a) q) (Merge v x.place y.place)) g in
-      after_is (walk p l n a (condition c true)) (λ i. after (walk p l n b (condition c false)) (λ j. f i j)) old m1 m2 x.place (own root) ma
-      (after_is (walk p l n b (condition c false)) (λ j. f x.place j) m1 m2 m2 y.place (own root) mb
-      (leaf_is (flow_of p l n (tree.merge c a b) k (Merge v x.place y.place)) root m2 same))
+      let f = λ (i j : ℕ). leaf (flow_of p l n (tree.merge c a b) k (Merge v (i ∷ j ∷ []))) in
+      let root = flow_on ck (agreed x.kind y.kind) (Merge v (x.place ∷ y.place ∷ [])) in
+      let same : root ≡ flow_of p l n (tree.merge c a b) k (Merge v (x.place ∷ y.place ∷ [])) =
+      ap (λ q. flow_on ck (agreed q y.kind) (Merge v (x.place ∷ y.place ∷ []))) e ∙ ap (λ q. flow_on ck (agreed (type_of p n a) q) (Merge v (x.place ∷ y.place ∷ []))) g in
+      after_is (walk p l n a (condition c (patterns.Truth true))) (λ i. after (walk p l n b (condition c (patterns.Truth false))) (λ j. f i j)) old m1 m2 x.place (own root) ma
+      (after_is (walk p l n b (condition c (patterns.Truth false))) (λ j. f x.place j) m1 m2 m2 y.place (own root) mb
+      (leaf_is (flow_of p l n (tree.merge c a b) k (Merge v (x.place ∷ y.place ∷ []))) root m2 same))
 
   -- ARGUMENTS
 

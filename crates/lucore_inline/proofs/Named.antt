@@ -8,13 +8,16 @@ use Rattle.lutree.specs.declared.program.Declaration.{Declaration}
 use Rattle.lutree.specs.declared.program.Node.{Node}
 use Rattle.lutree.specs.Tree.{NodeTree, node_view}
 use Rattle.lusource.specs.Names.{place_of, clock_of, variables_of}
+use Rattle.lusource.specs.Source.{pattern_value}
 use Rattle.lustat_rules.specs.Scope.{declarations_of}
 use Rattle.lustat_rules.specs.Scope as rules
 use Rattle.lunames.specs.Places.{first_place}
 use Rattle.lustat_scope.proofs.Declared.{names_in_view}
-use Rattle.lustat_scope.specs.ClockRefs.{the_clock, placed_view, place_before, IsPlaced}
+use Rattle.lustat_scope.specs.ClockRefs.{the_pattern, the_clock, placed_view, place_before, IsPlaced}
+use Rattle.lustat_scope.specs.declared.clock_ref.PatternRef.{PatternRef}
 use Rattle.lustat_scope.specs.declared.clock_ref.ClockRef.TheVariants as ref
 use Rattle.lustat_scope.specs.declared.clock_ref.PlacedClock.{PlacedClock}
+use Rattle.luflow.specs.declared.data.Datum.{Datum}
 use Rattle.luflow.specs.declared.form.Clock.TheVariants.{On}
 use Rattle.lucore_list.specs.Layout.{clock_place}
 use Rattle.lunames.proofs.Sought.{shifted_first}
@@ -51,9 +54,9 @@ long n items e =
     sym (length-map items (λ (d : Bor Declaration). d.now)) ∙ ap length e ∙ sym (length-map (declared_in n) (λ (d : Declaration). d.name)) ∙ ap length (sym (names_in_view n))
 
 -- a clock by the place of its variable
-pub clock_placed : (n : NodeTree) (k : PlacedClock) (x : Bor (List ℕ)) (s : Bool) (i : ℕ) → IsPlaced n k → k.clock ≡ ref.On x s
-    → i ≡ unwrap_or k.place (length (variables_of n)) → On i s ≡ clock_place n (placed_view k)
-clock_placed n k x s i placed e f =
+pub clock_placed : (n : NodeTree) (k : PlacedClock) (x : Bor (List ℕ)) (p : PatternRef) (i : ℕ) (s : Datum) → IsPlaced n k → k.clock ≡ ref.On x p
+    → i ≡ unwrap_or k.place (length (variables_of n)) → s ≡ pattern_value (the_pattern p) → On i s ≡ clock_place n (placed_view k)
+clock_placed n k x p i s placed e f g =
     let ys = variables_of n in
     let at : k.place ≡ first_place ys x.now = placed.at ∙ ap (λ r. place_before n (the_clock r)) e in
-    ap (λ j. On j s) (f ∙ ap (λ o. unwrap_or o (length ys)) at ∙ sym (place_there ys x.now)) ∙ ap (λ r. clock_place n (the_clock r)) (sym e)
+    ap (λ j. On j s) (f ∙ ap (λ o. unwrap_or o (length ys)) at ∙ sym (place_there ys x.now)) ∙ ap (On (place_of ys x.now)) g ∙ ap (λ r. clock_place n (the_clock r)) (sym e)

@@ -45,34 +45,34 @@ links_within size u (row ∷ g) le rows =
     (links_within size (suc u) g (omega (arith, le)) (λ v. rows (suc v)))
 
 module _ (p : ProgramTree) (g : Graph) (s : AreRows p g) where
-  called_inside : (n : NodeTree) → All (λ w. w < length p) (places_called p n)
+  called_inside : (n : NodeTree) → All (λ w. w < length p.nodes) (places_called p n)
   called_inside n =
-      all_of (λ w. w < length p) (places_called p n) (λ i j e.
+      all_of (λ w. w < length p.nodes) (places_called p n) (λ i j e.
       let f = found_of (node_place p) (called_by n) j (contains_get (places_called p n) j i e) in
       let m = means p f.name j f.found in
-      slice_get_within p j m.node m.there)
+      slice_get_within p.nodes j m.node m.there)
 
-  rows_inside : (v : ℕ) → All (λ w. w < length p) (row_of g v)
+  rows_inside : (v : ℕ) → All (λ w. w < length p.nodes) (row_of g v)
   rows_inside v =
       ⊎_elim
-      (λ (lt : v < length p).
-      let n : NodeTree = get_or p v unnamed in
-      let there : slice_get p v ≡ Some n = slice_get-get_or p v unnamed lt in
-      subst (All (λ w. w < length p)) (sym (s.rows v n there)) (called_inside n))
-      (λ (le : length p ≤ v).
+      (λ (lt : v < length p.nodes).
+      let n : NodeTree = get_or p.nodes v unnamed in
+      let there : slice_get p.nodes v ≡ Some n = slice_get-get_or p.nodes v unnamed lt in
+      subst (All (λ w. w < length p.nodes)) (sym (s.rows v n there)) (called_inside n))
+      (λ (le : length p.nodes ≤ v).
       let none : row_of g v ≡ [] = ap items_of (slice_get_past g v (omega (arith, le, s.long))) in
-      subst (All (λ w. w < length p)) (sym none) (All-nil (λ w. w < length p)))
-      (cases_lt v (length p))
+      subst (All (λ w. w < length p.nodes)) (sym none) (All-nil (λ w. w < length p.nodes)))
+      (cases_lt v (length p.nodes))
     where
       unnamed : NodeTree
       unnamed = record { name = []; inputs = []; outputs = []; locals = []; equations = [] }
 
   pub within : (size : ℕ) → size ≡ length g → All (IsWithin size) (links_from 0 g)
   within size is =
-      let same : length p ≡ size = sym s.long ∙ sym is in
-      subst (λ n. All (IsWithin n) (links_from 0 g)) same (links_within (length p) 0 g (omega (arith, s.long)) rows_inside)
+      let same : length p.nodes ≡ size = sym s.long ∙ sym is in
+      subst (λ n. All (IsWithin n) (links_from 0 g)) same (links_within (length p.nodes) 0 g (omega (arith, s.long)) rows_inside)
 
-  pub start_inside : (size place : ℕ) → size ≡ length g → place < length p → All (λ v. v < size) (place ∷ [])
+  pub start_inside : (size place : ℕ) → size ≡ length g → place < length p.nodes → All (λ v. v < size) (place ∷ [])
   start_inside size place is lt = All-cons (λ v. v < size) place [] (omega (arith, is, lt, s.long)) (All-nil (λ v. v < size))
 
   -- marks that tell what is reached go with calls

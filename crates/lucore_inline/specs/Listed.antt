@@ -18,7 +18,7 @@ links_from u (row ∷ rows) = map (link u) row.items ++ links_from (suc u) rows
 
 -- what a node with a mark calls has a mark
 abbrev pub AreClosed : ProgramTree → List Bool → Type 0
-AreClosed p marks = (i j : ℕ) (n : NodeTree) → slice_get p i ≡ Some n → Has marks i → Contains (places_called p n) j → Has marks j
+AreClosed p marks = (i j : ℕ) (n : NodeTree) → slice_get p.nodes i ≡ Some n → Has marks i → Contains (places_called p n) j → Has marks j
 
 -- of the first k nodes of an order, those with a mark have their lists
 abbrev pub AreBuilt : ProgramTree → List ℕ → List Bool → ℕ → List (List Flow) → Type 0

@@ -3,14 +3,15 @@
 ghost use Rattle.std.specs.Prelude.{◌≡◌, length, option_map, unwrap_or, ◌∷◌, [], map};
 ghost use Rattle.lutree.specs.Tree.{node_view, program_view};
 ghost use Rattle.lusource.specs.Names.{variables_of, place_of, clock_of};
+ghost use Rattle.lusource.specs.Source.{pattern_value};
 ghost use Rattle.lustat_rules.specs.Scope.{kind_of, node_called};
 ghost use Rattle.lucore_list.specs.Layout.{clock_place, inputs_in, list_of};
-ghost use Rattle.lustat_scope.specs.ClockRefs.{placed_view, IsPlaced};
+ghost use Rattle.lustat_scope.specs.ClockRefs.{the_pattern, placed_view, IsPlaced};
 ghost use Rattle.lucore_inline.specs.Walks.{flow_on, plain};
 
 use crate::root::{Root, Walked};
-use luflow::{Clock, Flow, Form};
-use lustat_scope::{Catalog, ClockRef, PlacedClock, Scope};
+use luflow::{Clock, Datum, Flow, Form};
+use lustat_scope::{Catalog, ClockRef, PatternRef, PlacedClock, Scope};
 use lutree::Kind;
 
 /// What an expression is laid out in: the program, its node, and the lists of all nodes.
@@ -49,6 +50,15 @@ pub fn variable_clock<'a>(scope: &Scope<'a>, name: &str) -> PlacedClock<'a>
     }
 }
 
+// The value at which a clock with a pattern is true.
+fn pattern_value(pattern: &PatternRef) -> Datum
+    ensures { result ≡ pattern_value (the_pattern pattern.now) }
+{
+    match *pattern {
+        PatternRef::Truth(sign) => Datum::Bool(sign),
+    }
+}
+
 /// A clock by the place of its variable.
 pub fn clock_by_place(scope: &Scope, clock: PlacedClock) -> Clock
     requires { IsPlaced (node_view scope.now) clock }
@@ -56,7 +66,9 @@ pub fn clock_by_place(scope: &Scope, clock: PlacedClock) -> Clock
 {
     match clock.clock {
         ClockRef::Base => Clock::Base,
-        ClockRef::On(_name, sign) => Clock::On(place_or_end(scope, clock.place), sign),
+        ClockRef::On(_name, pattern) => {
+            Clock::On(place_or_end(scope, clock.place), pattern_value(&pattern))
+        }
     }
 }
 

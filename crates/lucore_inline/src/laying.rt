@@ -43,10 +43,10 @@ fn list_at(
     lists: &[Vec<Flow>],
     place: usize,
 ) -> Result<NodeList, AllocError>
-    requires { place < length (program_view catalog.now) }
-    ensures flows { IfOk result (λ list. ForSome (slice_get (program_view catalog.now) place)
+    requires { place < length (program_view catalog.now).nodes }
+    ensures flows { IfOk result (λ list. ForSome (slice_get (program_view catalog.now).nodes place)
         (λ n. list.flows.items ≡ node_flows (program_view catalog.now) (plain lists.now) n)) }
-    ensures owners { IfOk result (λ list. ForSome (slice_get (program_view catalog.now) place)
+    ensures owners { IfOk result (λ list. ForSome (slice_get (program_view catalog.now).nodes place)
         (λ n. list.owners.items ≡ node_owners (program_view catalog.now) (plain lists.now) n)) }
 {
     let scope = &catalog.scopes()[place];
@@ -79,7 +79,7 @@ fn lists_before(
     requires calls { IsCallOrder (program_view catalog.now) order.now }
     requires closed { AreClosed (program_view catalog.now) marks.now }
     requires inside { end ≤ length order.now }
-    ensures long { IfOk result (λ lists. length lists.items ≡ length (program_view catalog.now)) }
+    ensures long { IfOk result (λ lists. length lists.items ≡ length (program_view catalog.now).nodes) }
     ensures built { IfOk result (λ lists. AreBuilt (program_view catalog.now) order.now marks.now
         end (plain lists.items)) }
 {
@@ -116,10 +116,10 @@ fn laid_at(
     place: usize,
 ) -> Result<Laid, AllocError>
     requires calls { IsCallOrder (program_view catalog.now) order.now }
-    requires inside { place < length (program_view catalog.now) }
-    ensures list { IfOk result (λ laid. ForSome (slice_get (program_view catalog.now) place)
+    requires inside { place < length (program_view catalog.now).nodes }
+    ensures list { IfOk result (λ laid. ForSome (slice_get (program_view catalog.now).nodes place)
         (λ n. IsNodeList (program_view catalog.now) n laid.flows.items laid.owners.items)) }
-    ensures variables { IfOk result (λ laid. ForSome (slice_get (program_view catalog.now) place)
+    ensures variables { IfOk result (λ laid. ForSome (slice_get (program_view catalog.now).nodes place)
         (λ n. laid.variables.items ≡ main_variables n)) }
 {
     let marks = needed_by(alloc, catalog, place)?;

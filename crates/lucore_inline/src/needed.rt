@@ -38,7 +38,7 @@ fn links_of(alloc: Global, graph: &[Vec<usize>]) -> Result<Vec<Link>, AllocError
 ///
 /// An error means that memory ran out.
 pub fn needed_by(alloc: Global, catalog: &Catalog, place: usize) -> Result<Vec<bool>, AllocError>
-    requires { place < length (program_view catalog.now) }
+    requires { place < length (program_view catalog.now).nodes }
     ensures start { IfOk result (λ marks. Has marks.items place) }
     ensures closed { IfOk result (λ marks. AreClosed (program_view catalog.now) marks.items) }
 {

@@ -29,21 +29,22 @@ pub struct Parts {
 
 // The flow of a variable on the left side of an equation, by its number there.
 fn defined_flow(
+    alloc: Global,
     scope: &Scope,
     clock: PlacedClock,
-    root: Root,
+    root: &Root,
     number: usize,
     name: &str,
 ) -> Result<Flow, AllocError>
     requires { IsPlaced (node_view scope.now) clock }
     ensures { IfOk result (λ f. f ≡ flow_named (node_view scope.now)
-        (clock_place (node_view scope.now) (placed_view clock.entry)) (root_view root) number
+        (clock_place (node_view scope.now) (placed_view clock.entry)) (root_view root.now) number
         name.now) }
 {
     match root {
-        Root::Own(flow) => Ok(flow),
+        Root::Own(flow) => flow.copied(alloc),
         Root::At(place) => {
-            let form = Form::Copied(sum_of(place, number)?);
+            let form = Form::Copied(sum_of(*place, number)?);
             Ok(flow_of(scope, clock, scope.kind(name), form))
         }
     }
@@ -51,19 +52,20 @@ fn defined_flow(
 
 // The flows of the variables on a left side, behind those before.
 fn push_defined(
+    alloc: Global,
     scope: &Scope,
     clock: PlacedClock,
-    root: Root,
+    root: &Root,
     left: &[Name],
     defined: &mut Vec<Flow>,
 ) -> Result<(), AllocError>
     requires { IsPlaced (node_view scope.now) clock }
     ensures { OnOk result (defined.new.items ≡ defined.old.items
         ++ flows_named (node_view scope.now) (clock_place (node_view scope.now)
-        (placed_view clock.entry)) (root_view root) 0 left.now) }
+        (placed_view clock.entry)) (root_view root.now) 0 left.now) }
 {
     for (number, name) in left.iter().enumerate() {
-        defined.push(defined_flow(scope, clock, root, number, name.as_str())?)?;
+        defined.push(defined_flow(alloc, scope, clock, root, number, name.as_str())?)?;
     }
     Ok(())
 }
@@ -121,7 +123,7 @@ fn push_equation(
     let walked = walk(alloc, context, &mut parts.flows, &equation.right, clock)?;
     let made = parts.flows.len() - before;
     push_copies(&mut parts.owners, variable_place(scope, name), made)?;
-    push_defined(scope, clock, walked.root, left, &mut parts.defined)
+    push_defined(alloc, scope, clock, &walked.root, left, &mut parts.defined)
 }
 
 /// Holds the place of a variable's flow until that is known.
@@ -133,6 +135,17 @@ pub fn vacant_flow() -> Flow
         clock: Clock::Base,
         kind: Kind::Int,
     }
+}
+
+// Places that are held for variables.
+fn vacant_flows(alloc: Global, count: usize) -> Result<Vec<Flow>, AllocError>
+    ensures { IfOk result (λ flows. flows.items ≡ replicate count vacant) }
+{
+    let mut flows = Vec::with_capacity(alloc, count)?;
+    for _ in 0..count {
+        flows.push(vacant_flow())?;
+    }
+    Ok(flows)
 }
 
 /// What all equations of a node make.
@@ -160,7 +173,7 @@ pub fn parts_of(alloc: Global, context: &Context) -> Result<Parts, AllocError>
         (node_view context.now.scope.now))) }
 {
     let mut parts = Parts {
-        flows: vec![in alloc; vacant_flow(); context.scope.declarations().len()]?,
+        flows: vacant_flows(alloc, context.scope.declarations().len())?,
         owners: Vec::new(alloc),
         defined: Vec::new(alloc),
     };

@@ -38,12 +38,17 @@ pub fn left_names(alloc: Global, equations: &[Equation]) -> Result<Vec<&str>, Al
 }
 
 // The flow of a variable, looked up by its name.
-fn flow_found(places: &Places, defined: &[Flow], name: &str) -> Flow
-    ensures { result ≡ flow_at defined.now (first_place places.now name.now) }
+fn flow_found(
+    alloc: Global,
+    places: &Places,
+    defined: &[Flow],
+    name: &str,
+) -> Result<Flow, AllocError>
+    ensures { IfOk result (λ f. f ≡ flow_at defined.now (first_place places.now name.now)) }
 {
     match places.find(name) {
-        Some(place) if place < defined.len() => defined[place],
-        _ => vacant_flow(),
+        Some(place) if place < defined.len() => defined[place].copied(alloc),
+        _ => Ok(vacant_flow()),
     }
 }
 
@@ -64,6 +69,7 @@ pub fn push_inputs(flows: &mut Vec<Flow>, inputs: &[Declaration]) -> Result<(), 
 
 /// The flows of declared variables, behind those before.
 pub fn push_variables(
+    alloc: Global,
     flows: &mut Vec<Flow>,
     places: &Places,
     defined: &[Flow],
@@ -73,17 +79,32 @@ pub fn push_variables(
         ++ flows_found places.now defined.now (spellings declarations.now)) }
 {
     for d in declarations {
-        flows.push(flow_found(places, defined, d.name.as_str()))?;
+        flows.push(flow_found(alloc, places, defined, d.name.as_str())?)?;
     }
     Ok(())
 }
 
 /// Flows but for the first ones, behind those before.
-pub fn push_behind(flows: &mut Vec<Flow>, all: &[Flow], count: usize) -> Result<(), AllocError>
+pub fn push_behind(
+    alloc: Global,
+    flows: &mut Vec<Flow>,
+    all: &[Flow],
+    count: usize,
+) -> Result<(), AllocError>
     ensures { OnOk result (flows.new.items ≡ flows.old.items ++ drop count all.now) }
 {
     if count < all.len() {
-        flows.extend_from_slice(&all[count..])?;
+        push_all(alloc, flows, &all[count..])?;
+    }
+    Ok(())
+}
+
+// Flows behind those before.
+fn push_all(alloc: Global, flows: &mut Vec<Flow>, more: &[Flow]) -> Result<(), AllocError>
+    ensures { OnOk result (flows.new.items ≡ flows.old.items ++ more.now) }
+{
+    for flow in more {
+        flows.push(flow.copied(alloc)?)?;
     }
     Ok(())
 }

@@ -94,9 +94,21 @@ pub fn node_list(alloc: Global, context: &Context) -> Result<NodeList, AllocErro
     let places = Places::new(alloc, left_names(alloc, equations)?)?;
     let mut flows = Vec::with_capacity(alloc, parts.flows.len())?;
     push_inputs(&mut flows, node.inputs.as_slice())?;
-    push_variables(&mut flows, &places, &parts.defined, node.outputs.as_slice())?;
-    push_variables(&mut flows, &places, &parts.defined, node.locals.as_slice())?;
-    push_behind(&mut flows, &parts.flows, variables.len())?;
+    push_variables(
+        alloc,
+        &mut flows,
+        &places,
+        &parts.defined,
+        node.outputs.as_slice(),
+    )?;
+    push_variables(
+        alloc,
+        &mut flows,
+        &places,
+        &parts.defined,
+        node.locals.as_slice(),
+    )?;
+    push_behind(alloc, &mut flows, &parts.flows, variables.len())?;
     let known = leaders_of(alloc, context.scope, equations)?;
     let mut owners = Vec::with_capacity(alloc, parts.flows.len())?;
     push_owners(&mut owners, context.scope, &places, &known, variables)?;

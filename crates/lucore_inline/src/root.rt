@@ -10,14 +10,14 @@ use lutree::Kind;
 use std::alloc::AllocError;
 
 /// What stands at the root of an expression: a flow of its own, which has no place yet, or what stands at a place already.
-#[derive(Clone, Copy, Drop)]
+#[derive(Drop)]
 pub enum Root {
     Own(Flow),
     At(usize),
 }
 
 /// What the walk of an expression finds: its root, and its type, or none where it has none.
-#[derive(Clone, Copy, Drop)]
+#[derive(Drop)]
 pub struct Walked {
     pub root: Root,
     pub kind: Option<Kind>,
@@ -31,8 +31,8 @@ pub fn settled(walked: Walked, flows: &mut Vec<Flow>) -> Result<Operand, AllocEr
         (root_view walked.root)) }
     ensures kind { IfOk result (λ x. x.kind ≡ walked.kind) }
 {
-    let kind = walked.kind;
-    match walked.root {
+    let Walked { root, kind } = walked;
+    match root {
         Root::At(place) => Ok(Operand { place, kind }),
         Root::Own(flow) => {
             let place = flows.len();

@@ -1,6 +1,6 @@
 //! The walk of an expression.
 
-ghost use Rattle.std.specs.Prelude.{◌≡◌, pos, length, map, IfOk, unwrap_or};
+ghost use Rattle.std.specs.Prelude.{◌≡◌, ◌∷◌, [], pos, length, map, IfOk, unwrap_or};
 ghost use Rattle.lutree.specs.Tree.{view, views, trees_of, node_view, program_view, declarations_view};
 ghost use Rattle.lutree.specs.Tree as tree;
 ghost use Rattle.lustat_rules.specs.Scope.{node_called};
@@ -16,8 +16,8 @@ use crate::context::{
 use crate::root::{Root, Walked, settled};
 use lucore_moved::{Operand, push_moved, sum_of};
 use luflow::{Datum, Flow, Form};
-use lulist::Number;
-use lustat_scope::{Catalog, ClockRef, PlacedClock, Scope};
+use lulist::{Number, Row};
+use lustat_scope::{Catalog, ClockRef, PatternRef, PlacedClock, Scope};
 use lutree::{Declaration, Expr, Infix, Kind, Prefix};
 use lutype::{agreed_kind, is_of_kind, kind_of_binary, kind_of_choice, kind_of_unary};
 use std::alloc::{AllocError, Global};
@@ -117,8 +117,16 @@ fn kind_of_call(catalog: &Catalog, name: &str, arguments: &[Operand]) -> Option<
     }
 }
 
+// The branches of a merge where its variable is true and where it is false.
+fn two_branches(alloc: Global, on: usize, off: usize) -> Result<Row<usize>, AllocError>
+    ensures { IfOk result (λ row. row ≡ on ∷ off ∷ []) }
+{
+    Ok(Row::new(vec![in alloc; on, off]?))
+}
+
 // A copy of the called node's list, with its arguments in place.
 fn instance_of(
+    alloc: Global,
     context: &Context,
     flows: &mut Vec<Flow>,
     name: &str,
@@ -135,7 +143,13 @@ fn instance_of(
 {
     let outputs = sum_of(flows.len(), inputs_of(context.catalog, name))?;
     let list = called_list(context.catalog, context.lists, name);
-    push_moved(flows, clock_by_place(context.scope, clock), arguments, list)?;
+    push_moved(
+        alloc,
+        flows,
+        clock_by_place(context.scope, clock),
+        arguments,
+        list,
+    )?;
     Ok(Walked {
         root: Root::At(outputs),
         kind: kind_of_call(context.catalog, name, arguments),
@@ -204,16 +218,17 @@ pub fn walk(
             let name = c.variable.as_str();
             let inside = variable_clock(scope, name);
             let x = settled(walk(alloc, context, flows, a, inside)?, flows)?;
-            let sampled = scope.placed(ClockRef::On(name, c.sign));
+            let sampled = scope.placed(ClockRef::of(c));
             Ok(own(scope, sampled, x.kind, Form::When(x.place)))
         }
         Expr::Merge(c, a, b) => {
             let name = c.as_str();
-            let on = scope.placed(ClockRef::On(name, true));
-            let off = scope.placed(ClockRef::On(name, false));
+            let on = scope.placed(ClockRef::On(name, PatternRef::Truth(true)));
+            let off = scope.placed(ClockRef::On(name, PatternRef::Truth(false)));
             let x = settled(walk(alloc, context, flows, a, on)?, flows)?;
             let y = settled(walk(alloc, context, flows, b, off)?, flows)?;
-            let form = Form::Merge(variable_place(scope, name), x.place, y.place);
+            let branches = two_branches(alloc, x.place, y.place)?;
+            let form = Form::Merge(variable_place(scope, name), branches);
             Ok(own(scope, clock, agreed_kind(x.kind, y.kind), form))
         }
         Expr::Call(f, arguments) => call(alloc, context, flows, f.as_str(), arguments, clock),
@@ -243,5 +258,5 @@ fn call(
         let x = settled(walk(alloc, context, flows, a, clock)?, flows)?;
         operands.push(x)?;
     }
-    instance_of(context, flows, name, operands.as_slice(), clock)
+    instance_of(alloc, context, flows, name, operands.as_slice(), clock)
 }

@@ -63,13 +63,13 @@ caller p f g (Reaches.one _ _ (n, e, has)) = (n, e)
 caller p f h (Reaches.more _ g _ way call) = caller p f g way
 
 abbrev names : ProgramTree → List (List ℕ)
-names p = map (λ (n : NodeTree). n.name) p
+names p = map (λ (n : NodeTree). n.name) p.nodes
 
 named : (p : ProgramTree) (f : List ℕ) (n : NodeTree) → node_called p f ≡ Some n → Contains (names p) f
 named p f n e =
     let here = calling.place_of p f n e in
     let name = node_name p f n (e) in
-    contains_get (names p) f here.place (slice_get-map (λ (n : NodeTree). n.name) p here.place ∙ ap (option_map (λ (n : NodeTree). n.name)) here.node ∙ ap Some name)
+    contains_get (names p) f here.place (slice_get-map (λ (n : NodeTree). n.name) p.nodes here.place ∙ ap (option_map (λ (n : NodeTree). n.name)) here.node ∙ ap Some name)
 
 module _ (p : ProgramTree) (sound : (f : List ℕ) → ¬ Reaches p f f) (P : List ℕ → Type 0) (step : (f : List ℕ) → ((g : List ℕ) → Calls p f g → P g) → P f) where
   abbrev IsLeft : List (List ℕ) → List ℕ → Type 0
@@ -90,7 +90,7 @@ module _ (p : ProgramTree) (sound : (f : List ℕ) → ¬ Reaches p f f) (P : Li
   by_calls f = go (length (names p)) (names p) f (omega arith) (λ n e. named p f n e) (λ g way n e. named p g n e)
 
 -- where no node reaches itself, no name does
-pub none_reaches : (p : ProgramTree) → ((i : ℕ) (n : NodeTree) → slice_get p i ≡ Some n → IsNotRecursive p n) → (f : List ℕ) → ¬ Reaches p f f
+pub none_reaches : (p : ProgramTree) → ((i : ℕ) (n : NodeTree) → slice_get p.nodes i ≡ Some n → IsNotRecursive p n) → (f : List ℕ) → ¬ Reaches p f f
 none_reaches p h f way =
     let n = caller p f f way in
     let here = calling.place_of p f n.0 n.1 in

@@ -3,6 +3,7 @@ use Rattle.std.proofs.Common.{◌≡◌, ℕ, suc, ◌+◌, List, [], ◌∷◌,
 use Rattle.std.specs.Prelude.{slice_get, All, true, false}
 use Rattle.std.proofs.lemmas.List.{length-map}
 use Rattle.std.proofs.lemmas.Option.{get_or_from_slice_get}
+use Rattle.lutree.specs.declared.expr.Pattern.TheVariants as patterns
 use Rattle.lutree.specs.declared.expr.Condition.{Condition}
 use Rattle.lutree.specs.declared.expr.Prefix.TheVariants.{Data as Data1, Pre as Before}
 use Rattle.lutree.specs.declared.expr.Infix.TheVariants.{Data as Data2, Arrow as Starts, FollowedBy}
@@ -88,8 +89,8 @@ module _ (p : ProgramTree) (lists : List (List Flow)) (sizes : List ℕ) (node :
         sized_after (walk p lists node x (clock_of node c.variable)) (λ i. leaf (flow_of p lists node (tree.when x c) (Some c) (When i))) (made_size p sizes x) (root_size x) 1 1 (sized x (clock_of node c.variable) h) (λ i s. (refl, refl))
     sized (tree.current x) k h = λ s. (refl, refl)
     sized (tree.merge c x y) k h =
-        sized_two (walk p lists node x (condition c true)) (walk p lists node y (condition c false)) (λ i j. flow_of p lists node (tree.merge c x y) k (Merge (variable_place p lists node c) i j)) (made_size p sizes x) (root_size x) (made_size p sizes y) (root_size y)
-        (sized x (condition c true) (all_left Counts (calls_in x) (calls_in y) h)) (sized y (condition c false) (all_right Counts (calls_in x) (calls_in y) h))
+        sized_two (walk p lists node x (condition c (patterns.Truth true))) (walk p lists node y (condition c (patterns.Truth false))) (λ i j. flow_of p lists node (tree.merge c x y) k (Merge (variable_place p lists node c) (i ∷ j ∷ []))) (made_size p sizes x) (root_size x) (made_size p sizes y) (root_size y)
+        (sized x (condition c (patterns.Truth true)) (all_left Counts (calls_in x) (calls_in y) h)) (sized y (condition c (patterns.Truth false)) (all_right Counts (calls_in x) (calls_in y) h))
     sized (tree.call f all) k h =
         let c : Call = record { node = f; arguments = length (trees_in all) } in
         let count = all_head Counts c [] (all_right Counts (calls_in_all all) (c ∷ []) h) in

@@ -60,7 +60,7 @@ module _ (p : ProgramTree) (main : List ℕ) (accepted : IsAccepted p main) (som
   pub never_round : (f : List ℕ) → ¬ Reaches p f f
   never_round = none_reaches p (λ i n e. (accepted Rule.recursive_node).nodes i n e)
 
-  module _ (i : ℕ) (n : NodeTree) (here : slice_get p i ≡ Some n) where
+  module _ (i : ℕ) (n : NodeTree) (here : slice_get p.nodes i ≡ Some n) where
     declared_at : (j : ℕ) (x : List ℕ) → slice_get (variables_of n) j ≡ Some x → (d : DeclarationTree) × (slice_get (declarations_of n) j ≡ Some d) × (d.name ≡ x)
     declared_at j x e = mapped_some (λ (d : DeclarationTree). d.name) (slice_get (declarations_of n) j) x (sym (get-names (declarations_of n) j) ∙ e)
 
@@ -100,7 +100,7 @@ module _ (p : ProgramTree) (main : List ℕ) (accepted : IsAccepted p main) (som
         (contains_get (names_of n.outputs) d.name j (get-names n.outputs j ∙ ap (option_map (λ (d : DeclarationTree). d.name)) e))
         other
 
-  outputs : (i : ℕ) (n : NodeTree) → slice_get p i ≡ Some n → (f : List ℕ) (callee : NodeTree) → Below n f → node_called p f ≡ Some callee → (j : ℕ) (d : DeclarationTree) → slice_get callee.outputs j ≡ Some d → d.clock ≡ None
+  outputs : (i : ℕ) (n : NodeTree) → slice_get p.nodes i ≡ Some n → (f : List ℕ) (callee : NodeTree) → Below n f → node_called p f ≡ Some callee → (j : ℕ) (d : DeclarationTree) → slice_get callee.outputs j ≡ Some d → d.clock ≡ None
   outputs i n here f callee below found j d e =
       ⊎_elim
       (λ (same : f ≡ main).
@@ -115,7 +115,7 @@ module _ (p : ProgramTree) (main : List ℕ) (accepted : IsAccepted p main) (som
       unclocked_outputs at.place callee at.node (λ same. other (sym (node_name p f callee found) ∙ same)) j d e)
       (same_or_not f main)
 
-  pub node_facts : (i : ℕ) (n : NodeTree) → slice_get p i ≡ Some n → NodeFacts p n
+  pub node_facts : (i : ℕ) (n : NodeTree) → slice_get p.nodes i ≡ Some n → NodeFacts p n
   node_facts i n here =
       record {
         apart = apart i n here;

@@ -1,5 +1,5 @@
 -- A flat program whose copies stand on the clocks of what they copy has the same solutions where copies are the very streams.
-use Rattle.std.proofs.Common.{◌≡◌, ℕ, zero, suc, ◌<◌, Bool, true, false, List, ◌++◌, length, take, get_or, Option, Some, None, refl, sym, ap, ◌∙◌, subst, arith, length-take}
+use Rattle.std.proofs.Common.{◌≡◌, ℕ, zero, suc, ◌<◌, Bool, true, false, List, ◌++◌, length, map, take, get_or, Option, Some, None, refl, sym, ap, ◌∙◌, subst, arith, length-take}
 use Rattle.std.specs.Prelude.{slice_get, slice_index, Contains, All}
 use Rattle.std.proofs.Math.Path.{fun_ext}
 use Rattle.std.proofs.lemmas.List.{get_or-take}
@@ -19,7 +19,7 @@ use Rattle.luflow.specs.Values.{gives, on_one, on_two, on_three, arrow_of, merge
 use Rattle.luflow.specs.Solution.{IsSolution, says}
 use Rattle.lusource.specs.StreamOperators.{when_stream}
 use Rattle.lucore_list.proofs.Names.{all_head, mapped_some}
-use Rattle.lucore_list.proofs.Open.{Model, clock_ticks, form_stream, Solves}
+use Rattle.lucore_list.proofs.Open.{Model, clock_ticks, form_stream, Solves, map-map}
 use Rattle.lucore_list.proofs.Static.{CopyFits, AreFit}
 
 -- what is under a clock is on it
@@ -46,7 +46,7 @@ module _ (flat : FlatProgram) (inputs : Table) (n : ℕ) (fits : AreFit flat.flo
 
   clock_same : (τ : Streams) (c : Clock) → clock_at inputs τ c ≡ ticks_of τ c
   clock_same τ Base = refl
-  clock_same τ (On v sign) = refl
+  clock_same τ (On v d) = refl
 
   -- what the flat program's definition says of a form
   abbrev said : Streams → Ticks → Form → Stream
@@ -65,7 +65,7 @@ module _ (flat : FlatProgram) (inputs : Table) (n : ℕ) (fits : AreFit flat.flo
   says_said τ c (Arrow a b) = refl
   says_said τ c (When a) = refl
   says_said τ c (Current a) = refl
-  says_said τ c (Merge x a b) = refl
+  says_said τ c (Merge x xs) = fun_ext (λ t. ap (λ branches. under (clock_at inputs τ c t) (merge_of (datum_of (τ x t)) branches)) (sym (map-map (λ (s : Stream). datum_of (s t)) τ xs)))
 
   flow_said : (τ : Streams) (f : Flow) → (λ t. says inputs τ (Some f) t) ≡ said τ (ticks_of τ f.clock) f.form
   flow_said τ f = says_said τ f.clock f.form ∙ ap (λ k. said τ k f.form) (clock_same τ f.clock)
@@ -81,7 +81,7 @@ module _ (flat : FlatProgram) (inputs : Table) (n : ℕ) (fits : AreFit flat.flo
   said_on τ k (Arrow a b) = fun_ext (λ t. sym (gate (k t) (on_two (arrow_of (ticked k t)) (datum_of (τ a t)) (datum_of (τ b t)))))
   said_on τ k (When a) = fun_ext (λ t. sym (gate (k t) (gives (datum_of (τ a t)))))
   said_on τ k (Current a) = fun_ext (λ t. sym (gate (k t) (gives (before (τ a) (suc t)))))
-  said_on τ k (Merge c a b) = fun_ext (λ t. sym (gate (k t) (merge_of (datum_of (τ c t)) (datum_of (τ a t)) (datum_of (τ b t)))))
+  said_on τ k (Merge c xs) = fun_ext (λ t. sym (gate (k t) (merge_of (datum_of (τ c t)) (map (λ (s : Stream). datum_of (s t)) (map τ xs)))))
 
   -- where copied flows are on their clocks, both say the same
   said_same : (τ : Streams) (c : Clock) (form : Form) → CopyFits flat.flows n c form → ((a : ℕ) → form ≡ Copied a → IsOnClock (ticks_of τ c) (τ a)) → said τ (ticks_of τ c) form ≡ form_stream (model τ) (ticks_of τ c) form
@@ -95,7 +95,7 @@ module _ (flat : FlatProgram) (inputs : Table) (n : ℕ) (fits : AreFit flat.flo
   said_same τ c (Arrow a b) copy on = refl
   said_same τ c (When a) copy on = refl
   said_same τ c (Current a) copy on = refl
-  said_same τ c (Merge x a b) copy on = refl
+  said_same τ c (Merge x xs) copy on = refl
 
   copied_from : (f : Flow) (a : ℕ) → CopyFits flat.flows n f.clock f.form → f.form ≡ Copied a → (g : Flow) × (slice_get flat.flows a ≡ Some g) × (g.clock ≡ f.clock)
   copied_from f a copy e = mapped_some (λ (g : Flow). g.clock) (slice_get flat.flows a) f.clock (subst (CopyFits flat.flows n f.clock) e copy)

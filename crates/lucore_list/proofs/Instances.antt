@@ -4,6 +4,7 @@ use Rattle.std.specs.Prelude.{slice_get, option_map, option_and_then, flat_map, 
 use Rattle.std.proofs.lemmas.List.{append-nil, length-map, map-append}
 use Rattle.std.proofs.lemmas.List.Elements.{All-append, All-cons, All-nil}
 use Rattle.std.proofs.lemmas.Option.{slice_get-map, same_Some}
+use Rattle.lutree.specs.declared.expr.Pattern.TheVariants as patterns
 use Rattle.lutree.specs.declared.expr.Condition.{Condition}
 use Rattle.lutree.specs.declared.expr.Prefix.TheVariants.{Data as Data1, Pre as Before}
 use Rattle.lutree.specs.declared.expr.Infix.TheVariants.{Data as Data2, Arrow as Starts, FollowedBy}
@@ -122,9 +123,9 @@ module _ (p : ProgramTree) (lists : List (List Flow)) where
           found_one (walk p lists node a kc) (λ x. flow_of p lists node (tree.when a c) (Some c) (When x)) (spots p lists node a kc) (calls_in a) (found a kc)
       found (tree.current x) k = found_none (walk p lists node (tree.current x) k)
       found (tree.merge c a b) k =
-          let ka = condition c true in
-          let kb = condition c false in
-          found_two (walk p lists node a ka) (walk p lists node b kb) (λ x y. flow_of p lists node (tree.merge c a b) k (Merge (variable_place p lists node c) x y)) (spots p lists node a ka) (spots p lists node b kb) (calls_in a) (calls_in b) (found a ka) (found b kb)
+          let ka = condition c (patterns.Truth true) in
+          let kb = condition c (patterns.Truth false) in
+          found_two (walk p lists node a ka) (walk p lists node b kb) (λ x y. flow_of p lists node (tree.merge c a b) k (Merge (variable_place p lists node c) (x ∷ y ∷ []))) (spots p lists node a ka) (spots p lists node b kb) (calls_in a) (calls_in b) (found a ka) (found b kb)
       found (tree.call f all) k =
           found_all all k (λ xs. instance p lists f (clock_place node k) xs) (spot_at f) (record { node = f; arguments = length (trees_in all) } ∷ [])
           (λ xs. found_instance f (clock_place node k) xs (length (trees_in all)))

@@ -10,7 +10,7 @@ use Rattle.lutree.specs.declared.expr.Condition.{Condition}
 use Rattle.lutree.specs.Tree.{DeclarationTree, NodeTree, ProgramTree}
 use Rattle.luflow.specs.declared.form.Flow.{Flow}
 use Rattle.lusource.specs.Names.{variables_of, place_of, clock_in, AreDistinct}
-use Rattle.lustat_rules.specs.Scope.{names_of, declarations_of, node_called}
+use Rattle.lustat_rules.specs.Scope.{names_of, declarations_of, first_named, node_called}
 use Rattle.lustat_rules.specs.Scope as rules
 use Rattle.lustat_rules.proofs.Calling as calling
 use Rattle.lucore_list.specs.Layout.{list_at, list_of, node_flows, AreLists}
@@ -147,7 +147,7 @@ clock_cases (d ∷ ds) x = clock_case d (rules.first_declared ds x) (clock_in ds
 
 -- NODES
 
-pub placed : (p : ProgramTree) (f : List ℕ) (n : NodeTree) → node_called p f ≡ Some n → calling.PlaceOf p f n
+pub placed : (p : ProgramTree) (f : List ℕ) (n : NodeTree) → node_called p f ≡ Some n → calling.PlaceOf p.nodes f n
 placed p f n e = calling.place_of p f n (e)
 
 pub listed : (p : ProgramTree) (lists : List (List Flow)) → AreLists p lists → (f : List ℕ) (n : NodeTree) → node_called p f ≡ Some n → list_of p lists f ≡ node_flows p lists n
@@ -159,6 +159,9 @@ pub name_step : (m n : NodeTree) (rest : Option NodeTree) (f : List ℕ) (b : Bo
 name_step m n rest f true e h g = let same : m ≡ n = same_Some m n g in ap (λ (n : NodeTree). n.name) (sym same) ∙ (bytes_eq-Decides m.name f).0 e
 name_step m n rest f false e h g = h g
 
+first_name : (ns : List NodeTree) (f : List ℕ) (n : NodeTree) → first_named ns f ≡ Some n → n.name ≡ f
+first_name [] f n e = cc
+first_name (m ∷ ns) f n e = name_step m n (first_named ns f) f (bytes_eq m.name f) refl (first_name ns f n) e
+
 pub node_name : (p : ProgramTree) (f : List ℕ) (n : NodeTree) → node_called p f ≡ Some n → n.name ≡ f
-node_name [] f n e = cc
-node_name (m ∷ p) f n e = name_step m n (node_called p f) f (bytes_eq m.name f) refl (node_name p f n) e
+node_name p f n e = first_name p.nodes f n e

@@ -326,7 +326,7 @@ module _ (p : ProgramTree) (lists : List (List Flow)) (are : AreLists p lists) (
 
 clock_same : (inputs : Table) (τ : Streams) (c : Clock) (t : ℕ) → clock_at inputs τ c t ≡ clock_ticks (base_clock inputs) τ c t
 clock_same inputs τ Base t = refl
-clock_same inputs τ (On c sign) t = refl
+clock_same inputs τ (On c d) t = refl
 
 pub faults_told : FaultsLaw
 faults_told p main inputs flat accepted some out ordered σ τ sol sol' i v t kind x fault owner variable =
@@ -358,7 +358,7 @@ on_fault τ t kind (Pre a) h = absurd h
 on_fault τ t kind (Arrow a b) h = absurd h
 on_fault τ t kind (When a) h = absurd h
 on_fault τ t kind (Current a) h = absurd h
-on_fault τ t kind (Merge c a b) h = absurd h
+on_fault τ t kind (Merge c xs) h = absurd h
 
 pub faults_found : AllFaultsLaw
 faults_found p main inputs flat accepted some out ordered σ τ sol sol' v t kind source =

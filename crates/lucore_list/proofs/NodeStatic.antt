@@ -201,7 +201,7 @@ module _ (p : ProgramTree) (lists : List (List Flow)) (node : NodeTree) (facts :
     more_copy k (Arrow a b) h = tt
     more_copy k (When a) h = tt
     more_copy k (Current a) h = tt
-    more_copy k (Merge c a b) h = tt
+    more_copy k (Merge c xs) h = tt
 
     at_inner : (x : ℕ) (f : Flow) → FlowFits L 0 f → At x f
     at_inner x f h = (

@@ -1,5 +1,5 @@
 -- The meaning of an open list, in which a copy has the very stream of what it copies.
-use Rattle.std.proofs.Common.{◌≡◌, ℕ, ◌+◌, List, map, Some, refl, sym, ap, ◌∙◌, subst, arith}
+use Rattle.std.proofs.Common.{◌≡◌, ℕ, ◌+◌, List, [], ◌∷◌, map, Some, refl, sym, ap, ◌∙◌, subst, arith}
 use Rattle.std.specs.Prelude.{slice_get, slice_index}
 use Rattle.luflow.specs.declared.form.Clock.{Clock}
 use Rattle.luflow.specs.declared.form.Clock.TheVariants.{Base, On}
@@ -7,6 +7,7 @@ use Rattle.luflow.specs.declared.form.Form.{Form}
 use Rattle.luflow.specs.declared.form.Form.TheVariants.{Input, Constant, Copied, Unary, Binary, If, Pre, Arrow, When, Current, Merge}
 use Rattle.luflow.specs.declared.form.Flow.{Flow}
 use Rattle.luflow.specs.Streams.{Broken, Stream, Streams, Ticks}
+use Rattle.lusource.specs.StreamOperators.{merge_stream}
 use Rattle.lucore_list.specs.Layout.{Root, moved_form, moved_clock, moved}
 use Rattle.lucore_list.specs.Layout.Root.{own, at}
 pub use Rattle.lucore_list.specs.Open.{Model, clock_ticks, form_stream, flow_stream}
@@ -41,7 +42,12 @@ moved_model m b arguments = record { on = λ x. m.on (b + x); given = λ r. m.on
 
 clock_moved : (base : Ticks) (τ : Streams) (b : ℕ) (k c : Clock) → clock_ticks base τ (moved_clock b k c) ≡ clock_ticks (clock_ticks base τ k) (λ x. τ (b + x)) c
 clock_moved base τ b k Base = refl
-clock_moved base τ b k (On c sign) = refl
+clock_moved base τ b k (On c d) = refl
+
+-- what a function gives for what another gave for a list
+pub map-map : {X Y Z : Type 0} (f : Y → Z) (g : X → Y) (xs : List X) → map f (map g xs) ≡ map (λ x. f (g x)) xs
+map-map f g [] = refl
+map-map f g (x ∷ xs) = ap (λ ys. f (g x) ∷ ys) (map-map f g xs)
 
 form_moved : (m : Model) (b : ℕ) (arguments : List ℕ) (k : Ticks) (f : Form) → form_stream m k (moved_form b arguments f) ≡ form_stream (moved_model m b arguments) k f
 form_moved m b arguments k (Input r) = refl
@@ -54,7 +60,7 @@ form_moved m b arguments k (Pre x) = refl
 form_moved m b arguments k (Arrow x y) = refl
 form_moved m b arguments k (When x) = refl
 form_moved m b arguments k (Current x) = refl
-form_moved m b arguments k (Merge c x y) = refl
+form_moved m b arguments k (Merge c xs) = ap (merge_stream k (m.on (b + c))) (map-map m.on (λ x. b + x) xs)
 
 -- a moved flow asks at b + x what the flow asks at x
 pub flow_moved : (base : Ticks) (m : Model) (b : ℕ) (k : Clock) (arguments : List ℕ) (f : Flow) → flow_stream base m (moved b k arguments f) ≡ flow_stream (clock_ticks base m.on k) (moved_model m b arguments) f

@@ -6,6 +6,7 @@ use Rattle.std.specs.Str.{bytes_eq}
 use Rattle.std.proofs.Math.Path.{fun_ext}
 use Rattle.std.proofs.lemmas.Option.{same_Some, slice_get-map}
 use Rattle.std.proofs.lemmas.List.Elements.{Contains-append_left, Contains-append_right}
+use Rattle.lutree.specs.declared.expr.Pattern.TheVariants as patterns
 use Rattle.lutree.specs.declared.expr.Condition.{Condition}
 use Rattle.lutree.specs.declared.expr.Prefix.TheVariants.{Data as Data1, Pre as Before}
 use Rattle.lutree.specs.declared.expr.Infix.TheVariants.{Data as Data2, Arrow as Starts, FollowedBy}
@@ -14,9 +15,9 @@ use Rattle.lutree.specs.Tree as tree
 use Rattle.luflow.specs.declared.form.Form.TheVariants.{Unary, Binary, If, Pre, Arrow, When, Merge}
 use Rattle.luflow.specs.declared.form.Flow.{Flow}
 use Rattle.lusource.specs.Names.{variables_of, place_of, name_at, clock_of}
-use Rattle.lustat_rules.specs.Scope.{names_of, node_called}
+use Rattle.lustat_rules.specs.Scope.{names_of, first_named, node_called}
 use Rattle.lusource.specs.Source.{condition}
-use Rattle.lustat_rules.specs.Naming.{Call, Calls, Reaches, calls_in, calls_in_all, node_place}
+use Rattle.lustat_rules.specs.Naming.{Call, Calls, Reaches, calls_in, calls_in_all, place_of_first, node_place}
 use Rattle.lucore_list.specs.Layout.{Walking, leaf, after, moved, instance, inputs_in, list_at, list_of, clock_place, flow_of, variable_place, walk, walk_all, walk_right, left_clock, root_flow, inner_flows, variable_flow, inner_owners, owner_of, variable_count, input_flows, node_flows, node_owners, AreLists, main_variables}
 use Rattle.lucore_list.specs.Layout.Root.{at}
 use Rattle.lucore_list.specs.Laws.{OneListLaw}
@@ -58,9 +59,9 @@ module _ (p : ProgramTree) (a b : List (List Flow)) (node : NodeTree) where
     walk_same (tree.when x c) k h = ap (λ w. after w (λ y. leaf (flow_of p a node (tree.when x c) (Some c) (When y)))) (walk_same x (clock_of node c.variable) h)
     walk_same (tree.current x) k h = refl
     walk_same (tree.merge c x y) k h =
-        let root = λ (i j : ℕ). flow_of p a node (tree.merge c x y) k (Merge (variable_place p a node c) i j) in
-        ap (λ w. after w (λ i. after (walk p a node y (condition c false)) (λ j. leaf (root i j)))) (walk_same x (condition c true) (all_left Same (calls_in x) (calls_in y) h))
-        ∙ ap (λ w. after (walk p b node x (condition c true)) (λ i. after w (λ j. leaf (root i j)))) (walk_same y (condition c false) (all_right Same (calls_in x) (calls_in y) h))
+        let root = λ (i j : ℕ). flow_of p a node (tree.merge c x y) k (Merge (variable_place p a node c) (i ∷ j ∷ [])) in
+        ap (λ w. after w (λ i. after (walk p a node y (condition c (patterns.Truth false))) (λ j. leaf (root i j)))) (walk_same x (condition c (patterns.Truth true)) (all_left Same (calls_in x) (calls_in y) h))
+        ∙ ap (λ w. after (walk p b node x (condition c (patterns.Truth true))) (λ i. after w (λ j. leaf (root i j)))) (walk_same y (condition c (patterns.Truth false)) (all_right Same (calls_in x) (calls_in y) h))
     walk_same (tree.call f all) k h =
         let c : Call = record { node = f; arguments = length (trees_in all) } in
         let same = all_head Same c [] (all_right Same (calls_in_all all) (c ∷ []) h) in
@@ -124,9 +125,12 @@ place_step : (t : Bool) (n : NodeTree) (rest : Option NodeTree) (place : Option 
 place_step true n rest place h e = cc
 place_step false n rest place h e = ap (option_map suc) (h e)
 
+no_first : (ns : List NodeTree) (f : List ℕ) → first_named ns f ≡ None → place_of_first ns f ≡ None
+no_first [] f e = refl
+no_first (n ∷ ns) f e = place_step (bytes_eq n.name f) n (first_named ns f) (place_of_first ns f) (no_first ns f) e
+
 pub no_place : (p : ProgramTree) (f : List ℕ) → node_called p f ≡ None → node_place p f ≡ None
-no_place [] f e = refl
-no_place (n ∷ p) f e = place_step (bytes_eq n.name f) n (node_called p f) (node_place p f) (no_place p f) e
+no_place p f e = no_first p.nodes f e
 
 pub called_in : (qs : List EquationTree) (j k : ℕ) (q : EquationTree) (c : Call) → slice_get qs j ≡ Some q → slice_get (calls_in q.right) k ≡ Some c → Contains (flat_map (λ (q : EquationTree). map (λ (c : Call). c.node) (calls_in q.right)) qs) c.node
 called_in [] j k q c e f = cc

@@ -2,6 +2,7 @@
 use Rattle.std.proofs.Common.{◌≡◌, ℕ, suc, ◌+◌, ◌<◌, ◌⊎◌, inl, inr, ⊎_elim, List, [], ◌∷◌, ◌++◌, length, Option, Some, None, refl, sym, ap, ◌∙◌, subst, arith}
 use Rattle.std.specs.Prelude.{slice_get, option_map, true, false, pos}
 use Rattle.std.proofs.lemmas.Option.{slice_get_within, slice_get-map}
+use Rattle.lutree.specs.declared.expr.Pattern.TheVariants as patterns
 use Rattle.lutree.specs.declared.expr.Condition.{Condition}
 use Rattle.lutree.specs.declared.expr.Prefix.TheVariants.{Data as Data1, Pre as Before}
 use Rattle.lutree.specs.declared.expr.Infix.TheVariants.{Data as Data2, Arrow as Starts, FollowedBy}
@@ -22,7 +23,7 @@ use Rattle.luflow.specs.Streams as streams
 use Rattle.luflow.specs.Streams.{Stream, Streams, Ticks, truth_in}
 use Rattle.lusource.specs.Names.{variables_of, place_of, clock_of, name_at, outputs_in, output_name, AreDistinct}
 use Rattle.lusource.specs.StreamOperators.{constant_stream, unary_stream, binary_stream, choice_stream, pre_stream, arrow_stream, when_stream, current_stream, merge_stream}
-use Rattle.lusource.specs.Source.{Named, SourceStreams, condition, ticks, calls, calls_in, value, output}
+use Rattle.lusource.specs.Source.{Named, SourceStreams, condition, pattern_value, ticks, calls, calls_in, value, output}
 use Rattle.lusource.specs.Faults as faults
 use Rattle.lustat_rules.specs.Scope.{node_called}
 use Rattle.lucore_list.specs.Layout.{Root, Walking, root_flows, made, root_place, place, behind, leaf, after, list_of, inputs_in, instance, moved, moved_form, moved_clock, clock_place, flow_of, variable_place, walk, walk_all, node_owners}
@@ -50,7 +51,7 @@ FormFails τ t kind (Pre a) = ⊥
 FormFails τ t kind (Arrow a b) = ⊥
 FormFails τ t kind (When a) = ⊥
 FormFails τ t kind (Current a) = ⊥
-FormFails τ t kind (Merge c a b) = ⊥
+FormFails τ t kind (Merge c xs) = ⊥
 
 pub form_fails : (τ : Streams) (t : ℕ) (kind : FaultKind) (form : Form) → IsFaultOn τ t form kind → FormFails τ t kind form
 form_fails τ t _ _ (IsFaultOn.OnBinary op a b x y kind left right fault) = (x, y, left, right, fault)
@@ -62,7 +63,7 @@ FlowFails base m t kind f = (clock_ticks base m.on f.clock t ≡ Some true) × F
 
 clock_moved : (base : Ticks) (τ : Streams) (b : ℕ) (k c : Clock) → clock_ticks base τ (moved_clock b k c) ≡ clock_ticks (clock_ticks base τ k) (λ x. τ (b + x)) c
 clock_moved base τ b k Base = refl
-clock_moved base τ b k (On c sign) = refl
+clock_moved base τ b k (On c d) = refl
 
 form_moved : (τ : Streams) (t : ℕ) (kind : FaultKind) (b : ℕ) (arguments : List ℕ) (f : Form) → FormFails τ t kind (moved_form b arguments f) → FormFails (λ x. τ (b + x)) t kind f
 form_moved τ t kind b arguments (Input r) h = h
@@ -75,7 +76,7 @@ form_moved τ t kind b arguments (Pre x) h = h
 form_moved τ t kind b arguments (Arrow x y) h = h
 form_moved τ t kind b arguments (When x) h = h
 form_moved τ t kind b arguments (Current x) h = h
-form_moved τ t kind b arguments (Merge c x y) h = h
+form_moved τ t kind b arguments (Merge c xs) h = h
 
 -- a moved flow is at fault where the flow is
 flow_moved : (base : Ticks) (m : Model) (t : ℕ) (kind : FaultKind) (b : ℕ) (k : Clock) (arguments : List ℕ) (f : Flow) → FlowFails base m t kind (moved b k arguments f) → FlowFails (clock_ticks base m.on k) (moved_model m b arguments) t kind f
@@ -93,7 +94,7 @@ form_unmoved τ t kind b arguments (Pre x) h = h
 form_unmoved τ t kind b arguments (Arrow x y) h = h
 form_unmoved τ t kind b arguments (When x) h = h
 form_unmoved τ t kind b arguments (Current x) h = h
-form_unmoved τ t kind b arguments (Merge c x y) h = h
+form_unmoved τ t kind b arguments (Merge c xs) h = h
 
 flow_unmoved : (base : Ticks) (m : Model) (t : ℕ) (kind : FaultKind) (b : ℕ) (k : Clock) (arguments : List ℕ) (f : Flow) → FlowFails (clock_ticks base m.on k) (moved_model m b arguments) t kind f → FlowFails base m t kind (moved b k arguments f)
 flow_unmoved base m t kind b k arguments f h =
@@ -205,7 +206,7 @@ module _ (p : ProgramTree) (lists : List (List Flow)) (node : NodeTree) (Below :
 
   ticks_agree : (k : Option Condition) → KnownClock k → clock_ticks base m.on (clock_place node k) ≡ ticks base var k
   ticks_agree None known = refl
-  ticks_agree (Some c) known = ap {B = Ticks} (λ (s : Stream) t. truth_in c.sign (s t)) (agree c.variable known)
+  ticks_agree (Some c) known = ap {B = Ticks} (λ (s : Stream) t. truth_in (pattern_value c.pattern) (s t)) (agree c.variable known)
 
   seen_leaf : (f : Flow) (i w : ℕ) (val : ℕ → Stream) (G F : Type 0) → ((j : ℕ) → flow_stream base m f ≡ val j) → (FlowFails base m t kind f → G) → (F → FlowFails base m t kind f) → Seen (leaf f) no_spots i w val G F
   seen_leaf f i w val G F h g b s placed hold = (λ j lt. h j, (tt, g), λ x. inr (b x))
@@ -390,14 +391,14 @@ module _ (p : ProgramTree) (lists : List (List Flow)) (node : NodeTree) (Below :
           seen_leaf (flow_of p lists node (tree.current x) k (Current (variable_place p lists node x))) i w (λ j. val (tree.current x) k i) G (SomeFail (tree.current x) k i)
           (λ j. ap (λ c. current_stream c (m.on (variable_place p lists node x))) (ticks_agree k known) ∙ ap (current_stream (K k)) (agree x well)) (λ h. absurd h.1) (λ h. absurd h.1)
       seen (tree.merge c a b) k i w G known well g =
-          let ka = condition c true in
-          let kb = condition c false in
+          let ka = condition c (patterns.Truth true) in
+          let kb = condition c (patterns.Truth false) in
           let ib = i + calls a in
           let cp = variable_place p lists node c in
-          seen_two (walk p lists node a ka) (walk p lists node b kb) (λ x y. flow_of p lists node (tree.merge c a b) k (Merge cp x y)) (spots p lists node a ka) (spots p lists node b kb) i (calls a) (calls b) w
+          seen_two (walk p lists node a ka) (walk p lists node b kb) (λ x y. flow_of p lists node (tree.merge c a b) k (Merge cp (x ∷ y ∷ []))) (spots p lists node a ka) (spots p lists node b kb) i (calls a) (calls b) w
           (output p node base var below a ka i) (output p node base var below b kb ib) (λ j. val (tree.merge c a b) k i) G (SomeFail a ka i) (SomeFail b kb ib) ⊥ (SomeFail (tree.merge c a b) k i)
           (length-spots p lists node a ka) (length-spots p lists node b kb) (λ h. both (λ y. (h.0, y)) (λ y. inl (h.0, y)) h.1) (seen a ka i 1 G well.0 well.1 (λ d h. g d (inl h))) (seen b kb ib 1 G well.0 well.2 (λ d h. g d (inr h)))
-          (λ x y e e' j. ap (λ u. merge_stream u (m.on cp) (m.on x) (m.on y)) (ticks_agree k known) ∙ ap (λ u. merge_stream (K k) u (m.on x) (m.on y)) (agree c well.0) ∙ ap (λ u. merge_stream (K k) (var c) u (m.on y)) (is_value a ka i x e) ∙ ap (merge_stream (K k) (var c) (val a ka i)) (is_value b kb ib y e'))
+          (λ x y e e' j. ap (λ u. merge_stream u (m.on cp) (m.on x ∷ m.on y ∷ [])) (ticks_agree k known) ∙ ap (λ u. merge_stream (K k) u (m.on x ∷ m.on y ∷ [])) (agree c well.0) ∙ ap (λ u. merge_stream (K k) (var c) (u ∷ m.on y ∷ [])) (is_value a ka i x e) ∙ ap (λ u. merge_stream (K k) (var c) (val a ka i ∷ u ∷ [])) (is_value b kb ib y e'))
           (λ x y e e' h. absurd h.1) (λ x y e e' h. absurd h)
       seen (tree.call f all) k i w G known well g =
           seen_all all k i w G ((depth : ℕ) × CallFails depth f (K k) (i + calls_in all)) (SomeFail (tree.call f all) k i) (λ xs. instance p lists f (clock_place node k) xs) (spot_at f) (output p node base var below (tree.call f all) k i) (λ h. both (λ y. (h.0, y)) (λ y. (h.0, y)) h.1) known well.1 (λ d h. g d (inl h))

@@ -1,6 +1,7 @@
 -- Where the instances of a node's calls stand in its list.
 use Rattle.std.proofs.Common.{◌≡◌, ℕ, ◌+◌, List, [], ◌∷◌, ◌++◌, length, Option, Some, None, refl, arith, length-append}
 use Rattle.std.specs.Prelude.{slice_get, true, false}
+use Rattle.lutree.specs.declared.expr.Pattern.TheVariants as patterns
 use Rattle.lutree.specs.declared.expr.Condition.{Condition}
 use Rattle.lutree.specs.declared.expr.Infix.TheVariants.{Data as Data2, Arrow, FollowedBy}
 use Rattle.lutree.specs.Tree.{Tree, Trees, EquationTree, NodeTree, ProgramTree}
@@ -46,7 +47,7 @@ module _ (p : ProgramTree) (lists : List (List Flow)) (node : NodeTree) where
     spots (tree.when a c) k = spots_after (walk p lists node a (clock_of node c.variable)) (spots a (clock_of node c.variable)) no_spots
     spots (tree.current x) k = no_spots
     spots (tree.merge c a b) k =
-        spots_after (walk p lists node a (condition c true)) (spots a (condition c true)) (spots_after (walk p lists node b (condition c false)) (spots b (condition c false)) no_spots)
+        spots_after (walk p lists node a (condition c (patterns.Truth true))) (spots a (condition c (patterns.Truth true))) (spots_after (walk p lists node b (condition c (patterns.Truth false))) (spots b (condition c (patterns.Truth false))) no_spots)
     spots (tree.call f all) k = spots_all all k (spot_at f)
 
     pub spots_all : Trees → Option Condition → (ℕ → List Spot) → ℕ → List Spot
@@ -95,7 +96,7 @@ module _ (p : ProgramTree) (lists : List (List Flow)) (node : NodeTree) where
         one_after (walk p lists node a (clock_of node c.variable)) (spots a (clock_of node c.variable)) (calls a) (length-spots a (clock_of node c.variable)) s
     length-spots (tree.current x) k s = refl
     length-spots (tree.merge c a b) k s =
-        two_after (walk p lists node a (condition c true)) (walk p lists node b (condition c false)) (spots a (condition c true)) (spots b (condition c false)) (calls a) (calls b) (length-spots a (condition c true)) (length-spots b (condition c false)) s
+        two_after (walk p lists node a (condition c (patterns.Truth true))) (walk p lists node b (condition c (patterns.Truth false))) (spots a (condition c (patterns.Truth true))) (spots b (condition c (patterns.Truth false))) (calls a) (calls b) (length-spots a (condition c (patterns.Truth true))) (length-spots b (condition c (patterns.Truth false))) s
     length-spots (tree.call f all) k s = length-spots_all all k (spot_at f) 1 (λ s. refl) s
 
     pub length-spots_all : (all : Trees) (k : Option Condition) (rest : ℕ → List Spot) (n : ℕ) → ((s : ℕ) → length (rest s) ≡ n) → (s : ℕ) → length (spots_all all k rest s) ≡ calls_in all + n
@@ -123,9 +124,9 @@ module _ (p : ProgramTree) (node : NodeTree) (base : Ticks) (var : Named) (inner
     length-sites (tree.when a c) k i = length-sites a (clock_of node c.variable) i
     length-sites (tree.current x) k i = refl
     length-sites (tree.merge c a b) k i =
-        let ha = length-sites a (condition c true) i in
-        let hb = length-sites b (condition c false) (i + calls a) in
-        omega (arith, length-append (sites p node base var inner a (condition c true) i) (sites p node base var inner b (condition c false) (i + calls a)))
+        let ha = length-sites a (condition c (patterns.Truth true)) i in
+        let hb = length-sites b (condition c (patterns.Truth false)) (i + calls a) in
+        omega (arith, length-append (sites p node base var inner a (condition c (patterns.Truth true)) i) (sites p node base var inner b (condition c (patterns.Truth false)) (i + calls a)))
     length-sites (tree.call f all) k i =
         let h = length-sites_in all k i in
         simp (length-append) (omega arith)

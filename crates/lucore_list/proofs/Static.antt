@@ -1,8 +1,9 @@
 -- Flows name flows, and a copy stands on the clock of what it copies.
-use Rattle.std.proofs.Common.{◌≡◌, ℕ, zero, suc, ◌+◌, ◌<◌, ◌≤◌, List, [], ◌∷◌, ◌++◌, length, get_or, Option, Some, None, refl, sym, ap, ◌∙◌, subst, arith}
+use Rattle.std.proofs.Common.{◌≡◌, ℕ, zero, suc, ◌+◌, ◌<◌, ◌≤◌, List, [], ◌∷◌, ◌++◌, length, map, get_or, Option, Some, None, refl, sym, ap, ◌∙◌, subst, arith}
 use Rattle.std.specs.Prelude.{slice_get, slice_index, true, false, pos, option_map, All}
-use Rattle.std.proofs.lemmas.List.Elements.{All-nil}
+use Rattle.std.proofs.lemmas.List.Elements.{All-nil, All-map, All-weaker}
 use Rattle.std.proofs.lemmas.Option.{slice_get_within, slice_get-get_or}
+use Rattle.lutree.specs.declared.expr.Pattern.TheVariants as patterns
 use Rattle.lutree.specs.declared.expr.Condition.{Condition}
 use Rattle.lutree.specs.declared.expr.Prefix.TheVariants.{Data as Data1, Pre as Before}
 use Rattle.lutree.specs.declared.expr.Infix.TheVariants.{Data as Data2, Arrow as Starts, FollowedBy}
@@ -52,7 +53,7 @@ CopyFits L n k (Pre a) = Unit {0}
 CopyFits L n k (Arrow a b) = Unit {0}
 CopyFits L n k (When a) = Unit {0}
 CopyFits L n k (Current a) = Unit {0}
-CopyFits L n k (Merge c a b) = Unit {0}
+CopyFits L n k (Merge c xs) = Unit {0}
 
 pub record FlowFits (L : List Flow) (n : ℕ) (f : Flow) : Type 0 where
   pub places_in : All (InList L) (places f.form)
@@ -127,11 +128,13 @@ module _ (L fl : List Flow) (n m s : ℕ) (k : Clock) (xs : List ℕ) (here : (x
   moved_places (Arrow a b) c copy h = moved_two a b h
   moved_places (When a) c copy h = moved_one a h
   moved_places (Current a) c copy h = moved_one a h
-  moved_places (Merge c a b) _ copy h = moved_three c a b h
+  moved_places (Merge v ys) _ copy h =
+      all_cons (InList L) (s + v) (map (λ x. s + x) ys) (moved_in v (all_head (InList fl) v ys h))
+      (All-map (InList L) (λ x. s + x) ys (All-weaker (InList fl) (λ x. InList L (s + x)) moved_in ys (all_tail (InList fl) v ys h)))
 
   moved_clocks : (c : Clock) → All (InList fl) (clock_reads c) → All (InList L) (clock_reads (moved_clock s k c))
   moved_clocks Base h = clock_in
-  moved_clocks (On c sign) h = moved_one c h
+  moved_clocks (On c d) h = moved_one c h
 
   moved_clock_on : (a : ℕ) (c : Clock) → clock_on fl a ≡ Some c → clock_on L (s + a) ≡ Some (moved_clock s k c)
   moved_clock_on a c e =
@@ -149,7 +152,7 @@ module _ (L fl : List Flow) (n m s : ℕ) (k : Clock) (xs : List ℕ) (here : (x
   moved_copy (Arrow a b) c copy = tt
   moved_copy (When a) c copy = tt
   moved_copy (Current a) c copy = tt
-  moved_copy (Merge c a b) _ copy = tt
+  moved_copy (Merge v ys) _ copy = tt
 
   pub moved_fits : (f : Flow) → FlowFits fl m f → FlowFits L n (moved s k xs f)
   moved_fits f h =
@@ -247,10 +250,10 @@ module _ (p : ProgramTree) (lists : List (List Flow)) (node : NodeTree) (Below :
           static_leaf L n (flow_of p lists node (tree.current x) k (Current (variable_place p lists node x))) w (clock_place node k)
           (record { places_in = all_cons (InList L) (variable_place p lists node x) [] (omega (arith, well, long)) (All-nil (InList L)); clocks_in = clock_there k known; copy = tt }) refl
       static (tree.merge c a b) k w known well fits =
-          let ka = condition c true in
-          let kb = condition c false in
+          let ka = condition c (patterns.Truth true) in
+          let kb = condition c (patterns.Truth false) in
           let cp = variable_place p lists node c in
-          let root = λ (x y : ℕ). flow_of p lists node (tree.merge c a b) k (Merge cp x y) in
+          let root = λ (x y : ℕ). flow_of p lists node (tree.merge c a b) k (Merge cp (x ∷ y ∷ [])) in
           static_after L n (walk p lists node a ka) (λ x. after (walk p lists node b kb) (λ y. leaf (root x y))) w (clock_place node ka) (clock_place node k) (static a ka 1 well.0 well.1 fits.1)
           (λ x e. static_after L n (walk p lists node b kb) (λ y. leaf (root x y)) w (clock_place node kb) (clock_place node k) (static b kb 1 well.0 well.2 fits.2)
           (λ y e'. static_leaf L n (root x y) w (clock_place node k) (record { places_in = all_cons (InList L) cp (x ∷ y ∷ []) (omega (arith, well.0, long)) (two_in x y (clock_place node ka) (clock_place node kb) e e'); clocks_in = clock_there k known; copy = tt }) refl))

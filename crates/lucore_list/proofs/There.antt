@@ -36,15 +36,15 @@ module _ {A : Type 0} (Q : ℕ → A → Type 0) (more : (k m : ℕ) (x : A) →
 module _ (p : ProgramTree) where
   rounds : ℕ → List (List Flow)
   rounds zero = []
-  rounds (suc k) = map (node_flows p (rounds k)) p
+  rounds (suc k) = map (node_flows p (rounds k)) p.nodes
 
-  in_round : (k i : ℕ) (n : NodeTree) → slice_get p i ≡ Some n → slice_get (rounds (suc k)) i ≡ Some (node_flows p (rounds k) n)
+  in_round : (k i : ℕ) (n : NodeTree) → slice_get p.nodes i ≡ Some n → slice_get (rounds (suc k)) i ≡ Some (node_flows p (rounds k) n)
   unfolding rounds
-  in_round k i n e = slice_get-map (node_flows p (rounds k)) p i ∙ ap (option_map (node_flows p (rounds k))) e
+  in_round k i n e = slice_get-map (node_flows p (rounds k)) p.nodes i ∙ ap (option_map (node_flows p (rounds k))) e
 
-  length_round : (k : ℕ) → length (rounds (suc k)) ≡ length p
+  length_round : (k : ℕ) → length (rounds (suc k)) ≡ length p.nodes
   unfolding rounds
-  length_round k = length-map p (node_flows p (rounds k))
+  length_round k = length-map p.nodes (node_flows p (rounds k))
 
   -- from round k on the list of the node called f stays
   abbrev Stays : ℕ → List ℕ → Type 0
@@ -86,7 +86,7 @@ module _ (p : ProgramTree) where
   -- lists that one more round leaves as they are
   pub has_lists : ((f : List ℕ) → ¬ Reaches p f f) → (lists : List (List Flow)) × AreLists p lists
   has_lists never =
-      let all = from_one NodeStays (λ k m n le stays r more. stays r (omega (arith, le, more))) p (λ i n e. node_stays n (λ g has. by_calls p never (λ f. (k : ℕ) × Stays k f) step g)) in
+      let all = from_one NodeStays (λ k m n le stays r more. stays r (omega (arith, le, more))) p.nodes (λ i n e. node_stays n (λ g has. by_calls p never (λ f. (k : ℕ) × Stays k f) step g)) in
       (rounds (suc all.0), record { count = length_round all.0; each = λ i n e. in_round all.0 i n e ∙ ap Some (sym (all.1 i n e all.0 (omega arith))) })
 
 size_there : (lists : List (List Flow)) (i : ℕ) → length (unwrap_or (slice_get lists i) []) ≡ slice_index (map length lists) i

@@ -2,6 +2,7 @@
 use Rattle.std.proofs.Common.{◌≡◌, ℕ, suc, ◌+◌, ◌<◌, List, [], ◌∷◌, ◌++◌, length, map, Option, Some, None, refl, sym, ap, ◌∙◌, subst, arith, length-append}
 use Rattle.std.specs.Prelude.{slice_get, true, false, pos}
 use Rattle.std.proofs.lemmas.List.{append-nil, length-map}
+use Rattle.lutree.specs.declared.expr.Pattern.TheVariants as patterns
 use Rattle.lutree.specs.declared.expr.Condition.{Condition}
 use Rattle.lutree.specs.declared.expr.Prefix.TheVariants.{Data as Data1, Pre as Before}
 use Rattle.lutree.specs.declared.expr.Infix.TheVariants.{Data as Data2, Arrow as Starts, FollowedBy}
@@ -14,7 +15,7 @@ use Rattle.luflow.specs.Streams.{Stream, Ticks, truth_in}
 use Rattle.lusource.specs.Names.{variables_of, place_of, clock_of, name_at, outputs_in, output_name, AreDistinct}
 use Rattle.lustat_rules.specs.Scope.{node_called}
 use Rattle.lusource.specs.StreamOperators.{constant_stream, unary_stream, binary_stream, choice_stream, pre_stream, arrow_stream, when_stream, current_stream, merge_stream}
-use Rattle.lusource.specs.Source.{Named, Site, Path, SourceStreams, HoldsAt, condition, ticks, calls, calls_in, value, values, output, sites, sites_in}
+use Rattle.lusource.specs.Source.{Named, Site, Path, SourceStreams, HoldsAt, condition, pattern_value, ticks, calls, calls_in, value, values, output, sites, sites_in}
 use Rattle.lucore_list.specs.Layout.{Root, Walking, root_flows, made, root_place, place, behind, leaf, after, list_of, inputs_in, instance, moved, clock_place, flow_of, variable_place, walk, walk_all}
 use Rattle.lucore_list.specs.Layout.Root.{own, at}
 use Rattle.lucore_list.proofs.Each.{Each, each_left, each_right, each_join, each_shift, mapped}
@@ -142,7 +143,7 @@ module _ (p : ProgramTree) (lists : List (List Flow)) (node : NodeTree) (Below :
 
   ticks_agree : (m : Model) (k : Option Condition) → KnownClock k → Agree m → clock_ticks base m.on (clock_place node k) ≡ ticks base var k
   ticks_agree m None known agree = refl
-  ticks_agree m (Some c) known agree = ap {B = Ticks} (λ (s : Stream) t. truth_in c.sign (s t)) (agree c.variable known)
+  ticks_agree m (Some c) known agree = ap {B = Ticks} (λ (s : Stream) t. truth_in (pattern_value c.pattern) (s t)) (agree c.variable known)
 
   makes_instance : (A : Model → Type 0) (f : List ℕ) (k : Option Condition) (xs : List ℕ) (i w : ℕ) (arguments : List Stream) → ((m : Model) → A m → Agree m × (map m.on xs ≡ arguments)) → KnownClock k → CallIs p node Below f (length xs) w
       → ((path : Path) → HoldsAt p f (ticks base var k) arguments (λ ρ. σ (i ∷ ρ)) path) → RootMakes base Placed A (instance p lists f (clock_place node k) xs) (spot_at f) i w (λ j. below i (output_name p f j))
@@ -249,15 +250,15 @@ module _ (p : ProgramTree) (lists : List (List Flow)) (node : NodeTree) (Below :
           makes_leaf base Placed A (flow_of p lists node (tree.current x) k (Current (variable_place p lists node x))) i w (λ j. val (tree.current x) k i)
           (λ m a j. ap (λ c. current_stream c (m.on (variable_place p lists node x))) (ticks_agree m k known (ag m a)) ∙ ap (current_stream (K k)) (ag m a x well))
       makes A ag (tree.merge c a b) k i w known well sol =
-          let ka = condition c true in
-          let kb = condition c false in
+          let ka = condition c (patterns.Truth true) in
+          let kb = condition c (patterns.Truth false) in
           let sa = each_left _ i (sites p node base var below a ka i) (sites p node base var below b kb (i + calls a)) sol in
           let sb = solved_then i (sites p node base var below a ka i) (sites p node base var below b kb (i + calls a)) (calls a) (length-sites p node base var below a ka i) sol in
           let cp = variable_place p lists node c in
-          makes_two base Placed A (walk p lists node a ka) (walk p lists node b kb) (λ x y. flow_of p lists node (tree.merge c a b) k (Merge cp x y)) (spots p lists node a ka) (spots p lists node b kb) i (calls a) (calls b) w (output p node base var below a ka i) (output p node base var below b kb (i + calls a)) (λ j. val (tree.merge c a b) k i)
+          makes_two base Placed A (walk p lists node a ka) (walk p lists node b kb) (λ x y. flow_of p lists node (tree.merge c a b) k (Merge cp (x ∷ y ∷ []))) (spots p lists node a ka) (spots p lists node b kb) i (calls a) (calls b) w (output p node base var below a ka i) (output p node base var below b kb (i + calls a)) (λ j. val (tree.merge c a b) k i)
           (length-spots p lists node a ka) (length-spots p lists node b kb)
           (makes A ag a ka i 1 well.0 well.1 sa) (makes A ag b kb (i + calls a) 1 well.0 well.2 sb)
-          (λ x y m q e e' j. ap (λ t. merge_stream t (m.on cp) (m.on x) (m.on y)) (ticks_agree m k known (ag m q)) ∙ ap (λ u. merge_stream (K k) u (m.on x) (m.on y)) (ag m q c well.0) ∙ ap (λ u. merge_stream (K k) (var c) u (m.on y)) (is_value a ka i x m e) ∙ ap (merge_stream (K k) (var c) (val a ka i)) (is_value b kb (i + calls a) y m e'))
+          (λ x y m q e e' j. ap (λ t. merge_stream t (m.on cp) (m.on x ∷ m.on y ∷ [])) (ticks_agree m k known (ag m q)) ∙ ap (λ u. merge_stream (K k) u (m.on x ∷ m.on y ∷ [])) (ag m q c well.0) ∙ ap (λ u. merge_stream (K k) (var c) (u ∷ m.on y ∷ [])) (is_value a ka i x m e) ∙ ap (λ u. merge_stream (K k) (var c) (val a ka i ∷ u ∷ [])) (is_value b kb (i + calls a) y m e'))
       makes A ag (tree.call f all) k i w known well sol =
           let SA = sites_in p node base var below all k i in
           let site : Site = record { node = f; base = K k; arguments = values p node base var below all k i } in

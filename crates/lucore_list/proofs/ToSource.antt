@@ -3,6 +3,7 @@ use Rattle.std.proofs.Common.{◌≡◌, ℕ, zero, suc, ◌+◌, ◌<◌, List,
 use Rattle.std.specs.Prelude.{slice_get, slice_index, true, false, pos, option_map}
 use Rattle.std.proofs.lemmas.List.{append-nil, length-map}
 use Rattle.std.proofs.lemmas.Option.{same_Some}
+use Rattle.lutree.specs.declared.expr.Pattern.TheVariants as patterns
 use Rattle.lutree.specs.declared.expr.Condition.{Condition}
 use Rattle.lutree.specs.declared.expr.Prefix.TheVariants.{Data as Data1, Pre as Before}
 use Rattle.lutree.specs.declared.expr.Infix.TheVariants.{Data as Data2, Arrow as Starts, FollowedBy}
@@ -218,12 +219,12 @@ module _ (p : ProgramTree) (lists : List (List Flow)) (node : NodeTree) (Below :
     means (tree.current x) k i w well =
         means_leaf (flow_of p lists node (tree.current x) k (Current (variable_place p lists node x))) i w (λ j. val (tree.current x) k i) (λ j lt. ap (λ c. current_stream c (var x)) (ticks_are node base m k))
     means (tree.merge c a b) k i w well =
-        let ka = condition c true in
-        let kb = condition c false in
-        means_two (walk p lists node a ka) (walk p lists node b kb) (λ x y. flow_of p lists node (tree.merge c a b) k (Merge (variable_place p lists node c) x y)) (spots p lists node a ka) (spots p lists node b kb) i (calls a) (calls b) w
+        let ka = condition c (patterns.Truth true) in
+        let kb = condition c (patterns.Truth false) in
+        means_two (walk p lists node a ka) (walk p lists node b kb) (λ x y. flow_of p lists node (tree.merge c a b) k (Merge (variable_place p lists node c) (x ∷ y ∷ []))) (spots p lists node a ka) (spots p lists node b kb) i (calls a) (calls b) w
         (output p node base var within a ka i) (output p node base var within b kb (i + calls a)) (λ j. val (tree.merge c a b) k i) (sites p node base var within a ka i) (sites p node base var within b kb (i + calls a))
         (length-spots p lists node a ka) (length-sites p node base var within a ka i) (length-spots p lists node b kb) (length-sites p node base var within b kb (i + calls a)) (means a ka i 1 well.1) (means b kb (i + calls a) 1 well.2)
-        (λ x y e e' j. ap (λ t. merge_stream t (var c) (m.on x) (m.on y)) (ticks_are node base m k) ∙ ap (λ u. merge_stream (K k) (var c) u (m.on y)) (is_value a ka i x e) ∙ ap (merge_stream (K k) (var c) (val a ka i)) (is_value b kb (i + calls a) y e'))
+        (λ x y e e' j. ap (λ t. merge_stream t (var c) (m.on x ∷ m.on y ∷ [])) (ticks_are node base m k) ∙ ap (λ u. merge_stream (K k) (var c) (u ∷ m.on y ∷ [])) (is_value a ka i x e) ∙ ap (λ u. merge_stream (K k) (var c) (val a ka i ∷ u ∷ [])) (is_value b kb (i + calls a) y e'))
     means (tree.call f all) k i w well =
         means_all all k i w (λ xs. instance p lists f (clock_place node k) xs) (spot_at f) (output p node base var within (tree.call f all) k i) (record { node = f; base = K k; arguments = values p node base var within all k i } ∷ []) (sites p node base var within (tree.call f all) k i) well.1 refl
         (λ xs l e. means_instance f k xs (i + calls_in all) w (values p node base var within all k i) (subst (λ n. CallIs p node Below f n w) (sym l) well.0) e)

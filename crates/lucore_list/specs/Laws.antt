@@ -15,7 +15,7 @@ use Rattle.lucore_list.specs.Layout.{AreLists, IsLaidOut}
 -- each equation has a variable on its left side, as in every program that is read from a text
 abbrev pub DefineSomething : ProgramTree → Type 0
 DefineSomething p =
-    (i j : ℕ) (node : NodeTree) (q : EquationTree) → slice_get p i ≡ Some node → slice_get node.equations j ≡ Some q → 0 < length q.left
+    (i j : ℕ) (node : NodeTree) (q : EquationTree) → slice_get p.nodes i ≡ Some node → slice_get node.equations j ≡ Some q → 0 < length q.left
 
 -- the table has a column for each input of the main node
 abbrev pub HasColumns : ProgramTree → List ℕ → Table → Type 0

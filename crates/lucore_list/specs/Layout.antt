@@ -8,6 +8,7 @@ use Rattle.std.specs.List.{list_any}
 use Rattle.std.specs.Str.{bytes_eq}
 use Rattle.lutree.specs.declared.expr.Prefix.TheVariants.{Data as Data1, Pre as Before}
 use Rattle.lutree.specs.declared.expr.Infix.TheVariants.{Data as Data2, Arrow as Starts, FollowedBy}
+use Rattle.lutree.specs.declared.expr.Pattern.TheVariants as patterns
 use Rattle.lutree.specs.declared.expr.Condition.{Condition}
 use Rattle.lutree.specs.declared.program.Kind.TheVariants.{Int as Ints}
 use Rattle.lutree.specs.Tree.{Tree, Trees, DeclarationTree, EquationTree, NodeTree, ProgramTree}
@@ -23,7 +24,7 @@ use Rattle.luflow.specs.declared.variable.Role.{Role}
 use Rattle.luflow.specs.declared.variable.Role.TheVariants as role
 use Rattle.luflow.specs.Program.{FlatProgram}
 use Rattle.lusource.specs.Names.{variables_of, place_of, name_at, clock_of}
-use Rattle.lusource.specs.Source.{condition}
+use Rattle.lusource.specs.Source.{condition, pattern_value}
 use Rattle.lustat_rules.specs.Scope.{kind_of, names_of, node_called}
 use Rattle.lustat_rules.specs.Naming.{node_place}
 use Rattle.lustat_rules.specs.Typing.{type_of}
@@ -93,12 +94,12 @@ moved_form b arguments (Pre x) = Pre (b + x)
 moved_form b arguments (Arrow x y) = Arrow (b + x) (b + y)
 moved_form b arguments (When x) = When (b + x)
 moved_form b arguments (Current x) = Current (b + x)
-moved_form b arguments (Merge c x y) = Merge (b + c) (b + x) (b + y)
+moved_form b arguments (Merge c xs) = Merge (b + c) (map (λ x. b + x) xs)
 
 -- the base clock of the list becomes the clock k
 abbrev pub moved_clock : ℕ → Clock → Clock → Clock
 moved_clock b k Base = k
-moved_clock b k (On c sign) = On (b + c) sign
+moved_clock b k (On c d) = On (b + c) d
 
 -- a flow of that list, where it is moved
 abbrev pub moved : ℕ → Clock → List ℕ → Flow → Flow
@@ -126,10 +127,10 @@ instance p lists f k arguments b =
 
 -- THE WALK OF AN EXPRESSION
 
--- a clock as a place with a sign, in a node
+-- a clock as a place with a value, in a node
 abbrev pub clock_place : NodeTree → Option Condition → Clock
 clock_place node None = Base
-clock_place node (Some c) = On (place_of (variables_of node) c.variable) c.sign
+clock_place node (Some c) = On (place_of (variables_of node) c.variable) (pattern_value c.pattern)
 
 -- the place of the first variable on the left side of the equation that defines a variable; an input's own place
 abbrev pub owner_of : NodeTree → List EquationTree → List ℕ → ℕ
@@ -167,8 +168,8 @@ module _ (p : ProgramTree) (lists : List (List Flow)) (node : NodeTree) where
     walk (tree.when a c) k = after (walk a (clock_of node c.variable)) (λ x. leaf (flow_of (tree.when a c) (Some c) (When x)))
     walk (tree.current x) k = leaf (flow_of (tree.current x) k (Current (variable_place x)))
     walk (tree.merge c a b) k =
-        after (walk a (condition c true)) (λ x. after (walk b (condition c false)) (λ y.
-        leaf (flow_of (tree.merge c a b) k (Merge (variable_place c) x y))))
+        after (walk a (condition c (patterns.Truth true))) (λ x. after (walk b (condition c (patterns.Truth false))) (λ y.
+        leaf (flow_of (tree.merge c a b) k (Merge (variable_place c) (x ∷ y ∷ [])))))
     walk (tree.call f all) k = walk_all all k (λ arguments. instance p lists f (clock_place node k) arguments)
 
     -- the arguments of a call, and behind them the rest, which is told their places
@@ -238,8 +239,8 @@ module _ (p : ProgramTree) (lists : List (List Flow)) (node : NodeTree) where
 
 -- a list for each node, by its place in the text
 pub record AreLists (p : ProgramTree) (lists : List (List Flow)) : Type 0 where
-  pub count : length lists ≡ length p
-  pub each : (i : ℕ) (node : NodeTree) → slice_get p i ≡ Some node → slice_get lists i ≡ Some (node_flows p lists node)
+  pub count : length lists ≡ length p.nodes
+  pub each : (i : ℕ) (node : NodeTree) → slice_get p.nodes i ≡ Some node → slice_get lists i ≡ Some (node_flows p lists node)
 
 -- some variables of the main node, by their role
 abbrev pub variables_as : Role → List DeclarationTree → List Variable

@@ -1,6 +1,6 @@
 -- Two variables that are copies of each other: why the agreement asks for an order of rank.
 use Rattle.std.specs.Prelude.{[], ◌∷◌, codes}
-use Rattle.lutree.specs.Tree.{NodeTree}
+use Rattle.lutree.specs.Tree.{NodeTree, program_of}
 use Rattle.lutree.specs.Tree as tree
 use Rattle.luflow.specs.declared.form.Form.TheVariants.{Copied}
 use Rattle.luflow.specs.declared.variable.Role.TheVariants as role
@@ -34,5 +34,5 @@ loop_flat =
 -- The source asks only that both are the same stream, even one that is absent where the base clock is true. The flat program
 -- has no such solution.
 pub record LoopLaw : Type 0 where
-  pub laid_out : IsLaidOut (loop ∷ []) (codes "main") loop_flat
-  pub differ : ¬ Agrees (loop ∷ []) (codes "main") flat.three loop_flat
+  pub laid_out : IsLaidOut (program_of (loop ∷ [])) (codes "main") loop_flat
+  pub differ : ¬ Agrees (program_of (loop ∷ [])) (codes "main") flat.three loop_flat

@@ -1,5 +1,5 @@
 -- The meaning of a node's list apart from where the node is called: on any base clock, and with any streams for its inputs.
-use Rattle.std.specs.Prelude.{◌≡◌, ℕ, ◌<◌, List, [], length, Some, slice_get}
+use Rattle.std.specs.Prelude.{◌≡◌, ℕ, ◌<◌, List, [], length, map, Some, slice_get}
 use Rattle.lutree.specs.Tree.{NodeTree, ProgramTree}
 use Rattle.luflow.specs.declared.form.Clock.{Clock}
 use Rattle.luflow.specs.declared.form.Clock.TheVariants.{Base, On}
@@ -23,7 +23,7 @@ pub record Model : Type 0 where
 -- the stream of a clock, from the base clock
 abbrev pub clock_ticks : Ticks → Streams → Clock → Ticks
 clock_ticks base τ Base = base
-clock_ticks base τ (On c sign) = λ t. truth_in sign (τ c t)
+clock_ticks base τ (On c d) = λ t. truth_in d (τ c t)
 
 -- The stream of a form on a clock. A copy is the very stream that it copies.
 abbrev pub form_stream : Model → Ticks → Form → Stream
@@ -37,7 +37,7 @@ form_stream m k (Pre a) = pre_stream k (m.on a)
 form_stream m k (Arrow a b) = arrow_stream k (m.on a) (m.on b)
 form_stream m k (When a) = when_stream k (m.on a)
 form_stream m k (Current a) = current_stream k (m.on a)
-form_stream m k (Merge c a b) = merge_stream k (m.on c) (m.on a) (m.on b)
+form_stream m k (Merge c xs) = merge_stream k (m.on c) (map m.on xs)
 
 -- the stream of a flow
 abbrev pub flow_stream : Ticks → Model → Flow → Stream

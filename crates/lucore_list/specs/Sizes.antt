@@ -57,8 +57,8 @@ module _ (p : ProgramTree) (sizes : List ℕ) where
 
 -- a size for each node, by its place in the text
 pub record AreSizes (p : ProgramTree) (sizes : List ℕ) : Type 0 where
-  pub count : length sizes ≡ length p
-  pub each : (i : ℕ) (node : NodeTree) → slice_get p i ≡ Some node → slice_get sizes i ≡ Some (node_size p sizes node)
+  pub count : length sizes ≡ length p.nodes
+  pub each : (i : ℕ) (node : NodeTree) → slice_get p.nodes i ≡ Some node → slice_get sizes i ≡ Some (node_size p sizes node)
 
 -- A program none of whose nodes reaches itself by calls has sizes.
 abbrev pub SizesLaw : Type 0

@@ -4,8 +4,9 @@ use Rattle.lutree.specs.declared.expr.UnaryOperator.TheVariants.{Not}
 use Rattle.lutree.specs.declared.expr.BinaryOperator.TheVariants.{Add, Subtract, Divide}
 use Rattle.lutree.specs.declared.expr.Prefix.TheVariants.{Data as Single, Pre as Before}
 use Rattle.lutree.specs.declared.expr.Infix.TheVariants.{Data, Arrow as Starts, FollowedBy}
+use Rattle.lutree.specs.declared.expr.Pattern.TheVariants as patterns
 use Rattle.lutree.specs.declared.program.Kind.TheVariants.{Int as Ints, Bool as Truths}
-use Rattle.lutree.specs.Tree.{Tree, DeclarationTree, EquationTree, NodeTree, ProgramTree}
+use Rattle.lutree.specs.Tree.{Tree, DeclarationTree, EquationTree, NodeTree, program_of}
 use Rattle.lutree.specs.Tree as tree
 use Rattle.luflow.specs.declared.form.Flow.{Flow}
 use Rattle.luflow.specs.declared.form.Form.TheVariants.{Input, Copied, Binary, Pre, Arrow, When}
@@ -50,12 +51,12 @@ held_sample =
       name = codes "main";
       inputs = int_variable (codes "x") ∷ [];
       outputs = int_variable (codes "y") ∷ int_variable (codes "z") ∷ [];
-      locals = record { name = codes "c"; kind = Truths; clock = None } ∷ record { name = codes "s"; kind = Ints; clock = condition (codes "c") true } ∷ [];
+      locals = record { name = codes "c"; kind = Truths; clock = None } ∷ record { name = codes "s"; kind = Ints; clock = condition (codes "c") (patterns.Truth true) } ∷ [];
       equations =
           defines (codes "c") (tree.binary Starts (tree.truth true) (tree.unary (Single Not) (tree.unary Before (tree.variable (codes "c")))))
-          ∷ defines (codes "s") (tree.when (tree.variable (codes "x")) (record { variable = codes "c"; sign = true }))
+          ∷ defines (codes "s") (tree.when (tree.variable (codes "x")) (record { variable = codes "c"; pattern = patterns.Truth true }))
           ∷ defines (codes "y") (tree.current (codes "s"))
-          ∷ defines (codes "z") (tree.merge (codes "c") (tree.variable (codes "s")) (tree.when (tree.number 0) (record { variable = codes "c"; sign = false })))
+          ∷ defines (codes "z") (tree.merge (codes "c") (tree.variable (codes "s")) (tree.when (tree.number 0) (record { variable = codes "c"; pattern = patterns.Truth false })))
           ∷ [];
     }
 
@@ -124,14 +125,14 @@ two_calls =
       name = codes "main";
       inputs = int_variable (codes "x") ∷ record { name = codes "c"; kind = Truths; clock = None } ∷ [];
       outputs =
-          record { name = codes "u"; kind = Ints; clock = condition (codes "c") true }
-          ∷ record { name = codes "v"; kind = Ints; clock = condition (codes "c") true }
+          record { name = codes "u"; kind = Ints; clock = condition (codes "c") (patterns.Truth true) }
+          ∷ record { name = codes "v"; kind = Ints; clock = condition (codes "c") (patterns.Truth true) }
           ∷ int_variable (codes "w") ∷ [];
       locals = [];
       equations =
           record {
             left = codes "u" ∷ codes "v" ∷ [];
-            right = tree.call (codes "g") (tree.more (tree.when (tree.variable (codes "x")) (record { variable = codes "c"; sign = true })) (tree.more (tree.number 3) tree.none));
+            right = tree.call (codes "g") (tree.more (tree.when (tree.variable (codes "x")) (record { variable = codes "c"; pattern = patterns.Truth true })) (tree.more (tree.number 3) tree.none));
           }
           ∷ defines (codes "w") (call_one (codes "f") (call_one (codes "f") (tree.variable (codes "x"))))
           ∷ [];
@@ -168,12 +169,12 @@ two_calls_flat =
 -- The flat programs of these sources. Those of the first three are the ones whose solutions are worked out for flat programs;
 -- the first source is the one that is worked out as accepted.
 pub record VectorsLaw : Type 0 where
-  pub sums : IsLaidOut (sampler ∷ []) (codes "main") flat.sampled_sum
-  pub divisions : IsLaidOut (division ∷ []) (codes "main") flat.division
-  pub samples : IsLaidOut (held_sample ∷ []) (codes "main") flat.held_sample
-  pub delayed : IsLaidOut (delay ∷ delayed_call ∷ []) (codes "main") delayed_flat
-  pub calls : IsLaidOut (two_calls ∷ delay ∷ pair ∷ []) (codes "main") two_calls_flat
+  pub sums : IsLaidOut (program_of (sampler ∷ [])) (codes "main") flat.sampled_sum
+  pub divisions : IsLaidOut (program_of (division ∷ [])) (codes "main") flat.division
+  pub samples : IsLaidOut (program_of (held_sample ∷ [])) (codes "main") flat.held_sample
+  pub delayed : IsLaidOut (program_of (delay ∷ delayed_call ∷ [])) (codes "main") delayed_flat
+  pub calls : IsLaidOut (program_of (two_calls ∷ delay ∷ pair ∷ [])) (codes "main") two_calls_flat
   -- the sizes of the nodes of the last
-  pub sizes : AreSizes (two_calls ∷ delay ∷ pair ∷ []) (23 ∷ 4 ∷ 8 ∷ [])
+  pub sizes : AreSizes (program_of (two_calls ∷ delay ∷ pair ∷ [])) (23 ∷ 4 ∷ 8 ∷ [])
   -- and the first has the same solutions at its table
-  pub sums_agree : Agrees (sampler ∷ []) (codes "main") flat.four_samples flat.sampled_sum
+  pub sums_agree : Agrees (program_of (sampler ∷ [])) (codes "main") flat.four_samples flat.sampled_sum

@@ -17,11 +17,11 @@ use Rattle.lucore_size.proofs.Alike.{node_alike}
 
 -- the first k nodes of an order are counted
 pub record Until (p : ProgramTree) (order : List ℕ) (k : ℕ) (counts : List ℕ) : Type 0 where
-  pub long : length counts ≡ length p
-  pub counted : (sizes : List ℕ) → AreSizes p sizes → (j : ℕ) → Contains (take k order) j → j < length p → slice_index counts j ≡ capped (slice_index sizes j)
+  pub long : length counts ≡ length p.nodes
+  pub counted : (sizes : List ℕ) → AreSizes p sizes → (j : ℕ) → Contains (take k order) j → j < length p.nodes → slice_index counts j ≡ capped (slice_index sizes j)
 
 -- the size of a node, by its place
-size_there : (p : ProgramTree) (sizes : List ℕ) → AreSizes p sizes → (i : ℕ) (n : NodeTree) → slice_get p i ≡ Some n → slice_index sizes i ≡ node_size p sizes n
+size_there : (p : ProgramTree) (sizes : List ℕ) → AreSizes p sizes → (i : ℕ) (n : NodeTree) → slice_get p.nodes i ≡ Some n → slice_index sizes i ≡ node_size p sizes n
 size_there p sizes are i n there = get_or_from_slice_get sizes i (node_size p sizes n) 0 (are.each i n there)
 
 -- what stands up to a place stands before it or at it
@@ -36,28 +36,28 @@ up_to order k i j at_k has = go (Contains-append_cases (take k order) (get_or or
 
 -- a name that a node calls has one count by sizes and by counts
 called_alike : (p : ProgramTree) (order : List ℕ) (k i : ℕ) (counts sizes : List ℕ) (n : NodeTree) → IsCallOrder p order → Until p order k counts → AreSizes p sizes →
-    slice_get order k ≡ Some i → slice_get p i ≡ Some n → (f : List ℕ) → Contains (called_by n) f → capped (size_of p counts f) ≡ capped (size_of p sizes f)
+    slice_get order k ≡ Some i → slice_get p.nodes i ≡ Some n → (f : List ℕ) → Contains (called_by n) f → capped (size_of p counts f) ≡ capped (size_of p sizes f)
 called_alike p order k i counts sizes n o until are at_k there f has = go (node_place p f) refl where
   go : (place : Option ℕ) → node_place p f ≡ place → capped (size_of p counts f) ≡ capped (size_of p sizes f)
   go None e = ap (λ x. capped (size_at counts x)) e ∙ sym (ap (λ x. capped (size_at sizes x)) e)
   go (Some j) e =
-      let lt : j < length p = slice_get_within p j (means p f j e).node (means p f j e).there in
+      let lt : j < length p.nodes = slice_get_within p.nodes j (means p f j e).node (means p f j e).there in
       let before = o.after k i j n f at_k there has e in
       ap (λ x. capped (size_at counts x)) e ∙ ap capped (until.counted sizes are j before lt) ∙ capped_twice (slice_index sizes j)
       ∙ sym (ap (λ x. capped (size_at sizes x)) e)
 
 -- one more node
 pub until_more : (p : ProgramTree) (order : List ℕ) (k i x : ℕ) (counts : List ℕ) (n : NodeTree) → IsCallOrder p order → Until p order k counts →
-    slice_get order k ≡ Some i → slice_get p i ≡ Some n → x ≡ capped (node_size p counts n) → Until p order (k + 1) (set counts i x)
+    slice_get order k ≡ Some i → slice_get p.nodes i ≡ Some n → x ≡ capped (node_size p counts n) → Until p order (k + 1) (set counts i x)
 until_more p order k i x counts n o until at_k there is =
     record {
       long = length-set counts i x ∙ until.long;
       counted = λ sizes are j has lt. at sizes are j lt (cases_eq j i) (up_to order k i j at_k has);
     } where
       within : i < length counts
-      within = let lt : i < length p = slice_get_within p i n there in omega (arith, lt, until.long)
+      within = let lt : i < length p.nodes = slice_get_within p.nodes i n there in omega (arith, lt, until.long)
 
-      at : (sizes : List ℕ) → AreSizes p sizes → (j : ℕ) → j < length p → (j ≡ i) ⊎ (j ≢ i) → Contains (take k order) j ⊎ (j ≡ i) →
+      at : (sizes : List ℕ) → AreSizes p sizes → (j : ℕ) → j < length p.nodes → (j ≡ i) ⊎ (j ≢ i) → Contains (take k order) j ⊎ (j ≡ i) →
           slice_index (set counts i x) j ≡ capped (slice_index sizes j)
       at sizes are j lt (inl same) has =
           ap (slice_index (set counts i x)) same ∙ get_or-set_same counts i x 0 within ∙ is
@@ -68,10 +68,10 @@ until_more p order k i x counts n o until at_k there is =
 
 -- a place of no node
 pub until_past : (p : ProgramTree) (order : List ℕ) (k i : ℕ) (counts : List ℕ) → Until p order k counts →
-    slice_get order k ≡ Some i → length p ≤ i → Until p order (k + 1) counts
+    slice_get order k ≡ Some i → length p.nodes ≤ i → Until p order (k + 1) counts
 until_past p order k i counts until at_k past =
     record { long = until.long; counted = λ sizes are j has lt. at sizes are j lt (up_to order k i j at_k has) } where
-      at : (sizes : List ℕ) → AreSizes p sizes → (j : ℕ) → j < length p → Contains (take k order) j ⊎ (j ≡ i) → slice_index counts j ≡ capped (slice_index sizes j)
+      at : (sizes : List ℕ) → AreSizes p sizes → (j : ℕ) → j < length p.nodes → Contains (take k order) j ⊎ (j ≡ i) → slice_index counts j ≡ capped (slice_index sizes j)
       at sizes are j lt (inl before) = until.counted sizes are j before lt
       at sizes are j lt (inr same) = absurd (omega (arith, lt, past, same))
 
@@ -82,7 +82,7 @@ until_all p order counts o k all until sizes are =
     let long : length counts ≡ length (map capped sizes) = until.long ∙ sym are.count ∙ sym (length-map sizes capped) in
     ext_get_or 0 counts (map capped sizes) long
     (λ i lt.
-    let inside : i < length p = omega (arith, lt, until.long) in
+    let inside : i < length p.nodes = omega (arith, lt, until.long) in
     let sized : i < length sizes = omega (arith, inside, are.count) in
     until.counted sizes are i (subst (λ xs. Contains xs i) (sym all) (o.all i inside)) inside ∙ sym (get_or-map capped sizes i 0 0 sized))
 
@@ -94,7 +94,7 @@ count_of p f counts sizes are same = go (node_place p f) refl where
   go : (place : Option ℕ) → node_place p f ≡ place → size_of p counts f ≡ capped (size_of p sizes f)
   go None e = ap (size_at counts) e ∙ sym (ap (λ x. capped (size_at sizes x)) e)
   go (Some j) e =
-      let lt : j < length p = slice_get_within p j (means p f j e).node (means p f j e).there in
+      let lt : j < length p.nodes = slice_get_within p.nodes j (means p f j e).node (means p f j e).there in
       let sized : j < length sizes = omega (arith, lt, are.count) in
       ap (size_at counts) e ∙ ap (λ xs. slice_index xs j) same ∙ get_or-map capped sizes j 0 0 sized ∙ sym (ap (λ x. capped (size_at sizes x)) e)
 

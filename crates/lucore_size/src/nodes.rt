@@ -18,7 +18,7 @@ use std::alloc::{AllocError, Global};
 /// An error means that memory ran out.
 pub fn sizes(alloc: Global, program: &Checked) -> Result<Vec<usize>, AllocError>
     ensures count { IfOk result (λ counts. length counts.items
-        ≡ length (program_view program.now.program)) }
+        ≡ length (program_view program.now.program).nodes) }
     ensures counted { IfOk result (λ counts. AreCounted (program_view program.now.program)
         counts.items) }
 {

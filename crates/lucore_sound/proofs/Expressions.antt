@@ -3,6 +3,7 @@ use Rattle.std.proofs.Common.{◌≡◌, ℕ, zero, suc, ◌+◌, Bool, true, fa
 use Rattle.std.specs.Prelude.{slice_get, pos, option_map, unwrap_or, All}
 use Rattle.std.proofs.lemmas.List.{length-map}
 use Rattle.std.proofs.lemmas.Option.{same_Some}
+use Rattle.lutree.specs.declared.expr.Pattern.TheVariants as patterns
 use Rattle.lutree.specs.declared.expr.Condition.{Condition}
 use Rattle.lutree.specs.declared.expr.Prefix.TheVariants.{Data as Data1, Pre as Before}
 use Rattle.lutree.specs.declared.expr.Infix.TheVariants.{Data as Data2, Arrow as Starts, FollowedBy}
@@ -19,7 +20,8 @@ use Rattle.luflow.specs.declared.form.Flow.{Flow}
 use Rattle.luflow.specs.Sound.{AtMost, IsConstantOf}
 use Rattle.lusource.specs.Names.{clock_of}
 use Rattle.lustat_rules.specs.Scope.{declarations_of, node_called}
-use Rattle.lusource.specs.Source.{condition}
+use Rattle.luflow.proofs.Patterns.{some_values}
+use Rattle.lusource.specs.Source.{condition, pattern_value}
 use Rattle.lustat_rules.specs.Scope as rules
 use Rattle.lustat_rules.specs.Typing.{type_of, types_of, call_kinds, right_types}
 use Rattle.lustat_rules.specs.Clocks.{HasClock, IsTruth, FitsInside, AllFitInside, clocks_in, clocks_in_all}
@@ -29,7 +31,7 @@ use Rattle.lucore_list.specs.Layout.Root.{at}
 use Rattle.lucore_list.proofs.Names.{all_left, all_right, all_head, all_tail, clock_named}
 use Rattle.lucore_list.proofs.Well.{Known, IsWell, AllWell, CallIs}
 use Rattle.lucore_sound.proofs.Types.{agreed_is, sort_is, double_is, choice_is, kinds_of, call_is, only_is, single_is}
-use Rattle.lucore_sound.proofs.Fitting.{zero_class, same_class, On, Begins, FormSound, ClockSound, FlowSound}
+use Rattle.lucore_sound.proofs.Fitting.{condition_pattern, zero_class, same_class, On, Begins, FormSound, ClockSound, FlowSound}
 use Rattle.lucore_sound.proofs.Walks.{RootOn, Classing, RootMost, Sound, weaken, sound_leaf, sound_after, OpenSound, OnAll, AllZero, instance_on, instance_sound, instance_most}
 
 left_most : (b c e : Bool) → AtMost b c → AtMost b (c || e)
@@ -62,7 +64,7 @@ one_value L i k t (suc j) u e on = cc
 
 module _ (p : ProgramTree) (lists : List (List Flow)) (node : NodeTree) (Below : List ℕ → Type 0) (a : Classes) (L : List Flow) (ins : List DeclarationTree)
     (variables : (x : List ℕ) (k : Option Condition) (t : Kind) → HasClock node x k → rules.kind_of node x ≡ Some t → On L (clock_place node k) t (variable_place p lists node x))
-    (begins : (c : Condition) (k : Option Condition) → IsTrueAtFirst node c → HasClock node c.variable k → IsTruth node c.variable → Begins L (clock_place node k) c.sign (variable_place p lists node c.variable))
+    (begins : (c : Condition) (k : Option Condition) → IsTrueAtFirst node c → HasClock node c.variable k → IsTruth node c.variable → Begins L (clock_place node k) (pattern_value c.pattern) (variable_place p lists node c.variable))
     (declared_truth : (x : List ℕ) (c : Condition) → HasClock node x (Some c) → IsTruth node c.variable)
     (callee_sound : (f : List ℕ) → Below f → (callee : NodeTree) → node_called p f ≡ Some callee → OpenSound (list_of p lists f) callee.inputs (length callee.outputs))
     (callee_outputs : (f : List ℕ) → Below f → (callee : NodeTree) → node_called p f ≡ Some callee → (j : ℕ) (d : DeclarationTree) → slice_get callee.outputs j ≡ Some d → On (list_of p lists f) Base d.kind (length callee.inputs + j)) where
@@ -78,7 +80,7 @@ module _ (p : ProgramTree) (lists : List (List Flow)) (node : NodeTree) (Below :
   pub clock_sound : (class : Classing) (k : Option Condition) → Assigned class → Clocked k → ClockSound L class (clock_place node k)
   clock_sound class None assigned clocked = tt
   clock_sound class (Some c) assigned clocked =
-      (clock_place node clocked.1.0, variables c.variable clocked.1.0 Truths clocked.1.1 clocked.2, assigned c.variable clocked.0 ∙ clocked.3)
+      (clock_place node clocked.1.0, Truths, condition_pattern c.pattern, variables c.variable clocked.1.0 Truths clocked.1.1 clocked.2, assigned c.variable clocked.0 ∙ clocked.3)
 
   abbrev SoundIn : (Classing → Type 0) → Walking → Clock → List Kind → Bool → Type 0
   SoundIn = Sound L ins
@@ -282,7 +284,7 @@ module _ (p : ProgramTree) (lists : List (List Flow)) (node : NodeTree) (Below :
           (sound_after L ins Assigned (walk p lists node b kc) (λ x. leaf (flow_of p lists node e (Some c) (When x))) (clock_place node kc) (clock_place node (Some c)) t (t ∷ []) (is_one a b) (is_one a e)
           (sound b kc t (record { clocked = clocked_by c.variable; well = keeps.well.1; fits = subst (FitsInside node b) (sym same) fits.1.2; needs = keeps.needs; samplers = all_left IsSampler (clocks_in b) (c.variable ∷ []) keeps.samplers; starts = keeps.starts }) ty)
           (λ x on. own_leaf (λ class. Assigned class × AtMost (class x) (is_one a b)) e (Some c) t (When x) (is_one a e) ty clocked
-          (λ class q. (q.0, (cv, c.sign, clock_place node kc, refl, variables c.variable kc Truths has sampler.0, on, q.1)))))
+          (λ class q. (q.0, (cv, pattern_value c.pattern, Truths, clock_place node kc, refl, variables c.variable kc Truths has sampler.0, on, q.1)))))
       sound (tree.current x) k t keeps ty =
           let f = keeps.fits in
           let c = f.0 in
@@ -292,7 +294,7 @@ module _ (p : ProgramTree) (lists : List (List Flow)) (node : NodeTree) (Below :
             q,
             (
               variable_place p lists node c.variable,
-              c.sign,
+              pattern_value c.pattern,
               variables x (Some c) t f.1 ty,
               q x keeps.well ∙ keeps.needs,
               begins c k (all_head (ClockIsTrueAtFirst node) x [] keeps.starts c f.1) f.2 (declared_truth x c f.1),
@@ -302,29 +304,28 @@ module _ (p : ProgramTree) (lists : List (List Flow)) (node : NodeTree) (Below :
           let ck = clock_place node k in
           let e = tree.merge c a1 b in
           let h = agreed_is _ _ t ty in
-          let ka = condition c true in
-          let kb = condition c false in
+          let ka = condition c (patterns.Truth true) in
+          let kb = condition c (patterns.Truth false) in
           let cp = variable_place p lists node c in
           let sampler = all_head IsSampler c (clocks_in a1 ++ clocks_in b) keeps.samplers in
           let samplers' = all_tail IsSampler c (clocks_in a1 ++ clocks_in b) keeps.samplers in
           let clocked : Known p node Below c × ((j : Option Condition) × HasClock node c j) × IsTruth node c × (a c ≡ false) = (keeps.well.0, (k, keeps.fits.0), sampler.0, sampler.1) in
-          let root = λ (x y : ℕ). leaf (flow_of p lists node e k (Merge cp x y)) in
+          let root = λ (x y : ℕ). leaf (flow_of p lists node e k (Merge cp (x ∷ y ∷ []))) in
           let P1 = λ (x : ℕ) (class : Classing). Assigned class × AtMost (class x) (is_one a a1) in
           sound_after L ins Assigned (walk p lists node a1 ka) (λ x. after (walk p lists node b kb) (λ y. root x y)) (clock_place node ka) ck t (t ∷ []) (is_one a a1) false
           (sound a1 ka t (record { clocked = clocked; well = keeps.well.1; fits = keeps.fits.1; needs = keeps.needs.1; samplers = all_left IsSampler (clocks_in a1) (clocks_in b) samplers'; starts = all_left (ClockIsTrueAtFirst node) (currents_in a1) (currents_in b) keeps.starts }) h.0)
           (λ x on. sound_after L ins (P1 x) (walk p lists node b kb) (λ y. root x y) (clock_place node kb) ck t (t ∷ []) (is_one a b) false
           (weaken L ins Assigned (P1 x) (walk p lists node b kb) (clock_place node kb) (t ∷ []) (is_one a b) (λ class q. q.0)
           (sound b kb t (record { clocked = clocked; well = keeps.well.2; fits = keeps.fits.2; needs = keeps.needs.3; samplers = all_right IsSampler (clocks_in a1) (clocks_in b) samplers'; starts = all_right (ClockIsTrueAtFirst node) (currents_in a1) (currents_in b) keeps.starts }) h.1))
-          (λ y on'. own_leaf (λ class. P1 x class × AtMost (class y) (is_one a b)) e k t (Merge cp x y) false ty keeps.clocked
+          (λ y on'. own_leaf (λ class. P1 x class × AtMost (class y) (is_one a b)) e k t (Merge cp (x ∷ y ∷ [])) false ty keeps.clocked
           (λ class q. (
             q.0.0,
             (
+              Truths,
+              some_values,
               variables c k Truths keeps.fits.0 sampler.0,
-              on,
-              on',
               q.0.0 c keeps.well.0 ∙ sampler.1,
-              zero_from (class x) (is_one a a1) q.0.1 keeps.needs.0,
-              zero_from (class y) (is_one a b) q.1 keeps.needs.2,
+              (on, zero_from (class x) (is_one a a1) q.0.1 keeps.needs.0, (on', zero_from (class y) (is_one a b) q.1 keeps.needs.2, tt)),
             ),
           ))))
       sound (tree.call f all) k t keeps ty =

@@ -1,10 +1,13 @@
 -- When a flow of an open list fits the others, and that it does where the list is moved to.
-use Rattle.std.proofs.Common.{◌≡◌, ℕ, ◌+◌, ◌<◌, Bool, true, false, List, length, Some, refl, sym, ap, ◌∙◌, subst}
-use Rattle.std.specs.Prelude.{slice_get, slice_index}
+use Rattle.std.proofs.Common.{◌≡◌, ◌≢◌, ℕ, ◌+◌, ◌<◌, Bool, true, false, List, [], ◌∷◌, length, map, Some, refl, sym, ap, ◌∙◌, subst}
+use Rattle.std.specs.Prelude.{slice_get, slice_index, Contains}
 use Rattle.std.proofs.lemmas.Option.{slice_get_within}
+use Rattle.lutree.specs.declared.expr.Pattern.{Pattern}
+use Rattle.lutree.specs.declared.expr.Pattern.TheVariants as patterns
 use Rattle.lutree.specs.declared.program.Kind.{Kind}
 use Rattle.lutree.specs.declared.program.Kind.TheVariants.{Bool as Truths}
 use Rattle.lutree.specs.Tree.{DeclarationTree}
+use Rattle.luflow.specs.declared.data.Datum.{Datum}
 use Rattle.luflow.specs.declared.data.Datum.TheVariants.{Bool as Truth}
 use Rattle.luflow.specs.declared.form.Clock.{Clock}
 use Rattle.luflow.specs.declared.form.Clock.TheVariants.{Base, On as Sampled}
@@ -12,7 +15,9 @@ use Rattle.luflow.specs.declared.form.Form.{Form}
 use Rattle.luflow.specs.declared.form.Form.TheVariants.{Input, Constant, Copied, Unary, Binary, If, Pre, Arrow, When, Current, Merge}
 use Rattle.luflow.specs.declared.form.Flow.{Flow}
 use Rattle.luflow.specs.Operators.{single_sort, takes, makes}
-use Rattle.luflow.specs.Sound.{AtMost, IsConstantOf}
+use Rattle.luflow.specs.Sound.{AtMost, IsConstantOf, clock_values}
+use Rattle.luflow.proofs.Patterns.{truth_pattern}
+use Rattle.lusource.specs.Source.{pattern_value}
 use Rattle.lucore_list.specs.Layout.{moved_form, moved_clock, moved}
 
 -- CLASSES
@@ -27,6 +32,12 @@ zero_class false h = refl
 pub same_class : (b c : Bool) → b ≡ c → AtMost b c
 same_class b c e h = sym e ∙ h
 
+-- CLOCKS
+
+-- a pattern of the tree is a truth value
+pub condition_pattern : (pattern : Pattern) → Contains (clock_values Truths) (pattern_value pattern)
+condition_pattern (patterns.Truth b) = truth_pattern b
+
 -- A FLOW AMONG OTHERS
 
 -- the flow at place r stands on this clock, with this type
@@ -34,12 +45,21 @@ pub record On (L : List Flow) (k : Clock) (s : Kind) (r : ℕ) : Type 0 where
   pub form : Form
   pub there : slice_get L r ≡ Some (record { form = form; clock = k; kind = s })
 
--- the flow at place c begins with a constant of this sign
-pub record Begins (L : List Flow) (k : Clock) (sign : Bool) (c : ℕ) : Type 0 where
+-- the flow at place c begins with this constant
+pub record Begins (L : List Flow) (k : Clock) (d : Datum) (c : ℕ) : Type 0 where
+  pub kind : Kind
   pub first : ℕ
   pub then : ℕ
-  pub there : slice_get L c ≡ Some (record { form = Arrow first then; clock = k; kind = Truths })
-  pub constant : slice_get L first ≡ Some (record { form = Constant (Truth sign); clock = k; kind = Truths })
+  pub there : slice_get L c ≡ Some (record { form = Arrow first then; clock = k; kind = kind })
+  pub constant : slice_get L first ≡ Some (record { form = Constant d; clock = k; kind = kind })
+  pub pattern : Contains (clock_values kind) d
+
+-- the branches of a merge: one for each of these values, where the variable c has it, of class false
+abbrev pub BranchesSound : List Flow → (ℕ → Bool) → Kind → ℕ → List Datum → List ℕ → Type 0
+BranchesSound L class s c [] [] = Unit {0}
+BranchesSound L class s c [] (x ∷ xs) = ⊥
+BranchesSound L class s c (d ∷ ds) [] = ⊥
+BranchesSound L class s c (d ∷ ds) (x ∷ xs) = On L (Sampled c d) s x × (class x ≡ false) × BranchesSound L class s c ds xs
 
 -- the rules of a form, where an input is one of those that are declared
 abbrev pub FormSound : List Flow → List DeclarationTree → (ℕ → Bool) → Clock → Kind → Bool → Form → Type 0
@@ -51,13 +71,13 @@ FormSound L ins class k s e (Binary op a b) = (u : Kind) × (takes op u ≡ true
 FormSound L ins class k s e (If c a b) = On L k Truths c × On L k s a × On L k s b × AtMost (class c) e × AtMost (class a) e × AtMost (class b) e
 FormSound L ins class k s e (Pre a) = On L k s a × (class a ≡ false) × (e ≡ true)
 FormSound L ins class k s e (Arrow a b) = On L k s a × On L k s b × AtMost (class a) e
-FormSound L ins class k s e (When a) = (c : ℕ) × (sign : Bool) × (j : Clock) × (k ≡ Sampled c sign) × On L j Truths c × On L j s a × AtMost (class a) e
-FormSound L ins class k s e (Current a) = (c : ℕ) × (sign : Bool) × On L (Sampled c sign) s a × (class a ≡ false) × Begins L k sign c
-FormSound L ins class k s e (Merge c a b) = On L k Truths c × On L (Sampled c true) s a × On L (Sampled c false) s b × (class c ≡ false) × (class a ≡ false) × (class b ≡ false)
+FormSound L ins class k s e (When a) = (c : ℕ) × (d : Datum) × (u : Kind) × (j : Clock) × (k ≡ Sampled c d) × On L j u c × On L j s a × AtMost (class a) e
+FormSound L ins class k s e (Current a) = (c : ℕ) × (d : Datum) × On L (Sampled c d) s a × (class a ≡ false) × Begins L k d c
+FormSound L ins class k s e (Merge c xs) = (u : Kind) × (clock_values u ≢ []) × On L k u c × (class c ≡ false) × BranchesSound L class s c (clock_values u) xs
 
 abbrev pub ClockSound : List Flow → (ℕ → Bool) → Clock → Type 0
 ClockSound L class Base = Unit {0}
-ClockSound L class (Sampled c sign) = (j : Clock) × On L j Truths c × (class c ≡ false)
+ClockSound L class (Sampled c d) = (j : Clock) × (u : Kind) × Contains (clock_values u) d × On L j u c × (class c ≡ false)
 
 pub record FlowSound (L : List Flow) (ins : List DeclarationTree) (class : ℕ → Bool) (e : Bool) (f : Flow) : Type 0 where
   pub form : FormSound L ins class f.clock f.kind e f.form
@@ -77,9 +97,9 @@ raised_form L ins class k s e e' (Binary op a b) le h = (h.0, h.1, h.2, h.3, h.4
 raised_form L ins class k s e e' (If c a b) le h = (h.0, h.1, h.2, λ x. le (h.3 x), λ x. le (h.4 x), λ x. le (h.5 x))
 raised_form L ins class k s e e' (Pre a) le h = (h.0, h.1, le h.2)
 raised_form L ins class k s e e' (Arrow a b) le h = (h.0, h.1, λ x. le (h.2 x))
-raised_form L ins class k s e e' (When a) le h = (h.0, h.1, h.2, h.3, h.4, h.5, λ x. le (h.6 x))
+raised_form L ins class k s e e' (When a) le h = (h.0, h.1, h.2, h.3, h.4, h.5, h.6, λ x. le (h.7 x))
 raised_form L ins class k s e e' (Current a) le h = h
-raised_form L ins class k s e e' (Merge c a b) le h = h
+raised_form L ins class k s e e' (Merge c xs) le h = h
 
 pub raised : (L : List Flow) (ins : List DeclarationTree) (class : ℕ → Bool) (e e' : Bool) (f : Flow) → AtMost e e' → FlowSound L ins class e f → FlowSound L ins class e' f
 raised L ins class e e' f le h = record { form = raised_form L ins class f.clock f.kind e e' f.form le h.form; clock = h.clock }
@@ -103,14 +123,23 @@ module _ (L fl : List Flow) (ins ins' : List DeclarationTree) (class cls : ℕ �
   moved_zero : (a : ℕ) (c : Clock) (t : Kind) → On fl c t a → cls a ≡ false → class (s + a) ≡ false
   moved_zero a c t o z = moved_class a c t o ∙ z
 
-  moved_begins : (c : Clock) (sign : Bool) (v : ℕ) → Begins fl c sign v → Begins L (moved_clock s k c) sign (s + v)
-  moved_begins c sign v b =
+  moved_begins : (c : Clock) (d : Datum) (v : ℕ) → Begins fl c d v → Begins L (moved_clock s k c) d (s + v)
+  moved_begins c d v b =
       record {
+        kind = b.kind;
         first = s + b.first;
         then = s + b.then;
-        there = here v (record { form = Arrow b.first b.then; clock = c; kind = Truths }) b.there;
-        constant = here b.first (record { form = Constant (Truth sign); clock = c; kind = Truths }) b.constant;
+        there = here v (record { form = Arrow b.first b.then; clock = c; kind = b.kind }) b.there;
+        constant = here b.first (record { form = Constant d; clock = c; kind = b.kind }) b.constant;
+        pattern = b.pattern;
       }
+
+  moved_branches : (v : ℕ) (t : Kind) (ds : List Datum) (ys : List ℕ) → BranchesSound fl cls t v ds ys → BranchesSound L class t (s + v) ds (map (λ x. s + x) ys)
+  moved_branches v t [] [] h = tt
+  moved_branches v t [] (y ∷ ys) h = absurd h
+  moved_branches v t (d ∷ ds) [] h = absurd h
+  moved_branches v t (d ∷ ds) (y ∷ ys) h =
+      (moved_on y (Sampled v d) t h.0, moved_zero y (Sampled v d) t h.0 h.1, moved_branches v t ds ys h.2)
 
   moved_form_sound : (f : Form) (c : Clock) (t : Kind) (e : Bool) → FormSound fl ins cls c t e f → FormSound L ins' class (moved_clock s k c) t e (moved_form s xs f)
   moved_form_sound (Input r) c t e h =
@@ -127,21 +156,15 @@ module _ (L fl : List Flow) (ins ins' : List DeclarationTree) (class cls : ℕ �
   moved_form_sound (Pre a) c t e h = (moved_on a c t h.0, moved_zero a c t h.0 h.1, h.2)
   moved_form_sound (Arrow a b) c t e h = (moved_on a c t h.0, moved_on b c t h.1, moved_most a c t e h.0 h.2)
   moved_form_sound (When a) c t e h =
-      (s + h.0, h.1, moved_clock s k h.2, ap (moved_clock s k) h.3, moved_on h.0 h.2 Truths h.4, moved_on a h.2 t h.5, moved_most a h.2 t e h.5 h.6)
+      (s + h.0, h.1, h.2, moved_clock s k h.3, ap (moved_clock s k) h.4, moved_on h.0 h.3 h.2 h.5, moved_on a h.3 t h.6, moved_most a h.3 t e h.6 h.7)
   moved_form_sound (Current a) c t e h =
       (s + h.0, h.1, moved_on a (Sampled h.0 h.1) t h.2, moved_zero a (Sampled h.0 h.1) t h.2 h.3, moved_begins c h.1 h.0 h.4)
-  moved_form_sound (Merge v a b) c t e h = (
-    moved_on v c Truths h.0,
-    moved_on a (Sampled v true) t h.1,
-    moved_on b (Sampled v false) t h.2,
-    moved_zero v c Truths h.0 h.3,
-    moved_zero a (Sampled v true) t h.1 h.4,
-    moved_zero b (Sampled v false) t h.2 h.5,
-  )
+  moved_form_sound (Merge v ys) c t e h =
+      (h.0, h.1, moved_on v c h.0 h.2, moved_zero v c h.0 h.2 h.3, moved_branches v t (clock_values h.0) ys h.4)
 
   moved_clock_sound : (c : Clock) → ClockSound fl cls c → ClockSound L class (moved_clock s k c)
   moved_clock_sound Base h = clock
-  moved_clock_sound (Sampled v sign) h = (moved_clock s k h.0, moved_on v h.0 Truths h.1, moved_zero v h.0 Truths h.1 h.2)
+  moved_clock_sound (Sampled v d) h = (moved_clock s k h.0, h.1, h.2, moved_on v h.0 h.1 h.3, moved_zero v h.0 h.1 h.3 h.4)
 
   pub moved_sound : (e : Bool) (f : Flow) → FlowSound fl ins cls e f → FlowSound L ins' class e (moved s k xs f)
   moved_sound e f h = record { form = moved_form_sound f.form f.clock f.kind e h.form; clock = moved_clock_sound f.clock h.clock }

@@ -1,8 +1,9 @@
 -- What the flows of an expression name is a variable of the node, or a flow of the same expression.
-use Rattle.std.proofs.Common.{◌≡◌, ℕ, suc, ◌+◌, ◌<◌, ◌≤◌, ◌⊎◌, inl, inr, true, false, List, [], ◌∷◌, ◌++◌, length, Option, Some, None, refl, sym, ap, subst, arith, length-append}
+use Rattle.std.proofs.Common.{◌≡◌, ℕ, suc, ◌+◌, ◌<◌, ◌≤◌, ◌⊎◌, inl, inr, true, false, List, [], ◌∷◌, ◌++◌, length, map, Option, Some, None, refl, sym, ap, subst, arith, length-append}
 use Rattle.std.specs.Prelude.{slice_index, pos, All}
 use Rattle.std.proofs.lemmas.List.{length-map}
-use Rattle.std.proofs.lemmas.List.Elements.{All-nil}
+use Rattle.std.proofs.lemmas.List.Elements.{All-nil, All-map, All-weaker}
+use Rattle.lutree.specs.declared.expr.Pattern.TheVariants as patterns
 use Rattle.lutree.specs.declared.expr.Condition.{Condition}
 use Rattle.lutree.specs.declared.expr.Prefix.TheVariants.{Data as Data1, Pre as Before}
 use Rattle.lutree.specs.declared.expr.Infix.TheVariants.{Data as Data2, Arrow as Starts, FollowedBy}
@@ -106,11 +107,13 @@ module _ (nv lo hi : ℕ) where
     moved_operands (Arrow a b) c copy h = moved_two a b h
     moved_operands (When a) c copy h = moved_one a h
     moved_operands (Current a) c copy h = moved_one a h
-    moved_operands (Merge c a b) _ copy h = moved_three c a b h
+    moved_operands (Merge v ys) _ copy h =
+        all_cons (Near nv lo hi) (s + v) (map (λ x. s + x) ys) (moved_near v (all_head (InList fl) v ys h))
+        (All-map (Near nv lo hi) (λ x. s + x) ys (All-weaker (InList fl) (λ x. Near nv lo hi (s + x)) moved_near ys (all_tail (InList fl) v ys h)))
 
     moved_clocks : (c : Clock) → All (InList fl) (clock_reads c) → All (Near nv lo hi) (clock_reads (moved_clock s k c))
     moved_clocks Base h = clock
-    moved_clocks (Sampled c sign) h = moved_one c h
+    moved_clocks (Sampled c d) h = moved_one c h
 
     moved_flow : (f : Flow) → FlowFits fl n f → FlowNear nv lo hi (moved s k xs f)
     moved_flow f h = record { operands = moved_operands f.form f.clock h.copy h.places_in; clock = moved_clocks f.clock h.clocks_in }
@@ -201,10 +204,10 @@ module _ (p : ProgramTree) (lists : List (List Flow)) (node : NodeTree) (Below :
       near (tree.merge c a b) k w known well =
           let e = tree.merge c a b in
           let cp = variable_place p lists node c in
-          let root = λ (x y : ℕ). flow_of p lists node e k (Merge cp x y) in
-          near_after nv lo hi (walk p lists node a (condition c true)) (λ x. after (walk p lists node b (condition c false)) (λ y. leaf (root x y))) w (near a (condition c true) 1 well.0 well.1)
-          (λ x h. near_after nv lo hi (walk p lists node b (condition c false)) (λ y. leaf (root x y)) w (near b (condition c false) 1 well.0 well.2)
-          (λ y g. near_leaf nv lo hi (root x y) w (own_near e k (Merge cp x y) known (three_near nv lo hi cp x y (inl well.0) h g))))
+          let root = λ (x y : ℕ). flow_of p lists node e k (Merge cp (x ∷ y ∷ [])) in
+          near_after nv lo hi (walk p lists node a (condition c (patterns.Truth true))) (λ x. after (walk p lists node b (condition c (patterns.Truth false))) (λ y. leaf (root x y))) w (near a (condition c (patterns.Truth true)) 1 well.0 well.1)
+          (λ x h. near_after nv lo hi (walk p lists node b (condition c (patterns.Truth false))) (λ y. leaf (root x y)) w (near b (condition c (patterns.Truth false)) 1 well.0 well.2)
+          (λ y g. near_leaf nv lo hi (root x y) w (own_near e k (Merge cp (x ∷ y ∷ [])) known (three_near nv lo hi cp x y (inl well.0) h g))))
       near (tree.call f all) k w known well =
           near_all all k w (λ xs. instance p lists f (clock_place node k) xs) known well.1
           (λ xs l places. near_instance f k xs w known (subst (λ n. CallIs p node Below f n w) (sym l) well.0) places)

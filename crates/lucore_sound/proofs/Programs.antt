@@ -1,19 +1,20 @@
 -- The flat list of an accepted program is sound.
-use Rattle.std.proofs.Common.{◌≡◌, ℕ, Bool, true, false, List, length, sym, ap, ◌∙◌, subst}
+use Rattle.std.proofs.Common.{◌≡◌, ℕ, Bool, true, false, List, [], ◌∷◌, length, sym, ap, ◌∙◌, subst}
 use Rattle.std.specs.Prelude.{slice_get}
 use Rattle.lutree.specs.declared.program.Kind.{Kind}
 use Rattle.lutree.specs.Tree.{DeclarationTree}
+use Rattle.luflow.specs.declared.data.Datum.{Datum}
 use Rattle.luflow.specs.declared.form.Clock.{Clock}
 use Rattle.luflow.specs.declared.form.Clock.TheVariants.{Base, On as Sampled}
 use Rattle.luflow.specs.declared.form.Form.{Form}
 use Rattle.luflow.specs.declared.form.Form.TheVariants.{Input, Constant, Copied, Unary, Binary, If, Pre, Arrow, When, Current, Merge}
 use Rattle.luflow.specs.Program.{FlatProgram}
-use Rattle.luflow.specs.Sound.{IsOn, BeginsWith, FormFits, ClockFits}
+use Rattle.luflow.specs.Sound.{IsOn, clock_values, BeginsWith, BranchesFit, FormFits, ClockFits}
 use Rattle.lucore_list.specs.Layout.{list_of}
 use Rattle.lucore_list.proofs.Names.{listed}
 use Rattle.lucore_list.proofs.Facts.{facts, never_round}
 use Rattle.lucore_sound.specs.Laws.{SoundLaw}
-use Rattle.lucore_sound.proofs.Fitting.{On, Begins, FormSound, ClockSound}
+use Rattle.lucore_sound.proofs.Fitting.{On, Begins, BranchesSound, FormSound, ClockSound}
 use Rattle.lucore_sound.proofs.Walks.{class_in, OpenSound}
 use Rattle.lucore_sound.proofs.Ruling.{ruling}
 use Rattle.lucore_sound.proofs.Nodes.{lists_sound}
@@ -23,8 +24,15 @@ module _ (flat : FlatProgram) (ins : List DeclarationTree) (class : ℕ → Bool
   is_on : (k : Clock) (s : Kind) (r : ℕ) → On flat.flows k s r → IsOn flat k s r
   is_on k s r o = record { form = o.form; there = o.there }
 
-  begins_with : (k : Clock) (sign : Bool) (c : ℕ) → Begins flat.flows k sign c → BeginsWith flat k sign c
-  begins_with k sign c b = record { first = b.first; then = b.then; there = b.there; constant = b.constant }
+  begins_with : (k : Clock) (d : Datum) (c : ℕ) → Begins flat.flows k d c → BeginsWith flat k d c
+  begins_with k d c b =
+      record { kind = b.kind; first = b.first; then = b.then; there = b.there; constant = b.constant; pattern = b.pattern }
+
+  branches_fit : (s : Kind) (c : ℕ) (ds : List Datum) (xs : List ℕ) → BranchesSound flat.flows class s c ds xs → BranchesFit flat class s c ds xs
+  branches_fit s c [] [] h = tt
+  branches_fit s c [] (x ∷ xs) h = absurd h
+  branches_fit s c (d ∷ ds) [] h = absurd h
+  branches_fit s c (d ∷ ds) (x ∷ xs) h = (is_on (Sampled c d) s x h.0, h.1, branches_fit s c ds xs h.2)
 
   form_fits : (k : Clock) (s : Kind) (e : Bool) (form : Form) → FormSound flat.flows ins class k s e form → FormFits flat class k s e form
   form_fits k s e (Input r) h = h.0
@@ -35,13 +43,13 @@ module _ (flat : FlatProgram) (ins : List DeclarationTree) (class : ℕ → Bool
   form_fits k s e (If c a b) h = (is_on k _ c h.0, is_on k s a h.1, is_on k s b h.2, h.3, h.4, h.5)
   form_fits k s e (Pre a) h = (is_on k s a h.0, h.1, h.2)
   form_fits k s e (Arrow a b) h = (is_on k s a h.0, is_on k s b h.1, h.2)
-  form_fits k s e (When a) h = (h.0, h.1, h.2, h.3, is_on h.2 _ h.0 h.4, is_on h.2 s a h.5, h.6)
+  form_fits k s e (When a) h = (h.0, h.1, h.2, h.3, h.4, is_on h.3 h.2 h.0 h.5, is_on h.3 s a h.6, h.7)
   form_fits k s e (Current a) h = (h.0, h.1, is_on (Sampled h.0 h.1) s a h.2, h.3, begins_with k h.1 h.0 h.4)
-  form_fits k s e (Merge c a b) h = (is_on k _ c h.0, is_on (Sampled c true) s a h.1, is_on (Sampled c false) s b h.2, h.3, h.4, h.5)
+  form_fits k s e (Merge c xs) h = (h.0, h.1, is_on k h.0 c h.2, h.3, branches_fit s c (clock_values h.0) xs h.4)
 
   clock_fits : (k : Clock) → ClockSound flat.flows class k → ClockFits flat class k
   clock_fits Base h = tt
-  clock_fits (Sampled c sign) h = (h.0, is_on h.0 _ c h.1, h.2)
+  clock_fits (Sampled c d) h = (h.0, h.1, h.2, is_on h.0 h.1 c h.3, h.4)
 
 pub sound : SoundLaw
 sound p main flat accepted some out =

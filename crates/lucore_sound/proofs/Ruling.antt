@@ -37,7 +37,7 @@ declared n x c h =
     let d = mapped_some (λ (d : DeclarationTree). d.clock) (rules.meaning n x) (Some c) h in
     (d.0, first_at (declarations_of n) x d.0 d.1, d.2)
 
-pub node_ruling : (p : ProgramTree) (main : List ℕ) → IsAccepted p main → (i : ℕ) (n : NodeTree) → slice_get p i ≡ Some n → Ruling p n
+pub node_ruling : (p : ProgramTree) (main : List ℕ) → IsAccepted p main → (i : ℕ) (n : NodeTree) → slice_get p.nodes i ≡ Some n → Ruling p n
 node_ruling p main accepted i n here =
     let classes = (accepted Rule.maybe_nil).nodes i n here in
     let is_clock = λ (x : List ℕ) (c : Condition) (h : HasClock n x (Some c)). (accepted Rule.not_a_clock).declarations i (place_of (variables_of n) x) n (declared n x c h).0 here (declared n x c h).1 in

@@ -1,7 +1,9 @@
 -- The flows of a node's variables stand on their clocks, with their types.
-use Rattle.std.proofs.Common.{◌≡◌, ℕ, zero, suc, ◌+◌, ◌<◌, ⊎_elim, Bool, List, [], ◌∷◌, ◌++◌, length, map, Option, Some, None, refl, sym, ap, ◌∙◌, subst, arith}
+use Rattle.std.proofs.Common.{◌≡◌, ℕ, zero, suc, ◌+◌, ◌<◌, ⊎_elim, List, [], ◌∷◌, ◌++◌, length, map, Option, Some, None, refl, sym, ap, ◌∙◌, subst, arith}
 use Rattle.std.specs.Prelude.{slice_get, option_map, unwrap_or}
 use Rattle.std.proofs.lemmas.Option.{slice_get_within, slice_get-map, same_Some}
+use Rattle.lutree.specs.declared.expr.Pattern.{Pattern}
+use Rattle.lutree.specs.declared.expr.Pattern.TheVariants as patterns
 use Rattle.lutree.specs.declared.expr.Condition.{Condition}
 use Rattle.lutree.specs.declared.expr.Prefix.TheVariants.{Data as Data1, Pre as Before}
 use Rattle.lutree.specs.declared.expr.Infix.TheVariants.{Data as Data2, Arrow as Starts, FollowedBy}
@@ -15,6 +17,7 @@ use Rattle.luflow.specs.declared.form.Form.{Form}
 use Rattle.luflow.specs.declared.form.Form.TheVariants.{Constant, Arrow}
 use Rattle.luflow.specs.declared.form.Flow.{Flow}
 use Rattle.lusource.specs.Names.{variables_of}
+use Rattle.lusource.specs.Source.{pattern_value}
 use Rattle.lustat_rules.specs.Scope.{declarations_of}
 use Rattle.lustat_rules.specs.Scope as rules
 use Rattle.lustat_rules.specs.Typing.{type_of, right_types}
@@ -30,7 +33,7 @@ use Rattle.lucore_list.proofs.Facts.{Below, NodeFacts}
 use Rattle.lucore_list.proofs.NodeToFlat.{other_has_equation}
 use Rattle.lucore_list.proofs.NodeStatic.{first_is, variables}
 use Rattle.lucore_sound.proofs.Types.{single_kinds}
-use Rattle.lucore_sound.proofs.Fitting.{On, Begins}
+use Rattle.lucore_sound.proofs.Fitting.{condition_pattern, On, Begins}
 use Rattle.lucore_sound.proofs.Ruling.{Ruling}
 
 -- a flow at the root of a right side has the type of its one value
@@ -85,12 +88,12 @@ module _ (p : ProgramTree) (lists : List (List Flow)) (node : NodeTree) where
   right_kind (tree.call f all) k s kinds h = call_root kinds all k _ (λ xs s. tt) s
 
   -- `true -> e` and `true fby e` are an arrow at the root, whose first operand is the constant
-  pub starting : (L : List Flow) (sign : Bool) (e : Tree) (k : Option Condition) (s : ℕ) → StartsWith sign e → Each (λ x f. slice_get L x ≡ Some f) s (walk p lists node e k s).inner
-      → ((walk p lists node e k s).root ≡ own (flow_of p lists node e k (Arrow (s + 0) (second_of (walk p lists node e k s).root)))) × (slice_get L (s + 0) ≡ Some (flow_of p lists node (tree.truth sign) k (Constant (Truth sign))))
-  starting L sign _ k s (StartsWith.arrow e) stand =
+  pub starting : (L : List Flow) (pattern : Pattern) (e : Tree) (k : Option Condition) (s : ℕ) → StartsWith pattern e → Each (λ x f. slice_get L x ≡ Some f) s (walk p lists node e k s).inner
+      → ((walk p lists node e k s).root ≡ own (flow_of p lists node e k (Arrow (s + 0) (second_of (walk p lists node e k s).root)))) × (slice_get L (s + 0) ≡ Some (record { form = Constant (pattern_value pattern); clock = clock_place node k; kind = Truths }))
+  starting L (patterns.Truth sign) _ k s (StartsWith.arrow e) stand =
       let z : s ≡ s + 0 = omega arith in
       (refl, ap (slice_get L) (sym z) ∙ stand.0)
-  starting L sign _ k s (StartsWith.followed e) stand =
+  starting L (patterns.Truth sign) _ k s (StartsWith.followed e) stand =
       let z : s ≡ s + 0 = omega arith in
       (refl, ap (slice_get L) (sym z) ∙ stand.0)
 
@@ -181,7 +184,7 @@ module _ (p : ProgramTree) (lists : List (List Flow)) (node : NodeTree) (facts :
       let z : 0 + length (front p lists node) ≡ nv = omega arith in
       subst (λ s. Each (λ x f. slice_get L x ≡ Some f) s (inner_flows p lists node node.equations nv)) z (each_right (λ x f. slice_get L x ≡ Some f) 0 (front p lists node) (inner_flows p lists node node.equations nv) stands')
 
-  pub beginnings : (c : Condition) (k : Option Condition) → IsTrueAtFirst node c → HasClock node c.variable k → IsTruth node c.variable → Begins L (clock_place node k) c.sign (variable_place p lists node c.variable)
+  pub beginnings : (c : Condition) (k : Option Condition) → IsTrueAtFirst node c → HasClock node c.variable k → IsTruth node c.variable → Begins L (clock_place node k) (pattern_value c.pattern) (variable_place p lists node c.variable)
   beginnings c k first has truth =
       let q = first.0 in
       let x = c.variable in
@@ -191,7 +194,7 @@ module _ (p : ProgramTree) (lists : List (List Flow)) (node : NodeTree) (facts :
       let named : slice_get q.left 0 ≡ Some x = ap (λ (l : List (List ℕ)). slice_get l 0) first.2 in
       let lk = left_clock p lists node q in
       let w = walk_right p lists node q s.start in
-      let g = starting p lists node L c.sign q.right lk s.start first.3 s.stand in
+      let g = starting p lists node L c.pattern q.right lk s.start first.3 s.stand in
       let f = flow_of p lists node q.right lk (Arrow (s.start + 0) (second_of w.root)) in
       let no_input = all_at (λ x. ¬ rules.IsInput node x) q.left 0 x (facts.anew at.0 q at.1).no_input named in
       let on = variables_on x k Truths has truth in
@@ -201,8 +204,10 @@ module _ (p : ProgramTree) (lists : List (List Flow)) (node : NodeTree) (facts :
       let there : slice_get L v ≡ Some f = get-variable p lists node x lt no_input ∙ ap Some root in
       let same : f ≡ record { form = on.form; clock = clock_place node k; kind = Truths } = same_Some f _ (sym there ∙ on.there) in
       record {
+        kind = Truths;
         first = s.start + 0;
         then = second_of w.root;
         there = on.there ∙ ap (λ (form : Form). Some (record { form = form; clock = clock_place node k; kind = Truths })) (sym (ap (λ (f : Flow). f.form) same));
-        constant = g.1 ∙ ap (λ c'. Some (record { form = Constant (Truth c.sign); clock = c'; kind = Truths })) (ap (λ (f : Flow). f.clock) same);
+        constant = g.1 ∙ ap (λ c'. Some (record { form = Constant (pattern_value c.pattern); clock = c'; kind = Truths })) (ap (λ (f : Flow). f.clock) same);
+        pattern = condition_pattern c.pattern;
       }

@@ -8,8 +8,23 @@ use lutree::{BinaryOperator, Kind, UnaryOperator};
 use std::alloc::Global;
 use std::test::Fail;
 
+/// A form as it is listed here.
+enum Shape {
+    Input(usize),
+    Constant(Datum),
+    Copied(usize),
+    Unary(UnaryOperator, usize),
+    Binary(BinaryOperator, usize, usize),
+    If(usize, usize, usize),
+    Pre(usize),
+    Arrow(usize, usize),
+    When(usize),
+    Current(usize),
+    Merge(usize, &'static [usize]),
+}
+
 /// A flow's form, its clock and its type.
-type Row = (Form, Clock, Kind);
+type Row = (Shape, Clock, Kind);
 
 /// A program's text, with its flows, their places in order of rank, and for each flow the number of the main variable in whose
 /// equation it stands.
@@ -24,19 +39,23 @@ const LISTINGS: &[Listing] = &[
     Listing {
         text: "node main(x: int; c: bool) returns (y: int; z: int when c); var s: int when c; let s = x when c; z = 2 * s; y = x -> pre y + x; tel",
         flows: &[
-            (Form::Input(0), Clock::Base, Kind::Int),
-            (Form::Input(1), Clock::Base, Kind::Bool),
-            (Form::Arrow(0, 7), Clock::Base, Kind::Int),
+            (Shape::Input(0), Clock::Base, Kind::Int),
+            (Shape::Input(1), Clock::Base, Kind::Bool),
+            (Shape::Arrow(0, 7), Clock::Base, Kind::Int),
             (
-                Form::Binary(BinaryOperator::Multiply, 5, 4),
-                Clock::On(1, true),
+                Shape::Binary(BinaryOperator::Multiply, 5, 4),
+                Clock::On(1, Datum::Bool(true)),
                 Kind::Int,
             ),
-            (Form::When(0), Clock::On(1, true), Kind::Int),
-            (Form::Constant(Datum::Int(2)), Clock::On(1, true), Kind::Int),
-            (Form::Pre(2), Clock::Base, Kind::Int),
+            (Shape::When(0), Clock::On(1, Datum::Bool(true)), Kind::Int),
             (
-                Form::Binary(BinaryOperator::Add, 6, 0),
+                Shape::Constant(Datum::Int(2)),
+                Clock::On(1, Datum::Bool(true)),
+                Kind::Int,
+            ),
+            (Shape::Pre(2), Clock::Base, Kind::Int),
+            (
+                Shape::Binary(BinaryOperator::Add, 6, 0),
                 Clock::Base,
                 Kind::Int,
             ),
@@ -47,16 +66,16 @@ const LISTINGS: &[Listing] = &[
     Listing {
         text: "node main(x: int) returns (z: int); var y: int; p: int; let y = 1 div x; p = pre y; z = 0 -> p; tel",
         flows: &[
-            (Form::Input(0), Clock::Base, Kind::Int),
-            (Form::Arrow(5, 3), Clock::Base, Kind::Int),
+            (Shape::Input(0), Clock::Base, Kind::Int),
+            (Shape::Arrow(5, 3), Clock::Base, Kind::Int),
             (
-                Form::Binary(BinaryOperator::Divide, 4, 0),
+                Shape::Binary(BinaryOperator::Divide, 4, 0),
                 Clock::Base,
                 Kind::Int,
             ),
-            (Form::Pre(2), Clock::Base, Kind::Int),
-            (Form::Constant(Datum::Int(1)), Clock::Base, Kind::Int),
-            (Form::Constant(Datum::Int(0)), Clock::Base, Kind::Int),
+            (Shape::Pre(2), Clock::Base, Kind::Int),
+            (Shape::Constant(Datum::Int(1)), Clock::Base, Kind::Int),
+            (Shape::Constant(Datum::Int(0)), Clock::Base, Kind::Int),
         ],
         rank: &[0, 3, 4, 2, 5, 1],
         owners: &[0, 1, 2, 3, 2, 1],
@@ -64,16 +83,16 @@ const LISTINGS: &[Listing] = &[
     Listing {
         text: "node main(x: int) returns (y: int; z: int); var c: bool; s: int when c; let c = true -> not pre c; s = x when c; y = current s; z = merge c (true -> s) (false -> 0 when not c); tel",
         flows: &[
-            (Form::Input(0), Clock::Base, Kind::Int),
-            (Form::Current(4), Clock::Base, Kind::Int),
-            (Form::Merge(3, 4, 9), Clock::Base, Kind::Int),
-            (Form::Arrow(5, 7), Clock::Base, Kind::Bool),
-            (Form::When(0), Clock::On(3, true), Kind::Int),
-            (Form::Constant(Datum::Bool(true)), Clock::Base, Kind::Bool),
-            (Form::Pre(3), Clock::Base, Kind::Bool),
-            (Form::Unary(UnaryOperator::Not, 6), Clock::Base, Kind::Bool),
-            (Form::Constant(Datum::Int(0)), Clock::Base, Kind::Int),
-            (Form::When(8), Clock::On(3, false), Kind::Int),
+            (Shape::Input(0), Clock::Base, Kind::Int),
+            (Shape::Current(4), Clock::Base, Kind::Int),
+            (Shape::Merge(3, &[4, 9]), Clock::Base, Kind::Int),
+            (Shape::Arrow(5, 7), Clock::Base, Kind::Bool),
+            (Shape::When(0), Clock::On(3, Datum::Bool(true)), Kind::Int),
+            (Shape::Constant(Datum::Bool(true)), Clock::Base, Kind::Bool),
+            (Shape::Pre(3), Clock::Base, Kind::Bool),
+            (Shape::Unary(UnaryOperator::Not, 6), Clock::Base, Kind::Bool),
+            (Shape::Constant(Datum::Int(0)), Clock::Base, Kind::Int),
+            (Shape::When(8), Clock::On(3, Datum::Bool(false)), Kind::Int),
         ],
         rank: &[0, 5, 6, 7, 3, 4, 1, 8, 9, 2],
         owners: &[0, 1, 2, 3, 4, 3, 3, 3, 2, 2],
@@ -81,27 +100,31 @@ const LISTINGS: &[Listing] = &[
     Listing {
         text: "node main(x: int; d: bool) returns (y: int); let y = if d and x > 0 then -x else 1 fby 2 fby y; tel",
         flows: &[
-            (Form::Input(0), Clock::Base, Kind::Int),
-            (Form::Input(1), Clock::Base, Kind::Bool),
-            (Form::If(5, 6, 12), Clock::Base, Kind::Int),
-            (Form::Constant(Datum::Int(0)), Clock::Base, Kind::Int),
+            (Shape::Input(0), Clock::Base, Kind::Int),
+            (Shape::Input(1), Clock::Base, Kind::Bool),
+            (Shape::If(5, 6, 12), Clock::Base, Kind::Int),
+            (Shape::Constant(Datum::Int(0)), Clock::Base, Kind::Int),
             (
-                Form::Binary(BinaryOperator::Greater, 0, 3),
+                Shape::Binary(BinaryOperator::Greater, 0, 3),
                 Clock::Base,
                 Kind::Bool,
             ),
             (
-                Form::Binary(BinaryOperator::And, 1, 4),
+                Shape::Binary(BinaryOperator::And, 1, 4),
                 Clock::Base,
                 Kind::Bool,
             ),
-            (Form::Unary(UnaryOperator::Minus, 0), Clock::Base, Kind::Int),
-            (Form::Constant(Datum::Int(1)), Clock::Base, Kind::Int),
-            (Form::Constant(Datum::Int(2)), Clock::Base, Kind::Int),
-            (Form::Pre(2), Clock::Base, Kind::Int),
-            (Form::Arrow(8, 9), Clock::Base, Kind::Int),
-            (Form::Pre(10), Clock::Base, Kind::Int),
-            (Form::Arrow(7, 11), Clock::Base, Kind::Int),
+            (
+                Shape::Unary(UnaryOperator::Minus, 0),
+                Clock::Base,
+                Kind::Int,
+            ),
+            (Shape::Constant(Datum::Int(1)), Clock::Base, Kind::Int),
+            (Shape::Constant(Datum::Int(2)), Clock::Base, Kind::Int),
+            (Shape::Pre(2), Clock::Base, Kind::Int),
+            (Shape::Arrow(8, 9), Clock::Base, Kind::Int),
+            (Shape::Pre(10), Clock::Base, Kind::Int),
+            (Shape::Arrow(7, 11), Clock::Base, Kind::Int),
         ],
         rank: &[0, 1, 3, 4, 5, 6, 7, 8, 9, 10, 11, 12, 2],
         owners: &[0, 1, 2, 2, 2, 2, 2, 2, 2, 2, 2, 2, 2],
@@ -110,33 +133,49 @@ const LISTINGS: &[Listing] = &[
     Listing {
         text: "node main(x: int; c: bool) returns (u: int when c; v: int when c; w: int); let (u, v) = g(x when c, 3); w = f(f(x)); tel node f(x: int) returns (y: int); let y = 0 fby x; tel node g(x: int; y: int) returns (p: int; q: int); let p = y; q = f(x) - y; tel",
         flows: &[
-            (Form::Input(0), Clock::Base, Kind::Int),
-            (Form::Input(1), Clock::Base, Kind::Bool),
-            (Form::Copied(9), Clock::On(1, true), Kind::Int),
-            (Form::Copied(10), Clock::On(1, true), Kind::Int),
-            (Form::Copied(20), Clock::Base, Kind::Int),
-            (Form::When(0), Clock::On(1, true), Kind::Int),
-            (Form::Constant(Datum::Int(3)), Clock::On(1, true), Kind::Int),
-            (Form::Copied(5), Clock::On(1, true), Kind::Int),
-            (Form::Copied(6), Clock::On(1, true), Kind::Int),
-            (Form::Copied(8), Clock::On(1, true), Kind::Int),
+            (Shape::Input(0), Clock::Base, Kind::Int),
+            (Shape::Input(1), Clock::Base, Kind::Bool),
+            (Shape::Copied(9), Clock::On(1, Datum::Bool(true)), Kind::Int),
             (
-                Form::Binary(BinaryOperator::Subtract, 12, 8),
-                Clock::On(1, true),
+                Shape::Copied(10),
+                Clock::On(1, Datum::Bool(true)),
                 Kind::Int,
             ),
-            (Form::Copied(7), Clock::On(1, true), Kind::Int),
-            (Form::Arrow(13, 14), Clock::On(1, true), Kind::Int),
-            (Form::Constant(Datum::Int(0)), Clock::On(1, true), Kind::Int),
-            (Form::Pre(11), Clock::On(1, true), Kind::Int),
-            (Form::Copied(0), Clock::Base, Kind::Int),
-            (Form::Arrow(17, 18), Clock::Base, Kind::Int),
-            (Form::Constant(Datum::Int(0)), Clock::Base, Kind::Int),
-            (Form::Pre(15), Clock::Base, Kind::Int),
-            (Form::Copied(16), Clock::Base, Kind::Int),
-            (Form::Arrow(21, 22), Clock::Base, Kind::Int),
-            (Form::Constant(Datum::Int(0)), Clock::Base, Kind::Int),
-            (Form::Pre(19), Clock::Base, Kind::Int),
+            (Shape::Copied(20), Clock::Base, Kind::Int),
+            (Shape::When(0), Clock::On(1, Datum::Bool(true)), Kind::Int),
+            (
+                Shape::Constant(Datum::Int(3)),
+                Clock::On(1, Datum::Bool(true)),
+                Kind::Int,
+            ),
+            (Shape::Copied(5), Clock::On(1, Datum::Bool(true)), Kind::Int),
+            (Shape::Copied(6), Clock::On(1, Datum::Bool(true)), Kind::Int),
+            (Shape::Copied(8), Clock::On(1, Datum::Bool(true)), Kind::Int),
+            (
+                Shape::Binary(BinaryOperator::Subtract, 12, 8),
+                Clock::On(1, Datum::Bool(true)),
+                Kind::Int,
+            ),
+            (Shape::Copied(7), Clock::On(1, Datum::Bool(true)), Kind::Int),
+            (
+                Shape::Arrow(13, 14),
+                Clock::On(1, Datum::Bool(true)),
+                Kind::Int,
+            ),
+            (
+                Shape::Constant(Datum::Int(0)),
+                Clock::On(1, Datum::Bool(true)),
+                Kind::Int,
+            ),
+            (Shape::Pre(11), Clock::On(1, Datum::Bool(true)), Kind::Int),
+            (Shape::Copied(0), Clock::Base, Kind::Int),
+            (Shape::Arrow(17, 18), Clock::Base, Kind::Int),
+            (Shape::Constant(Datum::Int(0)), Clock::Base, Kind::Int),
+            (Shape::Pre(15), Clock::Base, Kind::Int),
+            (Shape::Copied(16), Clock::Base, Kind::Int),
+            (Shape::Arrow(21, 22), Clock::Base, Kind::Int),
+            (Shape::Constant(Datum::Int(0)), Clock::Base, Kind::Int),
+            (Shape::Pre(19), Clock::Base, Kind::Int),
         ],
         rank: &[
             0, 1, 5, 6, 7, 8, 9, 2, 11, 13, 14, 12, 10, 3, 15, 17, 18, 16, 19, 21, 22, 20, 4,
@@ -149,21 +188,21 @@ const LISTINGS: &[Listing] = &[
     Listing {
         text: "node hold(c: bool; x: int) returns (y: int); var s: int when c; let s = x when c; y = merge c (true -> s) (false -> 0 when not c); tel node main(x: int; b: bool) returns (y: int); let y = hold(not b, x) + 1; tel",
         flows: &[
-            (Form::Input(0), Clock::Base, Kind::Int),
-            (Form::Input(1), Clock::Base, Kind::Bool),
+            (Shape::Input(0), Clock::Base, Kind::Int),
+            (Shape::Input(1), Clock::Base, Kind::Bool),
             (
-                Form::Binary(BinaryOperator::Add, 6, 10),
+                Shape::Binary(BinaryOperator::Add, 6, 10),
                 Clock::Base,
                 Kind::Int,
             ),
-            (Form::Unary(UnaryOperator::Not, 1), Clock::Base, Kind::Bool),
-            (Form::Copied(3), Clock::Base, Kind::Bool),
-            (Form::Copied(0), Clock::Base, Kind::Int),
-            (Form::Merge(4, 7, 9), Clock::Base, Kind::Int),
-            (Form::When(5), Clock::On(4, true), Kind::Int),
-            (Form::Constant(Datum::Int(0)), Clock::Base, Kind::Int),
-            (Form::When(8), Clock::On(4, false), Kind::Int),
-            (Form::Constant(Datum::Int(1)), Clock::Base, Kind::Int),
+            (Shape::Unary(UnaryOperator::Not, 1), Clock::Base, Kind::Bool),
+            (Shape::Copied(3), Clock::Base, Kind::Bool),
+            (Shape::Copied(0), Clock::Base, Kind::Int),
+            (Shape::Merge(4, &[7, 9]), Clock::Base, Kind::Int),
+            (Shape::When(5), Clock::On(4, Datum::Bool(true)), Kind::Int),
+            (Shape::Constant(Datum::Int(0)), Clock::Base, Kind::Int),
+            (Shape::When(8), Clock::On(4, Datum::Bool(false)), Kind::Int),
+            (Shape::Constant(Datum::Int(1)), Clock::Base, Kind::Int),
         ],
         rank: &[0, 1, 3, 4, 5, 7, 8, 9, 6, 10, 2],
         owners: &[0, 1, 2, 2, 2, 2, 2, 2, 2, 2, 2],
@@ -172,22 +211,22 @@ const LISTINGS: &[Listing] = &[
     Listing {
         text: "node n(x: int) returns (y: int); let y = x -> pre y + x; tel node unused(x: int) returns (y: int); let y = n(n(x)); tel node main(a: int) returns (p, q: int); let p = n(a); q = n(p); tel",
         flows: &[
-            (Form::Input(0), Clock::Base, Kind::Int),
-            (Form::Copied(4), Clock::Base, Kind::Int),
-            (Form::Copied(8), Clock::Base, Kind::Int),
-            (Form::Copied(0), Clock::Base, Kind::Int),
-            (Form::Arrow(3, 6), Clock::Base, Kind::Int),
-            (Form::Pre(4), Clock::Base, Kind::Int),
+            (Shape::Input(0), Clock::Base, Kind::Int),
+            (Shape::Copied(4), Clock::Base, Kind::Int),
+            (Shape::Copied(8), Clock::Base, Kind::Int),
+            (Shape::Copied(0), Clock::Base, Kind::Int),
+            (Shape::Arrow(3, 6), Clock::Base, Kind::Int),
+            (Shape::Pre(4), Clock::Base, Kind::Int),
             (
-                Form::Binary(BinaryOperator::Add, 5, 3),
+                Shape::Binary(BinaryOperator::Add, 5, 3),
                 Clock::Base,
                 Kind::Int,
             ),
-            (Form::Copied(1), Clock::Base, Kind::Int),
-            (Form::Arrow(7, 10), Clock::Base, Kind::Int),
-            (Form::Pre(8), Clock::Base, Kind::Int),
+            (Shape::Copied(1), Clock::Base, Kind::Int),
+            (Shape::Arrow(7, 10), Clock::Base, Kind::Int),
+            (Shape::Pre(8), Clock::Base, Kind::Int),
             (
-                Form::Binary(BinaryOperator::Add, 9, 7),
+                Shape::Binary(BinaryOperator::Add, 9, 7),
                 Clock::Base,
                 Kind::Int,
             ),
@@ -199,15 +238,15 @@ const LISTINGS: &[Listing] = &[
         text: "node f(x: int) returns (y: int); let y = 0 fby x; tel node main() returns (a: int); let a = f(a) + 1; tel",
         flows: &[
             (
-                Form::Binary(BinaryOperator::Add, 2, 5),
+                Shape::Binary(BinaryOperator::Add, 2, 5),
                 Clock::Base,
                 Kind::Int,
             ),
-            (Form::Copied(0), Clock::Base, Kind::Int),
-            (Form::Arrow(3, 4), Clock::Base, Kind::Int),
-            (Form::Constant(Datum::Int(0)), Clock::Base, Kind::Int),
-            (Form::Pre(1), Clock::Base, Kind::Int),
-            (Form::Constant(Datum::Int(1)), Clock::Base, Kind::Int),
+            (Shape::Copied(0), Clock::Base, Kind::Int),
+            (Shape::Arrow(3, 4), Clock::Base, Kind::Int),
+            (Shape::Constant(Datum::Int(0)), Clock::Base, Kind::Int),
+            (Shape::Pre(1), Clock::Base, Kind::Int),
+            (Shape::Constant(Datum::Int(1)), Clock::Base, Kind::Int),
         ],
         rank: &[3, 4, 2, 5, 0, 1],
         owners: &[0, 0, 0, 0, 0, 0],
@@ -216,11 +255,11 @@ const LISTINGS: &[Listing] = &[
     Listing {
         text: "node f(x: int) returns (p, q: int); let p = 1; q = x; tel node main() returns (a, b: int); let (a, b) = f(a); tel",
         flows: &[
-            (Form::Copied(3), Clock::Base, Kind::Int),
-            (Form::Copied(4), Clock::Base, Kind::Int),
-            (Form::Copied(0), Clock::Base, Kind::Int),
-            (Form::Constant(Datum::Int(1)), Clock::Base, Kind::Int),
-            (Form::Copied(2), Clock::Base, Kind::Int),
+            (Shape::Copied(3), Clock::Base, Kind::Int),
+            (Shape::Copied(4), Clock::Base, Kind::Int),
+            (Shape::Copied(0), Clock::Base, Kind::Int),
+            (Shape::Constant(Datum::Int(1)), Clock::Base, Kind::Int),
+            (Shape::Copied(2), Clock::Base, Kind::Int),
         ],
         rank: &[3, 0, 2, 4, 1],
         owners: &[0, 0, 0, 0, 0],
@@ -234,8 +273,26 @@ pub(crate) fn flat_of(alloc: Global, text: &str) -> Result<Flat, Fail> {
     Ok(flatten(alloc, &checked)?)
 }
 
+fn is_form(form: &Form, shape: &Shape) -> bool {
+    match (form, shape) {
+        (Form::Input(a), Shape::Input(x)) => a == x,
+        (Form::Constant(a), Shape::Constant(x)) => a == x,
+        (Form::Copied(a), Shape::Copied(x)) => a == x,
+        (Form::Unary(op, a), Shape::Unary(other, x)) => op == other && a == x,
+        (Form::Binary(op, a, b), Shape::Binary(other, x, y)) => op == other && a == x && b == y,
+        (Form::If(c, a, b), Shape::If(z, x, y)) => c == z && a == x && b == y,
+        (Form::Pre(a), Shape::Pre(x)) => a == x,
+        (Form::Arrow(a, b), Shape::Arrow(x, y)) => a == x && b == y,
+        (Form::When(a), Shape::When(x)) => a == x,
+        (Form::Current(a), Shape::Current(x)) => a == x,
+        (Form::Merge(c, branches), Shape::Merge(z, xs)) => c == z && branches.as_slice() == *xs,
+        _ => false,
+    }
+}
+
 fn is_row(flow: &Flow, row: &Row) -> bool {
-    (flow.form, flow.clock, flow.kind) == *row
+    let (shape, clock, kind) = row;
+    is_form(&flow.form, shape) && flow.clock == *clock && flow.kind == *kind
 }
 
 /// Whether a flat program is what is listed.

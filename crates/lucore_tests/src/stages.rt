@@ -8,7 +8,8 @@ use lustat_rules::StatError;
 use lustat_scope::{Catalog, Scope};
 use lusyn::read_program;
 use lutree::{
-    BinaryOperator, Condition, Declaration, Equation, Expr, Infix, Kind, Node, Prefix, Program,
+    BinaryOperator, Condition, Declaration, Equation, Expr, Infix, Kind, Node, Pattern, Prefix,
+    Program,
 };
 use lutype::least_fault;
 use std::alloc::{AllocError, Global};
@@ -167,7 +168,7 @@ fn nameless(alloc: Global, right: Right) -> Result<Program, AllocError> {
     };
     let clock = Condition {
         variable: Name::from_text(alloc, "c")?,
-        sign: true,
+        pattern: Pattern::Truth(true),
     };
     let main = Node {
         name: Name::from_text(alloc, "main")?,

@@ -1,12 +1,11 @@
 -- One step of the evaluator, and what it keeps.
-use Rattle.std.proofs.Common.{◌≡◌, ◌≢◌, ℕ, zero, suc, ◌+◌, ◌<◌, inl, inr, Bool, true, false, cond, not, List, [], ◌∷◌, length, take, set, get_or, Option, Some, subst, refl, sym, ap, ap₂, ◌∙◌, arith, add-one}
+use Rattle.std.proofs.Common.{◌≡◌, ◌≢◌, ℕ, zero, suc, ◌+◌, ◌<◌, inl, inr, Bool, true, false, List, [], ◌∷◌, length, take, set, get_or, Option, Some, subst, refl, sym, ap, ap₂, ◌∙◌, arith, add-one}
 use Rattle.std.specs.Prelude.{slice_get, slice_index, All, Contains, unwrap_or, nat_lt}
 use Rattle.std.proofs.lemmas.List.Elements.{All-weaker, All-get_or}
 use Rattle.std.proofs.lemmas.List.{length-set}
 use Rattle.std.proofs.lemmas.Bool.{cases_lt}
 use Rattle.std.proofs.lemmas.Option.{slice_get_within, slice_get-get_or, get_or_from_slice_get}
 use Rattle.luflow.specs.declared.data.Datum.{Datum}
-use Rattle.luflow.specs.declared.data.Datum.TheVariants.{Int, Bool as Truth, Nil}
 use Rattle.luflow.specs.declared.data.Status.{Status}
 use Rattle.luflow.specs.declared.data.Status.TheVariants.{Absent, Present}
 use Rattle.luflow.specs.declared.form.Clock.{Clock}
@@ -17,7 +16,7 @@ use Rattle.luflow.specs.declared.form.FaultKind.{FaultKind}
 use Rattle.luflow.specs.declared.form.Outcome.TheVariants.{Gives, Faults, Stuck}
 use Rattle.luflow.specs.Program.{FlatProgram, Table, flow_at, flows_of, places, clock_reads, form_reads, reads}
 use Rattle.luflow.specs.Operators.{single_of, double_of}
-use Rattle.luflow.specs.Streams.{Mark, Known, Broken, Streams, datum_of, truth_in, clock_at, ticked, before}
+use Rattle.luflow.specs.Streams.{Mark, Known, Broken, Streams, datum_of, is_value, truth_in, clock_at, ticked, before}
 use Rattle.luflow.specs.Values.{on_one, on_two, value_of, value_at, under}
 use Rattle.luflow.specs.Solution.{says, clock_of_flow, IsSolution}
 use Rattle.luflow.specs.Faults.{IsFaultOn, OnUnary, OnBinary, IsFault}
@@ -51,17 +50,15 @@ slice_get-set_same (y ∷ xs) (suc i) x l = slice_get-set_same xs i x (omega ari
 known_sound : (s : Status) (m : Mark) → m ≡ Known s → m ≢ Broken
 known_sound s m e h = cc
 
-truth_there : (sign : Bool) (status : Status) → (b : Bool) × (truth_in sign (Known status) ≡ Some b)
-truth_there sign Absent = (false, refl)
-truth_there sign (Present Nil) = (false, refl)
-truth_there sign (Present (Int n)) = (false, refl)
-truth_there sign (Present (Truth b)) = (cond sign b (not b), refl)
+truth_there : (d : Datum) (status : Status) → (b : Bool) × (truth_in d (Known status) ≡ Some b)
+truth_there d Absent = (false, refl)
+truth_there d (Present x) = (is_value d x, refl)
 
 clock_there : (inputs : Table) (σ : Streams) (shown : List Status) (clock : Clock) (t : ℕ) → All (IsShown σ shown t) (clock_reads clock) → (b : Bool) × (clock_at inputs σ clock t ≡ Some b)
 clock_there inputs σ shown Base t h = (nat_lt t inputs.instants, refl)
-clock_there inputs σ shown (On c sign) t h =
+clock_there inputs σ shown (On c d) t h =
     let w = first_of_all (IsShown σ shown t) c [] h in
-    let k = truth_there sign w.status in (k.0, ap (truth_in sign) w.is ∙ k.1)
+    let k = truth_there d w.status in (k.0, ap (truth_in d) w.is ∙ k.1)
 
 known_clock : (k o : Option Bool) (b : Bool) → k ≡ o → k ≡ Some b → k ≡ Some (unwrap_or o false)
 known_clock k o b e h = h ∙ ap (λ (o : Option Bool). Some (unwrap_or o false)) (sym h ∙ e)

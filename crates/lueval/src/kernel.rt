@@ -1,8 +1,8 @@
 //! One flow at one instant.
 
-ghost use Rattle.std.specs.Prelude.{◌≡◌, ◌+◌, ◌<◌, ◌^◌, slice_get};
-ghost use Rattle.luflow.specs.Values.{value_of, gives};
-ghost use Rattle.lueval.specs.Frames.{view_in, clock_in, datum_in, last_in, ticked_in, latest, later, signed};
+ghost use Rattle.std.specs.Prelude.{◌≡◌, ◌+◌, ◌<◌, ◌^◌, map, slice_get};
+ghost use Rattle.luflow.specs.Values.{value_of, branch_of, branch_value, merge_of, gives};
+ghost use Rattle.lueval.specs.Frames.{view_in, clock_in, datum_in, last_in, ticked_in, latest, later, has_value};
 
 use crate::operators::{choice, double, single};
 use luflow::{Clock, Datum, Form, Outcome, Status};
@@ -65,11 +65,13 @@ fn known(d: Option<Datum>) -> Outcome
     }
 }
 
-fn signed(sign: bool, status: Status) -> bool
-    ensures { result ≡ signed sign status }
+/// Whether a flow is present with this value.
+fn has_value(value: Datum, status: Status) -> bool
+    ensures { result ≡ has_value value status }
 {
-    match status {
-        Status::Present(Datum::Bool(b)) => { if sign { b } else { !b } }
+    match (value, status) {
+        (Datum::Bool(sign), Status::Present(Datum::Bool(b))) => { if sign { b } else { !b } }
+        (Datum::Int(m), Status::Present(Datum::Int(n))) => m <= n && n <= m,
         _ => false,
     }
 }
@@ -80,9 +82,9 @@ pub fn clock_now(shown: &[Status], clock: Clock) -> Option<bool>
 {
     match clock {
         Clock::Base => Some(true),
-        Clock::On(c, sign) => match shown.get(c).copied() {
+        Clock::On(c, value) => match shown.get(c).copied() {
             None => None,
-            Some(status) => Some(signed(sign, status)),
+            Some(status) => Some(has_value(value, status)),
         },
     }
 }
@@ -102,44 +104,82 @@ pub fn kept(status: Status, past: Past) -> Past
     }
 }
 
+/// The number of a value among those of its type that a clock may have.
+fn branch_of(datum: Datum) -> Option<usize>
+    ensures { result ≡ branch_of datum }
+{
+    match datum {
+        Datum::Bool(true) => Some(0),
+        Datum::Bool(false) => Some(1),
+        _ => None,
+    }
+}
+
+/// The value of a branch, by its number.
+fn branch_value(branch: Option<usize>, shown: &[Status], branches: &[usize]) -> Outcome
+    ensures { result ≡ branch_value branch (map (datum_in shown.now) branches.now) }
+{
+    let Some(number) = branch else {
+        return Outcome::Stuck;
+    };
+    match branches.get(number) {
+        Some(place) => known(datum_at(shown, *place)),
+        None => known(None),
+    }
+}
+
+/// The value of the branch that a merge takes.
+fn merged(variable: Option<Datum>, shown: &[Status], branches: &[usize]) -> Outcome
+    ensures { result ≡ merge_of variable (map (datum_in shown.now) branches.now) }
+{
+    match variable {
+        Some(datum) => branch_value(branch_of(datum), shown, branches),
+        None => Outcome::Stuck,
+    }
+}
+
 /// The value of the flow of place `i`, whose clock is true, from the statuses now, what is kept from before, and, where the
 /// flow is an input, the given datum. Neither allocates nor copies more than a datum.
 pub fn value(
-    form: Form,
+    form: &Form,
     i: usize,
     given: Option<Datum>,
     shown: &[Status],
     pasts: &[Past],
 ) -> Outcome
-    ensures { result ≡ value_of form (view_in given shown.now pasts.now i) }
+    ensures { result ≡ value_of form.now (view_in given shown.now pasts.now i) }
 {
     match form {
         Form::Input(_) => known(given),
-        Form::Constant(d) => Outcome::Gives(d),
-        Form::Copied(a) => known(datum_at(shown, a)),
-        Form::When(a) => known(datum_at(shown, a)),
-        Form::Current(a) => known(latest(datum_at(shown, a), last_at(pasts, a))),
-        Form::Pre(a) => known(last_at(pasts, a)),
-        Form::Unary(op, a) => match datum_at(shown, a) {
-            Some(x) => single(op, x),
+        Form::Constant(d) => Outcome::Gives(*d),
+        Form::Copied(a) => known(datum_at(shown, *a)),
+        Form::When(a) => known(datum_at(shown, *a)),
+        Form::Current(a) => known(latest(datum_at(shown, *a), last_at(pasts, *a))),
+        Form::Pre(a) => known(last_at(pasts, *a)),
+        Form::Unary(op, a) => match datum_at(shown, *a) {
+            Some(x) => single(*op, x),
             None => Outcome::Stuck,
         },
-        Form::Binary(op, a, b) => match (datum_at(shown, a), datum_at(shown, b)) {
-            (Some(x), Some(y)) => double(op, x, y),
+        Form::Binary(op, a, b) => match (datum_at(shown, *a), datum_at(shown, *b)) {
+            (Some(x), Some(y)) => double(*op, x, y),
             _ => Outcome::Stuck,
         },
-        Form::Arrow(a, b) => match (ticked_at(pasts, i), datum_at(shown, a), datum_at(shown, b)) {
+        Form::Arrow(a, b) => match (
+            ticked_at(pasts, i),
+            datum_at(shown, *a),
+            datum_at(shown, *b),
+        ) {
             (Some(was), Some(x), Some(y)) => Outcome::Gives(if was { y } else { x }),
             _ => Outcome::Stuck,
         },
-        Form::If(c, a, b) => match (datum_at(shown, c), datum_at(shown, a), datum_at(shown, b)) {
+        Form::If(c, a, b) => match (
+            datum_at(shown, *c),
+            datum_at(shown, *a),
+            datum_at(shown, *b),
+        ) {
             (Some(z), Some(x), Some(y)) => choice(z, x, y),
             _ => Outcome::Stuck,
         },
-        Form::Merge(c, a, b) => match datum_at(shown, c) {
-            Some(Datum::Bool(true)) => known(datum_at(shown, a)),
-            Some(Datum::Bool(false)) => known(datum_at(shown, b)),
-            _ => Outcome::Stuck,
-        },
+        Form::Merge(c, branches) => merged(datum_at(shown, *c), shown, branches.as_slice()),
     }
 }

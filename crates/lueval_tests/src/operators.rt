@@ -5,6 +5,7 @@ use lueval::{
     Datum, EvalError, Past, Status, choice, clock_now, datum_at, double, kept, single, value,
 };
 use luflow::{Clock, FaultKind, Form, Outcome};
+use lulist::Row;
 use lutree::{BinaryOperator, UnaryOperator};
 use std::test::Fail;
 
@@ -36,49 +37,69 @@ const SHOWN: [Status; 3] = [
 
 const PASTS: [Past; 3] = [SEVEN, SEVEN, NEW];
 
-const FORMS: &[(Form, usize, Outcome)] = &[
-    (Form::Input(0), 0, Outcome::Gives(Datum::Int(9))),
-    (Form::Constant(ONE), 0, Outcome::Gives(ONE)),
-    (Form::Copied(0), 0, Outcome::Gives(Datum::Int(4))),
-    (
-        Form::Unary(UnaryOperator::Minus, 0),
-        0,
-        Outcome::Gives(Datum::Int(-4)),
-    ),
-    (
-        Form::Binary(BinaryOperator::Less, 0, 0),
-        0,
-        Outcome::Gives(Datum::Bool(false)),
-    ),
-    (Form::Binary(BinaryOperator::Add, 0, 1), 0, Outcome::Stuck),
-    (Form::If(2, 0, 0), 0, Outcome::Gives(Datum::Int(4))),
-    (Form::Pre(0), 0, Outcome::Gives(Datum::Int(7))),
-    (Form::Pre(2), 0, NIL),
-    // the second operand from the flow's second instant on
-    (Form::Arrow(0, 2), 0, Outcome::Gives(YES)),
-    (Form::Arrow(0, 2), 2, Outcome::Gives(Datum::Int(4))),
-    (Form::When(0), 0, Outcome::Gives(Datum::Int(4))),
-    (Form::Current(0), 0, Outcome::Gives(Datum::Int(4))),
-    (Form::Current(1), 0, Outcome::Gives(Datum::Int(7))),
-    (Form::Merge(2, 0, 1), 0, Outcome::Gives(Datum::Int(4))),
-    (Form::Merge(2, 1, 0), 0, Outcome::Stuck),
-];
+/// Whether the flow of a place has this value, where it is of this form.
+fn gives(form: Form, place: usize, want: Outcome) -> bool {
+    value(&form, place, Some(Datum::Int(9)), &SHOWN, &PASTS) == want
+}
+
+const FOUR: Outcome = Outcome::Gives(Datum::Int(4));
 
 #[test]
-fn each_form_has_its_value(rt: HostRuntime) {
-    for (form, i, want) in FORMS {
-        let found = value(*form, *i, Some(Datum::Int(9)), &SHOWN, &PASTS);
-        assert!(rt; found == *want, "{form:?}");
-    }
+fn inputs_constants_and_copies_have_their_values(rt: HostRuntime) {
+    assert!(rt; gives(Form::Input(0), 0, Outcome::Gives(Datum::Int(9))));
+    assert!(rt; gives(Form::Constant(ONE), 0, Outcome::Gives(ONE)));
+    assert!(rt; gives(Form::Copied(0), 0, FOUR));
+    assert!(rt; gives(Form::When(0), 0, FOUR));
+}
+
+#[test]
+fn operators_have_their_values(rt: HostRuntime) {
+    let below = Form::Binary(BinaryOperator::Less, 0, 0);
+    assert!(rt;
+        gives(
+            Form::Unary(UnaryOperator::Minus, 0),
+            0,
+            Outcome::Gives(Datum::Int(-4))
+        )
+    );
+    assert!(rt; gives(below, 0, Outcome::Gives(Datum::Bool(false))));
+    assert!(rt; gives(Form::Binary(BinaryOperator::Add, 0, 1), 0, Outcome::Stuck));
+    assert!(rt; gives(Form::If(2, 0, 0), 0, FOUR));
+}
+
+#[test]
+fn forms_of_the_past_have_their_values(rt: HostRuntime) {
+    assert!(rt; gives(Form::Pre(0), 0, Outcome::Gives(Datum::Int(7))));
+    assert!(rt; gives(Form::Pre(2), 0, NIL));
+    assert!(rt; gives(Form::Current(0), 0, FOUR));
+    assert!(rt; gives(Form::Current(1), 0, Outcome::Gives(Datum::Int(7))));
+}
+
+#[test]
+fn an_arrow_has_its_second_operand_from_the_second_instant_on(rt: HostRuntime) {
+    assert!(rt; gives(Form::Arrow(0, 2), 0, Outcome::Gives(YES)));
+    assert!(rt; gives(Form::Arrow(0, 2), 2, FOUR));
+}
+
+/// Whether a merge by the third flow has this value.
+fn merges(branches: Vec<usize>, want: Outcome) -> bool {
+    gives(Form::Merge(2, Row::new(branches)), 0, want)
+}
+
+#[test]
+fn a_merge_has_the_value_of_its_branch(rt: HostRuntime) -> Result<(), Fail> {
+    assert!(rt; merges(vec![in rt.alloc(); 0, 1]?, FOUR));
+    assert!(rt; merges(vec![in rt.alloc(); 1, 0]?, Outcome::Stuck));
+    Ok(())
 }
 
 #[test]
 fn clocks_data_and_the_past_are_those_shown(rt: HostRuntime) {
     assert!(rt; clock_now(&SHOWN, Clock::Base) == Some(true));
-    assert!(rt; clock_now(&SHOWN, Clock::On(2, true)) == Some(true));
-    assert!(rt; clock_now(&SHOWN, Clock::On(2, false)) == Some(false));
-    assert!(rt; clock_now(&SHOWN, Clock::On(1, false)) == Some(false));
-    assert!(rt; clock_now(&SHOWN, Clock::On(3, true)).is_none());
+    assert!(rt; clock_now(&SHOWN, Clock::On(2, Datum::Bool(true))) == Some(true));
+    assert!(rt; clock_now(&SHOWN, Clock::On(2, Datum::Bool(false))) == Some(false));
+    assert!(rt; clock_now(&SHOWN, Clock::On(1, Datum::Bool(false))) == Some(false));
+    assert!(rt; clock_now(&SHOWN, Clock::On(3, Datum::Bool(true))).is_none());
     assert!(rt; datum_at(&SHOWN, 0) == Some(Datum::Int(4)));
     assert!(rt; datum_at(&SHOWN, 1).is_none() && datum_at(&SHOWN, 3).is_none());
     assert!(rt; kept(Status::Present(Datum::Int(7)), NEW) == SEVEN);

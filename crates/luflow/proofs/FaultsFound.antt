@@ -1,6 +1,6 @@
 -- Where a value is a fault, the flow is an operator that is one.
-use Rattle.std.proofs.Common.{◌≡◌, ℕ, Bool, true, false, cond, Option, Some, None, refl}
-use Rattle.std.specs.Prelude.{◌||◌}
+use Rattle.std.proofs.Common.{◌≡◌, ℕ, Bool, true, false, cond, List, Option, Some, None, refl}
+use Rattle.std.specs.Prelude.{◌||◌, slice_get, unwrap_or}
 use Rattle.lutree.specs.declared.expr.UnaryOperator.{UnaryOperator}
 use Rattle.lutree.specs.declared.expr.BinaryOperator.{BinaryOperator}
 use Rattle.luflow.specs.declared.data.Datum.{Datum}
@@ -15,7 +15,7 @@ use Rattle.luflow.specs.declared.form.Outcome.TheVariants.{Gives, Faults}
 use Rattle.luflow.specs.Program.{FlatProgram, Table, flow_at}
 use Rattle.luflow.specs.Operators.{single_of, double_of, is_nil, picked_of, choice_of}
 use Rattle.luflow.specs.Streams.{Mark, Known, Broken, Streams, datum_of, clock_at}
-use Rattle.luflow.specs.Values.{gives, on_one, on_two, on_three, arrow_of, merge_of, value_at}
+use Rattle.luflow.specs.Values.{gives, on_one, on_two, on_three, arrow_of, branch_of, branch_value, merge_of, value_at}
 use Rattle.luflow.specs.Faults.{IsFaultOn, OnUnary, OnBinary, IsFault}
 use Rattle.luflow.proofs.Faults.{fault_back, fault_back_one}
 
@@ -49,12 +49,13 @@ arrow_no None (Some x) (Some y) kind h = cc
 arrow_no (Some true) (Some x) (Some y) kind h = cc
 arrow_no (Some false) (Some x) (Some y) kind h = cc
 
-merge_no : (c x y : Option Datum) (kind : FaultKind) → merge_of c x y ≡ Faults kind → ⊥
-merge_no None x y kind h = cc
-merge_no (Some Nil) x y kind h = cc
-merge_no (Some (Int n)) x y kind h = cc
-merge_no (Some (Truth true)) x y kind h = gives_no x kind h
-merge_no (Some (Truth false)) x y kind h = gives_no y kind h
+branch_no : (b : Option ℕ) (xs : List (Option Datum)) (kind : FaultKind) → branch_value b xs ≡ Faults kind → ⊥
+branch_no None xs kind h = cc
+branch_no (Some b) xs kind h = gives_no (unwrap_or (slice_get xs b) None) kind h
+
+merge_no : (c : Option Datum) (xs : List (Option Datum)) (kind : FaultKind) → merge_of c xs ≡ Faults kind → ⊥
+merge_no None xs kind h = cc
+merge_no (Some d) xs kind h = branch_no (branch_of d) xs kind h
 
 one_fault : (σ : Streams) (t a : ℕ) (op : UnaryOperator) (kind : FaultKind) (m : Mark) → σ a t ≡ m → on_one (single_of op) (datum_of m) ≡ Faults kind → IsFaultOn σ t (Unary op a) kind
 one_fault σ t a op kind Broken e h = absurd cc
@@ -79,7 +80,7 @@ fault_on inputs σ k t (Pre a) kind h = absurd (gives_no _ kind h)
 fault_on inputs σ k t (Arrow a b) kind h = absurd (arrow_no _ _ _ kind h)
 fault_on inputs σ k t (When a) kind h = absurd (gives_no _ kind h)
 fault_on inputs σ k t (Current a) kind h = absurd (gives_no _ kind h)
-fault_on inputs σ k t (Merge c a b) kind h = absurd (merge_no _ _ _ kind h)
+fault_on inputs σ k t (Merge c xs) kind h = absurd (merge_no _ _ kind h)
 
 -- a flow whose value is a fault is a fault of the language
 pub is_fault : (flat : FlatProgram) (inputs : Table) (σ : Streams) (i t : ℕ) (kind : FaultKind) (flow : Flow) → flow_at flat i ≡ Some flow → clock_at inputs σ flow.clock t ≡ Some true → value_at inputs σ flow.clock flow.form t ≡ Faults kind → IsFault flat inputs σ i t kind

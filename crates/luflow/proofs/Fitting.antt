@@ -105,7 +105,7 @@ module _ (flat : FlatProgram) (inputs : Table) (ok : IsFlat flat) (table : IsTab
   fit_for k (Arrow a b) h = tt
   fit_for k (When a) h = tt
   fit_for k (Current a) h = tt
-  fit_for k (Merge c a b) h = tt
+  fit_for k (Merge c xs) h = tt
 
   all_fit : IsFit flat inputs
   all_fit = record { columns = λ i flow here. fit_for flow.kind flow.form (λ c form t lt. read i c flow here form t lt) }

@@ -8,3 +8,5 @@ pub mod Worked
 pub mod Vectors
 pub mod Fitting
 pub mod Columns
+pub mod Patterns
+pub mod Merges

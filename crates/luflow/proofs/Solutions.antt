@@ -1,5 +1,5 @@
 -- There is exactly one solution.
-use Rattle.std.proofs.Common.{◌≡◌, ℕ, zero, suc, ◌+◌, ◌*◌, ◌-◌, ◌<◌, ◌≤◌, inl, inr, Bool, List, [], ◌∷◌, ◌++◌, length, take, Option, Some, min, subst, length-append, length-take, refl, sym, ap, ap₂, ◌∙◌, arith}
+use Rattle.std.proofs.Common.{◌≡◌, ℕ, zero, suc, ◌+◌, ◌*◌, ◌-◌, ◌<◌, ◌≤◌, inl, inr, Bool, List, [], ◌∷◌, ◌++◌, length, map, take, Option, Some, min, subst, length-append, length-take, refl, sym, ap, ap₂, ◌∙◌, arith}
 use Rattle.std.specs.Prelude.{slice_get, slice_index, All, Contains}
 use Rattle.std.proofs.lemmas.List.Elements.{All-contains, All-get_or, All-weaker}
 use Rattle.std.proofs.lemmas.Option.{slice_get_within, get_or_from_slice_get}
@@ -36,7 +36,7 @@ all_at P xs k x all at = All-contains P xs x all (k, slice_get_within xs k x at,
 
 pub clock-same : (inputs : Table) (σ σ' : Streams) (clock : Clock) (t : ℕ) → All (λ r. σ r t ≡ σ' r t) (clock_reads clock) → clock_at inputs σ clock t ≡ clock_at inputs σ' clock t
 clock-same inputs σ σ' Base t h = refl
-clock-same inputs σ σ' (On c sign) t h = ap (truth_in sign) (All-get_or (λ r. σ r t ≡ σ' r t) (c ∷ []) 0 c (omega arith) h)
+clock-same inputs σ σ' (On c d) t h = ap (truth_in d) (All-get_or (λ r. σ r t ≡ σ' r t) (c ∷ []) 0 c (omega arith) h)
 
 -- what a value rests on
 pub record Agree (σ σ' : Streams) (flow : Flow) (t : ℕ) : Type 0 where
@@ -47,6 +47,14 @@ pub record Agree (σ σ' : Streams) (flow : Flow) (t : ℕ) : Type 0 where
 
 pub first_of_all : (P : ℕ → Type 0) (a : ℕ) (rs : List ℕ) → All P (a ∷ rs) → P a
 first_of_all P a rs h = All-get_or P (a ∷ rs) 0 a (omega arith) h
+
+pub rest_of_all : (P : ℕ → Type 0) (a : ℕ) (rs : List ℕ) → All P (a ∷ rs) → All P rs
+rest_of_all P a rs h = λ k d l. h (suc k) d (omega arith)
+
+-- what two functions that agree on a list give for it
+pub map-same : {X : Type 0} (f g : ℕ → X) (xs : List ℕ) → All (λ r. f r ≡ g r) xs → map f xs ≡ map g xs
+map-same f g [] h = refl
+map-same f g (x ∷ xs) h = ap₂ (λ y ys. y ∷ ys) (first_of_all (λ r. f r ≡ g r) x xs h) (map-same f g xs (rest_of_all (λ r. f r ≡ g r) x xs h))
 
 pub second_of_all : (P : ℕ → Type 0) (a b : ℕ) (rs : List ℕ) → All P (a ∷ b ∷ rs) → P b
 second_of_all P a b rs h = All-get_or P (a ∷ b ∷ rs) 1 a (omega arith) h
@@ -70,9 +78,9 @@ value-same inputs σ σ' k (Arrow a b) t now then w =
     ∙ ap₂ (λ m n. on_two (arrow_of (ticked (clock_at inputs σ' k) t)) (datum_of m) (datum_of n)) (first_of_all (λ r. σ r t ≡ σ' r t) a (b ∷ []) now) (second_of_all (λ r. σ r t ≡ σ' r t) a b [] now)
 value-same inputs σ σ' k (When a) t now then w = ap (λ m. gives (datum_of m)) (first_of_all (λ r. σ r t ≡ σ' r t) a [] now)
 value-same inputs σ σ' k (Current a) t now then w = ap₂ (λ m n. gives (newer m n)) (first_of_all (λ r. σ r t ≡ σ' r t) a [] now) (before-same (σ a) (σ' a) t (λ u l. first_of_all (λ r. σ r u ≡ σ' r u) a [] (then u l)))
-value-same inputs σ σ' k (Merge c a b) t now then w =
-    ap (λ m. merge_of (datum_of m) (datum_of (σ a t)) (datum_of (σ b t))) (first_of_all (λ r. σ r t ≡ σ' r t) c (a ∷ b ∷ []) now)
-    ∙ ap₂ (λ m n. merge_of (datum_of (σ' c t)) (datum_of m) (datum_of n)) (second_of_all (λ r. σ r t ≡ σ' r t) c a (b ∷ []) now) (third_of_all (λ r. σ r t ≡ σ' r t) c a b [] now)
+value-same inputs σ σ' k (Merge c xs) t now then w =
+    ap₂ (λ m branches. merge_of (datum_of m) branches) (first_of_all (λ r. σ r t ≡ σ' r t) c xs now)
+    (map-same (λ r. datum_of (σ r t)) (λ r. datum_of (σ' r t)) xs (All-weaker (λ r. σ r t ≡ σ' r t) (λ r. datum_of (σ r t) ≡ datum_of (σ' r t)) (λ r e. ap datum_of e) xs (rest_of_all (λ r. σ r t ≡ σ' r t) c xs now)))
 
 pub says-same : (inputs : Table) (σ σ' : Streams) (t : ℕ) (flow : Flow) → Agree σ σ' flow t → says inputs σ (Some flow) t ≡ says inputs σ' (Some flow) t
 says-same inputs σ σ' t flow a =

@@ -1,7 +1,7 @@
 -- What every solution of a sound program keeps, flow by flow.
 use Rattle.std.proofs.Common.{◌≡◌, ◌≢◌, ℕ, ◌<◌, Bool, true, false, Option, Some, refl, sym, ◌∙◌, subst}
 use Rattle.lutree.specs.declared.program.Kind.{Kind}
-use Rattle.lutree.specs.declared.program.Kind.TheVariants.{Bool as Truths}
+use Rattle.luflow.specs.declared.data.Datum.{Datum}
 use Rattle.luflow.specs.declared.data.Datum.TheVariants.{Nil}
 use Rattle.luflow.specs.declared.data.Status.TheVariants.{Present}
 use Rattle.luflow.specs.declared.form.Clock.{Clock}
@@ -25,8 +25,8 @@ never_nil s e was k m h zero is =
     let one : e ≡ true = (g.2 refl).0 in
     let clash : false ≡ true = sym zero ∙ one in cc
 
-clock_class : (flat : FlatProgram) (class : ℕ → Bool) (k : Clock) (c : ℕ) (sign : Bool) → k ≡ On c sign → ClockFits flat class k → ClockFits flat class (On c sign)
-clock_class flat class k c sign is h = subst (ClockFits flat class) is h
+clock_class : (flat : FlatProgram) (class : ℕ → Bool) (k : Clock) (c : ℕ) (d : Datum) → k ≡ On c d → ClockFits flat class k → ClockFits flat class (On c d)
+clock_class flat class k c d is h = subst (ClockFits flat class) is h
 
 pub keeps_types : (flat : FlatProgram) (inputs : Table) (σ : Streams) → IsOrdered flat → IsSound flat → IsFit flat inputs → IsSolution flat inputs σ → (i t : ℕ) (flow : Flow) → flow_at flat i ≡ Some flow → t < inputs.instants → KeepsTypes flat inputs σ i t flow
 keeps_types flat inputs σ ordered sound fit sol i t flow is lt =
@@ -36,10 +36,10 @@ keeps_types flat inputs σ ordered sound fit sol i t flow is lt =
     record {
       absent = λ e. subst mark e here;
       present = λ d e. let g = subst mark e here in (g.0, g.1);
-      clock_not_nil = λ c sign e.
-          let w = clock_class flat sound.class flow.clock c sign e (sound.clocks i flow is) in
-          let tc = all c t (slice_get_within flat.flows c (record { form = w.1.form; clock = w.0; kind = Truths }) w.1.there) lt (record { form = w.1.form; clock = w.0; kind = Truths }) w.1.there in
-          never_nil Truths (sound.class c) (ticked (clock_at inputs σ w.0) t) (clock_at inputs σ w.0 t) (σ c t) tc w.2;
+      clock_not_nil = λ c d e.
+          let w = clock_class flat sound.class flow.clock c d e (sound.clocks i flow is) in
+          let tc = all c t (slice_get_within flat.flows c (record { form = w.3.form; clock = w.0; kind = w.1 }) w.3.there) lt (record { form = w.3.form; clock = w.0; kind = w.1 }) w.3.there in
+          never_nil w.1 (sound.class c) (ticked (clock_at inputs σ w.0) t) (clock_at inputs σ w.0 t) (σ c t) tc w.4;
       output_not_nil = λ x ex role. never_nil flow.kind (sound.class i) (ticked (clock_at inputs σ flow.clock) t) (clock_at inputs σ flow.clock t) (σ i t) here (sound.outputs i x ex role);
     }
 

@@ -15,7 +15,7 @@ use Rattle.luflow.specs.declared.form.FaultKind.TheVariants.{Overflow, DivZero}
 use Rattle.luflow.specs.declared.form.Outcome.{Outcome}
 use Rattle.luflow.specs.declared.form.Outcome.TheVariants.{Gives, Faults, Stuck}
 use Rattle.luflow.specs.Operators.{single_sort, takes, makes, fits, is_zero, Exact, whole, divided, verdict, nothing, settled, at_int, at_truth, at_ints, at_truths, ints_of, truths_of, single_of, double_of, picked_of, choice_of}
-use Rattle.luflow.specs.Streams.{Mark, Known, Broken, datum_of, truth_in, either, newer}
+use Rattle.luflow.specs.Streams.{Mark, Known, Broken, datum_of, is_value, truth_in, either, newer}
 use Rattle.luflow.specs.Values.{gives, on_one, on_two, on_three, arrow_of, under}
 use Rattle.luflow.specs.Sound.{IsOf, AtMost, IsTidyMark}
 
@@ -201,12 +201,10 @@ either_true (Some a) None h e = let f : None ≡ Some false = e in cc
 either_true (Some false) (Some b) h e = let f : Some false ≡ Some true = h in cc
 either_true (Some true) (Some b) h e = let f : Some true ≡ Some false = e in cc
 
-pub truth_known : (sign : Bool) (m : Mark) → m ≢ Broken → truth_in sign m ≢ None
-truth_known sign Broken h e = h refl
-truth_known sign (Known Absent) h e = let f : Some false ≡ None = e in cc
-truth_known sign (Known (Present Nil)) h e = let f : Some false ≡ None = e in cc
-truth_known sign (Known (Present (Int n))) h e = let f : Some false ≡ None = e in cc
-truth_known sign (Known (Present (Truth b))) h e = let f : Some (cond sign b (not b)) ≡ None = e in cc
+pub truth_known : (d : Datum) (m : Mark) → m ≢ Broken → truth_in d m ≢ None
+truth_known d Broken h e = h refl
+truth_known d (Known Absent) h e = let f : Some false ≡ None = e in cc
+truth_known d (Known (Present x)) h e = let f : Some (is_value d x) ≡ None = e in cc
 
 pub under_ok : (B : Type 0) (s : Kind) (e : Bool) (was q : Option Bool) (v : Outcome) → (q ≡ Some true → IsTidyOutcome B s e was v) → IsTidyMark s e was q (under q v)
 under_ok B s e was None v h = tt

@@ -1,9 +1,9 @@
 -- The same of streams: by induction on the instant and, there, the rank.
-use Rattle.std.proofs.Common.{◌≡◌, ◌≢◌, ℕ, zero, suc, ◌+◌, ◌*◌, ◌<◌, ◌≤◌, inl, inr, Bool, true, false, cond, not, List, [], ◌∷◌, length, take, Option, Some, None, subst, refl, sym, ap, ap₂, ◌∙◌, arith}
-use Rattle.std.specs.Prelude.{slice_get, slice_index, All, Contains, nat_lt}
+use Rattle.std.proofs.Common.{◌≡◌, ◌≢◌, ℕ, zero, suc, ◌+◌, ◌*◌, ◌<◌, ◌≤◌, inl, inr, Bool, true, false, List, [], ◌∷◌, length, map, take, Option, Some, None, subst, refl, sym, ap, ap₂, ◌∙◌, arith}
+use Rattle.std.specs.Prelude.{slice_get, slice_index, All, Contains, nat_lt, option_map, unwrap_or}
 use Rattle.std.proofs.lemmas.List.Elements.{All-weaker}
 use Rattle.std.proofs.lemmas.Bool.{cases_lt}
-use Rattle.std.proofs.lemmas.Option.{slice_get_within}
+use Rattle.std.proofs.lemmas.Option.{slice_get_within, slice_get-map}
 use Rattle.luflow.specs.declared.data.Datum.{Datum}
 use Rattle.luflow.specs.declared.data.Datum.TheVariants.{Int, Bool as Truth, Nil}
 use Rattle.luflow.specs.declared.data.Status.TheVariants.{Absent, Present}
@@ -17,11 +17,12 @@ use Rattle.luflow.specs.declared.form.Flow.{Flow}
 use Rattle.luflow.specs.Program.{FlatProgram, Table, flow_at, flows_of, places, clock_reads, form_reads, reads, IsOrdered}
 use Rattle.luflow.specs.declared.form.Outcome.TheVariants.{Gives}
 use Rattle.luflow.specs.Operators.{single_sort, fits, single_of, double_of}
-use Rattle.luflow.specs.Streams.{Mark, Known, Broken, Streams, datum_of, truth_in, clock_at, either, ticked, before}
-use Rattle.luflow.specs.Values.{gives, on_one, on_two, arrow_of, merge_of, value_at, under}
+use Rattle.luflow.specs.Streams.{Mark, Known, Broken, Streams, datum_of, is_value, truth_in, clock_at, either, ticked, before}
+use Rattle.luflow.specs.Values.{gives, on_one, on_two, arrow_of, branch_value, merge_of, value_at, under}
 use Rattle.luflow.specs.Solution.{says, IsSolution}
-use Rattle.luflow.specs.Sound.{IsOf, IsOn, BeginsWith, AtMost, FormFits, ClockFits, IsSound, IsFitFor, IsFit, IsTidyMark, IsTidy, IsUnbroken}
-use Rattle.luflow.proofs.Solutions.{first_of_all, second_of_all, third_of_all, all_left, all_right, place_of, rank_of, rows_apart}
+use Rattle.luflow.specs.Sound.{IsOf, IsOn, clock_values, BeginsWith, AtMost, FormFits, ClockFits, IsSound, IsFitFor, IsFit, IsTidyMark, IsTidy, IsUnbroken}
+use Rattle.luflow.proofs.Solutions.{all_at, first_of_all, second_of_all, third_of_all, all_left, all_right, place_of, rank_of, rows_apart}
+use Rattle.luflow.proofs.Patterns.{value_self, branch_there, branch_at, pattern_at}
 use Rattle.luflow.proofs.Tidy.{Reads, IsTidyOutcome, operand, gives_ok, one_ok, two_ok, if_ok, arrow_ok, PastReads, newer_ok, either_none, either_false, either_true, truth_known, under_ok}
 
 nil_is : (s : Kind) → IsOf s Nil
@@ -31,14 +32,10 @@ nil_is Truths = tt
 slice_get_below : {X : Type 0} (xs : List X) (i : ℕ) (x : X) → slice_get xs i ≡ Some x → i < length xs
 slice_get_below xs i x is = slice_get_within xs i x is
 
-truth_self : (b : Bool) → cond b b (not b) ≡ true
-truth_self true = refl
-truth_self false = refl
-
-begin_on : (sign : Bool) (y : Mark) → truth_in sign (under (Some true) (on_two (arrow_of (Some false)) (Some (Truth sign)) (datum_of y))) ≡ Some false → ⊥
-begin_on sign Broken h = let f : None ≡ Some false = h in cc
-begin_on sign (Known Absent) h = let f : None ≡ Some false = h in cc
-begin_on sign (Known (Present d)) h = let f : Some (cond sign sign (not sign)) ≡ Some false = h in let g = truth_self sign in cc
+begin_on : (d : Datum) (y : Mark) → is_value d d ≡ true → truth_in d (under (Some true) (on_two (arrow_of (Some false)) (Some d) (datum_of y))) ≡ Some false → ⊥
+begin_on d Broken self h = let f : None ≡ Some false = h in cc
+begin_on d (Known Absent) self h = let f : None ≡ Some false = h in cc
+begin_on d (Known (Present x)) self h = let f : Some (is_value d d) ≡ Some false = h in cc
 
 pub class_zero : {B : Type 0} (s : Kind) (e ea : Bool) (was was' : Option Bool) (m : Mark) (o : Option Datum) → Reads s ea was m o → ea ≡ false → (B → m ≢ Broken) → IsTidyOutcome B s e was' (gives o)
 class_zero s e ea was was' m None r c nb = λ b. nb b r
@@ -84,7 +81,7 @@ module _ (flat : FlatProgram) (inputs : Table) (class : ℕ → Bool) (σ : Stre
 
   clock_known : (k : Clock) (t : ℕ) → All (λ r. σ r t ≢ Broken) (clock_reads k) → clock_at inputs σ k t ≢ None
   clock_known Base t h = λ e. let f : Some (nat_lt t inputs.instants) ≡ None = e in cc
-  clock_known (On c sign) t h = truth_known sign (σ c t) (first_of_all (λ r. σ r t ≢ Broken) c [] h)
+  clock_known (On c d) t h = truth_known d (σ c t) (first_of_all (λ r. σ r t ≢ Broken) c [] h)
 
   ticked_known : (k : Clock) (t : ℕ) → ((u : ℕ) → u < t → clock_at inputs σ k u ≢ None) → ticked (clock_at inputs σ k) t ≢ None
   ticked_known k zero h = λ e. let f : Some false ≡ None = e in cc
@@ -94,33 +91,33 @@ module _ (flat : FlatProgram) (inputs : Table) (class : ℕ → Bool) (σ : Stre
   says_at sol i t flow is l = sol i t (slice_get_below flat.flows i flow is) ∙ ap (λ o. says inputs σ o t) is
 
   -- where c is absent, so are its clocks
-  slower : IsSolution flat inputs σ → (k : Clock) (sign : Bool) (c t : ℕ) → IsOn flat k Truths c → t ≤ inputs.instants → ticked (clock_at inputs σ k) t ≡ Some false → ticked (clock_at inputs σ (On c sign)) t ≡ Some false
-  slower sol k sign c zero on l h = refl
-  slower sol k sign c (suc t) on l h =
+  slower : IsSolution flat inputs σ → (k : Clock) (u : Kind) (d : Datum) (c t : ℕ) → IsOn flat k u c → t ≤ inputs.instants → ticked (clock_at inputs σ k) t ≡ Some false → ticked (clock_at inputs σ (On c d)) t ≡ Some false
+  slower sol k u d c zero on l h = refl
+  slower sol k u d c (suc t) on l h =
       let e = either_false (clock_at inputs σ k t) (ticked (clock_at inputs σ k) t) h in
-      let flow : Flow = record { form = on.form; clock = k; kind = Truths } in
+      let flow : Flow = record { form = on.form; clock = k; kind = u } in
       let m : σ c t ≡ Known Absent = says_at sol c t flow on.there (omega arith) ∙ ap (λ q. under q (value_at inputs σ k on.form t)) e.0 in
-      ap₂ either (ap (truth_in sign) m) (slower sol k sign c t on (omega arith) e.1)
+      ap₂ either (ap (truth_in d) m) (slower sol k u d c t on (omega arith) e.1)
 
-  -- a clock whose variable begins with its sign is true as soon as that of the variable
-  begin_here : (sign : Bool) (x y : Mark) (q : Option Bool) (m : Mark) → m ≡ under q (on_two (arrow_of (Some false)) (datum_of x) (datum_of y)) → (q ≡ Some true → x ≡ Known (Present (Truth sign))) → truth_in sign m ≡ Some false → q ≡ Some false
-  begin_here sign x y None m is a h = let f : None ≡ Some false = sym (ap (truth_in sign) is) ∙ h in cc
-  begin_here sign x y (Some false) m is a h = refl
-  begin_here sign x y (Some true) m is a h = absurd (begin_there sign x y m is (a refl) h)
+  -- a clock whose variable begins with its value is true as soon as that of the variable
+  begin_here : (d : Datum) (x y : Mark) (q : Option Bool) (m : Mark) → is_value d d ≡ true → m ≡ under q (on_two (arrow_of (Some false)) (datum_of x) (datum_of y)) → (q ≡ Some true → x ≡ Known (Present d)) → truth_in d m ≡ Some false → q ≡ Some false
+  begin_here d x y None m self is a h = let f : None ≡ Some false = sym (ap (truth_in d) is) ∙ h in cc
+  begin_here d x y (Some false) m self is a h = refl
+  begin_here d x y (Some true) m self is a h = absurd (begin_there d x y m self is (a refl) h)
     where
-      begin_there : (sign : Bool) (x y : Mark) (m : Mark) → m ≡ under (Some true) (on_two (arrow_of (Some false)) (datum_of x) (datum_of y)) → x ≡ Known (Present (Truth sign)) → truth_in sign m ≡ Some false → ⊥
-      begin_there sign x y m is a h = begin_on sign y (sym (ap (truth_in sign) (is ∙ ap (λ z. under (Some true) (on_two (arrow_of (Some false)) (datum_of z) (datum_of y))) a)) ∙ h)
+      begin_there : (d : Datum) (x y : Mark) (m : Mark) → is_value d d ≡ true → m ≡ under (Some true) (on_two (arrow_of (Some false)) (datum_of x) (datum_of y)) → x ≡ Known (Present d) → truth_in d m ≡ Some false → ⊥
+      begin_there d x y m self is a h = begin_on d y self (sym (ap (truth_in d) (is ∙ ap (λ z. under (Some true) (on_two (arrow_of (Some false)) (datum_of z) (datum_of y))) a)) ∙ h)
 
-  starts : IsSolution flat inputs σ → (k : Clock) (sign : Bool) (c t : ℕ) → BeginsWith flat k sign c → t ≤ inputs.instants → ticked (clock_at inputs σ (On c sign)) t ≡ Some false → ticked (clock_at inputs σ k) t ≡ Some false
-  starts sol k sign c zero on l h = refl
-  starts sol k sign c (suc t) on l h =
-      let e = either_false (clock_at inputs σ (On c sign) t) (ticked (clock_at inputs σ (On c sign)) t) h in
-      let w = starts sol k sign c t on (omega arith) e.1 in
-      let flow : Flow = record { form = Arrow on.first on.then; clock = k; kind = Truths } in
-      let one : Flow = record { form = Constant (Truth sign); clock = k; kind = Truths } in
+  starts : IsSolution flat inputs σ → (k : Clock) (d : Datum) (c t : ℕ) → BeginsWith flat k d c → t ≤ inputs.instants → ticked (clock_at inputs σ (On c d)) t ≡ Some false → ticked (clock_at inputs σ k) t ≡ Some false
+  starts sol k d c zero on l h = refl
+  starts sol k d c (suc t) on l h =
+      let e = either_false (clock_at inputs σ (On c d) t) (ticked (clock_at inputs σ (On c d)) t) h in
+      let w = starts sol k d c t on (omega arith) e.1 in
+      let flow : Flow = record { form = Arrow on.first on.then; clock = k; kind = on.kind } in
+      let one : Flow = record { form = Constant d; clock = k; kind = on.kind } in
       let m = says_at sol c t flow on.there (omega arith) ∙ ap (λ q. under (clock_at inputs σ k t) (on_two (arrow_of q) (datum_of (σ on.first t)) (datum_of (σ on.then t)))) w in
-      let a = λ (q : clock_at inputs σ k t ≡ Some true). says_at sol on.first t one on.constant (omega arith) ∙ ap (λ o. under o (Gives (Truth sign))) q in
-      ap₂ either (begin_here sign (σ on.first t) (σ on.then t) (clock_at inputs σ k t) (σ c t) m a e.0) w
+      let a = λ (q : clock_at inputs σ k t ≡ Some true). says_at sol on.first t one on.constant (omega arith) ∙ ap (λ o. under o (Gives d)) q in
+      ap₂ either (begin_here d (σ on.first t) (σ on.then t) (clock_at inputs σ k t) (σ c t) (value_self on.kind d on.pattern) m a e.0) w
 
   up_to : (a t : ℕ) → IsTidy flat inputs class σ a t → ((u : ℕ) → u < t → IsTidy flat inputs class σ a u) → (u : ℕ) → u < suc t → IsTidy flat inputs class σ a u
   up_to a t here there u l = elim (cases_lt u t) [ inl h ↦ there u h | inr h ↦ let e : t ≡ u = omega arith in subst (λ (v : ℕ). IsTidy flat inputs class σ a v) e here ]
@@ -129,41 +126,42 @@ module _ (flat : FlatProgram) (inputs : Table) (class : ℕ → Bool) (σ : Stre
   unbroken_to a t here there u l = elim (cases_lt u t) [ inl h ↦ there u h | inr h ↦ let e : t ≡ u = omega arith in subst (λ (v : ℕ). σ a v ≢ Broken) e here ]
 
   module _ (sol : IsSolution flat inputs σ) where
-    merge_ok : (k : Clock) (s : Kind) (e : Bool) (c a b t : ℕ) (m : Mark) → σ c t ≡ m → FormFits flat class k s e (Merge c a b) → Around flat inputs class σ k (Merge c a b) t → IsTidyOutcome (IsUnbroken σ k (Merge c a b) t) s e (ticked (clock_at inputs σ k) t) (merge_of (datum_of m) (datum_of (σ a t)) (datum_of (σ b t)))
-    merge_ok k s e c a b t Broken is fit around = λ u. first_of_all (λ r. σ r t ≢ Broken) c (a ∷ b ∷ []) u.now is
-    merge_ok k s e c a b t (Known Absent) is fit around =
-        let r = on_read k Truths c t fit.0 (first_of_all (λ r. IsTidy flat inputs class σ r t) c (a ∷ b ∷ []) around.now) around.on in
-        let f = subst (λ (m : Mark). Reads Truths (class c) (ticked (clock_at inputs σ k) t) m (datum_of m)) is r in
+    -- the branch that a merge takes
+    merge_ok : (k : Clock) (s : Kind) (e : Bool) (c : ℕ) (xs : List ℕ) (t : ℕ) (m : Mark) → σ c t ≡ m → FormFits flat class k s e (Merge c xs) → Around flat inputs class σ k (Merge c xs) t → IsTidyOutcome (IsUnbroken σ k (Merge c xs) t) s e (ticked (clock_at inputs σ k) t) (merge_of (datum_of m) (map (λ r. datum_of (σ r t)) xs))
+    merge_ok k s e c xs t Broken is fit around = λ u. first_of_all (λ r. σ r t ≢ Broken) c xs u.now is
+    merge_ok k s e c xs t (Known Absent) is fit around =
+        let r = on_read k fit.0 c t fit.2 (first_of_all (λ r. IsTidy flat inputs class σ r t) c xs around.now) around.on in
+        let f = subst (λ (m : Mark). Reads fit.0 (class c) (ticked (clock_at inputs σ k) t) m (datum_of m)) is r in
         let g : Known Absent ≡ Broken = f in cc
-    merge_ok k s e c a b t (Known (Present Nil)) is fit around =
-        let r = on_read k Truths c t fit.0 (first_of_all (λ r. IsTidy flat inputs class σ r t) c (a ∷ b ∷ []) around.now) around.on in
-        let f = subst (λ (m : Mark). Reads Truths (class c) (ticked (clock_at inputs σ k) t) m (datum_of m)) is r in
-        let g : class c ≡ true = (f.1 refl).0 in let z : class c ≡ false = fit.3 in let clash : false ≡ true = sym z ∙ g in cc
-    merge_ok k s e c a b t (Known (Present (Int n))) is fit around =
-        let r = on_read k Truths c t fit.0 (first_of_all (λ r. IsTidy flat inputs class σ r t) c (a ∷ b ∷ []) around.now) around.on in
-        let f = subst (λ (m : Mark). Reads Truths (class c) (ticked (clock_at inputs σ k) t) m (datum_of m)) is r in absurd f.0
-    merge_ok k s e c a b t (Known (Present (Truth true))) is fit around =
-        let r = on_read (On c true) s a t fit.1 (second_of_all (λ r. IsTidy flat inputs class σ r t) c a (b ∷ []) around.now) (ap (truth_in true) is) in
-        class_zero {B = IsUnbroken σ k (Merge c a b) t} s e (class a) (ticked (clock_at inputs σ (On c true)) t) (ticked (clock_at inputs σ k) t) (σ a t) (datum_of (σ a t)) r fit.4 (λ u. second_of_all (λ r. σ r t ≢ Broken) c a (b ∷ []) u.now)
-    merge_ok k s e c a b t (Known (Present (Truth false))) is fit around =
-        let r = on_read (On c false) s b t fit.2 (third_of_all (λ r. IsTidy flat inputs class σ r t) c a b [] around.now) (ap (truth_in false) is) in
-        class_zero {B = IsUnbroken σ k (Merge c a b) t} s e (class b) (ticked (clock_at inputs σ (On c false)) t) (ticked (clock_at inputs σ k) t) (σ b t) (datum_of (σ b t)) r fit.5 (λ u. third_of_all (λ r. σ r t ≢ Broken) c a b [] u.now)
+    merge_ok k s e c xs t (Known (Present d)) is fit around =
+        let r = on_read k fit.0 c t fit.2 (first_of_all (λ r. IsTidy flat inputs class σ r t) c xs around.now) around.on in
+        let f = subst (λ (m : Mark). Reads fit.0 (class c) (ticked (clock_at inputs σ k) t) m (datum_of m)) is r in
+        let sure : d ≢ Nil = λ n. let one : class c ≡ true = (f.1 n).0 in let zero : class c ≡ false = fit.3 in let clash : false ≡ true = sym zero ∙ one in cc in
+        let b = branch_there fit.0 d fit.1 f.0 sure in
+        let w = branch_at flat class s c (clock_values fit.0) xs b.0 d fit.4 b.2 in
+        let tick : truth_in d (σ c t) ≡ Some true = ap (truth_in d) is ∙ ap Some (value_self fit.0 d (pattern_at fit.0 b.0 d b.2)) in
+        let read = on_read (On c d) s w.0 t w.2 (all_at (λ r. IsTidy flat inputs class σ r t) (c ∷ xs) (suc b.0) w.0 around.now w.1) tick in
+        let ok = class_zero {B = IsUnbroken σ k (Merge c xs) t} s e (class w.0) (ticked (clock_at inputs σ (On c d)) t) (ticked (clock_at inputs σ k) t) (σ w.0 t) (datum_of (σ w.0 t)) read w.3 (λ u. all_at (λ r. σ r t ≢ Broken) (c ∷ xs) (suc b.0) w.0 u.now w.1) in
+        let taken : merge_of (Some d) (map (λ r. datum_of (σ r t)) xs) ≡ gives (datum_of (σ w.0 t)) =
+        ap (λ o. branch_value o (map (λ r. datum_of (σ r t)) xs)) b.1
+        ∙ ap (λ o. gives (unwrap_or o None)) (slice_get-map (λ r. datum_of (σ r t)) xs b.0 ∙ ap (option_map (λ r. datum_of (σ r t))) w.1) in
+        subst (IsTidyOutcome (IsUnbroken σ k (Merge c xs) t) s e (ticked (clock_at inputs σ k) t)) (sym taken) ok
 
     -- a clock that is true has its variable's clock true
-    clock_up : (s : Kind) (e : Bool) (w q : Option Bool) (sign : Bool) (m : Mark) → IsTidyMark s e w q m → truth_in sign m ≡ Some true → q ≡ Some true
-    clock_up s e w q sign Broken tidy h = let f : None ≡ Some true = h in cc
-    clock_up s e w q sign (Known Absent) tidy h = let f : Some false ≡ Some true = h in cc
-    clock_up s e w q sign (Known (Present d)) tidy h = tidy.0
+    clock_up : (s : Kind) (e : Bool) (w q : Option Bool) (d : Datum) (m : Mark) → IsTidyMark s e w q m → truth_in d m ≡ Some true → q ≡ Some true
+    clock_up s e w q d Broken tidy h = let f : None ≡ Some true = h in cc
+    clock_up s e w q d (Known Absent) tidy h = let f : Some false ≡ Some true = h in cc
+    clock_up s e w q d (Known (Present x)) tidy h = tidy.0
 
-    when_ok : (s : Kind) (e : Bool) (a t c : ℕ) (sign : Bool) (k' : Clock) (k : Clock) → k ≡ On c sign → IsOn flat k' Truths c → IsOn flat k' s a → AtMost (class a) e → Around flat inputs class σ k (When a) t → IsTidyOutcome (IsUnbroken σ k (When a) t) s e (ticked (clock_at inputs σ k) t) (gives (datum_of (σ a t)))
-    when_ok s e a t c sign k' k is onc ona le around =
+    when_ok : (s : Kind) (e : Bool) (a t c : ℕ) (d : Datum) (u : Kind) (k' : Clock) (k : Clock) → k ≡ On c d → IsOn flat k' u c → IsOn flat k' s a → AtMost (class a) e → Around flat inputs class σ k (When a) t → IsTidyOutcome (IsUnbroken σ k (When a) t) s e (ticked (clock_at inputs σ k) t) (gives (datum_of (σ a t)))
+    when_ok s e a t c d u k' k is onc ona le around =
         let P : Clock → Type 0 = λ k. Around flat inputs class σ k (When a) t in
-        let there : Around flat inputs class σ (On c sign) (When a) t = subst P is around in
-        let tc = first_of_all (λ r. IsTidy flat inputs class σ r t) c [] there.clock_now (record { form = onc.form; clock = k'; kind = Truths }) onc.there in
-        let up = clock_up Truths (class c) (ticked (clock_at inputs σ k') t) (clock_at inputs σ k' t) sign (σ c t) tc there.on in
+        let there : Around flat inputs class σ (On c d) (When a) t = subst P is around in
+        let tc = first_of_all (λ r. IsTidy flat inputs class σ r t) c [] there.clock_now (record { form = onc.form; clock = k'; kind = u }) onc.there in
+        let up = clock_up u (class c) (ticked (clock_at inputs σ k') t) (clock_at inputs σ k' t) d (σ c t) tc there.on in
         let r = on_read k' s a t ona (first_of_all (λ r. IsTidy flat inputs class σ r t) a [] there.now) up in
         subst (λ (q : Clock). IsTidyOutcome (IsUnbroken σ k (When a) t) s e (ticked (clock_at inputs σ q) t) (gives (datum_of (σ a t)))) (sym is)
-        (slow_ok {B = IsUnbroken σ k (When a) t} s e (class a) (ticked (clock_at inputs σ k') t) (ticked (clock_at inputs σ (On c sign)) t) (σ a t) (datum_of (σ a t)) r le (λ h. slower sol k' sign c t onc (let w = there.within in omega arith) h) (λ u. first_of_all (λ r. σ r t ≢ Broken) a [] u.now))
+        (slow_ok {B = IsUnbroken σ k (When a) t} s e (class a) (ticked (clock_at inputs σ k') t) (ticked (clock_at inputs σ (On c d)) t) (σ a t) (datum_of (σ a t)) r le (λ h. slower sol k' u d c t onc (let w = there.within in omega arith) h) (λ u. first_of_all (λ r. σ r t ≢ Broken) a [] u.now))
 
     pub value_ok : (k : Clock) (s : Kind) (e : Bool) (form : Form) (t : ℕ) → FormFits flat class k s e form → ClockFits flat class k → IsFitFor inputs s form → Around flat inputs class σ k form t → IsTidyOutcome (IsUnbroken σ k form t) s e (ticked (clock_at inputs σ k) t) (value_at inputs σ k form t)
     value_ok k s e (Input c) t fits cf fit around =
@@ -196,7 +194,7 @@ module _ (flat : FlatProgram) (inputs : Table) (class : ℕ → Bool) (σ : Stre
         (on_read k s b t fits.1 (second_of_all (λ r. IsTidy flat inputs class σ r t) a b [] around.now) around.on)
         fits.2 (λ u. first_of_all (λ r. σ r t ≢ Broken) a (b ∷ []) u.now) (λ u. second_of_all (λ r. σ r t ≢ Broken) a b [] u.now)
         (λ u. ticked_known k t (λ v l. clock_known k v (u.clock_then v l)))
-    value_ok k s e (When a) t fits cf fit around = when_ok s e a t fits.0 fits.1 fits.2 k fits.3 fits.4 fits.5 fits.6 around
+    value_ok k s e (When a) t fits cf fit around = when_ok s e a t fits.0 fits.1 fits.2 fits.3 k fits.4 fits.5 fits.6 fits.7 around
     value_ok k s e (Current a) t fits cf fit around =
         let c = fits.0 in
         let la = first_of_all (λ r. r < flows_of flat) a [] around.places_in in
@@ -204,7 +202,7 @@ module _ (flat : FlatProgram) (inputs : Table) (class : ℕ → Bool) (σ : Stre
         current_ok {B = IsUnbroken σ k (Current a) t} s e (ticked (clock_at inputs σ k) t) (ticked (clock_at inputs σ (On c fits.1)) (suc t)) (before (σ a) (suc t)) (past_reads (On c fits.1) s a (suc t) fits.2 fits.3 tidy)
         (λ h. either_true (clock_at inputs σ k t) (ticked (clock_at inputs σ k) t) around.on (starts sol k fits.1 c (suc t) fits.4 (let w = around.within in omega arith) h))
         (λ u v l. unbroken_to a t (first_of_all (λ r. σ r t ≢ Broken) a [] u.now) (λ w lw. first_of_all (λ r. σ r w ≢ Broken) a [] (u.then w lw)) v l)
-    value_ok k s e (Merge c a b) t fits cf fit around = merge_ok k s e c a b t (σ c t) refl fits around
+    value_ok k s e (Merge c xs) t fits cf fit around = merge_ok k s e c xs t (σ c t) refl fits around
 
 -- tidy at the first m points, instant by instant and by rank
 pub record TidyTo (flat : FlatProgram) (inputs : Table) (class : ℕ → Bool) (σ : Streams) (m : ℕ) : Type 0 where
@@ -286,4 +284,4 @@ module _ (flat : FlatProgram) (inputs : Table) (σ : Streams) (ordered : IsOrder
       reads_in (Arrow a b) h = h
       reads_in (When a) h = h
       reads_in (Current a) h = h
-      reads_in (Merge c a b) h = h
+      reads_in (Merge c xs) h = h

@@ -30,6 +30,7 @@ use Rattle.luflow.specs.Faults.{IsFault, OnBinary}
 use Rattle.luflow.specs.Vectors.{int_flow, truth_flow, int_variable, truth_variable, number, IsWorked, two_counters, three, sampled_sum, four_samples, division, one_zero, one_two, held_sample, three_samples, chained, four_rows}
 use Rattle.luflow.specs.FormVectors.{no_samples}
 use Rattle.luflow.proofs.Solutions.{some_at, IsSolution-solution}
+use Rattle.luflow.proofs.Patterns.{truth_pattern, some_values}
 use Rattle.luflow.proofs.Worked.{each_at, ranked, ordered, places_below, inner, main_clocks, column, columns_long}
 
 counters_ordered : IsOrdered two_counters
@@ -154,8 +155,8 @@ abbrev sum_class : ℕ → Bool
 sum_class i = nat_eq i 6 || nat_eq i 7
 
 -- the clock that is true where c is
-on_c : ClockFits sampled_sum sum_class (On 1 true)
-on_c = (Base, there (Input 1) refl, refl)
+on_c : ClockFits sampled_sum sum_class (On 1 (Truth true))
+on_c = (Base, Truths, truth_pattern true, there (Input 1) refl, refl)
 
 sum_sound : IsSound sampled_sum
 sum_sound =
@@ -170,7 +171,7 @@ sum_sound =
             (
               (Ints, refl, refl, there (number 2) refl, there (When 0) refl, never, never),
               (
-                (1, true, Base, refl, there (Input 1) refl, there (Input 0) refl, never),
+                (1, Truth true, Truths, Base, refl, there (Input 1) refl, there (Input 0) refl, never),
                 (
                   (tt, λ e. cc),
                   (
@@ -325,8 +326,8 @@ abbrev held_class : ℕ → Bool
 held_class i = nat_eq i 6 || nat_eq i 7
 
 -- the clock that is true where c is, or where it isn't
-on_held : (sign : Bool) → ClockFits held_sample held_class (On 3 sign)
-on_held sign = (Base, there (Arrow 5 7) refl, refl)
+on_held : (sign : Bool) → ClockFits held_sample held_class (On 3 (Truth sign))
+on_held sign = (Base, Truths, truth_pattern sign, there (Arrow 5 7) refl, refl)
 
 held_sound : IsSound held_sample
 held_sound =
@@ -335,13 +336,13 @@ held_sound =
       forms = each_at (λ i flow. FormFits held_sample held_class flow.clock flow.kind (held_class i) flow.form) held_sample.flows (
         refl,
         (
-          (3, true, there (When 0) refl, refl, record { first = 5; then = 7; there = refl; constant = refl }),
+          (3, Truth true, there (When 0) refl, refl, record { kind = Truths; first = 5; then = 7; there = refl; constant = refl; pattern = truth_pattern true }),
           (
-            (there (Arrow 5 7) refl, there (When 0) refl, there (When 8) refl, refl, refl, refl),
+            (Truths, some_values, there (Arrow 5 7) refl, refl, (there (When 0) refl, refl, (there (When 8) refl, refl, tt))),
             (
               (there (Constant (Truth true)) refl, there (Unary Not 6) refl, never),
               (
-                (3, true, Base, refl, there (Arrow 5 7) refl, there (Input 0) refl, never),
+                (3, Truth true, Truths, Base, refl, there (Arrow 5 7) refl, there (Input 0) refl, never),
                 (
                   (tt, λ e. cc),
                   (
@@ -351,7 +352,7 @@ held_sound =
                       (
                         (tt, λ e. cc),
                         (
-                          (3, false, Base, refl, there (Arrow 5 7) refl, there (number 0) refl, never),
+                          (3, Truth false, Truths, Base, refl, there (Arrow 5 7) refl, there (number 0) refl, never),
                           tt,
                         ),
                       ),
@@ -407,11 +408,11 @@ held_worked =
 abbrev never_nil : ℕ → Bool
 never_nil i = false
 
-on_b : ClockFits chained never_nil (On 1 true)
-on_b = (Base, there (Input 1) refl, refl)
+on_b : ClockFits chained never_nil (On 1 (Truth true))
+on_b = (Base, Truths, truth_pattern true, there (Input 1) refl, refl)
 
-on_chained : ClockFits chained never_nil (On 3 true)
-on_chained = (On 1 true, there (When 2) refl, refl)
+on_chained : ClockFits chained never_nil (On 3 (Truth true))
+on_chained = (On 1 (Truth true), Truths, truth_pattern true, there (When 2) refl, refl)
 
 chained_sound : IsSound chained
 chained_sound =
@@ -424,12 +425,12 @@ chained_sound =
           (
             refl,
             (
-              (1, true, Base, refl, there (Input 1) refl, there (Input 2) refl, never),
+              (1, Truth true, Truths, Base, refl, there (Input 1) refl, there (Input 2) refl, never),
               (
                 (there (When 6) refl, never),
                 (
-                  (3, true, On 1 true, refl, there (When 2) refl, there (When 0) refl, never),
-                  ((1, true, Base, refl, there (Input 1) refl, there (Input 0) refl, never), tt),
+                  (3, Truth true, Truths, On 1 (Truth true), refl, there (When 2) refl, there (When 0) refl, never),
+                  ((1, Truth true, Truths, Base, refl, there (Input 1) refl, there (Input 0) refl, never), tt),
                 ),
               ),
             ),

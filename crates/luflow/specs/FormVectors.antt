@@ -5,7 +5,7 @@ use Rattle.std.specs.List.{range_with_len}
 use Rattle.lutree.specs.declared.expr.UnaryOperator.TheVariants.{Minus}
 use Rattle.lutree.specs.declared.expr.BinaryOperator.TheVariants.{Subtract}
 use Rattle.lutree.specs.declared.program.Kind.TheVariants.{Int as Ints}
-use Rattle.luflow.specs.declared.data.Datum.TheVariants.{Int, Nil}
+use Rattle.luflow.specs.declared.data.Datum.TheVariants.{Int, Bool as Truth, Nil}
 use Rattle.luflow.specs.declared.data.Status.TheVariants.{Absent, Present}
 use Rattle.luflow.specs.declared.form.Clock.{Clock}
 use Rattle.luflow.specs.declared.form.Clock.TheVariants.{Base, On}
@@ -86,16 +86,16 @@ abbrev pub on_base : Form → List Mark
 on_base = given Base
 
 abbrev pub on_clock : Form → List Mark
-on_clock = given (On 2 true)
+on_clock = given (On 2 (Truth true))
 
 abbrev pub off_clock : Form → List Mark
-off_clock = given (On 2 false)
+off_clock = given (On 2 (Truth false))
 
 abbrev pub on_lost : Form → List Mark
-on_lost = given (On 3 true)
+on_lost = given (On 3 (Truth true))
 
 abbrev pub on_idle : Form → List Mark
-on_idle = given (On 9 true)
+on_idle = given (On 9 (Truth true))
 
 -- CLOCKS
 
@@ -113,18 +113,18 @@ pub record ClocksAre : Type 0 where
   -- the base clock ends with the table
   pub base_ends : map (clock_at four_instants streams Base) (range_with_len 0 5) ≡
       map sure (true ∷ true ∷ true ∷ true ∷ false ∷ [])
-  pub of_true : told_by (On 2 true) ≡ map sure (true ∷ false ∷ true ∷ true ∷ [])
-  pub of_false : told_by (On 2 false) ≡ map sure (false ∷ true ∷ false ∷ false ∷ [])
+  pub of_true : told_by (On 2 (Truth true)) ≡ map sure (true ∷ false ∷ true ∷ true ∷ [])
+  pub of_false : told_by (On 2 (Truth false)) ≡ map sure (false ∷ true ∷ false ∷ false ∷ [])
   -- broken where its variable is, whatever its sign, and both signs are false where it is absent
-  pub of_lost : told_by (On 3 true) ≡ Some true ∷ None ∷ Some true ∷ Some true ∷ []
-  pub of_lost_turned : told_by (On 3 false) ≡ Some false ∷ None ∷ Some false ∷ Some false ∷ []
-  pub of_absent : map (λ b. clock_at four_instants (listed []) (On 0 b) 0) (true ∷ false ∷ []) ≡
+  pub of_lost : told_by (On 3 (Truth true)) ≡ Some true ∷ None ∷ Some true ∷ Some true ∷ []
+  pub of_lost_turned : told_by (On 3 (Truth false)) ≡ Some false ∷ None ∷ Some false ∷ Some false ∷ []
+  pub of_absent : map (λ b. clock_at four_instants (listed []) (On 0 (Truth b)) 0) (true ∷ false ∷ []) ≡
       map sure (false ∷ false ∷ [])
   -- true before: not at the first instant, and not known where it broke before, even if it was true
   pub base_before : ticked_by Base ≡ map sure (false ∷ true ∷ true ∷ true ∷ [])
-  pub true_before : ticked_by (On 2 false) ≡ map sure (false ∷ false ∷ true ∷ true ∷ [])
-  pub lost_before : ticked_by (On 3 true) ≡ Some false ∷ Some true ∷ None ∷ None ∷ []
-  pub idle_before : ticked_by (On 9 true) ≡ Some false ∷ Some false ∷ Some false ∷ None ∷ []
+  pub true_before : ticked_by (On 2 (Truth false)) ≡ map sure (false ∷ false ∷ true ∷ true ∷ [])
+  pub lost_before : ticked_by (On 3 (Truth true)) ≡ Some false ∷ Some true ∷ None ∷ None ∷ []
+  pub idle_before : ticked_by (On 9 (Truth true)) ≡ Some false ∷ Some false ∷ Some false ∷ None ∷ []
 
 -- FORMS
 
@@ -169,12 +169,12 @@ pub record ChoicesAre : Type 0 where
   pub other_not_taken_broken : on_base (If 2 0 8) ≡ Broken ∷ known 2 ∷ known 3 ∷ known 4 ∷ []
   pub condition_broken : on_base (If 3 0 0) ≡ known 1 ∷ Broken ∷ known 3 ∷ known 4 ∷ []
   -- `merge`: the first where the clock is true, the second where it is false; it looks at that alone
-  pub merged : on_base (Merge 2 4 6) ≡ map known (1 ∷ 6 ∷ 3 ∷ 4 ∷ [])
-  pub merged_whole : on_base (Merge 2 0 7) ≡ map known (1 ∷ 1 ∷ 3 ∷ 4 ∷ [])
-  pub merged_turned : on_base (Merge 2 7 0) ≡ nil ∷ map known (2 ∷ 2 ∷ 3 ∷ [])
-  pub merged_cut : on_base (Merge 2 5 6) ≡ known 1 ∷ known 6 ∷ Broken ∷ known 4 ∷ []
-  pub not_taken_is_no_matter : on_base (Merge 2 1 0) ≡ known 5 ∷ known 2 ∷ known 7 ∷ known 8 ∷ []
-  pub clock_broken : on_base (Merge 3 0 0) ≡ known 1 ∷ Broken ∷ known 3 ∷ known 4 ∷ []
+  pub merged : on_base (Merge 2 (4 ∷ 6 ∷ [])) ≡ map known (1 ∷ 6 ∷ 3 ∷ 4 ∷ [])
+  pub merged_whole : on_base (Merge 2 (0 ∷ 7 ∷ [])) ≡ map known (1 ∷ 1 ∷ 3 ∷ 4 ∷ [])
+  pub merged_turned : on_base (Merge 2 (7 ∷ 0 ∷ [])) ≡ nil ∷ map known (2 ∷ 2 ∷ 3 ∷ [])
+  pub merged_cut : on_base (Merge 2 (5 ∷ 6 ∷ [])) ≡ known 1 ∷ known 6 ∷ Broken ∷ known 4 ∷ []
+  pub not_taken_is_no_matter : on_base (Merge 2 (1 ∷ 0 ∷ [])) ≡ known 5 ∷ known 2 ∷ known 7 ∷ known 8 ∷ []
+  pub clock_broken : on_base (Merge 3 (0 ∷ 0 ∷ [])) ≡ known 1 ∷ Broken ∷ known 3 ∷ known 4 ∷ []
 
 pub record OthersAre : Type 0 where
   -- absent where the clock is false, even if the operand breaks there, and broken where the clock is

@@ -51,7 +51,7 @@ places (Pre a) = a ∷ []
 places (Arrow a b) = a ∷ b ∷ []
 places (When a) = a ∷ []
 places (Current a) = a ∷ []
-places (Merge c a b) = c ∷ a ∷ b ∷ []
+places (Merge c xs) = c ∷ xs
 
 -- the operands that a form reads at the same instant: all but that of a `pre`
 abbrev pub form_reads : Form → List ℕ
@@ -65,12 +65,12 @@ form_reads (Pre a) = []
 form_reads (Arrow a b) = a ∷ b ∷ []
 form_reads (When a) = a ∷ []
 form_reads (Current a) = a ∷ []
-form_reads (Merge c a b) = c ∷ a ∷ b ∷ []
+form_reads (Merge c xs) = c ∷ xs
 
 -- the variable of a clock
 abbrev pub clock_reads : Clock → List ℕ
 clock_reads Base = []
-clock_reads (On c sign) = c ∷ []
+clock_reads (On c d) = c ∷ []
 
 -- what a flow reads at the same instant
 abbrev pub reads : Flow → List ℕ

@@ -22,7 +22,7 @@ use Rattle.luflow.specs.Vectors.{int_flow, sampled_flow, number, ints, int_varia
 abbrev pub forms : List Form
 forms =
     Copied 1 ∷ Unary Not 1 ∷ Binary Add 1 2 ∷ If 1 2 3 ∷ Pre 1 ∷ Arrow 1 2 ∷ When 1 ∷ Current 1
-    ∷ Merge 1 2 3 ∷ []
+    ∷ Merge 1 (2 ∷ 3 ∷ []) ∷ []
 
 pub record ReadsAre : Type 0 where
   -- the operands, and all of them are read at the same instant but that of `pre`

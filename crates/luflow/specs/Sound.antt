@@ -1,5 +1,5 @@
 -- What a checked program's flows satisfy, and what follows for each status.
-use Rattle.std.specs.Prelude.{◌≡◌, ◌≢◌, ℕ, ◌<◌, Bool, true, false, Option, Some, slice_get, All}
+use Rattle.std.specs.Prelude.{◌≡◌, ◌≢◌, ℕ, ◌<◌, Bool, true, false, Option, Some, slice_get, All, List, [], ◌∷◌, Contains}
 use Rattle.luflow.specs.declared.data.Datum.{Datum}
 use Rattle.luflow.specs.declared.data.Datum.TheVariants.{Int, Bool as Truth, Nil}
 use Rattle.luflow.specs.declared.data.Status.TheVariants.{Absent, Present}
@@ -30,12 +30,26 @@ pub record IsOn (flat : FlatProgram) (k : Clock) (s : Kind) (r : ℕ) : Type 0 w
   pub form : Form
   pub there : flow_at flat r ≡ Some (record { form = form; clock = k; kind = s })
 
--- the flow of c begins with a constant of this sign: true -> e, false -> e
-pub record BeginsWith (flat : FlatProgram) (k : Clock) (sign : Bool) (c : ℕ) : Type 0 where
+-- the values of a type at which a clock may be true
+abbrev pub clock_values : Kind → List Datum
+clock_values Ints = []
+clock_values Truths = Truth true ∷ Truth false ∷ []
+
+-- the flow of c begins with this constant: true -> e, false -> e
+pub record BeginsWith (flat : FlatProgram) (k : Clock) (d : Datum) (c : ℕ) : Type 0 where
+  pub kind : Kind
   pub first : ℕ
   pub then : ℕ
-  pub there : flow_at flat c ≡ Some (record { form = Arrow first then; clock = k; kind = Truths })
-  pub constant : flow_at flat first ≡ Some (record { form = Constant (Truth sign); clock = k; kind = Truths })
+  pub there : flow_at flat c ≡ Some (record { form = Arrow first then; clock = k; kind = kind })
+  pub constant : flow_at flat first ≡ Some (record { form = Constant d; clock = k; kind = kind })
+  pub pattern : Contains (clock_values kind) d
+
+-- the branches of a merge: one for each of these values, where the variable c has it, of class false
+abbrev pub BranchesFit : FlatProgram → (ℕ → Bool) → Kind → ℕ → List Datum → List ℕ → Type 0
+BranchesFit flat class s c [] [] = Unit {0}
+BranchesFit flat class s c [] (x ∷ xs) = ⊥
+BranchesFit flat class s c (d ∷ ds) [] = ⊥
+BranchesFit flat class s c (d ∷ ds) (x ∷ xs) = IsOn flat (On c d) s x × (class x ≡ false) × BranchesFit flat class s c ds xs
 
 -- class false is never nil, class true is nil at most at the first instant of its clock
 abbrev pub AtMost : Bool → Bool → Type 0
@@ -54,13 +68,13 @@ FormFits flat class k s e (Binary op a b) = (u : Kind) × (takes op u ≡ true) 
 FormFits flat class k s e (If c a b) = IsOn flat k Truths c × IsOn flat k s a × IsOn flat k s b × AtMost (class c) e × AtMost (class a) e × AtMost (class b) e
 FormFits flat class k s e (Pre a) = IsOn flat k s a × (class a ≡ false) × (e ≡ true)
 FormFits flat class k s e (Arrow a b) = IsOn flat k s a × IsOn flat k s b × AtMost (class a) e
-FormFits flat class k s e (When a) = (c : ℕ) × (sign : Bool) × (k' : Clock) × (k ≡ On c sign) × IsOn flat k' Truths c × IsOn flat k' s a × AtMost (class a) e
-FormFits flat class k s e (Current a) = (c : ℕ) × (sign : Bool) × IsOn flat (On c sign) s a × (class a ≡ false) × BeginsWith flat k sign c
-FormFits flat class k s e (Merge c a b) = IsOn flat k Truths c × IsOn flat (On c true) s a × IsOn flat (On c false) s b × (class c ≡ false) × (class a ≡ false) × (class b ≡ false)
+FormFits flat class k s e (When a) = (c : ℕ) × (d : Datum) × (u : Kind) × (k' : Clock) × (k ≡ On c d) × IsOn flat k' u c × IsOn flat k' s a × AtMost (class a) e
+FormFits flat class k s e (Current a) = (c : ℕ) × (d : Datum) × IsOn flat (On c d) s a × (class a ≡ false) × BeginsWith flat k d c
+FormFits flat class k s e (Merge c xs) = (u : Kind) × (clock_values u ≢ []) × IsOn flat k u c × (class c ≡ false) × BranchesFit flat class s c (clock_values u) xs
 
 abbrev pub ClockFits : FlatProgram → (ℕ → Bool) → Clock → Type 0
 ClockFits flat class Base = Unit {0}
-ClockFits flat class (On c sign) = (k : Clock) × IsOn flat k Truths c × (class c ≡ false)
+ClockFits flat class (On c d) = (k : Clock) × (u : Kind) × Contains (clock_values u) d × IsOn flat k u c × (class c ≡ false)
 
 -- some assignment of classes meets the rules of all flows and of the outputs, which are never nil
 pub record IsSound (flat : FlatProgram) : Type 0 where
@@ -81,7 +95,7 @@ IsFitFor inputs s (Pre a) = Unit {0}
 IsFitFor inputs s (Arrow a b) = Unit {0}
 IsFitFor inputs s (When a) = Unit {0}
 IsFitFor inputs s (Current a) = Unit {0}
-IsFitFor inputs s (Merge c a b) = Unit {0}
+IsFitFor inputs s (Merge c xs) = Unit {0}
 
 pub record IsFit (flat : FlatProgram) (inputs : Table) : Type 0 where
   pub columns : (i : ℕ) (flow : Flow) → flow_at flat i ≡ Some flow → IsFitFor inputs flow.kind flow.form

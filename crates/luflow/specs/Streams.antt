@@ -7,6 +7,7 @@ use Rattle.luflow.specs.declared.data.Status.TheVariants.{Absent, Present}
 use Rattle.luflow.specs.declared.form.Clock.{Clock}
 use Rattle.luflow.specs.declared.form.Clock.TheVariants.{Base, On}
 use Rattle.luflow.specs.Program.{Table}
+use Rattle.luflow.specs.Operators.{int_same}
 
 -- A status, or what a fault leaves. (Lustre: a flow is a sequence of values with a clock; "broken" is the profile's.)
 pub data Mark : Type 0 where
@@ -35,13 +36,21 @@ is_broken (Known s) = false
 abbrev pub Ticks : Type 0
 Ticks = ℕ → Option Bool
 
--- a variable with a sign, as a clock: true where the variable is present with that value
-abbrev pub truth_in : Bool → Mark → Option Bool
-truth_in sign Broken = None
-truth_in sign (Known Absent) = Some false
-truth_in sign (Known (Present Nil)) = Some false
-truth_in sign (Known (Present (Int n))) = Some false
-truth_in sign (Known (Present (Truth b))) = Some (cond sign b (not b))
+-- whether a datum is this value; nil is none
+abbrev pub is_value : Datum → Datum → Bool
+is_value d Nil = false
+is_value Nil (Int n) = false
+is_value Nil (Truth b) = false
+is_value (Int m) (Int n) = int_same m n
+is_value (Int m) (Truth b) = false
+is_value (Truth sign) (Int n) = false
+is_value (Truth sign) (Truth b) = cond sign b (not b)
+
+-- a variable with a value, as a clock: true where the variable is present with that value
+abbrev pub truth_in : Datum → Mark → Option Bool
+truth_in d Broken = None
+truth_in d (Known Absent) = Some false
+truth_in d (Known (Present x)) = Some (is_value d x)
 
 -- the base clock of the main node: true at every instant of the table, and never after it
 abbrev pub base_clock : Table → Ticks
@@ -49,7 +58,7 @@ base_clock inputs t = Some (nat_lt t inputs.instants)
 
 abbrev pub clock_at : Table → Streams → Clock → Ticks
 clock_at inputs σ Base t = base_clock inputs t
-clock_at inputs σ (On c sign) t = truth_in sign (σ c t)
+clock_at inputs σ (On c d) t = truth_in d (σ c t)
 
 -- whether either of two is true; nothing where one is broken
 abbrev pub either : Option Bool → Option Bool → Option Bool

@@ -1,5 +1,5 @@
 -- The value of one flow at one instant, from what it looks at.
-use Rattle.std.specs.Prelude.{ℕ, suc, Bool, true, false, Option, Some, None, slice_get}
+use Rattle.std.specs.Prelude.{ℕ, suc, Bool, true, false, List, map, Option, Some, None, slice_get, unwrap_or}
 use Rattle.luflow.specs.declared.data.Datum.{Datum}
 use Rattle.luflow.specs.declared.data.Datum.TheVariants.{Int, Bool as Truth, Nil}
 use Rattle.luflow.specs.declared.data.Status.TheVariants.{Present, Absent}
@@ -43,13 +43,21 @@ arrow_of None a b = Stuck
 arrow_of (Some false) a b = Gives a
 arrow_of (Some true) a b = Gives b
 
--- `merge c (true -> a) (false -> b)`
-abbrev pub merge_of : Option Datum → Option Datum → Option Datum → Outcome
-merge_of None a b = Stuck
-merge_of (Some Nil) a b = Stuck
-merge_of (Some (Int n)) a b = Stuck
-merge_of (Some (Truth true)) a b = gives a
-merge_of (Some (Truth false)) a b = gives b
+-- the number of a value among those of its type that a clock may have
+abbrev pub branch_of : Datum → Option ℕ
+branch_of Nil = None
+branch_of (Int n) = None
+branch_of (Truth true) = Some 0
+branch_of (Truth false) = Some 1
+
+abbrev pub branch_value : Option ℕ → List (Option Datum) → Outcome
+branch_value None branches = Stuck
+branch_value (Some b) branches = gives (unwrap_or (slice_get branches b) None)
+
+-- `merge c (true -> a) (false -> b)`: the branch of the value that c has
+abbrev pub merge_of : Option Datum → List (Option Datum) → Outcome
+merge_of None branches = Stuck
+merge_of (Some d) branches = branch_value (branch_of d) branches
 
 -- the value of a form where its clock is true
 abbrev pub value_of : Form → View → Outcome
@@ -63,7 +71,7 @@ value_of (Pre a) v = gives (v.last a)
 value_of (Arrow a b) v = on_two (arrow_of v.was) (v.now a) (v.now b)
 value_of (When a) v = gives (v.now a)
 value_of (Current a) v = gives (v.upto a)
-value_of (Merge c a b) v = merge_of (v.now c) (v.now a) (v.now b)
+value_of (Merge c xs) v = merge_of (v.now c) (map v.now xs)
 
 -- what a flow on clock k looks at, read from the streams
 abbrev pub view_at : Table → Streams → Clock → ℕ → View

@@ -34,11 +34,11 @@ truth_flow form = record { form = form; clock = Base; kind = Truths }
 
 -- a flow of ints, where variable c is true
 abbrev pub sampled_flow : ℕ → Form → Flow
-sampled_flow c form = record { form = form; clock = On c true; kind = Ints }
+sampled_flow c form = record { form = form; clock = On c (Truth true); kind = Ints }
 
 -- a flow of truth values, where variable c is true
 abbrev pub slow_truths : ℕ → Form → Flow
-slow_truths c form = record { form = form; clock = On c true; kind = Truths }
+slow_truths c form = record { form = form; clock = On c (Truth true); kind = Truths }
 
 abbrev pub number : ℕ → Form
 number n = Constant (Int (pos n))
@@ -131,9 +131,9 @@ abbrev pub held_sample : FlatProgram
 held_sample =
     record {
       flows =
-          int_flow (Input 0) ∷ int_flow (Current 4) ∷ int_flow (Merge 3 4 9) ∷ truth_flow (Arrow 5 7) ∷ sampled_flow 3 (When 0)
+          int_flow (Input 0) ∷ int_flow (Current 4) ∷ int_flow (Merge 3 (4 ∷ 9 ∷ [])) ∷ truth_flow (Arrow 5 7) ∷ sampled_flow 3 (When 0)
           ∷ truth_flow (Constant (Truth true)) ∷ truth_flow (Pre 3) ∷ truth_flow (Unary Not 6)
-          ∷ int_flow (number 0) ∷ record { form = When 8; clock = On 3 false; kind = Ints } ∷ [];
+          ∷ int_flow (number 0) ∷ record { form = When 8; clock = On 3 (Truth false); kind = Ints } ∷ [];
       order = 0 ∷ 5 ∷ 6 ∷ 7 ∷ 3 ∷ 4 ∷ 1 ∷ 8 ∷ 9 ∷ 2 ∷ [];
       owners = 0 ∷ 1 ∷ 2 ∷ 3 ∷ 4 ∷ 3 ∷ 3 ∷ 3 ∷ 2 ∷ 2 ∷ [];
       variables =

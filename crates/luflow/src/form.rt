@@ -1,21 +1,23 @@
 //! What a flow is made of.
 
-ghost use Rattle.std.specs.Prelude.{◌≡◌};
+ghost use Rattle.std.specs.Prelude.{◌≡◌, IfOk};
 ghost use Rattle.luflow.specs.Operators.{kind_text};
 
 use crate::data::Datum;
+use lulist::Row;
 use lutree::{BinaryOperator, Kind, UnaryOperator};
+use std::alloc::{AllocError, Global};
 use std::fmt;
 
 /// A clock of a flat program: the base clock, or where the flow of this place is present with this value.
 #[derive(Clone, Copy, Debug, Drop, PartialEq, Eq)]
 pub enum Clock {
     Base,
-    On(usize, bool),
+    On(usize, Datum),
 }
 
 /// What a flow is made of. Operands are places of the flat program; an input has the number of its column.
-#[derive(Clone, Copy, Debug, Drop, PartialEq, Eq)]
+#[derive(Drop)]
 pub enum Form {
     /// The column of this number in the input table.
     Input(usize),
@@ -37,17 +39,62 @@ pub enum Form {
     When(usize),
     /// `current`
     Current(usize),
-    /// `merge`, with its clock variable, its value where that is true and where it is false.
-    Merge(usize, usize, usize),
+    /// `merge`, with its clock variable and its branches: one for each value of that variable's type, in their order.
+    Merge(usize, Row<usize>),
 }
 
 /// One flow of a flat program.
-#[derive(Clone, Copy, Debug, Drop, PartialEq, Eq)]
+#[derive(Drop)]
 pub struct Flow {
     pub form: Form,
     pub clock: Clock,
     /// The type of its values.
     pub kind: Kind,
+}
+
+impl Form {
+    /// The same form once more.
+    ///
+    /// # Errors
+    ///
+    /// An error means that memory ran out.
+    pub fn copied(&self, alloc: Global) -> Result<Form, AllocError>
+        ensures { IfOk result (λ form. form ≡ self.now) }
+    {
+        Ok(match self {
+            Form::Input(column) => Form::Input(*column),
+            Form::Constant(datum) => Form::Constant(*datum),
+            Form::Copied(a) => Form::Copied(*a),
+            Form::Unary(op, a) => Form::Unary(*op, *a),
+            Form::Binary(op, a, b) => Form::Binary(*op, *a, *b),
+            Form::If(c, a, b) => Form::If(*c, *a, *b),
+            Form::Pre(a) => Form::Pre(*a),
+            Form::Arrow(a, b) => Form::Arrow(*a, *b),
+            Form::When(a) => Form::When(*a),
+            Form::Current(a) => Form::Current(*a),
+            Form::Merge(c, branches) => {
+                let branches = Vec::from_slice(alloc, branches.as_slice())?;
+                Form::Merge(*c, Row::new(branches))
+            }
+        })
+    }
+}
+
+impl Flow {
+    /// The same flow once more.
+    ///
+    /// # Errors
+    ///
+    /// An error means that memory ran out.
+    pub fn copied(&self, alloc: Global) -> Result<Flow, AllocError>
+        ensures { IfOk result (λ flow. flow ≡ self.now) }
+    {
+        Ok(Flow {
+            form: self.form.copied(alloc)?,
+            clock: self.clock,
+            kind: self.kind,
+        })
+    }
 }
 
 /// How an operator fails.

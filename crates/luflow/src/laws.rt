@@ -1,6 +1,6 @@
 //! What holds of the definitions, as contracts of functions that do nothing.
 
-ghost use Rattle.luflow.specs.FlatLaws.{SolutionLaw, TidyLaw, StuckLaw, FaultLaw};
+ghost use Rattle.luflow.specs.FlatLaws.{SolutionLaw, TidyLaw, StuckLaw, SplitLaw, MergeLaw, FaultLaw};
 ghost use Rattle.luflow.specs.Tables.{FitsLaw};
 ghost use Rattle.luflow.specs.Vectors.{SolutionVectors};
 ghost use Rattle.luflow.specs.OperatorVectors.{OperatorVectors};
@@ -22,6 +22,16 @@ pub fn tidy_law()
 /// In every solution of a sound program a value is stuck only where something that it looks at is broken.
 pub fn stuck_law()
     ensures { StuckLaw }
+{}
+
+/// Where a variable has a value, exactly one of the clocks of its type's values is true.
+pub fn split_law()
+    ensures { SplitLaw }
+{}
+
+/// Where a merge has a value, exactly one of its branches is present, with that value.
+pub fn merge_law()
+    ensures { MergeLaw }
 {}
 
 /// An operator has no value exactly where the language says that it is a fault, and of that kind.

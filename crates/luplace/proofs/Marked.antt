@@ -43,6 +43,11 @@ all_long : (xs : List ℕ) (marks : List Bool) → length (marked_all xs marks) 
 all_long [] marks = refl
 all_long (x ∷ xs) marks = all_long xs (slice_set marks x true) ∙ length-set marks x true
 
+-- one place more
+pub all_push : (xs : List ℕ) (x : ℕ) (marks : List Bool) → marked_all (xs ++ x ∷ []) marks ≡ slice_set (marked_all xs marks) x true
+all_push [] x marks = refl
+all_push (y ∷ ys) x marks = all_push ys x (slice_set marks y true)
+
 all_kept : (xs : List ℕ) (marks : List Bool) (r : ℕ) → is_marked marks r ≡ true → is_marked (marked_all xs marks) r ≡ true
 all_kept [] marks r h = h
 all_kept (x ∷ xs) marks r h = all_kept xs (slice_set marks x true) r (set_kept marks x r h)

@@ -35,34 +35,42 @@ fn mark(marks: &mut Vec<bool>, place: usize)
     }
 }
 
-fn mark_operands(marks: &mut Vec<bool>, form: Form)
-    ensures { marks.new.items ≡ marked_all (places form) marks.old.items }
+/// Marks all these places.
+fn mark_all(marks: &mut Vec<bool>, places: &[usize])
+    ensures { marks.new.items ≡ marked_all places.now marks.old.items }
+{
+    for place in places {
+        mark(marks, *place);
+    }
+}
+
+fn mark_operands(marks: &mut Vec<bool>, form: &Form)
+    ensures { marks.new.items ≡ marked_all (places form.now) marks.old.items }
 {
     match form {
         Form::Input(_) => {}
         Form::Constant(_) => {}
-        Form::Copied(a) => mark(marks, a),
-        Form::Unary(_, a) => mark(marks, a),
+        Form::Copied(a) => mark(marks, *a),
+        Form::Unary(_, a) => mark(marks, *a),
         Form::Binary(_, a, b) => {
-            mark(marks, a);
-            mark(marks, b);
+            mark(marks, *a);
+            mark(marks, *b);
         }
         Form::If(c, a, b) => {
-            mark(marks, c);
-            mark(marks, a);
-            mark(marks, b);
+            mark(marks, *c);
+            mark(marks, *a);
+            mark(marks, *b);
         }
-        Form::Pre(a) => mark(marks, a),
+        Form::Pre(a) => mark(marks, *a),
         Form::Arrow(a, b) => {
-            mark(marks, a);
-            mark(marks, b);
+            mark(marks, *a);
+            mark(marks, *b);
         }
-        Form::When(a) => mark(marks, a),
-        Form::Current(a) => mark(marks, a),
-        Form::Merge(c, a, b) => {
-            mark(marks, c);
-            mark(marks, a);
-            mark(marks, b);
+        Form::When(a) => mark(marks, *a),
+        Form::Current(a) => mark(marks, *a),
+        Form::Merge(c, branches) => {
+            mark(marks, *c);
+            mark_all(marks, branches.as_slice());
         }
     }
 }
@@ -77,12 +85,12 @@ fn mark_clock(marks: &mut Vec<bool>, clock: Clock)
 }
 
 /// Marks what a site's own flow names.
-fn mark_own(marks: &mut Vec<bool>, flow: Flow, own: bool)
-    ensures { marks.new.items ≡ cond own (marked_all (clock_reads flow.clock)
-        (marked_all (places flow.form) marks.old.items)) marks.old.items }
+fn mark_own(marks: &mut Vec<bool>, flow: &Flow, own: bool)
+    ensures { marks.new.items ≡ cond own (marked_all (clock_reads flow.now.clock)
+        (marked_all (places flow.now.form) marks.old.items)) marks.old.items }
 {
     if own {
-        mark_operands(marks, flow.form);
+        mark_operands(marks, &flow.form);
         mark_clock(marks, flow.clock);
     }
 }
@@ -116,7 +124,7 @@ fn own_marks(
     for i in 0..flows.len() {
         mark_own(
             &mut marks,
-            flows[i],
+            &flows[i],
             stands_at(flat.owners(), placed, i, site),
         );
     }

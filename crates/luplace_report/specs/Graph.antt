@@ -63,7 +63,7 @@ boxes plan = flat_map (box plan) (range_with_len 0 (sites_of plan))
 -- ` when c` or ` when not c`, and nothing for the base clock
 abbrev pub when_text : FlatProgram → Clock → List ℕ
 when_text flat Base = []
-when_text flat (On c sign) = codes " when " ++ clock_text flat (On c sign)
+when_text flat (On c d) = codes " when " ++ clock_text flat (On c d)
 
 -- where an edge ends in a site's box: at the variable in whose equation the reader stands, or at the site's point
 abbrev pub head : Distribution → ℕ → Option Cause → List ℕ

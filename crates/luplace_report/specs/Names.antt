@@ -5,6 +5,7 @@ use Rattle.std.specs.declared.alloc.Global.{Global}
 use Rattle.std.specs.Option.{option_map}
 use Rattle.lutree.specs.declared.program.Kind.{Kind}
 use Rattle.lutree.specs.declared.program.Kind.TheVariants.{Int, Bool}
+use Rattle.luflow.specs.declared.data.Datum.TheVariants as datum
 use Rattle.luflow.specs.declared.form.Clock.{Clock}
 use Rattle.luflow.specs.declared.form.Clock.TheVariants.{Base, On}
 use Rattle.luflow.specs.declared.form.Flow.{Flow}
@@ -31,8 +32,10 @@ clock_of flat i = unwrap_or (option_map (λ (flow : Flow). flow.clock) (flow_at 
 -- `c` or `not c`, and nothing for the base clock
 abbrev pub clock_text : FlatProgram → Clock → List ℕ
 clock_text flat Base = []
-clock_text flat (On c true) = variable_name flat c
-clock_text flat (On c false) = codes "not " ++ variable_name flat c
+clock_text flat (On c (datum.Bool false)) = codes "not " ++ variable_name flat c
+clock_text flat (On c (datum.Bool true)) = variable_name flat c
+clock_text flat (On c (datum.Int n)) = variable_name flat c
+clock_text flat (On c datum.Nil) = variable_name flat c
 
 -- The text has these bytes more, unless memory ran out.
 abbrev pub Adds : {X E : Type 0} → Result X E → String Global → String Global → List ℕ → Type 0

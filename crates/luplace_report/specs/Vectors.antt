@@ -4,6 +4,7 @@
 --
 -- with z at site B and all else at site A.
 use Rattle.std.specs.Prelude.{◌≡◌, ℕ, false, List, [], ◌∷◌, ◌++◌, map, flat_map, codes, Some, None}
+use Rattle.luflow.specs.declared.data.Datum.TheVariants.{Bool as Truth}
 use Rattle.luflow.specs.declared.form.Clock.TheVariants.{On}
 use Rattle.luflow.specs.declared.form.Flow.{Flow}
 use Rattle.luflow.specs.declared.form.Form.{Form}
@@ -27,7 +28,7 @@ lines = flat_map (λ line. line ++ codes "\n")
 
 -- a flow of ints, where c is false
 abbrev pub other_flow : Form → Flow
-other_flow form = record { form = form; clock = On 1 false; kind = Ints }
+other_flow form = record { form = form; clock = On 1 (Truth false); kind = Ints }
 
 -- the same with s and z where c is false
 abbrev pub turned_flat : FlatProgram

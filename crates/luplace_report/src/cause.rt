@@ -19,21 +19,21 @@ pub enum Cause {
 }
 
 /// Whether a form has this place among its operands.
-fn is_operand(form: Form, place: usize) -> bool
-    ensures { result ≡ is_in place (places form) }
+fn is_operand(form: &Form, place: usize) -> bool
+    ensures { result ≡ is_in place (places form.now) }
 {
     match form {
         Form::Input(_) => false,
         Form::Constant(_) => false,
-        Form::Copied(a) => a == place,
-        Form::Unary(_, a) => a == place,
-        Form::Binary(_, a, b) => a == place || b == place,
-        Form::If(c, a, b) => c == place || a == place || b == place,
-        Form::Pre(a) => a == place,
-        Form::Arrow(a, b) => a == place || b == place,
-        Form::When(a) => a == place,
-        Form::Current(a) => a == place,
-        Form::Merge(c, a, b) => c == place || a == place || b == place,
+        Form::Copied(a) => *a == place,
+        Form::Unary(_, a) => *a == place,
+        Form::Binary(_, a, b) => *a == place || *b == place,
+        Form::If(c, a, b) => *c == place || *a == place || *b == place,
+        Form::Pre(a) => *a == place,
+        Form::Arrow(a, b) => *a == place || *b == place,
+        Form::When(a) => *a == place,
+        Form::Current(a) => *a == place,
+        Form::Merge(c, branches) => *c == place || is_in(place, branches.as_slice()),
     }
 }
 
@@ -52,7 +52,7 @@ fn names_at(flat: &Flat, place: usize, variable: usize) -> bool
     ensures { result ≡ names_at flat.now place variable }
 {
     match flat.flows().get(place) {
-        Some(flow) => is_operand(flow.form, variable) || is_on(flow.clock, variable),
+        Some(flow) => is_operand(&flow.form, variable) || is_on(flow.clock, variable),
         None => false,
     }
 }

@@ -4,7 +4,7 @@ ghost use Rattle.std.specs.Prelude.{◌≡◌, ◌++◌, IfOk, slice_index, stri
 ghost use Rattle.luflow.specs.Variables.{variable_name};
 ghost use Rattle.luplace_report.specs.Names.{site_name, type_name, type_of, clock_text, clock_of, Adds};
 
-use luflow::{Clock, Flat};
+use luflow::{Clock, Datum, Flat};
 use lulist::Name;
 use lutree::Kind;
 use std::alloc::{AllocError, Global};
@@ -82,11 +82,11 @@ pub fn put_clock(text: &mut String, flat: &Flat, clock: Clock) -> Result<(), All
 {
     match clock {
         Clock::Base => Ok(()),
-        Clock::On(variable, true) => text.push_str(variable_name(flat, variable)),
-        Clock::On(variable, false) => {
+        Clock::On(variable, Datum::Bool(false)) => {
             text.push_str("not ")?;
             text.push_str(variable_name(flat, variable))
         }
+        Clock::On(variable, _) => text.push_str(variable_name(flat, variable)),
     }
 }
 

@@ -10,11 +10,11 @@ use Rattle.luplace_file.specs.declared.error.PlaceError.TheVariants as place
 use Rattle.lutab.specs.declared.error.TabError.TheVariants as tab
 use Rattle.lusdist_shell.specs.declared.schedule.ScheduleError.TheVariants as schedule
 use Rattle.lusdist_shell.specs.declared.request.Request.{Request}
-use Rattle.lusdist_shell.specs.declared.request.Request.TheVariants.{Check, Eval, Plan, Replay, Run}
+use Rattle.lusdist_shell.specs.declared.request.Request.TheVariants.{Check, Eval, Plan, Replay, Run, Explain}
 use Rattle.lusdist_shell.specs.declared.request.ReplayRequest.{ReplayRequest}
 use Rattle.lusdist_shell.specs.Request.{IsAskedBy}
 use Rattle.lusdist_commands.specs.declared.stop.Stop.{Stop}
-use Rattle.lusdist_commands.specs.declared.stop.Stop.TheVariants.{CannotRead, NotAscii, Syntax, Rules, Flat, Place, Table, Schedule, Fault, LinkLost, NoThread, OutOfMemory}
+use Rattle.lusdist_commands.specs.declared.stop.Stop.TheVariants.{CannotRead, NotAscii, Syntax, Rules, Flat, Place, Table, Schedule, Fault, LinkLost, NoThread, OutOfMemory, Mistaken}
 use Rattle.lusdist_commands.specs.Asked.{IsDone, AreNotes, AreNotesOf, AskForNoTrace}
 use Rattle.lusdist_commands.specs.Statuses.{status_of}
 use Rattle.lusdist_commands.specs.Stopped.{IsRefusal}
@@ -52,6 +52,7 @@ no_notes gives (Check request) notes quiet are = are
 no_notes gives (Eval request) notes quiet are = are
 no_notes gives (Plan request) notes quiet are = are
 no_notes gives (Run request) notes quiet are = are
+no_notes gives (Explain request) notes quiet are = are
 no_notes gives (Replay request) notes quiet are = subst (λ (t : Bool). AreNotesOf are.job are.turns request.finish t are.dones notes) (quiet request refl) are.notes_are
 
 -- a refusal has one of three statuses
@@ -103,6 +104,7 @@ status_some (Schedule schedule.OutOfMemory) = inr (inr refl)
 status_some (Fault variable instant kind) = inr (inr refl)
 status_some LinkLost = inr (inr refl)
 status_some NoThread = inr (inr refl)
+status_some (Mistaken told) = inr (inl refl)
 status_some OutOfMemory = inr (inr refl)
 
 never_done : (stop : Stop) → status_of stop ≡ 0 → ⊥

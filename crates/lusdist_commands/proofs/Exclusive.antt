@@ -47,13 +47,15 @@ use Rattle.lusdist_shell.specs.declared.request.PlanRequest.{PlanRequest}
 use Rattle.lusdist_shell.specs.declared.request.ReplayRequest.{ReplayRequest}
 use Rattle.lusdist_shell.specs.declared.request.Request.{Request}
 use Rattle.lusdist_shell.specs.declared.request.RunRequest.{RunRequest}
-use Rattle.lusdist_shell.specs.declared.request.Request.TheVariants.{Check, Eval, Plan, Replay, Run as AsksRun}
+use Rattle.lusdist_shell.specs.declared.request.Request.TheVariants.{Check, Eval, Plan, Replay, Run as AsksRun, Explain}
 use Rattle.lusdist_commands.specs.declared.stop.Stop.{Stop}
-use Rattle.lusdist_commands.specs.declared.stop.Stop.TheVariants.{CannotRead, NotAscii, Syntax, Rules, Flat, Place as BadPlace, Table as BadTable, Schedule, Fault, LinkLost, NoThread, OutOfMemory}
+use Rattle.lusdist_commands.specs.declared.stop.Stop.TheVariants.{CannotRead, NotAscii, Syntax, Rules, Flat, Place as BadPlace, Table as BadTable, Schedule, Fault, LinkLost, NoThread, OutOfMemory, Mistaken}
 use Rattle.lusdist_commands.specs.Asked.{HasFlat, IsPlanOfText, IsJobFor, IsChecked, IsPlanned, IsReplayed, IsRan, IsAnswer}
 use Rattle.lusdist_commands.specs.Evaluated.{IsPosedBy, IsEvaluated, IsFaultOf, IsFaultTold}
 use Rattle.lusdist_commands.specs.Refused.{IsToldOf, IsProgramRefused, IsTableRefused, IsPlaceRefused}
 use Rattle.lusdist_commands.specs.Refused.IsToldOf.{rule, flat}
+use Rattle.lusdist_commands.specs.Explained.{code_in, explanation, IsExplainStopped}
+use Rattle.lusdist_commands.specs.Explained.IsExplainStopped.{explain_unknown, explain_memory}
 use Rattle.lusdist_commands.specs.Stopped.{IsUnread, IsScheduleRefused, HasNoFlat, StopsAtProgram, StopsAtPlan, StopsAtJob, IsCheckStopped, IsEvalStopped, IsPlanStopped, IsReplayStopped, IsRunFault, IsRunStopped, IsRequestStopped}
 use Rattle.lusdist_commands.specs.Stopped.HasNoFlat.{unspelled, unruled}
 use Rattle.lusdist_commands.specs.Stopped.StopsAtProgram.{program_unread, program_refused}
@@ -140,6 +142,7 @@ text_memory text tree (Fault name instant kind) spelled h = absurd h
 text_memory text tree OutOfMemory spelled h = absurd h
 text_memory text tree LinkLost spelled h = absurd h
 text_memory text tree NoThread spelled h = absurd h
+text_memory text tree (Mistaken mistake) spelled h = absurd h
 
 no_flat_memory : (text main : List ℕ) (tree : ProgramTree) (own : FlatProgram) (stop : Stop) → SpellsText text tree → IsFlatOf tree main own → HasNoFlat text main stop → SaysNothing stop
 no_flat_memory text main tree own stop spelled is (unspelled refused) = text_memory text tree stop spelled refused
@@ -170,6 +173,7 @@ table_memory inputs text table (Fault name instant kind) is short utf8 h = absur
 table_memory inputs text table OutOfMemory is short utf8 h = absurd h
 table_memory inputs text table LinkLost is short utf8 h = absurd h
 table_memory inputs text table NoThread is short utf8 h = absurd h
+table_memory inputs text table (Mistaken mistake) is short utf8 h = absurd h
 
 none_some : {A : Type 0} (o : Option A) (x : A) → o ≡ None → o ≡ Some x → ⊥
 none_some o x h k = absurd cc
@@ -198,6 +202,7 @@ place_memory text plan (Fault name instant kind) is h = absurd h
 place_memory text plan OutOfMemory is h = absurd h
 place_memory text plan LinkLost is h = absurd h
 place_memory text plan NoThread is h = absurd h
+place_memory text plan (Mistaken mistake) is h = absurd h
 
 schedule_memory : (text turns : List ℕ) (stop : Stop) → schedule_of text ≡ Ok turns → IsScheduleRefused text stop → SaysNothing stop
 schedule_memory text turns (Schedule told) is (inl memory) = memory_is (Schedule told) (Schedule schedule.OutOfMemory) (ap (λ (x : ScheduleError). Schedule x) memory) tt
@@ -213,6 +218,7 @@ schedule_memory text turns (Fault name instant kind) is h = absurd h
 schedule_memory text turns OutOfMemory is h = absurd h
 schedule_memory text turns LinkLost is h = absurd h
 schedule_memory text turns NoThread is h = absurd h
+schedule_memory text turns (Mistaken mistake) is h = absurd h
 
 -- ---- each command
 
@@ -236,6 +242,7 @@ module _ (gives : List ℕ → Option (List ℕ) → Type 0) (settled : HasOneTe
   unread_memory path one (Fault name instant kind) given h = absurd h
   unread_memory path one LinkLost given h = absurd h
   unread_memory path one NoThread given h = absurd h
+  unread_memory path one (Mistaken mistake) given h = absurd h
 
   pub flats_one : (path main one other : List ℕ) (a b : FlatProgram) → gives path (Some one) → gives path (Some other) → HasFlat one main a → HasFlat other main b → b ≡ a
   flats_one path main one other a b x y has also =
@@ -352,12 +359,17 @@ module _ (gives : List ℕ → Option (List ℕ) → Type 0) (settled : HasOneTe
     run_outcome (run_thread job job_is e) = memory_is stop NoThread e tt
     run_outcome (run_memory e) = memory_is stop OutOfMemory e tt
 
+  explain_outcome : (code : Option (List ℕ)) (text : List ℕ) (stop : Stop) → explanation code ≡ Some text → IsExplainStopped code stop → SaysNothing stop
+  explain_outcome code text stop answer (explain_memory e) = memory_is stop OutOfMemory e tt
+  explain_outcome code text stop answer (explain_unknown name is none e) = absurd (none_some (explanation code) text none answer)
+
   pub one_outcome_of : (request : Request) (text : List ℕ) (stop : Stop) → IsAnswer gives request text → IsRequestStopped gives request stop → SaysNothing stop
   one_outcome_of (Check request) text stop answer stopped = check_outcome request text stop answer stopped
   one_outcome_of (Eval request) text stop answer stopped = eval_outcome request text stop answer stopped
   one_outcome_of (Plan request) text stop answer stopped = plan_outcome request text stop answer stopped
   one_outcome_of (Replay request) text stop answer stopped = replay_outcome request text stop answer stopped
   one_outcome_of (AsksRun request) text stop answer stopped = run_outcome request text stop answer stopped
+  one_outcome_of (Explain request) text stop answer stopped = explain_outcome (code_in request) text stop answer stopped
 
 pub one_outcome : (gives : List ℕ → Option (List ℕ) → Type 0) → HasOneText gives → (request : Request) (text : List ℕ) (stop : Stop) → IsAnswer gives request text → IsRequestStopped gives request stop → SaysNothing stop
 one_outcome gives settled request text stop answer stopped = one_outcome_of gives settled request text stop answer stopped

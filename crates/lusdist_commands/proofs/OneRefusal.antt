@@ -58,9 +58,9 @@ use Rattle.lusdist_shell.specs.declared.request.EvalRequest.{EvalRequest}
 use Rattle.lusdist_shell.specs.declared.request.ReplayRequest.{ReplayRequest}
 use Rattle.lusdist_shell.specs.declared.request.Request.{Request}
 use Rattle.lusdist_shell.specs.declared.request.RunRequest.{RunRequest}
-use Rattle.lusdist_shell.specs.declared.request.Request.TheVariants.{Check, Eval, Plan, Replay, Run as AsksRun}
+use Rattle.lusdist_shell.specs.declared.request.Request.TheVariants.{Check, Eval, Plan, Replay, Run as AsksRun, Explain}
 use Rattle.lusdist_commands.specs.declared.stop.Stop.{Stop}
-use Rattle.lusdist_commands.specs.declared.stop.Stop.TheVariants.{CannotRead, NotAscii, Syntax, Rules, Flat, Place as BadPlace, Table as BadTable, Schedule, Fault, LinkLost, NoThread, OutOfMemory}
+use Rattle.lusdist_commands.specs.declared.stop.Stop.TheVariants.{CannotRead, NotAscii, Syntax, Rules, Flat, Place as BadPlace, Table as BadTable, Schedule, Fault, LinkLost, NoThread, OutOfMemory, Mistaken}
 use Rattle.lusdist_commands.specs.Evaluated.{IsFaultOf, IsFaultTold}
 use Rattle.lusdist_commands.specs.Refused.{IsToldOf, IsProgramRefused, IsPlaceRefused, IsTableRefused}
 use Rattle.lusdist_commands.specs.Refused.IsToldOf.{rule, flat}
@@ -75,6 +75,9 @@ use Rattle.lusdist_commands.specs.Stopped.StopsAtJob.{no_plan, table_unread, tab
 use Rattle.lusdist_commands.specs.Stopped.IsReplayStopped.{replay_job, replay_unread, replay_schedule, replay_memory}
 use Rattle.lusdist_commands.specs.Stopped.IsRunStopped.{run_job, run_fault, run_lost, run_thread, run_memory}
 use Rattle.lusdist_commands.specs.Exact.{HasOneText, SaysNothing, IsFaultOfRun}
+use Rattle.lusdist_commands.specs.Explained.{code_in, IsExplainStopped}
+use Rattle.lusdist_commands.specs.Explained.IsExplainStopped.{explain_unknown, explain_memory}
+use Rattle.lusdist_commands.specs.declared.mistake.Mistake.TheVariants.{UnknownCode}
 use Rattle.lusdist_commands.proofs.Exclusive.{memory_is, text_memory, rules_memory, one_of, flats_one, flats_same}
 use Rattle.lusdist_commands.proofs.OneStatus.{never, past_program, past_table, fault_past, past_plan, replay_past, run_past}
 
@@ -131,6 +134,7 @@ text_told bytes (Schedule e) h = absurd h
 text_told bytes OutOfMemory h = absurd h
 text_told bytes LinkLost h = absurd h
 text_told bytes NoThread h = absurd h
+text_told bytes (Mistaken mistake) h = absurd h
 
 -- THE PLACEMENT
 
@@ -161,6 +165,7 @@ place_told own bytes (Schedule e) h = absurd h
 place_told own bytes OutOfMemory h = absurd h
 place_told own bytes LinkLost h = absurd h
 place_told own bytes NoThread h = absurd h
+place_told own bytes (Mistaken mistake) h = absurd h
 
 -- THE TABLE
 
@@ -187,6 +192,7 @@ table_told inputs bytes (Schedule e) h = absurd h
 table_told inputs bytes OutOfMemory h = absurd h
 table_told inputs bytes LinkLost h = absurd h
 table_told inputs bytes NoThread h = absurd h
+table_told inputs bytes (Mistaken mistake) h = absurd h
 
 -- THE SCHEDULE
 
@@ -207,6 +213,7 @@ schedule_told bytes (BadTable e) h = absurd h
 schedule_told bytes OutOfMemory h = absurd h
 schedule_told bytes LinkLost h = absurd h
 schedule_told bytes NoThread h = absurd h
+schedule_told bytes (Mistaken mistake) h = absurd h
 
 -- A FILE THAT CAN'T BE READ
 
@@ -223,6 +230,7 @@ unread_told gives path (BadTable e) h = absurd h
 unread_told gives path (Schedule e) h = absurd h
 unread_told gives path LinkLost h = absurd h
 unread_told gives path NoThread h = absurd h
+unread_told gives path (Mistaken mistake) h = absurd h
 
 -- ---- what is told of a program that is spelled
 
@@ -474,6 +482,12 @@ module _ (gives : List ℕ → Option (List ℕ) → Type 0) (settled : HasOneTe
     run_stop a b (run_job x) (run_job y) na nb nf = job_stop request.program.now request.place.now request.table.now request.main.now a b x y na nb
     run_stop a b (run_job x) (run_fault name t k e fault) na nb nf = run_past gives settled request fault.job a fault.asked_for x na
 
+  explain_stop : (code : Option (List ℕ)) (a b : Stop) → IsExplainStopped code a → IsExplainStopped code b → (¬ SaysNothing a) → (¬ SaysNothing b) → a ≡ b
+  explain_stop code a b (explain_memory e) y na nb = absurd (na (memory_is a OutOfMemory e tt))
+  explain_stop code a b (explain_unknown name is none e) (explain_memory m) na nb = absurd (nb (memory_is b OutOfMemory m tt))
+  explain_stop code a b (explain_unknown name is none e) (explain_unknown other also nothing m) na nb =
+      e ∙ ap (λ (x : List ℕ). Mistaken (UnknownCode x)) (same_Some name other (sym is ∙ also)) ∙ sym m
+
   pub one_refusal_of : (request : Request) (a b : Stop) → IsRequestStopped gives request a → IsRequestStopped gives request b → (¬ SaysNothing a) → (¬ SaysNothing b) → (¬ IsFaultOfRun request a) → a ≡ b
   one_refusal_of (Check request) a b (check_program x) (check_program y) na nb nf = program_stop request.program.now request.main.now a b x y na nb
   one_refusal_of (Check request) a b (check_memory e) y na nb nf = absurd (na (memory_is a OutOfMemory e tt))
@@ -484,3 +498,4 @@ module _ (gives : List ℕ → Option (List ℕ) → Type 0) (settled : HasOneTe
   one_refusal_of (Plan request) a b (plan_files x) (plan_memory e) na nb nf = absurd (nb (memory_is b OutOfMemory e tt))
   one_refusal_of (Replay request) a b x y na nb nf = replay_stop request a b x y na nb
   one_refusal_of (AsksRun request) a b x y na nb nf = run_stop request a b x y na nb nf
+  one_refusal_of (Explain request) a b x y na nb nf = explain_stop (code_in request) a b x y na nb

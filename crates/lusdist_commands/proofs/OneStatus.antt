@@ -15,9 +15,9 @@ use Rattle.lusdist_shell.specs.declared.request.EvalRequest.{EvalRequest}
 use Rattle.lusdist_shell.specs.declared.request.ReplayRequest.{ReplayRequest}
 use Rattle.lusdist_shell.specs.declared.request.Request.{Request}
 use Rattle.lusdist_shell.specs.declared.request.RunRequest.{RunRequest}
-use Rattle.lusdist_shell.specs.declared.request.Request.TheVariants.{Check, Eval, Plan, Replay, Run as AsksRun}
+use Rattle.lusdist_shell.specs.declared.request.Request.TheVariants.{Check, Eval, Plan, Replay, Run as AsksRun, Explain}
 use Rattle.lusdist_commands.specs.declared.stop.Stop.{Stop}
-use Rattle.lusdist_commands.specs.declared.stop.Stop.TheVariants.{CannotRead, NotAscii, Syntax, Rules, Flat, Place, Table, Schedule, Fault, LinkLost, NoThread, OutOfMemory}
+use Rattle.lusdist_commands.specs.declared.stop.Stop.TheVariants.{CannotRead, NotAscii, Syntax, Rules, Flat, Place, Table, Schedule, Fault, LinkLost, NoThread, OutOfMemory, Mistaken}
 use Rattle.lusdist_commands.specs.Statuses.{status_of}
 use Rattle.lusdist_commands.specs.Asked.{HasFlat, IsPlanFor, IsJobFor}
 use Rattle.lusdist_commands.specs.Evaluated.{IsFaultOf}
@@ -34,6 +34,8 @@ use Rattle.lusdist_commands.specs.Stopped.StopsAtJob.{no_plan, table_unread, tab
 use Rattle.lusdist_commands.specs.Stopped.IsReplayStopped.{replay_job, replay_unread, replay_schedule, replay_memory}
 use Rattle.lusdist_commands.specs.Stopped.IsRunStopped.{run_job, run_fault, run_lost, run_thread, run_memory}
 use Rattle.lusdist_commands.specs.Exact.{HasOneText, SaysNothing}
+use Rattle.lusdist_commands.specs.Explained.{code_in, IsExplainStopped}
+use Rattle.lusdist_commands.specs.Explained.IsExplainStopped.{explain_unknown, explain_memory}
 use Rattle.lusdist_commands.proofs.Exclusive.{memory_is, unread_memory, program_memory, plan_memory_of, job_memory_of, refused_memory, posed_flat}
 
 -- ---- the status of a stop by what it is of
@@ -41,6 +43,7 @@ use Rattle.lusdist_commands.proofs.Exclusive.{memory_is, unread_memory, program_
 -- a stop of a text, and no want of memory
 abbrev pub IsOfText : Stop → Type 0
 IsOfText (CannotRead path) = ⊥
+IsOfText (Mistaken mistake) = ⊥
 IsOfText (Fault variable instant kind) = ⊥
 IsOfText _ = Unit {0}
 
@@ -92,6 +95,7 @@ one_of_text (Schedule schedule.OutOfMemory) is not = absurd (not tt)
 one_of_text (Fault variable instant kind) is not = absurd is
 one_of_text LinkLost is not = absurd (not tt)
 one_of_text NoThread is not = absurd (not tt)
+one_of_text (Mistaken mistake) is not = absurd is
 one_of_text OutOfMemory is not = absurd (not tt)
 
 of_text_is : (stop other : Stop) → stop ≡ other → IsOfText other → IsOfText stop
@@ -114,6 +118,7 @@ program_text bytes (Schedule e) h = tt
 program_text bytes OutOfMemory h = tt
 program_text bytes LinkLost h = tt
 program_text bytes NoThread h = tt
+program_text bytes (Mistaken mistake) h = absurd h
 
 no_flat_text : (bytes main : List ℕ) (stop : Stop) → HasNoFlat bytes main stop → IsOfText stop
 no_flat_text bytes main stop (unspelled h) = program_text bytes stop h
@@ -132,6 +137,7 @@ place_text list bytes (Schedule e) h = tt
 place_text list bytes OutOfMemory h = tt
 place_text list bytes LinkLost h = tt
 place_text list bytes NoThread h = tt
+place_text list bytes (Mistaken mistake) h = absurd h
 
 table_text : (inputs : _) (bytes : List ℕ) (stop : Stop) → IsTableRefused inputs bytes stop → IsOfText stop
 table_text inputs bytes (CannotRead path) h = absurd h
@@ -146,6 +152,7 @@ table_text inputs bytes (Schedule e) h = tt
 table_text inputs bytes OutOfMemory h = tt
 table_text inputs bytes LinkLost h = tt
 table_text inputs bytes NoThread h = tt
+table_text inputs bytes (Mistaken mistake) h = absurd h
 
 schedule_text : (bytes : List ℕ) (stop : Stop) → IsScheduleRefused bytes stop → IsOfText stop
 schedule_text bytes (CannotRead path) h = absurd h
@@ -160,6 +167,7 @@ schedule_text bytes (Schedule e) h = tt
 schedule_text bytes OutOfMemory h = tt
 schedule_text bytes LinkLost h = tt
 schedule_text bytes NoThread h = tt
+schedule_text bytes (Mistaken mistake) h = absurd h
 
 unread_two : (gives : List ℕ → Option (List ℕ) → Type 0) (path : List ℕ) (stop : Stop) → IsUnread gives path stop → (¬ SaysNothing stop) → (status_of stop ≡ 2) × gives path None
 unread_two gives path (CannotRead name) h not = (refl, h.1)
@@ -173,6 +181,7 @@ unread_two gives path (Table e) h not = absurd h
 unread_two gives path (Schedule e) h not = absurd h
 unread_two gives path LinkLost h not = absurd h
 unread_two gives path NoThread h not = absurd h
+unread_two gives path (Mistaken mistake) h not = absurd h
 unread_two gives path OutOfMemory h not = absurd (not tt)
 
 -- ---- two stops of one request
@@ -314,6 +323,11 @@ module _ (gives : List ℕ → Option (List ℕ) → Type 0) (settled : HasOneTe
     run_status a b (run_fault name t k e fault) (run_job y) na nb = run_past fault.job b fault.asked_for y nb
     run_status a b (run_fault name t k e fault) (run_fault other u l d also) na nb = three_is name t k a e ∙ sym (three_is other u l b d)
 
+  explain_status : (code : Option (List ℕ)) (a b : Stop) → IsExplainStopped code a → IsExplainStopped code b → (¬ SaysNothing a) → (¬ SaysNothing b) → status_of a ≡ status_of b
+  explain_status code a b (explain_memory e) y na nb = absurd (na (memory_is a OutOfMemory e tt))
+  explain_status code a b (explain_unknown name is none e) (explain_memory m) na nb = absurd (nb (memory_is b OutOfMemory m tt))
+  explain_status code a b (explain_unknown name is none e) (explain_unknown other also nothing m) na nb = ap status_of e ∙ sym (ap status_of m)
+
   pub one_status_of : (request : Request) (a b : Stop) → IsRequestStopped gives request a → IsRequestStopped gives request b → (¬ SaysNothing a) → (¬ SaysNothing b) → status_of a ≡ status_of b
   one_status_of (Check request) a b (check_program x) (check_program y) na nb = program_status request.program.now request.main.now a b x y na nb
   one_status_of (Check request) a b (check_memory e) y na nb = absurd (na (memory_is a OutOfMemory e tt))
@@ -324,3 +338,4 @@ module _ (gives : List ℕ → Option (List ℕ) → Type 0) (settled : HasOneTe
   one_status_of (Plan request) a b (plan_files x) (plan_memory e) na nb = absurd (nb (memory_is b OutOfMemory e tt))
   one_status_of (Replay request) a b x y na nb = replay_status request a b x y na nb
   one_status_of (AsksRun request) a b x y na nb = run_status request a b x y na nb
+  one_status_of (Explain request) a b x y na nb = explain_status (code_in request) a b x y na nb

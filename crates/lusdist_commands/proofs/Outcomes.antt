@@ -20,7 +20,7 @@ use Rattle.lueval.proofs.Told.{Pairs, names, stream_at}
 use Rattle.lutab.specs.Table.{IsTextOf, is_too_long}
 use Rattle.lusdist_shell.specs.declared.request.EvalRequest.{EvalRequest}
 use Rattle.lusdist_commands.specs.declared.stop.Stop.{Stop}
-use Rattle.lusdist_commands.specs.declared.stop.Stop.TheVariants.{CannotRead, NotAscii, Syntax, Rules, Flat, Place, Table as BadTable, Schedule, Fault, LinkLost, NoThread, OutOfMemory}
+use Rattle.lusdist_commands.specs.declared.stop.Stop.TheVariants.{CannotRead, NotAscii, Syntax, Rules, Flat, Place, Table as BadTable, Schedule, Fault, LinkLost, NoThread, OutOfMemory, Mistaken}
 use Rattle.lusdist_commands.specs.Evaluated.{AreEvaluated, AreOutputsOf, IsPosed, IsPosedBy, IsStopped, IsFaultTold}
 use Rattle.lusdist_commands.specs.Stopped.{IsEvalStopped}
 use Rattle.lusdist_commands.specs.Stopped.IsEvalStopped.{eval_fault, eval_memory}
@@ -79,4 +79,5 @@ eval_stop gives request flat inputs asked (Schedule e) told = absurd told
 eval_stop gives request flat inputs asked (Fault name instant kind) told = eval_fault name instant kind refl (record { flat = flat; inputs = inputs; asked = asked; told = told; source = source_fault gives request flat inputs asked name instant kind told })
 eval_stop gives request flat inputs asked LinkLost told = absurd told
 eval_stop gives request flat inputs asked NoThread told = absurd told
+eval_stop gives request flat inputs asked (Mistaken mistake) told = absurd told
 eval_stop gives request flat inputs asked OutOfMemory told = eval_memory refl

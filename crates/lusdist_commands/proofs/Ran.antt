@@ -29,7 +29,7 @@ use Rattle.lurun.specs.Reports.{AreComplete, AreOutputsOf as AreRunOutputs, HasO
 use Rattle.lurun.specs.Stations.{StationAt, sites_at}
 use Rattle.lusdist_shell.specs.declared.request.RunRequest.{RunRequest}
 use Rattle.lusdist_commands.specs.declared.stop.Stop.{Stop}
-use Rattle.lusdist_commands.specs.declared.stop.Stop.TheVariants.{CannotRead, NotAscii, Syntax, Rules, Flat, Place, Table, Schedule, Fault, LinkLost, NoThread, OutOfMemory}
+use Rattle.lusdist_commands.specs.declared.stop.Stop.TheVariants.{CannotRead, NotAscii, Syntax, Rules, Flat, Place, Table, Schedule, Fault, LinkLost, NoThread, OutOfMemory, Mistaken}
 use Rattle.lusdist_commands.specs.Asked.{IsJobFor, IsRan}
 use Rattle.lusdist_commands.specs.Evaluated.{AreOutputsOf}
 use Rattle.lusdist_commands.specs.Ran.{IsRunError, IsStopOfRun, IsRunTable}
@@ -126,4 +126,5 @@ module _ (gives : List ℕ → Option (List ℕ) → Type 0) (request : RunReque
   run_stop (Fault name instant kind) h = run_fault name instant kind refl (fault_is name instant kind h)
   run_stop LinkLost h = run_lost job asked refl
   run_stop NoThread h = run_thread job asked refl
+  run_stop (Mistaken mistake) h = absurd h
   run_stop OutOfMemory h = run_memory refl

@@ -27,7 +27,7 @@ use Rattle.lusdist_shell.specs.declared.request.PlanRequest.{PlanRequest}
 use Rattle.lusdist_shell.specs.declared.request.ReplayRequest.{ReplayRequest}
 use Rattle.lusdist_shell.specs.declared.request.RunRequest.{RunRequest}
 use Rattle.lusdist_shell.specs.declared.request.Request.{Request}
-use Rattle.lusdist_shell.specs.declared.request.Request.TheVariants.{Check, Eval, Plan, Replay, Run as AsksRun}
+use Rattle.lusdist_shell.specs.declared.request.Request.TheVariants.{Check, Eval, Plan, Replay, Run as AsksRun, Explain}
 use Rattle.lusdist_shell.specs.Request.{IsAskedBy}
 use Rattle.luworld.specs.Progress.{Progress}
 use Rattle.luweave.specs.Headline.{IsFaithful}
@@ -38,6 +38,7 @@ use Rattle.lusdist_commands.specs.TellingText.{telling_text, IsToldBy}
 use Rattle.luflow.specs.Tables.{OutputColumn}
 use Rattle.lutab.specs.Outputs.{output_text}
 use Rattle.lusdist_commands.specs.Evaluated.{AreOutputsOf, IsEvaluated}
+use Rattle.lusdist_commands.specs.Explained.{code_in, explanation}
 
 -- the flat program, from this main node, of the program that a text spells
 pub record HasFlat (text main : List ℕ) (flat : FlatProgram) : Type 0 where
@@ -165,6 +166,7 @@ IsAnswer gives (Eval request) text = IsEvaluated gives request text
 IsAnswer gives (Plan request) text = IsPlanned gives request text
 IsAnswer gives (Replay request) text = IsReplayed gives request text
 IsAnswer gives (AsksRun request) text = IsRan gives request text
+IsAnswer gives (Explain request) text = explanation (code_in request) ≡ Some text
 
 -- what a replay notes of the turns of what a request asks for
 pub record IsNotedReplay (gives : List ℕ → Option (List ℕ) → Type 0) (request : ReplayRequest) (notes : List ℕ) : Type 0 where

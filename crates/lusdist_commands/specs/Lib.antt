@@ -1,4 +1,6 @@
 pub mod Statuses
+pub mod Mistakes
+pub mod Explained
 pub mod Asked
 pub mod Refused
 pub mod Stopped

@@ -8,8 +8,9 @@ use Rattle.lucore.specs.Lines.{line_of as flat_line}
 use Rattle.luplace_file.specs.Lines.{line_of as place_line}
 use Rattle.lutab.specs.Lines.{line_of as table_line}
 use Rattle.lusdist_shell.specs.Lines.{line_of as schedule_line}
+use Rattle.lusdist_commands.specs.Mistakes.{line_of as mistake_line}
 use Rattle.lusdist_commands.specs.declared.stop.Stop.{Stop}
-use Rattle.lusdist_commands.specs.declared.stop.Stop.TheVariants.{CannotRead, NotAscii, Syntax, Rules, Flat, Place, Table, Schedule, Fault, LinkLost, NoThread, OutOfMemory}
+use Rattle.lusdist_commands.specs.declared.stop.Stop.TheVariants.{CannotRead, NotAscii, Syntax, Rules, Flat, Place, Table, Schedule, Fault, LinkLost, NoThread, OutOfMemory, Mistaken}
 
 -- a code and a name, and what there is to tell; no line feed
 abbrev pub line_of : Stop → List ℕ
@@ -25,3 +26,4 @@ line_of (Fault variable instant kind) = codes "R1 Fault " ++ (variable ++ (codes
 line_of OutOfMemory = codes "R2 OutOfMemory"
 line_of LinkLost = codes "R3 LinkLost"
 line_of NoThread = codes "R4 NoThread"
+line_of (Mistaken mistake) = mistake_line mistake

@@ -17,7 +17,7 @@ use Rattle.lusdist_shell.specs.declared.request.PlanRequest.{PlanRequest}
 use Rattle.lusdist_shell.specs.declared.request.ReplayRequest.{ReplayRequest}
 use Rattle.lusdist_shell.specs.declared.request.RunRequest.{RunRequest}
 use Rattle.lusdist_shell.specs.declared.request.Request.{Request}
-use Rattle.lusdist_shell.specs.declared.request.Request.TheVariants.{Check, Eval, Plan, Replay, Run as AsksRun}
+use Rattle.lusdist_shell.specs.declared.request.Request.TheVariants.{Check, Eval, Plan, Replay, Run as AsksRun, Explain}
 use Rattle.lusdist_shell.specs.Request.{IsAskedBy}
 use Rattle.lusdist_commands.specs.declared.stop.Stop.{Stop}
 use Rattle.lusdist_commands.specs.declared.stop.Stop.TheVariants.{CannotRead, Schedule, Fault, LinkLost, NoThread, OutOfMemory}
@@ -28,6 +28,7 @@ use Rattle.lusource.specs.Faults.{IsSourceFault}
 use Rattle.lusite.specs.Machine.{IsFaultAt}
 use Rattle.lusdist_commands.specs.Asked.{HasFlat, IsPlanFor, IsJobFor}
 use Rattle.lusdist_commands.specs.Evaluated.{IsFaultOf}
+use Rattle.lusdist_commands.specs.Explained.{code_in, IsExplainStopped}
 use Rattle.lusdist_commands.specs.Refused.{IsToldOf, IsProgramRefused, IsPlaceRefused, IsTableRefused}
 
 -- the file of this path can't be read, or memory ran out
@@ -116,6 +117,7 @@ IsRequestStopped gives (Eval request) stop = IsEvalStopped gives request stop
 IsRequestStopped gives (Plan request) stop = IsPlanStopped gives request stop
 IsRequestStopped gives (Replay request) stop = IsReplayStopped gives request stop
 IsRequestStopped gives (AsksRun request) stop = IsRunStopped gives request stop
+IsRequestStopped gives (Explain request) stop = IsExplainStopped (code_in request) stop
 
 -- what the words ask for stops so, with this status
 pub record IsRefusal (gives : List ℕ → Option (List ℕ) → Type 0) (words : List (List ℕ)) (status : ℕ) : Type 0 where

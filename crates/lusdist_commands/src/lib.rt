@@ -6,15 +6,18 @@
 //! - [`planning`]: the plan of a program at a placement, and its texts.
 //! - [`evaluating`]: the table of a program's outputs; [`running`]: the same, made by its sites on threads.
 //! - [`sites`]: the new sites of a job.
-//! - [`Stop`]: why a call stops, and with which status.
+//! - [`explaining`]: a page of the manual.
+//! - [`Stop`]: why a call stops, and with which status; [`Mistake`]: what is wrong with words that the command line takes.
 //! - [`laws`]: a call has one outcome, one refusal and one status.
 //!
 //! It is a library, so that it is checked without the linking of a program; `lusdist` is its `main`.
 #![tactic(auto)]
 
 pub mod evaluating;
+pub mod explaining;
 pub mod jobs;
 pub mod laws;
+mod mistake;
 pub mod planning;
 pub mod running;
 mod serve;
@@ -22,5 +25,6 @@ pub mod sites;
 pub mod sources;
 mod stop;
 
+pub use mistake::Mistake;
 pub use serve::{replayed, serve_words};
 pub use stop::Stop;

@@ -18,6 +18,7 @@ ghost use Rattle.lusdist_commands.specs.declared.stop.Stop.{Stop};
 ghost use Rattle.lusdist_commands.specs.declared.stop.Stop.TheVariants.{OutOfMemory};
 
 use crate::evaluating::output_table;
+use crate::explaining::explained;
 use crate::jobs::job_for;
 use crate::planning::{plan_text, planned};
 use crate::running::run_table;
@@ -258,6 +259,7 @@ fn answer<R: Threads + Wait + Sync, F: Files, P: Progress>(
         Request::Plan(request) => Ok(plain(alloc, plan_answer(alloc, request, files)?)),
         Request::Replay(request) => replay_answer(alloc, request, files),
         Request::Run(request) => Ok(plain(alloc, run_text(rt, alloc, request, files, progress)?)),
+        Request::Explain(request) => Ok(plain(alloc, explained(alloc, request)?)),
     }
 }
 
@@ -346,7 +348,7 @@ pub fn serve_words<R: Threads + Wait + Sync, F: Files, P: Progress, W: Write, V:
     ensures refused { (result ≡ 1) ⊎ (result ≡ 2) → out.new ≡ out.old }
 
     // Where a text is refused, it is for what the text says; and where words that the command line takes end with status 2, a
-    // file can't be read.
+    // file can't be read, or no page has the code that is to be explained.
     ensures text { result ≡ 1 → IsRefusal (F.gives files.now) (map string_bytes words.entry.now) 1 }
     ensures file { takes lusdist (map string_bytes words.entry.now) ≡ true → result ≡ 2
         → IsRefusal (F.gives files.now) (map string_bytes words.entry.now) 2 }

@@ -3,6 +3,7 @@
 ghost use Rattle.std.specs.Prelude.{◌≡◌};
 ghost use Rattle.lusdist_commands.specs.Statuses.{status_of};
 
+use crate::mistake::Mistake;
 use lucore::CoreError;
 use luflow::FaultKind;
 use lulist::Name;
@@ -49,6 +50,8 @@ pub enum Stop {
     LinkLost,
     /// A thread of a run was refused.
     NoThread,
+    /// The words are wrong, though the command line takes them.
+    Mistaken(Mistake),
 }
 
 impl fmt::Display for Stop {
@@ -75,6 +78,7 @@ impl fmt::Display for Stop {
             Stop::OutOfMemory => f.write_str("R2 OutOfMemory"),
             Stop::LinkLost => f.write_str("R3 LinkLost"),
             Stop::NoThread => f.write_str("R4 NoThread"),
+            Stop::Mistaken(mistake) => write!(f, "{mistake}"),
         }
     }
 }
@@ -91,13 +95,13 @@ impl From<AllocError> for Stop {
 }
 
 impl Stop {
-    /// The exit status: 1 where a text is refused, 2 where a file can't be read, 3 where an evaluation or a run is a fault, a run
+    /// The exit status: 1 where a text is refused, 2 where the words are wrong or a file can't be read, 3 where an evaluation or a run is a fault, a run
     /// was cut short or memory ran out.
     pub fn status(&self) -> u8
         ensures { result ≡ status_of self.now }
     {
         match self {
-            Stop::CannotRead { .. } => 2,
+            Stop::CannotRead { .. } | Stop::Mistaken(_) => 2,
             Stop::Syntax(SynError::OutOfMemory)
             | Stop::Rules(StatError::OutOfMemory)
             | Stop::Flat(CoreError::OutOfMemory)

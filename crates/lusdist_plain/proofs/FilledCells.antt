@@ -1,9 +1,9 @@
 -- One more mark is filled, and one more instant.
-use Rattle.std.proofs.Common.{◌≡◌, ◌≢◌, ℕ, ◌+◌, ◌<◌, inl, inr, List, [], length, get_or, slice_get, take, Option, Some, None, Result, Ok, Err, sym, ap, ap₂, ◌∙◌, subst, arith}
+use Rattle.std.proofs.Common.{◌≡◌, ◌≢◌, ℕ, ◌+◌, ◌<◌, inl, inr, List, [], length, get_or, slice_get, take, Option, Some, None, Result, Ok, Err, refl, sym, ap, ap₂, ◌∙◌, subst, arith}
 use Rattle.std.specs.Prelude.{IfOk, unwrap_or}
 use Rattle.std.specs.declared.alloc.AllocError.{AllocError}
 use Rattle.std.specs.Option.{option_map}
-use Rattle.std.proofs.lemmas.Option.{get_or_from_slice_get, slice_get_within}
+use Rattle.std.proofs.lemmas.Option.{get_or_from_slice_get, slice_get_within, same_Some}
 use Rattle.std.proofs.lemmas.List.FromFn.{length-map-range_with_len}
 use Rattle.luworld.specs.declared.link.Link.{Link}
 use Rattle.luworld.specs.Runs.{Run, IsRun, streams_of, carried, link_list, messages_of}
@@ -16,9 +16,10 @@ use Rattle.std.proofs.lemmas.Bool.{cases_lt}
 use Rattle.std.proofs.lemmas.List.Elements.{All-weaker}
 use Rattle.luflow.specs.declared.form.Flow.{Flow}
 use Rattle.luflow.specs.Program.{FlatProgram, Table, IsOrdered, flow_at, flows_of, places, clock_reads, form_reads, reads}
-use Rattle.luflow.specs.Streams.{Streams}
-use Rattle.luflow.specs.Solution.{says, solution}
-use Rattle.luflow.proofs.Solutions.{Agree, says-same, all_left, all_right, place_of, rank_of, flow_there, IsSolution-solution}
+use Rattle.luflow.specs.declared.form.Clock.{Clock}
+use Rattle.luflow.specs.Streams.{Streams, clock_at}
+use Rattle.luflow.specs.Solution.{says, solution, clock_of_flow}
+use Rattle.luflow.proofs.Solutions.{Agree, clock-same, says-same, all_left, all_right, place_of, rank_of, flow_there, IsSolution-solution}
 use Rattle.lusdist_plain.specs.declared.mark.Mark.{Mark}
 use Rattle.lusdist_plain.specs.declared.grid.Grid.{Grid}
 use Rattle.lusdist_plain.specs.AsMark.{as_mark}
@@ -126,3 +127,16 @@ list_there job l k is = ap (λ (o : Option Link). messages_of job (streams_of jo
 pub list_none : (job : Run) (l : ℕ) → slice_get job.plan.links l ≡ None → link_list job (streams_of job) l ≡ []
 unfolding link_list
 list_none job l is = ap (λ (o : Option Link). messages_of job (streams_of job) (option_map (λ (x : Link). x.flow) o)) is
+
+-- a clock, read from a grid that has all marks
+pub clock_held : (flat : FlatProgram) (inputs : Table) (grid : Grid) (i t : ℕ) (k : Clock) → IsOrdered flat → IsFilled flat inputs grid inputs.instants → t < inputs.instants
+    → option_map (λ (f : Flow). f.clock) (flow_at flat i) ≡ Some k → clock_at inputs (held grid) k t ≡ clock_of_flow inputs (solution flat inputs) (flow_at flat i) t
+clock_held flat inputs grid i t k ordered filled lt at = go (flow_at flat i) refl at
+  where
+    go : (o : Option Flow) → flow_at flat i ≡ o → option_map (λ (f : Flow). f.clock) o ≡ Some k → clock_at inputs (held grid) k t ≡ clock_of_flow inputs (solution flat inputs) o t
+    go None e h = let no : None ≡ Some k = h in cc
+    go (Some f) e h =
+        let same : f.clock ≡ k = same_Some f.clock k h in
+        subst (λ k. clock_at inputs (held grid) k t ≡ clock_at inputs (solution flat inputs) f.clock t) same
+        (clock-same inputs (held grid) (solution flat inputs) f.clock t
+        (All-weaker (λ r. r < flows_of flat) (λ r. held grid r t ≡ solution flat inputs r t) (λ r lr. filled.past r t lr lt) (clock_reads f.clock) (ordered.clocks_in i f e)))

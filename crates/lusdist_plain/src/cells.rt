@@ -1,6 +1,6 @@
 //! What a site does for a flow at an instant, and at the close.
 
-ghost use Rattle.std.specs.Prelude.{◌≡◌, ◌<◌, IfOk, filter, map, nat_eq, slice_get};
+ghost use Rattle.std.specs.Prelude.{◌≡◌, ◌<◌, IfOk, filter, map, nat_eq, option_map, slice_get};
 ghost use Rattle.luworld.specs.Outline.{compute_items, flow_items, message_items, round_cell};
 ghost use Rattle.luworld.specs.Runs.{carriers, is_open, outline, receiver_of, streams_of};
 ghost use Rattle.lusdist_plain.specs.AsItem.{as_item};
@@ -10,7 +10,7 @@ use crate::grid::Grid;
 use crate::item::Item;
 use crate::looking::clock_at;
 use crate::plans::{carried, home, receiver_of};
-use luflow::Flow;
+use luflow::{Clock, Flow};
 use luplace::{Job, Plan};
 use std::alloc::{AllocError, Global};
 
@@ -29,16 +29,19 @@ pub fn is_present(job: &Job, grid: &Grid, flow: usize, instant: u32) -> bool
     requires inside { instant < job.now.inputs.instants }
     ensures { result ≡ (outline job.now (streams_of job.now)).present flow instant }
 {
-    match flow_at(job.plan().flat().flows(), flow) {
-        Some(found) => is_open(clock_at(job.inputs(), grid, found.clock, instant)),
+    match clock_of(job.plan().flat().flows(), flow) {
+        Some(clock) => is_open(clock_at(job.inputs(), grid, clock, instant)),
         None => false,
     }
 }
 
-fn flow_at(flows: &[Flow], flow: usize) -> Option<Flow>
-    ensures { result ≡ slice_get flows.now flow }
+fn clock_of(flows: &[Flow], flow: usize) -> Option<Clock>
+    ensures { result ≡ option_map (λ f. f.clock) (slice_get flows.now flow) }
 {
-    flows.get(flow).copied()
+    match flows.get(flow) {
+        Some(found) => Some(found.clock),
+        None => None,
+    }
 }
 
 /// The links of a flow, by number.

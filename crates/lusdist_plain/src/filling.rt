@@ -18,7 +18,7 @@ fn fill_instant(flat: &Flat, inputs: &Inputs, grid: &mut Grid, instant: u32)
 {
     let flows = flat.flows();
     for place in flat.rank() {
-        let mark = says(inputs, grid, flows[*place], instant);
+        let mark = says(inputs, grid, &flows[*place], instant);
         grid.set(*place, instant, mark);
     }
 }

@@ -1,11 +1,11 @@
 //! What a flow has at an instant, by the definitions, from the marks of a grid. What lies before the instant is looked up
 //! anew each time.
 
-ghost use Rattle.std.specs.Prelude.{◌≡◌, Some, slice_get};
+ghost use Rattle.std.specs.Prelude.{◌≡◌, Some, map, slice_get};
 ghost use Rattle.luflow.specs.Program.{column_of};
 ghost use Rattle.luflow.specs.Solution.{says};
-ghost use Rattle.luflow.specs.Streams.{before, clock_at, datum_of, either, newer, ticked, truth_in};
-ghost use Rattle.luflow.specs.Values.{arrow_of, gives, mark_of, merge_of, on_one, on_three, on_two, value_at};
+ghost use Rattle.luflow.specs.Streams.{before, clock_at, datum_of, either, is_value, newer, ticked, truth_in};
+ghost use Rattle.luflow.specs.Values.{arrow_of, branch_of, branch_value, gives, mark_of, merge_of, on_one, on_three, on_two, value_at};
 ghost use Rattle.luflow.specs.Operators.{choice_of, double_of, single_of};
 ghost use Rattle.lusdist_plain.specs.AsMark.{as_mark};
 ghost use Rattle.lusdist_plain.specs.Grids.{held};
@@ -26,13 +26,23 @@ fn datum_of(mark: Mark) -> Option<Datum>
     }
 }
 
-fn truth_in(sign: bool, mark: Mark) -> Option<bool>
-    ensures { result ≡ truth_in sign (as_mark mark) }
+fn is_value(value: Datum, datum: Datum) -> bool
+    ensures { result ≡ is_value value datum }
+{
+    match (value, datum) {
+        (Datum::Bool(sign), Datum::Bool(b)) => { if sign { b } else { !b } }
+        (Datum::Int(m), Datum::Int(n)) => m <= n && n <= m,
+        _ => false,
+    }
+}
+
+fn truth_in(value: Datum, mark: Mark) -> Option<bool>
+    ensures { result ≡ truth_in value (as_mark mark) }
 {
     match mark {
         Mark::Broken => None,
-        Mark::Known(Status::Present(Datum::Bool(b))) => Some(if sign { b } else { !b }),
-        Mark::Known(_) => Some(false),
+        Mark::Known(Status::Present(datum)) => Some(is_value(value, datum)),
+        Mark::Known(Status::Absent) => Some(false),
     }
 }
 
@@ -80,7 +90,7 @@ pub fn clock_at(inputs: &Inputs, grid: &Grid, clock: Clock, instant: u32) -> Opt
 {
     match clock {
         Clock::Base => Some(instant < inputs.instants()),
-        Clock::On(c, sign) => truth_in(sign, grid.at(c, instant)),
+        Clock::On(c, value) => truth_in(value, grid.at(c, instant)),
     }
 }
 
@@ -150,36 +160,57 @@ fn arrow_of(was: Option<bool>, x: Option<Datum>, y: Option<Datum>) -> Outcome
     }
 }
 
-fn merge_of(c: Option<Datum>, x: Option<Datum>, y: Option<Datum>) -> Outcome
-    ensures { result ≡ merge_of c x y }
+fn branch_of(datum: Datum) -> Option<usize>
+    ensures { result ≡ branch_of datum }
+{
+    match datum {
+        Datum::Bool(true) => Some(0),
+        Datum::Bool(false) => Some(1),
+        _ => None,
+    }
+}
+
+fn branch_value(branch: Option<usize>, grid: &Grid, branches: &[usize], t: u32) -> Outcome
+    ensures { result ≡ branch_value branch (map (λ r. datum_of (held grid.now r t)) branches.now) }
+{
+    let Some(number) = branch else {
+        return Outcome::Stuck;
+    };
+    match branches.get(number) {
+        Some(place) => gives(now(grid, *place, t)),
+        None => gives(None),
+    }
+}
+
+fn merge_of(c: Option<Datum>, grid: &Grid, branches: &[usize], t: u32) -> Outcome
+    ensures { result ≡ merge_of c (map (λ r. datum_of (held grid.now r t)) branches.now) }
 {
     match c {
-        Some(Datum::Bool(true)) => gives(x),
-        Some(Datum::Bool(false)) => gives(y),
-        _ => Outcome::Stuck,
+        Some(datum) => branch_value(branch_of(datum), grid, branches, t),
+        None => Outcome::Stuck,
     }
 }
 
 /// The value of a form on a clock, where that is true.
-fn value_at(inputs: &Inputs, grid: &Grid, clock: Clock, form: Form, t: u32) -> Outcome
-    ensures { result ≡ value_at inputs.now (held grid.now) clock form t }
+fn value_at(inputs: &Inputs, grid: &Grid, clock: Clock, form: &Form, t: u32) -> Outcome
+    ensures { result ≡ value_at inputs.now (held grid.now) clock form.now t }
 {
     match form {
-        Form::Input(c) => gives(given(inputs, c, t)),
-        Form::Constant(d) => Outcome::Gives(d),
-        Form::Copied(a) => gives(now(grid, a, t)),
-        Form::Unary(op, a) => unary_of(op, now(grid, a, t)),
-        Form::Binary(op, a, b) => binary_of(op, now(grid, a, t), now(grid, b, t)),
-        Form::If(c, a, b) => if_of(now(grid, c, t), now(grid, a, t), now(grid, b, t)),
-        Form::Pre(a) => gives(before(grid, a, t)),
+        Form::Input(c) => gives(given(inputs, *c, t)),
+        Form::Constant(d) => Outcome::Gives(*d),
+        Form::Copied(a) => gives(now(grid, *a, t)),
+        Form::Unary(op, a) => unary_of(*op, now(grid, *a, t)),
+        Form::Binary(op, a, b) => binary_of(*op, now(grid, *a, t), now(grid, *b, t)),
+        Form::If(c, a, b) => if_of(now(grid, *c, t), now(grid, *a, t), now(grid, *b, t)),
+        Form::Pre(a) => gives(before(grid, *a, t)),
         Form::Arrow(a, b) => arrow_of(
             ticked(inputs, grid, clock, t),
-            now(grid, a, t),
-            now(grid, b, t),
+            now(grid, *a, t),
+            now(grid, *b, t),
         ),
-        Form::When(a) => gives(now(grid, a, t)),
-        Form::Current(a) => gives(newer(grid.at(a, t), before(grid, a, t))),
-        Form::Merge(c, a, b) => merge_of(now(grid, c, t), now(grid, a, t), now(grid, b, t)),
+        Form::When(a) => gives(now(grid, *a, t)),
+        Form::Current(a) => gives(newer(grid.at(*a, t), before(grid, *a, t))),
+        Form::Merge(c, branches) => merge_of(now(grid, *c, t), grid, branches.as_slice(), t),
     }
 }
 
@@ -194,12 +225,12 @@ fn mark_of(outcome: Outcome) -> Mark
 }
 
 /// What a flow's equation says that it has at an instant.
-pub fn says(inputs: &Inputs, grid: &Grid, flow: Flow, t: u32) -> Mark
-    ensures { as_mark result ≡ says inputs.now (held grid.now) (Some flow) t }
+pub fn says(inputs: &Inputs, grid: &Grid, flow: &Flow, t: u32) -> Mark
+    ensures { as_mark result ≡ says inputs.now (held grid.now) (Some flow.now) t }
 {
     match clock_at(inputs, grid, flow.clock, t) {
         None => Mark::Broken,
         Some(false) => Mark::Known(Status::Absent),
-        Some(true) => mark_of(value_at(inputs, grid, flow.clock, flow.form, t)),
+        Some(true) => mark_of(value_at(inputs, grid, flow.clock, &flow.form, t)),
     }
 }

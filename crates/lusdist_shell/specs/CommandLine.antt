@@ -54,8 +54,16 @@ run =
     with_rule (with_rule (with_rule (with_rule (with_rule (with_rule (new_app (codes "run")) main_rule) workers_rule)
     (flag_rule (codes "progress"))) (path_rule (codes "PROGRAM"))) (path_rule (codes "PLACE"))) (path_rule (codes "TABLE"))
 
+-- a code, which may be left out
+abbrev pub code_rule : Rule
+code_rule = record (new_rule (codes "CODE")) { action = Some Set }
+
+-- `explain [CODE]`
+abbrev pub explain : App
+explain = with_rule (new_app (codes "explain")) code_rule
+
 -- `lusdist` and one of its commands, or `lusdist --version`
 abbrev pub lusdist : App
 lusdist =
     let top = on_top (λ top. record top { has_version = true; subcommand_required = true }) (new_app (codes "lusdist")) in
-    with_subcommand (with_subcommand (with_subcommand (with_subcommand (with_subcommand top check.top) eval.top) plan.top) replay.top) run.top
+    with_subcommand (with_subcommand (with_subcommand (with_subcommand (with_subcommand (with_subcommand top check.top) eval.top) plan.top) replay.top) run.top) explain.top

@@ -1,5 +1,5 @@
 -- What a command line asks for.
-use Rattle.std.specs.Prelude.{◌≡◌, ◌⊎◌, ◌≤◌, ℕ, Bool, IfSome, List, [], codes, unwrap_or, Option, Some, None, if◌then◌else◌}
+use Rattle.std.specs.Prelude.{◌≡◌, ◌⊎◌, ◌≤◌, ℕ, Bool, IfSome, List, [], codes, unwrap_or, Option, Some, None, if◌then◌else◌, option_map}
 use Rattle.std.specs.Str.{bytes_eq}
 use Rattle.std.specs.Str.Parse.{digits_value, without_leading_plus}
 use Rattle.clap.specs.Values.{IsUnsignedIn}
@@ -7,13 +7,14 @@ use Rattle.clap.specs.Walk.{Row, Text, first_of}
 use Rattle.clap.specs.Simple.{subcommand_of}
 use Rattle.lusdist_shell.specs.declared.request.CheckRequest.{CheckRequest}
 use Rattle.lusdist_shell.specs.declared.request.EvalRequest.{EvalRequest}
+use Rattle.lusdist_shell.specs.declared.request.ExplainRequest.{ExplainRequest}
 use Rattle.lusdist_shell.specs.declared.request.PlanForm.{PlanForm}
 use Rattle.lusdist_shell.specs.declared.request.PlanForm.TheVariants.{Report, Table, Graph}
 use Rattle.lusdist_shell.specs.declared.request.PlanRequest.{PlanRequest}
 use Rattle.lusdist_shell.specs.declared.request.ReplayRequest.{ReplayRequest}
 use Rattle.lusdist_shell.specs.declared.request.RunRequest.{RunRequest}
 use Rattle.lusdist_shell.specs.declared.request.Request.{Request}
-use Rattle.lusdist_shell.specs.declared.request.Request.TheVariants.{Check, Eval, Plan, Replay, Run}
+use Rattle.lusdist_shell.specs.declared.request.Request.TheVariants.{Check, Eval, Plan, Replay, Run, Explain}
 use Rattle.lusdist_shell.specs.CommandLine.{fewest_workers, most_workers, lusdist}
 
 -- the text that the matches of a command hold for an argument
@@ -38,11 +39,11 @@ AreWorkersIn (Some text) workers = IsUnsignedIn fewest_workers most_workers text
 abbrev pub AreFew : Option ℕ → Type 0
 AreFew workers = IfSome workers (λ n. (fewest_workers ≤ n) × (n ≤ most_workers))
 
--- there is a command, and it is `check`, `eval`, `plan`, `replay` or `run`
+-- there is a command, and it is `check`, `eval`, `plan`, `replay`, `run` or `explain`
 pub record IsCommand (command : Option (Text × List Row)) : Type 0 where
   pub found : Text × List Row
   pub is : command ≡ Some found
-  pub named : (found.0 ≡ codes "check") ⊎ ((found.0 ≡ codes "eval") ⊎ ((found.0 ≡ codes "plan") ⊎ ((found.0 ≡ codes "replay") ⊎ (found.0 ≡ codes "run"))))
+  pub named : (found.0 ≡ codes "check") ⊎ ((found.0 ≡ codes "eval") ⊎ ((found.0 ≡ codes "plan") ⊎ ((found.0 ≡ codes "replay") ⊎ ((found.0 ≡ codes "run") ⊎ (found.0 ≡ codes "explain")))))
 
 -- The command is `check`, and the request is what its matches hold, argument by argument.
 pub record IsCheckIn (command : Option (Text × List Row)) (request : CheckRequest) : Type 0 where
@@ -92,6 +93,12 @@ pub record IsRunIn (command : Option (Text × List Row)) (request : RunRequest) 
   pub progress : request.progress ≡ is_given matches (codes "progress")
   pub few : AreFew request.workers
 
+-- The command is `explain`, and the request has the code that its matches hold, where they hold one.
+pub record IsExplainIn (command : Option (Text × List Row)) (request : ExplainRequest) : Type 0 where
+  pub matches : List Row
+  pub named : command ≡ Some (codes "explain", matches)
+  pub code : option_map (λ s. s.now) request.code ≡ first_of (codes "CODE") matches
+
 -- the request is for the command, with what its matches hold
 abbrev pub IsFoundIn : Option (Text × List Row) → Request → Type 0
 IsFoundIn command (Check request) = IsCheckIn command request
@@ -99,6 +106,7 @@ IsFoundIn command (Eval request) = IsEvalIn command request
 IsFoundIn command (Plan request) = IsPlanIn command request
 IsFoundIn command (Replay request) = IsReplayIn command request
 IsFoundIn command (Run request) = IsRunIn command request
+IsFoundIn command (Explain request) = IsExplainIn command request
 
 -- where the request is for a run, its workers are from 1 to 16
 abbrev pub HasFewWorkers : Request → Type 0

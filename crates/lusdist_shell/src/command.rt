@@ -4,7 +4,7 @@ ghost use Rattle.std.specs.Prelude.{◌≡◌, IfOk, false, codes};
 ghost use Rattle.clap.specs.Words.{rule_of, app_of};
 ghost use Rattle.clap.specs.Simple.{new_app};
 ghost use Rattle.clap.specs.declared.builder.command.Command.TheViews.{out-Command};
-ghost use Rattle.lusdist_shell.specs.CommandLine.{path_rule, main_rule, flag_rule, workers_rule, check, eval, plan, replay, run, lusdist};
+ghost use Rattle.lusdist_shell.specs.CommandLine.{path_rule, main_rule, flag_rule, workers_rule, code_rule, check, eval, plan, replay, run, explain, lusdist};
 
 use clap::builder::ValueParser;
 use clap::{Arg, ArgAction, Command};
@@ -177,6 +177,16 @@ fn workers<'a>(alloc: Global) -> Arg<'a>
         .help("How many threads serve the sites, 1 to 16; without it each site has its own")
 }
 
+/// The code of a page, which may be left out.
+fn code<'a>(alloc: Global) -> Arg<'a>
+    ensures rule { rule_of result ≡ code_rule }
+    ensures local { result.global ≡ false }
+{
+    Arg::new(alloc, "CODE")
+        .action(ArgAction::Set)
+        .help("The code, such as E20; without it all codes are listed")
+}
+
 /// A command with no arguments yet.
 fn named<'a>(alloc: Global, name: &'a str, about: &'a str) -> Command<'a>
     ensures app { app_of result ≡ new_app name.entry.now }
@@ -250,6 +260,15 @@ fn run<'a>(alloc: Global) -> Result<Command<'a>, AllocError>
         .arg(table(alloc))
 }
 
+fn explain<'a>(alloc: Global) -> Result<Command<'a>, AllocError>
+    ensures app { IfOk result (λ c. app_of c ≡ explain) }
+    ensures local { IfOk result (λ c. (out-Command c).has_globals ≡ false) }
+{
+    let about =
+        "Explains the code of a refusal or a fault: the rule, a text that breaks it, and the same mended";
+    named(alloc, "explain", about).arg(code(alloc))
+}
+
 /// The whole command line. Help calls the program `lusdist`, whatever its file is called.
 pub fn lusdist<'a>(alloc: Global) -> Result<Command<'a>, AllocError>
     ensures { IfOk result (λ c. app_of c ≡ lusdist) }
@@ -259,6 +278,7 @@ pub fn lusdist<'a>(alloc: Global) -> Result<Command<'a>, AllocError>
     let plan = plan(alloc)?;
     let replay = replay(alloc)?;
     let run = run(alloc)?;
+    let explain = explain(alloc)?;
     named(
         alloc,
         "lusdist",
@@ -271,5 +291,6 @@ pub fn lusdist<'a>(alloc: Global) -> Result<Command<'a>, AllocError>
     .subcommand(eval)?
     .subcommand(plan)?
     .subcommand(replay)?
-    .subcommand(run)
+    .subcommand(run)?
+    .subcommand(explain)
 }

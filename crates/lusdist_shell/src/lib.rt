@@ -22,7 +22,8 @@ pub use files::{Files, ReadError, RealFiles};
 pub use progress::{Meter, Progress, Silent};
 pub use put::{put_mistake, put_notes, put_out, put_unread};
 pub use request::{
-    CheckRequest, EvalRequest, PlanForm, PlanRequest, ReplayRequest, Request, RunRequest, parse,
+    CheckRequest, EvalRequest, ExplainRequest, PlanForm, PlanRequest, ReplayRequest, Request,
+    RunRequest, parse,
 };
 pub use schedule::{ScheduleError, read_schedule};
 pub use sink::Sink;

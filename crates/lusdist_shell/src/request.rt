@@ -4,7 +4,7 @@ ghost use Rattle.std.specs.Prelude.{◌≡◌, IfOk, IfErr, map, option_map, tru
 ghost use Rattle.clap.specs.Words.{kind_of, takes, found_of, first_of, rows_of, subcommand_of, subcommand_rows_of, FailsBy, fault_of};
 ghost use Rattle.clap.specs.declared.error.kind.ErrorKind.TheVariants.{OutOfMemory};
 ghost use Rattle.lusdist_shell.specs.CommandLine.{lusdist};
-ghost use Rattle.lusdist_shell.specs.Request.{text_in, is_given, form_in, IsCommand, IsCheckIn, IsEvalIn, IsPlanIn, IsReplayIn, IsRunIn, AreWorkersIn, AreFew, HasFewWorkers, IsFoundIn, IsAskedBy};
+ghost use Rattle.lusdist_shell.specs.Request.{text_in, is_given, form_in, IsCommand, IsCheckIn, IsEvalIn, IsPlanIn, IsReplayIn, IsRunIn, IsExplainIn, AreWorkersIn, AreFew, HasFewWorkers, IsFoundIn, IsAskedBy};
 
 use crate::command::lusdist;
 use clap::{ArgMatches, Error};
@@ -90,6 +90,13 @@ pub struct RunRequest<'a> {
     pub progress: bool,
 }
 
+/// What is to be explained.
+#[derive(Clone, Copy)]
+pub struct ExplainRequest<'a> {
+    /// The code of a page, as it was written; where there is none, all codes are listed.
+    pub code: Option<&'a str>,
+}
+
 /// What the command line asks for.
 #[derive(Clone, Copy)]
 pub enum Request<'a> {
@@ -103,6 +110,8 @@ pub enum Request<'a> {
     Replay(ReplayRequest<'a>),
     /// A run of these files on threads.
     Run(RunRequest<'a>),
+    /// A page of the manual.
+    Explain(ExplainRequest<'a>),
 }
 
 /// The text of an argument, which is empty where it has none.
@@ -221,6 +230,15 @@ fn run_in<'a>(matches: &ArgMatches<'a>) -> RunRequest<'a>
     }
 }
 
+/// What the matches of `explain` ask for.
+fn explain_in<'a>(matches: &ArgMatches<'a>) -> ExplainRequest<'a>
+    ensures { IsExplainIn (Some (codes "explain", rows_of (found_of matches.now))) result }
+{
+    ExplainRequest {
+        code: matches.get_str("CODE"),
+    }
+}
+
 /// What the matches of the one command ask for.
 fn request_in<'a>(matches: &ArgMatches<'a>) -> Request<'a>
     requires { IsCommand (subcommand_rows_of matches.now) }
@@ -232,7 +250,8 @@ fn request_in<'a>(matches: &ArgMatches<'a>) -> Request<'a>
         Some((name, found)) if name == "eval" => Request::Eval(eval_in(found)),
         Some((name, found)) if name == "plan" => Request::Plan(plan_in(found)),
         Some((name, found)) if name == "replay" => Request::Replay(replay_in(found)),
-        Some((_, found)) => Request::Run(run_in(found)),
+        Some((name, found)) if name == "run" => Request::Run(run_in(found)),
+        Some((_, found)) => Request::Explain(explain_in(found)),
         None => unreachable!(),
     }
 }

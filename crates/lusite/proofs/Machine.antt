@@ -6,7 +6,6 @@ use Rattle.std.proofs.lemmas.List.Elements.{All-get_or}
 use Rattle.std.proofs.lemmas.Option.{slice_get_within}
 use Rattle.std.proofs.lemmas.Bool.{cases_lt, false≢true, lt-ltb, ltb-true}
 use Rattle.luflow.specs.declared.data.Datum.{Datum}
-use Rattle.luflow.specs.declared.data.Datum.TheVariants.{Int, Bool as Truth, Nil}
 use Rattle.luflow.specs.declared.data.Status.{Status}
 use Rattle.luflow.specs.declared.data.Status.TheVariants.{Absent, Present}
 use Rattle.luflow.specs.declared.form.Clock.{Clock}
@@ -14,7 +13,7 @@ use Rattle.luflow.specs.declared.form.Clock.TheVariants.{Base, On}
 use Rattle.luflow.specs.declared.form.Flow.{Flow}
 use Rattle.luworld.specs.Runs.{Run, streams_of, knows, link_into, listed, cell, endless, script, outline, is_open, IsFree, HasNoStop, items_before, IsJob, Fits, sends}
 use Rattle.lueval.specs.declared.kernel.Past.{Past}
-use Rattle.luflow.specs.Streams.{Mark, Known, Streams, clock_at, either, ticked, newer, before, truth_in}
+use Rattle.luflow.specs.Streams.{Mark, Known, Streams, clock_at, either, ticked, newer, before, is_value, truth_in}
 use Rattle.luflow.specs.declared.form.Outcome.{Outcome}
 use Rattle.luflow.specs.declared.form.Outcome.TheVariants.{Gives, Faults, Stuck}
 use Rattle.lusite.specs.Programs.{part_of}
@@ -105,19 +104,17 @@ closed_clock true (Some true) false n false e k h = absurd (false≢true k)
 open_is : (b : Bool) → is_open (Some b) ≡ false → b ≡ false
 open_is b h = h
 
-truth_there : (sign : Bool) (status : Status) → (b : Bool) × (truth_in sign (Known status) ≡ Some b)
-truth_there sign Absent = (false, refl)
-truth_there sign (Present Nil) = (false, refl)
-truth_there sign (Present (Int n)) = (false, refl)
-truth_there sign (Present (Truth b)) = (cond sign b (not b), refl)
+truth_there : (d : Datum) (status : Status) → (b : Bool) × (truth_in d (Known status) ≡ Some b)
+truth_there d Absent = (false, refl)
+truth_there d (Present x) = (is_value d x, refl)
 
-truth_is : (sign : Bool) (m : Mark) (status : Status) → m ≡ Known status → (b : Bool) × (truth_in sign m ≡ Some b)
-truth_is sign m status e = let w = truth_there sign status in (w.0, ap (truth_in sign) e ∙ w.1)
+truth_is : (d : Datum) (m : Mark) (status : Status) → m ≡ Known status → (b : Bool) × (truth_in d m ≡ Some b)
+truth_is d m status e = let w = truth_there d status in (w.0, ap (truth_in d) e ∙ w.1)
 
 clock_is : (inputs : Table) (σ : Streams) (now : List Status) (clock : Clock) (t : ℕ) → All (IsShown σ now t) (clock_reads clock) → (b : Bool) × (clock_at inputs σ clock t ≡ Some b)
 clock_is inputs σ now Base t h = (nat_lt t inputs.instants, refl)
-clock_is inputs σ now (On c sign) t h =
-    let w = All-get_or (IsShown σ now t) (c ∷ []) 0 c (omega arith) h in truth_is sign (σ c t) w.status w.is
+clock_is inputs σ now (On c d) t h =
+    let w = All-get_or (IsShown σ now t) (c ∷ []) 0 c (omega arith) h in truth_is d (σ c t) w.status w.is
 
 -- what is kept after an instant, from the status and what was kept before
 last_later : (m : Mark) (status : Status) (o : Option Datum) (past : Past) → m ≡ Known status → o ≡ Some past.last → newer m o ≡ Some (later status past).last

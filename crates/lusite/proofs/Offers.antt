@@ -114,7 +114,7 @@ reads_places P (Pre a) h = λ k d l. absurd (omega arith)
 reads_places P (Arrow a b) h = h
 reads_places P (When a) h = h
 reads_places P (Current a) h = h
-reads_places P (Merge c a b) h = h
+reads_places P (Merge c xs) h = h
 
 -- a stream that has a last datum before t is broken nowhere before it
 before_known : (s : ℕ → Mark) (t : ℕ) (d : Datum) → before s t ≡ Some d → (u : ℕ) → u < t → s u ≢ Broken

@@ -1,7 +1,6 @@
 -- What of a plan a site runs.
 use Rattle.std.specs.Prelude.{◌≡◌, ℕ, Bool, false, ◌&&◌, ◌||◌, nat_eq, List, [], length, map, filter, Option, None, Some, is_some, slice_get, slice_index, unwrap_or}
 use Rattle.std.specs.List.{range_with_len}
-use Rattle.luflow.specs.declared.form.Flow.{Flow}
 use Rattle.luflow.specs.Program.{flows_of}
 use Rattle.luworld.specs.Needs.{Distribution, IsPlan, sites_of, stands, home}
 use Rattle.luworld.specs.Runs.{link_into, sends, outputs_of, knows}
@@ -70,9 +69,9 @@ is_home plan s (Some i) = nat_eq (home plan i) s
 abbrev pub reports_output : Distribution → ℕ → ℕ → Bool
 reports_output plan s k = is_home plan s (slice_get (outputs_of plan) k)
 
-pub record IsProgram (plan : Distribution) (site : ℕ) (flows : List Flow) (order owners : List ℕ) (parts : List Part) (ranks places : List ℕ) (posts : List Post) (outputs : List ℕ) (sites : ℕ) (names : List (List ℕ)) : Type 0 where
+pub record IsProgram (plan : Distribution) (site flows : ℕ) (order owners : List ℕ) (parts : List Part) (ranks places : List ℕ) (posts : List Post) (outputs : List ℕ) (sites : ℕ) (names : List (List ℕ)) : Type 0 where
   pub plan_is : IsPlan plan
-  pub flows_are : flows ≡ plan.flat.flows
+  pub flows_are : flows ≡ flows_of plan.flat
   pub order_is : order ≡ plan.flat.order
   pub owners_are : owners ≡ plan.flat.owners
   pub parts_are : parts ≡ parts_of plan site

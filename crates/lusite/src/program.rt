@@ -1,13 +1,13 @@
 //! What of a plan a site runs.
 
 ghost use Rattle.std.specs.Prelude.{◌≡◌, ◌<◌, [], slice_get, slice_index, unwrap_or, IfOk, Option};
+ghost use Rattle.luflow.specs.Program.{flows_of};
 ghost use Rattle.luworld.specs.Needs.{IsPlan, sites_of};
 ghost use Rattle.luworld.specs.Runs.{outputs_of};
 ghost use Rattle.lusite.specs.Programs.{part_at, no_part, output_names, ranks_of, places_of, rank_at, ArePosts};
 
 use crate::next::LinkNo;
 use lueval::Line;
-use luflow::Flow;
 use lulist::{Name, Row};
 use luplace::Plan;
 use std::marker::Model;
@@ -45,7 +45,8 @@ pub struct Post {
 #[derive(Drop)]
 pub struct SiteProgram {
     pub(crate) site: u8,
-    pub(crate) flows: Row<Flow>,
+    /// How many flows the program has.
+    pub(crate) flows: usize,
     pub(crate) order: Row<usize>,
     pub(crate) owners: Row<usize>,
     pub(crate) parts: Row<Part>,
@@ -117,11 +118,11 @@ impl SiteProgram {
         self.site
     }
 
-    /// The flows, by place.
-    pub fn flows(&self) -> &[Flow]
-        ensures { result.now ≡ self.now.plan.flat.flows }
+    /// How many flows the program has.
+    pub fn flows(&self) -> usize
+        ensures { result ≡ flows_of self.now.plan.flat }
     {
-        self.flows.as_slice()
+        self.flows
     }
 
     /// The places of all flows in order of rank.

@@ -223,7 +223,7 @@ pub fn project(alloc: Global, plan: &Plan, site: u8) -> Result<SiteProgram, Allo
     requires { site < sites_of plan.now }
     ensures { IfOk result (λ x. x ≡ record { plan = plan.now; site = site }) }
 {
-    let flows = Vec::from_slice(alloc, plan.flat().flows())?;
+    let flows = plan.flat().flows().len();
     let order = Vec::from_slice(alloc, plan.flat().rank())?;
     let owners = Vec::from_slice(alloc, plan.flat().owners())?;
     let parts = parts(alloc, plan, site)?;
@@ -234,7 +234,7 @@ pub fn project(alloc: Global, plan: &Plan, site: u8) -> Result<SiteProgram, Allo
     let names = names_of(alloc, plan.flat(), outputs.as_slice())?;
     Ok(SiteProgram {
         site,
-        flows: Row::new(flows),
+        flows,
         order: Row::new(order),
         owners: Row::new(owners),
         parts: Row::new(parts),

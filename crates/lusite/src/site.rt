@@ -73,7 +73,7 @@ impl Site {
         ensures site { IfOk result (λ x. x.site ≡ inputs.site) }
         ensures done { IfOk result (λ x. x.done ≡ 0) }
     {
-        let flows = program.flows().len();
+        let flows = program.flows();
         let shown = Vec::from_elem(alloc, Cell::Absent, flows)?;
         let lasts = Vec::from_elem(alloc, Cell::Absent, flows)?;
         let counts = Vec::from_elem(alloc, 0, flows)?;

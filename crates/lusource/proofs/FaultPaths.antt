@@ -2,6 +2,7 @@
 use Rattle.std.proofs.Common.{◌≡◌, ℕ, zero, suc, ◌+◌, ◌<◌, ◌≤◌, ◌⊎◌, inl, inr, List, [], ◌∷◌, ◌++◌, length, Option, Some, None, refl, sym, ap, ◌∙◌, subst, arith, length-append}
 use Rattle.std.specs.Prelude.{slice_get, option_map, option_and_then, true, false}
 use Rattle.std.proofs.lemmas.Option.{slice_get_within, slice_get-map}
+use Rattle.lutree.specs.declared.expr.Pattern.TheVariants as patterns
 use Rattle.lutree.specs.declared.expr.Condition.{Condition}
 use Rattle.lutree.specs.declared.expr.Prefix.TheVariants.{Data as Data1, Pre}
 use Rattle.lutree.specs.declared.expr.Infix.TheVariants.{Data as Data2, Arrow, FollowedBy}
@@ -74,7 +75,7 @@ module _ (program : ProgramTree) (node : NodeTree) (base : Ticks) (var : Named) 
     long (tree.when a c) k i = long a (clock_of node c.variable) i
     long (tree.current x) k i = refl
     long (tree.merge c a b) k i =
-        joined (S a (condition c true) i) (S b (condition c false) (i + calls a)) (calls a) (calls b) (long a (condition c true) i) (long b (condition c false) (i + calls a))
+        joined (S a (condition c (patterns.Truth true)) i) (S b (condition c (patterns.Truth false)) (i + calls a)) (calls a) (calls b) (long a (condition c (patterns.Truth true)) i) (long b (condition c (patterns.Truth false)) (i + calls a))
     long (tree.call f all) k i = joined (SI all k i) _ (calls_in all) 1 (long_in all k i) refl
 
     long_in : (all : Trees) (k : Option Condition) (i : ℕ) → length (SI all k i) ≡ calls_in all
@@ -114,9 +115,9 @@ module _ (program : ProgramTree) (node : NodeTree) (base : Ticks) (var : Named) 
     split (tree.when a c) k i h = split a (clock_of node c.variable) i h
     split (tree.current x) k i h = absurd h
     split (tree.merge c a b) k i (inl h) =
-        both inl (call_left (S a (condition c true) i) (S b (condition c false) (i + calls a)) i) (split a (condition c true) i h)
+        both inl (call_left (S a (condition c (patterns.Truth true)) i) (S b (condition c (patterns.Truth false)) (i + calls a)) i) (split a (condition c (patterns.Truth true)) i h)
     split (tree.merge c a b) k i (inr h) =
-        both inr (call_right (S a (condition c true) i) (S b (condition c false) (i + calls a)) i (calls a) (long a (condition c true) i)) (split b (condition c false) (i + calls a) h)
+        both inr (call_right (S a (condition c (patterns.Truth true)) i) (S b (condition c (patterns.Truth false)) (i + calls a)) i (calls a) (long a (condition c (patterns.Truth true)) i)) (split b (condition c (patterns.Truth false)) (i + calls a) h)
     split (tree.call f all) k i (inl h) = both inl (call_left (SI all k i) _ i) (split_any all k i h)
     split (tree.call f all) k i (inr h) =
         let site : Site = record { node = f; base = ticks base var k; arguments = values program node base var inner all k i } in

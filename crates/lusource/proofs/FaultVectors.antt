@@ -67,7 +67,7 @@ by_nil (inl h) = no_fault _ DivZero (sound _ _ _ _ _ _ (Int (pos 1)) Nil refl re
 by_nil (inr (inl h)) = absurd h
 by_nil (inr (inr h)) = absurd h
 
-not_before : IsSourceFault (divide ∷ []) (codes "divide") one_zero falling (codes "y") 0 DivZero → ⊥
+not_before : IsSourceFault (tree.program_of (divide ∷ [])) (codes "divide") one_zero falling (codes "y") 0 DivZero → ⊥
 not_before (zero, h) = absurd h
 not_before (suc depth, inl (same, inl h)) =
     no_fault _ DivZero (sound _ _ _ _ _ _ (Int (pos 1)) (Int (pos 1)) refl refl h)

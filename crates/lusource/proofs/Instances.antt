@@ -3,6 +3,7 @@ use Rattle.std.proofs.Common.{◌≡◌, ℕ, ◌+◌, List, [], ◌∷◌, ◌+
 use Rattle.std.specs.Prelude.{slice_get, option_map, option_and_then, flat_map, true, false}
 use Rattle.std.proofs.lemmas.List.{map-append}
 use Rattle.std.proofs.lemmas.Option.{slice_get-map}
+use Rattle.lutree.specs.declared.expr.Pattern.TheVariants as patterns
 use Rattle.lutree.specs.declared.expr.Condition.{Condition}
 use Rattle.lutree.specs.Tree.{Tree, Trees, EquationTree, NodeTree, ProgramTree}
 use Rattle.lutree.specs.Tree as tree
@@ -42,7 +43,7 @@ module _ (program : ProgramTree) (node : NodeTree) (base : Ticks) (var : Named) 
     called (tree.when a c) k i = called a (clock_of node c.variable) i
     called (tree.current x) k i = refl
     called (tree.merge c a b) k i =
-        joined (S a (condition c true) i) (S b (condition c false) (i + calls a)) (calls_in a) (calls_in b) (called a (condition c true) i) (called b (condition c false) (i + calls a))
+        joined (S a (condition c (patterns.Truth true)) i) (S b (condition c (patterns.Truth false)) (i + calls a)) (calls_in a) (calls_in b) (called a (condition c (patterns.Truth true)) i) (called b (condition c (patterns.Truth false)) (i + calls a))
     called (tree.call f all) k i =
         joined (sites_in program node base var inner all k i) _ (calls_in_all all) _ (called_all all k i) refl
 

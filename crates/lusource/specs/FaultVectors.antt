@@ -4,7 +4,7 @@ use Rattle.lutree.specs.declared.expr.BinaryOperator.TheVariants.{Subtract, Divi
 use Rattle.lutree.specs.declared.expr.Prefix.TheVariants.{Pre}
 use Rattle.lutree.specs.declared.expr.Infix.TheVariants.{Data as Data2}
 use Rattle.lutree.specs.declared.expr.Condition.{Condition}
-use Rattle.lutree.specs.Tree.{Tree, NodeTree, ProgramTree}
+use Rattle.lutree.specs.Tree.{Tree, NodeTree, ProgramTree, program_of}
 use Rattle.lutree.specs.Tree as tree
 use Rattle.luflow.specs.declared.form.FaultKind.{FaultKind}
 use Rattle.luflow.specs.declared.form.FaultKind.TheVariants.{Overflow, DivZero}
@@ -50,7 +50,7 @@ divide = lone (codes "divide") (codes "y") (tree.binary (Data2 Divide) (tree.num
 
 -- node main(x: int) returns (z: int); let z = divide(x); tel
 abbrev pub calls_divide : ProgramTree
-calls_divide = lone (codes "main") (codes "z") (call_of (codes "divide") x) ∷ divide ∷ []
+calls_divide = program_of (lone (codes "main") (codes "z") (call_of (codes "divide") x) ∷ divide ∷ [])
 
 -- all variables of all instances are 1, and then 0
 abbrev pub falling : SourceStreams
@@ -58,8 +58,8 @@ falling path name = told (present 1 ∷ present 0 ∷ [])
 
 pub record ProgramFaultsAre : Type 0 where
   -- y is at fault at the second instant, and not at the first
-  pub own : IsSourceFault (divide ∷ []) (codes "divide") one_zero falling (codes "y") 1 DivZero
-  pub not_before : ¬ IsSourceFault (divide ∷ []) (codes "divide") one_zero falling (codes "y") 0 DivZero
+  pub own : IsSourceFault (program_of (divide ∷ [])) (codes "divide") one_zero falling (codes "y") 1 DivZero
+  pub not_before : ¬ IsSourceFault (program_of (divide ∷ [])) (codes "divide") one_zero falling (codes "y") 0 DivZero
   -- it is told of the main variable in whose equation the call stands
   pub called : IsSourceFault calls_divide (codes "main") one_zero falling (codes "z") 1 DivZero
   pub of_main : ¬ IsSourceFault calls_divide (codes "main") one_zero falling (codes "y") 1 DivZero

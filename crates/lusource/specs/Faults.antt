@@ -4,6 +4,7 @@ use Rattle.lutree.specs.declared.expr.UnaryOperator.{UnaryOperator}
 use Rattle.lutree.specs.declared.expr.BinaryOperator.{BinaryOperator}
 use Rattle.lutree.specs.declared.expr.Prefix.TheVariants.{Data as Data1, Pre}
 use Rattle.lutree.specs.declared.expr.Infix.TheVariants.{Data as Data2, Arrow, FollowedBy}
+use Rattle.lutree.specs.declared.expr.Pattern.TheVariants as patterns
 use Rattle.lutree.specs.declared.expr.Condition.{Condition}
 use Rattle.lutree.specs.Tree.{Tree, Trees, EquationTree, NodeTree, ProgramTree}
 use Rattle.lutree.specs.Tree as tree
@@ -59,7 +60,7 @@ module _ (program : ProgramTree) (node : NodeTree) (base : Ticks) (var : Named) 
     Fails (tree.choice c a b) k i = Fails c k i ⊎ (Fails a k (i + calls c) ⊎ Fails b k (i + calls c + calls a))
     Fails (tree.when a c) k i = Fails a (clock_of node c.variable) i
     Fails (tree.current x) k i = ⊥
-    Fails (tree.merge c a b) k i = Fails a (condition c true) i ⊎ Fails b (condition c false) (i + calls a)
+    Fails (tree.merge c a b) k i = Fails a (condition c (patterns.Truth true)) i ⊎ Fails b (condition c (patterns.Truth false)) (i + calls a)
     Fails (tree.call f all) k i = AnyFails all k i ⊎ CallFails f (ticks base var k) (i + calls_in all)
 
     -- the same of one of a call's arguments

@@ -3,9 +3,12 @@
 use Rattle.std.specs.Prelude.{◌≡◌, ℕ, suc, ◌+◌, Bool, true, false, List, [], ◌∷◌, ◌++◌, map, Option, Some, None, pos, slice_get}
 use Rattle.lutree.specs.declared.expr.Prefix.TheVariants.{Data as Data1, Pre}
 use Rattle.lutree.specs.declared.expr.Infix.TheVariants.{Data as Data2, Arrow, FollowedBy}
+use Rattle.lutree.specs.declared.expr.Pattern.{Pattern}
+use Rattle.lutree.specs.declared.expr.Pattern.TheVariants as patterns
 use Rattle.lutree.specs.declared.expr.Condition.{Condition}
 use Rattle.lutree.specs.Tree.{Tree, Trees, DeclarationTree, EquationTree, NodeTree, ProgramTree}
 use Rattle.lutree.specs.Tree as tree
+use Rattle.luflow.specs.declared.data.Datum.{Datum}
 use Rattle.luflow.specs.declared.data.Datum.TheVariants.{Int, Bool as Truth}
 use Rattle.luflow.specs.Program.{Table}
 use Rattle.luflow.specs.Streams.{Stream, Ticks, truth_in, base_clock}
@@ -44,14 +47,18 @@ pub record Site : Type 0 where
 abbrev pub Named : Type 0
 Named = List ℕ → Stream
 
--- the clock of a name with a sign, as it is written in an expression
-abbrev pub condition : List ℕ → Bool → Option Condition
-condition c sign = Some (record { variable = c; sign = sign })
+-- the clock of a name with a pattern, as it is written in an expression
+abbrev pub condition : List ℕ → Pattern → Option Condition
+condition c pattern = Some (record { variable = c; pattern = pattern })
+
+-- the value of a clock's variable at which the clock is true
+abbrev pub pattern_value : Pattern → Datum
+pattern_value (patterns.Truth b) = Truth b
 
 -- the stream of a clock, from the base clock and the variables' streams; none is the base clock
 abbrev pub ticks : Ticks → Named → Option Condition → Ticks
 ticks base var None = base
-ticks base var (Some c) = λ t. truth_in c.sign (var c.variable t)
+ticks base var (Some c) = λ t. truth_in (pattern_value c.pattern) (var c.variable t)
 
 -- In an instance of a node: its base clock, the streams of its variables, and those of the instance of each of its calls.
 module _ (program : ProgramTree) (node : NodeTree) (base : Ticks) (var : Named) (inner : ℕ → Named) where
@@ -73,7 +80,7 @@ module _ (program : ProgramTree) (node : NodeTree) (base : Ticks) (var : Named) 
     value (tree.when a c) k i = when_stream (ticks base var (Some c)) (value a (clock_of node c.variable) i)
     value (tree.current x) k i = current_stream (ticks base var k) (var x)
     value (tree.merge c a b) k i =
-        merge_stream (ticks base var k) (var c) (value a (condition c true) i) (value b (condition c false) (i + calls a))
+        merge_stream (ticks base var k) (var c) (value a (condition c (patterns.Truth true)) i ∷ value b (condition c (patterns.Truth false)) (i + calls a) ∷ [])
     value (tree.call f all) k i = inner (i + calls_in all) (output_name program f 0)
 
     -- the streams of a call's arguments
@@ -97,7 +104,7 @@ module _ (program : ProgramTree) (node : NodeTree) (base : Ticks) (var : Named) 
     sites (tree.choice c a b) k i = sites c k i ++ (sites a k (i + calls c) ++ sites b k (i + calls c + calls a))
     sites (tree.when a c) k i = sites a (clock_of node c.variable) i
     sites (tree.current x) k i = []
-    sites (tree.merge c a b) k i = sites a (condition c true) i ++ sites b (condition c false) (i + calls a)
+    sites (tree.merge c a b) k i = sites a (condition c (patterns.Truth true)) i ++ sites b (condition c (patterns.Truth false)) (i + calls a)
     sites (tree.call f all) k i =
         sites_in all k i ++ record { node = f; base = ticks base var k; arguments = values all k i } ∷ []
 

@@ -1,6 +1,6 @@
 -- The operators of Lustre on whole streams. Each result is absent where the clock is false, and broken where the clock or
 -- a stream that it looks at is.
-use Rattle.std.specs.Prelude.{suc}
+use Rattle.std.specs.Prelude.{suc, List, map}
 use Rattle.lutree.specs.declared.expr.UnaryOperator.{UnaryOperator}
 use Rattle.lutree.specs.declared.expr.BinaryOperator.{BinaryOperator}
 use Rattle.luflow.specs.declared.data.Datum.{Datum}
@@ -41,6 +41,6 @@ when_stream k a t = under (k t) (gives (datum_of (a t)))
 abbrev pub current_stream : Ticks → Stream → Stream
 current_stream k a t = under (k t) (gives (before a (suc t)))
 
--- `merge c (true -> a) (false -> b)`
-abbrev pub merge_stream : Ticks → Stream → Stream → Stream → Stream
-merge_stream k c a b t = under (k t) (merge_of (datum_of (c t)) (datum_of (a t)) (datum_of (b t)))
+-- `merge`: at each instant the branch of the value that c has
+abbrev pub merge_stream : Ticks → Stream → List Stream → Stream
+merge_stream k c branches t = under (k t) (merge_of (datum_of (c t)) (map (λ s. datum_of (s t)) branches))

@@ -6,8 +6,9 @@ use Rattle.lutree.specs.declared.expr.UnaryOperator.TheVariants.{Minus}
 use Rattle.lutree.specs.declared.expr.BinaryOperator.TheVariants.{Subtract}
 use Rattle.lutree.specs.declared.expr.Prefix.TheVariants.{Data as Data1, Pre}
 use Rattle.lutree.specs.declared.expr.Infix.TheVariants.{Data as Data2, Arrow, FollowedBy}
+use Rattle.lutree.specs.declared.expr.Pattern.TheVariants as patterns
 use Rattle.lutree.specs.declared.expr.Condition.{Condition}
-use Rattle.lutree.specs.Tree.{Tree, NodeTree}
+use Rattle.lutree.specs.Tree.{Tree, NodeTree, program_of}
 use Rattle.lutree.specs.Tree as tree
 use Rattle.luflow.specs.declared.data.Datum.TheVariants.{Int}
 use Rattle.luflow.specs.declared.data.Status.TheVariants.{Present}
@@ -40,23 +41,23 @@ nameless = record { name = codes "main"; inputs = []; outputs = []; locals = [];
 -- the marks of an expression on a clock, at four instants
 abbrev pub gives : Option Condition → Tree → List Mark
 gives k e =
-    marks (value (nameless ∷ []) nameless (base_clock four_instants) named (λ i. named) e k 0) 4
+    marks (value (program_of (nameless ∷ [])) nameless (base_clock four_instants) named (λ i. named) e k 0) 4
 
 -- on the base clock, where c is true, where it is false, and where `lost` and `idle` are true
 abbrev pub on_base : Tree → List Mark
 on_base = gives None
 
 abbrev pub on_clock : Tree → List Mark
-on_clock = gives (condition (codes "c") true)
+on_clock = gives (condition (codes "c") (patterns.Truth true))
 
 abbrev pub off_clock : Tree → List Mark
-off_clock = gives (condition (codes "c") false)
+off_clock = gives (condition (codes "c") (patterns.Truth false))
 
 abbrev pub on_lost : Tree → List Mark
-on_lost = gives (condition (codes "lost") true)
+on_lost = gives (condition (codes "lost") (patterns.Truth true))
 
 abbrev pub on_idle : Tree → List Mark
-on_idle = gives (condition (codes "idle") true)
+on_idle = gives (condition (codes "idle") (patterns.Truth true))
 
 abbrev pub whole : Tree
 whole = tree.variable (codes "whole")
@@ -101,10 +102,10 @@ abbrev pub merge_c : Tree → Tree → Tree
 merge_c = tree.merge (codes "c")
 
 abbrev pub when_in : List ℕ → Tree → Tree
-when_in x e = tree.when e (record { variable = x; sign = true })
+when_in x e = tree.when e (record { variable = x; pattern = patterns.Truth true })
 
 abbrev pub unless_c : Tree → Tree
-unless_c e = tree.when e (record { variable = codes "c"; sign = false })
+unless_c e = tree.when e (record { variable = codes "c"; pattern = patterns.Truth false })
 
 pub record PastIs : Type 0 where
   -- `pre` looks at its clock's instants, not at this one, and never recovers from a break before

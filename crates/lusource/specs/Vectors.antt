@@ -5,9 +5,10 @@ use Rattle.lutree.specs.declared.expr.UnaryOperator.TheVariants.{Minus, Not}
 use Rattle.lutree.specs.declared.expr.BinaryOperator.TheVariants.{Add, Subtract, Less}
 use Rattle.lutree.specs.declared.expr.Prefix.TheVariants.{Data as Data1, Pre}
 use Rattle.lutree.specs.declared.expr.Infix.TheVariants.{Data as Data2, Arrow, FollowedBy}
+use Rattle.lutree.specs.declared.expr.Pattern.TheVariants as patterns
 use Rattle.lutree.specs.declared.expr.Condition.{Condition}
 use Rattle.lutree.specs.declared.program.Kind.TheVariants.{Int as Ints, Bool as Truths}
-use Rattle.lutree.specs.Tree.{Tree, DeclarationTree, EquationTree, NodeTree, ProgramTree}
+use Rattle.lutree.specs.Tree.{Tree, DeclarationTree, EquationTree, NodeTree, ProgramTree, program_of}
 use Rattle.lutree.specs.Tree as tree
 use Rattle.luflow.specs.declared.data.Datum.TheVariants.{Int, Bool as Truth, Nil}
 use Rattle.luflow.specs.declared.data.Status.{Status}
@@ -55,7 +56,7 @@ counting t = known t
 
 -- the right side of a line's equation, where all variables count
 abbrev pub right_of : Line → Stream
-right_of line = value (two_counters ∷ []) two_counters (base_clock three) (λ x. counting) (λ i x. counting) (equation_of line).right None 0
+right_of line = value (program_of (two_counters ∷ [])) two_counters (base_clock three) (λ x. counting) (λ i x. counting) (equation_of line).right None 0
 
 -- the right sides of both equations of the two counters are 0 1 2, and absent from then on
 pub record CountersAre : Type 0 where
@@ -68,7 +69,7 @@ abbrev pub int_on : Option Condition → List ℕ → DeclarationTree
 int_on clock name = record { name = name; kind = Ints; clock = clock }
 
 abbrev pub where_c : Bool → Option Condition
-where_c = condition (codes "c")
+where_c sign = condition (codes "c") (patterns.Truth sign)
 
 abbrev pub sampler : NodeTree
 sampler =
@@ -90,7 +91,7 @@ abbrev pub single : NodeTree
 single = record { name = codes "single"; inputs = []; outputs = int_on None (codes "p") ∷ []; locals = []; equations = [] }
 
 abbrev pub three_nodes : ProgramTree
-three_nodes = sampler ∷ pair ∷ single ∷ []
+three_nodes = program_of (sampler ∷ pair ∷ single ∷ [])
 
 abbrev pub told : List Status → Stream
 told xs t = Known (unwrap_or (slice_get xs t) Absent)
@@ -143,8 +144,8 @@ pub record ExpressionsAre : Type 0 where
   -- if c then x else 9
   pub choice : gives (tree.choice c x (tree.number 9)) None ≡ map known (1 ∷ 9 ∷ 3 ∷ 4 ∷ [])
   -- x when c, (x - 1) when not c
-  pub sample : gives (tree.when x (record { variable = codes "c"; sign = true })) (where_c true) ≡ sampled (known 1) (known 3) (known 4)
-  pub sample_elsewhere : gives (tree.when (tree.binary (Data2 Subtract) x (tree.number 1)) (record { variable = codes "c"; sign = false })) (where_c false) ≡ Known Absent ∷ known 1 ∷ Known Absent ∷ Known Absent ∷ []
+  pub sample : gives (tree.when x (record { variable = codes "c"; pattern = patterns.Truth true })) (where_c true) ≡ sampled (known 1) (known 3) (known 4)
+  pub sample_elsewhere : gives (tree.when (tree.binary (Data2 Subtract) x (tree.number 1)) (record { variable = codes "c"; pattern = patterns.Truth false })) (where_c false) ≡ Known Absent ∷ known 1 ∷ Known Absent ∷ Known Absent ∷ []
   -- current s and current u hold the last value, and nil before the first
   pub held : gives (tree.current (codes "s")) None ≡ map known (1 ∷ 1 ∷ 3 ∷ 4 ∷ [])
   pub held_later : gives (tree.current (codes "u")) None ≡ Known (Present Nil) ∷ known 2 ∷ known 2 ∷ known 2 ∷ []
@@ -196,7 +197,7 @@ abbrev pub twice : NodeTree
 twice = caller (codes "twice") (codes "z") (tree.binary (Data2 Add) (call_of (codes "outer") x) (call_of (codes "outer") x))
 
 abbrev pub four_nodes : ProgramTree
-four_nodes = twice ∷ outer ∷ pair ∷ single ∷ []
+four_nodes = program_of (twice ∷ outer ∷ pair ∷ single ∷ [])
 
 pub record PathsAre : Type 0 where
   pub whole : instance_at four_nodes (codes "twice") [] ≡ Some twice

@@ -72,7 +72,7 @@ declarations_alike n m h =
 
 module _ (p q : Program) (main : List ℕ) (trees : program_view p ≡ program_view q) (places : places_view p ≡ places_view q) where
   node_at : (j : ℕ) (n : Node) → slice_get p.nodes j ≡ Some n → (m : Node) × (slice_get q.nodes j ≡ Some m) × Alike n m
-  node_at j n at = let h = partner node_view node_places p.nodes q.nodes trees places j n at in (h.item, h.there, record { tree = h.one; places = h.other })
+  node_at j n at = let h = partner node_view node_places p.nodes q.nodes (ap (λ (t : ProgramTree). t.nodes) trees) places j n at in (h.item, h.there, record { tree = h.one; places = h.other })
 
   module _ (asked : Rule → Bool) (e : StatError) where
     node_fault : (j : ℕ) (n m : Node) → Alike n m → NodeFault asked p main j n e → NodeFault asked q main j m e

@@ -106,7 +106,7 @@ impl<'a> Checked<'a> {
     pub fn classes(&self, node: usize) -> &[bool]
         requires { node < length self.now.program.nodes }
         ensures classes { result.now ≡ row_at self.now.classes node }
-        ensures meets { ForSome (slice_get (program_view self.now.program) node)
+        ensures meets { ForSome (slice_get (program_view self.now.program).nodes node)
             (λ n. Meets (assigned n result.now) n) }
     {
         self.classes[node].as_slice()

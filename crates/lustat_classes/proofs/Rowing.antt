@@ -8,7 +8,8 @@ use Rattle.std.proofs.lemmas.List.Elements.{All-weaker, All-contains, All-contai
 use Rattle.std.proofs.lemmas.Option.{slice_get_within}
 use Rattle.lutree.specs.declared.program.Equation.{Equation}
 use Rattle.lutree.specs.declared.program.Node.{Node}
-use Rattle.lutree.specs.Tree.{EquationTree, NodeTree, equation_view, node_view}
+use Rattle.lutree.specs.declared.program.Program.{Program}
+use Rattle.lutree.specs.Tree.{EquationTree, NodeTree, equation_view, node_view, program_view}
 use Rattle.lustat_rules.specs.Scope.{IsVariable}
 use Rattle.lustat_rules.specs.Classes.{Classes, Meets, HasClasses, CurrentsStart}
 use Rattle.lustat_rules.specs.Accepted.{Rule, duplicate_name, unknown_name, unknown_node, type_mismatch, wrong_arity, undefined, defined_twice, recursive_node, no_main, clock_mismatch, not_a_clock, clocked_parameter, hidden_clock, maybe_nil, current_may_be_nil, Keeps, Breaks, Passes}
@@ -67,9 +68,9 @@ one_row_more nodes rows new row k n here is below least =
 
 pub lefts : LeftsLaw
 lefts p main named =
-    All-weaker (Contains p) LeftsKnown (λ n among. node_lefts n (contained_at p n among)) p (All-contains_itself p)
+    All-weaker (Contains p.nodes) LeftsKnown (λ n among. node_lefts n (contained_at p.nodes n among)) p.nodes (All-contains_itself p.nodes)
   where
-    node_lefts : (n : NodeTree) → (i : ℕ) × (slice_get p i ≡ Some n) → LeftsKnown n
+    node_lefts : (n : NodeTree) → (i : ℕ) × (slice_get p.nodes i ≡ Some n) → LeftsKnown n
     node_lefts n at =
         All-weaker (Contains n.equations) (λ (q : EquationTree). All (IsVariable n) q.left)
         (λ q among. let there = contained_at n.equations q among in ((named unknown_name refl).equations at.0 there.0 n q at.1 there.1).left)
@@ -86,7 +87,10 @@ all_of_views P nodes all = all_from_places (λ (n : Node). P (node_view n)) node
 
 -- WHERE ALL IS KEPT
 
-module _ (nodes : List Node) (rows : Rows) (least : GiveLeastBelow (length nodes) nodes rows) (kept : AreKept nodes) where
+module _ (p : Program) (rows : Rows) (least : GiveLeastBelow (length p.nodes) p.nodes rows) (kept : AreKept p.nodes) where
+  abbrev nodes : List Node
+  nodes = p.nodes
+
   equation_least : (i : ℕ) (m : Node) → slice_get nodes i ≡ Some m → (j : ℕ) (q : EquationTree) → slice_get (node_view m).equations j ≡ Some q → KeepsLeast (node_view m) q
   equation_least i m at j q there =
       let w = view_item equation_view m.equations j q there in
@@ -105,7 +109,7 @@ module _ (nodes : List Node) (rows : Rows) (least : GiveLeastBelow (length nodes
       (tells n a given.least given.caused).kept
       (all_from_places (KeepsClasses a n) n.equations (λ j q there. equation_least i m at j q there a given.least))
 
-  pub classes_kept : AreClasses (map node_view nodes) rows
+  pub classes_kept : AreClasses (program_view p) rows
   classes_kept =
       record {
         long = least.long ∙ sym (length-map nodes node_view);
@@ -114,7 +118,7 @@ module _ (nodes : List Node) (rows : Rows) (least : GiveLeastBelow (length nodes
             subst (λ (t : NodeTree). Meets (assigned t (row_at rows i)) t) v.2 (node_meets i v.0 v.1);
       }
 
-  nodes_have : (main : List ℕ) → Keeps (map node_view nodes) main maybe_nil
+  nodes_have : (main : List ℕ) → Keeps (program_view p) main maybe_nil
   nodes_have main =
       record {
         program = tt;
@@ -123,7 +127,7 @@ module _ (nodes : List Node) (rows : Rows) (least : GiveLeastBelow (length nodes
         equations = λ i j n q at there. tt;
       }
 
-  currents_start : (main : List ℕ) → Keeps (map node_view nodes) main current_may_be_nil
+  currents_start : (main : List ℕ) → Keeps (program_view p) main current_may_be_nil
   currents_start main =
       record {
         program = tt;
@@ -137,7 +141,7 @@ module _ (nodes : List Node) (rows : Rows) (least : GiveLeastBelow (length nodes
           let here : slice_get (node_view v.0).equations j ≡ Some q = subst (λ (t : NodeTree). slice_get t.equations j ≡ Some q) (sym v.2) there in
           subst (λ t. CurrentsStart t q) v.2 (equation_starts i v.0 v.1 j q here)
 
-  pub all_pass : (main : List ℕ) → Passes (map node_view nodes) main 3
+  pub all_pass : (main : List ℕ) → Passes (program_view p) main 3
   all_pass main maybe_nil third = nodes_have main
   all_pass main current_may_be_nil third = currents_start main
   all_pass main duplicate_name third = absurd (omega (arith, third))
@@ -160,40 +164,40 @@ module _ (nodes : List Node) (rows : Rows) (least : GiveLeastBelow (length nodes
 least_kept : (n : NodeTree) (q : EquationTree) → Contains n.equations q → (¬ KeepsLeast n q) → ¬ HasClasses n
 least_kept n q among breaks has = breaks (λ a least. keeps_all_met n a least has q among)
 
-broken_rule : (nodes : List Node) (main : List ℕ) (e : StatError) (i : ℕ) (m : Node) (j : ℕ) (q : Equation) → slice_get nodes i ≡ Some m → slice_get m.equations j ≡ Some q
-    → (rule : Rule) → IsTrue (is_asked rule) → rule_of e ≡ Some rule → (¬ EquationSays m q rule) → TellsBroken (map node_view nodes) main e
-broken_rule nodes main e i m j q at there maybe_nil one told = λ no.
+broken_rule : (p : Program) (main : List ℕ) (e : StatError) (i : ℕ) (m : Node) (j : ℕ) (q : Equation) → slice_get p.nodes i ≡ Some m → slice_get m.equations j ≡ Some q
+    → (rule : Rule) → IsTrue (is_asked rule) → rule_of e ≡ Some rule → (¬ EquationSays m q rule) → TellsBroken (program_view p) main e
+broken_rule p main e i m j q at there maybe_nil one told = λ no.
     let here = item_view equation_view m.equations j q there in
     record {
       rule = maybe_nil;
       told = told;
       third = refl;
-      broken = Breaks.node i (node_view m) (item_view node_view nodes i m at)
+      broken = Breaks.node i (node_view m) (item_view node_view p.nodes i m at)
           (least_kept (node_view m) (equation_view q) (at_contained (node_view m).equations (equation_view q) j here) no);
     }
-broken_rule nodes main e i m j q at there current_may_be_nil one told = λ no.
+broken_rule p main e i m j q at there current_may_be_nil one told = λ no.
     record {
       rule = current_may_be_nil;
       told = told;
       third = refl;
-      broken = Breaks.equation i j (node_view m) (equation_view q) (item_view node_view nodes i m at) (item_view equation_view m.equations j q there) no;
+      broken = Breaks.equation i j (node_view m) (equation_view q) (item_view node_view p.nodes i m at) (item_view equation_view m.equations j q there) no;
     }
-broken_rule nodes main e i m j q at there duplicate_name one told = absurd (true≢false (sym one))
-broken_rule nodes main e i m j q at there unknown_name one told = absurd (true≢false (sym one))
-broken_rule nodes main e i m j q at there unknown_node one told = absurd (true≢false (sym one))
-broken_rule nodes main e i m j q at there type_mismatch one told = absurd (true≢false (sym one))
-broken_rule nodes main e i m j q at there wrong_arity one told = absurd (true≢false (sym one))
-broken_rule nodes main e i m j q at there undefined one told = absurd (true≢false (sym one))
-broken_rule nodes main e i m j q at there defined_twice one told = absurd (true≢false (sym one))
-broken_rule nodes main e i m j q at there recursive_node one told = absurd (true≢false (sym one))
-broken_rule nodes main e i m j q at there no_main one told = absurd (true≢false (sym one))
-broken_rule nodes main e i m j q at there clock_mismatch one told = absurd (true≢false (sym one))
-broken_rule nodes main e i m j q at there not_a_clock one told = absurd (true≢false (sym one))
-broken_rule nodes main e i m j q at there clocked_parameter one told = absurd (true≢false (sym one))
-broken_rule nodes main e i m j q at there hidden_clock one told = absurd (true≢false (sym one))
+broken_rule p main e i m j q at there duplicate_name one told = absurd (true≢false (sym one))
+broken_rule p main e i m j q at there unknown_name one told = absurd (true≢false (sym one))
+broken_rule p main e i m j q at there unknown_node one told = absurd (true≢false (sym one))
+broken_rule p main e i m j q at there type_mismatch one told = absurd (true≢false (sym one))
+broken_rule p main e i m j q at there wrong_arity one told = absurd (true≢false (sym one))
+broken_rule p main e i m j q at there undefined one told = absurd (true≢false (sym one))
+broken_rule p main e i m j q at there defined_twice one told = absurd (true≢false (sym one))
+broken_rule p main e i m j q at there recursive_node one told = absurd (true≢false (sym one))
+broken_rule p main e i m j q at there no_main one told = absurd (true≢false (sym one))
+broken_rule p main e i m j q at there clock_mismatch one told = absurd (true≢false (sym one))
+broken_rule p main e i m j q at there not_a_clock one told = absurd (true≢false (sym one))
+broken_rule p main e i m j q at there clocked_parameter one told = absurd (true≢false (sym one))
+broken_rule p main e i m j q at there hidden_clock one told = absurd (true≢false (sym one))
 
-pub told_broken : (nodes : List Node) (main : List ℕ) (e : StatError) → IsFault nodes e → TellsBroken (map node_view nodes) main e
-told_broken nodes main e h =
+pub told_broken : (p : Program) (main : List ℕ) (e : StatError) → IsFault p.nodes e → TellsBroken (program_view p) main e
+told_broken p main e h =
     let g = h.3 in
     let f = g.3 in
-    broken_rule nodes main e h.0 h.1 g.0 g.1 h.2 g.2 f.rule f.one f.told f.broken
+    broken_rule p main e h.0 h.1 g.0 g.1 h.2 g.2 f.rule f.one f.told f.broken

@@ -34,8 +34,8 @@ pub record GiveLeastBelow (k : ℕ) (nodes : List Node) (rows : Rows) : Type 0 w
 
 -- there is a row for each node, and with its classes the node meets all rules of classes
 pub record AreClasses (p : ProgramTree) (rows : Rows) : Type 0 where
-  pub long : length rows ≡ length p
-  pub meets : (i : ℕ) (n : NodeTree) → slice_get p i ≡ Some n → Meets (assigned n (row_at rows i)) n
+  pub long : length rows ≡ length p.nodes
+  pub meets : (i : ℕ) (n : NodeTree) → slice_get p.nodes i ≡ Some n → Meets (assigned n (row_at rows i)) n
 
 -- a fact of the classes, if all is kept
 abbrev pub IfKept : Initialised → (Rows → Type 0) → Type 0
@@ -54,4 +54,4 @@ fault_of (Broken e) = Some e
 
 -- in a program that keeps the rules of names, all that the equations define is declared
 abbrev pub LeftsLaw : Type 0
-LeftsLaw = (p : ProgramTree) (main : List ℕ) → IsNamed p main → All LeftsKnown p
+LeftsLaw = (p : ProgramTree) (main : List ℕ) → IsNamed p main → All LeftsKnown p.nodes

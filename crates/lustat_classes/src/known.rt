@@ -58,7 +58,7 @@ fn scopes_known(scopes: &[Scope]) -> bool
 /// Whether all variables that the equations of a program define are declared, as [`crate::initialise`] asks. A program that keeps the
 /// rules of names has no others. Takes no memory.
 pub fn all_lefts_known(catalog: &Catalog) -> bool
-    ensures { IsTrue result ↔ All LeftsKnown (program_view catalog.now) }
+    ensures { IsTrue result ↔ All LeftsKnown (program_view catalog.now).nodes }
 {
     scopes_known(catalog.scopes())
 }

@@ -147,7 +147,7 @@ fn nodes_fault(
 ///
 /// An error means that memory ran out.
 pub fn initialise(alloc: Global, catalog: &Catalog) -> Result<Initialised, AllocError>
-    requires { All LeftsKnown (program_view catalog.now) }
+    requires { All LeftsKnown (program_view catalog.now).nodes }
     ensures classes { IfOk result (λ found. IfKept found (AreClasses (program_view catalog.now))) }
     ensures passes { IfOk result (λ found. IfKept found
         (λ _. (main : List ℕ) → Passes (program_view catalog.now) main 3)) }

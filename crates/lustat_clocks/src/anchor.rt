@@ -41,7 +41,7 @@ fn anchor_of<'s: 'e, 'e>(scope: &Scope<'s>, e: &'e Expr) -> Option<ClockRef<'e>>
             },
             found => found,
         },
-        Expr::When(_, c) => Some(ClockRef::On(c.variable.as_str(), c.sign)),
+        Expr::When(_, c) => Some(ClockRef::of(c)),
         Expr::Current(x) => anchor_of_current(scope, x.as_str()),
         Expr::Merge(c, _, _) => scope.clock(c.as_str()),
         Expr::Call(_, arguments) => anchor_of_arguments(scope, arguments),

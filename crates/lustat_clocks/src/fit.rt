@@ -6,7 +6,7 @@ ghost use Rattle.lutree.specs.Tree as tree;
 ghost use Rattle.lustat_rules.specs.Clocks.{HasClock, Fits, FitsInside, AllFitInside};
 ghost use Rattle.lustat_scope.specs.ClockRefs.{the_clock, placed_view, clock_under, IsPlaced};
 
-use lustat_scope::{ClockRef, PlacedClock, Scope};
+use lustat_scope::{ClockRef, PatternRef, PlacedClock, Scope};
 use lutree::Expr;
 
 /// Whether a variable has a clock.
@@ -60,7 +60,7 @@ fn fits_inside(scope: &Scope, e: &Expr, k: PlacedClock) -> bool
             fits_inside(scope, c, k) && fits_inside(scope, a, k) && fits_inside(scope, b, k)
         }
         Expr::When(a, c) => {
-            let sampled = scope.placed(ClockRef::On(c.variable.as_str(), c.sign));
+            let sampled = scope.placed(ClockRef::of(c));
             scope.are_one(k, sampled)
                 && match scope.clock_under(sampled) {
                     None => false,
@@ -71,8 +71,16 @@ fn fits_inside(scope: &Scope, e: &Expr, k: PlacedClock) -> bool
         Expr::Merge(c, a, b) => {
             let name = c.as_str();
             has_clock(scope, name, k)
-                && fits_inside(scope, a, scope.placed(ClockRef::On(name, true)))
-                && fits_inside(scope, b, scope.placed(ClockRef::On(name, false)))
+                && fits_inside(
+                    scope,
+                    a,
+                    scope.placed(ClockRef::On(name, PatternRef::Truth(true))),
+                )
+                && fits_inside(
+                    scope,
+                    b,
+                    scope.placed(ClockRef::On(name, PatternRef::Truth(false))),
+                )
         }
         Expr::Call(_, arguments) => all_fit(scope, arguments, k),
     }

@@ -9,7 +9,7 @@ ghost use Rattle.lustat_scope.specs.Scopes.{clock_list};
 ghost use Rattle.lustat_rules.specs.Faults.{declared_in};
 
 use lustat_scope::{Places, Scope};
-use lutree::{Declaration, Equation, Expr, Infix, Node};
+use lutree::{Declaration, Equation, Expr, Infix, Node, Pattern};
 use std::alloc::{AllocError, Global};
 use std::marker::Model;
 
@@ -23,50 +23,60 @@ fn is_truth(e: &Expr, sign: bool) -> bool
     }
 }
 
-// Whether an expression begins with a truth value, by `->` or `fby`, form by form.
-fn starts_inside(e: &Expr, sign: bool) -> bool
-    ensures { IsTrue result ↔ StartsInside sign (view e.now) }
+// Whether an expression is the constant of a pattern.
+fn is_constant(e: &Expr, pattern: &Pattern) -> bool
+    ensures { IsTrue result ↔ (view e.now ≡ tree.constant_of pattern.now) }
+{
+    match pattern {
+        Pattern::Truth(b) => is_truth(e, *b),
+    }
+}
+
+// Whether an expression begins with the constant of a pattern, by `->` or `fby`, form by form.
+fn starts_inside(e: &Expr, pattern: &Pattern) -> bool
+    ensures { IsTrue result ↔ StartsInside pattern.now (view e.now) }
 {
     match e {
         Expr::Binary(op, a, _) => match op {
-            Infix::Arrow => is_truth(a, sign),
-            Infix::FollowedBy => is_truth(a, sign),
+            Infix::Arrow => is_constant(a, pattern),
+            Infix::FollowedBy => is_constant(a, pattern),
             Infix::Data(_) => false,
         },
         _ => false,
     }
 }
 
-// Whether an expression begins with a truth value, by `->` or `fby`.
-fn starts_with(e: &Expr, sign: bool) -> bool
-    ensures { IsTrue result ↔ StartsWith sign (view e.now) }
+// Whether an expression begins with the constant of a pattern, by `->` or `fby`.
+fn starts_with(e: &Expr, pattern: &Pattern) -> bool
+    ensures { IsTrue result ↔ StartsWith pattern.now (view e.now) }
 {
-    starts_inside(e, sign)
+    starts_inside(e, pattern)
 }
 
-// The name that an equation begins with a truth value, if it defines one name so.
-fn begun_name(equation: &Equation, sign: bool) -> Option<&str>
-    ensures none { IfNone result ((x : List ℕ) → ¬ Begins sign (equation_view equation.now) x) }
-    ensures some { IfSome result (λ y. Begins sign (equation_view equation.now) y.now) }
+// The name that an equation begins with the constant of a pattern, if it defines one name so.
+fn begun_name<'a>(equation: &'a Equation, pattern: &Pattern) -> Option<&'a str>
+    ensures none { IfNone result
+        ((x : List ℕ) → ¬ Begins pattern.now (equation_view equation.now) x) }
+    ensures some { IfSome result (λ y. Begins pattern.now (equation_view equation.now) y.now) }
 {
     match equation.left.as_slice() {
-        [x] if starts_with(&equation.right, sign) => Some(x.as_str()),
+        [x] if starts_with(&equation.right, pattern) => Some(x.as_str()),
         _ => None,
     }
 }
 
-// The names that equations begin with a truth value.
+// The names that equations begin with the constant of a pattern.
 fn begun<'a>(
     alloc: Global,
     equations: &'a [Equation],
-    sign: bool,
+    pattern: &Pattern,
 ) -> Result<Vec<&'a str>, AllocError>
-    ensures { IfOk result (λ names. AreBegun sign (map equation_view equations.now)
+    ensures { IfOk result (λ names. AreBegun pattern.now (map equation_view equations.now)
         (map (λ x. x.now) names.items)) }
 {
     let mut names = Vec::new(alloc);
     for q in equations {
-        if let Some(x) = begun_name(q, sign) {
+        if let Some(x) = begun_name(q, pattern) {
             names.push(x)?;
         }
     }
@@ -77,11 +87,11 @@ fn begun<'a>(
 fn begun_table<'a>(
     alloc: Global,
     equations: &'a [Equation],
-    sign: bool,
+    pattern: &Pattern,
 ) -> Result<Places<'a>, AllocError>
-    ensures { IfOk result (AreBegun sign (map equation_view equations.now)) }
+    ensures { IfOk result (AreBegun pattern.now (map equation_view equations.now)) }
 {
-    let names = begun(alloc, equations, sign)?;
+    let names = begun(alloc, equations, pattern)?;
     Places::new(alloc, names)
 }
 
@@ -91,8 +101,10 @@ fn starts_by(truths: &Places, falses: &Places, declaration: &Declaration) -> boo
 {
     match &declaration.clock {
         None => true,
-        Some(c) if c.sign => truths.find(c.variable.as_str()).is_some(),
-        Some(c) => falses.find(c.variable.as_str()).is_some(),
+        Some(c) => match &c.pattern {
+            Pattern::Truth(true) => truths.find(c.variable.as_str()).is_some(),
+            Pattern::Truth(false) => falses.find(c.variable.as_str()).is_some(),
+        },
     }
 }
 
@@ -164,8 +176,8 @@ impl<'a> Firsts<'a> {
     pub fn new(alloc: Global, node: &'a Node) -> Result<Firsts<'a>, AllocError>
         ensures { IfOk result (λ firsts. firsts ≡ node.now) }
     {
-        let truths = begun_table(alloc, node.equations.as_slice(), true)?;
-        let falses = begun_table(alloc, node.equations.as_slice(), false)?;
+        let truths = begun_table(alloc, node.equations.as_slice(), &Pattern::Truth(true))?;
+        let falses = begun_table(alloc, node.equations.as_slice(), &Pattern::Truth(false))?;
         let started = starts_in(alloc, &truths, &falses, node)?;
         Ok(Firsts {
             node,

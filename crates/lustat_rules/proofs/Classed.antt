@@ -2,6 +2,7 @@
 use Rattle.std.proofs.Common.{◌≡◌, Bool, false, [], ◌∷◌, Option, Some, None, IsTrue, IsFalse, refl, sym, ap, subst, ◌∙◌, true≢false, arith}
 use Rattle.std.specs.Prelude.{unwrap_or, codes}
 use Rattle.std.proofs.lemmas.List.Elements.{All-from_recursion, All-contains}
+use Rattle.lutree.specs.declared.expr.Pattern.TheVariants as patterns
 use Rattle.lutree.specs.declared.expr.Condition.{Condition}
 use Rattle.lutree.specs.declared.expr.Infix.TheVariants.{Arrow, FollowedBy}
 use Rattle.lutree.specs.Tree.{Tree, EquationTree}
@@ -41,15 +42,15 @@ begun (tree.binary Arrow (tree.truth b) e) = Some b
 begun (tree.binary FollowedBy (tree.truth b) e) = Some b
 begun e = None
 
-begun_so : {sign : Bool} {e : Tree} → StartsWith sign e → begun e ≡ Some sign
+begun_so : {sign : Bool} {e : Tree} → StartsWith (patterns.Truth sign) e → begun e ≡ Some sign
 begun_so (StartsWith.arrow e) = refl
 begun_so (StartsWith.followed e) = refl
 
 abbrev on_c : Bool → Condition
-on_c sign = record { variable = codes "c"; sign = sign }
+on_c sign = record { variable = codes "c"; pattern = patterns.Truth sign }
 
 -- `current v` is accepted where c begins with the sign of v's clock
-pub begins_so : (sign : Bool) (right : Tree) → StartsWith sign right → begins sign right
+pub begins_so : (sign : Bool) (right : Tree) → StartsWith (patterns.Truth sign) right → begins sign right
 begins_so sign right starts =
     All-from_recursion (ClockIsTrueAtFirst (holding sign right)) (codes "v" ∷ []) (
       (λ k e.
@@ -62,7 +63,7 @@ begins_so sign right starts =
 pub begins_otherwise : (sign : Bool) (right : Tree) → (begun right ≡ Some sign → ⊥) → begins_not sign right
 begins_otherwise sign right other f =
     let t = f 0 [] zero_less (on_c sign) refl in
-    All-contains (λ (q : EquationTree). q.left ≡ codes "c" ∷ [] → ¬ StartsWith sign q.right) (holding sign right).equations t.0
-    (All-from_recursion (λ (q : EquationTree). q.left ≡ codes "c" ∷ [] → ¬ StartsWith sign q.right) (holding sign right).equations
+    All-contains (λ (q : EquationTree). q.left ≡ codes "c" ∷ [] → ¬ StartsWith (patterns.Truth sign) q.right) (holding sign right).equations t.0
+    (All-from_recursion (λ (q : EquationTree). q.left ≡ codes "c" ∷ [] → ¬ StartsWith (patterns.Truth sign) q.right) (holding sign right).equations
     ((λ e s. other (begun_so s)), ((λ e s. false_is_true (ap (λ l. first_is l (codes "c")) e)), ((λ e s. false_is_true (ap (λ l. first_is l (codes "c")) e)), tt))))
     t.1 t.2 t.3

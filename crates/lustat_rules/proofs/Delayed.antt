@@ -2,7 +2,7 @@
 use Rattle.std.proofs.Common.{◌<◌, inl, inr, [], ◌∷◌, refl, arith}
 use Rattle.std.specs.Prelude.{codes, Contains}
 use Rattle.std.proofs.lemmas.List.Elements.{All-from_recursion}
-use Rattle.lutree.specs.Tree.{NodeTree}
+use Rattle.lutree.specs.Tree.{NodeTree, program_of}
 use Rattle.lutree.specs.Tree as tree
 use Rattle.lutree.specs.declared.expr.Prefix.TheVariants.{Pre}
 use Rattle.lutree.specs.declared.program.Kind.TheVariants.{Int}
@@ -17,7 +17,7 @@ use Rattle.lustat_rules.proofs.Worked.{none_below, not_in, nothing_in, single_di
 abbrev pub bare : NodeTree
 bare = delay (tree.unary Pre x)
 
-pub kept_before : (r : Rule) → stage r < 3 → Keeps (bare ∷ []) (codes "delay") r
+pub kept_before : (r : Rule) → stage r < 3 → Keeps (program_of (bare ∷ [])) (codes "delay") r
 kept_before Rule.duplicate_name h =
     keeps_one bare (codes "delay") Rule.duplicate_name tt (nothing_in (codes "delay"))
     (nothing_in (codes "x"), (not_in (codes "x" ∷ []) (codes "y") refl (refl, tt), tt)) (tt, tt)

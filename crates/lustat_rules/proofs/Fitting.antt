@@ -1,5 +1,6 @@
 -- Fitting, by its cases and form by form.
 use Rattle.std.proofs.Common.{true, false, refl, sym, subst}
+use Rattle.lutree.specs.declared.expr.Pattern.TheVariants as patterns
 use Rattle.lutree.specs.Tree.{Tree, Trees, NodeTree}
 use Rattle.lutree.specs.Tree as tree
 use Rattle.lustat_rules.specs.Scope.{Clock}
@@ -33,7 +34,7 @@ mutual
   outside n (tree.when a c) k f =
       subst (λ i. Fits n (tree.when a c) i) (sym f.0) (Fits.when a c f.1.0 f.1.1 (outside n a f.1.0 f.1.2))
   outside n (tree.current x) k f = Fits.current x f.0 k f.1 f.2
-  outside n (tree.merge c a b) k f = Fits.merge c a b k f.0 (outside n a (on c true) f.1) (outside n b (on c false) f.2)
+  outside n (tree.merge c a b) k f = Fits.merge c a b k f.0 (outside n a (on c (patterns.Truth true)) f.1) (outside n b (on c (patterns.Truth false)) f.2)
   outside n (tree.call g all) k f = Fits.call g all k (all_outside n all k f)
 
   pub all_outside : (n : NodeTree) (all : Trees) (k : Clock) → AllFitInside n all k → AllFit n all k

@@ -1,7 +1,7 @@
 -- Programs of one node.
 use Rattle.std.proofs.Common.{◌≡◌, ℕ, zero, suc, ◌+◌, List, [], ◌∷◌, Some, ap, subst, arith}
 use Rattle.std.specs.Prelude.{slice_get, unwrap_or}
-use Rattle.lutree.specs.Tree.{DeclarationTree, EquationTree, NodeTree}
+use Rattle.lutree.specs.Tree.{DeclarationTree, EquationTree, NodeTree, ProgramTree, program_of}
 use Rattle.lustat_rules.specs.Scope.{declarations_of}
 use Rattle.lustat_rules.specs.Accepted.{Rule, ProgramKeeps, NodeKeeps, DeclarationKeeps, EquationKeeps, Keeps}
 use Rattle.lustat_rules.proofs.Worked.{none_is_some}
@@ -26,15 +26,18 @@ each P xs h j x e =
     subst (λ k. P k x) same (each_from P 0 xs h j x e)
 
 module _ (s : NodeTree) (main : List ℕ) (r : Rule) where
-  pub keeps_one : ProgramKeeps (s ∷ []) main r → NodeKeeps (s ∷ []) main r 0 s → EachFrom (DeclarationKeeps (s ∷ []) main r s) 0 (declarations_of s) → EachFrom (EquationKeeps (s ∷ []) main r s) 0 s.equations → Keeps (s ∷ []) main r
+  abbrev p : ProgramTree
+  p = program_of (s ∷ [])
+
+  pub keeps_one : ProgramKeeps p main r → NodeKeeps p main r 0 s → EachFrom (DeclarationKeeps p main r s) 0 (declarations_of s) → EachFrom (EquationKeeps p main r s) 0 s.equations → Keeps p main r
   keeps_one program node declarations equations =
       record {
         program = program;
-        nodes = λ i n e. each (NodeKeeps (s ∷ []) main r) (s ∷ []) (node, tt) i n e;
+        nodes = λ i n e. each (NodeKeeps p main r) (s ∷ []) (node, tt) i n e;
         declarations = λ i j n d e at.
-            each (λ k m. (l : ℕ) (b : DeclarationTree) → slice_get (declarations_of m) l ≡ Some b → DeclarationKeeps (s ∷ []) main r m l b) (s ∷ [])
-            ((λ l b h. each (DeclarationKeeps (s ∷ []) main r s) (declarations_of s) declarations l b h), tt) i n e j d at;
+            each (λ k m. (l : ℕ) (b : DeclarationTree) → slice_get (declarations_of m) l ≡ Some b → DeclarationKeeps p main r m l b) (s ∷ [])
+            ((λ l b h. each (DeclarationKeeps p main r s) (declarations_of s) declarations l b h), tt) i n e j d at;
         equations = λ i j n q e at.
-            each (λ k (m : NodeTree). (l : ℕ) (b : EquationTree) → slice_get m.equations l ≡ Some b → EquationKeeps (s ∷ []) main r m l b) (s ∷ [])
-            ((λ l b h. each (EquationKeeps (s ∷ []) main r s) s.equations equations l b h), tt) i n e j q at;
+            each (λ k (m : NodeTree). (l : ℕ) (b : EquationTree) → slice_get m.equations l ≡ Some b → EquationKeeps p main r m l b) (s ∷ [])
+            ((λ l b h. each (EquationKeeps p main r s) s.equations equations l b h), tt) i n e j q at;
       }

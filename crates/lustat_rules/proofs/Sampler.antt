@@ -2,7 +2,8 @@
 use Rattle.std.proofs.Common.{inl, inr, true, false, [], ◌∷◌, None, refl, arith}
 use Rattle.std.specs.Prelude.{codes, Contains, IsFalse}
 use Rattle.std.proofs.lemmas.List.Elements.{All-from_recursion}
-use Rattle.lutree.specs.Tree.{EquationTree}
+use Rattle.lutree.specs.declared.expr.Pattern.TheVariants as patterns
+use Rattle.lutree.specs.Tree.{EquationTree, program_of}
 use Rattle.lutree.specs.declared.program.Kind.TheVariants.{Int}
 use Rattle.lustat_rules.specs.Scope.{declarations_of, names_of, IsVariable, IsInput}
 use Rattle.lustat_rules.specs.Clocks.{on, base, HasClock, IsTruth, Ends}
@@ -40,7 +41,7 @@ classes =
       },
     )
 
-pub accepted : IsAccepted (sampler ∷ []) main
+pub accepted : IsAccepted (program_of (sampler ∷ [])) main
 accepted Rule.duplicate_name =
     keeps_one sampler main Rule.duplicate_name tt (nothing_in main) (
       nothing_in (codes "x"),
@@ -110,9 +111,9 @@ accepted Rule.recursive_node =
 accepted Rule.no_main = keeps_one sampler main Rule.no_main refl tt (tt, (tt, (tt, (tt, (tt, tt))))) (tt, (tt, (tt, tt)))
 accepted Rule.clock_mismatch =
     keeps_one sampler main Rule.clock_mismatch tt tt (tt, (tt, (tt, (tt, (tt, tt))))) (
-      (on (codes "c") true, All-from_recursion (λ x. HasClock sampler x (on (codes "c") true)) (codes "s" ∷ []) (refl, tt), outside sampler _ _ (refl, (base, refl, refl))),
+      (on (codes "c") (patterns.Truth true), All-from_recursion (λ x. HasClock sampler x (on (codes "c") (patterns.Truth true))) (codes "s" ∷ []) (refl, tt), outside sampler _ _ (refl, (base, refl, refl))),
       (
-        (on (codes "c") true, All-from_recursion (λ x. HasClock sampler x (on (codes "c") true)) (codes "z" ∷ []) (refl, tt), outside sampler _ _ (tt, refl)),
+        (on (codes "c") (patterns.Truth true), All-from_recursion (λ x. HasClock sampler x (on (codes "c") (patterns.Truth true))) (codes "z" ∷ []) (refl, tt), outside sampler _ _ (tt, refl)),
         ((base, All-from_recursion (λ x. HasClock sampler x base) (codes "y" ∷ []) (refl, tt), outside sampler _ _ (refl, (refl, refl))), tt),
       ),
     )
@@ -124,8 +125,8 @@ accepted Rule.not_a_clock =
         (
           record { truth = tt; ends = Ends.at_base },
           (
-            record { truth = refl; ends = Ends.after (record { variable = codes "c"; sign = true }) None refl Ends.at_base },
-            (record { truth = refl; ends = Ends.after (record { variable = codes "c"; sign = true }) None refl Ends.at_base }, tt),
+            record { truth = refl; ends = Ends.after (record { variable = codes "c"; pattern = patterns.Truth true }) None refl Ends.at_base },
+            (record { truth = refl; ends = Ends.after (record { variable = codes "c"; pattern = patterns.Truth true }) None refl Ends.at_base }, tt),
           ),
         ),
       ),

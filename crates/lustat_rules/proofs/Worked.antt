@@ -6,6 +6,8 @@ use Rattle.std.proofs.lemmas.List.Elements.{All-contains, All-from_recursion}
 use Rattle.std.specs.List.{AllByRecursion}
 use Rattle.lutree.specs.declared.program.Kind.{Kind}
 use Rattle.lutree.specs.declared.program.Kind.TheVariants.{Int}
+use Rattle.lutree.specs.declared.expr.Pattern.{Pattern}
+use Rattle.lutree.specs.declared.expr.Pattern.TheVariants as patterns
 use Rattle.lutree.specs.declared.expr.Condition.{Condition}
 use Rattle.lutree.specs.Tree.{NodeTree, ProgramTree}
 use Rattle.lustat_rules.specs.Scope.{Clock, AreDistinct, clock_of, node_called}
@@ -78,12 +80,15 @@ is_base o = false
 pub base_is_on : {c : Condition} → Some None ≡ Some (Some c) → ⊥
 base_is_on e = true≢false (ap is_base e)
 
+abbrev sign : Pattern → Bool
+sign (patterns.Truth b) = b
+
 abbrev pub sign_of : Option Clock → Bool
-sign_of (Some (Some c)) = c.sign
+sign_of (Some (Some c)) = sign c.pattern
 sign_of o = true
 
 -- the clock of b is b's own
-pub loops : {k : Clock} → Ends faulty k → k ≡ on (codes "b") true → ⊥
+pub loops : {k : Clock} → Ends faulty k → k ≡ on (codes "b") (patterns.Truth true) → ⊥
 loops Ends.at_base e = none_is_some e
 loops (Ends.after c k h r) e =
     let b : c.variable ≡ codes "b" = ap (λ (o : Clock). (unwrap_or o c).variable) e in

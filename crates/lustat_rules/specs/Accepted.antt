@@ -87,16 +87,16 @@ module _ (p : ProgramTree) (main : List ℕ) where
   -- the program keeps a rule everywhere
   pub record Keeps (rule : Rule) : Type 0 where
     pub program : ProgramKeeps rule
-    pub nodes : (i : ℕ) (n : NodeTree) → slice_get p i ≡ Some n → NodeKeeps rule i n
-    pub declarations : (i j : ℕ) (n : NodeTree) (d : DeclarationTree) → slice_get p i ≡ Some n → slice_get (declarations_of n) j ≡ Some d → DeclarationKeeps rule n j d
-    pub equations : (i j : ℕ) (n : NodeTree) (q : EquationTree) → slice_get p i ≡ Some n → slice_get n.equations j ≡ Some q → EquationKeeps rule n j q
+    pub nodes : (i : ℕ) (n : NodeTree) → slice_get p.nodes i ≡ Some n → NodeKeeps rule i n
+    pub declarations : (i j : ℕ) (n : NodeTree) (d : DeclarationTree) → slice_get p.nodes i ≡ Some n → slice_get (declarations_of n) j ≡ Some d → DeclarationKeeps rule n j d
+    pub equations : (i j : ℕ) (n : NodeTree) (q : EquationTree) → slice_get p.nodes i ≡ Some n → slice_get n.equations j ≡ Some q → EquationKeeps rule n j q
 
   -- the program breaks a rule somewhere
   pub data Breaks (rule : Rule) : Type 0 where
     program : (¬ ProgramKeeps rule) → Breaks rule
-    node : (i : ℕ) (n : NodeTree) → slice_get p i ≡ Some n → (¬ NodeKeeps rule i n) → Breaks rule
-    declaration : (i j : ℕ) (n : NodeTree) (d : DeclarationTree) → slice_get p i ≡ Some n → slice_get (declarations_of n) j ≡ Some d → (¬ DeclarationKeeps rule n j d) → Breaks rule
-    equation : (i j : ℕ) (n : NodeTree) (q : EquationTree) → slice_get p i ≡ Some n → slice_get n.equations j ≡ Some q → (¬ EquationKeeps rule n j q) → Breaks rule
+    node : (i : ℕ) (n : NodeTree) → slice_get p.nodes i ≡ Some n → (¬ NodeKeeps rule i n) → Breaks rule
+    declaration : (i j : ℕ) (n : NodeTree) (d : DeclarationTree) → slice_get p.nodes i ≡ Some n → slice_get (declarations_of n) j ≡ Some d → (¬ DeclarationKeeps rule n j d) → Breaks rule
+    equation : (i j : ℕ) (n : NodeTree) (q : EquationTree) → slice_get p.nodes i ≡ Some n → slice_get n.equations j ≡ Some q → (¬ EquationKeeps rule n j q) → Breaks rule
 
   -- all rules of a stage are kept
   abbrev pub Passes : ℕ → Type 0

@@ -2,7 +2,8 @@
 use Rattle.std.specs.Prelude.{true, false, List, [], ◌∷◌, ℕ, codes}
 use Rattle.lutree.specs.declared.expr.Prefix.TheVariants.{Pre}
 use Rattle.lutree.specs.declared.expr.Infix.TheVariants.{Arrow, FollowedBy}
-use Rattle.lutree.specs.Tree.{Tree, DeclarationTree, EquationTree, NodeTree, ProgramTree}
+use Rattle.lutree.specs.declared.expr.Pattern.TheVariants as patterns
+use Rattle.lutree.specs.Tree.{Tree, DeclarationTree, EquationTree, NodeTree, ProgramTree, program_of}
 use Rattle.lutree.specs.Tree as tree
 use Rattle.lustat_rules.specs.Naming.{IsCallOrder}
 use Rattle.lustat_rules.specs.Clocks.{on, base}
@@ -32,9 +33,9 @@ held =
       name = codes "held";
       inputs = int_variable (codes "x") base ∷ bool_variable (codes "c") base ∷ [];
       outputs = int_variable (codes "y") base ∷ [];
-      locals = int_variable (codes "v") (on (codes "c") true) ∷ [];
+      locals = int_variable (codes "v") (on (codes "c") (patterns.Truth true)) ∷ [];
       equations =
-          defines (codes "v") (tree.when (tree.unary Pre x) (record { variable = codes "c"; sign = true }))
+          defines (codes "v") (tree.when (tree.unary Pre x) (record { variable = codes "c"; pattern = patterns.Truth true }))
           ∷ defines (codes "y") (tree.current (codes "v"))
           ∷ [];
     }
@@ -46,10 +47,10 @@ late =
       name = codes "late";
       inputs = int_variable (codes "x") base ∷ bool_variable (codes "d") base ∷ [];
       outputs = int_variable (codes "y") base ∷ [];
-      locals = bool_variable (codes "c") base ∷ int_variable (codes "v") (on (codes "c") true) ∷ [];
+      locals = bool_variable (codes "c") base ∷ int_variable (codes "v") (on (codes "c") (patterns.Truth true)) ∷ [];
       equations =
           defines (codes "c") (tree.unary Pre (tree.variable (codes "d")))
-          ∷ defines (codes "v") (tree.when x (record { variable = codes "c"; sign = true }))
+          ∷ defines (codes "v") (tree.when x (record { variable = codes "c"; pattern = patterns.Truth true }))
           ∷ defines (codes "y") x
           ∷ [];
     }
@@ -74,7 +75,7 @@ pub record NeededVectors : Type 0 where
   pub variable_of_current : ¬ HasClasses held
   pub clock_variable : ¬ HasClasses late
   pub variable_of_merge : ¬ HasClasses (sampled_late (tree.merge (codes "c") (tree.number 0) (tree.number 1)))
-  pub variable_of_when : ¬ HasClasses (sampled_late (tree.when x (record { variable = codes "c"; sign = true })))
+  pub variable_of_when : ¬ HasClasses (sampled_late (tree.when x (record { variable = codes "c"; pattern = patterns.Truth true })))
 
 -- CLOCKS
 
@@ -85,10 +86,10 @@ turned first =
       name = codes "main";
       inputs = bool_variable (codes "d") base ∷ int_variable (codes "x") base ∷ [];
       outputs = int_variable (codes "y") base ∷ [];
-      locals = bool_variable (codes "c") base ∷ int_variable (codes "v") (on (codes "c") false) ∷ [];
+      locals = bool_variable (codes "c") base ∷ int_variable (codes "v") (on (codes "c") (patterns.Truth false)) ∷ [];
       equations =
           defines (codes "c") (tree.binary Arrow first (tree.variable (codes "d")))
-          ∷ defines (codes "v") (tree.when x (record { variable = codes "c"; sign = false }))
+          ∷ defines (codes "v") (tree.when x (record { variable = codes "c"; pattern = patterns.Truth false }))
           ∷ defines (codes "y") (tree.current (codes "v"))
           ∷ [];
     }
@@ -101,36 +102,36 @@ chained =
       name = codes "main";
       inputs = bool_variable (codes "b") base ∷ int_variable (codes "x") base ∷ [];
       outputs =
-          bool_variable (codes "c") (on (codes "b") true)
-          ∷ int_variable (codes "v") (on (codes "c") true)
-          ∷ bool_variable (codes "w") (on (codes "l") true)
+          bool_variable (codes "c") (on (codes "b") (patterns.Truth true))
+          ∷ int_variable (codes "v") (on (codes "c") (patterns.Truth true))
+          ∷ bool_variable (codes "w") (on (codes "l") (patterns.Truth true))
           ∷ int_variable (codes "y") base
           ∷ [];
-      locals = bool_variable (codes "l") (on (codes "w") true) ∷ [];
+      locals = bool_variable (codes "l") (on (codes "w") (patterns.Truth true)) ∷ [];
       equations = [];
     }
 
 abbrev pub twice : Tree
-twice = tree.when (tree.when x (record { variable = codes "b"; sign = true })) (record { variable = codes "c"; sign = true })
+twice = tree.when (tree.when x (record { variable = codes "b"; pattern = patterns.Truth true })) (record { variable = codes "c"; pattern = patterns.Truth true })
 
 abbrev pub keeps_chained : Rule → EquationTree → Type 0
-keeps_chained rule q = EquationKeeps (chained ∷ []) main rule chained 0 q
+keeps_chained rule q = EquationKeeps (program_of (chained ∷ [])) main rule chained 0 q
 
 abbrev pub declares : Rule → ℕ → DeclarationTree → Type 0
-declares rule i d = DeclarationKeeps (chained ∷ []) main rule chained i d
+declares rule i d = DeclarationKeeps (program_of (chained ∷ [])) main rule chained i d
 
 pub record ClockChainVectors : Type 0 where
-  pub false_at_first : EquationKeeps (turned (tree.truth false) ∷ []) main Rule.current_may_be_nil (turned (tree.truth false)) 2 (defines (codes "y") (tree.current (codes "v")))
-  pub true_at_first : ¬ EquationKeeps (turned (tree.truth true) ∷ []) main Rule.current_may_be_nil (turned (tree.truth true)) 2 (defines (codes "y") (tree.current (codes "v")))
+  pub false_at_first : EquationKeeps (program_of (turned (tree.truth false) ∷ [])) main Rule.current_may_be_nil (turned (tree.truth false)) 2 (defines (codes "y") (tree.current (codes "v")))
+  pub true_at_first : ¬ EquationKeeps (program_of (turned (tree.truth true) ∷ [])) main Rule.current_may_be_nil (turned (tree.truth true)) 2 (defines (codes "y") (tree.current (codes "v")))
   pub sampled_twice : keeps_chained Rule.clock_mismatch (defines (codes "v") twice)
-  pub sampled_once : ¬ keeps_chained Rule.clock_mismatch (defines (codes "v") (tree.when x (record { variable = codes "c"; sign = true })))
+  pub sampled_once : ¬ keeps_chained Rule.clock_mismatch (defines (codes "v") (tree.when x (record { variable = codes "c"; pattern = patterns.Truth true })))
   pub current_of_chain : keeps_chained Rule.clock_mismatch (defines (codes "c") (tree.current (codes "v")))
   pub current_to_base : ¬ keeps_chained Rule.clock_mismatch (defines (codes "y") (tree.current (codes "v")))
-  pub chain : declares Rule.not_a_clock 3 (int_variable (codes "v") (on (codes "c") true))
-  pub loop : ¬ declares Rule.not_a_clock 4 (bool_variable (codes "w") (on (codes "l") true))
-  pub loop_of_local : ¬ declares Rule.not_a_clock 6 (bool_variable (codes "l") (on (codes "w") true))
-  pub clock_is_an_output : declares Rule.hidden_clock 3 (int_variable (codes "v") (on (codes "c") true))
-  pub clock_is_a_local : ¬ declares Rule.hidden_clock 4 (bool_variable (codes "w") (on (codes "l") true))
+  pub chain : declares Rule.not_a_clock 3 (int_variable (codes "v") (on (codes "c") (patterns.Truth true)))
+  pub loop : ¬ declares Rule.not_a_clock 4 (bool_variable (codes "w") (on (codes "l") (patterns.Truth true)))
+  pub loop_of_local : ¬ declares Rule.not_a_clock 6 (bool_variable (codes "l") (on (codes "w") (patterns.Truth true)))
+  pub clock_is_an_output : declares Rule.hidden_clock 3 (int_variable (codes "v") (on (codes "c") (patterns.Truth true)))
+  pub clock_is_a_local : ¬ declares Rule.hidden_clock 4 (bool_variable (codes "w") (on (codes "l") (patterns.Truth true)))
 
 -- CALLS
 
@@ -147,11 +148,11 @@ calling f g =
 
 -- two nodes that call each other, and one that calls the first of them
 abbrev pub round : ProgramTree
-round = calling (codes "f") (codes "g") ∷ calling (codes "g") (codes "f") ∷ calling (codes "h") (codes "f") ∷ []
+round = program_of (calling (codes "f") (codes "g") ∷ calling (codes "g") (codes "f") ∷ calling (codes "h") (codes "f") ∷ [])
 
 -- a node that calls the next, and that calls the last
 abbrev pub straight : ProgramTree
-straight = calling (codes "f") (codes "g") ∷ calling (codes "g") (codes "delay") ∷ delay x ∷ []
+straight = program_of (calling (codes "f") (codes "g") ∷ calling (codes "g") (codes "delay") ∷ delay x ∷ [])
 
 pub record CallVectors : Type 0 where
   pub first_of_two : ¬ NodeKeeps round main Rule.recursive_node 0 (calling (codes "f") (codes "g"))

@@ -6,7 +6,8 @@ use Rattle.lutree.specs.declared.expr.UnaryOperator.TheVariants.{Minus, Not}
 use Rattle.lutree.specs.declared.expr.BinaryOperator.TheVariants.{Less, Equal, And}
 use Rattle.lutree.specs.declared.expr.Prefix.TheVariants.{Data as Data1, Pre}
 use Rattle.lutree.specs.declared.expr.Infix.TheVariants.{Data as Data2, Arrow, FollowedBy}
-use Rattle.lutree.specs.Tree.{Tree, EquationTree, NodeTree}
+use Rattle.lutree.specs.declared.expr.Pattern.TheVariants as patterns
+use Rattle.lutree.specs.Tree.{Tree, EquationTree, NodeTree, program_of}
 use Rattle.lutree.specs.Tree as tree
 use Rattle.lustat_rules.specs.Clocks.{on, base, clocks_in}
 use Rattle.lustat_rules.specs.Classes.{Classes, is_one, NeedsMet, IsRaised, SamplersAreZero, HasClasses, currents_in}
@@ -64,13 +65,13 @@ abbrev pub follows : Tree → Tree → Tree
 follows = tree.binary FollowedBy
 
 abbrev pub when_c : Tree → Tree
-when_c e = tree.when e (record { variable = codes "c"; sign = true })
+when_c e = tree.when e (record { variable = codes "c"; pattern = patterns.Truth true })
 
 abbrev pub unless_c : Tree → Tree
-unless_c e = tree.when e (record { variable = codes "c"; sign = false })
+unless_c e = tree.when e (record { variable = codes "c"; pattern = patterns.Truth false })
 
 abbrev pub when_p : Tree → Tree
-when_p e = tree.when e (record { variable = codes "p"; sign = true })
+when_p e = tree.when e (record { variable = codes "p"; pattern = patterns.Truth true })
 
 abbrev pub merge_c : Tree → Tree → Tree
 merge_c = tree.merge (codes "c")
@@ -243,10 +244,10 @@ holding sign right =
       name = main;
       inputs = bool_variable (codes "d") base ∷ int_variable (codes "x") base ∷ [];
       outputs = int_variable (codes "y") base ∷ [];
-      locals = bool_variable (codes "c") base ∷ int_variable (codes "v") (on (codes "c") sign) ∷ [];
+      locals = bool_variable (codes "c") base ∷ int_variable (codes "v") (on (codes "c") (patterns.Truth sign)) ∷ [];
       equations =
           defines (codes "c") right
-          ∷ defines (codes "v") (tree.when x (record { variable = codes "c"; sign = sign }))
+          ∷ defines (codes "v") (tree.when x (record { variable = codes "c"; pattern = patterns.Truth sign }))
           ∷ defines (codes "y") (tree.current (codes "v"))
           ∷ [];
     }
@@ -257,7 +258,7 @@ y_holds = defines (codes "y") (held_of (codes "v"))
 abbrev pub begins : Bool → Tree → Type 0
 begins sign right =
     let n = holding sign right in
-    EquationKeeps (n ∷ []) main Rule.current_may_be_nil n 2 y_holds
+    EquationKeeps (program_of (n ∷ [])) main Rule.current_may_be_nil n 2 y_holds
 
 abbrev pub begins_not : Bool → Tree → Type 0
 begins_not sign right = ¬ begins sign right

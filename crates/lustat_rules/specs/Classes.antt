@@ -1,6 +1,7 @@
 -- The rules of initialisation: what of class 0 is never nil; what is of class 1 is nil at most at the first instant
 -- of its clock.
 use Rattle.std.specs.Prelude.{◌≡◌, ℕ, Bool, true, false, ◌||◌, List, [], ◌∷◌, ◌++◌, Some, IsTrue, IsFalse, IfSome, All, Contains}
+use Rattle.lutree.specs.declared.expr.Pattern.{Pattern}
 use Rattle.lutree.specs.declared.expr.Condition.{Condition}
 use Rattle.lutree.specs.declared.expr.Prefix.TheVariants.{Data as Data1, Pre}
 use Rattle.lutree.specs.declared.expr.Infix.TheVariants.{Data as Data2, Arrow, FollowedBy}
@@ -112,14 +113,14 @@ abbrev mutual
   currents_in_all tree.none = []
   currents_in_all (tree.more a all) = currents_in a ++ currents_in_all all
 
--- `true -> e` or `true fby e`; likewise for `false`
-pub data StartsWith (sign : Bool) : Tree → Type 0 where
-  arrow : (e : Tree) → StartsWith sign (tree.binary Arrow (tree.truth sign) e)
-  followed : (e : Tree) → StartsWith sign (tree.binary FollowedBy (tree.truth sign) e)
+-- what begins with the constant of a pattern: `true -> e` or `true fby e`; likewise for `false`
+pub data StartsWith (pattern : Pattern) : Tree → Type 0 where
+  arrow : (e : Tree) → StartsWith pattern (tree.binary Arrow (tree.constant_of pattern) e)
+  followed : (e : Tree) → StartsWith pattern (tree.binary FollowedBy (tree.constant_of pattern) e)
 
 -- a clock is true at the first instant of its own clock, by the form of its variable's equation
 abbrev pub IsTrueAtFirst : NodeTree → Condition → Type 0
-IsTrueAtFirst n c = (q : EquationTree) × Contains n.equations q × (q.left ≡ c.variable ∷ []) × StartsWith c.sign q.right
+IsTrueAtFirst n c = (q : EquationTree) × Contains n.equations q × (q.left ≡ c.variable ∷ []) × StartsWith c.pattern q.right
 
 -- the clock of a variable is true at first, if it has one
 abbrev pub ClockIsTrueAtFirst : NodeTree → List ℕ → Type 0

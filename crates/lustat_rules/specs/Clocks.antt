@@ -1,5 +1,7 @@
 -- The rules of clocks.
 use Rattle.std.specs.Prelude.{◌≡◌, ◌⊎◌, ◌↔◌, ℕ, Bool, true, false, List, [], ◌∷◌, ◌++◌, Some, None, IfSome, All}
+use Rattle.lutree.specs.declared.expr.Pattern.{Pattern}
+use Rattle.lutree.specs.declared.expr.Pattern.TheVariants as patterns
 use Rattle.lutree.specs.declared.expr.Condition.{Condition}
 use Rattle.lutree.specs.declared.expr.Prefix.{Prefix}
 use Rattle.lutree.specs.declared.expr.Infix.{Infix}
@@ -14,16 +16,16 @@ use Rattle.lustat_rules.specs.Naming.{Call, calls_in}
 abbrev pub base : Clock
 base = None
 
--- the clock of a variable with a sign
-abbrev pub on : List ℕ → Bool → Clock
-on c sign = Some (record { variable = c; sign = sign })
+-- the clock of a variable with a pattern
+abbrev pub on : List ℕ → Pattern → Clock
+on c pattern = Some (record { variable = c; pattern = pattern })
 
 -- the variable has the clock
 abbrev pub HasClock : NodeTree → List ℕ → Clock → Type 0
 HasClock n x k = clock_of n x ≡ Some k
 
 -- An expression fits a clock by these cases, and by no other. A clock variable has the one clock of its declaration, so two
--- clocks are the same chain of variables and signs where their first variables and signs are the same.
+-- clocks are the same chain of variables and patterns where their first variables and patterns are the same.
 mutual
   pub data Fits (n : NodeTree) : Tree → Clock → Type 0 where
     number : (a : ℕ) (k : Clock) → Fits n (tree.number a) k
@@ -34,7 +36,7 @@ mutual
     choice : (c a b : Tree) (k : Clock) → Fits n c k → Fits n a k → Fits n b k → Fits n (tree.choice c a b) k
     when : (a : Tree) (c : Condition) (j : Clock) → HasClock n c.variable j → Fits n a j → Fits n (tree.when a c) (Some c)
     current : (x : List ℕ) (c : Condition) (k : Clock) → HasClock n x (Some c) → HasClock n c.variable k → Fits n (tree.current x) k
-    merge : (c : List ℕ) (a b : Tree) (k : Clock) → HasClock n c k → Fits n a (on c true) → Fits n b (on c false) → Fits n (tree.merge c a b) k
+    merge : (c : List ℕ) (a b : Tree) (k : Clock) → HasClock n c k → Fits n a (on c (patterns.Truth true)) → Fits n b (on c (patterns.Truth false)) → Fits n (tree.merge c a b) k
     call : (f : List ℕ) (all : Trees) (k : Clock) → AllFit n all k → Fits n (tree.call f all) k
 
   -- each argument fits the clock
@@ -53,7 +55,7 @@ abbrev mutual
   FitsInside n (tree.choice c a b) k = FitsInside n c k × FitsInside n a k × FitsInside n b k
   FitsInside n (tree.when a c) k = (k ≡ Some c) × ((j : Clock) × HasClock n c.variable j × FitsInside n a j)
   FitsInside n (tree.current x) k = (c : Condition) × HasClock n x (Some c) × HasClock n c.variable k
-  FitsInside n (tree.merge c a b) k = HasClock n c k × FitsInside n a (on c true) × FitsInside n b (on c false)
+  FitsInside n (tree.merge c a b) k = HasClock n c k × FitsInside n a (on c (patterns.Truth true)) × FitsInside n b (on c (patterns.Truth false))
   FitsInside n (tree.call f all) k = AllFitInside n all k
 
   pub AllFitInside : NodeTree → Trees → Clock → Type 0

@@ -62,7 +62,7 @@ value_count p e = Some 1
 
 -- the node at a place is the first of its name
 abbrev pub IsNewNode : ProgramTree → ℕ → NodeTree → Type 0
-IsNewNode p i n = IsNew (map (λ (m : NodeTree). m.name) p) i n.name
+IsNewNode p i n = IsNew (map (λ (m : NodeTree). m.name) p.nodes) i n.name
 
 -- the declaration at a place of a node is the first of its name
 abbrev pub IsNewVariable : NodeTree → ℕ → DeclarationTree → Type 0
@@ -134,15 +134,19 @@ IsDefinedOnce n =
 abbrev pub DefinedOnceLaw : Type 0
 DefinedOnceLaw = (n : NodeTree) → ((i : ℕ) (q : EquationTree) → slice_get n.equations i ≡ Some q → DefinesAnew n i q) → IsDefinedOnce n
 
+-- the place of the first node of a name in a list
+abbrev pub place_of_first : List NodeTree → List ℕ → Option ℕ
+place_of_first [] f = None
+place_of_first (n ∷ ns) f = if bytes_eq n.name f then Some 0 else option_map suc (place_of_first ns f)
+
 -- the place of the node that a call means
 abbrev pub node_place : ProgramTree → List ℕ → Option ℕ
-node_place [] f = None
-node_place (n ∷ ns) f = if bytes_eq n.name f then Some 0 else option_map suc (node_place ns f)
+node_place p f = place_of_first p.nodes f
 
 -- all nodes by place, each after those that it calls
 pub record IsCallOrder (p : ProgramTree) (order : List ℕ) : Type 0 where
-  pub all : (i : ℕ) → i < length p → Contains order i
-  pub after : (k i j : ℕ) (n : NodeTree) (f : List ℕ) → slice_get order k ≡ Some i → slice_get p i ≡ Some n → Contains (called_by n) f → node_place p f ≡ Some j → Contains (take k order) j
+  pub all : (i : ℕ) → i < length p.nodes → Contains order i
+  pub after : (k i j : ℕ) (n : NodeTree) (f : List ℕ) → slice_get order k ≡ Some i → slice_get p.nodes i ≡ Some n → Contains (called_by n) f → node_place p f ≡ Some j → Contains (take k order) j
 
 -- where there is such an order, no node reaches itself by calls
 abbrev pub CallOrderLaw : Type 0

@@ -34,7 +34,7 @@ IsOutput n x = Contains (names_of n.outputs) x
 abbrev pub kind_of : NodeTree → List ℕ → Option Kind
 kind_of n x = option_map (λ (d : DeclarationTree). d.kind) (meaning n x)
 
--- a clock: a variable with a sign, or none, which is the base clock
+-- a clock: a variable with a pattern, or none, which is the base clock
 abbrev pub Clock : Type 0
 Clock = Option Condition
 
@@ -42,10 +42,14 @@ Clock = Option Condition
 abbrev pub clock_of : NodeTree → List ℕ → Option Clock
 clock_of n x = option_map (λ (d : DeclarationTree). d.clock) (meaning n x)
 
+-- the first node of a name in a list
+abbrev pub first_named : List NodeTree → List ℕ → Option NodeTree
+first_named [] f = None
+first_named (n ∷ ns) f = if bytes_eq n.name f then Some n else first_named ns f
+
 -- the node that a call means: the first of the name
 abbrev pub node_called : ProgramTree → List ℕ → Option NodeTree
-node_called [] f = None
-node_called (n ∷ ns) f = if bytes_eq n.name f then Some n else node_called ns f
+node_called p f = first_named p.nodes f
 
 abbrev pub IsNode : ProgramTree → List ℕ → Type 0
 IsNode p f = IsSome (node_called p f)

@@ -4,9 +4,10 @@ use Rattle.lutree.specs.declared.expr.UnaryOperator.TheVariants.{Minus, Not}
 use Rattle.lutree.specs.declared.expr.BinaryOperator.TheVariants.{Add, Multiply, Less, Equal, And}
 use Rattle.lutree.specs.declared.expr.Prefix.TheVariants.{Data as Data1, Pre}
 use Rattle.lutree.specs.declared.expr.Infix.TheVariants.{Data as Data2, Arrow, FollowedBy}
+use Rattle.lutree.specs.declared.expr.Pattern.TheVariants as patterns
 use Rattle.lutree.specs.declared.program.Kind.{Kind}
 use Rattle.lutree.specs.declared.program.Kind.TheVariants.{Int, Bool as Truths}
-use Rattle.lutree.specs.Tree.{Tree, Trees, DeclarationTree, EquationTree, NodeTree, ProgramTree}
+use Rattle.lutree.specs.Tree.{Tree, Trees, DeclarationTree, EquationTree, NodeTree, ProgramTree, program_of}
 use Rattle.lutree.specs.Tree as tree
 use Rattle.lustat_rules.specs.Scope.{Clock, kind_of, clock_of}
 use Rattle.lustat_rules.specs.Naming.{Call, names_in, calls_in, inner_calls, value_count}
@@ -42,7 +43,7 @@ abbrev pub plus : Tree → Tree → Tree
 plus = tree.binary (Data2 Add)
 
 abbrev pub x_when_c : Tree
-x_when_c = tree.when x (record { variable = codes "c"; sign = true })
+x_when_c = tree.when x (record { variable = codes "c"; pattern = patterns.Truth true })
 
 abbrev pub call_one : List ℕ → Tree → Tree
 call_one f e = tree.call f (tree.more e tree.none)
@@ -56,8 +57,8 @@ sampler =
     record {
       name = codes "main";
       inputs = int_variable (codes "x") base ∷ bool_variable (codes "c") base ∷ [];
-      outputs = int_variable (codes "y") base ∷ int_variable (codes "z") (on (codes "c") true) ∷ [];
-      locals = int_variable (codes "s") (on (codes "c") true) ∷ [];
+      outputs = int_variable (codes "y") base ∷ int_variable (codes "z") (on (codes "c") (patterns.Truth true)) ∷ [];
+      locals = int_variable (codes "s") (on (codes "c") (patterns.Truth true)) ∷ [];
       equations =
           defines (codes "s") x_when_c
           ∷ defines (codes "z") (tree.binary (Data2 Multiply) (tree.number 2) s)
@@ -88,13 +89,13 @@ one =
     }
 
 abbrev pub program : ProgramTree
-program = sampler ∷ two ∷ one ∷ []
+program = program_of (sampler ∷ two ∷ one ∷ [])
 
 -- NAMES AND CALLS
 
 -- one(one(x) + s when c)
 abbrev pub nested : Tree
-nested = call_one (codes "one") (plus (call_one (codes "one") x) (tree.when s (record { variable = codes "c"; sign = true })))
+nested = call_one (codes "one") (plus (call_one (codes "one") x) (tree.when s (record { variable = codes "c"; pattern = patterns.Truth true })))
 
 abbrev pub to_one : Call
 to_one = record { node = codes "one"; arguments = 1 }
@@ -114,7 +115,7 @@ pub record NamesAre : Type 0 where
   pub values_of_sum : value_count program (plus x x) ≡ Some 1
   pub kind_of_c : kind_of sampler (codes "c") ≡ Some Truths
   pub kind_of_w : kind_of sampler (codes "w") ≡ None
-  pub clock_of_z : clock_of sampler (codes "z") ≡ Some (on (codes "c") true)
+  pub clock_of_z : clock_of sampler (codes "z") ≡ Some (on (codes "c") (patterns.Truth true))
   pub clock_of_x : clock_of sampler (codes "x") ≡ Some base
 
 -- TYPES
@@ -140,7 +141,7 @@ pub record TypesAre : Type 0 where
   pub choice_by_int : has_type (tree.choice x x s) ≡ None
   pub choice_of_both : has_type (tree.choice c x c) ≡ None
   -- that a clock is bool is no matter of types
-  pub sample : has_type (tree.when c (record { variable = codes "x"; sign = false })) ≡ Some Truths
+  pub sample : has_type (tree.when c (record { variable = codes "x"; pattern = patterns.Truth false })) ≡ Some Truths
   pub held : has_type (tree.current (codes "s")) ≡ Some Int
   pub merged : has_type (tree.merge (codes "c") s x) ≡ Some Int
   pub merged_of_both : has_type (tree.merge (codes "c") s c) ≡ None
@@ -173,7 +174,7 @@ abbrev pub w : Tree
 w = tree.variable (codes "w")
 
 abbrev pub when_on : List ℕ → Tree
-when_on k = tree.when x (record { variable = k; sign = true })
+when_on k = tree.when x (record { variable = k; pattern = patterns.Truth true })
 
 abbrev pub defines_both : List ℕ → List ℕ → Tree → EquationTree
 defines_both a b e = record { left = a ∷ b ∷ []; right = e }
@@ -208,11 +209,11 @@ pub record TypedEquations : Type 0 where
 pub record ClockedEquations : Type 0 where
   pub constant_anywhere : keeps Rule.clock_mismatch (defines (codes "z") (plus s (tree.number 1)))
   pub sampled : keeps Rule.clock_mismatch (defines (codes "z") (plus s x_when_c))
-  pub merged : keeps Rule.clock_mismatch (defines (codes "y") (tree.merge (codes "c") s (tree.when x (record { variable = codes "c"; sign = false }))))
+  pub merged : keeps Rule.clock_mismatch (defines (codes "y") (tree.merge (codes "c") s (tree.when x (record { variable = codes "c"; pattern = patterns.Truth false }))))
   pub held : keeps Rule.clock_mismatch (defines (codes "y") (tree.current (codes "s")))
   pub sum_of_two_clocks : breaks Rule.clock_mismatch (defines (codes "y") (plus x x_when_c))
   pub slow_for_fast : breaks Rule.clock_mismatch (defines (codes "y") s)
-  pub wrong_sign : breaks Rule.clock_mismatch (defines (codes "z") (tree.when x (record { variable = codes "c"; sign = false })))
+  pub wrong_sign : breaks Rule.clock_mismatch (defines (codes "z") (tree.when x (record { variable = codes "c"; pattern = patterns.Truth false })))
   pub merged_turned : breaks Rule.clock_mismatch (defines (codes "y") (tree.merge (codes "c") (tree.number 1) s))
   pub held_on_base : breaks Rule.clock_mismatch (defines (codes "y") (tree.current (codes "x")))
   pub two_clocks_left : breaks Rule.clock_mismatch (defines_both (codes "y") (codes "z") (tree.number 1))
@@ -228,7 +229,7 @@ holder =
       name = codes "main";
       inputs = bool_variable (codes "d") base ∷ int_variable (codes "x") base ∷ [];
       outputs = int_variable (codes "y") base ∷ [];
-      locals = bool_variable (codes "c") base ∷ int_variable (codes "v") (on (codes "c") true) ∷ [];
+      locals = bool_variable (codes "c") base ∷ int_variable (codes "v") (on (codes "c") (patterns.Truth true)) ∷ [];
       equations =
           defines (codes "c") (tree.binary Arrow (tree.truth true) (tree.variable (codes "d")))
           ∷ defines (codes "v") x_when_c
@@ -252,7 +253,7 @@ pub record InitialisedNodes : Type 0 where
   pub bare_pre : ¬ HasClasses (delay (tree.unary Pre x))
   pub pre_of_pre : ¬ HasClasses (delay (tree.binary Arrow (tree.number 0) (tree.unary Pre (tree.unary Pre x))))
   pub pre_as_argument : ¬ HasClasses (delay (call_one (codes "one") (tree.unary Pre x)))
-  pub current_of_started : EquationKeeps (holder ∷ []) main Rule.current_may_be_nil holder 2 (defines (codes "y") (tree.current (codes "v")))
+  pub current_of_started : EquationKeeps (program_of (holder ∷ [])) main Rule.current_may_be_nil holder 2 (defines (codes "y") (tree.current (codes "v")))
   pub current_on_an_input : breaks Rule.current_may_be_nil (defines (codes "y") (tree.current (codes "s")))
 
 -- DECLARATIONS AND NODES
@@ -263,29 +264,29 @@ abbrev pub faulty : NodeTree
 faulty =
     record {
       name = codes "main";
-      inputs = int_variable (codes "x") base ∷ int_variable (codes "x") base ∷ int_variable (codes "k") (on (codes "b") true) ∷ [];
-      outputs = int_variable (codes "y") (on (codes "x") true) ∷ int_variable (codes "z") (on (codes "l") true) ∷ [];
-      locals = bool_variable (codes "l") base ∷ int_variable (codes "a") (on (codes "w") true) ∷ bool_variable (codes "b") (on (codes "b") true) ∷ [];
+      inputs = int_variable (codes "x") base ∷ int_variable (codes "x") base ∷ int_variable (codes "k") (on (codes "b") (patterns.Truth true)) ∷ [];
+      outputs = int_variable (codes "y") (on (codes "x") (patterns.Truth true)) ∷ int_variable (codes "z") (on (codes "l") (patterns.Truth true)) ∷ [];
+      locals = bool_variable (codes "l") base ∷ int_variable (codes "a") (on (codes "w") (patterns.Truth true)) ∷ bool_variable (codes "b") (on (codes "b") (patterns.Truth true)) ∷ [];
       equations = [];
     }
 
 abbrev pub declaration_breaks : Rule → ℕ → DeclarationTree → Type 0
-declaration_breaks r j d = ¬ DeclarationKeeps (faulty ∷ []) main r faulty j d
+declaration_breaks r j d = ¬ DeclarationKeeps (program_of (faulty ∷ [])) main r faulty j d
 
 pub record DeclarationsAndNodes : Type 0 where
   pub declared_twice : declaration_breaks Rule.duplicate_name 1 (int_variable (codes "x") base)
-  pub unknown_clock : declaration_breaks Rule.unknown_name 6 (int_variable (codes "a") (on (codes "w") true))
-  pub undefined : declaration_breaks Rule.undefined 3 (int_variable (codes "y") (on (codes "x") true))
-  pub input_is_given : DeclarationKeeps (faulty ∷ []) main Rule.undefined faulty 0 (int_variable (codes "x") base)
-  pub int_clock : declaration_breaks Rule.not_a_clock 3 (int_variable (codes "y") (on (codes "x") true))
-  pub clock_of_itself : declaration_breaks Rule.not_a_clock 7 (bool_variable (codes "b") (on (codes "b") true))
-  pub clock : DeclarationKeeps program main Rule.not_a_clock sampler 4 (int_variable (codes "s") (on (codes "c") true))
-  pub clocked_input : declaration_breaks Rule.clocked_parameter 2 (int_variable (codes "k") (on (codes "b") true))
-  pub clocked_output : ¬ DeclarationKeeps program (codes "two") Rule.clocked_parameter sampler 3 (int_variable (codes "z") (on (codes "c") true))
-  pub clocked_output_of_main : DeclarationKeeps program main Rule.clocked_parameter sampler 3 (int_variable (codes "z") (on (codes "c") true))
-  pub hidden_clock : declaration_breaks Rule.hidden_clock 4 (int_variable (codes "z") (on (codes "l") true))
-  pub visible_clock : DeclarationKeeps program main Rule.hidden_clock sampler 3 (int_variable (codes "z") (on (codes "c") true))
-  pub two_nodes : ¬ NodeKeeps (two ∷ two ∷ []) main Rule.duplicate_name 1 two
+  pub unknown_clock : declaration_breaks Rule.unknown_name 6 (int_variable (codes "a") (on (codes "w") (patterns.Truth true)))
+  pub undefined : declaration_breaks Rule.undefined 3 (int_variable (codes "y") (on (codes "x") (patterns.Truth true)))
+  pub input_is_given : DeclarationKeeps (program_of (faulty ∷ [])) main Rule.undefined faulty 0 (int_variable (codes "x") base)
+  pub int_clock : declaration_breaks Rule.not_a_clock 3 (int_variable (codes "y") (on (codes "x") (patterns.Truth true)))
+  pub clock_of_itself : declaration_breaks Rule.not_a_clock 7 (bool_variable (codes "b") (on (codes "b") (patterns.Truth true)))
+  pub clock : DeclarationKeeps program main Rule.not_a_clock sampler 4 (int_variable (codes "s") (on (codes "c") (patterns.Truth true)))
+  pub clocked_input : declaration_breaks Rule.clocked_parameter 2 (int_variable (codes "k") (on (codes "b") (patterns.Truth true)))
+  pub clocked_output : ¬ DeclarationKeeps program (codes "two") Rule.clocked_parameter sampler 3 (int_variable (codes "z") (on (codes "c") (patterns.Truth true)))
+  pub clocked_output_of_main : DeclarationKeeps program main Rule.clocked_parameter sampler 3 (int_variable (codes "z") (on (codes "c") (patterns.Truth true)))
+  pub hidden_clock : declaration_breaks Rule.hidden_clock 4 (int_variable (codes "z") (on (codes "l") (patterns.Truth true)))
+  pub visible_clock : DeclarationKeeps program main Rule.hidden_clock sampler 3 (int_variable (codes "z") (on (codes "c") (patterns.Truth true)))
+  pub two_nodes : ¬ NodeKeeps (program_of (two ∷ two ∷ [])) main Rule.duplicate_name 1 two
   pub calls_itself : ¬ NodeKeeps program main Rule.recursive_node 2 one
   pub calls_none : NodeKeeps program main Rule.recursive_node 1 two
   pub has_main : ProgramKeeps program main Rule.no_main
@@ -300,5 +301,5 @@ pub record VectorsLaw : Type 0 where
 
 -- the sampler alone is accepted, and a node that gives out `pre x` is refused
 pub record ProgramsAre : Type 0 where
-  pub accepted : IsAccepted (sampler ∷ []) main
-  pub refused : IsRefused (delay (tree.unary Pre x) ∷ []) (codes "delay") Rule.maybe_nil
+  pub accepted : IsAccepted (program_of (sampler ∷ [])) main
+  pub refused : IsRefused (program_of (delay (tree.unary Pre x) ∷ [])) (codes "delay") Rule.maybe_nil

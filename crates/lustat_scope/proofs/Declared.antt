@@ -10,8 +10,8 @@ use Rattle.std.proofs.lemmas.List.{map-append}
 use Rattle.lutree.specs.declared.program.Declaration.{Declaration}
 use Rattle.lutree.specs.declared.program.Node.{Node}
 use Rattle.lutree.specs.Tree.{DeclarationTree, NodeTree, declaration_view, declarations_view, node_view}
-use Rattle.lustat_rules.specs.Scope.{declarations_of, names_of, first_declared, meaning, node_called}
-use Rattle.lustat_rules.specs.Naming.{node_place}
+use Rattle.lustat_rules.specs.Scope.{declarations_of, names_of, first_declared, meaning, first_named}
+use Rattle.lustat_rules.specs.Naming.{place_of_first}
 use Rattle.lunames.specs.Places.{place_from, first_place}
 use Rattle.lustat_scope.specs.Scopes.{spellings, node_spellings}
 use Rattle.lustat_rules.specs.Faults.{declared_in}
@@ -45,13 +45,13 @@ called_step d ds false o p q e h = ap (at (d ∷ ds)) e ∙ at_suc d ds p ∙ h
 abbrev pub names_of_nodes : List NodeTree → List (List ℕ)
 names_of_nodes = map (λ (n : NodeTree). n.name)
 
-pub called_at_place : (p : List NodeTree) (f : List ℕ) → at p (first_place (names_of_nodes p) f) ≡ node_called p f
+pub called_at_place : (p : List NodeTree) (f : List ℕ) → at p (first_place (names_of_nodes p) f) ≡ first_named p f
 called_at_place [] f = refl
 called_at_place (n ∷ p) f =
-    called_step n p (bytes_eq n.name f) (node_called p f) (first_place (names_of_nodes p) f) (place_from 1 (names_of_nodes p) f)
+    called_step n p (bytes_eq n.name f) (first_named p f) (first_place (names_of_nodes p) f) (place_from 1 (names_of_nodes p) f)
     (shifted_first (names_of_nodes p) f) (called_at_place p f)
 
-pub place_of_node : (p : List NodeTree) (f : List ℕ) → first_place (names_of_nodes p) f ≡ node_place p f
+pub place_of_node : (p : List NodeTree) (f : List ℕ) → first_place (names_of_nodes p) f ≡ place_of_first p f
 place_of_node [] f = refl
 place_of_node (n ∷ p) f = ap (λ o. cond (bytes_eq n.name f) (Some 0) o) (shifted_first (names_of_nodes p) f ∙ ap (option_map suc) (place_of_node p f))
 
@@ -78,13 +78,13 @@ found_meaning n x items o r same place e =
     ∙ first_at_place (declarations_of (node_view n)) x
 
 -- the node at the first place of a name is what a call of it means
-pub found_called : (ns : List Node) (f : List ℕ) (o : Option ℕ) → o ≡ first_place (node_spellings ns) f → option_map node_view (at ns o) ≡ node_called (map node_view ns) f
+pub found_called : (ns : List Node) (f : List ℕ) (o : Option ℕ) → o ≡ first_place (node_spellings ns) f → option_map node_view (at ns o) ≡ first_named (map node_view ns) f
 found_called ns f o place =
     sym (at_map node_view ns o)
     ∙ ap (at (map node_view ns)) (place ∙ ap (λ l. first_place l f) (same_node_spellings ns))
     ∙ called_at_place (map node_view ns) f
 
-pub place_called : (ns : List Node) (f : List ℕ) → first_place (node_spellings ns) f ≡ node_place (map node_view ns) f
+pub place_called : (ns : List Node) (f : List ℕ) → first_place (node_spellings ns) f ≡ place_of_first (map node_view ns) f
 place_called ns f = ap (λ l. first_place l f) (same_node_spellings ns) ∙ place_of_node (map node_view ns) f
 
 length_spellings : (ds : List Declaration) → length (spellings ds) ≡ length ds

@@ -57,26 +57,26 @@ placed_there n items i (Some k) same places e =
     let here : k.place ≡ place_among names (placed_view k) = cc in
     record { at = here ∙ ap (λ l. place_among l (placed_view k)) (sym (names_in_view n)) }
 
--- clocks whose variables have one place are one where their signs are
+-- clocks whose variables have one place are one where their patterns are
 pub one_at_place : (names : List (List ℕ)) (j k : Clock) (u v : ℕ) → Some u ≡ place_among names j → Some v ≡ place_among names k
-    → u ≡ v → option_map (λ (c : Condition). c.sign) j ≡ option_map (λ (c : Condition). c.sign) k → j ≡ k
-one_at_place names None k u v e f same signs = absurd (cc)
-one_at_place names (Some c) None u v e f same signs = absurd (cc)
-one_at_place names (Some c) (Some d) u v e f same signs =
+    → u ≡ v → option_map (λ (c : Condition). c.pattern) j ≡ option_map (λ (c : Condition). c.pattern) k → j ≡ k
+one_at_place names None k u v e f same patterns = absurd (cc)
+one_at_place names (Some c) None u v e f same patterns = absurd (cc)
+one_at_place names (Some c) (Some d) u v e f same patterns =
     let there_c = there names c.variable u (sym e) in
     let there_d = there names d.variable v (sym f) in
     let one : Some c.variable ≡ Some d.variable = sym there_c ∙ ap (slice_get names) same ∙ there_d in
     let variable : c.variable ≡ d.variable = cc in
-    let sign : c.sign ≡ d.sign = cc in
-    ap (λ x. on x c.sign) variable ∙ ap (on d.variable) sign
+    let pattern : c.pattern ≡ d.pattern = cc in
+    ap (λ x. on x c.pattern) variable ∙ ap (on d.variable) pattern
 
--- two clocks of a node whose variables have places: they are one where places and signs are
+-- two clocks of a node whose variables have places: they are one where places and patterns are
 pub one_where : (n : NodeTree) (j k : PlacedClock) (u v : ℕ) (b : Bool) → IsPlaced n j → IsPlaced n k → j.place ≡ Some u → k.place ≡ Some v → u ≡ v
-    → (IsTrue b ↔ (option_map (λ (c : Condition). c.sign) (placed_view j) ≡ option_map (λ (c : Condition). c.sign) (placed_view k)))
+    → (IsTrue b ↔ (option_map (λ (c : Condition). c.pattern) (placed_view j) ≡ option_map (λ (c : Condition). c.pattern) (placed_view k)))
     → IsTrue b ↔ (placed_view j ≡ placed_view k)
-one_where n j k u v b p q e f same signs = (
-  λ h. one_at_place (names_of (declarations_of n)) (placed_view j) (placed_view k) u v (sym e ∙ p.at) (sym f ∙ q.at) same (signs.0 h),
-  λ h. signs.1 (ap (option_map (λ (c : Condition). c.sign)) h),
+one_where n j k u v b p q e f same patterns = (
+  λ h. one_at_place (names_of (declarations_of n)) (placed_view j) (placed_view k) u v (sym e ∙ p.at) (sym f ∙ q.at) same (patterns.0 h),
+  λ h. patterns.1 (ap (option_map (λ (c : Condition). c.pattern)) h),
 )
 
 -- what `get` found, copied

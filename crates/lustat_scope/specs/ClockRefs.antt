@@ -1,16 +1,23 @@
 -- Clocks as the code has them, and the places of their variables.
 use Rattle.std.specs.Prelude.{◌≡◌, ℕ, List, Option, Some, None}
+use Rattle.lutree.specs.declared.expr.Pattern.{Pattern}
+use Rattle.lutree.specs.declared.expr.Pattern.TheVariants as patterns
 use Rattle.lutree.specs.Tree.{NodeTree}
 use Rattle.lustat_rules.specs.Scope.{Clock, declarations_of, names_of, clock_of}
 use Rattle.lustat_rules.specs.Clocks.{on, base}
 use Rattle.lunames.specs.Places.{first_place}
+use Rattle.lustat_scope.specs.declared.clock_ref.PatternRef.{PatternRef}
+use Rattle.lustat_scope.specs.declared.clock_ref.PatternRef.TheVariants as lent
 use Rattle.lustat_scope.specs.declared.clock_ref.ClockRef.{ClockRef}
 use Rattle.lustat_scope.specs.declared.clock_ref.ClockRef.TheVariants as ref
 use Rattle.lustat_scope.specs.declared.clock_ref.PlacedClock.{PlacedClock}
 
+abbrev pub the_pattern : PatternRef → Pattern
+the_pattern (lent.Truth b) = patterns.Truth b
+
 abbrev pub the_clock : ClockRef → Clock
 the_clock ref.Base = base
-the_clock (ref.On c sign) = on c.now sign
+the_clock (ref.On c pattern) = on c.now (the_pattern pattern)
 
 -- where the variable that a clock names stands first in a row of names
 abbrev pub place_among : List (List ℕ) → Clock → Option ℕ

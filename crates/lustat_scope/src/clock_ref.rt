@@ -1,23 +1,61 @@
 //! Clocks, lent.
 
-ghost use Rattle.std.specs.Prelude.{◌≡◌, ◌↔◌, IsTrue};
-ghost use Rattle.lustat_scope.specs.ClockRefs.{the_clock};
+ghost use Rattle.std.specs.Prelude.{◌≡◌, ◌↔◌, IsTrue, Some};
+ghost use Rattle.lustat_scope.specs.ClockRefs.{the_pattern, the_clock};
 
-/// A clock, lent: the base clock of the node, or a variable with a sign.
+use lutree::{Condition, Pattern};
+
+/// A pattern, lent.
+#[derive(Clone, Copy, Debug)]
+pub enum PatternRef {
+    Truth(bool),
+}
+
+impl PatternRef {
+    /// A pattern of the tree, lent.
+    pub fn of(pattern: &Pattern) -> PatternRef
+        ensures { the_pattern result ≡ pattern.now }
+    {
+        match pattern {
+            Pattern::Truth(b) => PatternRef::Truth(*b),
+        }
+    }
+
+    /// Whether two patterns are one.
+    pub fn is(&self, other: &PatternRef) -> bool
+        ensures { IsTrue result ↔ (the_pattern self.now ≡ the_pattern other.now) }
+    {
+        match (*self, *other) {
+            (PatternRef::Truth(b), PatternRef::Truth(c)) => b == c,
+        }
+    }
+}
+
+/// A clock, lent: the base clock of the node, or a variable with a pattern.
 #[derive(Clone, Copy, Debug)]
 pub enum ClockRef<'a> {
     Base,
-    On(&'a str, bool),
+    On(&'a str, PatternRef),
 }
 
 impl<'a> ClockRef<'a> {
+    /// A clock of the tree, lent.
+    pub fn of(condition: &'a Condition) -> ClockRef<'a>
+        ensures { the_clock result ≡ Some condition.now }
+    {
+        ClockRef::On(
+            condition.variable.as_str(),
+            PatternRef::of(&condition.pattern),
+        )
+    }
+
     /// Whether two clocks are one.
     pub fn is(&self, other: &ClockRef) -> bool
         ensures { IsTrue result ↔ (the_clock self.now ≡ the_clock other.now) }
     {
         match (*self, *other) {
             (ClockRef::Base, ClockRef::Base) => true,
-            (ClockRef::On(c, s), ClockRef::On(d, t)) => c == d && s == t,
+            (ClockRef::On(c, p), ClockRef::On(d, q)) => c == d && p.is(&q),
             _ => false,
         }
     }

@@ -2,7 +2,7 @@
 //!
 //! - [`Scope`]: a node with the tables of its variables.
 //! - [`Catalog`]: a program with a scope for each node and a table of the nodes' names.
-//! - [`ClockRef`]: a clock, lent. [`PlacedClock`]: a clock, lent, with the place of its variable.
+//! - [`ClockRef`]: a clock, lent. [`PatternRef`]: its pattern, lent. [`PlacedClock`]: a clock, lent, with the place of its variable.
 //! - [`Stage`]: a stage of the static checks: its tests of nodes, declarations and equations.
 //! - [`least_fault`]: the least fault that a stage finds.
 //!
@@ -15,7 +15,7 @@ mod scope;
 mod stage;
 
 pub use catalog::Catalog;
-pub use clock_ref::{ClockRef, PlacedClock};
+pub use clock_ref::{ClockRef, PatternRef, PlacedClock};
 pub use lunames::Places;
 pub use scope::Scope;
 pub use stage::{Stage, least_fault};

@@ -92,15 +92,15 @@ fn places_of_lent<'a>(
     Places::new(alloc, names)
 }
 
-// Whether two clocks have one sign, or are both the base clock.
-fn have_one_sign(j: ClockRef, k: ClockRef) -> bool
+// Whether two clocks have one pattern, or are both the base clock.
+fn have_one_pattern(j: ClockRef, k: ClockRef) -> bool
     ensures { IsTrue result
-        ↔ (option_map (λ (c : Condition). c.sign) (the_clock j.entry)
-        ≡ option_map (λ (c : Condition). c.sign) (the_clock k.entry)) }
+        ↔ (option_map (λ (c : Condition). c.pattern) (the_clock j.entry)
+        ≡ option_map (λ (c : Condition). c.pattern) (the_clock k.entry)) }
 {
     match (j, k) {
         (ClockRef::Base, ClockRef::Base) => true,
-        (ClockRef::On(_, s), ClockRef::On(_, t)) => s == t,
+        (ClockRef::On(_, p), ClockRef::On(_, q)) => p.is(&q),
         _ => false,
     }
 }
@@ -116,7 +116,7 @@ fn declared_clock<'a>(variables: &Places, declaration: &'a Declaration) -> Place
             place: None,
         },
         Some(c) => PlacedClock {
-            clock: ClockRef::On(c.variable.as_str(), c.sign),
+            clock: ClockRef::of(c),
             place: variables.find(c.variable.as_str()),
         },
     }
@@ -207,7 +207,7 @@ impl<'a> Scope<'a> {
         let d = self.find(name)?;
         match &d.clock {
             None => Some(ClockRef::Base),
-            Some(c) => Some(ClockRef::On(c.variable.as_str(), c.sign)),
+            Some(c) => Some(ClockRef::of(c)),
         }
     }
 
@@ -266,7 +266,7 @@ impl<'a> Scope<'a> {
     {
         match (j.place, k.place) {
             (None, None) => j.clock.is(&k.clock),
-            (Some(u), Some(v)) => u == v && have_one_sign(j.clock, k.clock),
+            (Some(u), Some(v)) => u == v && have_one_pattern(j.clock, k.clock),
             _ => false,
         }
     }

@@ -52,7 +52,7 @@ lexer_fine text ts told lexed refused = ok_or_err _ ts told (lexed-whole text ts
 pub not_refused : (text : List ℕ) (found : ProgramTree) (refusal : SynError) → SpellsText text found → IsRefused text refusal → ⊥
 not_refused text found e.TooLong ((ts, lexed, s), few) (inl h) = lexer_fine text ts l.TooLong lexed h
 not_refused text found e.TooLong ((ts, lexed, s), few) (inr (other, has, many)) =
-    let same = ap length (program_same text found other (ts, lexed, s) has) in
+    let same = ap (λ (read : ProgramTree). length read.nodes) (program_same text found other (ts, lexed, s) has) in
     omega (arith, few, many, same)
 not_refused text found e.NotAscii ((ts, lexed, s), few) h = lexer_fine text ts l.NotAscii lexed h
 not_refused text found (e.Syntax byte) ((ts, lexed, s), few) (inl h) = lexer_fine text ts (l.NoToken byte) lexed h

@@ -153,13 +153,13 @@ parser-refuses text ls told e.OutOfMemory h only refuses r = absurd r
 
 -- ---- the parser gives a program
 
-nodes-seen : (found : Program) → length (program_view found) ≡ length found.nodes
+nodes-seen : (found : Program) → length (program_view found).nodes ≡ length found.nodes
 nodes-seen found = length-map found.nodes node_view
 
 pub many-only : (text : List ℕ) (ls : List Lexeme) (found : Program) (tree : ProgramTree) → Scanned text ls → ParsesOnly ls (Ok found) → 256 < length found.nodes
     → SpellsText text tree → ⊥
 many-only text ls found tree h only many ((ts, lexed, s), few) =
-    let same = ap length (only tree (spelled-at text ls ts tree h lexed s)) ∙ nodes-seen found in
+    let same = ap (λ (read : ProgramTree). length read.nodes) (only tree (spelled-at text ls ts tree h lexed s)) ∙ nodes-seen found in
     omega (arith, same, few, many)
 
 pub many-refused : (text : List ℕ) (ls : List Lexeme) (found : Program) → Scanned text ls → Spells (toks ls) (program_view found) → 256 < length found.nodes
@@ -173,7 +173,7 @@ pub found-refuses : (text : List ℕ) (ls : List Lexeme) (found : Program) (erro
     → IsRefused text error → (error ≡ e.TooLong) × (256 < length found.nodes)
 found-refuses text ls found e.TooLong h only refuses (inl r) = absurd (h.fine l.TooLong r)
 found-refuses text ls found e.TooLong h only refuses (inr (other, (ts, lexed, s), many)) =
-    let same = ap length (only other (spelled-at text ls ts other h lexed s)) ∙ nodes-seen found in
+    let same = ap (λ (read : ProgramTree). length read.nodes) (only other (spelled-at text ls ts other h lexed s)) ∙ nodes-seen found in
     (refl, omega (arith, same, many))
 found-refuses text ls found e.NotAscii h only refuses r = absurd (h.fine l.NotAscii r)
 found-refuses text ls found (e.Syntax byte) h only refuses (inl r) = absurd (h.fine (l.NoToken byte) r)

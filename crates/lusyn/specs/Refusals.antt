@@ -18,7 +18,7 @@ HasWrongTokens text byte = (ts : List Placed) × IsLexed text ts × IsWrongFrom 
 
 -- its program has more than 256 nodes
 abbrev pub HasManyNodes : List ℕ → Type 0
-HasManyNodes text = (found : ProgramTree) × HasProgram text found × (most_nodes < length found)
+HasManyNodes text = (found : ProgramTree) × HasProgram text found × (most_nodes < length found.nodes)
 
 -- This refusal is true of the text, and none of those before it in order: the length, a byte above 127, a byte that begins no
 -- token or a number too large, a long run, the grammar, the number of nodes. Want of memory is none of a text.

@@ -13,7 +13,7 @@ HasProgram text found = (ts : List Placed) × IsLexed text ts × Spells (unplace
 
 -- and the program has at most 256 nodes
 abbrev pub SpellsText : List ℕ → ProgramTree → Type 0
-SpellsText text found = HasProgram text found × (length found ≤ most_nodes)
+SpellsText text found = HasProgram text found × (length found.nodes ≤ most_nodes)
 
 -- This text spells the program again, if some text spells it and this one isn't longer than a text may be.
 abbrev pub IsReadBack : List ℕ → ProgramTree → Type 0

@@ -5,9 +5,9 @@ use Rattle.lutree.specs.declared.program.Kind.{Kind}
 use Rattle.lutree.specs.declared.program.Kind.TheVariants as kinds
 use Rattle.lusyn_tokens.specs.declared.token.Fixed.{Fixed}
 use Rattle.lusyn_tokens.specs.declared.token.Fixed.TheVariants as f
-use Rattle.lusyn_tokens.specs.Tokens.{Tok, identifier, fixed}
+use Rattle.lusyn_tokens.specs.Tokens.{Tok, fixed}
 use Rattle.lusyn_grammar.specs.Grammar as w
-use Rattle.lusyn_grammar.specs.Grammar.{WrittenDeclaration, repeated, led, separated, Each, IsNonempty, IsProperDeclaration, kind_token, when_tokens, sign_tokens, declared, declaration_tree}
+use Rattle.lusyn_grammar.specs.Grammar.{WrittenDeclaration, repeated, led, separated, Each, IsNonempty, IsProperDeclaration, kind_token, when_tokens, pattern_tokens, declared, declaration_tree}
 use Rattle.lusyn_grammar.specs.Reading.{after, begins, begins_name, condition, many, further_name, names, kind, clock_by, clocked, declaration, further_declaration, declarations, inputs, ended, ended_declaration, locals_by, locals}
 use Rattle.lusyn_grammar.proofs.SoundDeclarations.{Any, alone, flat_map-alone, declarations_tree, ended_tokens}
 use Rattle.lusyn_grammar.proofs.CompletePieces.{goes_on, Complete, may, many_complete, separated-few}
@@ -37,7 +37,7 @@ kind-taken kinds.Bool rest = refl
 
 clocked-taken : (c : Option Condition) (rest : List Tok) → after f.When rest ≡ Err rest → clocked (w.clock c rest) ≡ Ok (c, rest)
 clocked-taken None rest none = ap (clock_by rest) none
-clocked-taken (Some c) rest none = goes_on (condition (sign_tokens c.sign (identifier c.variable ∷ rest))) (c, rest) (λ x. Ok (Some x.0, x.1)) (condition-taken c rest)
+clocked-taken (Some c) rest none = goes_on (condition (pattern_tokens c.pattern c.variable rest)) (c, rest) (λ x. Ok (Some x.0, x.1)) (condition-taken c rest)
 
 abbrev pub IsSmallDeclaration : ℕ → WrittenDeclaration → Type 0
 IsSmallDeclaration n d = IsProperDeclaration d × (length d.names ≤ n)

@@ -6,6 +6,8 @@ use Rattle.lutree.specs.declared.expr.UnaryOperator.TheVariants as u
 use Rattle.lutree.specs.declared.expr.Prefix.{Prefix}
 use Rattle.lutree.specs.declared.expr.Prefix.TheVariants as p
 use Rattle.lutree.specs.declared.expr.Infix.{Infix}
+use Rattle.lutree.specs.declared.expr.Pattern.{Pattern}
+use Rattle.lutree.specs.declared.expr.Pattern.TheVariants as patterns
 use Rattle.lutree.specs.declared.expr.Condition.{Condition}
 use Rattle.lutree.specs.Tree.{Tree, Trees, trees_of}
 use Rattle.lutree.specs.Tree as t
@@ -13,7 +15,7 @@ use Rattle.lusyn_tokens.specs.declared.token.Fixed.{Fixed}
 use Rattle.lusyn_tokens.specs.declared.token.Fixed.TheVariants as f
 use Rattle.lusyn_tokens.specs.Tokens.{Tok, identifier, number, fixed}
 use Rattle.lusyn_tokens.specs.Tokens.{infix_token, prefix_token, level, left, right}
-use Rattle.lusyn_grammar.specs.Grammar.{Written, Writtens, tree, trees, tokens, further, level_of, IsProper, AreProper, when_tokens, sign_tokens, repeated, Each}
+use Rattle.lusyn_grammar.specs.Grammar.{Written, Writtens, tree, trees, tokens, further, level_of, IsProper, AreProper, when_tokens, pattern_tokens, repeated, Each}
 use Rattle.lusyn_grammar.specs.Grammar as w
 use Rattle.lusyn_grammar.specs.Reading.{Read, ◌>>=◌, Next, operator, clock, parenthesis, nothing, next, tail, after, begins, condition, many, step, climb, further_operand, closed, operands_by, operands, named, choice, inside, branch, merge, current, at_level, allowed, prefixed, head, whole, expr}
 use Rattle.lusyn_grammar.proofs.Tables.{level_low, level_high, right_high, right_bound, left_bound, operator_after, next-operator_token}
@@ -106,12 +108,12 @@ clock_quiet (w.unary one c) h = absurd (omega arith)
 clock_quiet (w.number n) h = omega arith
 clock_quiet _ h = omega arith
 
-pub condition-taken : (c : Condition) (rest : List Tok) → condition (sign_tokens c.sign (identifier c.variable ∷ rest)) ≡ Ok (c, rest)
-condition-taken c rest = by_sign c.sign refl
+pub condition-taken : (c : Condition) (rest : List Tok) → condition (pattern_tokens c.pattern c.variable rest) ≡ Ok (c, rest)
+condition-taken c rest = by_pattern c.pattern refl
   where
-    by_sign : (sign : Bool) → c.sign ≡ sign → condition (sign_tokens sign (identifier c.variable ∷ rest)) ≡ Ok (record { variable = c.variable; sign = sign }, rest)
-    by_sign true e = refl
-    by_sign false e = refl
+    by_pattern : (p : Pattern) → c.pattern ≡ p → condition (pattern_tokens p c.variable rest) ≡ Ok (record { variable = c.variable; pattern = p }, rest)
+    by_pattern (patterns.Truth true) e = refl
+    by_pattern (patterns.Truth false) e = refl
 
 passed_over : {A : Type 0} (a b : Bool) (x y : A) → a ≡ false → cond (a && b) x y ≡ y
 passed_over true b x y e = absurd cc
@@ -351,11 +353,11 @@ expr_complete zero c least rest small p b ten q = absurd (omega (arith, size-som
 expr_complete (suc n) c least rest small p b ten q = whole_complete (expr n) n (expr_complete n) c least rest small p b ten q
 
 pub when-size : (c : Condition) (rest : List Tok) → 2 + length rest ≤ length (when_tokens c rest)
-when-size c rest = by_sign c.sign
+when-size c rest = by_pattern c.pattern
   where
-    by_sign : (sign : Bool) → 2 + length rest ≤ suc (length (sign_tokens sign (identifier c.variable ∷ rest)))
-    by_sign true = omega arith
-    by_sign false = omega arith
+    by_pattern : (p : Pattern) → 2 + length rest ≤ suc (length (pattern_tokens p c.variable rest))
+    by_pattern (patterns.Truth true) = omega arith
+    by_pattern (patterns.Truth false) = omega arith
 
 mutual
   pub size-tokens : (c : Written) (rest : List Tok) → size c + length rest ≤ length (tokens c rest)

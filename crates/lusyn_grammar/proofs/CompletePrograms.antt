@@ -6,7 +6,7 @@ use Rattle.lutree.specs.Tree as t
 use Rattle.lusyn_tokens.specs.declared.token.Fixed.TheVariants as f
 use Rattle.lusyn_tokens.specs.Tokens.{Tok, identifier, fixed}
 use Rattle.lusyn_grammar.specs.Grammar as w
-use Rattle.lusyn_grammar.specs.Grammar.{Written, WrittenDeclaration, WrittenEquation, WrittenNode, WrittenProgram, tree, tokens, repeated, led, separated, optional, left_tokens, Each, IsNonempty, IsProper, IsCall, IsDefinedBy, IsProperDeclaration, IsProperEquation, IsProperNode, IsProperProgram, equation_tree, node_tree, program_tree, Spells}
+use Rattle.lusyn_grammar.specs.Grammar.{Written, WrittenDeclaration, WrittenEquation, WrittenNode, WrittenProgram, tree, tokens, repeated, led, separated, optional, left_tokens, Each, IsNonempty, IsProper, IsCall, IsDefinedBy, IsProperDeclaration, IsProperEquation, IsProperNode, IsProperProgram, equation_tree, node_tree, Spells}
 use Rattle.lusyn_grammar.specs.Reading.{Read, ◌>>=◌, next, after, begins, past, many, expr, operands, further_name, declarations, inputs, ended, locals, single, call, tuple_names, tuple, equation, ended_equation, begins_equation, equations, heading, body, node, further_node, program, to_the_end, all_of}
 use Rattle.lusyn_grammar.proofs.SoundExpressions.{between, between-tokens}
 use Rattle.lusyn_grammar.proofs.SoundDeclarations.{Any, declarations_tree}
@@ -147,7 +147,7 @@ EndsNode rest = after f.Semicolon rest ≡ Err rest
 further_node_complete : (n : ℕ) → Complete w.node node_trees (IsSmallNode n) EndsNode (further_node n)
 further_node_complete n p found rest small none = goes_on (node n (w.node p rest)) (node_tree p, rest) (λ x. Ok (found ++ x.0 ∷ [], x.1)) (node_complete n p rest small none)
 
-program_complete : (n : ℕ) (ps : WrittenProgram) → IsNonempty ps → Each (IsSmallNode n) ps → length ps ≤ n → program n (w.program ps []) ≡ Ok (program_tree ps, [])
+program_complete : (n : ℕ) (ps : WrittenProgram) → IsNonempty ps → Each (IsSmallNode n) ps → length ps ≤ n → program n (w.program ps []) ≡ Ok (map node_tree ps, [])
 unfolding program
 program_complete n [] some small few = absurd some
 program_complete n (p ∷ ps) some small few =
@@ -231,14 +231,14 @@ node-small most p rest proper h =
     }
 
 -- what is spelled so is read, by as many steps or more
-pub program-again : (most : ℕ) (ts : List Tok) (found : ProgramTree) → suc (length ts) ≤ most → Spells ts found → program most ts ≡ Ok (found, [])
+pub program-again : (most : ℕ) (ts : List Tok) (found : ProgramTree) → suc (length ts) ≤ most → Spells ts found → program most ts ≡ Ok (found.nodes, [])
 program-again most ts found enough (ps, proper, spelled, tree_is) =
     let h : length (w.program ps []) ≤ most = omega (arith, ap length spelled) in
     ap (program most) (sym spelled)
     ∙ program_complete most ps proper.0 (repeated-small w.node node-more IsProperNode (IsSmallNode most) most (node-small most) ps [] proper.1 h)
     (omega (arith, repeated-few w.node node-more ps []))
-    ∙ ap (λ (t : ProgramTree). Ok (t, [])) tree_is
+    ∙ ap (λ (read : ProgramTree). Ok (read.nodes, [])) tree_is
 
 pub all_of-again : (ts : List Tok) (found : ProgramTree) → Spells ts found → all_of ts ≡ Ok found
 unfolding all_of
-all_of-again ts found s = goes_on (program (suc (length ts)) ts) (found, []) to_the_end (program-again (suc (length ts)) ts found (omega arith) s)
+all_of-again ts found s = goes_on (program (suc (length ts)) ts) (found.nodes, []) to_the_end (program-again (suc (length ts)) ts found (omega arith) s)

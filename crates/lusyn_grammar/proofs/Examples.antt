@@ -1,5 +1,6 @@
 -- The worked readings, by computing them.
 use Rattle.std.proofs.Common.{◌≡◌, Ok, [], ◌∷◌, refl}
+use Rattle.lutree.specs.Tree.{program_of}
 use Rattle.lusyn_grammar.specs.Reading.{many, climb, operands, named, choice, inside, branch, merge, head, whole, expr, names, declaration, declarations, inputs, locals, single, call, tuple_names, tuple, equation, equations, heading, body, node, program, all_of}
 use Rattle.lusyn_grammar.specs.Examples.{ExpressionsAre, RefusalsAre, program_tokens, program_node}
 
@@ -7,7 +8,7 @@ pub expressions : ExpressionsAre
 unfolding many climb operands named choice inside branch merge head whole expr
 expressions = record { left_first = refl; right_first = refl; no_group = refl; tighter_left = refl; tighter_right = refl; clock_first = refl; current_ends = refl; product_first = refl; quotient_first = refl; sign_first = refl; sum_first = refl; negation_first = refl; equality_first = refl; conjunction_first = refl; implication_last = refl; arrows_last = refl; choice_last = refl; parentheses = refl; branches = refl; operands = refl; no_choice = refl }
 
-pub one_program : all_of program_tokens ≡ Ok (program_node ∷ [])
+pub one_program : all_of program_tokens ≡ Ok (program_of (program_node ∷ []))
 unfolding many climb operands named choice inside branch merge head whole expr names declaration declarations inputs locals single call tuple_names tuple equation equations heading body node program all_of
 one_program = refl
 

@@ -1,6 +1,7 @@
 -- Reading of expressions looks at no token after the one that it refuses.
 use Rattle.std.proofs.Common.{◌≡◌, ◌≤◌, ◌<◌, ℕ, zero, suc, Bool, true, false, cond, ◌&&◌, nat_le, List, [], ◌∷◌, ◌++◌, length, Option, Some, None, Result, Ok, Err, refl, ap, sym, ◌∙◌, inl, inr, arith}
 use Rattle.lutree.specs.declared.expr.Prefix.{Prefix}
+use Rattle.lutree.specs.declared.expr.Pattern.TheVariants as patterns
 use Rattle.lutree.specs.declared.expr.Condition.{Condition}
 use Rattle.lutree.specs.Tree.{Tree, trees_of}
 use Rattle.lutree.specs.Tree as t
@@ -16,7 +17,7 @@ closed-bind : {A : Type 0} (r : Read A) → closed r ≡ (r >>= λ y. after f.Cl
 closed-bind (Ok y) = refl
 closed-bind (Err ts) = refl
 
-signed-bind : (sign : Bool) (r : Read (List ℕ)) → signed sign r ≡ (r >>= λ y. let c : Condition = record { variable = y.0; sign = sign } in Ok (c, y.1))
+signed-bind : (sign : Bool) (r : Read (List ℕ)) → signed sign r ≡ (r >>= λ y. let c : Condition = record { variable = y.0; pattern = patterns.Truth sign } in Ok (c, y.1))
 signed-bind sign (Ok y) = refl
 signed-bind sign (Err ts) = refl
 
@@ -57,7 +58,7 @@ module _ (x : Tok) (rest us : List Tok) where
   local_name k = local_less x rest us (suc k) k (omega arith) (local_of x rest us (suc k) (strict_name k))
 
   abbrev conditioned : Bool → List ℕ → Condition
-  conditioned sign v = record { variable = v; sign = sign }
+  conditioned sign v = record { variable = v; pattern = patterns.Truth sign }
 
   local_signed : (k : ℕ) (sign : Bool) → Local x rest us k (λ ts. signed sign (name ts)) (λ ts. signed sign (name ts))
   local_signed k sign =

@@ -217,7 +217,7 @@ module _ (x : Tok) (rest us : List Tok) where
         (local_less x rest us (suc n) n (omega arith) (local_of x rest us (suc n) (strict_further_node []))) (λ ps.
         local_many x rest us n (begins f.Node) (further_node n) (further_node m) (first_begins f.Node) strict_further_node n m n ps (omega arith) up (omega arith))
 
-  longer : (r : Read ProgramTree) → length (left_of r) ≤ length rest → (r >>= to_the_end) ≡ Err (x ∷ rest) → ⊥
+  longer : (r : Read (List NodeTree)) → length (left_of r) ≤ length rest → (r >>= to_the_end) ≡ Err (x ∷ rest) → ⊥
   longer (Ok (ps, [])) b e = absurd cc
   longer (Ok (ps, y ∷ ts)) b e = let h : y ∷ ts ≡ x ∷ rest = same_rest (y ∷ ts) (x ∷ rest) e in absurd (omega (arith, ap length h))
     where
@@ -228,17 +228,17 @@ module _ (x : Tok) (rest us : List Tok) where
       same_rest : (a b : List Tok) → ◌≡◌ {A = Result ProgramTree (List Tok)} (Err a) (Err b) → a ≡ b
       same_rest a b e = cc
 
-  not_read : (q : List Tok) (v found : ProgramTree) → ◌≡◌ {A = Read ProgramTree} (Ok (v, q ++ x ∷ us)) (Ok (found, [])) → ⊥
-  not_read q v found e = not_empty q (ap (λ (r : Read ProgramTree). left_of r) e)
+  not_read : (q : List Tok) (v found : List NodeTree) → ◌≡◌ {A = Read (List NodeTree)} (Ok (v, q ++ x ∷ us)) (Ok (found, [])) → ⊥
+  not_read q v found e = not_empty q (ap (λ (r : Read (List NodeTree)). left_of r) e)
     where
       not_empty : (u : List Tok) → u ++ x ∷ us ≡ [] → ⊥
       not_empty [] h = absurd (omega (arith, ap length h))
       not_empty (y ∷ u) h = absurd (omega (arith, ap length h))
 
-  not_refused : (ts : List Tok) (found : ProgramTree) → ◌≡◌ {A = Read ProgramTree} (Err ts) (Ok (found, [])) → ⊥
+  not_refused : (ts : List Tok) (found : List NodeTree) → ◌≡◌ {A = Read (List NodeTree)} (Err ts) (Ok (found, [])) → ⊥
   not_refused ts found e = absurd cc
 
-  refused_alike : (k : ℕ) (r s : Read ProgramTree) (found : ProgramTree) → Same x rest us k r s → (r >>= to_the_end) ≡ Err (x ∷ rest) → s ≡ Ok (found, []) → ⊥
+  refused_alike : (k : ℕ) (r s : Read (List NodeTree)) (found : List NodeTree) → Same x rest us k r s → (r >>= to_the_end) ≡ Err (x ∷ rest) → s ≡ Ok (found, []) → ⊥
   refused_alike k r s found (read v q b e h) at_x told = not_read q v found (sym h ∙ told)
   refused_alike k r s found (refused q e h) at_x told = not_refused (q ++ x ∷ us) found (sym h ∙ told)
   refused_alike k r s found (beyond b) at_x told = longer r b at_x
@@ -250,5 +250,5 @@ no_text before x rest us found at_x s =
     let n : ℕ = suc (length (before ++ x ∷ rest)) in
     let m : ℕ = n + suc (length (before ++ x ∷ us)) in
     let l : Local x rest us n (program n) (program m) = local_program x rest us n m (omega arith) in
-    refused_alike x rest us (suc (length before)) (program n (before ++ x ∷ rest)) (program m (before ++ x ∷ us)) found
+    refused_alike x rest us (suc (length before)) (program n (before ++ x ∷ rest)) (program m (before ++ x ∷ us)) found.nodes
     (l.near before (omega (arith, length-append before (x ∷ rest)))) at_x (program-again m (before ++ x ∷ us) found (omega arith) s)

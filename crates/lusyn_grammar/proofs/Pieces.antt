@@ -2,11 +2,12 @@
 use Rattle.std.proofs.Common.{◌≡◌, ℕ, zero, suc, Result, Ok, Err, List, ◌∷◌, [], ◌++◌, refl, ap, sym, ◌∙◌, cond, Bool, true, false, append_assoc}
 use Rattle.std.specs.List.{flat_map}
 use Rattle.std.proofs.lemmas.List.{append-nil}
+use Rattle.lutree.specs.declared.expr.Pattern.TheVariants as patterns
 use Rattle.lutree.specs.declared.expr.Condition.{Condition}
 use Rattle.lusyn_tokens.specs.declared.token.Fixed.{Fixed}
 use Rattle.lusyn_tokens.specs.declared.token.Fixed.TheVariants as f
 use Rattle.lusyn_tokens.specs.Tokens.{Tok, identifier, number, fixed}
-use Rattle.lusyn_grammar.specs.Grammar.{repeated, optional, Each, sign_tokens, when_tokens}
+use Rattle.lusyn_grammar.specs.Grammar.{repeated, optional, Each, sign_tokens, pattern_tokens, when_tokens}
 use Rattle.lusyn_grammar.specs.Reading.{Read, ◌>>=◌, same, after, past_by, past, name, signed, condition_by, condition, many}
 use Rattle.lusyn_grammar.proofs.Tables.{same-is}
 
@@ -44,12 +45,12 @@ pub past-is : (ts : List Tok) → (b : Bool) × (optional b (past f.Semicolon ts
 past-is ts = past-is_by ts (after f.Semicolon ts) refl
 
 abbrev clock_tokens : Condition → List Tok → List Tok
-clock_tokens c rest = sign_tokens c.sign (identifier c.variable ∷ rest)
+clock_tokens c rest = pattern_tokens c.pattern c.variable rest
 
 signed-is : (sign : Bool) (ts : List Tok) (r : Read (List ℕ)) (x : Condition × List Tok) → name ts ≡ r → signed sign r ≡ Ok x → clock_tokens x.0 x.1 ≡ sign_tokens sign ts
 signed-is sign ts (Err us) x h e = absurd cc
 signed-is sign ts (Ok y) x h e =
-    let c : Condition = record { variable = y.0; sign = sign } in
+    let c : Condition = record { variable = y.0; pattern = patterns.Truth sign } in
     ap (λ (z : Condition × List Tok). clock_tokens z.0 z.1) (sym (same_ok (c, y.1) x e)) ∙ ap (sign_tokens sign) (name-is ts y h)
 
 condition_by-is : (ts : List Tok) (r : Result (List Tok) (List Tok)) (x : Condition × List Tok) → after f.Not ts ≡ r → condition_by ts r ≡ Ok x → clock_tokens x.0 x.1 ≡ ts

@@ -2,6 +2,8 @@
 use Rattle.std.proofs.Common.{◌≡◌, ℕ, Bool, true, false, true≢false, not, ◌||◌, List, [], ◌∷◌, ◌++◌, Option, Some, None, refl, ap, sym, ◌∙◌, append_assoc}
 use Rattle.lutree.specs.declared.expr.Prefix.{Prefix}
 use Rattle.lutree.specs.declared.expr.Infix.{Infix}
+use Rattle.lutree.specs.declared.expr.Pattern.{Pattern}
+use Rattle.lutree.specs.declared.expr.Pattern.TheVariants as patterns
 use Rattle.lutree.specs.declared.expr.Condition.{Condition}
 use Rattle.lutree.specs.declared.program.Kind.{Kind}
 use Rattle.lutree.specs.declared.program.Kind.TheVariants as kinds
@@ -10,7 +12,7 @@ use Rattle.lusyn_tokens.specs.declared.token.Fixed.TheVariants as f
 use Rattle.lusyn_tokens.specs.Tokens.{Tok, identifier, fixed}
 use Rattle.lusyn_tokens.specs.Tokens as tok
 use Rattle.lusyn_tokens.specs.Tokens.{prefix_token, infix_token, prefix_of}
-use Rattle.lusyn_grammar.specs.Grammar.{Written, Writtens, Each, WrittenDeclaration, WrittenEquation, repeated, led, ended, separated, name, truth_token, sign_tokens, when_tokens, tokens, further, kind_token, clock, declaration, left_tokens, equation}
+use Rattle.lusyn_grammar.specs.Grammar.{Written, Writtens, Each, WrittenDeclaration, WrittenEquation, repeated, led, ended, separated, name, truth_token, sign_tokens, pattern_tokens, when_tokens, tokens, further, kind_token, clock, declaration, left_tokens, equation}
 use Rattle.lusyn_grammar.specs.Grammar as w
 use Rattle.lusyn_grammar.specs.Reading.{next, nothing}
 use Rattle.lusyn_grammar.specs.Places.{is}
@@ -151,8 +153,11 @@ sign_inner : (v : Bool) → Own IsInner (sign_tokens v)
 sign_inner true = here
 sign_inner false = token (fixed f.Not) refl here
 
+pattern_inner : (p : Pattern) (x : List ℕ) → Own IsInner (pattern_tokens p x)
+pattern_inner (patterns.Truth v) x = both (sign_inner v) (token (identifier x) refl here)
+
 when_inner : (c : Condition) → Own IsInner (when_tokens c)
-when_inner c = token (fixed f.When) refl (both (sign_inner c.sign) (token (identifier c.variable) refl here))
+when_inner c = token (fixed f.When) refl (pattern_inner c.pattern c.variable)
 
 mutual
   pub inner : (c : Written) → Own IsInner (tokens c)

@@ -2,12 +2,12 @@
 use Rattle.std.proofs.Common.{◌≡◌, ◌≤◌, ℕ, List, [], ◌∷◌, ◌++◌, refl, ap, subst, ◌∙◌, arith, cond, Bool, true, false, nat_le, map}
 use Rattle.std.specs.List.{flat_map}
 use Rattle.std.proofs.lemmas.Bool.{leb-true}
-use Rattle.lutree.specs.Tree.{Tree, Trees, DeclarationTree, EquationTree, NodeTree, ProgramTree}
+use Rattle.lutree.specs.Tree.{Tree, Trees, DeclarationTree, EquationTree, NodeTree, ProgramTree, program_of}
 use Rattle.lutree.specs.Tree as t
 use Rattle.lusyn_tokens.specs.Tokens.{Tok}
 use Rattle.lusyn_tokens.specs.Tokens.{left, right}
 use Rattle.lusyn_grammar.specs.Grammar as w
-use Rattle.lusyn_grammar.specs.Grammar.{Written, Writtens, paren, tree, trees, level_of, IsProper, AreProper, WrittenDeclaration, WrittenEquation, WrittenNode, WrittenProgram, Each, IsNonempty, IsCall, IsDefinedBy, IsProperDeclaration, IsProperEquation, IsProperNode, IsProperProgram, declaration_tree, equation_tree, node_tree, program, program_tree, Spells}
+use Rattle.lusyn_grammar.specs.Grammar.{Written, Writtens, paren, tree, trees, level_of, IsProper, AreProper, WrittenDeclaration, WrittenEquation, WrittenNode, WrittenProgram, Each, IsNonempty, IsCall, IsDefinedBy, IsProperDeclaration, IsProperEquation, IsProperNode, IsProperProgram, declaration_tree, equation_tree, node_tree, program, Spells}
 use Rattle.lusyn_grammar.specs.Printing.{placed, written, writtens, written_declaration, written_equation, written_node, written_program, IsCallTree, IsPrintableEquation, IsPrintableNode, IsPrintable}
 use Rattle.lusyn_grammar.proofs.Tables.{left_high, right_high}
 
@@ -136,16 +136,16 @@ node_proper : (n : NodeTree) → IsPrintableNode n → IsProperNode (written_nod
 node_proper n h =
     (declarations_proper n.inputs, some_map written_declaration n.outputs h.0, declarations_proper n.outputs, declarations_proper n.locals, equations_proper n.equations h.1)
 
-program-written : (ns : ProgramTree) → program_tree (written_program ns) ≡ ns
-program-written [] = refl
-program-written (n ∷ ns) = ap (λ (m : NodeTree). m ∷ program_tree (written_program ns)) (node-written n) ∙ ap (λ (ms : ProgramTree). n ∷ ms) (program-written ns)
+nodes-written : (ns : List NodeTree) → map node_tree (map written_node ns) ≡ ns
+nodes-written [] = refl
+nodes-written (n ∷ ns) = ap (λ (m : NodeTree). m ∷ map node_tree (map written_node ns)) (node-written n) ∙ ap (λ (ms : List NodeTree). n ∷ ms) (nodes-written ns)
 
-nodes_proper : (ns : ProgramTree) → Each IsPrintableNode ns → Each IsProperNode (written_program ns)
+nodes_proper : (ns : List NodeTree) → Each IsPrintableNode ns → Each IsProperNode (map written_node ns)
 nodes_proper [] h = tt
 nodes_proper (n ∷ ns) h = (node_proper n h.0, nodes_proper ns h.1)
 
 pub printed-spells : (found : ProgramTree) → IsPrintable found → Spells (program (written_program found) []) found
-printed-spells found h = (written_program found, (some_map written_node found h.0, nodes_proper found h.1), refl, program-written found)
+printed-spells found h = (written_program found, (some_map written_node found.nodes h.0, nodes_proper found.nodes h.1), refl, ap program_of (nodes-written found.nodes))
 
 -- WHAT IS SPELLED IS PRINTABLE
 
@@ -166,7 +166,7 @@ equations_printable : (es : List WrittenEquation) → Each IsProperEquation es �
 equations_printable [] h = tt
 equations_printable (e ∷ es) h = (defined_along e.left (IsCall e.right) (IsCallTree (tree e.right)) (call_tree e.right) h.0.0, equations_printable es h.1)
 
-nodes_printable : (ps : WrittenProgram) → Each IsProperNode ps → Each IsPrintableNode (program_tree ps)
+nodes_printable : (ps : WrittenProgram) → Each IsProperNode ps → Each IsPrintableNode (map node_tree ps)
 nodes_printable [] h = tt
 nodes_printable (p ∷ ps) h = ((some_declared p.outputs h.0.1 h.0.2, equations_printable p.equations h.0.4), nodes_printable ps h.1)
 

@@ -2,12 +2,12 @@
 use Rattle.std.proofs.Common.{◌≡◌, ℕ, suc, Result, Ok, Err, List, ◌∷◌, [], ◌++◌, refl, ap, sym, ◌∙◌, Bool, false, map, length, arith}
 use Rattle.std.specs.List.{flat_map}
 use Rattle.std.proofs.lemmas.List.Concat.{flat_map_single}
-use Rattle.lutree.specs.Tree.{Tree, trees_of, DeclarationTree, EquationTree, NodeTree, ProgramTree}
+use Rattle.lutree.specs.Tree.{Tree, trees_of, DeclarationTree, EquationTree, NodeTree, ProgramTree, program_of}
 use Rattle.lutree.specs.Tree as t
 use Rattle.lusyn_tokens.specs.declared.token.Fixed.TheVariants as f
 use Rattle.lusyn_tokens.specs.Tokens.{Tok, identifier, fixed}
 use Rattle.lusyn_grammar.specs.Grammar as w
-use Rattle.lusyn_grammar.specs.Grammar.{Written, WrittenDeclaration, WrittenEquation, WrittenNode, WrittenProgram, tree, tokens, repeated, led, separated, optional, left_tokens, Each, IsNonempty, IsProper, IsCall, IsDefinedBy, IsProperDeclaration, IsProperEquation, IsProperNode, IsProperProgram, equation_tree, node_tree, program_tree, Spells}
+use Rattle.lusyn_grammar.specs.Grammar.{Written, WrittenDeclaration, WrittenEquation, WrittenNode, WrittenProgram, tree, tokens, repeated, led, separated, optional, left_tokens, Each, IsNonempty, IsProper, IsCall, IsDefinedBy, IsProperDeclaration, IsProperEquation, IsProperNode, IsProperProgram, equation_tree, node_tree, Spells}
 use Rattle.lusyn_grammar.specs.Reading.{after, begins, past, name, many, expr, operands, further_name, declarations, inputs, ended, locals, single, call, tuple_names, tuple, equation_by, equation, ended_equation, begins_equation, equations, heading, body, node, further_node, program, to_the_end, all_of}
 use Rattle.lusyn_grammar.proofs.Pieces.{bind_ok, same_ok, after-is, name-is, past-is, Reads, reads, Begins, Sound, many_sound}
 use Rattle.lusyn_grammar.proofs.SoundExpressions.{Expressed, Holds, between-tokens, operands_sound, expr_sound}
@@ -243,7 +243,7 @@ further_node_sound n found ts x e =
     reads w.node (λ q. found ++ node_trees q) IsProperNode h.written ts y.1 (found ++ y.0 ∷ []) x h.proper h.spelled
     (ap (λ (q : NodeTree). found ++ q ∷ []) h.stands) (same_ok (found ++ y.0 ∷ [], y.1) x second)
 
-program_sound : (n : ℕ) (ts : List Tok) (x : ProgramTree × List Tok) → program n ts ≡ Ok x → Reads w.program program_tree IsProperProgram ts x
+program_sound : (n : ℕ) (ts : List Tok) (x : List NodeTree × List Tok) → program n ts ≡ Ok x → Reads w.program (map node_tree) IsProperProgram ts x
 unfolding program
 program_sound n ts x e =
     let (y, one, others) = bind_ok (further_node n [] ts) (λ y. many (begins f.Node) (further_node n) n y.0 y.1) x e in
@@ -259,15 +259,15 @@ program_sound n ts x e =
           ∙ k.stands;
     }
 
-at_end : (x : ProgramTree × List Tok) (found : ProgramTree) → to_the_end x ≡ Ok found → (x.1 ≡ []) × (x.0 ≡ found)
-at_end (t, []) found e = (refl, same_ok t found e)
-at_end (t, u ∷ us) found e = absurd cc
+at_end : (x : List NodeTree × List Tok) (found : ProgramTree) → to_the_end x ≡ Ok found → (x.1 ≡ []) × (program_of x.0 ≡ found)
+at_end (ns, []) found e = (refl, same_ok (program_of ns) found e)
+at_end (ns, u ∷ us) found e = absurd cc
 
 -- what is read is spelled so
 pub all_of-spells : (ts : List Tok) (found : ProgramTree) → all_of ts ≡ Ok found → Spells ts found
 unfolding all_of
 all_of-spells ts found e =
     let (x, first, second) = bind_ok (program (suc (length ts)) ts) to_the_end found e in
-    let k : Reads w.program program_tree IsProperProgram ts x = program_sound (suc (length ts)) ts x first in
+    let k : Reads w.program (map node_tree) IsProperProgram ts x = program_sound (suc (length ts)) ts x first in
     let h = at_end x found second in
-    (k.written, k.proper, ap (w.program k.written) (sym h.0) ∙ k.spelled, k.stands ∙ h.1)
+    (k.written, k.proper, ap (w.program k.written) (sym h.0) ∙ k.spelled, ap program_of k.stands ∙ h.1)

@@ -1,6 +1,7 @@
 -- What stands before a refused token of an expression goes on to an expression.
 use Rattle.std.proofs.Common.{◌≡◌, ◌⊎◌, inl, inr, ◌≤◌, ◌<◌, ◌+◌, ℕ, zero, suc, Option, Some, None, Result, Ok, Err, List, ◌∷◌, [], ◌++◌, length, refl, ap, sym, subst, ◌∙◌, arith, true, false, Bool, ◌&&◌, nat_le, cond}
 use Rattle.std.proofs.lemmas.Bool.{and_parts, leb-true}
+use Rattle.lutree.specs.declared.expr.Pattern.TheVariants as patterns
 use Rattle.lutree.specs.declared.expr.Condition.{Condition}
 use Rattle.lutree.specs.declared.expr.Prefix.{Prefix}
 use Rattle.lutree.specs.declared.expr.Infix.{Infix}
@@ -43,27 +44,27 @@ err_tree vs us e = cc
 abbrev pub Clocked : Part → Type 0
 Clocked d = (c : Condition) × ((rest : List Tok) → fixed f.When ∷ d rest ≡ when_tokens c rest)
 
-signed_bind : (sign : Bool) (r : Read (List ℕ)) → signed sign r ≡ (r >>= λ x. Ok (let c : Condition = record { variable = x.0; sign = sign } in c, x.1))
+signed_bind : (sign : Bool) (r : Read (List ℕ)) → signed sign r ≡ (r >>= λ x. Ok (let c : Condition = record { variable = x.0; pattern = patterns.Truth sign } in c, x.1))
 signed_bind sign (Err us) = refl
 signed_bind sign (Ok x) = refl
 
 reader_signed : {most : ℕ} (sign : Bool) → Reader Named 1 most (λ ts. signed sign (name ts))
 reader_signed {most = most} sign =
-    let k : List ℕ → List Tok → Read Condition = λ x ts. Ok (record { variable = x; sign = sign }, ts) in
+    let k : List ℕ → List Tok → Read Condition = λ x ts. Ok (record { variable = x; pattern = patterns.Truth sign }, ts) in
     reader_same (λ ts. name ts >>= λ x. k x.0 x.1) (λ ts. signed sign (name ts)) (λ ts. signed_bind sign (name ts))
-    (reader_then name k (λ d e (x, h) here. (x, λ rest. h (e rest) ∙ ap (λ (us : List Tok). identifier x ∷ us) (here rest))) some_here (omega arith) reader_name (λ v. reader_ok {most = most} (record { variable = v; sign = sign })))
+    (reader_then name k (λ d e (x, h) here. (x, λ rest. h (e rest) ∙ ap (λ (us : List Tok). identifier x ∷ us) (here rest))) some_here (omega arith) reader_name (λ v. reader_ok {most = most} (record { variable = v; pattern = patterns.Truth sign })))
 
 pub reader_condition : {most : ℕ} → Reader Clocked 1 most condition
 reader_condition {most = most} =
     reader_case {most = most} {more = most} f.Not (λ ts. signed true (name ts)) (λ ts. signed false (name ts)) condition_by
-    (λ d (x, h). (record { variable = x; sign = true }, λ rest. ap (λ (us : List Tok). fixed f.When ∷ us) (h rest)))
-    (λ d (x, h). (record { variable = x; sign = false }, λ rest. ap (λ (us : List Tok). fixed f.When ∷ fixed f.Not ∷ us) (h rest)))
+    (λ d (x, h). (record { variable = x; pattern = patterns.Truth true }, λ rest. ap (λ (us : List Tok). fixed f.When ∷ us) (h rest)))
+    (λ d (x, h). (record { variable = x; pattern = patterns.Truth false }, λ rest. ap (λ (us : List Tok). fixed f.When ∷ fixed f.Not ∷ us) (h rest)))
     (omega arith) (omega arith) (omega arith) (λ ts us. refl) (λ ts rest. refl) (reader_signed true) (reader_signed false)
 
 pub some_condition : Some_part Clocked 1
 some_condition = record {
   part = λ rest. identifier [] ∷ rest;
-  good = (record { variable = []; sign = true }, λ rest. refl);
+  good = (record { variable = []; pattern = patterns.Truth true }, λ rest. refl);
   front = front_token (identifier []) front_here;
 }
 

@@ -635,7 +635,7 @@ stopped_program ts us h =
 refused_rest : (x : Tok) (rest us : List Tok) → ◌≡◌ {A = Result ProgramTree (List Tok)} (Err (x ∷ rest)) (Err us) → us ≡ x ∷ rest
 refused_rest x rest us e = cc
 
-read_too_far : (ts us : List Tok) (x : ProgramTree × List Tok) → Done Program 1 ts x.1 → to_the_end x ≡ Err us → GoesOn ts us
+read_too_far : (ts us : List Tok) (x : List NodeTree × List Tok) → Done Program 1 ts x.1 → to_the_end x ≡ Err us → GoesOn ts us
 read_too_far ts us (found, []) h e = absurd cc
 read_too_far ts us (found, x ∷ rest) h e =
     let (p, proper, same) = h.good in
@@ -643,7 +643,7 @@ read_too_far ts us (found, x ∷ rest) h e =
     let parts : h.front.own ++ (x ∷ rest) ≡ ts = sym (h.front.is (x ∷ rest)) ∙ h.at in
     (h.front.own, [], program_tree p, ap (λ (vs : List Tok). h.front.own ++ vs) rest_is ∙ parts, (p, proper, sym (same []) ∙ h.front.is [], refl))
 
-goes_on_by : (ts us : List Tok) → (program (suc (length ts)) ts ≡ Err us) ⊎ ((x : ProgramTree × List Tok) × (program (suc (length ts)) ts ≡ Ok x) × (to_the_end x ≡ Err us)) → GoesOn ts us
+goes_on_by : (ts us : List Tok) → (program (suc (length ts)) ts ≡ Err us) ⊎ ((x : List NodeTree × List Tok) × (program (suc (length ts)) ts ≡ Ok x) × (to_the_end x ≡ Err us)) → GoesOn ts us
 goes_on_by ts us (inl e) = stopped_program ts us ((reader_program (suc (length ts))).stopped ts us (omega arith) e)
 goes_on_by ts us (inr (x, e1, e2)) = read_too_far ts us x ((reader_program (suc (length ts))).done ts x e1) e2
 

@@ -4,9 +4,10 @@ use Rattle.lutree.specs.declared.expr.UnaryOperator.TheVariants as u
 use Rattle.lutree.specs.declared.expr.BinaryOperator.TheVariants as b
 use Rattle.lutree.specs.declared.expr.Prefix.TheVariants as p
 use Rattle.lutree.specs.declared.expr.Infix.TheVariants as i
+use Rattle.lutree.specs.declared.expr.Pattern.TheVariants as patterns
 use Rattle.lutree.specs.declared.expr.Condition.{Condition}
 use Rattle.lutree.specs.declared.program.Kind.TheVariants as kinds
-use Rattle.lutree.specs.Tree.{Tree, number, truth, variable, unary, binary, choice, when, current, merge, call, none, more, NodeTree}
+use Rattle.lutree.specs.Tree.{Tree, number, truth, variable, unary, binary, choice, when, current, merge, call, none, more, NodeTree, program_of}
 use Rattle.lusyn_tokens.specs.declared.token.Fixed.TheVariants as f
 use Rattle.lusyn_tokens.specs.Tokens.{Tok, identifier, fixed}
 use Rattle.lusyn_tokens.specs.Tokens as tok
@@ -30,7 +31,7 @@ abbrev pub three : Tok → Tok → List Tok
 three op other = identifier x ∷ op ∷ identifier y ∷ other ∷ identifier z ∷ []
 
 abbrev pub is_on : Bool → Condition
-is_on sign = record { variable = y; sign = sign }
+is_on sign = record { variable = y; pattern = patterns.Truth sign }
 
 pub record ExpressionsAre : Type 0 where
   -- x - y - z is (x - y) - z, x -> y -> z is x -> (y -> z), and x < y < z ends before the second <
@@ -57,7 +58,7 @@ pub record ExpressionsAre : Type 0 where
   pub arrows_last : reading (three (fixed f.Implies) (fixed f.FollowedBy)) ≡ Ok (binary i.FollowedBy (binary (i.Data b.Implies) (variable x) (variable y)) (variable z), [])
   pub choice_last : reading (fixed f.If ∷ identifier x ∷ fixed f.Then ∷ identifier y ∷ fixed f.Else ∷ identifier z ∷ fixed f.Arrow ∷ identifier x ∷ []) ≡ Ok (choice (variable x) (variable y) (binary i.Arrow (variable z) (variable x)), [])
   -- (x - y) when z, merge x (true -> y) (false -> 7), and x(y, true)
-  pub parentheses : reading (fixed f.Open ∷ identifier x ∷ fixed f.Minus ∷ identifier y ∷ fixed f.Close ∷ fixed f.When ∷ identifier z ∷ []) ≡ Ok (when (binary (i.Data b.Subtract) (variable x) (variable y)) (record { variable = z; sign = true }), [])
+  pub parentheses : reading (fixed f.Open ∷ identifier x ∷ fixed f.Minus ∷ identifier y ∷ fixed f.Close ∷ fixed f.When ∷ identifier z ∷ []) ≡ Ok (when (binary (i.Data b.Subtract) (variable x) (variable y)) (record { variable = z; pattern = patterns.Truth true }), [])
   pub branches : reading (fixed f.Merge ∷ identifier x ∷ fixed f.Open ∷ fixed f.True ∷ fixed f.Arrow ∷ identifier y ∷ fixed f.Close ∷ fixed f.Open ∷ fixed f.False ∷ fixed f.Arrow ∷ tok.number 7 ∷ fixed f.Close ∷ []) ≡ Ok (merge x (variable y) (number 7), [])
   pub operands : reading (identifier x ∷ fixed f.Open ∷ identifier y ∷ fixed f.Comma ∷ fixed f.True ∷ fixed f.Close ∷ []) ≡ Ok (call x (more (variable y) (more (truth true) none)), [])
   -- x + if y .. is none
@@ -110,4 +111,4 @@ pub record RefusalsAre : Type 0 where
   pub too_short : all_of (equation_then (identifier x ∷ [])) ≡ Err []
 
 abbrev pub ExamplesLaw : Type 0
-ExamplesLaw = ExpressionsAre × (all_of program_tokens ≡ Ok (program_node ∷ [])) × RefusalsAre
+ExamplesLaw = ExpressionsAre × (all_of program_tokens ≡ Ok (program_of (program_node ∷ []))) × RefusalsAre

@@ -26,6 +26,8 @@ use Rattle.std.specs.Prelude.{◌≡◌, ◌≤◌, ℕ, Bool, true, false, List
 use Rattle.std.specs.List.{flat_map}
 use Rattle.lutree.specs.declared.expr.Prefix.{Prefix}
 use Rattle.lutree.specs.declared.expr.Infix.{Infix}
+use Rattle.lutree.specs.declared.expr.Pattern.{Pattern}
+use Rattle.lutree.specs.declared.expr.Pattern.TheVariants as patterns
 use Rattle.lutree.specs.declared.expr.Condition.{Condition}
 use Rattle.lutree.specs.declared.program.Kind.{Kind}
 use Rattle.lutree.specs.declared.program.Kind.TheVariants as kinds
@@ -120,9 +122,13 @@ abbrev pub sign_tokens : Bool → List Tok → List Tok
 sign_tokens true rest = rest
 sign_tokens false rest = fixed f.Not ∷ rest
 
+-- [ "not" ] ident
+abbrev pub pattern_tokens : Pattern → List ℕ → List Tok → List Tok
+pattern_tokens (patterns.Truth sign) x rest = sign_tokens sign (identifier x ∷ rest)
+
 -- "when" [ "not" ] ident
 abbrev pub when_tokens : Condition → List Tok → List Tok
-when_tokens c rest = fixed f.When ∷ sign_tokens c.sign (identifier c.variable ∷ rest)
+when_tokens c rest = fixed f.When ∷ pattern_tokens c.pattern c.variable rest
 
 abbrev mutual
   pub tokens : Written → List Tok → List Tok
@@ -297,7 +303,7 @@ node_tree n = record {
 }
 
 abbrev pub program_tree : WrittenProgram → ProgramTree
-program_tree = map node_tree
+program_tree p = record { nodes = map node_tree p }
 
 -- these tokens, to the last, spell this program
 abbrev pub Spells : List Tok → ProgramTree → Type 0

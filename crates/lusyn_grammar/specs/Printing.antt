@@ -45,7 +45,7 @@ written_node n = record {
 }
 
 abbrev pub written_program : ProgramTree → WrittenProgram
-written_program = map written_node
+written_program p = map written_node p.nodes
 
 -- Which trees can be printed.
 
@@ -63,4 +63,4 @@ IsPrintableNode n = IsNonempty n.outputs × Each IsPrintableEquation n.equations
 
 -- with at least one node
 abbrev pub IsPrintable : ProgramTree → Type 0
-IsPrintable p = IsNonempty p × Each IsPrintableNode p
+IsPrintable p = IsNonempty p.nodes × Each IsPrintableNode p.nodes

@@ -6,6 +6,7 @@ use Rattle.std.specs.Result.{is_ok}
 use Rattle.std.specs.Str.{bytes_eq}
 use Rattle.lutree.specs.declared.expr.Prefix.{Prefix}
 use Rattle.lutree.specs.declared.expr.Infix.{Infix}
+use Rattle.lutree.specs.declared.expr.Pattern.TheVariants as patterns
 use Rattle.lutree.specs.declared.expr.Condition.{Condition}
 use Rattle.lutree.specs.declared.program.Kind.{Kind}
 use Rattle.lutree.specs.declared.program.Kind.TheVariants as kinds
@@ -59,7 +60,7 @@ begins_name ts = is_ok (name ts)
 
 abbrev pub signed : Bool → Read (List ℕ) → Read Condition
 signed sign (Err us) = Err us
-signed sign (Ok x) = Ok (record { variable = x.0; sign = sign }, x.1)
+signed sign (Ok x) = Ok (record { variable = x.0; pattern = patterns.Truth sign }, x.1)
 
 -- after `when`: the variable, with `not` before it or without
 abbrev pub condition_by : List Tok → Result (List Tok) (List Tok) → Read Condition
@@ -356,12 +357,13 @@ node n ts = do
 abbrev pub further_node : ℕ → List NodeTree → List Tok → Read (List NodeTree)
 further_node n found ts = node n ts >>= λ x. Ok (found ++ x.0 ∷ [], x.1)
 
-unfoldable pub program : ℕ → List Tok → Read ProgramTree
+-- the nodes of a program
+unfoldable pub program : ℕ → List Tok → Read (List NodeTree)
 program n ts = further_node n [] ts >>= λ x. many (begins f.Node) (further_node n) n x.0 x.1
 
-abbrev pub to_the_end : ProgramTree × List Tok → Result ProgramTree (List Tok)
-to_the_end (x, []) = Ok x
-to_the_end (x, t ∷ ts) = Err (t ∷ ts)
+abbrev pub to_the_end : List NodeTree × List Tok → Result ProgramTree (List Tok)
+to_the_end (ns, []) = Ok (record { nodes = ns })
+to_the_end (ns, t ∷ ts) = Err (t ∷ ts)
 
 -- all of the tokens, or the rest from the refused one on
 unfoldable pub all_of : List Tok → Result ProgramTree (List Tok)

@@ -1,6 +1,8 @@
 -- The places that each function of the parser answers are those that its tokens tell.
 use Rattle.std.proofs.Common.{◌≡◌, ◌+◌, ℕ, Bool, true, false, List, [], ◌∷◌, ◌++◌, Option, Some, None, Result, Ok, Err, IfOk, refl, ap, sym, ◌∙◌, append_assoc}
 use Rattle.std.proofs.lemmas.List.{map-append}
+use Rattle.lutree.specs.declared.expr.Pattern.{Pattern}
+use Rattle.lutree.specs.declared.expr.Pattern.TheVariants as patterns
 use Rattle.lutree.specs.declared.expr.Condition.{Condition}
 use Rattle.lutree.specs.declared.program.Equation.{Equation}
 use Rattle.lutree.specs.declared.program.Kind.{Kind}
@@ -116,14 +118,17 @@ signed_names ls at next x false h =
     let s = stands ls at (fixed f.Not) (identifier x ∷ ahead ls next) (sym h) in
     ap (declared true) s.here ∙ declared_not (first (from ls at)) (from ls (at + 1)) ∙ sampler_names ls (at + 1) next x (sym s.others)
 
+pattern_names : (ls : List Lexeme) (at next : ℕ) (x : List ℕ) (p : Pattern) → w.pattern_tokens p x (ahead ls next) ≡ ahead ls at → declared true (from ls at) ≡ of_names ls next
+pattern_names ls at next x (patterns.Truth sign) h = signed_names ls at next x sign h
+
 clock_names : (ls : List Lexeme) (at next : ℕ) (c : Option Condition) → clocked (ahead ls at) ≡ Ok (c, ahead ls next) → of_names ls at ≡ of_names ls next
 clock_names ls at next c e = by_clock c (clocked-is (ahead ls at) (c, ahead ls next) e)
   where
     by_clock : (c : Option Condition) → w.clock c (ahead ls next) ≡ ahead ls at → of_names ls at ≡ of_names ls next
     by_clock None h = ap (declared false) (same_from ls at next (sym h))
     by_clock (Some c) h =
-        let s = stands ls at (fixed f.When) (w.sign_tokens c.sign (identifier c.variable ∷ ahead ls next)) (sym h) in
-        ap (declared false) s.here ∙ declared_when (first (from ls at)) (from ls (at + 1)) ∙ signed_names ls (at + 1) next c.variable c.sign (sym s.others)
+        let s = stands ls at (fixed f.When) (w.pattern_tokens c.pattern c.variable (ahead ls next)) (sym h) in
+        ap (declared false) s.here ∙ declared_when (first (from ls at)) (from ls (at + 1)) ∙ pattern_names ls (at + 1) next c.variable c.pattern (sym s.others)
 
 -- names with their type and their clock
 pub declares_row : (ls : List Lexeme) (at colon kind_at clock_at next : ℕ) (names : List ℕ) (k : Kind) (c : Option Condition) (old new : List ℕ)

@@ -9,7 +9,7 @@ ghost use Rattle.lusyn_parser.specs.Refused.{place};
 use crate::error::Stop;
 use lulist::{Name, Row};
 use lusyn_tokens::Lexeme;
-use lutree::{Condition, Declaration, Expr, Infix};
+use lutree::{Condition, Declaration, Expr, Infix, Pattern};
 use std::alloc::Global;
 
 /// How an expression goes on after an operand.
@@ -77,6 +77,14 @@ pub(crate) fn plain(alloc: Global, names: &[PlacedName]) -> Result<Row<Name>, St
     Ok(Row::new(found))
 }
 
+fn pattern_copied(pattern: &Pattern) -> Pattern
+    ensures { result ≡ pattern.now }
+{
+    match pattern {
+        Pattern::Truth(b) => Pattern::Truth(*b),
+    }
+}
+
 pub(crate) fn copied(alloc: Global, clock: &Option<Condition>) -> Result<Option<Condition>, Stop>
     ensures ok { IfOk result (λ copy. copy ≡ clock.now) }
     ensures err { IfErr result (λ e. e ≡ Stop.OutOfMemory) }
@@ -84,7 +92,7 @@ pub(crate) fn copied(alloc: Global, clock: &Option<Condition>) -> Result<Option<
     match clock {
         Some(condition) => Ok(Some(Condition {
             variable: condition.variable.copied(alloc)?,
-            sign: condition.sign,
+            pattern: pattern_copied(&condition.pattern),
         })),
         None => Ok(None),
     }

@@ -17,7 +17,7 @@ use crate::error::Stop;
 use crate::pieces::{Next, Operand, PlacedName, byte_of, copied, operand_of, plain};
 use lulist::{Name, Number, Row};
 use lusyn_tokens::{Fixed, Lexeme, Token, binding_of, infix_of, prefix_of};
-use lutree::{Condition, Declaration, Equation, Expr, Infix, Kind, Prefix};
+use lutree::{Condition, Declaration, Equation, Expr, Infix, Kind, Pattern, Prefix};
 use std::alloc::Global;
 
 #[derive(Clone, Copy)]
@@ -123,7 +123,8 @@ impl<'t> Reader<'t> {
         ensures within { IfOk result (λ x. at < x.1) }
     {
         let (variable, next) = self.name(at)?;
-        Ok((Condition { variable, sign }, next))
+        let pattern = Pattern::Truth(sign);
+        Ok((Condition { variable, pattern }, next))
     }
 
     /// `[ "not" ] ident`

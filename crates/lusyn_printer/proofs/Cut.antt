@@ -11,6 +11,8 @@ use Rattle.std.specs.Fmt.{decimal}
 use Rattle.std.proofs.lemmas.Fmt.{decimal_is_IsNumeral, IsAscii-decimal}
 use Rattle.std.proofs.lemmas.Str.{IsAscii-append}
 use Rattle.std.proofs.lemmas.Str.Ascii.{IsAscii-nil}
+use Rattle.lutree.specs.declared.expr.Pattern.{Pattern}
+use Rattle.lutree.specs.declared.expr.Pattern.TheVariants as patterns
 use Rattle.lutree.specs.declared.expr.Condition.{Condition}
 use Rattle.lutree.specs.Tree.{DeclarationTree, EquationTree, NodeTree, ProgramTree}
 use Rattle.lusyn_tokens.specs.declared.token.Fixed.{Fixed}
@@ -24,7 +26,7 @@ use Rattle.lusyn_grammar.specs.Grammar.{Written, Writtens, number, truth, variab
 use Rattle.lusyn_tokens.specs.Tokens.{prefix_token, infix_token}
 use Rattle.lusyn_grammar.specs.Printing.{written}
 use Rattle.lusyn_grammar.proofs.Printed.{tree-written}
-use Rattle.lusyn_printer.proofs.Pieces.{space, feed, sign, word, numeral, not_pieces, when_pieces, pieces, further, each, behind, clock_pieces, declaration, declarations, locals, left_side, equation, body, node, program}
+use Rattle.lusyn_printer.proofs.Pieces.{space, feed, sign, word, numeral, not_pieces, pattern_pieces, when_pieces, pieces, further, each, behind, clock_pieces, declaration, declarations, locals, left_side, equation, body, node, program}
 use Rattle.lusyn_printer.proofs.Longest.{Ends, IsMark, space-longest, feed-longest, mark-longest, fixed-longest, name-longest, digits-longest}
 use Rattle.lusyn_printer.proofs.Longest as ends
 use Rattle.lusyn_printer.proofs.Wholes.{IsName, IsWholeTree, AreWholeTrees, IsWholeClock, IsWholeDeclaration, IsWholeEquation, IsWholeNode, IsWholeProgram}
@@ -171,10 +173,12 @@ not_sound : (b : Bool) (ps : Pieces) → Sound ps → Sound (not_pieces b ps)
 not_sound true ps h = h
 not_sound false ps h = said f.Not ps h
 
+pattern_sound : (p : Pattern) (x : List ℕ) (ps : Pieces) → Sound (word x ps) → Sound (pattern_pieces p x ps)
+pattern_sound (patterns.Truth b) x ps h = not_sound b (word x ps) h
+
 when_ready : (c : Condition) (ps : Pieces) → IsName c.variable → Ready ps → Ready (when_pieces c ps)
 when_ready c ps is h =
-    let x = word c.variable ps in
-    spaced f.When (not_pieces c.sign x) (not_sound c.sign x (sound_word c.variable ps is h))
+    spaced f.When (pattern_pieces c.pattern c.variable ps) (pattern_sound c.pattern c.variable ps (sound_word c.variable ps is h))
 
 -- what stands before the expression of a branch
 abbrev branch : Fixed → Pieces → Pieces
@@ -306,6 +310,9 @@ cut_node n ps is h =
     let q = cut_declarations n.inputs returned is.1 o in
     said f.Node (word n.name (sign f.Open inputs)) (sound_word n.name (sign f.Open inputs) is.0 (ready_open inputs q))
 
+cut_nodes : (ns : List NodeTree) → Each IsWholeNode ns → Sound (each node ns [])
+cut_nodes [] is = sound_nothing
+cut_nodes (n ∷ ns) is = cut_node n (each node ns []) is.0 (cut_nodes ns is.1)
+
 pub cut_program : (p : ProgramTree) → IsWholeProgram p → Sound (program p [])
-cut_program [] is = sound_nothing
-cut_program (n ∷ p) is = cut_node n (program p []) is.0 (cut_program p is.1)
+cut_program p is = cut_nodes p.nodes is

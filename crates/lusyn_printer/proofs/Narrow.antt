@@ -1,5 +1,7 @@
 -- The runs of the canonical form: those of equations are no longer than in any other text of them, and the others are short.
 use Rattle.std.proofs.Common.{◌≡◌, ◌≤◌, ◌+◌, ℕ, max, Bool, true, false, List, [], ◌∷◌, map, Option, Some, None, refl, ap, ◌∙◌, arith}
+use Rattle.lutree.specs.declared.expr.Pattern.{Pattern}
+use Rattle.lutree.specs.declared.expr.Pattern.TheVariants as patterns
 use Rattle.lutree.specs.declared.expr.Condition.{Condition}
 use Rattle.lutree.specs.declared.program.Kind.{Kind}
 use Rattle.lutree.specs.declared.program.Kind.TheVariants as kinds
@@ -11,7 +13,7 @@ use Rattle.lusyn_lexer.specs.Runs.{is_of_run}
 use Rattle.lusyn_grammar.specs.Grammar.{Written, tokens, WrittenDeclaration, WrittenEquation, WrittenNode, WrittenProgram, Each, IsProperEquation, IsProperNode, kind_token, repeated, separated, led, ended, optional, name, clock, declaration, locals, left_tokens, equation, body, node, program, equation_tree, program_tree}
 use Rattle.lusyn_grammar.specs.Printing.{written, written_declaration, written_equation, written_node, written_program}
 use Rattle.lusyn_printer.proofs.Peaks.{peak, peak-mono, peak-tail, peak-of_run}
-use Rattle.lusyn_printer.proofs.Sizes.{size, when_size, sign_size, peak-when, peak-tokens, Smallest, smallest}
+use Rattle.lusyn_printer.proofs.Sizes.{size, when_size, pattern_size, peak-when, peak-tokens, Smallest, smallest}
 
 -- EQUATIONS
 
@@ -52,7 +54,7 @@ IsNarrow j [] = Unit {0}
 IsNarrow j (e ∷ es) = (j + width e.left (written e.right) ≤ 1000) × IsNarrow 0 es
 
 abbrev pub IsNarrowProgram : ProgramTree → Type 0
-IsNarrowProgram = Each (λ n. IsNarrow 1 n.equations)
+IsNarrowProgram p = Each (λ n. IsNarrow 1 n.equations) p.nodes
 
 -- FROM A TEXT'S TOKENS: WHAT STANDS BEHIND A PART IS NO HIGHER
 
@@ -148,16 +150,16 @@ kind_of_run : (kind : Kind) → is_of_run (fixed (kind_token kind)) ≡ true
 kind_of_run kinds.Int = refl
 kind_of_run kinds.Bool = refl
 
-sign_few : (b : Bool) → sign_size b ≤ 1
-sign_few true = omega arith
-sign_few false = omega arith
+pattern_few : (p : Pattern) → pattern_size p ≤ 1
+pattern_few (patterns.Truth true) = omega arith
+pattern_few (patterns.Truth false) = omega arith
 
 calm_clock : (c : Option Condition) (b : ℕ) (ts : List Tok) → IsCalm (b + 3) ts → IsCalm b (clock c ts)
 calm_clock None b ts calm = calm_less b (b + 3) ts (omega arith) calm
 calm_clock (Some c) b ts calm =
     λ k h. (
     let same = peak-when c k ts in
-    let few = sign_few c.sign in
+    let few = pattern_few c.pattern in
     let behind = calm (k + when_size c) (omega (arith, few)) in
     omega (arith, same, behind)
     )
@@ -228,9 +230,9 @@ calm_node n ts narrow calm =
     let o = calm_declarations n.inputs 5 returned (omega arith) m in
     calm_token 2 (fixed f.Node) (identifier n.name ∷ fixed f.Open ∷ inputs) refl (calm_token 3 (identifier n.name) (fixed f.Open ∷ inputs) refl (calm_token 4 (fixed f.Open) inputs refl o))
 
-calm_program : (p : ProgramTree) → IsNarrowProgram p → IsCalm 2 (program (written_program p) [])
-calm_program [] narrow = λ k h. omega arith
-calm_program (n ∷ p) narrow = calm_node n (program (written_program p) []) narrow.0 (calm_program p narrow.1)
+calm_nodes : (ns : List NodeTree) → Each (λ n. IsNarrow 1 n.equations) ns → IsCalm 2 (program (map written_node ns) [])
+calm_nodes [] narrow = λ k h. omega arith
+calm_nodes (n ∷ ns) narrow = calm_node n (program (map written_node ns) []) narrow.0 (calm_nodes ns narrow.1)
 
 pub canonical_low : (p : ProgramTree) → IsNarrowProgram p → IsLow (program (written_program p) [])
-canonical_low p narrow = calm_program p narrow 0 (omega arith)
+canonical_low p narrow = calm_nodes p.nodes narrow 0 (omega arith)

@@ -2,6 +2,8 @@
 use Rattle.std.proofs.Common.{◌≡◌, ℕ, ◌+◌, Bool, true, false, List, [], ◌∷◌, ◌++◌, length, map, Option, Some, None, refl, ap, sym, ◌∙◌, codes, append_assoc}
 use Rattle.std.specs.List.{flat_map}
 use Rattle.std.specs.Fmt.{decimal}
+use Rattle.lutree.specs.declared.expr.Pattern.{Pattern}
+use Rattle.lutree.specs.declared.expr.Pattern.TheVariants as patterns
 use Rattle.lutree.specs.declared.expr.Condition.{Condition}
 use Rattle.lutree.specs.declared.program.Kind.{Kind}
 use Rattle.lutree.specs.declared.program.Kind.TheVariants as kinds
@@ -41,8 +43,11 @@ abbrev pub not_pieces : Bool → Pieces → Pieces
 not_pieces true ps = ps
 not_pieces false ps = sign f.Not (space ps)
 
+abbrev pub pattern_pieces : Pattern → List ℕ → Pieces → Pieces
+pattern_pieces (patterns.Truth b) x ps = not_pieces b (word x ps)
+
 abbrev pub when_pieces : Condition → Pieces → Pieces
-when_pieces c ps = space (sign f.When (space (not_pieces c.sign (word c.variable ps))))
+when_pieces c ps = space (sign f.When (space (pattern_pieces c.pattern c.variable ps)))
 
 abbrev mutual
   pub pieces : Written → Pieces → Pieces
@@ -110,7 +115,7 @@ abbrev pub node : NodeTree → Pieces → Pieces
 node n ps = heading n (locals n.locals (body n ps))
 
 abbrev pub program : ProgramTree → Pieces → Pieces
-program = each node
+program p = each node p.nodes
 
 -- THEIR BYTES
 
@@ -118,8 +123,11 @@ bytes-not : (b : Bool) (ps : Pieces) → bytes (not_pieces b ps) ≡ text.sign_t
 bytes-not true ps = refl
 bytes-not false ps = refl
 
+bytes-pattern : (p : Pattern) (x : List ℕ) (ps : Pieces) → bytes (pattern_pieces p x ps) ≡ text.pattern_text p x ++ bytes ps
+bytes-pattern (patterns.Truth b) x ps = simp (append_assoc, bytes-not b (word x ps))
+
 bytes-when : (c : Condition) (ps : Pieces) → bytes (when_pieces c ps) ≡ text.when_text c ++ bytes ps
-bytes-when c ps = simp (append_assoc, bytes-not c.sign (word c.variable ps))
+bytes-when c ps = simp (append_assoc, bytes-pattern c.pattern c.variable ps)
 
 bytes-truth : (b : Bool) (ps : Pieces) → bytes (sign (truth_token b) ps) ≡ text.truth_text b ++ bytes ps
 bytes-truth true ps = refl
@@ -233,7 +241,7 @@ bytes-node n ps =
     ∙ sym (regroup_lines head (text.locals n.locals) (text.line (codes "let")) (flat_map text.equation n.equations) (text.line (codes "tel")) (bytes ps))
 
 pub bytes-program : (p : ProgramTree) (ps : Pieces) → bytes (program p ps) ≡ canonical p ++ bytes ps
-bytes-program = bytes-each node text.node bytes-node
+bytes-program p = bytes-each node text.node bytes-node p.nodes
 
 -- THEIR TOKENS
 
@@ -257,8 +265,11 @@ shown-not : (b : Bool) (ps : Pieces) → shown (not_pieces b ps) ≡ grammar.sig
 shown-not true ps = refl
 shown-not false ps = refl
 
+shown-pattern : (p : Pattern) (x : List ℕ) (ps : Pieces) → shown (pattern_pieces p x ps) ≡ grammar.pattern_tokens p x (shown ps)
+shown-pattern (patterns.Truth b) x ps = shown-not b (word x ps)
+
 shown-when : (c : Condition) (ps : Pieces) → shown (when_pieces c ps) ≡ grammar.when_tokens c (shown ps)
-shown-when c ps = ap (λ (ts : List Tok). fixed f.When ∷ ts) (shown-not c.sign (word c.variable ps))
+shown-when c ps = ap (λ (ts : List Tok). fixed f.When ∷ ts) (shown-pattern c.pattern c.variable ps)
 
 mutual
   shown-pieces : (c : Written) (ps : Pieces) → shown (pieces c ps) ≡ tokens c (shown ps)
@@ -362,4 +373,4 @@ shown-node n ps =
     ∙ ap (λ (ts : List Tok). first (of n.inputs (second (of n.outputs (third (grammar.locals (map written_declaration n.locals) ts)))))) (shown-body n ps)
 
 pub shown-program : (p : ProgramTree) (ps : Pieces) → shown (program p ps) ≡ grammar.program (written_program p) (shown ps)
-shown-program = shown-each node grammar.node written_node shown-node
+shown-program p = shown-each node grammar.node written_node shown-node p.nodes

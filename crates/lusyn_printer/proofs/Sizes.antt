@@ -1,6 +1,8 @@
 -- How many tokens an expression has: in canonical form no more than any other text of it.
 use Rattle.std.proofs.Common.{◌≡◌, ◌≤◌, ◌+◌, ℕ, Bool, true, false, cond, List, ◌∷◌, nat_le, refl, ap, ◌∙◌, arith}
 use Rattle.std.proofs.lemmas.Bool.{le-leb}
+use Rattle.lutree.specs.declared.expr.Pattern.{Pattern}
+use Rattle.lutree.specs.declared.expr.Pattern.TheVariants as patterns
 use Rattle.lutree.specs.declared.expr.Condition.{Condition}
 use Rattle.lutree.specs.declared.expr.Prefix.{Prefix}
 use Rattle.lutree.specs.declared.expr.Prefix.TheVariants as p
@@ -12,7 +14,7 @@ use Rattle.lusyn_tokens.specs.declared.token.Fixed.TheVariants as f
 use Rattle.lusyn_tokens.specs.Tokens.{Tok, identifier, fixed}
 use Rattle.lusyn_lexer.specs.Runs.{is_of_run}
 use Rattle.lusyn_tokens.specs.Tokens.{prefix_token, infix_token, left, right}
-use Rattle.lusyn_grammar.specs.Grammar.{Written, Writtens, number, truth, variable, unary, binary, choice, when, current, merge, call, paren, none, more, level_of, IsProper, AreProper, tree, trees, tokens, further, truth_token, sign_tokens, when_tokens}
+use Rattle.lusyn_grammar.specs.Grammar.{Written, Writtens, number, truth, variable, unary, binary, choice, when, current, merge, call, paren, none, more, level_of, IsProper, AreProper, tree, trees, tokens, further, truth_token, pattern_tokens, when_tokens}
 use Rattle.lusyn_grammar.specs.Printing.{placed, written, writtens}
 use Rattle.lusyn_printer.proofs.Peaks.{peak, peak-of_run}
 
@@ -20,8 +22,11 @@ abbrev pub sign_size : Bool → ℕ
 sign_size true = 0
 sign_size false = 1
 
+abbrev pub pattern_size : Pattern → ℕ
+pattern_size (patterns.Truth b) = sign_size b
+
 abbrev pub when_size : Condition → ℕ
-when_size c = 2 + sign_size c.sign
+when_size c = 2 + pattern_size c.pattern
 
 abbrev mutual
   pub size : Written → ℕ
@@ -71,11 +76,11 @@ at : (j k : ℕ) (rest : List Tok) → j ≡ k → peak j rest ≡ peak k rest
 at j k rest e = ap (λ (n : ℕ). peak n rest) e
 
 pub peak-when : (c : Condition) (k : ℕ) (rest : List Tok) → peak k (when_tokens c rest) ≡ peak (k + when_size c) rest
-peak-when c k rest = by_sign c.sign
+peak-when c k rest = by_pattern c.pattern
   where
-    by_sign : (s : Bool) → peak (k + 1) (sign_tokens s (identifier c.variable ∷ rest)) ≡ peak (k + (2 + sign_size s)) rest
-    by_sign true = at (k + 1 + 1) (k + (2 + 0)) rest (omega arith)
-    by_sign false = at (k + 1 + 1 + 1) (k + (2 + 1)) rest (omega arith)
+    by_pattern : (p : Pattern) → peak (k + 1) (pattern_tokens p c.variable rest) ≡ peak (k + (2 + pattern_size p)) rest
+    by_pattern (patterns.Truth true) = at (k + 1 + 1) (k + (2 + 0)) rest (omega arith)
+    by_pattern (patterns.Truth false) = at (k + 1 + 1 + 1) (k + (2 + 1)) rest (omega arith)
 
 mutual
   pub peak-tokens : (c : Written) (k : ℕ) (rest : List Tok) → peak k (tokens c rest) ≡ peak (k + size c) rest

@@ -1,6 +1,8 @@
 -- Names that are no keywords and numbers that are in range: those of a tree that is spelled by the tokens of a text.
 use Rattle.std.proofs.Common.{◌≡◌, ◌≢◌, ◌<◌, ◌+◌, ◌^◌, ℕ, true, false, List, [], ◌∷◌, ◌++◌, length, map, Option, Some, None, sym, subst}
 use Rattle.std.specs.List.{flat_map}
+use Rattle.lutree.specs.declared.expr.Pattern.{Pattern}
+use Rattle.lutree.specs.declared.expr.Pattern.TheVariants as patterns
 use Rattle.lutree.specs.declared.expr.Condition.{Condition}
 use Rattle.lutree.specs.declared.program.Kind.{Kind}
 use Rattle.lutree.specs.Tree.{Tree, Trees, DeclarationTree, EquationTree, NodeTree, ProgramTree}
@@ -11,7 +13,7 @@ use Rattle.lusyn_tokens.specs.Tokens.{Tok, identifier, number, fixed, text_of}
 use Rattle.lusyn_lexer.specs.Lexing as pieces
 use Rattle.lusyn_lexer.specs.Lexing.{is_word_text, IsPiece, IsInRange, Pieces, Placed, placed, before, AreCut}
 use Rattle.lusyn_grammar.specs.Grammar as w
-use Rattle.lusyn_grammar.specs.Grammar.{Written, Writtens, tree, trees, tokens, further, WrittenDeclaration, WrittenEquation, WrittenNode, WrittenProgram, Each, repeated, separated, led, ended, optional, name, sign_tokens, when_tokens, clock, declaration, locals, left_tokens, equation, heading, body, node, program, declared, declaration_tree, equation_tree, node_tree, program_tree}
+use Rattle.lusyn_grammar.specs.Grammar.{Written, Writtens, tree, trees, tokens, further, WrittenDeclaration, WrittenEquation, WrittenNode, WrittenProgram, Each, repeated, separated, led, ended, optional, name, pattern_tokens, when_tokens, clock, declaration, locals, left_tokens, equation, heading, body, node, program, declared, declaration_tree, equation_tree, node_tree, program_tree}
 
 abbrev pub IsName : List ℕ → Type 0
 IsName x = (is_word_text x ≡ true) × ((g : Fixed) → x ≢ text_of g)
@@ -81,16 +83,16 @@ abbrev pub IsWholeNode : NodeTree → Type 0
 IsWholeNode n = IsName n.name × Each IsWholeDeclaration n.inputs × Each IsWholeDeclaration n.outputs × Each IsWholeDeclaration n.locals × Each IsWholeEquation n.equations
 
 abbrev pub IsWholeProgram : ProgramTree → Type 0
-IsWholeProgram = Each IsWholeNode
+IsWholeProgram p = Each IsWholeNode p.nodes
 
 -- ---- from the tokens to the tree: those of the part are whole, and so is the rest
 
 when-whole : (c : Condition) (rest : List Tok) → AreWhole (when_tokens c rest) → IsName c.variable × AreWhole rest
-when-whole c rest h = by_sign c.sign h.1
+when-whole c rest h = by_pattern c.pattern h.1
   where
-    by_sign : (b : _) → AreWhole (sign_tokens b (identifier c.variable ∷ rest)) → IsName c.variable × AreWhole rest
-    by_sign true k = k
-    by_sign false k = k.1
+    by_pattern : (p : Pattern) → AreWhole (pattern_tokens p c.variable rest) → IsName c.variable × AreWhole rest
+    by_pattern (patterns.Truth true) k = k
+    by_pattern (patterns.Truth false) k = k.1
 
 mutual
   tree-whole : (c : Written) (rest : List Tok) → AreWhole (tokens c rest) → IsWholeTree (tree c) × AreWhole rest

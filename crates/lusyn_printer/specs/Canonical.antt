@@ -13,6 +13,8 @@
 use Rattle.std.specs.Prelude.{ℕ, Bool, true, false, List, [], ◌∷◌, ◌++◌, codes, Option, Some, None}
 use Rattle.std.specs.List.{flat_map}
 use Rattle.std.specs.Fmt.{decimal}
+use Rattle.lutree.specs.declared.expr.Pattern.{Pattern}
+use Rattle.lutree.specs.declared.expr.Pattern.TheVariants as patterns
 use Rattle.lutree.specs.declared.expr.Condition.{Condition}
 use Rattle.lutree.specs.declared.program.Kind.{Kind}
 use Rattle.lutree.specs.declared.program.Kind.TheVariants as kinds
@@ -38,9 +40,13 @@ abbrev pub sign_text : Bool → List ℕ
 sign_text true = []
 sign_text false = codes "not "
 
+-- `c` or `not c`
+abbrev pub pattern_text : Pattern → List ℕ → List ℕ
+pattern_text (patterns.Truth sign) x = sign_text sign ++ x
+
 -- ` when c` or ` when not c`
 abbrev pub when_text : Condition → List ℕ
-when_text c = codes " when " ++ sign_text c.sign ++ c.variable
+when_text c = codes " when " ++ pattern_text c.pattern c.variable
 
 abbrev pub truth_text : Bool → List ℕ
 truth_text true = codes "true"
@@ -112,4 +118,4 @@ node n = line (heading n) ++ locals n.locals ++ line (codes "let") ++ flat_map e
 
 -- the text of a whole program
 abbrev pub canonical : ProgramTree → List ℕ
-canonical = flat_map node
+canonical p = flat_map node p.nodes

@@ -3,12 +3,26 @@
 ghost use Rattle.std.specs.Prelude.{◌≡◌, ◌++◌, ◌≤◌, IfOk, string_bytes};
 ghost use Rattle.lutree.specs.Tree.{view, views, trees_of};
 ghost use Rattle.lusyn_grammar.specs.Printing.{written, writtens, placed};
-ghost use Rattle.lusyn_printer.specs.Canonical.{expression, operands, further, when_text};
+ghost use Rattle.lusyn_printer.specs.Canonical.{expression, operands, further, pattern_text, when_text};
 
 use crate::levels::{level_of, prefix_text, put_infix};
 use lusyn_tokens::binding_of;
-use lutree::{Condition, Expr};
+use lutree::{Condition, Expr, Pattern};
 use std::alloc::AllocError;
+
+/// `c` or `not c`.
+fn put_condition(text: &mut String, condition: &Condition) -> Result<(), AllocError>
+    ensures { IfOk result (λ _. string_bytes text.new ≡ string_bytes text.old
+        ++ pattern_text condition.now.pattern condition.now.variable) }
+{
+    match &condition.pattern {
+        Pattern::Truth(true) => text.push_str(condition.variable.as_str()),
+        Pattern::Truth(false) => {
+            text.push_str("not ")?;
+            text.push_str(condition.variable.as_str())
+        }
+    }
+}
 
 /// ` when c` or ` when not c`.
 pub(crate) fn put_when(text: &mut String, condition: &Condition) -> Result<(), AllocError>
@@ -16,10 +30,7 @@ pub(crate) fn put_when(text: &mut String, condition: &Condition) -> Result<(), A
         ++ when_text condition.now) }
 {
     text.push_str(" when ")?;
-    if !condition.sign {
-        text.push_str("not ")?;
-    }
-    text.push_str(condition.variable.as_str())
+    put_condition(text, condition)
 }
 
 /// An expression in a place that asks for this level, in parentheses where it binds less tightly.

@@ -145,7 +145,7 @@ fn put_node(text: &mut String, printed: &Node) -> Result<(), AllocError>
 
 fn put_nodes(text: &mut String, nodes: &[Node]) -> Result<(), AllocError>
     ensures { IfOk result (λ _. string_bytes text.new ≡ string_bytes text.old
-        ++ canonical (map node_view nodes.now)) }
+        ++ flat_map node (map node_view nodes.now)) }
 {
     for printed in nodes {
         put_node(text, printed)?;

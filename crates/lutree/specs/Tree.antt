@@ -2,6 +2,8 @@
 use Rattle.std.specs.Prelude.{ℕ, Bool, List, [], ◌∷◌, map, Option}
 use Rattle.lutree.specs.declared.expr.Prefix.{Prefix}
 use Rattle.lutree.specs.declared.expr.Infix.{Infix}
+use Rattle.lutree.specs.declared.expr.Pattern.{Pattern}
+use Rattle.lutree.specs.declared.expr.Pattern.TheVariants as patterns
 use Rattle.lutree.specs.declared.expr.Condition.{Condition}
 use Rattle.lutree.specs.declared.expr.Expr.{Expr, fold-Expr}
 use Rattle.lutree.specs.declared.expr.Expr.TheOpen.{Expr-F}
@@ -38,6 +40,10 @@ abbrev pub list_of : Trees → List Tree
 list_of none = []
 list_of (more x xs) = x ∷ list_of xs
 
+-- the constant that a clock's variable has to be
+abbrev pub constant_of : Pattern → Tree
+constant_of (patterns.Truth b) = truth b
+
 -- a declared variable, its type and its clock
 pub record DeclarationTree : Type 0 where
   pub name : List ℕ
@@ -56,8 +62,13 @@ pub record NodeTree : Type 0 where
   pub locals : List DeclarationTree
   pub equations : List EquationTree
 
-abbrev pub ProgramTree : Type 0
-ProgramTree = List NodeTree
+-- a program: its nodes, in order of text
+pub record ProgramTree : Type 0 where
+  pub nodes : List NodeTree
+
+-- the program of these nodes
+abbrev pub program_of : List NodeTree → ProgramTree
+program_of ns = record { nodes = ns }
 
 -- one level of an expression, with its operands already seen as trees
 abbrev pub view_step : Expr-F Tree → Tree
@@ -99,4 +110,4 @@ node_view n = record {
 
 -- what a program in memory is
 abbrev pub program_view : Program → ProgramTree
-program_view p = map node_view p.nodes
+program_view p = record { nodes = map node_view p.nodes }

@@ -66,11 +66,18 @@ pub enum Infix {
     FollowedBy,
 }
 
-/// A clock: the variable `c` with the sign `true` is written `c`, with `false` it is written `not c`.
+/// The value of a clock's variable at which the clock is true.
+#[derive(Debug, Drop)]
+pub enum Pattern {
+    /// `true` or `false`.
+    Truth(bool),
+}
+
+/// A clock: the variable `c` with the pattern `true` is written `c`, with `false` it is written `not c`.
 #[derive(Debug, Drop)]
 pub struct Condition {
     pub variable: Name,
-    pub sign: bool,
+    pub pattern: Pattern,
 }
 
 /// An expression, without the parentheses of its text.

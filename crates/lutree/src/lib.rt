@@ -2,7 +2,7 @@
 //!
 //! - [`Program`], [`Node`], [`Declaration`], [`Equation`]: what a text declares, with places in the text.
 //! - [`Expr`] and its operators: the right sides.
-//! - [`Kind`], [`Condition`]: the type and the clock of a variable.
+//! - [`Kind`], [`Condition`]: the type and the clock of a variable; [`Pattern`]: the value of its variable that a clock asks for.
 //!
 //! Contracts see a tree without where it lies in memory and without places, as `Tree.antt` of `specs/` says, and its places
 //! by themselves, as `Places.antt` says.
@@ -11,5 +11,5 @@
 mod expr;
 mod program;
 
-pub use expr::{BinaryOperator, Condition, Expr, Infix, Prefix, UnaryOperator};
+pub use expr::{BinaryOperator, Condition, Expr, Infix, Pattern, Prefix, UnaryOperator};
 pub use program::{Declaration, Equation, Kind, Node, Program};

@@ -7,66 +7,69 @@ use Rattle.std.proofs.lemmas.Option.{none-some, same_Some}
 use Rattle.std.proofs.lemmas.Map.Made.{Contains-tail}
 use Rattle.std.proofs.lemmas.Slice.Eq.{bytes_eq-Decides}
 use Rattle.lutree.specs.Tree.{NodeTree, ProgramTree}
-use Rattle.lustat_rules.specs.Scope.{node_called}
-use Rattle.lustat_rules.specs.Naming.{node_place}
+use Rattle.lustat_rules.specs.Scope.{first_named}
+use Rattle.lustat_rules.specs.Naming.{place_of_first, node_place}
 use Rattle.lugraph.proofs.Marks.{same_or_not}
 
 -- WHAT A NAME MEANS
 
 -- the node at the place that a name means
-pub record Means (p : ProgramTree) (f : List ℕ) (i : ℕ) : Type 0 where
+pub record Means (ns : List NodeTree) (f : List ℕ) (i : ℕ) : Type 0 where
   pub node : NodeTree
-  pub there : slice_get p i ≡ Some node
+  pub there : slice_get ns i ≡ Some node
   pub named : node.name ≡ f
-  pub called : node_called p f ≡ Some node
+  pub called : first_named ns f ≡ Some node
 
-means_by : (m : NodeTree) (p : ProgramTree) (f : List ℕ) (i : ℕ) (b : Bool) → bytes_eq m.name f ≡ b → ((j : ℕ) → node_place p f ≡ Some j → Means p f j) →
-    (if b then Some 0 else option_map suc (node_place p f)) ≡ Some i → Means (m ∷ p) f i
-means_by m p f i true e rest at =
+means_by : (m : NodeTree) (ns : List NodeTree) (f : List ℕ) (i : ℕ) (b : Bool) → bytes_eq m.name f ≡ b → ((j : ℕ) → place_of_first ns f ≡ Some j → Means ns f j) →
+    (if b then Some 0 else option_map suc (place_of_first ns f)) ≡ Some i → Means (m ∷ ns) f i
+means_by m ns f i true e rest at =
     record {
       node = m;
-      there = subst (λ k. slice_get (m ∷ p) k ≡ Some m) (same_Some 0 i at) refl;
+      there = subst (λ k. slice_get (m ∷ ns) k ≡ Some m) (same_Some 0 i at) refl;
       named = (bytes_eq-Decides m.name f).0 e;
-      called = subst (λ b. (if b then Some m else node_called p f) ≡ Some m) (sym e) refl;
+      called = subst (λ b. (if b then Some m else first_named ns f) ≡ Some m) (sym e) refl;
     }
-means_by m p f i false e rest at = by_place (node_place p f) refl at where
-  by_place : (o : Option ℕ) → node_place p f ≡ o → option_map suc o ≡ Some i → Means (m ∷ p) f i
+means_by m ns f i false e rest at = by_place (place_of_first ns f) refl at where
+  by_place : (o : Option ℕ) → place_of_first ns f ≡ o → option_map suc o ≡ Some i → Means (m ∷ ns) f i
   by_place None same past = absurd (none-some i past)
   by_place (Some j) same found =
       let there = rest j same in
       record {
         node = there.node;
-        there = subst (λ k. slice_get (m ∷ p) k ≡ Some there.node) (same_Some (suc j) i found) there.there;
+        there = subst (λ k. slice_get (m ∷ ns) k ≡ Some there.node) (same_Some (suc j) i found) there.there;
         named = there.named;
-        called = subst (λ b. (if b then Some m else node_called p f) ≡ Some there.node) (sym e) there.called;
+        called = subst (λ b. (if b then Some m else first_named ns f) ≡ Some there.node) (sym e) there.called;
       }
 
-pub means : (p : ProgramTree) (f : List ℕ) (i : ℕ) → node_place p f ≡ Some i → Means p f i
-means [] f i at = absurd (none-some i at)
-means (m ∷ p) f i at = means_by m p f i (bytes_eq m.name f) refl (means p f) at
+means_among : (ns : List NodeTree) (f : List ℕ) (i : ℕ) → place_of_first ns f ≡ Some i → Means ns f i
+means_among [] f i at = absurd (none-some i at)
+means_among (m ∷ ns) f i at = means_by m ns f i (bytes_eq m.name f) refl (means_among ns f) at
+
+pub means : (p : ProgramTree) (f : List ℕ) (i : ℕ) → node_place p f ≡ Some i → Means p.nodes f i
+means p f i at = means_among p.nodes f i at
 
 -- the place that the name of a node means is no later one than the node's own
-pub record Meant (p : ProgramTree) (f : List ℕ) (i : ℕ) : Type 0 where
+pub record Meant (ns : List NodeTree) (f : List ℕ) (i : ℕ) : Type 0 where
   pub place : ℕ
-  pub at_place : node_place p f ≡ Some place
+  pub at_place : place_of_first ns f ≡ Some place
   pub first : place ≤ i
 
-meant_here : (m : NodeTree) (p : ProgramTree) (f : List ℕ) (i : ℕ) → bytes_eq m.name f ≡ true → Meant (m ∷ p) f i
-meant_here m p f i e = record { place = 0; at_place = subst (λ b. (if b then Some 0 else option_map suc (node_place p f)) ≡ Some 0) (sym e) refl; first = omega arith }
+meant_here : (m : NodeTree) (ns : List NodeTree) (f : List ℕ) (i : ℕ) → bytes_eq m.name f ≡ true → Meant (m ∷ ns) f i
+meant_here m ns f i e = record { place = 0; at_place = subst (λ b. (if b then Some 0 else option_map suc (place_of_first ns f)) ≡ Some 0) (sym e) refl; first = omega arith }
 
-meant_by : (m : NodeTree) (p : ProgramTree) (f : List ℕ) (i : ℕ) (b : Bool) → bytes_eq m.name f ≡ b → Meant p f i → Meant (m ∷ p) f (suc i)
-meant_by m p f i true e rest = meant_here m p f (suc i) e
-meant_by m p f i false e rest =
+meant_by : (m : NodeTree) (ns : List NodeTree) (f : List ℕ) (i : ℕ) (b : Bool) → bytes_eq m.name f ≡ b → Meant ns f i → Meant (m ∷ ns) f (suc i)
+meant_by m ns f i true e rest = meant_here m ns f (suc i) e
+meant_by m ns f i false e rest =
     record {
       place = suc rest.place;
-      at_place = subst (λ b. (if b then Some 0 else option_map suc (node_place p f)) ≡ Some (suc rest.place)) (sym e) (ap (option_map suc) rest.at_place);
+      at_place = subst (λ b. (if b then Some 0 else option_map suc (place_of_first ns f)) ≡ Some (suc rest.place)) (sym e) (ap (option_map suc) rest.at_place);
       first = omega (arith, rest.first);
     }
 
-pub meant : (p : ProgramTree) (i : ℕ) (n : NodeTree) → slice_get p i ≡ Some n → Meant p n.name i
+pub meant : (ns : List NodeTree) (i : ℕ) (n : NodeTree) → slice_get ns i ≡ Some n → Meant ns n.name i
 meant [] i n there = absurd (none-some n there)
-meant (m ∷ p) zero n there = meant_here m p n.name 0 ((bytes_eq-Decides m.name n.name).1 (ap (λ (x : NodeTree). x.name) (same_Some m n there)))
-meant (m ∷ p) (suc i) n there = meant_by m p n.name i (bytes_eq m.name n.name) refl (meant p i n there)
+meant (m ∷ ns) zero n there = meant_here m ns n.name 0 ((bytes_eq-Decides m.name n.name).1 (ap (λ (x : NodeTree). x.name) (same_Some m n there)))
+meant (m ∷ ns) (suc i) n there = meant_by m ns n.name i (bytes_eq m.name n.name) refl (meant ns i n there)
 
 -- WHAT A LIST FINDS
 

@@ -18,12 +18,12 @@ use Rattle.lutype.proofs.CallPlaces.{Means, means, meant, found_of, found_in}
 -- a call of a node by a name, and the place of what it means
 pub record CallAt (p : ProgramTree) (i j : ℕ) : Type 0 where
   pub node : NodeTree
-  pub there : slice_get p i ≡ Some node
+  pub there : slice_get p.nodes i ≡ Some node
   pub name : List ℕ
   pub called : Contains (called_by node) name
   pub at_place : node_place p name ≡ Some j
 
-called_node : (p : ProgramTree) (f : List ℕ) (i : ℕ) → Means p f i → (n : NodeTree) → slice_get p i ≡ Some n → node_called p f ≡ Some n
+called_node : (p : ProgramTree) (f : List ℕ) (i : ℕ) → Means p.nodes f i → (n : NodeTree) → slice_get p.nodes i ≡ Some n → node_called p f ≡ Some n
 called_node p f i m n there = subst (λ x. node_called p f ≡ Some x) (same_Some m.node n (sym m.there ∙ there)) m.called
 
 -- a name that a name reaches, and the place of what it means
@@ -47,8 +47,8 @@ last_edge g u v (graph.more _ x _ way e) = (x, e)
 
 -- the rows of a graph, by place
 pub record AreRows (p : ProgramTree) (g : Graph) : Type 0 where
-  pub long : length g ≡ length p
-  pub rows : (i : ℕ) (n : NodeTree) → slice_get p i ≡ Some n → row_of g i ≡ places_called p n
+  pub long : length g ≡ length p.nodes
+  pub rows : (i : ℕ) (n : NodeTree) → slice_get p.nodes i ≡ Some n → row_of g i ≡ places_called p n
 
 row_at : (h : NodeTree → List ℕ) (p : List NodeTree) (g : Graph) → map (λ (row : Vec ℕ Global). row.items) g ≡ map h p → (i : ℕ) (n : NodeTree) → slice_get p i ≡ Some n → row_of g i ≡ h n
 row_at h [] g e i n there = absurd (none-some n there)
@@ -57,20 +57,20 @@ row_at h (m ∷ p) (row ∷ g) e zero n there = ap (λ rows. get_or rows 0 []) e
 row_at h (m ∷ p) (row ∷ g) e (suc i) n there = row_at h p g (ap (drop 1) e) i n there
 
 pub are_rows : (p : ProgramTree) (g : Graph) → IsCallGraph p g → AreRows p g
-are_rows p g e = record { long = sym (length-map g (λ (row : Vec ℕ Global). row.items)) ∙ ap length e ∙ length-map p (places_called p); rows = row_at (places_called p) p g e }
+are_rows p g e = record { long = sym (length-map g (λ (row : Vec ℕ Global). row.items)) ∙ ap length e ∙ length-map p.nodes (places_called p); rows = row_at (places_called p) p.nodes g e }
 
 module _ (p : ProgramTree) (g : Graph) (s : AreRows p g) where
   pub edge : (i j : ℕ) → CallAt p i j → PointsTo g i j
   edge i j c =
       record {
         listed = subst (λ row. Contains row j) (sym (s.rows i c.node c.there)) (found_in (node_place p) (called_by c.node) c.name j c.at_place c.called);
-        inside = omega (arith, slice_get_within p j (means p c.name j c.at_place).node (means p c.name j c.at_place).there, s.long);
+        inside = omega (arith, slice_get_within p.nodes j (means p c.name j c.at_place).node (means p c.name j c.at_place).there, s.long);
       }
 
   pub call_of : (i j : ℕ) → PointsTo g i j → CallAt p i j
   call_of i j e =
-      let n : NodeTree = get_or p i unnamed in
-      let there : slice_get p i ≡ Some n = slice_get-get_or p i unnamed (omega (arith, source_inside g i j e, s.long)) in
+      let n : NodeTree = get_or p.nodes i unnamed in
+      let there : slice_get p.nodes i ≡ Some n = slice_get-get_or p.nodes i unnamed (omega (arith, source_inside g i j e, s.long)) in
       let f = found_of (node_place p) (called_by n) j (subst (λ row. Contains row j) (s.rows i n there) e.listed) in
       record { node = n; there = there; name = f.name; called = f.among; at_place = f.found } where
         unnamed : NodeTree
@@ -117,7 +117,7 @@ module _ (p : ProgramTree) (g : Graph) (s : AreRows p g) where
   -- before the least vertex that does, no node does
   pub none_before : (v : ℕ) → ((u : ℕ) → u < v → ¬ IsCycle g u) → NoneRecursiveBefore p v
   none_before v least j n lt there way =
-      let m = meant p j n there in
+      let m = meant p.nodes j n there in
       least m.place (omega (arith, m.first, lt)) (way_along n.name n.name m.place m.place way m.at_place m.at_place)
 
   pub in_order : (order : List ℕ) → IsOrder g order → IsCallOrder p order
@@ -135,4 +135,4 @@ module _ (p : ProgramTree) (g : Graph) (s : AreRows p g) where
       }
 
   pub once_each : (order : List ℕ) → IsOrder g order → AreOnce p order
-  once_each order o = record { inside = All-weaker (λ i. i < length g) (λ i. i < length p) (λ i lt. omega (arith, lt, s.long)) order o.inside; once = o.once }
+  once_each order o = record { inside = All-weaker (λ i. i < length g) (λ i. i < length p.nodes) (λ i lt. omega (arith, lt, s.long)) order o.inside; once = o.once }

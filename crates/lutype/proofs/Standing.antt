@@ -1,5 +1,5 @@
 -- Names that stand first.
-use Rattle.std.proofs.Common.{◌≡◌, ◌∙◌, ◌↔◌, ℕ, Option, Some, Bool, IsTrue, sym, ap}
+use Rattle.std.proofs.Common.{◌≡◌, ◌∙◌, ◌↔◌, ℕ, map, Option, Some, Bool, IsTrue, sym, ap}
 use Rattle.std.specs.Prelude.{slice_get}
 use Rattle.std.specs.Option.{option_map}
 use Rattle.std.proofs.lemmas.Option.{slice_get-map}
@@ -17,11 +17,12 @@ use Rattle.lustat_scope.proofs.Declared.{names_of_nodes, place_of_node, names_in
 pub node_is_new : (p : Program) (place : ℕ) (n : Node) (found : Option ℕ) (b : Bool) → slice_get p.nodes place ≡ Some n → found ≡ node_place (program_view p) n.name
     → (IsTrue b ↔ (found ≡ Some place)) → IsTrue b ↔ IsNewNode (program_view p) place (node_view n)
 node_is_new p place n found b at is same =
-    let names = names_of_nodes (program_view p) in
+    let nodes = map node_view p.nodes in
+    let names = names_of_nodes nodes in
     let there : slice_get names place ≡ Some n.name =
-    slice_get-map (λ (m : NodeTree). m.name) (program_view p) place ∙ ap (option_map (λ (m : NodeTree). m.name)) (slice_get-map node_view p.nodes place ∙ ap (option_map node_view) at) in
+    slice_get-map (λ (m : NodeTree). m.name) nodes place ∙ ap (option_map (λ (m : NodeTree). m.name)) (slice_get-map node_view p.nodes place ∙ ap (option_map node_view) at) in
     let law = stands_first names n.name place there in
-    let where_first : found ≡ first_place names n.name = is ∙ sym (place_of_node (program_view p) n.name) in
+    let where_first : found ≡ first_place names n.name = is ∙ sym (place_of_node nodes n.name) in
     (λ h. law.0 (sym where_first ∙ same.0 h), λ h. same.1 (where_first ∙ law.1 h))
 
 pub variable_is_new : (n : Node) (place : ℕ) (d : Declaration) (found : Option ℕ) (b : Bool) → slice_get (declared_in n) place ≡ Some d

@@ -130,5 +130,5 @@ told_with p main place byte found r judged recursive first at is =
 
 pub recursive_within : (p : Program) (scopes : List Node) (place : ℕ) → scopes ≡ p.nodes → IsRecursive (program_view p) place → place < length scopes
 recursive_within p scopes place same h =
-    let lt = slice_get_within (program_view p) place h.0 h.1 in
+    let lt = slice_get_within (program_view p).nodes place h.0 h.1 in
     omega (arith, lt, length-map p.nodes node_view, ap length same)

@@ -19,17 +19,17 @@ places_called p n = filter_map (node_place p) (called_by n)
 
 -- a vertex for each node, with edges to the nodes that it calls
 abbrev pub IsCallGraph : ProgramTree → Graph → Type 0
-IsCallGraph p g = map (λ (row : Vec ℕ Global). row.items) g ≡ map (places_called p) p
+IsCallGraph p g = map (λ (row : Vec ℕ Global). row.items) g ≡ map (places_called p) p.nodes
 
 -- places of nodes, none twice
 pub record AreOnce (p : ProgramTree) (order : List ℕ) : Type 0 where
-  pub inside : All (λ i. i < length p) order
+  pub inside : All (λ i. i < length p.nodes) order
   pub once : (k l : ℕ) → k < length order → l < length order → slice_index order k ≡ slice_index order l → k ≡ l
 
 -- the node at a place reaches itself by calls
 abbrev pub IsRecursive : ProgramTree → ℕ → Type 0
-IsRecursive p i = (n : NodeTree) × (slice_get p i ≡ Some n) × Reaches p n.name n.name
+IsRecursive p i = (n : NodeTree) × (slice_get p.nodes i ≡ Some n) × Reaches p n.name n.name
 
 -- no node before a place reaches itself by calls
 abbrev pub NoneRecursiveBefore : ProgramTree → ℕ → Type 0
-NoneRecursiveBefore p i = (j : ℕ) (n : NodeTree) → j < i → slice_get p j ≡ Some n → IsNotRecursive p n
+NoneRecursiveBefore p i = (j : ℕ) (n : NodeTree) → j < i → slice_get p.nodes j ≡ Some n → IsNotRecursive p n

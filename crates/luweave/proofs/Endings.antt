@@ -1,18 +1,18 @@
 -- Where all sites have ended no flow breaks.
-use Rattle.std.proofs.Common.{◌≡◌, ℕ, zero, suc, ◌<◌, inl, inr, Bool, true, false, cond, List, [], ◌∷◌, length, take, get_or, Option, Some, None, refl, sym, ap, ◌∙◌, subst, arith, nat_lt}
+use Rattle.std.proofs.Common.{◌≡◌, ℕ, zero, suc, ◌<◌, inl, inr, Bool, true, false, List, [], ◌∷◌, length, take, get_or, Option, Some, None, refl, sym, ap, ◌∙◌, subst, arith, nat_lt}
 use Rattle.std.specs.Prelude.{slice_get, slice_index, All, Contains, not}
 use Rattle.std.proofs.lemmas.List.Elements.{All-get_or}
 use Rattle.std.proofs.lemmas.Option.{slice_get_within, slice_get-get_or}
 use Rattle.std.proofs.lemmas.Bool.{cases_eq, false≢true}
 use Rattle.std.proofs.lemmas.List.{length-map}
-use Rattle.luflow.specs.declared.data.Datum.TheVariants.{Int, Bool as Truth, Nil}
+use Rattle.luflow.specs.declared.data.Datum.{Datum}
 use Rattle.luflow.specs.declared.data.Status.{Status}
 use Rattle.luflow.specs.declared.data.Status.TheVariants.{Absent, Present}
 use Rattle.luflow.specs.declared.form.Clock.{Clock}
 use Rattle.luflow.specs.declared.form.Clock.TheVariants.{Base, On}
 use Rattle.luflow.specs.declared.form.Outcome.{Outcome}
 use Rattle.luflow.specs.Program.{Table, flow_at, form_reads, clock_reads}
-use Rattle.luflow.specs.Streams.{Mark, Known, Broken, Streams, is_broken, truth_in, clock_at}
+use Rattle.luflow.specs.Streams.{Mark, Known, Broken, Streams, is_broken, is_value, truth_in, clock_at}
 use Rattle.luflow.specs.Values.{value_at, under}
 use Rattle.luflow.specs.Solution.{clock_of_flow}
 use Rattle.luflow.proofs.Solutions.{some_at, place_of, place_in, all_right}
@@ -31,16 +31,14 @@ use Rattle.luweave.specs.declared.lane.Lane.{Lane}
 use Rattle.luweave.specs.Worlds.{IsWorld, IsDone, IsToldBySome, OneTells, NoneTells, dones_of}
 use Rattle.luweave.proofs.Worlds.{done_at}
 
-truth_known : (sign : Bool) (m : Mark) → is_broken m ≡ false → (b : Bool) × (truth_in sign m ≡ Some b)
-truth_known sign Broken e = absurd (false≢true (sym e))
-truth_known sign (Known Absent) e = (false, refl)
-truth_known sign (Known (Present Nil)) e = (false, refl)
-truth_known sign (Known (Present (Int n))) e = (false, refl)
-truth_known sign (Known (Present (Truth b))) e = (cond sign b (not b), refl)
+truth_known : (d : Datum) (m : Mark) → is_broken m ≡ false → (b : Bool) × (truth_in d m ≡ Some b)
+truth_known d Broken e = absurd (false≢true (sym e))
+truth_known d (Known Absent) e = (false, refl)
+truth_known d (Known (Present x)) e = (is_value d x, refl)
 
 clock_known : (inputs : Table) (σ : Streams) (clock : Clock) (t : ℕ) → All (λ r. is_broken (σ r t) ≡ false) (clock_reads clock) → (b : Bool) × (clock_at inputs σ clock t ≡ Some b)
 clock_known inputs σ Base t h = (nat_lt t inputs.instants, refl)
-clock_known inputs σ (On c sign) t h = truth_known sign (σ c t) (All-get_or (λ r. is_broken (σ r t) ≡ false) (c ∷ []) 0 c (omega arith) h)
+clock_known inputs σ (On c d) t h = truth_known d (σ c t) (All-get_or (λ r. is_broken (σ r t) ≡ false) (c ∷ []) 0 c (omega arith) h)
 
 sound_under : (b : Bool) (k : Option Bool) (v : Outcome) (m : Mark) → k ≡ Some b → m ≡ under k v → (b ≡ true → is_broken m ≡ false) → is_broken m ≡ false
 sound_under true k v m ek em h = h refl

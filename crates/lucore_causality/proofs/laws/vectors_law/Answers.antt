@@ -1,6 +1,6 @@
 use Rattle.std.proofs.Common.{◌≡◌, ℕ, ◌-◌, ◌<◌, List, [], ◌∷◌, length, refl, subst, arith}
 use Rattle.std.specs.Prelude.{codes, Contains}
-use Rattle.lutree.specs.Tree.{ProgramTree}
+use Rattle.lutree.specs.Tree.{ProgramTree, program_of}
 use Rattle.lucore_causality.specs.Reads.{Position, Occurrence, Instance, Item, items_of, main_instance, IsInstance, Reads, Leads}
 use Rattle.lucore_causality.specs.Reads.Occurrence.{variable, operator}
 use Rattle.lucore_causality.specs.Reads.Item.{reading, calling}
@@ -15,7 +15,7 @@ at n operands = record { equation = n; operands = operands }
 -- THE CALL
 
 abbrev calling_program : ProgramTree
-calling_program = same ∷ through_call ∷ []
+calling_program = program_of (same ∷ through_call ∷ [])
 
 abbrev top : List ℕ
 top = codes "main"
@@ -62,21 +62,21 @@ equal = operator [] (at 1 [])
 abbrev held : Occurrence
 held = operator [] (at 1 (0 ∷ []))
 
-c_reads_equal : Reads (through_clock ∷ []) top c equal
+c_reads_equal : Reads (program_of (through_clock ∷ [])) top c equal
 c_reads_equal = record { instance = main_instance top; is_instance = IsInstance.first; all = equal ∷ []; there = (3, omega arith, refl); among = (0, omega arith, refl) }
 
-equal_reads_held : Reads (through_clock ∷ []) top equal held
+equal_reads_held : Reads (program_of (through_clock ∷ [])) top equal held
 equal_reads_held =
     record { instance = main_instance top; is_instance = IsInstance.first; all = held ∷ operator [] (at 1 (1 ∷ [])) ∷ []; there = (4, omega arith, refl); among = (0, omega arith, refl) }
 
-held_reads_s : Reads (through_clock ∷ []) top held s
+held_reads_s : Reads (program_of (through_clock ∷ [])) top held s
 held_reads_s = record { instance = main_instance top; is_instance = IsInstance.first; all = s ∷ []; there = (5, omega arith, refl); among = (0, omega arith, refl) }
 
-s_reads_c : Reads (through_clock ∷ []) top s c
+s_reads_c : Reads (program_of (through_clock ∷ [])) top s c
 s_reads_c =
     record { instance = main_instance top; is_instance = IsInstance.first; all = operator [] (at 0 []) ∷ c ∷ []; there = (0, omega arith, refl); among = (1, omega arith, refl) }
 
-clock_closes : HasCycle (through_clock ∷ []) top
+clock_closes : HasCycle (program_of (through_clock ∷ [])) top
 clock_closes =
     (c, Leads.more c s c (Leads.more c held s (Leads.more c equal held (Leads.one c equal c_reads_equal) equal_reads_held) held_reads_s) s_reads_c)
 
@@ -91,22 +91,22 @@ abbrev Falls : Item → Type 0
 Falls (reading x all) = Every (λ y. rank y < rank x) all
 Falls (calling b) = ⊥
 
-all_fall : Every Falls (items_of (counter ∷ []) (main_instance top))
+all_fall : Every Falls (items_of (program_of (counter ∷ [])) (main_instance top))
 all_fall = ((omega arith, tt), ((omega arith, (omega arith, tt)), (tt, ((omega arith, (omega arith, tt)), (tt, (tt, tt))))))
 
-only_main : (b : Instance) → IsInstance (counter ∷ []) top b → b ≡ main_instance top
+only_main : (b : Instance) → IsInstance (program_of (counter ∷ [])) top b → b ≡ main_instance top
 only_main _ IsInstance.first = refl
 only_main _ (IsInstance.called a b is c) =
     let same = only_main a is in
-    absurd (every_get Falls (items_of (counter ∷ []) (main_instance top)) (calling b) all_fall (subst (λ a. Contains (items_of (counter ∷ []) a) (calling b)) same c))
+    absurd (every_get Falls (items_of (program_of (counter ∷ [])) (main_instance top)) (calling b) all_fall (subst (λ a. Contains (items_of (program_of (counter ∷ [])) a) (calling b)) same c))
 
-read_falls : (x y : Occurrence) → Reads (counter ∷ []) top x y → rank y < rank x
+read_falls : (x y : Occurrence) → Reads (program_of (counter ∷ [])) top x y → rank y < rank x
 read_falls x y r =
     let same = only_main r.instance r.is_instance in
-    let there = subst (λ a. Contains (items_of (counter ∷ []) a) (reading x r.all)) same r.there in
-    every_get (λ y. rank y < rank x) r.all y (every_get Falls (items_of (counter ∷ []) (main_instance top)) (reading x r.all) all_fall there) r.among
+    let there = subst (λ a. Contains (items_of (program_of (counter ∷ [])) a) (reading x r.all)) same r.there in
+    every_get (λ y. rank y < rank x) r.all y (every_get Falls (items_of (program_of (counter ∷ [])) (main_instance top)) (reading x r.all) all_fall there) r.among
 
-falls : (x y : Occurrence) → Leads (counter ∷ []) top x y → rank y < rank x
+falls : (x y : Occurrence) → Leads (program_of (counter ∷ [])) top x y → rank y < rank x
 falls x y (Leads.one _ _ r) = read_falls x y r
 falls x z (Leads.more _ y _ way r) = let f = falls x y way in let g = read_falls y z r in omega (arith, f, g)
 

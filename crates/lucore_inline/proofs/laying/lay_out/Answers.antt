@@ -10,7 +10,7 @@ pub laid_at-requires-clause-inside : goal.laid_at-requires-clause-inside
 laid_at-requires-clause-inside c =
     let p : ProgramTree = program_view c.args.catalog.now in
     let m = means p c.args.main.now c.in-Some.place (sym c.place.ensures ∙ c.in-Some.is) in
-    slice_get_within p c.in-Some.place m.node m.there
+    slice_get_within p.nodes c.in-Some.place m.node m.there
 
 pub returns-in_ok-laid-in-Some : goal.returns-in_ok-laid-in-Some
 returns-in_ok-laid-in-Some c =
@@ -18,7 +18,7 @@ returns-in_ok-laid-in-Some c =
     let p : ProgramTree = program_view c.args.catalog.now in
     let here = placed p c.args.main.now n is in
     let same = same_Some here.place c.in-Some.place (sym here.at_place ∙ sym c.place.ensures ∙ c.in-Some.is) in
-    let there : slice_get p c.in-Some.place ≡ Some n = subst (λ i. slice_get p i ≡ Some n) same here.node in
+    let there : slice_get p.nodes c.in-Some.place ≡ Some n = subst (λ i. slice_get p.nodes i ≡ Some n) same here.node in
     (c.in_ok-laid-in-Some.ensures.list n there, c.in_ok-laid-in-Some.ensures.variables n there)
 
 pub returns-in-None : goal.returns-in-None

@@ -27,15 +27,15 @@ loop-number-preserved c =
     let inv = c.loop-number.invariant in
     let lt : k < length order = let a = c.loop-number-test.true in let b = c.requires.inside in omega (arith, a, b) in
     let at : slice_get order k ≡ Some i = slice_get-get_or order k 0 lt in
-    let count : length c.scopes-count.result.now ≡ length p = ap length c.scopes-count.ensures ∙ sym (length-map c.args.catalog.now.nodes node_view) in
-    let long : length built ≡ length p = length-map lists (λ (v : Vec Flow Global). v.items) ∙ inv.long ∙ count in
+    let count : length c.scopes-count.result.now ≡ length p.nodes = ap length c.scopes-count.ensures ∙ sym (length-map c.args.catalog.now.nodes node_view) in
+    let long : length built ≡ length p.nodes = length-map lists (λ (v : Vec Flow Global). v.items) ∙ inv.long ∙ count in
     elim c.if-place-count.branch [
       | then-place-count+then-has_mark+in_ok-list w ↦
           let list = w.in_ok-list.list.flows in
           let items : c.if-place-count.lists.items ≡ set lists i list = ap (λ (v : Vec (Vec Flow Global) Global). v.items) w.lists-is in
-          let inside : i < length p = let a = w.if-place-count.true in omega (arith, a, count) in
-          let n : NodeTree = get_or p i unnamed in
-          let there : slice_get p i ≡ Some n = slice_get-get_or p i unnamed inside in
+          let inside : i < length p.nodes = let a = w.if-place-count.true in omega (arith, a, count) in
+          let n : NodeTree = get_or p.nodes i unnamed in
+          let there : slice_get p.nodes i ≡ Some n = slice_get-get_or p.nodes i unnamed inside in
           let has = w.has_mark.ensures.0 (subst IsTrue (sym w.if-has_mark.true) refl) in
           let is : list.items ≡ node_flows p built n = w.in_ok-list.ensures.flows n there ∙ ap (λ (ls : List (Vec Flow Global)). node_flows p (plain ls) n) w.deref.ensures.value in
           let same : plain c.if-place-count.lists.items ≡ set built i list.items = ap plain items ∙ map-set (λ (v : Vec Flow Global). v.items) lists i list in

@@ -3,7 +3,7 @@ use Rattle.std.proofs.lemmas.List.{take_all}
 use Rattle.lutree.specs.declared.program.Node.{Node}
 use Rattle.lutree.specs.Tree.{equation_view, node_view, program_view}
 use Rattle.lucore_list.specs.Layout.{variable_count}
-use Rattle.lucore_inline.specs.Walks.{plain}
+use Rattle.lucore_inline.specs.Walks.{plain, vacant}
 use Rattle.lucore_inline.proofs.Gather.{Made, none_made, next_made}
 use Rattle.lucore_inline.proofs.Named.{long as as_many}
 use Rattle.lucore_inline.proofs.node.parts_of.Goals as goal
@@ -14,9 +14,8 @@ loop-equation-init c =
     let l = plain c.args.context.now.lists.now in
     let n = node_view c.args.context.now.scope.now in
     let long : length c.declarations.result.now ≡ variable_count p l n = as_many c.args.context.now.scope.now c.declarations.result.now c.declarations.ensures in
-    let copies : c.in_ok-vec.field-0.items ≡ replicate (length c.declarations.result.now) c.vacant_flow.result = c.in_ok-vec.ensures.items_if_clones_equal (λ y h. h) in
-    none_made p l n c.in_ok-vec.field-0.items c.new.result.items c.new-2.result.items
-    (copies ∙ ap (λ i. replicate i c.vacant_flow.result) long ∙ ap (replicate (variable_count p l n)) c.vacant_flow.ensures) c.new.ensures.items c.new-2.ensures.items
+    none_made p l n c.in_ok-vacant_flows.field-0.items c.new.result.items c.new-2.result.items
+    (c.in_ok-vacant_flows.ensures ∙ ap (λ i. replicate i vacant) long) c.new.ensures.items c.new-2.ensures.items
 
 pub loop-equation-preserved : goal.loop-equation-preserved
 loop-equation-preserved c =

@@ -12,5 +12,5 @@ loop-number-preserved c =
     let left = c.args.left.now in
     let i = c.loop-number.number in
     let lt : i < length left = omega arith in
-    next_named n (clock_place n (placed_view c.args.clock)) (root_view c.args.root) left i c.index-left-number.result c.as_str.result.now c.in_ok-defined_flow.field-0 c.args.defined.now.items c.loop-number.defined.items c.push.new.self.items
+    next_named n (clock_place n (placed_view c.args.clock)) (root_view c.args.root.now) left i c.index-left-number.result c.as_str.result.now c.in_ok-defined_flow.field-0 c.args.defined.now.items c.loop-number.defined.items c.push.new.self.items
     lt c.index-left-number.is c.as_str.ensures c.in_ok-defined_flow.ensures c.loop-number.invariant c.in_ok-push.ensures.items

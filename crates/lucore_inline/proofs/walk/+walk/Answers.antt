@@ -1,10 +1,11 @@
-use Rattle.std.proofs.Common.{◌≡◌, ◌<◌, true, false, Option, Some, List, pos, length, take, refl, sym, ap, subst, ◌∙◌, arith}
+use Rattle.std.proofs.Common.{◌≡◌, ◌<◌, true, false, Option, Some, List, [], ◌∷◌, pos, length, take, refl, sym, ap, subst, ◌∙◌, arith}
 use Rattle.std.proofs.lemmas.List.{take_all}
 use Rattle.std.proofs.lemmas.Result.{IfOk-weaker}
 use Rattle.lutree.specs.declared.expr.Infix.TheVariants.{Arrow as Starts}
 use Rattle.lutree.specs.declared.program.Kind.{Kind}
 use Rattle.lutree.specs.declared.program.Kind.TheVariants.{Int as Ints, Bool as Truths}
 use Rattle.lutree.specs.declared.expr.Expr.{Expr}
+use Rattle.lutree.specs.declared.expr.Pattern.TheVariants as patterns
 use Rattle.lutree.specs.Tree.{Tree, view, views, trees_of, node_view, program_view}
 use Rattle.lutree.specs.Tree as tree
 use Rattle.luflow.specs.declared.form.Form.{Form}
@@ -138,7 +139,7 @@ walk-returns-in_ok-x-in-When-clause-walked t c =
     let x = c.in_ok-x-in-When.x in
     let mid = c.settled-in-When.new.flows.items in
     let inside = c.variable_clock-inside.ensures.clock ∙ ap (clock_of n) c.as_str-name.ensures in
-    let sampled = c.placed-sampled.ensures.clock ∙ ap (λ y. condition y d.sign) c.as_str-name.ensures in
+    let sampled = c.placed-sampled.ensures.clock ∙ c.of.ensures in
     let w = c.in_ok-walk-in-When.ensures.walked in
     let h = subst (λ j. IsWalked (walk p l n (view c.deref-in-When.result.now) j) old c.walk-in-When.new.flows.items (root_view c.in_ok-walk-in-When.field-0.root)) inside w in
     let m = operand_is p l n a.value c.deref-in-When.result.now (clock_of n d.variable) old c.walk-in-When.new.flows.items mid (root_view c.in_ok-walk-in-When.field-0.root) x.place c.deref-in-When.ensures h c.in_ok-x-in-When.ensures.flows c.in_ok-x-in-When.ensures.place in
@@ -155,8 +156,8 @@ walk-returns-in_ok-x-in-When-clause-kind t c =
     let mk = operand_typed p l n c.in-When.a.value c.deref-in-When.result.now c.in_ok-walk-in-When.field-0.kind c.in_ok-x-in-When.x.kind c.deref-in-When.ensures c.in_ok-walk-in-When.ensures.kind c.in_ok-x-in-When.ensures.kind in
     c.own-in-When.ensures.kind ∙ mk ∙ sym (ap (type_of p n) (ap view c.in-When.is ∙ viewed-When c.in-When.a c.in-When.c))
 
-pub walk-returns-in_ok-y-in-Merge-clause-walked : goal.walk-returns-in_ok-y-in-Merge-clause-walked
-walk-returns-in_ok-y-in-Merge-clause-walked t c =
+pub walk-returns-in_ok-branches-in-Merge-clause-walked : goal.walk-returns-in_ok-branches-in-Merge-clause-walked
+walk-returns-in_ok-branches-in-Merge-clause-walked t c =
     let p = program_view c.args.context.now.catalog.now in
     let l = plain c.args.context.now.lists.now in
     let n = node_view c.args.context.now.scope.now in
@@ -170,23 +171,25 @@ walk-returns-in_ok-y-in-Merge-clause-walked t c =
     let first = c.settled-in-Merge.new.flows.items in
     let last = c.settled-in-Merge-2.new.flows.items in
     let name = c.as_str-name-in-Merge.ensures in
-    let on = c.placed-on.ensures.clock ∙ ap (λ y. condition y true) name in
-    let off = c.placed-off.ensures.clock ∙ ap (λ y. condition y false) name in
+    let on = c.placed-on.ensures.clock ∙ ap (λ y. condition y (patterns.Truth true)) name in
+    let off = c.placed-off.ensures.clock ∙ ap (λ y. condition y (patterns.Truth false)) name in
     let g = subst (λ j. IsWalked (walk p l n (view c.deref-in-Merge.result.now) j) old c.walk-in-Merge.new.flows.items (root_view c.in_ok-walk-in-Merge.field-0.root)) on c.in_ok-walk-in-Merge.ensures.walked in
     let h = subst (λ j. IsWalked (walk p l n (view c.deref-in-Merge-2.result.now) j) first c.walk-in-Merge-2.new.flows.items (root_view c.in_ok-walk-in-Merge-2.field-0.root)) off c.in_ok-walk-in-Merge-2.ensures.walked in
-    let m = operand_is p l n a.value c.deref-in-Merge.result.now (condition v true) old c.walk-in-Merge.new.flows.items first (root_view c.in_ok-walk-in-Merge.field-0.root) x.place c.deref-in-Merge.ensures g c.in_ok-x-in-Merge.ensures.flows c.in_ok-x-in-Merge.ensures.place in
-    let r = operand_is p l n b.value c.deref-in-Merge-2.result.now (condition v false) first c.walk-in-Merge-2.new.flows.items last (root_view c.in_ok-walk-in-Merge-2.field-0.root) y.place c.deref-in-Merge-2.ensures h c.in_ok-y-in-Merge.ensures.flows c.in_ok-y-in-Merge.ensures.place in
+    let m = operand_is p l n a.value c.deref-in-Merge.result.now (condition v (patterns.Truth true)) old c.walk-in-Merge.new.flows.items first (root_view c.in_ok-walk-in-Merge.field-0.root) x.place c.deref-in-Merge.ensures g c.in_ok-x-in-Merge.ensures.flows c.in_ok-x-in-Merge.ensures.place in
+    let r = operand_is p l n b.value c.deref-in-Merge-2.result.now (condition v (patterns.Truth false)) first c.walk-in-Merge-2.new.flows.items last (root_view c.in_ok-walk-in-Merge-2.field-0.root) y.place c.deref-in-Merge-2.ensures h c.in_ok-y-in-Merge.ensures.flows c.in_ok-y-in-Merge.ensures.place in
     let mk = operand_typed p l n a.value c.deref-in-Merge.result.now c.in_ok-walk-in-Merge.field-0.kind x.kind c.deref-in-Merge.ensures c.in_ok-walk-in-Merge.ensures.kind c.in_ok-x-in-Merge.ensures.kind in
     let rk = operand_typed p l n b.value c.deref-in-Merge-2.result.now c.in_ok-walk-in-Merge-2.field-0.kind y.kind c.deref-in-Merge-2.ensures c.in_ok-walk-in-Merge-2.ensures.kind c.in_ok-y-in-Merge.ensures.kind in
     let here = c.variable_place-in-Merge.ensures ∙ ap (variable_place p l n) name in
     let ck = clock_place n k in
-    let root = ap root_view c.own-in-Merge.ensures.root ∙ ap (λ (q : Option Kind). own (flow_on ck q (Merge c.variable_place-in-Merge.result x.place y.place))) c.agreed_kind.ensures
-    ∙ ap (λ i. own (flow_on ck (agreed x.kind y.kind) (Merge i x.place y.place))) here in
-    formed p l n (view c.args.e.now) (tree.merge v (view a.value) (view b.value)) k old last (root_view c.own-in-Merge.result.root) (own (flow_on ck (agreed x.kind y.kind) (Merge (variable_place p l n v) x.place y.place)))
+    let two = c.in_ok-branches-in-Merge.branches in
+    let root = ap root_view c.own-in-Merge.ensures.root ∙ ap (λ (q : Option Kind). own (flow_on ck q (Merge c.variable_place-in-Merge.result two))) c.agreed_kind.ensures
+    ∙ ap (λ i. own (flow_on ck (agreed x.kind y.kind) (Merge i two))) here
+    ∙ ap (λ xs. own (flow_on ck (agreed x.kind y.kind) (Merge (variable_place p l n v) xs))) c.in_ok-branches-in-Merge.ensures in
+    formed p l n (view c.args.e.now) (tree.merge v (view a.value) (view b.value)) k old last (root_view c.own-in-Merge.result.root) (own (flow_on ck (agreed x.kind y.kind) (Merge (variable_place p l n v) (x.place ∷ y.place ∷ []))))
     (ap view c.in-Merge.is ∙ viewed-Merge v a b) root (merge_is p l n v (view a.value) (view b.value) k old first last x y m r mk rk)
 
-pub walk-returns-in_ok-y-in-Merge-clause-kind : goal.walk-returns-in_ok-y-in-Merge-clause-kind
-walk-returns-in_ok-y-in-Merge-clause-kind t c =
+pub walk-returns-in_ok-branches-in-Merge-clause-kind : goal.walk-returns-in_ok-branches-in-Merge-clause-kind
+walk-returns-in_ok-branches-in-Merge-clause-kind t c =
     let p = program_view c.args.context.now.catalog.now in
     let l = plain c.args.context.now.lists.now in
     let n = node_view c.args.context.now.scope.now in

@@ -21,8 +21,8 @@ loop-place-preserved-then-place-nodes c =
     let lt : k < length order = omega arith in
     let nodes = c.as_slice-nodes.result.now in
     let same : nodes ≡ c.args.program.now.program.nodes = c.as_slice-nodes.ensures ∙ ap (λ (x : Program). x.nodes) (c.program.ensures ∙ c.catalog-catalog.ensures.catalog) in
-    let long : length p ≡ length nodes = length-map c.args.program.now.program.nodes node_view ∙ ap length (sym same) in
-    let past : length p ≤ i = (let t = c.if-place-nodes.true in omega (arith, t, long)) in
+    let long : length p.nodes ≡ length nodes = length-map c.args.program.now.program.nodes node_view ∙ ap length (sym same) in
+    let past : length p.nodes ≤ i = (let t = c.if-place-nodes.true in omega (arith, t, long)) in
     until_past p order k i c.loop-place.counts.items c.loop-place.invariant (slice_get-get_or order k 0 lt) past
 
 pub loop-place-preserved : goal.loop-place-preserved
@@ -39,7 +39,7 @@ loop-place-preserved c =
     let node = c.index-nodes-place.result in
     let n = node_view node in
     let here = slice_get_read nodes (length nodes) i node refl inside c.index-nodes-place.is in
-    let there : slice_get p i ≡ Some n = ap (λ ns. slice_get (map node_view ns) i) (sym same) ∙ slice_get-map node_view nodes i ∙ ap (option_map node_view) here in
+    let there : slice_get p.nodes i ≡ Some n = ap (λ ns. slice_get (map node_view ns) i) (sym same) ∙ slice_get-map node_view nodes i ∙ ap (option_map node_view) here in
     let calls : IsCallOrder p order = subst (IsCallOrder p) (sym c.order-place-items.ensures.order) c.order-place-items.ensures.calls in
     let is = c.node_count-count.ensures ∙ ap (λ (g : Program). capped (node_size (program_view g) c.as_slice.result.now n)) c.catalog-catalog.ensures.catalog
     ∙ ap (λ cs. capped (node_size p cs n)) c.as_slice.ensures.value in

@@ -13,5 +13,6 @@ returns c =
     let two = c.in_ok-subcommand-2.ensures.shape c.in_ok-eval.ensures.local ∙ ap₂ with_subcommand one (ap top c.in_ok-eval.ensures.app) in
     let three = c.in_ok-subcommand-3.ensures.shape c.in_ok-plan.ensures.local ∙ ap₂ with_subcommand two (ap top c.in_ok-plan.ensures.app) in
     let four = c.in_ok-subcommand-4.ensures.shape c.in_ok-replay.ensures.local ∙ ap₂ with_subcommand three (ap top c.in_ok-replay.ensures.app) in
-    IfOk-weaker c.subcommand-5.result _ _
-    (λ r added. added.shape c.in_ok-run.ensures.local ∙ ap₂ with_subcommand four (ap top c.in_ok-run.ensures.app)) c.subcommand-5.ensures
+    let five = c.in_ok-subcommand-5.ensures.shape c.in_ok-run.ensures.local ∙ ap₂ with_subcommand four (ap top c.in_ok-run.ensures.app) in
+    IfOk-weaker c.subcommand-6.result _ _
+    (λ r added. added.shape c.in_ok-explain.ensures.local ∙ ap₂ with_subcommand five (ap top c.in_ok-explain.ensures.app)) c.subcommand-6.ensures

@@ -17,14 +17,14 @@ invariant_of-result c =
     let outputs : c.in_ok-outputs.outputs.items ≡ outputs_of plan = c.in_ok-outputs.ensures ∙ ap (λ (vs : List Variable). filter (role_at vs) (range_with_len 0 (length vs))) variables in
     record {
       plan_is = subst IsPlan kept c.flat.ensures.plan;
-      flows_are = c.new.ensures ∙ c.in_ok-flows.ensures.items ∙ c.flows.ensures.flows ∙ ap (λ (f : FlatProgram). f.flows) c.flat.ensures.flat ∙ ap (λ (q : Distribution). q.flat.flows) kept;
-      order_is = c.new-2.ensures ∙ c.in_ok-order.ensures.items ∙ c.rank.ensures ∙ ap (λ (f : FlatProgram). f.order) c.flat-2.ensures.flat ∙ ap (λ (q : Distribution). q.flat.order) kept;
-      owners_are = c.new-3.ensures ∙ c.in_ok-owners.ensures.items ∙ c.owners.ensures ∙ ap (λ (f : FlatProgram). f.owners) c.flat-3.ensures.flat ∙ ap (λ (q : Distribution). q.flat.owners) kept;
-      parts_are = c.new-4.ensures ∙ c.in_ok-parts.ensures ∙ ap (λ (q : Distribution). parts_of q s) kept;
-      ranks_are = c.new-5.ensures ∙ c.in_ok-ranks.ensures ∙ ap (λ (q : Distribution). ranks_of q s) kept;
-      places_are = c.new-6.ensures ∙ c.in_ok-places.ensures ∙ ap (λ (q : Distribution). places_of q s) kept;
-      posts_are = subst (λ (q : Distribution). ArePosts q s c.new-7.result) kept (subst (ArePosts plan s) (sym c.new-7.ensures) c.in_ok-posts.ensures);
-      outputs_are = c.new-8.ensures ∙ outputs ∙ ap outputs_of kept;
+      flows_are = ap length c.flows-flows.ensures.flows ∙ ap (λ (f : FlatProgram). length f.flows) c.flat.ensures.flat ∙ ap (λ (q : Distribution). length q.flat.flows) kept;
+      order_is = c.new.ensures ∙ c.in_ok-order.ensures.items ∙ c.rank.ensures ∙ ap (λ (f : FlatProgram). f.order) c.flat-2.ensures.flat ∙ ap (λ (q : Distribution). q.flat.order) kept;
+      owners_are = c.new-2.ensures ∙ c.in_ok-owners.ensures.items ∙ c.owners.ensures ∙ ap (λ (f : FlatProgram). f.owners) c.flat-3.ensures.flat ∙ ap (λ (q : Distribution). q.flat.owners) kept;
+      parts_are = c.new-3.ensures ∙ c.in_ok-parts.ensures ∙ ap (λ (q : Distribution). parts_of q s) kept;
+      ranks_are = c.new-4.ensures ∙ c.in_ok-ranks.ensures ∙ ap (λ (q : Distribution). ranks_of q s) kept;
+      places_are = c.new-5.ensures ∙ c.in_ok-places.ensures ∙ ap (λ (q : Distribution). places_of q s) kept;
+      posts_are = subst (λ (q : Distribution). ArePosts q s c.new-6.result) kept (subst (ArePosts plan s) (sym c.new-6.ensures) c.in_ok-posts.ensures);
+      outputs_are = c.new-7.ensures ∙ outputs ∙ ap outputs_of kept;
       sites_are = search rules;
-      names_are = c.new-9.ensures ∙ c.in_ok-names.ensures ∙ ap₂ (λ (f : FlatProgram) (xs : List ℕ). map (variable_name f) xs) c.flat-5.ensures.flat (c.as_slice-5.ensures.value ∙ outputs) ∙ ap output_names kept;
+      names_are = c.new-8.ensures ∙ c.in_ok-names.ensures ∙ ap₂ (λ (f : FlatProgram) (xs : List ℕ). map (variable_name f) xs) c.flat-5.ensures.flat (c.as_slice-5.ensures.value ∙ outputs) ∙ ap output_names kept;
     }

@@ -16,7 +16,7 @@ use Rattle.lustat.proofs.stages.last_stage.Goals as goal
 pub initialise-requires : goal.initialise-requires
 initialise-requires c =
     let p : Program = c.args.typed.program in
-    subst (λ (x : Program). All LeftsKnown (program_view x)) (sym c.catalog.ensures.catalog) (lefts (program_view p) c.args.typed.main c.catalog.ensures.names)
+    subst (λ (x : Program). All LeftsKnown (program_view x).nodes) (sym c.catalog.ensures.catalog) (lefts (program_view p) c.args.typed.main c.catalog.ensures.names)
 
 pub new-requires : goal.new-requires
 new-requires c =

@@ -7,5 +7,5 @@ use Rattle.lustat_currents.proofs.current.begun_table.Goals as goal
 pub returns : goal.returns
 returns c =
     let made : List (List ℕ) = map (λ (x : Bor (List ℕ)). x.now) c.in_ok-names.names.items in
-    let Q = AreBegun c.args.sign (map equation_view c.args.equations.now) in
+    let Q = AreBegun c.args.pattern.now (map equation_view c.args.equations.now) in
     IfOk-weaker c.new.result (λ places. places ≡ made) Q (λ places e. subst Q (sym e) c.in_ok-names.ensures) c.new.ensures

@@ -12,7 +12,7 @@ pub returns : goal.returns
 returns c =
     let f = codes "f" in
     let g = codes "g" in
-    let uncalled = All-from_recursion (λ (n : NodeTree). ¬ Contains (called_by n) (codes "h")) round
+    let uncalled = All-from_recursion (λ (n : NodeTree). ¬ Contains (called_by n) (codes "h")) round.nodes
     (not_in (codes "g" ∷ []) (codes "h") refl (refl, tt), (not_in (codes "f" ∷ []) (codes "h") refl (refl, tt), (not_in (codes "f" ∷ []) (codes "h") refl (refl, tt), tt))) in
     record {
       first_of_two = λ none. none (Reaches.more f g f (Reaches.one f g (calling f g, refl, (0, zero_less, refl))) (calling g f, refl, (0, zero_less, refl)));

@@ -1,6 +1,7 @@
 use Rattle.std.proofs.Common.{inl, refl, ap, None, true, true≢false, arith}
 use Rattle.std.specs.Prelude.{codes}
 use Rattle.std.specs.Str.{bytes_eq}
+use Rattle.lutree.specs.declared.expr.Pattern.TheVariants as patterns
 use Rattle.lustat_rules.specs.Scope.{names_of}
 use Rattle.lustat_rules.specs.Naming.{Reaches}
 use Rattle.lustat_rules.specs.Clocks.{Ends}
@@ -16,7 +17,7 @@ returns c = record {
   input_is_given = inl (0, omega arith, refl);
   int_clock = λ f. true≢false (ap is_int f.truth);
   clock_of_itself = λ f. loops f.ends refl;
-  clock = record { truth = refl; ends = Ends.after (record { variable = codes "c"; sign = true }) None refl Ends.at_base };
+  clock = record { truth = refl; ends = Ends.after (record { variable = codes "c"; pattern = patterns.Truth true }) None refl Ends.at_base };
   clocked_input = λ f. some_is_none (f.0 (2, omega arith, refl));
   clocked_output = λ f. some_is_none (f.1 (1, one_less, refl) (λ e. false_is_true (ap (λ l. bytes_eq l (codes "two")) e)));
   clocked_output_of_main = ((λ i. absurd (not_in (names_of sampler.inputs) (codes "z") refl (refl, (refl, tt)) i)), (λ o other. absurd (other refl)));

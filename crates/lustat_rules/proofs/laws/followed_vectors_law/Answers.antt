@@ -1,6 +1,7 @@
 use Rattle.std.proofs.Common.{true, false, refl, sym, ◌∙◌, [], ◌∷◌, true≢false}
 use Rattle.std.specs.Prelude.{codes}
 use Rattle.std.proofs.lemmas.List.Elements.{All-from_recursion}
+use Rattle.lutree.specs.declared.expr.Pattern.TheVariants as patterns
 use Rattle.lutree.specs.Tree.{EquationTree}
 use Rattle.lutree.specs.Tree as tree
 use Rattle.lustat_rules.specs.Clocks.{on, base, HasClock}
@@ -13,11 +14,11 @@ use Rattle.lustat_rules.proofs.laws.followed_vectors_law.Goals as goal
 
 pub returns : goal.returns
 returns c =
-    let z_is = All-from_recursion (λ x. HasClock sampler x (on (codes "c") true)) (codes "z" ∷ []) (refl, tt) in
+    let z_is = All-from_recursion (λ x. HasClock sampler x (on (codes "c") (patterns.Truth true))) (codes "z" ∷ []) (refl, tt) in
     let y_is = All-from_recursion (λ x. HasClock sampler x base) (codes "y" ∷ []) (refl, tt) in
     record {
       one_clock = (base, y_is, outside sampler _ _ (tt, refl));
-      slow_one_clock = (on (codes "c") true, z_is, outside sampler _ _ (tt, refl));
+      slow_one_clock = (on (codes "c") (patterns.Truth true), z_is, outside sampler _ _ (tt, refl));
       two_clocks = λ f. base_is_on (f.1 0 [] zero_less ∙ sym (inside f.2).1);
       starts = (
         λ x. false,

@@ -3,6 +3,7 @@ use Rattle.std.specs.Prelude.{codes, unwrap_or}
 use Rattle.std.proofs.lemmas.List.Elements.{All-from_recursion, All-contains}
 use Rattle.lutree.specs.Tree.{DeclarationTree, EquationTree}
 use Rattle.lutree.specs.Tree as tree
+use Rattle.lutree.specs.declared.expr.Pattern.TheVariants as patterns
 use Rattle.lutree.specs.declared.expr.Condition.{Condition}
 use Rattle.lutree.specs.declared.expr.Prefix.TheVariants.{Pre}
 use Rattle.lutree.specs.declared.expr.Infix.TheVariants.{Arrow}
@@ -18,7 +19,7 @@ abbrev equation : tree.Tree → EquationTree
 equation e = defines (codes "y") e
 
 abbrev condition : Condition
-condition = record { variable = codes "c"; sign = true }
+condition = record { variable = codes "c"; pattern = patterns.Truth true }
 
 pub returns : goal.returns
 returns c =

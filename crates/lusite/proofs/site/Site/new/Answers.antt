@@ -32,7 +32,7 @@ settle-requires-clause-set c = record {
   site_is = c.requires.site_is;
   rank_is = c.rank-place.ensures;
   pasts_fit =
-      let m = length c.flows-flows.result.now in
+      let m = c.flows-flows.result in
       let el : c.in_ok-lasts.lasts.items ≡ replicate m Absent = c.in_ok-lasts.ensures.items_if_clones_equal (λ y k. search rules) in
       let en : c.in_ok-counts.counts.items ≡ replicate m 0 = c.in_ok-counts.ensures.items_if_clones_equal (λ y k. search rules) in
       ap length el ∙ length-replicate m Absent ∙ sym (ap length en ∙ length-replicate m 0);
@@ -41,11 +41,11 @@ settle-requires-clause-set c = record {
 pub settle-requires-clause-stands : goal.settle-requires-clause-stands
 settle-requires-clause-stands c =
     let job = c.args.inputs.job in
-    let n : c.flows-flows.result.now ≡ job.plan.flat.flows = c.flows-flows.ensures ∙ ap (λ (q : Distribution). q.flat.flows) c.requires.plan_is in
+    let n : c.flows-flows.result ≡ flows_of job.plan.flat = c.flows-flows.ensures ∙ ap (λ (q : Distribution). flows_of q.flat) c.requires.plan_is in
     let m = flows_of job.plan.flat in
-    let es : c.in_ok-shown.shown.items ≡ replicate m Absent = c.in_ok-shown.ensures.items_if_clones_equal (λ y k. search rules) ∙ ap (λ xs. replicate (length xs) Absent) n in
-    let el : c.in_ok-lasts.lasts.items ≡ replicate m Absent = c.in_ok-lasts.ensures.items_if_clones_equal (λ y k. search rules) ∙ ap (λ xs. replicate (length xs) Absent) n in
-    let en : c.in_ok-counts.counts.items ≡ replicate m 0 = c.in_ok-counts.ensures.items_if_clones_equal (λ y k. search rules) ∙ ap (λ xs. replicate (length xs) 0) n in
+    let es : c.in_ok-shown.shown.items ≡ replicate m Absent = c.in_ok-shown.ensures.items_if_clones_equal (λ y k. search rules) ∙ ap (λ m. replicate m Absent) n in
+    let el : c.in_ok-lasts.lasts.items ≡ replicate m Absent = c.in_ok-lasts.ensures.items_if_clones_equal (λ y k. search rules) ∙ ap (λ m. replicate m Absent) n in
+    let en : c.in_ok-counts.counts.items ≡ replicate m 0 = c.in_ok-counts.ensures.items_if_clones_equal (λ y k. search rules) ∙ ap (λ m. replicate m 0) n in
     let s = c.args.inputs.site in
     let shown = statuses c.in_ok-shown.shown.items in
     let pasts = pasts_in c.in_ok-lasts.lasts.items c.in_ok-counts.counts.items in
@@ -71,10 +71,10 @@ settle-requires-clause-logged c =
     let job = c.args.inputs.job in
     let s = c.args.inputs.site in
     let p = c.args.program in
-    let n : c.flows-flows.result.now ≡ job.plan.flat.flows = c.flows-flows.ensures ∙ ap (λ (q : Distribution). q.flat.flows) c.requires.plan_is in
+    let n : c.flows-flows.result ≡ flows_of job.plan.flat = c.flows-flows.ensures ∙ ap (λ (q : Distribution). flows_of q.flat) c.requires.plan_is in
     let logs = c.in_ok-logs.logs.items in
     let e = c.in_ok-logs.ensures in
-    let len : length logs ≡ flows_of job.plan.flat = e.len ∙ ap length n in
+    let len : length logs ≡ flows_of job.plan.flat = e.len ∙ n in
     let at = start_next p job s c.requires.plan_is c.requires.site_is in
     let ok = run_ok c.args.inputs c.inputs.inside.job.value c.inputs.inside.site c.inputs.view_is c.inputs.invariant.is_run in
     none_yet job s logs 0 c.rank-place.result true

@@ -1,0 +1,77 @@
+-- The values at which a clock may be true.
+use Rattle.std.proofs.Common.{◌≡◌, ◌≢◌, ℕ, zero, suc, Bool, true, false, List, [], ◌∷◌, Option, Some, None, nat_eq, refl, sym, ap, subst, arith}
+use Rattle.std.specs.Prelude.{Contains, slice_get}
+use Rattle.std.proofs.lemmas.List.Elements.{All-contains, All-from_recursion}
+use Rattle.std.proofs.lemmas.Option.{slice_get_within, get_or_from_slice_get, same_Some}
+use Rattle.lutree.specs.declared.program.Kind.{Kind}
+use Rattle.lutree.specs.declared.program.Kind.TheVariants.{Int as Ints, Bool as Truths}
+use Rattle.luflow.specs.declared.data.Datum.{Datum}
+use Rattle.luflow.specs.declared.data.Datum.TheVariants.{Int, Bool as Truth, Nil}
+use Rattle.luflow.specs.declared.data.Status.TheVariants.{Present}
+use Rattle.luflow.specs.declared.form.Clock.TheVariants.{On}
+use Rattle.luflow.specs.Program.{FlatProgram}
+use Rattle.luflow.specs.Streams.{Known, is_value, truth_in}
+use Rattle.luflow.specs.Values.{branch_of}
+use Rattle.luflow.specs.Sound.{clock_values, IsOf, IsOn, BranchesFit}
+use Rattle.luflow.specs.FlatLaws.{SplitLaw}
+
+-- each truth value is one
+pub truth_pattern : (b : Bool) → Contains (clock_values Truths) (Truth b)
+truth_pattern true = (0, omega arith, refl)
+truth_pattern false = (1, omega arith, refl)
+
+-- such a value is itself
+pub value_self : (u : Kind) (d : Datum) → Contains (clock_values u) d → is_value d d ≡ true
+value_self Ints d h = let l = h.1 in absurd (omega arith)
+value_self Truths d h =
+    All-contains (λ d. is_value d d ≡ true) (clock_values Truths) d
+    (All-from_recursion (λ d. is_value d d ≡ true) (clock_values Truths) (refl, (refl, tt))) h
+
+-- a value of a type that clocks may have has a branch of its own
+pub branch_there : (u : Kind) (d : Datum) → clock_values u ≢ [] → IsOf u d → d ≢ Nil → (b : ℕ) × (branch_of d ≡ Some b) × (slice_get (clock_values u) b ≡ Some d)
+branch_there Ints d some is sure = absurd (some refl)
+branch_there Truths Nil some is sure = absurd (sure refl)
+branch_there Truths (Int n) some is sure = absurd is
+branch_there Truths (Truth true) some is sure = (0, refl, refl)
+branch_there Truths (Truth false) some is sure = (1, refl, refl)
+
+pub pattern_at : (u : Kind) (b : ℕ) (d : Datum) → slice_get (clock_values u) b ≡ Some d → Contains (clock_values u) d
+pattern_at u b d at = (b, slice_get_within (clock_values u) b d at, get_or_from_slice_get (clock_values u) b d d at)
+
+-- there are some for truth values
+pub some_values : clock_values Truths ≢ []
+some_values e = cc
+
+-- the branch of a value, where the merge fits
+pub branch_at : (flat : FlatProgram) (class : ℕ → Bool) (s : Kind) (c : ℕ) (ds : List Datum) (xs : List ℕ) (b : ℕ) (d : Datum) → BranchesFit flat class s c ds xs → slice_get ds b ≡ Some d
+    → (x : ℕ) × (slice_get xs b ≡ Some x) × IsOn flat (On c d) s x × (class x ≡ false)
+branch_at flat class s c [] xs b d fit at = let no : None ≡ Some d = at in cc
+branch_at flat class s c (e ∷ ds) [] b d fit at = absurd fit
+branch_at flat class s c (e ∷ ds) (x ∷ xs) zero d fit at = (x, refl, subst (λ d. IsOn flat (On c d) s x) (same_Some e d at) fit.0, fit.1)
+branch_at flat class s c (e ∷ ds) (x ∷ xs) (suc b) d fit at = branch_at flat class s c ds xs b d fit.2 at
+
+-- the value of a branch
+pub value_there : (flat : FlatProgram) (class : ℕ → Bool) (s : Kind) (c : ℕ) (ds : List Datum) (xs : List ℕ) (b x : ℕ) → BranchesFit flat class s c ds xs → slice_get xs b ≡ Some x → (d : Datum) × (slice_get ds b ≡ Some d)
+value_there flat class s c [] [] b x fit at = let no : None ≡ Some x = at in cc
+value_there flat class s c [] (y ∷ xs) b x fit at = absurd fit
+value_there flat class s c (e ∷ ds) [] b x fit at = absurd fit
+value_there flat class s c (e ∷ ds) (y ∷ xs) zero x fit at = (e, refl)
+value_there flat class s c (e ∷ ds) (y ∷ xs) (suc b) x fit at = value_there flat class s c ds xs b x fit.2 at
+
+-- the clocks of the values of a type split a variable
+pub splits : SplitLaw
+splits Ints x some is sure = absurd (some refl)
+splits Truths Nil some is sure = absurd (sure refl)
+splits Truths (Int n) some is sure = absurd is
+splits Truths (Truth true) some is sure = record { own = 0; inside = omega arith; clocks = clocks }
+  where
+    clocks : (j : ℕ) (d : Datum) → slice_get (clock_values Truths) j ≡ Some d → truth_in d (Known (Present (Truth true))) ≡ Some (nat_eq j 0)
+    clocks zero d at = ap (λ d. truth_in d (Known (Present (Truth true)))) (sym (same_Some (Truth true) d at))
+    clocks (suc zero) d at = ap (λ d. truth_in d (Known (Present (Truth true)))) (sym (same_Some (Truth false) d at))
+    clocks (suc (suc j)) d at = let no : None ≡ Some d = at in cc
+splits Truths (Truth false) some is sure = record { own = 1; inside = omega arith; clocks = clocks }
+  where
+    clocks : (j : ℕ) (d : Datum) → slice_get (clock_values Truths) j ≡ Some d → truth_in d (Known (Present (Truth false))) ≡ Some (nat_eq j 1)
+    clocks zero d at = ap (λ d. truth_in d (Known (Present (Truth false)))) (sym (same_Some (Truth true) d at))
+    clocks (suc zero) d at = ap (λ d. truth_in d (Known (Present (Truth false)))) (sym (same_Some (Truth false) d at))
+    clocks (suc (suc j)) d at = let no : None ≡ Some d = at in cc

@@ -1,0 +1,12 @@
+//! What holds of the pages, as contracts of functions that do nothing.
+
+ghost use Rattle.std.specs.Prelude.{◌≡◌, true};
+ghost use Rattle.std.specs.List.{list_all};
+ghost use Rattle.lusdist_pages.specs.Pages.{pages};
+ghost use Rattle.lusdist_pages.specs.Titles.{begins_with_title};
+
+/// Each page begins with its code and its name.
+#[tactic(auto, unfolding(crate::specs::Pages::pages))]
+pub fn titles_law()
+    ensures { list_all begins_with_title pages ≡ true }
+{}
