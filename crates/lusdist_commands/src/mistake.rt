@@ -4,7 +4,7 @@ use lulist::Name;
 use std::fmt;
 use thiserror::Error;
 
-/// What is wrong with words that the command line takes. What it displays is a line, with no line feed.
+/// What is wrong with words that the command line takes. What it displays is a line, without the line feed that ends it.
 #[derive(Debug, Drop, Error)]
 pub enum Mistake {
     /// No page has this code.
