@@ -1,6 +1,7 @@
 -- Open lists as graphs: what a flow looks at, wherever the list stands.
 use Rattle.std.proofs.Common.{◌≡◌, ℕ, zero, suc, ◌+◌, List, [], ◌∷◌, ◌++◌, map, Some, refl, sym, ap, ◌∙◌, subst, arith}
 use Rattle.std.specs.Prelude.{slice_get, slice_index, Contains}
+use Rattle.std.proofs.lemmas.Simd.{map-map}
 use Rattle.luflow.specs.declared.form.Clock.{Clock}
 use Rattle.luflow.specs.declared.form.Clock.TheVariants.{Base, On}
 use Rattle.luflow.specs.declared.form.Form.{Form}
@@ -8,7 +9,6 @@ use Rattle.luflow.specs.declared.form.Form.TheVariants.{Input, Constant, Copied,
 use Rattle.luflow.specs.declared.form.Flow.{Flow}
 use Rattle.lucore_list.specs.Layout.{Root, moved_form, moved_clock, moved}
 use Rattle.lucore_list.specs.Layout.Root.{own, at}
-use Rattle.lucore_list.proofs.Open.{map-map}
 use Rattle.lucore_list.proofs.Each.{Each, each_unmap, each_map, each_shift, each_unshift, each_at, each_all}
 
 -- P OF EACH MEMBER

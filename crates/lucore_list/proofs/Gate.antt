@@ -3,6 +3,7 @@ use Rattle.std.proofs.Common.{◌≡◌, ℕ, zero, suc, ◌<◌, Bool, true, fa
 use Rattle.std.specs.Prelude.{slice_get, slice_index, Contains, All}
 use Rattle.std.proofs.Math.Path.{fun_ext}
 use Rattle.std.proofs.lemmas.List.{get_or-take}
+use Rattle.std.proofs.lemmas.Simd.{map-map}
 use Rattle.std.proofs.lemmas.Option.{slice_get_within, slice_get-get_or, get_or_from_slice_get}
 use Rattle.lutree.specs.declared.program.Kind.TheVariants.{Int as Ints}
 use Rattle.luflow.specs.declared.form.Clock.{Clock}
@@ -19,7 +20,7 @@ use Rattle.luflow.specs.Values.{gives, on_one, on_two, on_three, arrow_of, merge
 use Rattle.luflow.specs.Solution.{IsSolution, says}
 use Rattle.lusource.specs.StreamOperators.{when_stream}
 use Rattle.lucore_list.proofs.Names.{all_head, mapped_some}
-use Rattle.lucore_list.proofs.Open.{Model, clock_ticks, form_stream, Solves, map-map}
+use Rattle.lucore_list.proofs.Open.{Model, clock_ticks, form_stream, Solves}
 use Rattle.lucore_list.proofs.Static.{CopyFits, AreFit}
 
 -- what is under a clock is on it

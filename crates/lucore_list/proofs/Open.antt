@@ -1,6 +1,7 @@
 -- The meaning of an open list, in which a copy has the very stream of what it copies.
-use Rattle.std.proofs.Common.{◌≡◌, ℕ, ◌+◌, List, [], ◌∷◌, map, Some, refl, sym, ap, ◌∙◌, subst, arith}
+use Rattle.std.proofs.Common.{◌≡◌, ℕ, ◌+◌, List, map, Some, refl, sym, ap, ◌∙◌, subst, arith}
 use Rattle.std.specs.Prelude.{slice_get, slice_index}
+use Rattle.std.proofs.lemmas.Simd.{map-map}
 use Rattle.luflow.specs.declared.form.Clock.{Clock}
 use Rattle.luflow.specs.declared.form.Clock.TheVariants.{Base, On}
 use Rattle.luflow.specs.declared.form.Form.{Form}
@@ -43,11 +44,6 @@ moved_model m b arguments = record { on = λ x. m.on (b + x); given = λ r. m.on
 clock_moved : (base : Ticks) (τ : Streams) (b : ℕ) (k c : Clock) → clock_ticks base τ (moved_clock b k c) ≡ clock_ticks (clock_ticks base τ k) (λ x. τ (b + x)) c
 clock_moved base τ b k Base = refl
 clock_moved base τ b k (On c d) = refl
-
--- what a function gives for what another gave for a list
-pub map-map : {X Y Z : Type 0} (f : Y → Z) (g : X → Y) (xs : List X) → map f (map g xs) ≡ map (λ x. f (g x)) xs
-map-map f g [] = refl
-map-map f g (x ∷ xs) = ap (λ ys. f (g x) ∷ ys) (map-map f g xs)
 
 form_moved : (m : Model) (b : ℕ) (arguments : List ℕ) (k : Ticks) (f : Form) → form_stream m k (moved_form b arguments f) ≡ form_stream (moved_model m b arguments) k f
 form_moved m b arguments k (Input r) = refl
