@@ -5,11 +5,20 @@ from collections import namedtuple
 
 # ---- the tree -------------------------------------------------------------------------------------------------------------
 
-# form: number truth name call prefix infix if when current merge; word: the operator, the name, the node or the value
+# form: number truth name call prefix infix if when current merge; word: the operator, the name, the node or the value; sign: of a
+# `when` what its variable has to be, true, false or a name of an enumeration, and of a merge that of each branch
 Tree = namedtuple('Tree', 'form word operands sign', defaults=((), True))
-Variable = namedtuple('Variable', 'name kind clock byte')  # the clock: None, or a name and a sign
+Variable = namedtuple('Variable', 'name kind clock byte')  # the clock: None, or a name and a sign; the kind: int, bool or a type's name
 Equation = namedtuple('Equation', 'left right byte')
 Node = namedtuple('Node', 'name inputs outputs locals equations byte')
+Type = namedtuple('Type', 'name names byte')  # the names of an enumeration, with their bytes
+Program = namedtuple('Program', 'types nodes')
+
+class Label(namedtuple('Label', 'kind number name')):
+    """A name of an enumeration, as a value."""
+
+    def __str__(self):
+        return self.name
 
 class Refused(Exception):
     """A text is refused; its argument is the line of the refusal."""
@@ -22,7 +31,7 @@ LEVELS = {operator: levels for levels, operators in [
 
 KEYWORDS = ('node returns var let tel int bool true false if then else pre fby current when merge not and or xor div mod type '
             'enum').split()
-TOKEN = re.compile(r'([ \t\r\n]+|--[^\n]*)|[A-Za-z_][A-Za-z0-9_]*|[0-9]+|<>|<=|>=|->|=>|[(),;:=<>+*-]')
+TOKEN = re.compile(r'([ \t\r\n]+|--[^\n]*)|[A-Za-z_][A-Za-z0-9_]*|[0-9]+|<>|<=|>=|->|=>|[(),;:=<>+*{}-]')
 GREATEST = 2 ** 63 - 1
 
 def tokens(text):
@@ -90,6 +99,14 @@ class Reader:
             found.append((self.byte(), self.name()))
         return found
 
+    def type(self):
+        self.expect('type')
+        byte, name = self.byte(), self.name()
+        self.expect('=', 'enum', '{')
+        names = self.names()
+        self.expect('}', ';')
+        return Type(name, names, byte)
+
     def node(self):
         self.expect('node')
         byte, name = self.byte(), self.name()
@@ -120,13 +137,19 @@ class Reader:
     def declaration(self):
         names = self.names()
         self.expect(':')
-        kind = self.takes('int', 'bool') or self.refuse()
+        kind = self.takes('int', 'bool') or self.name()
         clock = self.clock() if self.takes('when') else None
         return [Variable(name, kind, clock, byte) for byte, name in names]
 
     def clock(self):
-        sign = not self.takes('not')
-        return self.name(), sign
+        if self.takes('not'):
+            return self.name(), False
+        word = self.name()
+        if not self.takes('('):
+            return word, True
+        name = self.name()
+        self.expect(')')
+        return name, word
 
     def equation(self):
         byte = self.byte()
@@ -187,8 +210,7 @@ class Reader:
         if self.rest and self.rest[-1][0].isdigit():
             return Tree('number', int(self.word()))
         if self.takes('merge'):
-            name = self.name()
-            return Tree('merge', name, (self.branch('true'), self.branch('false')))
+            return self.merge(self.name())
         word = self.name()
         return self.call(word) if self.sees('(') else Tree('name', word)
 
@@ -202,21 +224,37 @@ class Reader:
         self.expect(')')
         return Tree('call', word, tuple(arguments))
 
-    def branch(self, truth):
-        self.expect('(', truth, '->')
+    def merge(self, name):
+        self.expect('(')
+        if self.takes('true'):
+            first = self.branch()
+            self.expect('(', 'false')
+            return Tree('merge', name, (first, self.branch()), (True, False))
+        signs, branches = [self.name()], [self.branch()]
+        while self.takes('('):
+            signs.append(self.name())
+            branches.append(self.branch())
+        return Tree('merge', name, tuple(branches), tuple(signs))
+
+    def branch(self):
+        """A branch of a merge behind what its variable has to be."""
+        self.expect('->')
         found = self.expression()
         self.expect(')')
         return found
 
 def program(text):
-    """The nodes of a program's text."""
+    """The types and nodes of a program's text."""
     reader = Reader(text)
+    types = []
+    while reader.sees('type'):
+        types.append(reader.type())
     nodes = [reader.node()]
     while reader.rest:
         nodes.append(reader.node())
-    if len(nodes) > 256:
+    if len(nodes) > 256 or len(types) > 64 or any(len(enum.names) > 64 for enum in types):
         raise Refused('E04 TooLong')
-    return nodes
+    return Program(types, nodes)
 
 # ---- the canonical text ---------------------------------------------------------------------------------------------------
 
@@ -237,20 +275,26 @@ def spelled_plain(tree):
     if tree.form == 'when':
         return '%s when %s' % (spelled(parts[0], 9), clock_text((tree.word, tree.sign)))
     if tree.form == 'merge':
-        return 'merge %s (true -> %s) (false -> %s)' % (tree.word, *map(spelled, parts))
+        return 'merge %s ' % tree.word + ' '.join(
+            '(%s -> %s)' % (sign_text(sign), spelled(part)) for sign, part in zip(tree.sign, parts))
     if tree.form == 'call':
         return '%s(%s)' % (tree.word, ', '.join(map(spelled, parts)))
     return 'current ' + tree.word if tree.form == 'current' else str(tree.word).lower() if tree.form == 'truth' else str(tree.word)
 
+def sign_text(sign):
+    return str(sign).lower() if isinstance(sign, bool) else sign
+
 def clock_text(clock):
-    return '' if clock is None else ('' if clock[1] else 'not ') + clock[0]
+    if clock is None or clock[1] is True:
+        return '' if clock is None else clock[0]
+    return 'not ' + clock[0] if clock[1] is False else '%s(%s)' % (clock[1], clock[0])
 
 def declared(variable):
     return '%s: %s' % (variable.name, variable.kind) + (' when ' + clock_text(variable.clock) if variable.clock else '')
 
-def canonical(nodes):
-    lines = []
-    for node in nodes:
+def canonical(program):
+    lines = ['type %s = enum { %s };' % (enum.name, ', '.join(name for _, name in enum.names)) for enum in program.types]
+    for node in program.nodes:
         inputs, outputs = ('; '.join(map(declared, variables)) for variables in (node.inputs, node.outputs))
         lines.append('node %s(%s) returns (%s);' % (node.name, inputs, outputs))
         if node.locals:
@@ -263,7 +307,7 @@ def canonical(nodes):
 # ---- the static rules ------------------------------------------------------------------------------------------------------
 
 FAULTS = {10: 'DuplicateName', 11: 'UnknownName', 12: 'UnknownNode', 13: 'TypeMismatch', 14: 'WrongArity', 15: 'Undefined',
-          16: 'DefinedTwice', 17: 'RecursiveNode', 18: 'NoMain', 20: 'ClockMismatch', 21: 'NotAClock', 22: 'ClockedParameter',
+          16: 'DefinedTwice', 17: 'RecursiveNode', 18: 'NoMain', 19: 'BadMerge', 20: 'ClockMismatch', 21: 'NotAClock', 22: 'ClockedParameter',
           23: 'HiddenClock', 30: 'MaybeNil', 31: 'CurrentMayBeNil'}
 
 def parts(tree):
@@ -279,18 +323,32 @@ def clocks_in(tree):
 class Rules:
     """A program's nodes and what is asked of each; a fault is its byte and its number."""
 
-    def __init__(self, nodes, main):
-        self.nodes, self.main = nodes, main
-        self.by_name = {node.name: node for node in reversed(nodes)}
+    def __init__(self, program, main):
+        self.types, self.nodes, self.main = program.types, program.nodes, main
+        self.by_name = {node.name: node for node in reversed(program.nodes)}
+        self.enums = {enum.name: [name for _, name in enum.names] for enum in reversed(program.types)}
+        self.labels = labels_of(program)
 
     def judge(self):
         """Refuses the program by the least fault of the first stage that has one."""
         for stage in (self.names_and_types, self.clocks, self.initialisation):
-            faults = [fault for node in self.nodes for fault in stage(node, Names(node))]
-            faults += self.calls() if stage == self.names_and_types else []
+            faults = [fault for node in self.nodes for fault in stage(node, Names(node, self.labels))]
+            faults += [*self.type_names(), *self.calls()] if stage == self.names_and_types else []
             if faults:
                 byte, number = min(faults)
                 raise Refused('E%d %s at %d' % (number, FAULTS[number], byte))
+
+    def type_names(self):
+        """Types of one name, and names of enumerations that stand twice."""
+        seen, labels = set(), set()
+        for enum in self.types:
+            if enum.name in seen:
+                yield enum.byte, 10
+            seen.add(enum.name)
+            for byte, name in enum.names:
+                if name in labels:
+                    yield byte, 10
+                labels.add(name)
 
     def calls(self):
         """The first node that reaches itself, and a main node that is missing."""
@@ -311,9 +369,11 @@ class Rules:
         if any(other.name == node.name for other in self.nodes[:self.nodes.index(node)]):
             yield node.byte, 10
         for number, variable in enumerate(names.all):
-            if any(other.name == variable.name for other in names.all[:number]):
+            if variable.name in self.labels or any(other.name == variable.name for other in names.all[:number]):
                 yield variable.byte, 10
-            if variable.clock and variable.clock[0] not in names.first:
+            if variable.kind not in ('int', 'bool', *self.enums):
+                yield variable.byte, 11
+            if variable.clock and not (variable.clock[0] in names.first and self.is_sign(variable.clock[1])):
                 yield variable.byte, 11
         defined = [name for equation in node.equations for name in equation.left]
         yield from ((variable.byte, 15) for variable in node.outputs + node.locals if variable.name not in defined)
@@ -329,8 +389,16 @@ class Rules:
     def equation_faults(self, equation, names):
         """What is wrong with its names, calls and arities."""
         for part in parts(equation.right):
-            if part.form in ('name', 'current', 'when', 'merge') and part.word not in names.first:
+            if part.form in ('current', 'when', 'merge') and part.word not in names.first:
                 yield 11
+            if part.form == 'name' and part.word not in names.first and part.word not in self.labels:
+                yield 11
+            if part.form == 'when' and not self.is_sign(part.sign) or part.form == 'merge' and not all(map(self.is_sign, part.sign)):
+                yield 11
+            if part.form == 'merge' and part.word in names.first:
+                wanted = self.enums.get(names.first[part.word].kind)
+                if wanted is not None and list(part.sign) != wanted:
+                    yield 19
             if part.form == 'call' and part.word not in self.by_name:
                 yield 12
             elif part.form == 'call' and len(part.operands) != len(self.by_name[part.word].inputs):
@@ -343,6 +411,10 @@ class Rules:
         values = len(self.by_name[right.word].outputs) if right.form == 'call' and right.word in self.by_name else 1
         if values != len(equation.left) and (right.form != 'call' or right.word in self.by_name):
             yield 14
+
+    def is_sign(self, sign):
+        """Whether it is a truth value or a name of an enumeration."""
+        return isinstance(sign, bool) or sign in self.labels
 
     def is_typed(self, equation, names):
         left = [names.first[name].kind for name in equation.left]
@@ -362,14 +434,14 @@ class Rules:
         if form in ('number', 'truth'):
             return 'int' if form == 'number' else 'bool'
         if form in ('name', 'current'):
-            return names.first[word].kind
+            return names.first[word].kind if word in names.first else self.labels[word].kind
         if form == 'call':
             return self.kinds_of_call(tree, names)[0]
         kinds = [self.kind(part, names) for part in tree.operands]
         if form == 'if':
             return kinds[1] if kinds[0] == 'bool' and kinds[1] == kinds[2] else None
         if form in ('when', 'merge') or word in ('pre', '->', 'fby'):
-            return kinds[0] if kinds[0] == kinds[-1] else None
+            return kinds[0] if len(set(kinds)) == 1 else None
         if word in ('=', '<>'):
             return 'bool' if kinds[0] == kinds[1] and kinds[0] else None
         asked = 'bool' if word in ('and', 'or', 'xor', '=>', 'not') else 'int'
@@ -379,7 +451,7 @@ class Rules:
     def clocks(self, node, names):
         is_main = node is self.by_name[self.main]
         for variable in names.all:
-            if variable.clock and not names.is_clock(variable.clock[0]):
+            if variable.clock and not names.is_clock(*variable.clock):
                 yield variable.byte, 21
             if variable.clock and (variable in node.inputs or variable in node.outputs and not is_main):
                 yield variable.byte, 22
@@ -389,7 +461,8 @@ class Rules:
             left = {names.first[name].clock for name in equation.left}
             if len(left) > 1 or not names.fits(equation.right, left.pop()):
                 yield equation.byte, 20
-            if any(names.first[name].kind != 'bool' for name in clocks_in(equation.right)):
+            if not all(names.is_typed_clock(part.word, sign) for part in parts(equation.right) if part.form in ('when', 'merge')
+                       for sign in (part.sign if part.form == 'merge' else [part.sign])):
                 yield equation.byte, 21
             if any(output.clock for output in self.by_name[self.main].outputs) and any(
                     part.form == 'call' and part.word == self.main for part in parts(equation.right)):
@@ -412,17 +485,27 @@ class Rules:
                 if part.form == 'current' and not starts(by_left.get(names.first[part.word].clock[0]), names.first[part.word].clock[1]):
                     yield equation.byte, 31
 
-class Names:
-    """The variables of a node. A name means its first declaration."""
+def labels_of(program):
+    """The names of enumerations, each as the first that is declared."""
+    return {name: Label(enum.name, number, name)
+            for enum in reversed(program.types) for number, (_, name) in reversed(list(enumerate(enum.names)))}
 
-    def __init__(self, node):
+class Names:
+    """The variables of a node, and the names of enumerations. A name means its first declaration, and a variable before a name."""
+
+    def __init__(self, node, labels):
+        self.labels = labels
         self.all = node.inputs + node.outputs + node.locals
         self.first = {variable.name: variable for variable in reversed(self.all)}
         self.inner = {variable.name for variable in node.locals}
 
-    def is_clock(self, name):
-        """Whether it is a bool, and the base clock is reached from it."""
-        if self.first[name].kind != 'bool':
+    def is_typed_clock(self, name, sign):
+        """Whether a variable has the type of what it has to be."""
+        return self.first[name].kind == ('bool' if isinstance(sign, bool) else self.labels[sign].kind)
+
+    def is_clock(self, name, sign):
+        """The same, and the base clock is reached from it."""
+        if not self.is_typed_clock(name, sign):
             return False
         for _ in self.all:
             if self.first[name].clock is None:
@@ -436,7 +519,7 @@ class Names:
         if form in ('number', 'truth'):
             return True
         if form == 'name':
-            return self.first[word].clock == clock
+            return word not in self.first or self.first[word].clock == clock
         if form == 'when':
             return clock == (word, tree.sign) and self.fits(tree.operands[0], self.first[word].clock)
         if form == 'current':
@@ -444,13 +527,13 @@ class Names:
             return own is not None and self.first[own[0]].clock == clock
         if form == 'merge':
             return self.first[word].clock == clock and all(
-                self.fits(part, (word, sign)) for part, sign in zip(tree.operands, (True, False)))
+                self.fits(part, (word, sign)) for part, sign in zip(tree.operands, tree.sign))
         return all(self.fits(part, clock) for part in tree.operands)
 
 def class_of(tree, classes):
     """1 where an expression may be nil at the first instant of its clock."""
     if tree.form == 'name':
-        return classes[tree.word]
+        return classes.get(tree.word, 0)
     if tree.word == 'pre' or tree.form in ('number', 'truth', 'call', 'current', 'merge'):
         return int(tree.word == 'pre')
     read = tree.operands[:1] if tree.word in ('->', 'fby') else tree.operands
@@ -466,4 +549,5 @@ def meets(tree, classes):
 
 def starts(right, sign):
     """Whether a clock is defined by this truth and an arrow."""
-    return right is not None and right.word in ('->', 'fby') and right.operands[0][:2] == ('truth', sign)
+    return right is not None and right.word in ('->', 'fby') and right.operands[0][:2] == (
+        ('truth', sign) if isinstance(sign, bool) else ('name', sign))

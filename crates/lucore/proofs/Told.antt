@@ -35,7 +35,7 @@ listed_for program catalog main name laid same_program same_name listed =
 
 module _ (p : ProgramTree) (main : List ℕ) (laid : Laid) (accepted : IsAccepted p main) (listed : IsListOf p main laid) where
   abbrev pub flat_with : List ℕ → FlatProgram
-  flat_with order = record { flows = laid.flows.items; order = order; owners = laid.owners.items; variables = laid.variables.items }
+  flat_with order = record { types = laid.types.items; flows = laid.flows.items; order = order; owners = laid.owners.items; variables = laid.variables.items }
 
   abbrev rows : List (List ℕ)
   rows = map reads laid.flows.items
@@ -54,6 +54,7 @@ module _ (p : ProgramTree) (main : List ℕ) (laid : Laid) (accepted : IsAccepte
         flows = node_list.0;
         owners = node_list.1;
         variables = main_list.1;
+        types = main_list.2;
       }
 
   list_closed : IsClosed (flat_with [])

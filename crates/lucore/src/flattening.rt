@@ -70,6 +70,7 @@ pub fn flatten(alloc: Global, program: &Checked) -> Result<Flat, CoreError>
     let laid = lay_out(alloc, catalog, program.order(), program.main())?;
     match ranking(alloc, &laid.flows)? {
         Ranking::Ordered(order) => Ok(Flat::new(
+            Row::new(laid.types),
             Row::new(laid.flows),
             order,
             Row::new(laid.owners),

@@ -1,26 +1,26 @@
 -- Where all items of an expression hold, the flows of its walk are occurrences.
 use Rattle.std.proofs.Common.{◌≡◌, ℕ, zero, suc, ◌+◌, ◌<◌, List, [], ◌∷◌, ◌++◌, length, map, Option, Some, None, refl, sym, ap, ◌∙◌, subst, arith}
-use Rattle.std.specs.Prelude.{slice_get, slice_index, true, false, pos}
+use Rattle.std.specs.Prelude.{slice_get, slice_index, pos}
 use Rattle.std.proofs.lemmas.List.{length-map}
-use Rattle.lutree.specs.declared.expr.Pattern.TheVariants as patterns
+use Rattle.lutree.specs.declared.expr.Pattern.{Pattern}
 use Rattle.lutree.specs.declared.expr.Condition.{Condition}
 use Rattle.lutree.specs.declared.expr.Prefix.TheVariants.{Data as Data1, Pre as Before}
 use Rattle.lutree.specs.declared.expr.Infix.TheVariants.{Data as Data2, Arrow as Starts, FollowedBy}
 use Rattle.lutree.specs.Tree.{Tree, Trees, list_of as trees_in, EquationTree, NodeTree, ProgramTree}
 use Rattle.lutree.specs.Tree as tree
-use Rattle.luflow.specs.declared.data.Datum.TheVariants.{Int, Bool as Truth}
+use Rattle.luflow.specs.declared.data.Datum.TheVariants.{Int, Bool as Truth, Name}
 use Rattle.luflow.specs.declared.form.Flow.{Flow}
 use Rattle.luflow.specs.declared.form.Form.TheVariants.{Constant, Unary, Binary, If, Pre, Arrow, When, Current, Merge}
 use Rattle.lusource.specs.Names.{variables_of, place_of, clock_of, name_at, outputs_in, output_name, AreDistinct}
 use Rattle.lustat_rules.specs.Scope.{node_called}
-use Rattle.lusource.specs.Source.{condition}
-use Rattle.lucore_list.specs.Layout.{node_owners, Walking, leaf, after, list_of, inputs_in, instance, moved, clock_place, flow_of, variable_place, walk, walk_all}
+use Rattle.lusource.specs.Source.{condition, first_pattern, next_patterns}
+use Rattle.lucore_list.specs.Layout.{node_owners, Walking, leaf, after, list_of, inputs_in, instance, moved, clock_place, flow_of, variable_place, walk, walk_all, walk_branches}
 use Rattle.lucore_list.proofs.Each.{each_shift}
 use Rattle.lucore_list.proofs.Names.{place_in}
 use Rattle.lucore_list.proofs.Well.{Known, IsWell, AllWell, CallIs}
 use Rattle.lucore_list.proofs.Spots.{place_named}
 use Rattle.lucore_list.proofs.ToSource.{output_place, output_there}
-use Rattle.lucore_causality.specs.Reads.{Position, Occurrence, Instance, Item, operand, if_there, clocked, output, value, values, items, items_in}
+use Rattle.lucore_causality.specs.Reads.{Position, Occurrence, Instance, Item, operand, if_there, clocked, output, value, values, items, items_in, branch_items}
 use Rattle.lucore_causality.specs.Owners.{owner}
 use Rattle.lucore_causality.proofs.Owning.{Belongs}
 use Rattle.lucore_causality.specs.Reads.Occurrence.{variable, operator}
@@ -87,6 +87,10 @@ module _ (G : Occurrence → Occurrence → Type 0) (I : Instance → Type 0) (p
   three_read : (m : Model Occurrence) (k : Option Condition) (v a b c : Occurrence) (x y z : ℕ) → KnownClock k → Agree m → m.on x ≡ a → m.on y ≡ b → m.on z ≡ c → Every (G v) (a ∷ b ∷ c ∷ K k) → Every (G v) (m.on x ∷ m.on y ∷ m.on z ∷ T m k)
   three_read m k v a b c x y z known agree e e' e'' h = (subst (G v) (sym e) h.0, two_read m k v b c y z known agree e' e'' h.1)
 
+  many_read : (m : Model Occurrence) (k : Option Condition) (v a : Occurrence) (vs : List Occurrence) (x : ℕ) (xs : List ℕ) → KnownClock k → Agree m → m.on x ≡ a → map m.on xs ≡ vs → Every (G v) (a ∷ (vs ++ K k)) → Every (G v) (m.on x ∷ (map m.on xs ++ T m k))
+  many_read m k v a vs x xs known agree e e' h =
+      (subst (G v) (sym e) h.0, subst (λ l. Every (G v) (l ++ T m k)) (sym e') (subst (λ l. Every (G v) (vs ++ l)) (clock_agree m k known agree) h.1))
+
   makes_instance : (Own : Occurrence → Type 0) (A : Model Occurrence → Type 0) (f : List ℕ) (k : Option Condition) (xs : List ℕ) (w : ℕ) (spot : Position) (arguments : List Occurrence) → ((m : Model Occurrence) → A m → Agree m × (map m.on xs ≡ arguments)) → KnownClock k → CallIs p node Below f (length xs) w → ((x : Occurrence) → Belongs (spot ∷ here.path) x → Own x)
       → I (record { path = spot ∷ here.path; node = f; clock = K k; arguments = arguments }) → RootMakes G Own A (instance p lists f (clock_place node k) xs) w (λ j. variable (spot ∷ here.path) (output_name p f j))
   makes_instance Own A f k xs w spot arguments agree known is mine good s =
@@ -119,10 +123,15 @@ module _ (G : Occurrence → Occurrence → Type 0) (I : Instance → Type 0) (p
     own_all tree.none k rest v h s = h [] s
     own_all (tree.more a all) k rest v h s = own_all all k _ v (λ xs s. h _ s) _
 
+    own_branches : (c : List ℕ) (ps : List Pattern) (all : Trees) (rest : List ℕ → Walking) (v : Occurrence) → ((xs : List ℕ) (s : ℕ) → RootOwn G Own (rest xs s).root v) → (s : ℕ) → RootOwn G Own (walk_branches p lists node c ps all rest s).root v
+    own_branches c ps tree.none rest v h s = h [] s
+    own_branches c ps (tree.more a all) rest v h s = own_branches c (next_patterns ps) all _ v (λ xs s. h _ s) _
+
     -- an expression's own root is an operator there
     root_own : (e : Tree) (k : Option Condition) (t : Position) → t.equation ≡ n → (s : ℕ) → RootOwn G Own (walk p lists node e k s).root (value p here node e t)
     root_own (tree.number a) k t te s = own_operator t te
     root_own (tree.truth b) k t te s = own_operator t te
+    root_own (tree.label x) k t te s = own_operator t te
     root_own (tree.variable x) k t te s = tt
     root_own (tree.unary (Data1 op) a) k t te s = own_operator t te
     root_own (tree.unary Before a) k t te s = own_operator t te
@@ -132,13 +141,14 @@ module _ (G : Occurrence → Occurrence → Type 0) (I : Instance → Type 0) (p
     root_own (tree.choice c a b) k t te s = own_operator t te
     root_own (tree.when a c) k t te s = own_operator t te
     root_own (tree.current x) k t te s = own_operator t te
-    root_own (tree.merge c a b) k t te s = own_operator t te
+    root_own (tree.merge c ps all) k t te s = own_branches c ps all _ (value p here node (tree.merge c ps all) t) (λ xs s. own_operator t te) s
     root_own (tree.call f all) k t te s = own_all all k _ (value p here node (tree.call f all) t) (λ xs s. tt) s
 
     mutual
       pub makes : (A : Model Occurrence → Type 0) → ((m : Model Occurrence) → A m → Agree m) → (e : Tree) (k : Option Condition) (spot : Position) (w : ℕ) → spot.equation ≡ n → KnownClock k → IsWell p node Below e w → Every Holds (items p here node e k spot) → RootMakes G Own A (walk p lists node e k) w (out e spot)
       makes A ag (tree.number n) k t w te known well h = makes_leaf G Own A (flow_of p lists node (tree.number n) k (Constant (Int (pos n)))) w (out (tree.number n) t) (λ m a j. none_read m k (operator here.path t) known (ag m a) h.0)
       makes A ag (tree.truth b) k t w te known well h = makes_leaf G Own A (flow_of p lists node (tree.truth b) k (Constant (Truth b))) w (out (tree.truth b) t) (λ m a j. none_read m k (operator here.path t) known (ag m a) h.0)
+      makes A ag (tree.label x) k t w te known well h = makes_leaf G Own A (flow_of p lists node (tree.label x) k (Constant (Name x.number))) w (out (tree.label x) t) (λ m a j. none_read m k (operator here.path t) known (ag m a) h.0)
       makes A ag (tree.variable x) k t w te known well h = λ s. (
         [],
         refl,
@@ -195,15 +205,12 @@ module _ (G : Occurrence → Occurrence → Type 0) (I : Instance → Type 0) (p
       makes A ag (tree.current x) k t w te known well h =
           makes_leaf G Own A (flow_of p lists node (tree.current x) k (Current (variable_place p lists node x))) w (out (tree.current x) t)
           (λ m a j. one_read m k (operator here.path t) (variable here.path x) (variable_place p lists node x) known (ag m a) ((ag m a).1 x well) h.0)
-      makes A ag (tree.merge c a b) k t w te known well h =
-          let ka = condition c (patterns.Truth true) in
-          let kb = condition c (patterns.Truth false) in
+      makes A ag (tree.merge c ps all) k t w te known well h =
           let cp = variable_place p lists node c in
-          let ia = items p here node a ka (operand t 0) in
-          let ib = items p here node b kb (operand t 1) in
-          makes_two G Own A (walk p lists node a ka) (walk p lists node b kb) (λ x y. flow_of p lists node (tree.merge c a b) k (Merge cp (x ∷ y ∷ []))) w (out a (operand t 0)) (out b (operand t 1)) (out (tree.merge c a b) t) (root_own a ka (operand t 0) te) (root_own b kb (operand t 1) te)
-          (makes A ag a ka (operand t 0) 1 te well.0 well.1 (every_left Holds ia ib h.1)) (makes A ag b kb (operand t 1) 1 te well.0 well.2 (every_right Holds ia ib h.1))
-          (λ x y m am e e' j. three_read m k (operator here.path t) (variable here.path c) (value p here node a (operand t 0)) (value p here node b (operand t 1)) cp x y known (ag m am) ((ag m am).1 c well.0) e e' h.0)
+          let root = λ (xs : List ℕ). flow_of p lists node (tree.merge c ps all) k (Merge cp xs) in
+          makes_branches A ag c ps all t 0 w (λ xs. leaf (root xs)) (out (tree.merge c ps all) t) te well.0 well.1 h.1
+          (λ B ba xs e. makes_leaf G Own B (root xs) w (out (tree.merge c ps all) t)
+          (λ m b j. many_read m k (operator here.path t) (variable here.path c) (values p here node all t 0) cp xs known (ag m (ba m b)) ((ag m (ba m b)).1 c well.0) (e m b) h.0))
       makes A ag (tree.call f all) k t w te known well h =
           makes_all A ag all k t 0 w (λ xs. instance p lists f (clock_place node k) xs) (λ j. variable (t ∷ here.path) (output_name p f j)) te known well.1 h.1
           (λ B ba xs l e. makes_instance Own B f k xs w t (values p here node all t 0) (λ m b. (ag m (ba m b), e m b)) known (subst (λ n. CallIs p node Below f n w) (sym l) well.0) (own_instance t te) h.0)
@@ -219,3 +226,17 @@ module _ (G : Occurrence → Occurrence → Type 0) (I : Instance → Type 0) (p
           makes_after G Own A (walk p lists node a k) (λ x. walk_all p lists node all k (λ xs. rest (x ∷ xs))) w (out a (operand t r)) val (root_own a k (operand t r) te) (makes A ag a k (operand t r) 1 te known well.0 (every_left Holds ia ir h))
           (λ x. makes_all (λ m. A m × (m.on x ≡ va)) (λ m q. ag m q.0) all k t (suc r) w (λ xs. rest (x ∷ xs)) val te known well.1 (every_right Holds ia ir h)
           (λ B ba xs l e. then B (λ m b. (ba m b).0) (x ∷ xs) (ap suc l) (λ m b. ap (λ y. y ∷ map m.on xs) (ba m b).1 ∙ ap (λ ys. va ∷ ys) (e m b))))
+
+      pub makes_branches : (A : Model Occurrence → Type 0) → ((m : Model Occurrence) → A m → Agree m) → (c : List ℕ) (ps : List Pattern) (all : Trees) (spot : Position) (r w : ℕ) (rest : List ℕ → Walking) (val : ℕ → Occurrence) → spot.equation ≡ n → Known p node Below c → AllWell p node Below all → Every Holds (branch_items p here node c ps all spot r)
+          → ((B : Model Occurrence → Type 0) → ((m : Model Occurrence) → B m → A m) → (xs : List ℕ) → ((m : Model Occurrence) → B m → map m.on xs ≡ values p here node all spot r) → RootMakes G Own B (rest xs) w val)
+          → RootMakes G Own A (walk_branches p lists node c ps all rest) w val
+      makes_branches A ag c ps tree.none t r w rest val te known well h then = then A (λ m a. a) [] (λ m a. refl)
+      makes_branches A ag c ps (tree.more a all) t r w rest val te known well h then =
+          let k = condition c (first_pattern ps) in
+          let qs = next_patterns ps in
+          let ia = items p here node a k (operand t r) in
+          let ir = branch_items p here node c qs all t (suc r) in
+          let va = value p here node a (operand t r) in
+          makes_after G Own A (walk p lists node a k) (λ x. walk_branches p lists node c qs all (λ xs. rest (x ∷ xs))) w (out a (operand t r)) val (root_own a k (operand t r) te) (makes A ag a k (operand t r) 1 te known well.0 (every_left Holds ia ir h))
+          (λ x. makes_branches (λ m. A m × (m.on x ≡ va)) (λ m q. ag m q.0) c qs all t (suc r) w (λ xs. rest (x ∷ xs)) val te known well.1 (every_right Holds ia ir h)
+          (λ B ba xs e. then B (λ m b. (ba m b).0) (x ∷ xs) (λ m b. ap (λ y. y ∷ map m.on xs) (ba m b).1 ∙ ap (λ ys. va ∷ ys) (e m b))))

@@ -124,13 +124,14 @@ module _ (p : ProgramTree) (lists : List (List Flow)) (main : List ℕ) (flat : 
   single : (e : Tree) (t : Position) (w : ℕ) → IfSome (value_count p e) (λ count. w ≡ count) → IsOperator p lists main (output p here node e t 0) → w ≡ 1
   single (tree.number n) t w h o = h
   single (tree.truth b) t w h o = h
+  single (tree.label x) t w h o = h
   single (tree.variable x) t w h o = h
   single (tree.unary op a) t w h o = h
   single (tree.binary op a b) t w h o = h
   single (tree.choice c a b) t w h o = h
   single (tree.when a c) t w h o = h
   single (tree.current x) t w h o = h
-  single (tree.merge c a b) t w h o = h
+  single (tree.merge c ps all) t w h o = h
   single (tree.call f all) t w h o = absurd o
 
   abbrev Rooted : EquationTree → Position → Root → Type 0

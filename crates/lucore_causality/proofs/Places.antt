@@ -1,7 +1,7 @@
 -- The place of each occurrence in the flat list.
-use Rattle.std.proofs.Common.{◌≡◌, ℕ, zero, suc, ◌+◌, ◌<◌, ◌⊎◌, List, [], ◌∷◌, length, map, Option, Some, None}
-use Rattle.std.specs.Prelude.{slice_get, true, false}
-use Rattle.lutree.specs.declared.expr.Pattern.TheVariants as patterns
+use Rattle.std.proofs.Common.{◌≡◌, true, ℕ, zero, suc, ◌+◌, ◌<◌, ◌⊎◌, List, [], ◌∷◌, length, map, Option, Some, None}
+use Rattle.std.specs.Prelude.{slice_get}
+use Rattle.lutree.specs.declared.expr.Pattern.{Pattern}
 use Rattle.lutree.specs.declared.expr.Condition.{Condition}
 use Rattle.lutree.specs.declared.expr.Prefix.TheVariants.{Pre as Before}
 use Rattle.lutree.specs.declared.expr.Infix.TheVariants.{Data as Data2, Arrow as Starts, FollowedBy}
@@ -12,7 +12,7 @@ use Rattle.luflow.specs.Program.{FlatProgram}
 use Rattle.luflow.specs.Rank.{has, row, reads_of}
 use Rattle.lusource.specs.Names.{clock_of, name_at}
 use Rattle.lustat_rules.specs.Scope.{node_called}
-use Rattle.lusource.specs.Source.{condition}
+use Rattle.lusource.specs.Source.{condition, first_pattern, next_patterns}
 use Rattle.lucore_list.specs.Layout.{place, behind, list_of, variable_place, variable_count, walk, walk_right, left_clock}
 use Rattle.lucore_list.proofs.Spots.{place_named}
 use Rattle.lucore_causality.specs.Reads.{Position, Path, Occurrence, Instance, if_there}
@@ -41,6 +41,12 @@ module _ (p : ProgramTree) (lists : List (List Flow)) (node : NodeTree) where
   argument_spot (tree.more a all) k s zero = spot a k s
   argument_spot (tree.more a all) k s (suc n) = argument_spot all k (next a k s) n
 
+  -- where branch n of a merge stands
+  abbrev pub branch_spot : List ℕ → List Pattern → Trees → ℕ → ℕ → Spot
+  branch_spot c ps tree.none s n = nowhere
+  branch_spot c ps (tree.more a all) s zero = spot a (condition c (first_pattern ps)) s
+  branch_spot c ps (tree.more a all) s (suc n) = branch_spot c (next_patterns ps) all (next a (condition c (first_pattern ps)) s) n
+
   -- where a called instance stands behind the arguments
   abbrev pub arguments_end : Trees → Option Condition → ℕ → ℕ
   arguments_end tree.none k s = s
@@ -50,6 +56,7 @@ module _ (p : ProgramTree) (lists : List (List Flow)) (node : NodeTree) where
   abbrev pub operand_spot : Tree → Option Condition → ℕ → ℕ → Spot
   operand_spot (tree.number m) k s n = nowhere
   operand_spot (tree.truth b) k s n = nowhere
+  operand_spot (tree.label x) k s n = nowhere
   operand_spot (tree.variable x) k s n = nowhere
   operand_spot (tree.unary op a) k s n = spot a k s
   operand_spot (tree.binary (Data2 op) a b) k s zero = spot a k s
@@ -63,8 +70,7 @@ module _ (p : ProgramTree) (lists : List (List Flow)) (node : NodeTree) where
   operand_spot (tree.choice c a b) k s (suc (suc n)) = spot b k (next a k (next c k s))
   operand_spot (tree.when a c) k s n = spot a (clock_of node c.variable) s
   operand_spot (tree.current x) k s n = nowhere
-  operand_spot (tree.merge c a b) k s zero = spot a (condition c (patterns.Truth true)) s
-  operand_spot (tree.merge c a b) k s (suc n) = spot b (condition c (patterns.Truth false)) (next a (condition c (patterns.Truth true)) s)
+  operand_spot (tree.merge c ps all) k s n = branch_spot c ps all s n
   operand_spot (tree.call f all) k s n = argument_spot all k s n
 
   -- where the right side of equation n stands

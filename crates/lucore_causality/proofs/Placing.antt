@@ -1,31 +1,31 @@
 -- Where the flows of an expression's walk stand, what its occurrences read is read in the flat list.
 use Rattle.std.proofs.Common.{◌≡◌, ℕ, zero, suc, ◌+◌, ◌<◌, inl, List, [], ◌∷◌, ◌++◌, length, map, Option, Some, None, refl, sym, ap, ◌∙◌, subst, arith}
-use Rattle.std.specs.Prelude.{slice_get, slice_index, true, false}
-use Rattle.std.proofs.lemmas.List.{append-nil}
+use Rattle.std.specs.Prelude.{slice_get, slice_index}
+use Rattle.std.proofs.lemmas.List.{append-nil, map-append}
 use Rattle.std.proofs.lemmas.Option.{same_Some}
-use Rattle.lutree.specs.declared.expr.Pattern.TheVariants as patterns
+use Rattle.lutree.specs.declared.expr.Pattern.{Pattern}
 use Rattle.lutree.specs.declared.expr.Condition.{Condition}
 use Rattle.lutree.specs.declared.expr.Prefix.TheVariants.{Data as Data1, Pre as Before}
 use Rattle.lutree.specs.declared.expr.Infix.TheVariants.{Data as Data2, Arrow as Starts, FollowedBy}
 use Rattle.lutree.specs.Tree.{Tree, Trees, list_of as trees_in, EquationTree, NodeTree, ProgramTree}
 use Rattle.lutree.specs.Tree as tree
 use Rattle.luflow.specs.declared.form.Flow.{Flow}
-use Rattle.luflow.specs.declared.form.Form.TheVariants.{Pre}
+use Rattle.luflow.specs.declared.form.Form.TheVariants.{Pre, Merge}
 use Rattle.luflow.specs.Program.{FlatProgram}
 use Rattle.lusource.specs.Names.{variables_of, clock_of, output_name, AreDistinct}
 use Rattle.lustat_rules.specs.Scope.{node_called}
-use Rattle.lusource.specs.Source.{condition}
-use Rattle.lucore_list.specs.Layout.{Root, Walking, Walk, root_flows, made, root_place, place, list_of, inputs_in, instance, clock_place, flow_of, variable_place, walk, walk_all}
+use Rattle.lusource.specs.Source.{condition, first_pattern, next_patterns}
+use Rattle.lucore_list.specs.Layout.{Root, Walking, Walk, root_flows, made, root_place, place, leaf, list_of, inputs_in, instance, clock_place, flow_of, variable_place, walk, walk_all, walk_branches}
 use Rattle.lucore_list.specs.Layout.Root.{own, at}
 use Rattle.lucore_list.proofs.Each.{each_left, each_right}
 use Rattle.lucore_list.proofs.Well.{IsWell, AllWell, CallIs}
 use Rattle.lucore_list.proofs.Spots.{place_named}
 use Rattle.lucore_list.proofs.ToSource.{output_place}
-use Rattle.lucore_causality.specs.Reads.{Position, Occurrence, Instance, Item, operand, if_there, clocked, output, value, values, items, items_in}
+use Rattle.lucore_causality.specs.Reads.{Position, Occurrence, Instance, Item, operand, if_there, clocked, output, value, values, items, items_in, branch_items}
 use Rattle.lucore_causality.specs.Reads.Occurrence.{variable, operator}
 use Rattle.lucore_causality.proofs.Graph.{Every, every_join, Model, clock_targets, moved_model, FlowHolds, Hold, instance_solves}
 use Rattle.lucore_causality.proofs.Expressions.{ItemHolds}
-use Rattle.lucore_causality.proofs.Places.{Spot, spot, next, argument_spot, arguments_end, operand_spot, spot_of, spot_place, operator_place, operator_named, called_name, called_start, Found, found_in, find, spotted, IsOperator, FlatReads, Step, Placed}
+use Rattle.lucore_causality.proofs.Places.{Spot, spot, next, argument_spot, branch_spot, arguments_end, operand_spot, spot_of, spot_place, operator_place, operator_named, called_name, called_start, Found, found_in, find, spotted, IsOperator, FlatReads, Step, Placed}
 
 abbrev lone : Option ℕ → List ℕ
 lone None = []
@@ -98,6 +98,11 @@ module _ (p : ProgramTree) (lists : List (List Flow)) (main : List ℕ) (flat : 
   three_same : (k : Option Condition) (u v w : Occurrence) (x y z : ℕ) → at_place u ≡ x → at_place v ≡ y → at_place w ≡ z → map at_place (u ∷ v ∷ w ∷ clocked p here node k) ≡ x ∷ y ∷ z ∷ T k
   three_same k u v w x y z e f g = cons_same u x (v ∷ w ∷ clocked p here node k) (y ∷ z ∷ T k) e (two_same k v w y z f g)
 
+  many_same : (k : Option Condition) (v : Occurrence) (vs : List Occurrence) (x : ℕ) (ys : List ℕ) → at_place v ≡ x → map at_place vs ≡ ys → map at_place (v ∷ (vs ++ clocked p here node k)) ≡ x ∷ (ys ++ T k)
+  many_same k v vs x ys e f =
+      cons_same v x (vs ++ clocked p here node k) (ys ++ T k) e
+      (map-append at_place vs (clocked p here node k) ∙ ap (λ l. l ++ map at_place (clocked p here node k)) f ∙ ap (λ l. ys ++ l) (clocked_same k))
+
   -- how the root of an expression stands: its items are good, if a flow of its own holds where its operator stands
   abbrev pub RootGood : Tree → Option Condition → Position → ℕ → Root → Type 0
   RootGood e k t w (own f) =
@@ -164,6 +169,7 @@ module _ (p : ProgramTree) (lists : List (List Flow)) (main : List ℕ) (flat : 
     pub good : (e : Tree) (k : Option Condition) (t : Position) (s w : ℕ) → IsWell p node Below e w → IsAt t e k s → H s (W e k s).inner → RootGood e k t w (W e k s).root
     good (tree.number n) k t s w well is hold = λ y e holds. ((steps (op t) (m.on y) (clocked p here node k) _ e (clocked_same k) holds, tt), λ j. (e, tt))
     good (tree.truth b) k t s w well is hold = λ y e holds. ((steps (op t) (m.on y) (clocked p here node k) _ e (clocked_same k) holds, tt), λ j. (e, tt))
+    good (tree.label x) k t s w well is hold = λ y e holds. ((steps (op t) (m.on y) (clocked p here node k) _ e (clocked_same k) holds, tt), λ j. (e, tt))
     good (tree.variable x) k t s w well is hold =
         (tt, λ j lt. let e = well.0 in let z : variable_place p lists node x ≡ variable_place p lists node x + j = omega (arith, e, lt) in variable_spot x ∙ ap m.on z)
     good (tree.unary (Data1 o) a) k t s w well is hold = λ y e holds.
@@ -237,19 +243,14 @@ module _ (p : ProgramTree) (lists : List (List Flow)) (main : List ℕ) (flat : 
         ((steps (op t) (m.on y) (value p here node a u ∷ clocked p here node (Some c)) _ e (one_same (Some c) (value p here node a u) _ ga.1) holds, ga.0), λ j. (e, tt))
     good (tree.current x) k t s w well is hold = λ y e holds.
         ((steps (op t) (m.on y) (variable here.path x ∷ clocked p here node k) _ e (one_same k (variable here.path x) _ (variable_spot x)) holds, tt), λ j. (e, tt))
-    good (tree.merge c a b) k t s w well is hold = λ y e holds.
-        let ka = condition c (patterns.Truth true) in
-        let kb = condition c (patterns.Truth false) in
-        let s' = next p lists node a ka s in
-        let hb = each_left (FlowHolds G m) s' (made (W b kb s')) [] (each_right (FlowHolds G m) s (made (W a ka s)) (made (W b kb s') ++ []) hold) in
-        let ga = from_good a ka t 0 s (sub_at t (tree.merge c a b) k s 0 is) (λ h. good a ka (operand t 0) s 1 well.1 (sub_at t (tree.merge c a b) k s 0 is) h) (each_left (FlowHolds G m) s (made (W a ka s)) (made (W b kb s') ++ []) hold) in
-        let gb = from_good b kb t 1 s' (sub_at t (tree.merge c a b) k s 1 is) (λ h. good b kb (operand t 1) s' 1 well.2 (sub_at t (tree.merge c a b) k s 1 is) h) hb in
+    good (tree.merge c ps all) k t s w well is hold =
+        let cp = variable_place p lists node c in
+        let root = λ (xs : List ℕ). flow_of p lists node (tree.merge c ps all) k (Merge cp xs) in
         let vc = variable here.path c in
-        let va = value p here node a (operand t 0) in
-        let vb = value p here node b (operand t 1) in (
-          (steps (op t) (m.on y) (vc ∷ va ∷ vb ∷ clocked p here node k) _ e (three_same k vc va vb _ _ _ (variable_spot c) ga.1 gb.1) holds, every_join Good (it a ka (operand t 0)) (it b kb (operand t 1)) ga.0 gb.0),
-          λ j. (e, tt),
-        )
+        let vs = values p here node all t 0 in
+        let g = good_branches c ps all t 0 s (λ xs. leaf (root xs)) well.1 (λ j. let z : 0 + j ≡ j = omega arith in ap (λ n. SpotOf (operand t n)) z ∙ sub_at t (tree.merge c ps all) k s j is) hold in
+        subst (RootGood (tree.merge c ps all) k t w) (sym g.4)
+        (λ y e holds. ((steps (op t) (m.on y) (vc ∷ (vs ++ clocked p here node k)) _ e (many_same k vc vs _ _ (variable_spot c) g.2) holds, g.1), λ j. (e, tt)))
     good (tree.call f all) k t s w well is hold =
         let b = arguments_end p lists node all k s in
         let rest = λ (xs : List ℕ). instance p lists f (clock_place node k) xs in
@@ -269,3 +270,18 @@ module _ (p : ProgramTree) (lists : List (List Flow)) (main : List ℕ) (flat : 
         let ga = from_good a k t r s (ap (λ n. SpotOf (operand t n)) z ∙ is 0) (λ h. good a k (operand t r) s 1 well.0 (ap (λ n. SpotOf (operand t n)) z ∙ is 0) h) (each_left (FlowHolds G m) s (made (W a k s)) inner hold) in
         let g = good_all all k t (suc r) s' rest' well.1 (λ j. let y : suc r + j ≡ r + suc j = omega arith in ap (λ n. SpotOf (operand t n)) y ∙ is (suc j)) (each_right (FlowHolds G m) s (made (W a k s)) inner hold) in
         (x ∷ g.0, ap suc g.1, every_join Good (it a k (operand t r)) (items_in p here node all k t (suc r)) ga.0 g.2, ap (λ n. n ∷ map at_place (values p here node all t (suc r))) ga.1 ∙ ap (λ l. m.on x ∷ l) g.3, g.4, g.5)
+
+    pub good_branches : (c : List ℕ) (ps : List Pattern) (all : Trees) (t : Position) (r s : ℕ) (rest : List ℕ → Walking) → AllWell p node Below all → ((j : ℕ) → SpotOf (operand t (r + j)) ≡ branch_spot p lists node c ps all s j) → H s (walk_branches p lists node c ps all rest s).inner
+        → (xs : List ℕ) × Every Good (branch_items p here node c ps all t r) × (map at_place (values p here node all t r) ≡ map m.on xs) × (end : ℕ) × ((walk_branches p lists node c ps all rest s).root ≡ (rest xs end).root)
+    good_branches c ps tree.none t r s rest well is hold = ([], tt, refl, s, refl)
+    good_branches c ps (tree.more a all) t r s rest well is hold =
+        let k = condition c (first_pattern ps) in
+        let qs = next_patterns ps in
+        let s' = next p lists node a k s in
+        let x = place s (W a k s) in
+        let rest' = λ (xs : List ℕ). rest (x ∷ xs) in
+        let inner = (walk_branches p lists node c qs all rest' s').inner in
+        let z : r ≡ r + 0 = omega arith in
+        let ga = from_good a k t r s (ap (λ n. SpotOf (operand t n)) z ∙ is 0) (λ h. good a k (operand t r) s 1 well.0 (ap (λ n. SpotOf (operand t n)) z ∙ is 0) h) (each_left (FlowHolds G m) s (made (W a k s)) inner hold) in
+        let g = good_branches c qs all t (suc r) s' rest' well.1 (λ j. let y : suc r + j ≡ r + suc j = omega arith in ap (λ n. SpotOf (operand t n)) y ∙ is (suc j)) (each_right (FlowHolds G m) s (made (W a k s)) inner hold) in
+        (x ∷ g.0, every_join Good (it a k (operand t r)) (branch_items p here node c qs all t (suc r)) ga.0 g.1, ap (λ n. n ∷ map at_place (values p here node all t (suc r))) ga.1 ∙ ap (λ l. m.on x ∷ l) g.2, g.3, g.4)

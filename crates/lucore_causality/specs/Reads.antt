@@ -1,14 +1,14 @@
 -- What the occurrences of a program read at the same instant, said on its source.
-use Rattle.std.specs.Prelude.{ℕ, suc, true, false, List, [], ◌∷◌, ◌++◌, Option, Some, None, slice_get, Contains}
+use Rattle.std.specs.Prelude.{ℕ, suc, List, [], ◌∷◌, ◌++◌, Option, Some, None, slice_get, Contains}
 use Rattle.lutree.specs.declared.expr.Prefix.TheVariants.{Data as Data1, Pre}
 use Rattle.lutree.specs.declared.expr.Infix.TheVariants.{Data as Data2, Arrow, FollowedBy}
-use Rattle.lutree.specs.declared.expr.Pattern.TheVariants as patterns
+use Rattle.lutree.specs.declared.expr.Pattern.{Pattern}
 use Rattle.lutree.specs.declared.expr.Condition.{Condition}
 use Rattle.lutree.specs.Tree.{Tree, Trees, DeclarationTree, EquationTree, NodeTree, ProgramTree}
 use Rattle.lutree.specs.Tree as tree
 use Rattle.lusource.specs.Names.{clock_of, name_at, output_name}
 use Rattle.lustat_rules.specs.Scope.{node_called}
-use Rattle.lusource.specs.Source.{condition}
+use Rattle.lusource.specs.Source.{condition, first_pattern, next_patterns}
 
 -- Where an expression stands in the text of a node: the number of the equation, and the numbers of the operands on the way to
 -- it from the right side's root, the last one first.
@@ -63,7 +63,7 @@ module _ (program : ProgramTree) (here : Instance) (node : NodeTree) where
   abbrev pub value : Tree → Position → Occurrence
   value e at = output e at 0
 
-  -- the arguments of a call, from the one of number r on
+  -- the arguments of a call, or the branches of a merge, from the one of number r on
   abbrev pub values : Trees → Position → ℕ → List Occurrence
   values tree.none at r = []
   values (tree.more a all) at r = value a (operand at r) ∷ values all at (suc r)
@@ -74,6 +74,7 @@ module _ (program : ProgramTree) (here : Instance) (node : NodeTree) where
     pub items : Tree → Option Condition → Position → List Item
     items (tree.number n) k at = reading (operator here.path at) (clocked k) ∷ []
     items (tree.truth b) k at = reading (operator here.path at) (clocked k) ∷ []
+    items (tree.label x) k at = reading (operator here.path at) (clocked k) ∷ []
     items (tree.variable x) k at = []
     items (tree.unary (Data1 op) a) k at =
         reading (operator here.path at) (value a (operand at 0) ∷ clocked k) ∷ items a k (operand at 0)
@@ -95,9 +96,8 @@ module _ (program : ProgramTree) (here : Instance) (node : NodeTree) where
         reading (operator here.path at) (value a (operand at 0) ∷ clocked (Some c))
         ∷ items a (clock_of node c.variable) (operand at 0)
     items (tree.current x) k at = reading (operator here.path at) (variable here.path x ∷ clocked k) ∷ []
-    items (tree.merge c a b) k at =
-        reading (operator here.path at) (variable here.path c ∷ value a (operand at 0) ∷ value b (operand at 1) ∷ clocked k)
-        ∷ items a (condition c (patterns.Truth true)) (operand at 0) ++ items b (condition c (patterns.Truth false)) (operand at 1)
+    items (tree.merge c ps all) k at =
+        reading (operator here.path at) (variable here.path c ∷ (values all at 0 ++ clocked k)) ∷ branch_items c ps all at 0
     items (tree.call f all) k at =
         calling (record { path = at ∷ here.path; node = f; clock = clocked k; arguments = values all at 0 })
         ∷ items_in all k at 0
@@ -106,6 +106,12 @@ module _ (program : ProgramTree) (here : Instance) (node : NodeTree) where
     pub items_in : Trees → Option Condition → Position → ℕ → List Item
     items_in tree.none k at r = []
     items_in (tree.more a all) k at r = items a k (operand at r) ++ items_in all k at (suc r)
+
+    -- the same of the branches of a merge
+    pub branch_items : List ℕ → List Pattern → Trees → Position → ℕ → List Item
+    branch_items c ps tree.none at r = []
+    branch_items c ps (tree.more a all) at r =
+        items a (condition c (first_pattern ps)) (operand at r) ++ branch_items c (next_patterns ps) all at (suc r)
 
   -- the clock that an equation's place demands: that of its first variable
   abbrev pub left_clock : EquationTree → Option Condition

@@ -6,7 +6,7 @@ use Rattle.lutree.specs.declared.expr.Infix.TheVariants.{Data as Data2, Arrow}
 use Rattle.lutree.specs.declared.expr.Pattern.TheVariants as patterns
 use Rattle.lutree.specs.declared.expr.Condition.{Condition}
 use Rattle.lutree.specs.declared.program.Kind.TheVariants.{Int as Ints, Bool as Truths}
-use Rattle.lutree.specs.Tree.{Tree, DeclarationTree, NodeTree, program_of}
+use Rattle.lutree.specs.Tree.{Tree, DeclarationTree, NodeTree, program_of, declared}
 use Rattle.lutree.specs.Tree as tree
 use Rattle.lucore_causality.specs.Laws.{HasCycle}
 
@@ -14,7 +14,7 @@ abbrev pub where_c : Condition
 where_c = record { variable = codes "c"; pattern = patterns.Truth true }
 
 abbrev pub int_named : List ℕ → Option Condition → DeclarationTree
-int_named name clock = record { name = name; kind = Ints; clock = clock }
+int_named name clock = declared name Ints clock
 
 -- node same(x: int) returns (y: int); let y = x; tel
 abbrev pub same : NodeTree
@@ -53,7 +53,7 @@ through_clock =
     record {
       name = codes "main";
       inputs = [];
-      outputs = record { name = codes "c"; kind = Truths; clock = None } ∷ [];
+      outputs = declared (codes "c") Truths None ∷ [];
       locals = int_named (codes "s") (Some where_c) ∷ [];
       equations =
           record { left = codes "s" ∷ []; right = tree.when (tree.number 1) where_c }

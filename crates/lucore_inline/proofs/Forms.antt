@@ -1,17 +1,18 @@
 -- The walk of each form of expression, from those of its operands.
-use Rattle.std.proofs.Common.{◌≡◌, ℕ, ◌+◌, ◌<◌, take, get_or, List, [], ◌∷◌, ◌++◌, Bool, true, false, Option, Some, length, refl, sym, ap, ◌∙◌, subst}
+use Rattle.std.proofs.Common.{◌≡◌, ℕ, suc, ◌+◌, ◌<◌, take, get_or, List, [], ◌∷◌, ◌++◌, Bool, true, false, Option, Some, length, refl, sym, ap, ◌∙◌, subst, arith}
 use Rattle.std.specs.Prelude.{pos}
 use Rattle.std.proofs.Math.Path.{fun_ext}
-use Rattle.std.proofs.lemmas.List.{take_more, map-append, append-nil}
+use Rattle.std.proofs.lemmas.List.{take_more, map-append, append-nil, length-map, length-take}
 use Rattle.lutree.specs.declared.expr.Prefix.{Prefix}
 use Rattle.lutree.specs.declared.expr.Prefix.TheVariants.{Data as Data1, Pre as Before}
 use Rattle.lutree.specs.declared.expr.Infix.{Infix}
 use Rattle.lutree.specs.declared.expr.Infix.TheVariants.{Data as Data2, Arrow as Starts, FollowedBy}
-use Rattle.lutree.specs.declared.expr.Pattern.TheVariants as patterns
+use Rattle.lutree.specs.declared.expr.Label.{Label}
+use Rattle.lutree.specs.declared.expr.Pattern.{Pattern}
 use Rattle.lutree.specs.declared.expr.Condition.{Condition}
 use Rattle.lutree.specs.declared.program.Kind.{Kind}
 use Rattle.lutree.specs.declared.program.Kind.TheVariants.{Int as Ints, Bool as Truths}
-use Rattle.luflow.specs.declared.data.Datum.TheVariants.{Int, Bool as Truth}
+use Rattle.luflow.specs.declared.data.Datum.TheVariants.{Int, Bool as Truth, Name}
 use Rattle.lustat_rules.specs.Scope.{kind_of}
 use Rattle.lutree.specs.declared.expr.Expr.{Expr}
 use Rattle.lutree.specs.Tree.{Tree, Trees, trees_of, NodeTree, ProgramTree, view, views}
@@ -19,12 +20,12 @@ use Rattle.lutree.specs.Tree as tree
 use Rattle.luflow.specs.declared.form.Form.TheVariants.{Constant, Unary, Binary, If, Pre, Arrow, When, Current, Merge}
 use Rattle.luflow.specs.declared.form.Flow.{Flow}
 use Rattle.lusource.specs.Names.{clock_of}
-use Rattle.lusource.specs.Source.{condition}
-use Rattle.lustat_rules.specs.Typing.{agreed, double_kind, choice_kind, type_of, types_of}
-use Rattle.lucore_list.specs.Layout.{Root, root_flows, root_place, Walking, leaf, after, clock_place, flow_of, variable_place, walk, walk_all}
+use Rattle.lusource.specs.Source.{condition, first_pattern, next_patterns}
+use Rattle.lustat_rules.specs.Typing.{agreed, agreed_all, double_kind, choice_kind, type_of, types_of}
+use Rattle.lucore_list.specs.Layout.{Root, root_flows, root_place, Walking, leaf, after, clock_place, flow_of, variable_place, walk, walk_all, walk_branches}
 use Rattle.lucore_list.specs.Layout.Root.{own, at}
 use Rattle.lucore_moved.specs.declared.operand.Operand.{Operand}
-use Rattle.lucore_inline.specs.Walks.{IsWalked, flow_on, prefix_form, prefix_kind, infix_walk, infix_kind, kinds_of}
+use Rattle.lucore_inline.specs.Walks.{IsWalked, flow_on, prefix_form, prefix_kind, infix_walk, infix_kind, kinds_of, pattern_at}
 use Rattle.lucore_moved.specs.Operands.{places_of}
 use Rattle.lucore_inline.proofs.Walking.{IsMade, settled_is, after_is, leaf_is}
 
@@ -88,20 +89,6 @@ module _ (p : ProgramTree) (l : List (List Flow)) (n : NodeTree) where
       after_is (walk p l n a (clock_of n c.variable)) (λ i. leaf (flow_of p l n (tree.when a c) (Some c) (When i))) old mid mid x.place (own (flow_on ck x.kind (When x.place))) m
       (leaf_is (flow_of p l n (tree.when a c) (Some c) (When x.place)) (flow_on ck x.kind (When x.place)) mid (ap (λ q. flow_on ck q (When x.place)) e))
 
-  pub merge_is : (c : List ℕ) (a b : Tree) (k : Option Condition) (old m1 m2 : List Flow) (x y : Operand) →
-      IsMade (walk p l n a (condition c (patterns.Truth true))) old m1 x.place → IsMade (walk p l n b (condition c (patterns.Truth false))) m1 m2 y.place → x.kind ≡ type_of p n a → y.kind ≡ type_of p n b →
-      IsWalked (walk p l n (tree.merge c a b) k) old m2 (own (flow_on (clock_place n k) (agreed x.kind y.kind) (Merge (variable_place p l n c) (x.place ∷ y.place ∷ []))))
-  merge_is c a b k old m1 m2 x y ma mb e g =
-      let ck = clock_place n k in
-      let v = variable_place p l n c in
-      let f = λ (i j : ℕ). leaf (flow_of p l n (tree.merge c a b) k (Merge v (i ∷ j ∷ []))) in
-      let root = flow_on ck (agreed x.kind y.kind) (Merge v (x.place ∷ y.place ∷ [])) in
-      let same : root ≡ flow_of p l n (tree.merge c a b) k (Merge v (x.place ∷ y.place ∷ [])) =
-      ap (λ q. flow_on ck (agreed q y.kind) (Merge v (x.place ∷ y.place ∷ []))) e ∙ ap (λ q. flow_on ck (agreed (type_of p n a) q) (Merge v (x.place ∷ y.place ∷ []))) g in
-      after_is (walk p l n a (condition c (patterns.Truth true))) (λ i. after (walk p l n b (condition c (patterns.Truth false))) (λ j. f i j)) old m1 m2 x.place (own root) ma
-      (after_is (walk p l n b (condition c (patterns.Truth false))) (λ j. f x.place j) m1 m2 m2 y.place (own root) mb
-      (leaf_is (flow_of p l n (tree.merge c a b) k (Merge v (x.place ∷ y.place ∷ []))) root m2 same))
-
   -- ARGUMENTS
 
   -- whatever stands behind these arguments is told their places
@@ -151,6 +138,66 @@ module _ (p : ProgramTree) (l : List (List Flow)) (n : NodeTree) where
       ap kinds_of e ∙ map-append (λ (x : Operand). x.kind) ops (x ∷ []) ∙ ap (λ ks. ks ++ x.kind ∷ []) before ∙ ap (λ q. types_of p n (trees_of (views (take i args))) ++ q ∷ []) now
       ∙ sym (types_more (views (take i args)) (view a)) ∙ ap (λ es. types_of p n (trees_of es)) (sym same)
 
+  -- BRANCHES
+
+  -- whatever stands behind these branches is told their places
+  pub record BranchesAreMade (c : List ℕ) (ps : List Pattern) (all : Trees) (old new : List Flow) (xs : List ℕ) : Type 0 where
+    pub behind : (rest : List ℕ → Walking) (last : List Flow) (r : Root) → IsWalked (rest xs) new last r → IsWalked (walk_branches p l n c ps all rest) old last r
+
+  pub no_branches : (c : List ℕ) (ps : List Pattern) (old : List Flow) → BranchesAreMade c ps tree.none old old []
+  no_branches c ps old = record { behind = λ rest last r h. h }
+
+  first_is : (ps : List Pattern) → pattern_at ps 0 ≡ first_pattern ps
+  first_is [] = refl
+  first_is (p ∷ ps) = refl
+
+  next_is : (ps : List Pattern) (i : ℕ) → pattern_at ps (suc i) ≡ pattern_at (next_patterns ps) i
+  next_is [] i = refl
+  next_is (p ∷ ps) i = refl
+
+  branch_walk : (c : List ℕ) (ps : List Pattern) (es : List Tree) (a : Tree) (rest : List ℕ → Walking) →
+      walk_branches p l n c ps (trees_of (es ++ a ∷ [])) rest ≡ walk_branches p l n c ps (trees_of es) (λ xs. after (walk p l n a (condition c (pattern_at ps (length es)))) (λ x. rest (xs ++ x ∷ [])))
+  branch_walk c ps [] a rest = ap (λ q. after (walk p l n a (condition c q)) (λ x. rest (x ∷ []))) (sym (first_is ps))
+  branch_walk c ps (e ∷ es) a rest =
+      let z : suc (length es) ≡ length (e ∷ es) = omega arith in
+      let q : pattern_at (next_patterns ps) (length es) ≡ pattern_at ps (length (e ∷ es)) = sym (next_is ps (length es)) ∙ ap (pattern_at ps) z in
+      ap (λ (f : ℕ → Walking). after (walk p l n e (condition c (first_pattern ps))) f)
+      (fun_ext (λ i. branch_walk c (next_patterns ps) es a (λ xs. rest (i ∷ xs))
+      ∙ ap (λ q. walk_branches p l n c (next_patterns ps) (trees_of es) (λ xs. after (walk p l n a (condition c q)) (λ x. rest (i ∷ (xs ++ x ∷ []))))) q))
+
+  more_branches : (c : List ℕ) (ps : List Pattern) (es : List Tree) (a : Tree) (old mid new : List Flow) (xs : List ℕ) (x : ℕ) →
+      BranchesAreMade c ps (trees_of es) old mid xs → IsMade (walk p l n a (condition c (pattern_at ps (length es)))) mid new x → BranchesAreMade c ps (trees_of (es ++ a ∷ [])) old new (xs ++ x ∷ [])
+  more_branches c ps es a old mid new xs x before m =
+      record {
+        behind = λ rest last r h.
+            let w = walk p l n a (condition c (pattern_at ps (length es))) in
+            subst (λ w. IsWalked w old last r) (sym (branch_walk c ps es a rest))
+            (before.behind (λ xs. after w (λ x. rest (xs ++ x ∷ []))) last r
+            (after_is w (λ x. rest (xs ++ x ∷ [])) mid new last x r m h));
+      }
+
+  pub branch_made : (c : List ℕ) (ps : List Pattern) (args : List Expr) (i : ℕ) (a : Expr) (old mid new : List Flow) (ops ops' : List Operand) (x : Operand) → i < length args → a ≡ get_or args i a →
+      BranchesAreMade c ps (trees_of (views (take i args))) old mid (places_of ops) → IsMade (walk p l n (view a) (condition c (pattern_at ps i))) mid new x.place → ops' ≡ ops ++ x ∷ [] →
+      BranchesAreMade c ps (trees_of (views (take (i + 1) args))) old new (places_of ops')
+  branch_made c ps args i a old mid new ops ops' x lt is before m e =
+      let same : views (take (i + 1) args) ≡ views (take i args) ++ view a ∷ [] =
+      ap views (take_more args i a lt) ∙ map-append view (take i args) (get_or args i a ∷ []) ∙ ap (λ b. views (take i args) ++ view b ∷ []) (sym is) in
+      let places : places_of ops' ≡ places_of ops ++ x.place ∷ [] = ap places_of e ∙ map-append (λ (x : Operand). x.place) ops (x ∷ []) in
+      let long : length (views (take i args)) ≡ i = omega (arith, length-map (take i args) view, length-take i args, lt) in
+      subst (λ es. BranchesAreMade c ps (trees_of es) old new (places_of ops')) (sym same)
+      (subst (λ xs. BranchesAreMade c ps (trees_of (views (take i args) ++ view a ∷ [])) old new xs) (sym places)
+      (more_branches c ps (views (take i args)) (view a) old mid new (places_of ops) x.place before
+      (subst (λ j. IsMade (walk p l n (view a) (condition c (pattern_at ps j))) mid new x.place) (sym long) m)))
+
+  pub merge_is : (c : List ℕ) (ps : List Pattern) (args : List Expr) (k : Option Condition) (old new : List Flow) (ops : List Operand) →
+      BranchesAreMade c ps (trees_of (views args)) old new (places_of ops) → kinds_of ops ≡ types_of p n (trees_of (views args)) →
+      IsWalked (walk p l n (tree.merge c ps (trees_of (views args))) k) old new (own (flow_on (clock_place n k) (agreed_all (kinds_of ops)) (Merge (variable_place p l n c) (places_of ops))))
+  merge_is c ps args k old new ops made kinds =
+      let e = tree.merge c ps (trees_of (views args)) in
+      let form = Merge (variable_place p l n c) (places_of ops) in
+      made.behind (λ xs. leaf (flow_of p l n e k (Merge (variable_place p l n c) xs))) new (own (flow_on (clock_place n k) (agreed_all (kinds_of ops)) form))
+      (leaf_is (flow_of p l n e k form) (flow_on (clock_place n k) (agreed_all (kinds_of ops)) form) new (ap (λ ks. flow_on (clock_place n k) (agreed_all ks) form) kinds))
+
   -- an operand in memory
   pub operand_is : (a d : Expr) (k : Option Condition) (old mid new : List Flow) (r : Root) (x : ℕ) → d ≡ a → IsWalked (walk p l n (view d) k) old mid r → new ≡ mid ++ root_flows r → x ≡ root_place (length mid) r →
       IsMade (walk p l n (view a) k) old new x
@@ -187,6 +234,9 @@ module _ (p : ProgramTree) (l : List (List Flow)) (n : NodeTree) where
 
   pub truth_is : (b : Bool) (k : Option Condition) (old : List Flow) → IsWalked (walk p l n (tree.truth b) k) old old (own (flow_on (clock_place n k) (Some Truths) (Constant (Truth b))))
   truth_is b k old = leaf_is (flow_of p l n (tree.truth b) k (Constant (Truth b))) (flow_on (clock_place n k) (Some Truths) (Constant (Truth b))) old refl
+
+  pub label_is : (x : Label) (k : Option Condition) (old : List Flow) → IsWalked (walk p l n (tree.label x) k) old old (own (flow_on (clock_place n k) (Some x.kind) (Constant (Name x.number))))
+  label_is x k old = leaf_is (flow_of p l n (tree.label x) k (Constant (Name x.number))) (flow_on (clock_place n k) (Some x.kind) (Constant (Name x.number))) old refl
 
   pub variable_is : (x : List ℕ) (k : Option Condition) (old : List Flow) → IsWalked (walk p l n (tree.variable x) k) old old (at (variable_place p l n x))
   variable_is x k old = record { flows = sym (append-nil old); root = refl }

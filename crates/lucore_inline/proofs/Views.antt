@@ -4,6 +4,8 @@ use Rattle.std.specs.Prelude.{Box, Vec}
 use Rattle.std.specs.Global.{Global}
 use Rattle.lutree.specs.declared.expr.Prefix.{Prefix}
 use Rattle.lutree.specs.declared.expr.Infix.{Infix}
+use Rattle.lutree.specs.declared.expr.Label.{Label}
+use Rattle.lutree.specs.declared.expr.Pattern.{Pattern}
 use Rattle.lutree.specs.declared.expr.Condition.{Condition}
 use Rattle.lutree.specs.declared.expr.Expr.{Expr}
 use Rattle.lutree.specs.declared.expr.Expr.TheVariants as variant
@@ -18,8 +20,11 @@ viewed-Unary op a = ap view (sym (variant.rolls-Unary op a)) ∙ fold-roll-Expr 
 pub viewed-Binary : (op : Infix) (a b : Box Expr Global) → view (variant.Binary op a b) ≡ tree.binary op (view a.value) (view b.value)
 viewed-Binary op a b = ap view (sym (variant.rolls-Binary op a b)) ∙ fold-roll-Expr Tree view_step (Expr-F.Binary op a b)
 
-pub viewed-Merge : (c : List ℕ) (a b : Box Expr Global) → view (variant.Merge c a b) ≡ tree.merge c (view a.value) (view b.value)
-viewed-Merge c a b = ap view (sym (variant.rolls-Merge c a b)) ∙ fold-roll-Expr Tree view_step (Expr-F.Merge c a b)
+pub viewed-Merge : (c : List ℕ) (ps : List Pattern) (branches : Vec Expr Global) → view (variant.Merge c ps branches) ≡ tree.merge c ps (trees_of (views branches.items))
+viewed-Merge c ps branches = ap view (sym (variant.rolls-Merge c ps branches)) ∙ fold-roll-Expr Tree view_step (Expr-F.Merge c ps branches)
+
+pub viewed-Label : (x : Label) → view (variant.Label x) ≡ tree.label x
+viewed-Label x = ap view (sym (variant.rolls-Label x)) ∙ fold-roll-Expr Tree view_step (Expr-F.Label x)
 
 pub viewed-If : (c a b : Box Expr Global) → view (variant.If c a b) ≡ tree.choice (view c.value) (view a.value) (view b.value)
 viewed-If c a b = ap view (sym (variant.rolls-If c a b)) ∙ fold-roll-Expr Tree view_step (Expr-F.If c a b)

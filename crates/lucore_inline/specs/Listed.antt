@@ -8,7 +8,7 @@ use Rattle.lugraph.specs.declared.link.Link.{Link}
 use Rattle.lugraph.specs.Reach.{link}
 use Rattle.lutype.specs.CallGraph.{places_called}
 use Rattle.lustat_rules.specs.Scope.{node_called}
-use Rattle.lucore_list.specs.Layout.{AreLists, node_flows, node_owners, main_variables}
+use Rattle.lucore_list.specs.Layout.{AreLists, node_flows, node_owners, main_variables, types_of}
 use Rattle.lucore_inline.specs.declared.laying.Laid.{Laid}
 
 -- the links of a graph's edges, from the vertex of number u on
@@ -29,6 +29,6 @@ AreBuilt p order marks k built =
 abbrev pub IsNodeList : ProgramTree → NodeTree → List Flow → List ℕ → Type 0
 IsNodeList p n flows owners = (lists : List (List Flow)) → AreLists p lists → (flows ≡ node_flows p lists n) × (owners ≡ node_owners p lists n)
 
--- what is laid out is the list of the main node, with its owners and variables
+-- what is laid out is the list of the main node, with its owners and variables, and the program's types
 abbrev pub IsListOf : ProgramTree → List ℕ → Laid → Type 0
-IsListOf p main laid = (n : NodeTree) → node_called p main ≡ Some n → IsNodeList p n laid.flows.items laid.owners.items × (laid.variables.items ≡ main_variables n)
+IsListOf p main laid = (n : NodeTree) → node_called p main ≡ Some n → IsNodeList p n laid.flows.items laid.owners.items × (laid.variables.items ≡ main_variables n) × (laid.types.items ≡ types_of p)

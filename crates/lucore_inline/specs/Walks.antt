@@ -1,10 +1,12 @@
 -- What the walk of an expression leaves behind.
-use Rattle.std.specs.Prelude.{◌≡◌, ℕ, List, ◌++◌, length, map, Option, Some, unwrap_or, Vec}
+use Rattle.std.specs.Prelude.{true, ◌≡◌, ℕ, List, ◌++◌, length, map, Option, Some, slice_get, unwrap_or, Vec}
 use Rattle.std.specs.Global.{Global}
 use Rattle.lutree.specs.declared.expr.Infix.{Infix}
 use Rattle.lutree.specs.declared.expr.Infix.TheVariants.{Data, Arrow as Starts, FollowedBy}
 use Rattle.lutree.specs.declared.expr.Prefix.{Prefix}
 use Rattle.lutree.specs.declared.expr.Prefix.TheVariants.{Data as Data1, Pre as Before}
+use Rattle.lutree.specs.declared.expr.Pattern.{Pattern}
+use Rattle.lutree.specs.declared.expr.Pattern.TheVariants as patterns
 use Rattle.lutree.specs.declared.program.Kind.{Kind}
 use Rattle.lutree.specs.declared.program.Kind.TheVariants.{Int as Ints}
 use Rattle.luflow.specs.declared.form.Clock.{Clock}
@@ -57,6 +59,10 @@ infix_walk k FollowedBy x y = after (leaf (flow_on k y.kind (Pre y.place))) (λ 
 -- the types of the arguments of a call
 abbrev pub kinds_of : List Operand → List (Option Kind)
 kinds_of = map (λ x. x.kind)
+
+-- the pattern of branch i of a merge
+abbrev pub pattern_at : List Pattern → ℕ → Pattern
+pattern_at ps i = unwrap_or (slice_get ps i) (patterns.Truth true)
 
 -- lists without where they lie in memory
 abbrev pub plain : List (Vec Flow Global) → List (List Flow)

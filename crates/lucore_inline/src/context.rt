@@ -56,6 +56,7 @@ fn pattern_value(pattern: &PatternRef) -> Datum
 {
     match *pattern {
         PatternRef::Truth(sign) => Datum::Bool(sign),
+        PatternRef::Label(label) => Datum::Name(label.number),
     }
 }
 

@@ -5,24 +5,27 @@ ghost use Rattle.std.specs.Option.{ForSome};
 ghost use Rattle.lutree.specs.Tree.{NodeTree, node_view, program_view};
 ghost use Rattle.lustat_rules.specs.Naming.{IsCallOrder};
 ghost use Rattle.lugraph.specs.Search.{Has};
-ghost use Rattle.lucore_list.specs.Layout.{node_flows, node_owners, main_variables};
+ghost use Rattle.lucore_list.specs.Layout.{node_flows, node_owners, main_variables, types_of};
 ghost use Rattle.lucore_inline.specs.Walks.{plain};
 ghost use Rattle.lucore_inline.specs.Listed.{AreClosed, AreBuilt, IsNodeList, IsListOf};
 
 use crate::context::Context;
 use crate::needed::needed_by;
 use crate::owners::{NodeList, node_list};
+use crate::types::types_in;
 use crate::variables::variables_in;
-use luflow::{Flow, Variable};
+use luflow::{Enum, Flow, Variable};
 use lustat_scope::Catalog;
 use std::alloc::{AllocError, Global};
 
-/// A flat list: the flows, for each flow the number of the main variable in whose equation it stands, and the main variables.
+/// A flat list: the flows, for each flow the number of the main variable in whose equation it stands, the main variables, and the
+/// program's types.
 #[derive(Drop)]
 pub struct Laid {
     pub flows: Vec<Flow>,
     pub owners: Vec<usize>,
     pub variables: Vec<Variable>,
+    pub types: Vec<Enum>,
 }
 
 // An empty list for each node.
@@ -121,16 +124,19 @@ fn laid_at(
         (λ n. IsNodeList (program_view catalog.now) n laid.flows.items laid.owners.items)) }
     ensures variables { IfOk result (λ laid. ForSome (slice_get (program_view catalog.now).nodes place)
         (λ n. laid.variables.items ≡ main_variables n)) }
+    ensures types { IfOk result (λ laid. laid.types.items ≡ types_of (program_view catalog.now)) }
 {
     let marks = needed_by(alloc, catalog, place)?;
     let end = number_of(order, place);
     let lists = lists_before(alloc, catalog, order, &marks, end)?;
     let list = list_at(alloc, catalog, &lists, place)?;
     let variables = variables_in(alloc, catalog.scopes()[place].node())?;
+    let types = types_in(alloc, catalog.program().types.as_slice())?;
     Ok(Laid {
         flows: list.flows,
         owners: list.owners,
         variables,
+        types,
     })
 }
 
@@ -160,6 +166,7 @@ pub fn lay_out(
             flows: Vec::new(alloc),
             owners: Vec::new(alloc),
             variables: Vec::new(alloc),
+            types: Vec::new(alloc),
         }),
     }
 }

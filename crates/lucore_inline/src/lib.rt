@@ -14,6 +14,7 @@ mod node;
 mod open;
 mod owners;
 mod root;
+mod types;
 mod variables;
 mod walk;
 

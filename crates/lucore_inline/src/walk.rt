@@ -1,13 +1,13 @@
 //! The walk of an expression.
 
-ghost use Rattle.std.specs.Prelude.{◌≡◌, ◌∷◌, [], pos, length, map, IfOk, unwrap_or};
+ghost use Rattle.std.specs.Prelude.{fold, ◌≡◌, ◌∷◌, [], pos, length, map, IfOk, unwrap_or};
 ghost use Rattle.lutree.specs.Tree.{view, views, trees_of, node_view, program_view, declarations_view};
 ghost use Rattle.lutree.specs.Tree as tree;
 ghost use Rattle.lustat_rules.specs.Scope.{node_called};
-ghost use Rattle.lustat_rules.specs.Typing.{type_of, only, call_kinds, arguments_fit};
+ghost use Rattle.lustat_rules.specs.Typing.{type_of, only, call_kinds, arguments_fit, agreed, agreed_all};
 ghost use Rattle.lucore_list.specs.Layout.{clock_place, instance, walk as walk_of};
-ghost use Rattle.lustat_scope.specs.ClockRefs.{placed_view, IsPlaced};
-ghost use Rattle.lucore_inline.specs.Walks.{IsWalked, root_view, plain, prefix_form, prefix_kind, infix_walk, infix_kind, kinds_of};
+ghost use Rattle.lustat_scope.specs.ClockRefs.{the_pattern, placed_view, IsPlaced};
+ghost use Rattle.lucore_inline.specs.Walks.{IsWalked, root_view, plain, prefix_form, prefix_kind, infix_walk, infix_kind, kinds_of, pattern_at};
 ghost use Rattle.lucore_moved.specs.Operands.{places_of};
 
 use crate::context::{
@@ -18,7 +18,7 @@ use lucore_moved::{Operand, push_moved, sum_of};
 use luflow::{Datum, Flow, Form};
 use lulist::{Number, Row};
 use lustat_scope::{Catalog, ClockRef, PatternRef, PlacedClock, Scope};
-use lutree::{Declaration, Expr, Infix, Kind, Prefix};
+use lutree::{Declaration, Expr, Infix, Kind, Pattern, Prefix};
 use lutype::{agreed_kind, is_of_kind, kind_of_binary, kind_of_choice, kind_of_unary};
 use std::alloc::{AllocError, Global};
 
@@ -117,11 +117,46 @@ fn kind_of_call(catalog: &Catalog, name: &str, arguments: &[Operand]) -> Option<
     }
 }
 
-// The branches of a merge where its variable is true and where it is false.
-fn two_branches(alloc: Global, on: usize, off: usize) -> Result<Row<usize>, AllocError>
-    ensures { IfOk result (λ row. row ≡ on ∷ off ∷ []) }
+// The pattern of a branch of a merge, which has as many; any other is `true`.
+fn pattern_at(patterns: &[Pattern], branch: usize) -> PatternRef
+    ensures { the_pattern result ≡ pattern_at patterns.now branch }
 {
-    Ok(Row::new(vec![in alloc; on, off]?))
+    match patterns.get(branch) {
+        Some(pattern) => PatternRef::of(pattern),
+        None => PatternRef::Truth(true),
+    }
+}
+
+// Where operands stand.
+fn row_of_places(alloc: Global, operands: &[Operand]) -> Result<Row<usize>, AllocError>
+    ensures { IfOk result (λ row. row ≡ places_of operands.now) }
+{
+    let mut places = Vec::with_capacity(alloc, operands.len())?;
+    for x in operands {
+        places.push(x.place)?;
+    }
+    Ok(Row::new(places))
+}
+
+// The type that a type and those of some operands agree in, if they do.
+fn kind_with(first: Option<Kind>, rest: &[Operand]) -> Option<Kind>
+    ensures { result ≡ fold agreed first (kinds_of rest.now) }
+{
+    let mut kind = first;
+    for x in rest {
+        kind = agreed_kind(kind, x.kind);
+    }
+    kind
+}
+
+// The type that all of some operands have, if there are any and they have one.
+fn kind_of_branches(operands: &[Operand]) -> Option<Kind>
+    ensures { result ≡ agreed_all (kinds_of operands.now) }
+{
+    match operands {
+        [] => None,
+        [first, rest @ ..] => kind_with(first.kind, rest),
+    }
 }
 
 // A copy of the called node's list, with its arguments in place.
@@ -185,6 +220,10 @@ pub fn walk(
             let form = Form::Constant(Datum::Bool(*b));
             Ok(own(scope, clock, Some(Kind::Bool), form))
         }
+        Expr::Label(x) => {
+            let form = Form::Constant(Datum::Name(x.number));
+            Ok(own(scope, clock, Some(x.kind), form))
+        }
         Expr::Variable(x) => Ok(Walked {
             root: Root::At(variable_place(scope, x.as_str())),
             kind: scope.kind(x.as_str()),
@@ -221,16 +260,15 @@ pub fn walk(
             let sampled = scope.placed(ClockRef::of(c));
             Ok(own(scope, sampled, x.kind, Form::When(x.place)))
         }
-        Expr::Merge(c, a, b) => {
-            let name = c.as_str();
-            let on = scope.placed(ClockRef::On(name, PatternRef::Truth(true)));
-            let off = scope.placed(ClockRef::On(name, PatternRef::Truth(false)));
-            let x = settled(walk(alloc, context, flows, a, on)?, flows)?;
-            let y = settled(walk(alloc, context, flows, b, off)?, flows)?;
-            let branches = two_branches(alloc, x.place, y.place)?;
-            let form = Form::Merge(variable_place(scope, name), branches);
-            Ok(own(scope, clock, agreed_kind(x.kind, y.kind), form))
-        }
+        Expr::Merge(c, patterns, branches) => merge(
+            alloc,
+            context,
+            flows,
+            c.as_str(),
+            patterns.as_slice(),
+            branches,
+            clock,
+        ),
         Expr::Call(f, arguments) => call(alloc, context, flows, f.as_str(), arguments, clock),
     }
 }
@@ -259,4 +297,36 @@ fn call(
         operands.push(x)?;
     }
     instance_of(alloc, context, flows, name, operands.as_slice(), clock)
+}
+
+// The walk of a merge: its branches from left to right, each on the clock of its variable with the branch's pattern.
+#[cycle(walk)]
+fn merge(
+    alloc: Global,
+    context: &Context,
+    flows: &mut Vec<Flow>,
+    name: &str,
+    patterns: &[Pattern],
+    branches: &[Expr],
+    clock: PlacedClock,
+) -> Result<Walked, AllocError>
+    requires { IsPlaced (node_view context.now.scope.now) clock }
+    ensures walked { IfOk result (λ w. IsWalked (walk_of (program_view context.now.catalog.now)
+        (plain context.now.lists.now) (node_view context.now.scope.now)
+        (tree.merge name.now patterns.now (trees_of (views branches.now)))
+        (placed_view clock.entry)) flows.old.items flows.new.items (root_view w.root)) }
+    ensures kind { IfOk result (λ w. w.kind ≡ type_of (program_view context.now.catalog.now)
+        (node_view context.now.scope.now)
+        (tree.merge name.now patterns.now (trees_of (views branches.now)))) }
+{
+    let scope = context.scope;
+    let mut operands = Vec::with_capacity(alloc, branches.len())?;
+    for (i, a) in branches.iter().enumerate() {
+        let on = scope.placed(ClockRef::On(name, pattern_at(patterns, i)));
+        let x = settled(walk(alloc, context, flows, a, on)?, flows)?;
+        operands.push(x)?;
+    }
+    let places = row_of_places(alloc, operands.as_slice())?;
+    let form = Form::Merge(variable_place(scope, name), places);
+    Ok(own(scope, clock, kind_of_branches(operands.as_slice()), form))
 }

@@ -1,9 +1,9 @@
 -- The flat list is as long as the sizes say.
 use Rattle.std.proofs.Common.{◌≡◌, ℕ, suc, ◌+◌, List, [], ◌∷◌, ◌++◌, length, Option, Some, None, refl, sym, ap, ◌∙◌, subst, arith, length-append}
-use Rattle.std.specs.Prelude.{slice_get, All, true, false}
+use Rattle.std.specs.Prelude.{slice_get, All}
 use Rattle.std.proofs.lemmas.List.{length-map}
 use Rattle.std.proofs.lemmas.Option.{get_or_from_slice_get}
-use Rattle.lutree.specs.declared.expr.Pattern.TheVariants as patterns
+use Rattle.lutree.specs.declared.expr.Pattern.{Pattern}
 use Rattle.lutree.specs.declared.expr.Condition.{Condition}
 use Rattle.lutree.specs.declared.expr.Prefix.TheVariants.{Data as Data1, Pre as Before}
 use Rattle.lutree.specs.declared.expr.Infix.TheVariants.{Data as Data2, Arrow as Starts, FollowedBy}
@@ -13,9 +13,9 @@ use Rattle.luflow.specs.declared.form.Form.TheVariants.{Unary, Binary, If, Pre, 
 use Rattle.luflow.specs.declared.form.Flow.{Flow}
 use Rattle.lusource.specs.Names.{clock_of}
 use Rattle.lustat_rules.specs.Scope.{node_called}
-use Rattle.lusource.specs.Source.{condition}
+use Rattle.lusource.specs.Source.{condition, first_pattern, next_patterns}
 use Rattle.lustat_rules.specs.Naming.{Call, Calls, Reaches, calls_in, calls_in_all}
-use Rattle.lucore_list.specs.Layout.{Walking, root_flows, made, place, behind, leaf, after, moved, instance, list_at, list_of, clock_place, flow_of, variable_place, walk, walk_all, walk_right, left_clock, inner_flows, variable_count, node_flows, AreLists}
+use Rattle.lucore_list.specs.Layout.{Walking, root_flows, made, place, behind, leaf, after, moved, instance, list_at, list_of, clock_place, flow_of, variable_place, walk, walk_all, walk_branches, walk_right, left_clock, inner_flows, variable_count, node_flows, AreLists}
 use Rattle.lucore_list.specs.Sizes.{size_at, size_of, root_size, made_size, all_size, equations_size, node_size, AreSizes, CountLaw}
 use Rattle.lucore_list.proofs.Names.{all_left, all_right, all_head, all_of, listed, placed}
 use Rattle.lucore_list.proofs.Roots.{parts, front, length-front}
@@ -56,6 +56,7 @@ module _ (p : ProgramTree) (lists : List (List Flow)) (sizes : List ℕ) (node :
     sized : (e : Tree) (k : Option Condition) → All Counts (calls_in e) → Sized (walk p lists node e k) (made_size p sizes e) (root_size e)
     sized (tree.number n) k h = λ s. (refl, refl)
     sized (tree.truth c) k h = λ s. (refl, refl)
+    sized (tree.label x) k h = λ s. (refl, refl)
     sized (tree.variable x) k h = λ s. (refl, refl)
     sized (tree.unary (Data1 op) x) k h =
         sized_after (walk p lists node x k) (λ i. leaf (flow_of p lists node (tree.unary (Data1 op) x) k (Unary op i))) (made_size p sizes x) (root_size x) 1 1 (sized x k h) (λ i s. (refl, refl))
@@ -88,9 +89,8 @@ module _ (p : ProgramTree) (lists : List (List Flow)) (sizes : List ℕ) (node :
     sized (tree.when x c) k h =
         sized_after (walk p lists node x (clock_of node c.variable)) (λ i. leaf (flow_of p lists node (tree.when x c) (Some c) (When i))) (made_size p sizes x) (root_size x) 1 1 (sized x (clock_of node c.variable) h) (λ i s. (refl, refl))
     sized (tree.current x) k h = λ s. (refl, refl)
-    sized (tree.merge c x y) k h =
-        sized_two (walk p lists node x (condition c (patterns.Truth true))) (walk p lists node y (condition c (patterns.Truth false))) (λ i j. flow_of p lists node (tree.merge c x y) k (Merge (variable_place p lists node c) (i ∷ j ∷ []))) (made_size p sizes x) (root_size x) (made_size p sizes y) (root_size y)
-        (sized x (condition c (patterns.Truth true)) (all_left Counts (calls_in x) (calls_in y) h)) (sized y (condition c (patterns.Truth false)) (all_right Counts (calls_in x) (calls_in y) h))
+    sized (tree.merge c ps all) k h =
+        sized_branches c ps all (λ xs. leaf (flow_of p lists node (tree.merge c ps all) k (Merge (variable_place p lists node c) xs))) 1 1 h (λ xs s. (refl, refl))
     sized (tree.call f all) k h =
         let c : Call = record { node = f; arguments = length (trees_in all) } in
         let count = all_head Counts c [] (all_right Counts (calls_in_all all) (c ∷ []) h) in
@@ -107,6 +107,18 @@ module _ (p : ProgramTree) (lists : List (List Flow)) (sizes : List ℕ) (node :
         sized_as (walk_all p lists node (tree.more x all) k rest) (mx + (ma + m)) (mx + ma + m) r z
         (sized_after (walk p lists node x k) (λ i. walk_all p lists node all k (λ xs. rest (i ∷ xs))) mx (root_size x) (ma + m) r (sized x k (all_left Counts (calls_in x) (calls_in_all all) h))
         (λ i. sized_all all k (λ xs. rest (i ∷ xs)) m r (all_right Counts (calls_in x) (calls_in_all all) h) (λ xs. rests (i ∷ xs))))
+
+    sized_branches : (c : List ℕ) (ps : List Pattern) (all : Trees) (rest : List ℕ → Walking) (m r : ℕ) → All Counts (calls_in_all all) → ((xs : List ℕ) → Sized (rest xs) m r) → Sized (walk_branches p lists node c ps all rest) (all_size p sizes all + m) r
+    sized_branches c ps tree.none rest m r h rests = let z : m ≡ 0 + m = omega arith in sized_as (rest []) m (0 + m) r z (rests [])
+    sized_branches c ps (tree.more x all) rest m r h rests =
+        let k = condition c (first_pattern ps) in
+        let qs = next_patterns ps in
+        let mx = made_size p sizes x in
+        let ma = all_size p sizes all in
+        let z : mx + (ma + m) ≡ mx + ma + m = omega arith in
+        sized_as (walk_branches p lists node c ps (tree.more x all) rest) (mx + (ma + m)) (mx + ma + m) r z
+        (sized_after (walk p lists node x k) (λ i. walk_branches p lists node c qs all (λ xs. rest (i ∷ xs))) mx (root_size x) (ma + m) r (sized x k (all_left Counts (calls_in x) (calls_in_all all) h))
+        (λ i. sized_branches c qs all (λ xs. rest (i ∷ xs)) m r (all_right Counts (calls_in x) (calls_in_all all) h) (λ xs. rests (i ∷ xs))))
 
   abbrev AllCount : List EquationTree → Type 0
   AllCount qs = (j : ℕ) (q : EquationTree) → slice_get qs j ≡ Some q → All Counts (calls_in q.right)

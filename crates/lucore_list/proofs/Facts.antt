@@ -10,7 +10,7 @@ use Rattle.lutree.specs.Tree.{DeclarationTree, EquationTree, NodeTree, ProgramTr
 use Rattle.lusource.specs.Names.{variables_of, AreDistinct}
 use Rattle.lustat_rules.specs.Scope.{names_of, declarations_of, node_called}
 use Rattle.lustat_rules.specs.Scope as rules
-use Rattle.lustat_rules.specs.Naming.{Call, names_in, calls_in, called_by, DefinesAnew, Reaches}
+use Rattle.lustat_rules.specs.Naming.{PatternKnown, Call, names_in, calls_in, called_by, DefinesAnew, Reaches}
 use Rattle.lustat_rules.specs.Clocks.{HasClock, ClocksAgree, HasUnclockedOutputs}
 use Rattle.lustat_rules.specs.Accepted.{Rule, IsAccepted}
 use Rattle.lucore_list.specs.Laws.{DefineSomething}
@@ -68,7 +68,7 @@ module _ (p : ProgramTree) (main : List ℕ) (accepted : IsAccepted p main) (som
     apart =
         distinct (variables_of n) (λ j x e.
         let d = declared_at j x e in
-        subst (rules.IsNew (variables_of n) j) d.2 ((accepted Rule.duplicate_name).declarations i j n d.0 here d.1))
+        subst (rules.IsNew (variables_of n) j) d.2 ((accepted Rule.duplicate_name).declarations i j n d.0 here d.1).first)
 
     known : (xs : List (List ℕ)) → All (rules.IsVariable n) xs → All (Known p n (Below n)) xs
     known xs h = all_imp (rules.IsVariable n) (Known p n (Below n)) xs (λ x v. known_in n x v) h
@@ -129,8 +129,8 @@ module _ (p : ProgramTree) (main : List ℕ) (accepted : IsAccepted p main) (som
         agree = λ j q e. (accepted Rule.clock_mismatch).equations i j n q here e;
         clocks = λ x c h.
             let d = mapped_some (λ (d : DeclarationTree). d.clock) (rules.meaning n x) (Some c) h in
-            let k = (accepted Rule.unknown_name).declarations i _ n d.0 here (first_at (declarations_of n) x d.0 d.1) in
-            known_in n c.variable (subst (λ o. IfSome o (λ (c : Condition). rules.IsVariable n c.variable)) d.2 k);
+            let k = ((accepted Rule.unknown_name).declarations i _ n d.0 here (first_at (declarations_of n) x d.0 d.1)).clock in
+            known_in n c.variable (subst (λ o. IfSome o (λ (c : Condition). rules.IsVariable n c.variable × PatternKnown p c.pattern)) d.2 k).0;
         inputs = λ j d e.
             ((accepted Rule.clocked_parameter).declarations i j n d here (input_there i n here j d e)).0 (contains_get (names_of n.inputs) d.name j (get-names n.inputs j ∙ ap (option_map (λ (d : DeclarationTree). d.name)) e));
         outputs = outputs i n here;

@@ -1,10 +1,10 @@
 -- Where the variables of instances stand in a list.
 use Rattle.std.proofs.Common.{◌≡◌, ℕ, ◌+◌, ◌<◌, ◌≤◌, List, [], ◌∷◌, ◌++◌, length, map, Option, Some, None, refl, sym, ap, ◌∙◌, subst, arith, length-append, append_assoc}
-use Rattle.std.specs.Prelude.{slice_get, option_map, option_and_then, flat_map, Contains, All, true, false}
+use Rattle.std.specs.Prelude.{slice_get, option_map, option_and_then, flat_map, Contains, All}
 use Rattle.std.proofs.lemmas.List.{append-nil, length-map, map-append}
 use Rattle.std.proofs.lemmas.List.Elements.{All-append, All-cons, All-nil}
 use Rattle.std.proofs.lemmas.Option.{slice_get-map, same_Some}
-use Rattle.lutree.specs.declared.expr.Pattern.TheVariants as patterns
+use Rattle.lutree.specs.declared.expr.Pattern.{Pattern}
 use Rattle.lutree.specs.declared.expr.Condition.{Condition}
 use Rattle.lutree.specs.declared.expr.Prefix.TheVariants.{Data as Data1, Pre as Before}
 use Rattle.lutree.specs.declared.expr.Infix.TheVariants.{Data as Data2, Arrow as Starts, FollowedBy}
@@ -17,13 +17,13 @@ use Rattle.luflow.specs.Streams.{Streams}
 use Rattle.lusource.specs.Names.{variables_of, place_of, clock_of}
 use Rattle.lustat_rules.specs.Scope.{node_called}
 use Rattle.lustat_rules.specs.Naming.{Call, calls_in, calls_in_all}
-use Rattle.lusource.specs.Source.{Path, SourceStreams, condition}
+use Rattle.lusource.specs.Source.{Path, SourceStreams, condition, first_pattern, next_patterns}
 use Rattle.lusource.specs.Instances.{called_in, instance_at}
-use Rattle.lucore_list.specs.Layout.{Walking, root_flows, made, place, behind, leaf, after, list_of, instance, moved, clock_place, flow_of, variable_place, walk, walk_all, walk_right, left_clock, inner_flows, variable_count, node_flows, AreLists}
+use Rattle.lucore_list.specs.Layout.{Walking, root_flows, made, place, behind, leaf, after, list_of, instance, moved, clock_place, flow_of, variable_place, walk, walk_all, walk_branches, walk_right, left_clock, inner_flows, variable_count, node_flows, AreLists}
 use Rattle.lucore_list.proofs.Each.{Each, each_at}
 use Rattle.lucore_list.proofs.Names.{contains_at, all_at, all_imp, place_in, listed}
 use Rattle.lucore_list.proofs.Roots.{front, parts, length-front}
-use Rattle.lucore_list.proofs.Spots.{Spot, spots_after, no_spots, spot_at, spots, spots_all, equation_spots, node_spots, place_named, spots_in}
+use Rattle.lucore_list.proofs.Spots.{Spot, spots_after, no_spots, spot_at, spots, spots_all, spots_branches, equation_spots, node_spots, place_named, spots_in}
 
 abbrev pub spot_place : Option Spot → (Spot → ℕ) → ℕ
 spot_place None f = 0
@@ -97,6 +97,7 @@ module _ (p : ProgramTree) (lists : List (List Flow)) where
       found : (e : Tree) (k : Option Condition) → Found (walk p lists node e k) (spots p lists node e k) (calls_in e)
       found (tree.number n) k = found_none (walk p lists node (tree.number n) k)
       found (tree.truth b) k = found_none (walk p lists node (tree.truth b) k)
+      found (tree.label x) k = found_none (walk p lists node (tree.label x) k)
       found (tree.variable x) k = found_none (walk p lists node (tree.variable x) k)
       found (tree.unary (Data1 op) a) k =
           found_one (walk p lists node a k) (λ x. flow_of p lists node (tree.unary (Data1 op) a) k (Unary op x)) (spots p lists node a k) (calls_in a) (found a k)
@@ -122,10 +123,10 @@ module _ (p : ProgramTree) (lists : List (List Flow)) where
           let kc = clock_of node c.variable in
           found_one (walk p lists node a kc) (λ x. flow_of p lists node (tree.when a c) (Some c) (When x)) (spots p lists node a kc) (calls_in a) (found a kc)
       found (tree.current x) k = found_none (walk p lists node (tree.current x) k)
-      found (tree.merge c a b) k =
-          let ka = condition c (patterns.Truth true) in
-          let kb = condition c (patterns.Truth false) in
-          found_two (walk p lists node a ka) (walk p lists node b kb) (λ x y. flow_of p lists node (tree.merge c a b) k (Merge (variable_place p lists node c) (x ∷ y ∷ []))) (spots p lists node a ka) (spots p lists node b kb) (calls_in a) (calls_in b) (found a ka) (found b kb)
+      found (tree.merge c ps all) k =
+          let root = λ (xs : List ℕ). leaf (flow_of p lists node (tree.merge c ps all) k (Merge (variable_place p lists node c) xs)) in
+          subst (Found (walk_branches p lists node c ps all root) (spots_branches p lists node c ps all no_spots)) (append-nil (calls_in_all all))
+          (found_branches c ps all root no_spots [] (λ xs. found_none (root xs)))
       found (tree.call f all) k =
           found_all all k (λ xs. instance p lists f (clock_place node k) xs) (spot_at f) (record { node = f; arguments = length (trees_in all) } ∷ [])
           (λ xs. found_instance f (clock_place node k) xs (length (trees_in all)))
@@ -137,6 +138,16 @@ module _ (p : ProgramTree) (lists : List (List Flow)) where
           subst (Found (after (walk p lists node a k) w) (spots_after (walk p lists node a k) (spots p lists node a k) (spots_all p lists node all k spr))) (sym (append_assoc (calls_in a) (calls_in_all all) Y))
           (found_after (walk p lists node a k) w (spots p lists node a k) (spots_all p lists node all k spr) (calls_in a) (calls_in_all all ++ Y) (found a k)
           (λ x. found_all all k (λ xs. rest (x ∷ xs)) spr Y (λ xs. h (x ∷ xs))))
+
+      found_branches : (c : List ℕ) (ps : List Pattern) (all : Trees) (rest : List ℕ → Walking) (spr : ℕ → List Spot) (Y : List Call) → ((xs : List ℕ) → Found (rest xs) spr Y) → Found (walk_branches p lists node c ps all rest) (spots_branches p lists node c ps all spr) (calls_in_all all ++ Y)
+      found_branches c ps tree.none rest spr Y h = h []
+      found_branches c ps (tree.more a all) rest spr Y h =
+          let k = condition c (first_pattern ps) in
+          let qs = next_patterns ps in
+          let w = λ (x : ℕ). walk_branches p lists node c qs all (λ xs. rest (x ∷ xs)) in
+          subst (Found (after (walk p lists node a k) w) (spots_after (walk p lists node a k) (spots p lists node a k) (spots_branches p lists node c qs all spr))) (sym (append_assoc (calls_in a) (calls_in_all all) Y))
+          (found_after (walk p lists node a k) w (spots p lists node a k) (spots_branches p lists node c qs all spr) (calls_in a) (calls_in_all all ++ Y) (found a k)
+          (λ x. found_branches c qs all (λ xs. rest (x ∷ xs)) spr Y (λ xs. h (x ∷ xs))))
 
     found_equations : (qs : List EquationTree) (s : ℕ) → (map spot_node (equation_spots p lists node qs s) ≡ flat_map (λ (q : EquationTree). map call_node (calls_in q.right)) qs) × All (Ends (s + length (inner_flows p lists node qs s))) (equation_spots p lists node qs s)
     found_equations [] s = (refl, All-nil (Ends (s + 0)))

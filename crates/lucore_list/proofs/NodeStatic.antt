@@ -4,6 +4,7 @@ use Rattle.std.specs.Prelude.{slice_get, option_map, All}
 use Rattle.std.specs.Str.{bytes_eq}
 use Rattle.std.proofs.lemmas.List.Elements.{All-nil}
 use Rattle.std.proofs.lemmas.Option.{slice_get_within, same_Some}
+use Rattle.lutree.specs.declared.expr.Pattern.{Pattern}
 use Rattle.lutree.specs.declared.expr.Condition.{Condition}
 use Rattle.lutree.specs.declared.expr.Prefix.TheVariants.{Data as Data1, Pre as Before}
 use Rattle.lutree.specs.declared.expr.Infix.TheVariants.{Data as Data2, Arrow as Starts, FollowedBy}
@@ -16,12 +17,13 @@ use Rattle.luflow.specs.declared.form.Form.TheVariants.{Input, Constant, Copied,
 use Rattle.luflow.specs.declared.form.Flow.{Flow}
 use Rattle.luflow.specs.Program.{clock_reads}
 use Rattle.lusource.specs.Names.{variables_of, place_of, name_at, clock_of}
+use Rattle.lusource.specs.Source.{next_patterns}
 use Rattle.lustat_rules.specs.Scope.{names_of, declarations_of, node_called}
 use Rattle.lustat_rules.specs.Scope as rules
 use Rattle.lustat_rules.specs.Naming.{Calls, Reaches}
 use Rattle.lustat_rules.specs.Clocks.{HasClock, FitsInside}
 use Rattle.lustat_rules.proofs.Fitting.{inside}
-use Rattle.lucore_list.specs.Layout.{Root, Walking, walk, walk_all, walk_right, left_clock, root_flow, inner_flows, variable_flow, variable_place, variable_count, clock_place, input_flows, list_of, node_flows, AreLists}
+use Rattle.lucore_list.specs.Layout.{Root, Walking, walk, walk_all, walk_branches, walk_right, left_clock, root_flow, inner_flows, variable_flow, variable_place, variable_count, clock_place, input_flows, list_of, node_flows, AreLists}
 use Rattle.lucore_list.specs.Layout.Root.{own, at}
 use Rattle.lucore_list.proofs.Each.{Each, each_left, each_right, each_join, each_all, each_at, each_map, each_imp}
 use Rattle.lucore_list.proofs.Names.{get-front, get-behind, all_at, mapped_some, get-names, get_place, place_at, first_at, clock_named, clock_cases, listed}
@@ -42,9 +44,14 @@ module _ (p : ProgramTree) (lists : List (List Flow)) (node : NodeTree) where
   all_root P tree.none k rest h s = h [] s
   all_root P (tree.more a all) k rest h s = all_root P all k _ (λ xs s. h _ s) _
 
+  branch_root : (P : Root → Type 0) (c : List ℕ) (ps : List Pattern) (all : Trees) (rest : List ℕ → Walking) → ((xs : List ℕ) (s : ℕ) → P (rest xs s).root) → (s : ℕ) → P (walk_branches p lists node c ps all rest s).root
+  branch_root P c ps tree.none rest h s = h [] s
+  branch_root P c ps (tree.more a all) rest h s = branch_root P c (next_patterns ps) all _ (λ xs s. h _ s) _
+
   root_clock : (e : Tree) (k : Option Condition) (s : ℕ) → FitsInside node e k → RootClock (clock_place node k) (walk p lists node e k s).root
   root_clock (tree.number n) k s fits = refl
   root_clock (tree.truth b) k s fits = refl
+  root_clock (tree.label x) k s fits = refl
   root_clock (tree.variable x) k s fits = tt
   root_clock (tree.unary (Data1 op) a) k s fits = refl
   root_clock (tree.unary Before a) k s fits = refl
@@ -54,7 +61,7 @@ module _ (p : ProgramTree) (lists : List (List Flow)) (node : NodeTree) where
   root_clock (tree.choice c a b) k s fits = refl
   root_clock (tree.when a c) k s fits = ap (clock_place node) (sym fits.0)
   root_clock (tree.current x) k s fits = refl
-  root_clock (tree.merge c a b) k s fits = refl
+  root_clock (tree.merge c ps all) k s fits = branch_root (RootClock (clock_place node k)) c ps all _ (λ xs s. refl) s
   root_clock (tree.call f all) k s fits = all_root (RootClock (clock_place node k)) all k _ (λ xs s. tt) s
 
 first_step : (d : DeclarationTree) (ds : List DeclarationTree) (x : List ℕ) (b : Bool) → rules.first_declared ds x ≡ slice_get ds (place_of (names_of ds) x) → cond b (Some d) (rules.first_declared ds x) ≡ slice_get (d ∷ ds) (cond b 0 (suc (place_of (names_of ds) x)))

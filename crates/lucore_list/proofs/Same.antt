@@ -6,7 +6,7 @@ use Rattle.std.specs.Str.{bytes_eq}
 use Rattle.std.proofs.Math.Path.{fun_ext}
 use Rattle.std.proofs.lemmas.Option.{same_Some, slice_get-map}
 use Rattle.std.proofs.lemmas.List.Elements.{Contains-append_left, Contains-append_right}
-use Rattle.lutree.specs.declared.expr.Pattern.TheVariants as patterns
+use Rattle.lutree.specs.declared.expr.Pattern.{Pattern}
 use Rattle.lutree.specs.declared.expr.Condition.{Condition}
 use Rattle.lutree.specs.declared.expr.Prefix.TheVariants.{Data as Data1, Pre as Before}
 use Rattle.lutree.specs.declared.expr.Infix.TheVariants.{Data as Data2, Arrow as Starts, FollowedBy}
@@ -16,9 +16,9 @@ use Rattle.luflow.specs.declared.form.Form.TheVariants.{Unary, Binary, If, Pre, 
 use Rattle.luflow.specs.declared.form.Flow.{Flow}
 use Rattle.lusource.specs.Names.{variables_of, place_of, name_at, clock_of}
 use Rattle.lustat_rules.specs.Scope.{names_of, first_named, node_called}
-use Rattle.lusource.specs.Source.{condition}
+use Rattle.lusource.specs.Source.{condition, first_pattern, next_patterns}
 use Rattle.lustat_rules.specs.Naming.{Call, Calls, Reaches, calls_in, calls_in_all, place_of_first, node_place}
-use Rattle.lucore_list.specs.Layout.{Walking, leaf, after, moved, instance, inputs_in, list_at, list_of, clock_place, flow_of, variable_place, walk, walk_all, walk_right, left_clock, root_flow, inner_flows, variable_flow, inner_owners, owner_of, variable_count, input_flows, node_flows, node_owners, AreLists, main_variables}
+use Rattle.lucore_list.specs.Layout.{Walking, leaf, after, moved, instance, inputs_in, list_at, list_of, clock_place, flow_of, variable_place, walk, walk_all, walk_branches, walk_right, left_clock, root_flow, inner_flows, variable_flow, inner_owners, owner_of, variable_count, input_flows, node_flows, node_owners, AreLists, main_variables}
 use Rattle.lucore_list.specs.Layout.Root.{at}
 use Rattle.lucore_list.specs.Laws.{OneListLaw}
 use Rattle.lucore_list.proofs.Names.{all_left, all_right, all_head, all_of, contains_get, listed}
@@ -34,6 +34,7 @@ module _ (p : ProgramTree) (a b : List (List Flow)) (node : NodeTree) where
     walk_same : (e : Tree) (k : Option Condition) → All Same (calls_in e) → walk p a node e k ≡ walk p b node e k
     walk_same (tree.number n) k h = refl
     walk_same (tree.truth c) k h = refl
+    walk_same (tree.label x) k h = refl
     walk_same (tree.variable x) k h = refl
     walk_same (tree.unary (Data1 op) x) k h = ap (λ w. after w (λ y. leaf (flow_of p a node (tree.unary (Data1 op) x) k (Unary op y)))) (walk_same x k h)
     walk_same (tree.unary Before x) k h = ap (λ w. after w (λ y. leaf (flow_of p a node (tree.unary Before x) k (Pre y)))) (walk_same x k h)
@@ -58,10 +59,8 @@ module _ (p : ProgramTree) (a b : List (List Flow)) (node : NodeTree) where
         ∙ ap (λ w. after (walk p b node c k) (λ l. after (walk p b node x k) (λ i. after w (λ j. leaf (root l i j))))) (walk_same y k (all_right Same (calls_in x) (calls_in y) h'))
     walk_same (tree.when x c) k h = ap (λ w. after w (λ y. leaf (flow_of p a node (tree.when x c) (Some c) (When y)))) (walk_same x (clock_of node c.variable) h)
     walk_same (tree.current x) k h = refl
-    walk_same (tree.merge c x y) k h =
-        let root = λ (i j : ℕ). flow_of p a node (tree.merge c x y) k (Merge (variable_place p a node c) (i ∷ j ∷ [])) in
-        ap (λ w. after w (λ i. after (walk p a node y (condition c (patterns.Truth false))) (λ j. leaf (root i j)))) (walk_same x (condition c (patterns.Truth true)) (all_left Same (calls_in x) (calls_in y) h))
-        ∙ ap (λ w. after (walk p b node x (condition c (patterns.Truth true))) (λ i. after w (λ j. leaf (root i j)))) (walk_same y (condition c (patterns.Truth false)) (all_right Same (calls_in x) (calls_in y) h))
+    walk_same (tree.merge c ps all) k h =
+        walk_branches_same c ps all (λ xs. leaf (flow_of p a node (tree.merge c ps all) k (Merge (variable_place p a node c) xs))) h
     walk_same (tree.call f all) k h =
         let c : Call = record { node = f; arguments = length (trees_in all) } in
         let same = all_head Same c [] (all_right Same (calls_in_all all) (c ∷ []) h) in
@@ -75,6 +74,14 @@ module _ (p : ProgramTree) (a b : List (List Flow)) (node : NodeTree) where
     walk_all_same (tree.more x all) k rest rest' e h =
         ap (λ w. after w (λ i. walk_all p a node all k (λ xs. rest (i ∷ xs)))) (walk_same x k (all_left Same (calls_in x) (calls_in_all all) h))
         ∙ ap (λ (r : ℕ → Walking). after (walk p b node x k) r) (fun_ext (λ i. walk_all_same all k (λ xs. rest (i ∷ xs)) (λ xs. rest' (i ∷ xs)) (ap {B = List ℕ → Walking} (λ (r : List ℕ → Walking) xs. r (i ∷ xs)) e) (all_right Same (calls_in x) (calls_in_all all) h)))
+
+    walk_branches_same : (c : List ℕ) (ps : List Pattern) (all : Trees) (rest : List ℕ → Walking) → All Same (calls_in_all all) → walk_branches p a node c ps all rest ≡ walk_branches p b node c ps all rest
+    walk_branches_same c ps tree.none rest h = refl
+    walk_branches_same c ps (tree.more x all) rest h =
+        let k = condition c (first_pattern ps) in
+        let qs = next_patterns ps in
+        ap (λ w. after w (λ i. walk_branches p a node c qs all (λ xs. rest (i ∷ xs)))) (walk_same x k (all_left Same (calls_in x) (calls_in_all all) h))
+        ∙ ap (λ (r : ℕ → Walking). after (walk p b node x k) r) (fun_ext (λ i. walk_branches_same c qs all (λ xs. rest (i ∷ xs)) (all_right Same (calls_in x) (calls_in_all all) h)))
 
   abbrev AllSame : List EquationTree → Type 0
   AllSame qs = (j : ℕ) (q : EquationTree) → slice_get qs j ≡ Some q → All Same (calls_in q.right)
@@ -169,4 +176,5 @@ one_list p main x y keeps out out' =
       flows = out.flows ∙ m.0 ∙ ap (node_flows p out'.lists) same ∙ sym out'.flows;
       owners = out.owners ∙ m.1 ∙ ap (node_owners p out'.lists) same ∙ sym out'.owners;
       variables = out.variables ∙ ap main_variables same ∙ sym out'.variables;
+      types = out.types ∙ sym out'.types;
     }

@@ -1,15 +1,15 @@
 -- An operator's flow in an expression's walk is at fault where the operator is at fault in the source.
-use Rattle.std.proofs.Common.{◌≡◌, ℕ, suc, ◌+◌, ◌<◌, ◌⊎◌, inl, inr, ⊎_elim, List, [], ◌∷◌, ◌++◌, length, Option, Some, None, refl, sym, ap, ◌∙◌, subst, arith}
-use Rattle.std.specs.Prelude.{slice_get, option_map, true, false, pos}
+use Rattle.std.proofs.Common.{◌≡◌, ℕ, suc, ◌+◌, ◌<◌, ◌⊎◌, inl, inr, ⊎_elim, List, [], ◌∷◌, ◌++◌, length, map, Option, Some, None, refl, sym, ap, ◌∙◌, subst, arith}
+use Rattle.std.specs.Prelude.{slice_get, option_map, true, pos}
 use Rattle.std.proofs.lemmas.Option.{slice_get_within, slice_get-map}
-use Rattle.lutree.specs.declared.expr.Pattern.TheVariants as patterns
+use Rattle.lutree.specs.declared.expr.Pattern.{Pattern}
 use Rattle.lutree.specs.declared.expr.Condition.{Condition}
 use Rattle.lutree.specs.declared.expr.Prefix.TheVariants.{Data as Data1, Pre as Before}
 use Rattle.lutree.specs.declared.expr.Infix.TheVariants.{Data as Data2, Arrow as Starts, FollowedBy}
 use Rattle.lutree.specs.Tree.{Tree, Trees, list_of as trees_in, EquationTree, NodeTree, ProgramTree}
 use Rattle.lutree.specs.Tree as tree
 use Rattle.luflow.specs.declared.data.Datum.{Datum}
-use Rattle.luflow.specs.declared.data.Datum.TheVariants.{Int, Bool as Truth}
+use Rattle.luflow.specs.declared.data.Datum.TheVariants.{Int, Bool as Truth, Name}
 use Rattle.luflow.specs.declared.data.Status.TheVariants.{Present}
 use Rattle.luflow.specs.declared.form.Clock.{Clock}
 use Rattle.luflow.specs.declared.form.Clock.TheVariants.{Base, On}
@@ -23,15 +23,15 @@ use Rattle.luflow.specs.Streams as streams
 use Rattle.luflow.specs.Streams.{Stream, Streams, Ticks, truth_in}
 use Rattle.lusource.specs.Names.{variables_of, place_of, clock_of, name_at, outputs_in, output_name, AreDistinct}
 use Rattle.lusource.specs.StreamOperators.{constant_stream, unary_stream, binary_stream, choice_stream, pre_stream, arrow_stream, when_stream, current_stream, merge_stream}
-use Rattle.lusource.specs.Source.{Named, SourceStreams, condition, pattern_value, ticks, calls, calls_in, value, output}
+use Rattle.lusource.specs.Source.{Named, SourceStreams, condition, first_pattern, next_patterns, pattern_value, ticks, calls, calls_in, value, branches, output}
 use Rattle.lusource.specs.Faults as faults
 use Rattle.lustat_rules.specs.Scope.{node_called}
-use Rattle.lucore_list.specs.Layout.{Root, Walking, root_flows, made, root_place, place, behind, leaf, after, list_of, inputs_in, instance, moved, moved_form, moved_clock, clock_place, flow_of, variable_place, walk, walk_all, node_owners}
+use Rattle.lucore_list.specs.Layout.{Root, Walking, root_flows, made, root_place, place, behind, leaf, after, list_of, inputs_in, instance, moved, moved_form, moved_clock, clock_place, flow_of, variable_place, walk, walk_all, walk_branches, node_owners}
 use Rattle.lucore_list.specs.Layout.Root.{own, at}
 use Rattle.lucore_list.proofs.Each.{Each, each_left, each_right, each_join, each_all, each_map}
 use Rattle.lucore_list.proofs.Names.{get-front, get-behind, contains_get}
 use Rattle.lucore_list.proofs.Open.{Model, clock_ticks, flow_stream, FlowHolds, Hold, Solves, root_stream, moved_model, instance_solves}
-use Rattle.lucore_list.proofs.Spots.{Spot, spots_after, no_spots, spot_at, spots, spots_all, length-spots}
+use Rattle.lucore_list.proofs.Spots.{Spot, spots_after, no_spots, spot_at, spots, spots_all, spots_branches, length-spots}
 use Rattle.lucore_list.proofs.Instances.{HasInstances}
 use Rattle.lucore_list.proofs.ToSource.{output_value, output_place, output_there}
 use Rattle.lucore_list.proofs.Well.{Known, IsWell, AllWell, CallIs}
@@ -172,6 +172,9 @@ module _ (p : ProgramTree) (lists : List (List Flow)) (node : NodeTree) (Below :
   abbrev pub AnyFails : ℕ → Trees → Option Condition → ℕ → Type 0
   AnyFails depth = faults.AnyFails p node base var below t kind (CallFails depth)
 
+  abbrev pub BranchFails : ℕ → List ℕ → List Pattern → Trees → ℕ → Type 0
+  BranchFails depth = faults.BranchFails p node base var below t kind (CallFails depth)
+
   abbrev pub FlowTells : Type 0 → ℕ → Flow → Type 0
   FlowTells G j f = FlowFails base m t kind f → G
 
@@ -306,6 +309,9 @@ module _ (p : ProgramTree) (lists : List (List Flow)) (node : NodeTree) (Below :
   abbrev pub SomeAny : Trees → Option Condition → ℕ → Type 0
   SomeAny all k i = (depth : ℕ) × AnyFails depth all k i
 
+  abbrev pub SomeBranch : List ℕ → List Pattern → Trees → ℕ → Type 0
+  SomeBranch c ps all i = (depth : ℕ) × BranchFails depth c ps all i
+
   clock_then : (k : Option Condition) → KnownClock k → clock_ticks base m.on (clock_place node k) t ≡ Some true → K k t ≡ Some true
   clock_then k known h = ap (λ (c : Ticks). c t) (sym (ticks_agree k known)) ∙ h
 
@@ -314,6 +320,11 @@ module _ (p : ProgramTree) (lists : List (List Flow)) (node : NodeTree) (Below :
   more_way a all k i FR (inl (depth, inr h)) = inr (inl (depth, h))
   more_way a all k i FR (inr h) = inr (inr h)
 
+  branch_way : (a : Tree) (c : List ℕ) (ps : List Pattern) (all : Trees) (i : ℕ) (FR : Type 0) → SomeBranch c ps (tree.more a all) i ⊎ FR → SomeFail a (condition c (first_pattern ps)) i ⊎ (SomeBranch c (next_patterns ps) all (i + calls a) ⊎ FR)
+  branch_way a c ps all i FR (inl (depth, inl h)) = inl (depth, h)
+  branch_way a c ps all i FR (inl (depth, inr h)) = inr (inl (depth, h))
+  branch_way a c ps all i FR (inr h) = inr (inr h)
+
   module _ (clock_known : (x : List ℕ) → KnownClock (clock_of node x)) where
     mutual
       pub seen : (e : Tree) (k : Option Condition) (i w : ℕ) (G : Type 0) → KnownClock k → IsWell p node Below e w → ((depth : ℕ) → Fails depth e k i → G) → Seen (walk p lists node e k) (spots p lists node e k) i w (output p node base var below e k i) G (SomeFail e k i)
@@ -321,6 +332,8 @@ module _ (p : ProgramTree) (lists : List (List Flow)) (node : NodeTree) (Below :
           seen_leaf (flow_of p lists node (tree.number n) k (Constant (Int (pos n)))) i w (λ j. val (tree.number n) k i) G (SomeFail (tree.number n) k i) (λ j. ap (constant_stream (Int (pos n))) (ticks_agree k known)) (λ h. absurd h.1) (λ h. absurd h.1)
       seen (tree.truth b) k i w G known well g =
           seen_leaf (flow_of p lists node (tree.truth b) k (Constant (Truth b))) i w (λ j. val (tree.truth b) k i) G (SomeFail (tree.truth b) k i) (λ j. ap (constant_stream (Truth b)) (ticks_agree k known)) (λ h. absurd h.1) (λ h. absurd h.1)
+      seen (tree.label x) k i w G known well g =
+          seen_leaf (flow_of p lists node (tree.label x) k (Constant (Name x.number))) i w (λ j. val (tree.label x) k i) G (SomeFail (tree.label x) k i) (λ j. ap (constant_stream (Name x.number)) (ticks_agree k known)) (λ h. absurd h.1) (λ h. absurd h.1)
       seen (tree.variable x) k i w G known well g = λ s placed hold.
           (λ j lt. let e = well.0 in let z : variable_place p lists node x + j ≡ variable_place p lists node x = omega arith in ap m.on z ∙ agree x well.1, (tt, tt), λ h. absurd h.1)
       seen (tree.unary (Data1 op) a) k i w G known well g =
@@ -390,16 +403,13 @@ module _ (p : ProgramTree) (lists : List (List Flow)) (node : NodeTree) (Below :
       seen (tree.current x) k i w G known well g =
           seen_leaf (flow_of p lists node (tree.current x) k (Current (variable_place p lists node x))) i w (λ j. val (tree.current x) k i) G (SomeFail (tree.current x) k i)
           (λ j. ap (λ c. current_stream c (m.on (variable_place p lists node x))) (ticks_agree k known) ∙ ap (current_stream (K k)) (agree x well)) (λ h. absurd h.1) (λ h. absurd h.1)
-      seen (tree.merge c a b) k i w G known well g =
-          let ka = condition c (patterns.Truth true) in
-          let kb = condition c (patterns.Truth false) in
-          let ib = i + calls a in
+      seen (tree.merge c ps all) k i w G known well g =
           let cp = variable_place p lists node c in
-          seen_two (walk p lists node a ka) (walk p lists node b kb) (λ x y. flow_of p lists node (tree.merge c a b) k (Merge cp (x ∷ y ∷ []))) (spots p lists node a ka) (spots p lists node b kb) i (calls a) (calls b) w
-          (output p node base var below a ka i) (output p node base var below b kb ib) (λ j. val (tree.merge c a b) k i) G (SomeFail a ka i) (SomeFail b kb ib) ⊥ (SomeFail (tree.merge c a b) k i)
-          (length-spots p lists node a ka) (length-spots p lists node b kb) (λ h. both (λ y. (h.0, y)) (λ y. inl (h.0, y)) h.1) (seen a ka i 1 G well.0 well.1 (λ d h. g d (inl h))) (seen b kb ib 1 G well.0 well.2 (λ d h. g d (inr h)))
-          (λ x y e e' j. ap (λ u. merge_stream u (m.on cp) (m.on x ∷ m.on y ∷ [])) (ticks_agree k known) ∙ ap (λ u. merge_stream (K k) u (m.on x ∷ m.on y ∷ [])) (agree c well.0) ∙ ap (λ u. merge_stream (K k) (var c) (u ∷ m.on y ∷ [])) (is_value a ka i x e) ∙ ap (λ u. merge_stream (K k) (var c) (val a ka i ∷ u ∷ [])) (is_value b kb ib y e'))
-          (λ x y e e' h. absurd h.1) (λ x y e e' h. absurd h)
+          let root = λ (xs : List ℕ). flow_of p lists node (tree.merge c ps all) k (Merge cp xs) in
+          seen_branches c ps all i w G ⊥ (SomeFail (tree.merge c ps all) k i) (λ xs. leaf (root xs)) no_spots (λ j. val (tree.merge c ps all) k i) inl well.0 well.1 g
+          (λ xs e. seen_leaf (root xs) (i + calls_in all) w (λ j. val (tree.merge c ps all) k i) G ⊥
+          (λ j. ap (λ u. merge_stream u (m.on cp) (map m.on xs)) (ticks_agree k known) ∙ ap (λ u. merge_stream (K k) u (map m.on xs)) (agree c well.0) ∙ ap (merge_stream (K k) (var c)) e)
+          (λ h. absurd h.1) (λ h. absurd h))
       seen (tree.call f all) k i w G known well g =
           seen_all all k i w G ((depth : ℕ) × CallFails depth f (K k) (i + calls_in all)) (SomeFail (tree.call f all) k i) (λ xs. instance p lists f (clock_place node k) xs) (spot_at f) (output p node base var below (tree.call f all) k i) (λ h. both (λ y. (h.0, y)) (λ y. (h.0, y)) h.1) known well.1 (λ d h. g d (inl h))
           (λ xs l. seen_instance f k xs (i + calls_in all) w G known (subst (λ n. CallIs p node Below f n w) (sym l) well.0) (λ d h. g d (inr h)))
@@ -420,3 +430,22 @@ module _ (p : ProgramTree) (lists : List (List Flow)) (node : NodeTree) (Below :
           (length-spots p lists node a k) (λ x. more_way a all k i FR (way x)) (seen a k i 1 G known well.0 (λ d h. g d (inl h)))
           (λ x e. seen_all all k (i + calls a) w G FR (SomeAny all k (i + calls a) ⊎ FR) (λ xs. rest (x ∷ xs)) spr result (λ y. y) known well.1 (λ d h. g d (inr h))
           (λ xs l. subst (λ n. Seen (rest (x ∷ xs)) spr n w result G FR) z (h (x ∷ xs) (ap suc l))))
+
+      -- the branches of a merge, and the rest
+      pub seen_branches : (c : List ℕ) (ps : List Pattern) (all : Trees) (i w : ℕ) (G FR F : Type 0) (rest : List ℕ → Walking) (spr : ℕ → List Spot) (result : ℕ → Stream) → (F → SomeBranch c ps all i ⊎ FR) → Known p node Below c → AllWell p node Below all → ((depth : ℕ) → BranchFails depth c ps all i → G)
+          → ((xs : List ℕ) → map m.on xs ≡ branches p node base var below c ps all i → Seen (rest xs) spr (i + calls_in all) w result G FR)
+          → Seen (walk_branches p lists node c ps all rest) (spots_branches p lists node c ps all spr) i w result G F
+      seen_branches c ps tree.none i w G FR F rest spr result way known well g h =
+          let z : i + 0 ≡ i = omega arith in
+          let r = subst (λ n. Seen (rest []) spr n w result G FR) z (h [] refl) in
+          λ s placed hold.
+          let u = r s placed hold in
+          (u.0, u.1, λ x. ⊎_elim (λ (none : SomeBranch c ps tree.none i). absurd none.1) u.2 (way x))
+      seen_branches c ps (tree.more a all) i w G FR F rest spr result way known well g h =
+          let k = condition c (first_pattern ps) in
+          let qs = next_patterns ps in
+          let z : i + calls_in (tree.more a all) ≡ i + calls a + calls_in all = omega arith in
+          seen_after (walk p lists node a k) (λ x. walk_branches p lists node c qs all (λ xs. rest (x ∷ xs))) (spots p lists node a k) (spots_branches p lists node c qs all spr) i (calls a) w (output p node base var below a k i) result G (SomeFail a k i) (SomeBranch c qs all (i + calls a) ⊎ FR) F
+          (length-spots p lists node a k) (λ x. branch_way a c ps all i FR (way x)) (seen a k i 1 G known well.0 (λ d h. g d (inl h)))
+          (λ x e. seen_branches c qs all (i + calls a) w G FR (SomeBranch c qs all (i + calls a) ⊎ FR) (λ xs. rest (x ∷ xs)) spr result (λ y. y) known well.1 (λ d h. g d (inr h))
+          (λ xs e'. subst (λ n. Seen (rest (x ∷ xs)) spr n w result G FR) z (h (x ∷ xs) (ap (λ y. y ∷ map m.on xs) (is_value a k i x e) ∙ ap (λ ys. val a k i ∷ ys) e'))))

@@ -1,16 +1,16 @@
 -- Flows name flows, and a copy stands on the clock of what it copies.
 use Rattle.std.proofs.Common.{◌≡◌, ℕ, zero, suc, ◌+◌, ◌<◌, ◌≤◌, List, [], ◌∷◌, ◌++◌, length, map, get_or, Option, Some, None, refl, sym, ap, ◌∙◌, subst, arith}
-use Rattle.std.specs.Prelude.{slice_get, slice_index, true, false, pos, option_map, All}
+use Rattle.std.specs.Prelude.{slice_get, slice_index, pos, option_map, All}
 use Rattle.std.proofs.lemmas.List.Elements.{All-nil, All-map, All-weaker}
 use Rattle.std.proofs.lemmas.Option.{slice_get_within, slice_get-get_or}
-use Rattle.lutree.specs.declared.expr.Pattern.TheVariants as patterns
+use Rattle.lutree.specs.declared.expr.Pattern.{Pattern}
 use Rattle.lutree.specs.declared.expr.Condition.{Condition}
 use Rattle.lutree.specs.declared.expr.Prefix.TheVariants.{Data as Data1, Pre as Before}
 use Rattle.lutree.specs.declared.expr.Infix.TheVariants.{Data as Data2, Arrow as Starts, FollowedBy}
 use Rattle.lutree.specs.Tree.{Tree, Trees, list_of as trees_in, EquationTree, NodeTree, ProgramTree}
 use Rattle.lutree.specs.Tree as tree
 use Rattle.lutree.specs.declared.program.Kind.TheVariants.{Int as Ints}
-use Rattle.luflow.specs.declared.data.Datum.TheVariants.{Int, Bool as Truth}
+use Rattle.luflow.specs.declared.data.Datum.TheVariants.{Int, Bool as Truth, Name}
 use Rattle.luflow.specs.declared.form.Clock.{Clock}
 use Rattle.luflow.specs.declared.form.Clock.TheVariants.{Base, On}
 use Rattle.luflow.specs.declared.form.Form.{Form}
@@ -20,8 +20,8 @@ use Rattle.luflow.specs.Program.{places, clock_reads}
 use Rattle.lusource.specs.Names.{clock_of}
 use Rattle.lustat_rules.specs.Scope.{declarations_of, node_called}
 use Rattle.lusource.specs.Source.{condition}
-use Rattle.lustat_rules.specs.Clocks.{HasClock, FitsInside, AllFitInside}
-use Rattle.lucore_list.specs.Layout.{Root, Walking, root_flows, made, root_place, place, behind, leaf, after, moved_form, moved_clock, moved, list_of, inputs_in, instance, clock_place, flow_of, variable_place, variable_count, walk, walk_all}
+use Rattle.lustat_rules.specs.Clocks.{HasClock, FitsInside, AllFitInside, BranchesFitInside}
+use Rattle.lucore_list.specs.Layout.{Root, Walking, root_flows, made, root_place, place, behind, leaf, after, moved_form, moved_clock, moved, list_of, inputs_in, instance, clock_place, flow_of, variable_place, variable_count, walk, walk_all, walk_branches}
 use Rattle.lucore_list.specs.Layout.Root.{own, at}
 use Rattle.lucore_list.proofs.Each.{Each, each_left, each_right, each_join, each_all, each_at, each_map, each_unmap}
 use Rattle.lucore_list.proofs.Names.{all_head, all_tail, mapped_some, clock_named}
@@ -205,6 +205,8 @@ module _ (p : ProgramTree) (lists : List (List Flow)) (node : NodeTree) (Below :
           static_leaf L n (flow_of p lists node (tree.number a) k (Constant (Int (pos a)))) w (clock_place node k) (record { places_in = All-nil (InList L); clocks_in = clock_there k known; copy = tt }) refl
       static (tree.truth b) k w known well fits =
           static_leaf L n (flow_of p lists node (tree.truth b) k (Constant (Truth b))) w (clock_place node k) (record { places_in = All-nil (InList L); clocks_in = clock_there k known; copy = tt }) refl
+      static (tree.label x) k w known well fits =
+          static_leaf L n (flow_of p lists node (tree.label x) k (Constant (Name x.number))) w (clock_place node k) (record { places_in = All-nil (InList L); clocks_in = clock_there k known; copy = tt }) refl
       static (tree.variable x) k w known well fits = λ s stand.
           (tt, λ j lt. let e = well.0 in let z : variable_place p lists node x + j ≡ variable_place p lists node x = omega arith in ap (clock_on L) z ∙ variables x k fits)
       static (tree.unary (Data1 op) a) k w known well fits =
@@ -249,14 +251,11 @@ module _ (p : ProgramTree) (lists : List (List Flow)) (node : NodeTree) (Below :
       static (tree.current x) k w known well fits =
           static_leaf L n (flow_of p lists node (tree.current x) k (Current (variable_place p lists node x))) w (clock_place node k)
           (record { places_in = all_cons (InList L) (variable_place p lists node x) [] (omega (arith, well, long)) (All-nil (InList L)); clocks_in = clock_there k known; copy = tt }) refl
-      static (tree.merge c a b) k w known well fits =
-          let ka = condition c (patterns.Truth true) in
-          let kb = condition c (patterns.Truth false) in
+      static (tree.merge c ps all) k w known well fits =
           let cp = variable_place p lists node c in
-          let root = λ (x y : ℕ). flow_of p lists node (tree.merge c a b) k (Merge cp (x ∷ y ∷ [])) in
-          static_after L n (walk p lists node a ka) (λ x. after (walk p lists node b kb) (λ y. leaf (root x y))) w (clock_place node ka) (clock_place node k) (static a ka 1 well.0 well.1 fits.1)
-          (λ x e. static_after L n (walk p lists node b kb) (λ y. leaf (root x y)) w (clock_place node kb) (clock_place node k) (static b kb 1 well.0 well.2 fits.2)
-          (λ y e'. static_leaf L n (root x y) w (clock_place node k) (record { places_in = all_cons (InList L) cp (x ∷ y ∷ []) (omega (arith, well.0, long)) (two_in x y (clock_place node ka) (clock_place node kb) e e'); clocks_in = clock_there k known; copy = tt }) refl))
+          let root = λ (xs : List ℕ). flow_of p lists node (tree.merge c ps all) k (Merge cp xs) in
+          static_branches c ps all k w (λ xs. leaf (root xs)) well.0 well.1 fits.1
+          (λ xs inside. static_leaf L n (root xs) w (clock_place node k) (record { places_in = all_cons (InList L) cp xs (omega (arith, well.0, long)) inside; clocks_in = clock_there k known; copy = tt }) refl)
       static (tree.call f all) k w known well fits =
           static_all all k w (λ xs. instance p lists f (clock_place node k) xs) known well.1 fits
           (λ xs l places. static_instance f k xs w known (subst (λ n. CallIs p node Below f n w) (sym l) well.0) places)
@@ -267,3 +266,14 @@ module _ (p : ProgramTree) (lists : List (List Flow)) (node : NodeTree) (Below :
       static_all (tree.more a all) k w rest known well fits h =
           static_after L n (walk p lists node a k) (λ x. walk_all p lists node all k (λ xs. rest (x ∷ xs))) w (clock_place node k) (clock_place node k) (static a k 1 known well.0 fits.0)
           (λ x e. static_all all k w (λ xs. rest (x ∷ xs)) known well.1 fits.1 (λ xs l places. h (x ∷ xs) (ap suc l) (all_cons (λ x. clock_on L x ≡ Some (clock_place node k)) x xs e places)))
+
+      pub static_branches : (c : List ℕ) (ps : List Pattern) (all : Trees) (k : Option Condition) (w : ℕ) (rest : List ℕ → Walking) → Known p node Below c → AllWell p node Below all → BranchesFitInside node c ps all
+          → ((xs : List ℕ) → All (InList L) xs → Static L n (rest xs) w (clock_place node k)) → Static L n (walk_branches p lists node c ps all rest) w (clock_place node k)
+      static_branches c [] tree.none k w rest known well fits h = h [] (All-nil (InList L))
+      static_branches c (q ∷ ps) tree.none k w rest known well fits h = absurd fits
+      static_branches c [] (tree.more a all) k w rest known well fits h = absurd fits
+      static_branches c (q ∷ ps) (tree.more a all) k w rest known well fits h =
+          let ka = condition c q in
+          static_after L n (walk p lists node a ka) (λ x. walk_branches p lists node c ps all (λ xs. rest (x ∷ xs))) w (clock_place node ka) (clock_place node k) (static a ka 1 known well.0 fits.0)
+          (λ x e. static_branches c ps all k w (λ xs. rest (x ∷ xs)) known well.1 fits.1
+          (λ xs inside. h (x ∷ xs) (all_cons (InList L) x xs (clock_within L x (clock_place node ka) e) inside)))

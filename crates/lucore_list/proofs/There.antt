@@ -9,7 +9,7 @@ use Rattle.luflow.specs.declared.form.Flow.{Flow}
 use Rattle.lustat_rules.specs.Scope.{node_called}
 use Rattle.lustat_rules.specs.Naming.{Call, Calls, Reaches, calls_in, called_by, node_place}
 use Rattle.lustat_rules.specs.Accepted.{Rule}
-use Rattle.lucore_list.specs.Layout.{list_at, list_of, node_flows, node_owners, main_variables, AreLists}
+use Rattle.lucore_list.specs.Layout.{list_at, list_of, node_flows, node_owners, main_variables, types_of, AreLists}
 use Rattle.lucore_list.specs.Laws.{ListsLaw, FlatListLaw}
 use Rattle.lucore_list.specs.Sizes.{size_at, size_of, AreSizes, SizesLaw}
 use Rattle.lucore_list.proofs.Names.{all_of, contains_at, contains_get, is_some_at, placed}
@@ -117,8 +117,8 @@ flat_list_law p main accepted =
     let out = lists_law p main (accepted Rule.recursive_node) in
     let keeps = accepted Rule.no_main in
     let n = is_some_at (node_called p main) keeps.program in (
-      record { flows = node_flows p out.0 n.0; order = []; owners = node_owners p out.0 n.0; variables = main_variables n.0 },
-      record { lists = out.0; are_lists = out.1; node = n.0; is_main = n.1; flows = refl; owners = refl; variables = refl },
+      record { types = types_of p; flows = node_flows p out.0 n.0; order = []; owners = node_owners p out.0 n.0; variables = main_variables n.0 },
+      record { lists = out.0; are_lists = out.1; node = n.0; is_main = n.1; flows = refl; owners = refl; variables = refl; types = refl },
     )
 
 pub sizes_law : SizesLaw

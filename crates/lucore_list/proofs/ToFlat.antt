@@ -1,26 +1,26 @@
 -- A solution of a node gives a solution of its open list.
 use Rattle.std.proofs.Common.{◌≡◌, ℕ, suc, ◌+◌, ◌<◌, List, [], ◌∷◌, ◌++◌, length, map, Option, Some, None, refl, sym, ap, ◌∙◌, subst, arith, length-append}
-use Rattle.std.specs.Prelude.{slice_get, true, false, pos}
+use Rattle.std.specs.Prelude.{slice_get, pos}
 use Rattle.std.proofs.lemmas.List.{append-nil, length-map}
-use Rattle.lutree.specs.declared.expr.Pattern.TheVariants as patterns
+use Rattle.lutree.specs.declared.expr.Pattern.{Pattern}
 use Rattle.lutree.specs.declared.expr.Condition.{Condition}
 use Rattle.lutree.specs.declared.expr.Prefix.TheVariants.{Data as Data1, Pre as Before}
 use Rattle.lutree.specs.declared.expr.Infix.TheVariants.{Data as Data2, Arrow as Starts, FollowedBy}
 use Rattle.lutree.specs.Tree.{Tree, Trees, list_of as trees_in, EquationTree, NodeTree, ProgramTree}
 use Rattle.lutree.specs.Tree as tree
-use Rattle.luflow.specs.declared.data.Datum.TheVariants.{Int, Bool as Truth}
+use Rattle.luflow.specs.declared.data.Datum.TheVariants.{Int, Bool as Truth, Name}
 use Rattle.luflow.specs.declared.form.Flow.{Flow}
 use Rattle.luflow.specs.declared.form.Form.TheVariants.{Constant, Unary, Binary, If, Pre, Arrow, When, Current, Merge}
 use Rattle.luflow.specs.Streams.{Stream, Ticks, truth_in}
 use Rattle.lusource.specs.Names.{variables_of, place_of, clock_of, name_at, outputs_in, output_name, AreDistinct}
 use Rattle.lustat_rules.specs.Scope.{node_called}
 use Rattle.lusource.specs.StreamOperators.{constant_stream, unary_stream, binary_stream, choice_stream, pre_stream, arrow_stream, when_stream, current_stream, merge_stream}
-use Rattle.lusource.specs.Source.{Named, Site, Path, SourceStreams, HoldsAt, condition, pattern_value, ticks, calls, calls_in, value, values, output, sites, sites_in}
-use Rattle.lucore_list.specs.Layout.{Root, Walking, root_flows, made, root_place, place, behind, leaf, after, list_of, inputs_in, instance, moved, clock_place, flow_of, variable_place, walk, walk_all}
+use Rattle.lusource.specs.Source.{Named, Site, Path, SourceStreams, HoldsAt, condition, first_pattern, next_patterns, pattern_value, ticks, calls, calls_in, value, values, branches, output, sites, sites_in, branch_sites}
+use Rattle.lucore_list.specs.Layout.{Root, Walking, root_flows, made, root_place, place, behind, leaf, after, list_of, inputs_in, instance, moved, clock_place, flow_of, variable_place, walk, walk_all, walk_branches}
 use Rattle.lucore_list.specs.Layout.Root.{own, at}
 use Rattle.lucore_list.proofs.Each.{Each, each_left, each_right, each_join, each_shift, mapped}
 use Rattle.lucore_list.proofs.Open.{Model, clock_ticks, flow_stream, FlowHolds, Hold, Solves, root_stream, moved_model, solved_instance}
-use Rattle.lucore_list.proofs.Spots.{Spot, spots_after, no_spots, spot_at, spots, spots_all, length-spots, length-sites, length-sites_in, place_named}
+use Rattle.lucore_list.proofs.Spots.{Spot, spots_after, no_spots, spot_at, spots, spots_all, spots_branches, length-spots, length-sites, length-sites_in, place_named}
 use Rattle.lucore_list.proofs.Instances.{HasInstances}
 use Rattle.lucore_list.proofs.Well.{Known, IsWell, AllWell, CallIs}
 use Rattle.lucore_list.proofs.ToSource.{output_value, output_place, output_there}
@@ -190,6 +190,8 @@ module _ (p : ProgramTree) (lists : List (List Flow)) (node : NodeTree) (Below :
           makes_leaf base Placed A (flow_of p lists node (tree.number n) k (Constant (Int (pos n)))) i w (λ j. val (tree.number n) k i) (λ m a j. ap (constant_stream (Int (pos n))) (ticks_agree m k known (ag m a)))
       makes A ag (tree.truth b) k i w known well sol =
           makes_leaf base Placed A (flow_of p lists node (tree.truth b) k (Constant (Truth b))) i w (λ j. val (tree.truth b) k i) (λ m a j. ap (constant_stream (Truth b)) (ticks_agree m k known (ag m a)))
+      makes A ag (tree.label x) k i w known well sol =
+          makes_leaf base Placed A (flow_of p lists node (tree.label x) k (Constant (Name x.number))) i w (λ j. val (tree.label x) k i) (λ m a j. ap (constant_stream (Name x.number)) (ticks_agree m k known (ag m a)))
       makes A ag (tree.variable x) k i w known well sol = λ s.
           makes_none base A _ s (λ m a. (λ j lt. let e = well.0 in let z : variable_place p lists node x + j ≡ variable_place p lists node x = omega arith in ap m.on z ∙ ag m a x well.1, tt))
       makes A ag (tree.unary (Data1 op) a) k i w known well sol =
@@ -249,16 +251,12 @@ module _ (p : ProgramTree) (lists : List (List Flow)) (node : NodeTree) (Below :
       makes A ag (tree.current x) k i w known well sol =
           makes_leaf base Placed A (flow_of p lists node (tree.current x) k (Current (variable_place p lists node x))) i w (λ j. val (tree.current x) k i)
           (λ m a j. ap (λ c. current_stream c (m.on (variable_place p lists node x))) (ticks_agree m k known (ag m a)) ∙ ap (current_stream (K k)) (ag m a x well))
-      makes A ag (tree.merge c a b) k i w known well sol =
-          let ka = condition c (patterns.Truth true) in
-          let kb = condition c (patterns.Truth false) in
-          let sa = each_left _ i (sites p node base var below a ka i) (sites p node base var below b kb (i + calls a)) sol in
-          let sb = solved_then i (sites p node base var below a ka i) (sites p node base var below b kb (i + calls a)) (calls a) (length-sites p node base var below a ka i) sol in
+      makes A ag (tree.merge c ps all) k i w known well sol =
           let cp = variable_place p lists node c in
-          makes_two base Placed A (walk p lists node a ka) (walk p lists node b kb) (λ x y. flow_of p lists node (tree.merge c a b) k (Merge cp (x ∷ y ∷ []))) (spots p lists node a ka) (spots p lists node b kb) i (calls a) (calls b) w (output p node base var below a ka i) (output p node base var below b kb (i + calls a)) (λ j. val (tree.merge c a b) k i)
-          (length-spots p lists node a ka) (length-spots p lists node b kb)
-          (makes A ag a ka i 1 well.0 well.1 sa) (makes A ag b kb (i + calls a) 1 well.0 well.2 sb)
-          (λ x y m q e e' j. ap (λ t. merge_stream t (m.on cp) (m.on x ∷ m.on y ∷ [])) (ticks_agree m k known (ag m q)) ∙ ap (λ u. merge_stream (K k) u (m.on x ∷ m.on y ∷ [])) (ag m q c well.0) ∙ ap (λ u. merge_stream (K k) (var c) (u ∷ m.on y ∷ [])) (is_value a ka i x m e) ∙ ap (λ u. merge_stream (K k) (var c) (val a ka i ∷ u ∷ [])) (is_value b kb (i + calls a) y m e'))
+          let root = λ (xs : List ℕ). flow_of p lists node (tree.merge c ps all) k (Merge cp xs) in
+          makes_branches A ag c ps all i w (λ xs. leaf (root xs)) no_spots (λ j. val (tree.merge c ps all) k i) well.0 well.1 sol
+          (λ xs. makes_leaf base Placed (λ m. A m × (map m.on xs ≡ branches p node base var below c ps all i)) (root xs) (i + calls_in all) w (λ j. val (tree.merge c ps all) k i)
+          (λ m q j. ap (λ t. merge_stream t (m.on cp) (map m.on xs)) (ticks_agree m k known (ag m q.0)) ∙ ap (λ u. merge_stream (K k) u (map m.on xs)) (ag m q.0 c well.0) ∙ ap (merge_stream (K k) (var c)) q.1))
       makes A ag (tree.call f all) k i w known well sol =
           let SA = sites_in p node base var below all k i in
           let site : Site = record { node = f; base = K k; arguments = values p node base var below all k i } in
@@ -287,3 +285,27 @@ module _ (p : ProgramTree) (lists : List (List Flow)) (node : NodeTree) (Below :
           (λ xs l. roots_under base Placed (All (x ∷ xs)) (λ m. (A m × (m.on x ≡ va 0)) × (map m.on xs ≡ values p node base var below all k (i + calls a))) (rest (x ∷ xs)) spr (i + calls a + calls_in all) w result
           (λ m q. (q.0.0, ap (λ y. y ∷ map m.on xs) (is_value a k i x m q.0.1) ∙ ap (λ ys. val a k i ∷ ys) q.1))
           (subst (λ n. RootMakes base Placed (All (x ∷ xs)) (rest (x ∷ xs)) spr n w result) z (h (x ∷ xs) (ap suc l)))))
+
+      -- the branches of a merge, and the rest
+      pub makes_branches : (A : Model → Type 0) → ((m : Model) → A m → Agree m) → (c : List ℕ) (ps : List Pattern) (all : Trees) (i w : ℕ) (rest : List ℕ → Walking) (spr : ℕ → List Spot) (result : ℕ → Stream) → Known p node Below c → AllWell p node Below all → Solved i (branch_sites p node base var below c ps all i)
+          → ((xs : List ℕ) → RootMakes base Placed (λ m. A m × (map m.on xs ≡ branches p node base var below c ps all i)) (rest xs) spr (i + calls_in all) w result)
+          → RootMakes base Placed A (walk_branches p lists node c ps all rest) (spots_branches p lists node c ps all spr) i w result
+      makes_branches A ag c ps tree.none i w rest spr result known well sol h =
+          let z : i + 0 ≡ i = omega arith in
+          let none : Model → Type 0 = λ m. A m × (map m.on [] ≡ branches p node base var below c ps tree.none i) in
+          roots_under base Placed none A (rest []) spr i w result (λ m a. (a, refl)) (subst (λ n. RootMakes base Placed none (rest []) spr n w result) z (h []))
+      makes_branches A ag c ps (tree.more a all) i w rest spr result known well sol h =
+          let k = condition c (first_pattern ps) in
+          let qs = next_patterns ps in
+          let SA = sites p node base var below a k i in
+          let SR = branch_sites p node base var below c qs all (i + calls a) in
+          let sa = each_left _ i SA SR sol in
+          let sr = solved_then i SA SR (calls a) (length-sites p node base var below a k i) sol in
+          let va = output p node base var below a k i in
+          let z : i + calls_in (tree.more a all) ≡ i + calls a + calls_in all = omega arith in
+          let All = λ (xs : List ℕ) (m : Model). A m × (map m.on xs ≡ branches p node base var below c ps (tree.more a all) i) in
+          makes_after base Placed A (walk p lists node a k) (λ x. walk_branches p lists node c qs all (λ xs. rest (x ∷ xs))) (spots p lists node a k) (spots_branches p lists node c qs all spr) i (calls a) w va result (length-spots p lists node a k) (makes A ag a k i 1 known well.0 sa)
+          (λ x. makes_branches (λ m. A m × (m.on x ≡ va 0)) (λ m q. ag m q.0) c qs all (i + calls a) w (λ xs. rest (x ∷ xs)) spr result known well.1 sr
+          (λ xs. roots_under base Placed (All (x ∷ xs)) (λ m. (A m × (m.on x ≡ va 0)) × (map m.on xs ≡ branches p node base var below c qs all (i + calls a))) (rest (x ∷ xs)) spr (i + calls a + calls_in all) w result
+          (λ m q. (q.0.0, ap (λ y. y ∷ map m.on xs) (is_value a k i x m q.0.1) ∙ ap (λ ys. val a k i ∷ ys) q.1))
+          (subst (λ n. RootMakes base Placed (All (x ∷ xs)) (rest (x ∷ xs)) spr n w result) z (h (x ∷ xs)))))

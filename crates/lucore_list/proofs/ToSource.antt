@@ -1,28 +1,28 @@
 -- A solution of a node's open list is a solution of the node.
 use Rattle.std.proofs.Common.{◌≡◌, ℕ, zero, suc, ◌+◌, ◌<◌, List, [], ◌∷◌, ◌++◌, length, map, Option, Some, None, refl, sym, ap, ◌∙◌, subst, arith, append_assoc}
-use Rattle.std.specs.Prelude.{slice_get, slice_index, true, false, pos, option_map}
+use Rattle.std.specs.Prelude.{slice_get, slice_index, pos, option_map}
 use Rattle.std.proofs.lemmas.List.{append-nil, length-map}
 use Rattle.std.proofs.lemmas.Option.{same_Some}
-use Rattle.lutree.specs.declared.expr.Pattern.TheVariants as patterns
+use Rattle.lutree.specs.declared.expr.Pattern.{Pattern}
 use Rattle.lutree.specs.declared.expr.Condition.{Condition}
 use Rattle.lutree.specs.declared.expr.Prefix.TheVariants.{Data as Data1, Pre as Before}
 use Rattle.lutree.specs.declared.expr.Infix.TheVariants.{Data as Data2, Arrow as Starts, FollowedBy}
 use Rattle.lutree.specs.Tree.{Tree, Trees, list_of as trees_in, DeclarationTree, EquationTree, NodeTree, ProgramTree}
 use Rattle.lutree.specs.Tree as tree
-use Rattle.luflow.specs.declared.data.Datum.TheVariants.{Int, Bool as Truth}
+use Rattle.luflow.specs.declared.data.Datum.TheVariants.{Int, Bool as Truth, Name}
 use Rattle.luflow.specs.declared.form.Flow.{Flow}
 use Rattle.luflow.specs.declared.form.Form.TheVariants.{Constant, Unary, Binary, If, Pre, Arrow, When, Current, Merge}
 use Rattle.luflow.specs.Streams.{Stream, Ticks}
 use Rattle.lusource.specs.Names.{variables_of, place_of, clock_of, name_at, output_name, outputs_in, AreDistinct}
 use Rattle.lustat_rules.specs.Scope.{names_of, declarations_of, node_called}
 use Rattle.lusource.specs.StreamOperators.{constant_stream, unary_stream, binary_stream, choice_stream, pre_stream, arrow_stream, when_stream, current_stream, merge_stream}
-use Rattle.lusource.specs.Source.{Named, Site, condition, ticks, calls, calls_in, value, values, output, sites, sites_in}
-use Rattle.lucore_list.specs.Layout.{Root, Walking, root_flows, made, root_place, place, behind, leaf, after, list_of, inputs_in, instance, clock_place, flow_of, variable_place, walk, walk_all}
+use Rattle.lusource.specs.Source.{Named, Site, condition, first_pattern, next_patterns, ticks, calls, calls_in, value, values, branches, output, sites, sites_in, branch_sites}
+use Rattle.lucore_list.specs.Layout.{Root, Walking, root_flows, made, root_place, place, behind, leaf, after, list_of, inputs_in, instance, clock_place, flow_of, variable_place, walk, walk_all, walk_branches}
 use Rattle.lucore_list.specs.Layout.Root.{own, at}
 use Rattle.lucore_list.proofs.Each.{Each, each_left, each_right, each_join, mapped_at}
 use Rattle.lucore_list.proofs.Names.{get-front, get-behind, get-names, place_at}
 use Rattle.lucore_list.proofs.Open.{Model, clock_ticks, flow_stream, FlowHolds, Hold, Solves, root_stream, instance_solves}
-use Rattle.lucore_list.proofs.Spots.{Spot, spots_after, no_spots, spot_at, spots, spots_all, length-spots, length-sites, place_named, of_spot}
+use Rattle.lucore_list.proofs.Spots.{Spot, spots_after, no_spots, spot_at, spots, spots_all, spots_branches, length-spots, length-sites, place_named, of_spot}
 use Rattle.lucore_list.proofs.Well.{IsWell, AllWell, CallIs}
 
 -- the stream of a clock of a node
@@ -34,13 +34,14 @@ ticks_are node base m (Some c) = refl
 pub output_value : (p : ProgramTree) (node : NodeTree) (base : Ticks) (var : Named) (inner : ℕ → Named) (e : Tree) (k : Option Condition) (i : ℕ) → output p node base var inner e k i 0 ≡ value p node base var inner e k i
 output_value p node base var inner (tree.number n) k i = refl
 output_value p node base var inner (tree.truth b) k i = refl
+output_value p node base var inner (tree.label x) k i = refl
 output_value p node base var inner (tree.variable x) k i = refl
 output_value p node base var inner (tree.unary op a) k i = refl
 output_value p node base var inner (tree.binary op a b) k i = refl
 output_value p node base var inner (tree.choice c a b) k i = refl
 output_value p node base var inner (tree.when a c) k i = refl
 output_value p node base var inner (tree.current x) k i = refl
-output_value p node base var inner (tree.merge c a b) k i = refl
+output_value p node base var inner (tree.merge c ps all) k i = refl
 output_value p node base var inner (tree.call f all) k i = refl
 
 pub name_there : (xs : List (List ℕ)) (j : ℕ) → j < length xs → slice_get xs j ≡ Some (name_at xs j)
@@ -169,6 +170,8 @@ module _ (p : ProgramTree) (lists : List (List Flow)) (node : NodeTree) (Below :
         means_leaf (flow_of p lists node (tree.number n) k (Constant (Int (pos n)))) i w (λ j. val (tree.number n) k i) (λ j lt. ap (constant_stream (Int (pos n))) (ticks_are node base m k))
     means (tree.truth b) k i w well =
         means_leaf (flow_of p lists node (tree.truth b) k (Constant (Truth b))) i w (λ j. val (tree.truth b) k i) (λ j lt. ap (constant_stream (Truth b)) (ticks_are node base m k))
+    means (tree.label x) k i w well =
+        means_leaf (flow_of p lists node (tree.label x) k (Constant (Name x.number))) i w (λ j. val (tree.label x) k i) (λ j lt. ap (constant_stream (Name x.number)) (ticks_are node base m k))
     means (tree.variable x) k i w well = λ s stand hold.
         (λ j lt. let e = well.0 in let z : variable_place p lists node x + j ≡ variable_place p lists node x = omega arith in ap m.on z, tt)
     means (tree.unary (Data1 op) a) k i w well =
@@ -218,13 +221,12 @@ module _ (p : ProgramTree) (lists : List (List Flow)) (node : NodeTree) (Below :
         (λ x e j. ap (when_stream (K (Some c))) (is_value a kc i x e))
     means (tree.current x) k i w well =
         means_leaf (flow_of p lists node (tree.current x) k (Current (variable_place p lists node x))) i w (λ j. val (tree.current x) k i) (λ j lt. ap (λ c. current_stream c (var x)) (ticks_are node base m k))
-    means (tree.merge c a b) k i w well =
-        let ka = condition c (patterns.Truth true) in
-        let kb = condition c (patterns.Truth false) in
-        means_two (walk p lists node a ka) (walk p lists node b kb) (λ x y. flow_of p lists node (tree.merge c a b) k (Merge (variable_place p lists node c) (x ∷ y ∷ []))) (spots p lists node a ka) (spots p lists node b kb) i (calls a) (calls b) w
-        (output p node base var within a ka i) (output p node base var within b kb (i + calls a)) (λ j. val (tree.merge c a b) k i) (sites p node base var within a ka i) (sites p node base var within b kb (i + calls a))
-        (length-spots p lists node a ka) (length-sites p node base var within a ka i) (length-spots p lists node b kb) (length-sites p node base var within b kb (i + calls a)) (means a ka i 1 well.1) (means b kb (i + calls a) 1 well.2)
-        (λ x y e e' j. ap (λ t. merge_stream t (var c) (m.on x ∷ m.on y ∷ [])) (ticks_are node base m k) ∙ ap (λ u. merge_stream (K k) (var c) (u ∷ m.on y ∷ [])) (is_value a ka i x e) ∙ ap (λ u. merge_stream (K k) (var c) (val a ka i ∷ u ∷ [])) (is_value b kb (i + calls a) y e'))
+    means (tree.merge c ps all) k i w well =
+        let root = λ (xs : List ℕ). flow_of p lists node (tree.merge c ps all) k (Merge (variable_place p lists node c) xs) in
+        let C = branch_sites p node base var within c ps all i in
+        means_branches c ps all i w (λ xs. leaf (root xs)) no_spots (λ j. val (tree.merge c ps all) k i) [] C well.1 (sym (append-nil C))
+        (λ xs e. means_leaf (root xs) (i + calls_in all) w (λ j. val (tree.merge c ps all) k i)
+        (λ j lt. ap (λ t. merge_stream t (var c) (map m.on xs)) (ticks_are node base m k) ∙ ap (merge_stream (K k) (var c)) e))
     means (tree.call f all) k i w well =
         means_all all k i w (λ xs. instance p lists f (clock_place node k) xs) (spot_at f) (output p node base var within (tree.call f all) k i) (record { node = f; base = K k; arguments = values p node base var within all k i } ∷ []) (sites p node base var within (tree.call f all) k i) well.1 refl
         (λ xs l e. means_instance f k xs (i + calls_in all) w (values p node base var within all k i) (subst (λ n. CallIs p node Below f n w) (sym l) well.0) e)
@@ -245,3 +247,22 @@ module _ (p : ProgramTree) (lists : List (List Flow)) (node : NodeTree) (Below :
         (λ xs l e'.
         let z : i + calls_in (tree.more a all) ≡ i + calls a + calls_in all = omega arith in
         subst (λ n. Means (rest (x ∷ xs)) spr n w result B) z (h (x ∷ xs) (ap suc l) (ap (λ y. y ∷ map m.on xs) (is_value a k i x e) ∙ ap (λ ys. val a k i ∷ ys) e'))))
+
+    -- the branches of a merge, and the rest
+    pub means_branches : (c : List ℕ) (ps : List Pattern) (all : Trees) (i w : ℕ) (rest : List ℕ → Walking) (spr : ℕ → List Spot) (result : ℕ → Stream) (B C : List Site) → AllWell p node Below all → C ≡ branch_sites p node base var within c ps all i ++ B
+        → ((xs : List ℕ) → map m.on xs ≡ branches p node base var within c ps all i → Means (rest xs) spr (i + calls_in all) w result B)
+        → Means (walk_branches p lists node c ps all rest) (spots_branches p lists node c ps all spr) i w result C
+    means_branches c ps tree.none i w rest spr result B C well joined h =
+        let z : i + 0 ≡ i = omega arith in
+        subst (λ c. Means (rest []) spr i w result c) (sym joined) (subst (λ n. Means (rest []) spr n w result B) z (h [] refl))
+    means_branches c ps (tree.more a all) i w rest spr result B C well joined h =
+        let k = condition c (first_pattern ps) in
+        let qs = next_patterns ps in
+        let A = sites p node base var within a k i in
+        let R = branch_sites p node base var within c qs all (i + calls a) in
+        means_after (walk p lists node a k) (λ x. walk_branches p lists node c qs all (λ xs. rest (x ∷ xs))) (spots p lists node a k) (spots_branches p lists node c qs all spr) i (calls a) w (output p node base var within a k i) result A (R ++ B) C
+        (length-spots p lists node a k) (length-sites p node base var within a k i) (joined ∙ append_assoc A R B) (means a k i 1 well.0)
+        (λ x e. means_branches c qs all (i + calls a) w (λ xs. rest (x ∷ xs)) spr result B (R ++ B) well.1 refl
+        (λ xs e'.
+        let z : i + calls_in (tree.more a all) ≡ i + calls a + calls_in all = omega arith in
+        subst (λ n. Means (rest (x ∷ xs)) spr n w result B) z (h (x ∷ xs) (ap (λ y. y ∷ map m.on xs) (is_value a k i x e) ∙ ap (λ ys. val a k i ∷ ys) e'))))

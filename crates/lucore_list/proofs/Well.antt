@@ -30,13 +30,14 @@ module _ (p : ProgramTree) (lists_node : NodeTree) (Below : List ℕ → Type 0)
     pub IsWell : Tree → ℕ → Type 0
     IsWell (tree.number n) w = Unit {0}
     IsWell (tree.truth b) w = Unit {0}
+    IsWell (tree.label x) w = Unit {0}
     IsWell (tree.variable x) w = (w ≡ 1) × Known x
     IsWell (tree.unary op a) w = IsWell a 1
     IsWell (tree.binary op a b) w = IsWell a 1 × IsWell b 1
     IsWell (tree.choice c a b) w = IsWell c 1 × IsWell a 1 × IsWell b 1
     IsWell (tree.when a c) w = Known c.variable × IsWell a 1
     IsWell (tree.current x) w = Known x
-    IsWell (tree.merge c a b) w = Known c × IsWell a 1 × IsWell b 1
+    IsWell (tree.merge c ps all) w = Known c × AllWell all
     IsWell (tree.call f all) w = CallIs f (length (list_of all)) w × AllWell all
 
     pub AllWell : Trees → Type 0
@@ -50,6 +51,7 @@ module _ (p : ProgramTree) (lists_node : NodeTree) (Below : List ℕ → Type 0)
     pub well : (e : Tree) → All Known (names_in e) → All CallFact (calls_in e) → IsWell e 1
     well (tree.number n) hn hc = tt
     well (tree.truth b) hn hc = tt
+    well (tree.label x) hn hc = tt
     well (tree.variable x) hn hc = (refl, all_head Known x [] hn)
     well (tree.unary op a) hn hc = well a hn hc
     well (tree.binary op a b) hn hc =
@@ -64,12 +66,8 @@ module _ (p : ProgramTree) (lists_node : NodeTree) (Below : List ℕ → Type 0)
     well (tree.when a c) hn hc =
         (all_head Known c.variable [] (all_right Known (names_in a) (c.variable ∷ []) hn), well a (all_left Known (names_in a) (c.variable ∷ []) hn) hc)
     well (tree.current x) hn hc = all_head Known x [] hn
-    well (tree.merge c a b) hn hc =
-        let hn' = all_tail Known c (names_in a ++ names_in b) hn in (
-          all_head Known c (names_in a ++ names_in b) hn,
-          well a (all_left Known (names_in a) (names_in b) hn') (all_left CallFact (calls_in a) (calls_in b) hc),
-          well b (all_right Known (names_in a) (names_in b) hn') (all_right CallFact (calls_in a) (calls_in b) hc),
-        )
+    well (tree.merge c ps all) hn hc =
+        (all_head Known c (names_in_all all) hn, all_well all (all_tail Known c (names_in_all all) hn) hc)
     well (tree.call f all) hn hc =
         let c : Call = record { node = f; arguments = length (list_of all) } in
         (all_head CallFact c [] (all_right CallFact (calls_in_all all) (c ∷ []) hc), all_well all hn (all_left CallFact (calls_in_all all) (c ∷ []) hc))
@@ -107,13 +105,14 @@ module _ (p : ProgramTree) (lists_node : NodeTree) (Below : List ℕ → Type 0)
   pub right_well : (e : Tree) (w : ℕ) → All Known (names_in e) → All Ruled (calls_in e) → All (λ c. IfSome (rules.node_called p c.node) (λ n. length n.outputs ≡ 1)) (inner_calls e) → IfSome (value_count p e) (λ count. w ≡ count) → IsWell e w
   right_well (tree.number n) w hn hr hi hv = tt
   right_well (tree.truth b) w hn hr hi hv = tt
+  right_well (tree.label x) w hn hr hi hv = tt
   right_well (tree.variable x) w hn hr hi hv = (hv, all_head Known x [] hn)
   right_well (tree.unary op a) w hn hr hi hv = well (tree.unary op a) hn (both (calls_in a) hr hi)
   right_well (tree.binary op a b) w hn hr hi hv = well (tree.binary op a b) hn (both (calls_in (tree.binary op a b)) hr hi)
   right_well (tree.choice c a b) w hn hr hi hv = well (tree.choice c a b) hn (both (calls_in (tree.choice c a b)) hr hi)
   right_well (tree.when a c) w hn hr hi hv = well (tree.when a c) hn (both (calls_in a) hr hi)
   right_well (tree.current x) w hn hr hi hv = all_head Known x [] hn
-  right_well (tree.merge c a b) w hn hr hi hv = well (tree.merge c a b) hn (both (calls_in (tree.merge c a b)) hr hi)
+  right_well (tree.merge c ps all) w hn hr hi hv = well (tree.merge c ps all) hn (both (calls_in_all all) hr hi)
   right_well (tree.call f all) w hn hr hi hv =
       let c : Call = record { node = f; arguments = length (list_of all) } in
       let r = all_head Ruled c [] (all_right Ruled (calls_in_all all) (c ∷ []) hr) in

@@ -38,6 +38,7 @@ pub record SameList (a b : FlatProgram) : Type 0 where
   pub flows : a.flows ≡ b.flows
   pub owners : a.owners ≡ b.owners
   pub variables : a.variables ≡ b.variables
+  pub types : a.types ≡ b.types
 
 -- A program none of whose nodes reaches itself by calls has at most one flat list.
 abbrev pub OneListLaw : Type 0

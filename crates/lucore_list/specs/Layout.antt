@@ -3,28 +3,29 @@
 -- Each node has one open list: its base clock is open, and so are its inputs. First come its variables, then for each of its
 -- equations, in order of text, the inner flows of the right side. A call puts the whole list of the called node there: moved,
 -- on the clock of the call in place of its base clock, and its inputs made copies of the arguments.
-use Rattle.std.specs.Prelude.{◌≡◌, ℕ, suc, ◌+◌, true, false, if◌then◌else◌, List, [], ◌∷◌, ◌++◌, length, map, replicate, Option, Some, None, unwrap_or, pos, slice_get, slice_index}
+use Rattle.std.specs.Prelude.{◌≡◌, ℕ, suc, ◌+◌, if◌then◌else◌, List, [], ◌∷◌, ◌++◌, length, map, replicate, Option, Some, None, unwrap_or, pos, slice_get, slice_index}
 use Rattle.std.specs.List.{list_any}
 use Rattle.std.specs.Str.{bytes_eq}
 use Rattle.lutree.specs.declared.expr.Prefix.TheVariants.{Data as Data1, Pre as Before}
 use Rattle.lutree.specs.declared.expr.Infix.TheVariants.{Data as Data2, Arrow as Starts, FollowedBy}
-use Rattle.lutree.specs.declared.expr.Pattern.TheVariants as patterns
+use Rattle.lutree.specs.declared.expr.Pattern.{Pattern}
 use Rattle.lutree.specs.declared.expr.Condition.{Condition}
 use Rattle.lutree.specs.declared.program.Kind.TheVariants.{Int as Ints}
-use Rattle.lutree.specs.Tree.{Tree, Trees, DeclarationTree, EquationTree, NodeTree, ProgramTree}
+use Rattle.lutree.specs.Tree.{Tree, Trees, TypeTree, DeclarationTree, EquationTree, NodeTree, ProgramTree}
 use Rattle.lutree.specs.Tree as tree
-use Rattle.luflow.specs.declared.data.Datum.TheVariants.{Int, Bool as Truth, Nil}
+use Rattle.luflow.specs.declared.data.Datum.TheVariants.{Int, Bool as Truth, Name, Nil}
 use Rattle.luflow.specs.declared.form.Clock.{Clock}
 use Rattle.luflow.specs.declared.form.Clock.TheVariants.{Base, On}
 use Rattle.luflow.specs.declared.form.Form.{Form}
 use Rattle.luflow.specs.declared.form.Form.TheVariants.{Input, Constant, Copied, Unary, Binary, If, Pre, Arrow, When, Current, Merge}
 use Rattle.luflow.specs.declared.form.Flow.{Flow}
 use Rattle.luflow.specs.declared.variable.Variable.{Variable}
+use Rattle.luflow.specs.declared.variable.Enum.{Enum}
 use Rattle.luflow.specs.declared.variable.Role.{Role}
 use Rattle.luflow.specs.declared.variable.Role.TheVariants as role
 use Rattle.luflow.specs.Program.{FlatProgram}
 use Rattle.lusource.specs.Names.{variables_of, place_of, name_at, clock_of}
-use Rattle.lusource.specs.Source.{condition, pattern_value}
+use Rattle.lusource.specs.Source.{condition, first_pattern, next_patterns, pattern_value}
 use Rattle.lustat_rules.specs.Scope.{kind_of, names_of, node_called}
 use Rattle.lustat_rules.specs.Naming.{node_place}
 use Rattle.lustat_rules.specs.Typing.{type_of}
@@ -153,6 +154,7 @@ module _ (p : ProgramTree) (lists : List (List Flow)) (node : NodeTree) where
     pub walk : Tree → Option Condition → Walking
     walk (tree.number n) k = leaf (flow_of (tree.number n) k (Constant (Int (pos n))))
     walk (tree.truth b) k = leaf (flow_of (tree.truth b) k (Constant (Truth b)))
+    walk (tree.label x) k = leaf (flow_of (tree.label x) k (Constant (Name x.number)))
     walk (tree.variable x) k = λ s. record { inner = []; root = at (variable_place x) }
     walk (tree.unary (Data1 op) a) k = after (walk a k) (λ x. leaf (flow_of (tree.unary (Data1 op) a) k (Unary op x)))
     walk (tree.unary Before a) k = after (walk a k) (λ x. leaf (flow_of (tree.unary Before a) k (Pre x)))
@@ -167,15 +169,21 @@ module _ (p : ProgramTree) (lists : List (List Flow)) (node : NodeTree) where
         after (walk c k) (λ x. after (walk a k) (λ y. after (walk b k) (λ z. leaf (flow_of (tree.choice c a b) k (If x y z)))))
     walk (tree.when a c) k = after (walk a (clock_of node c.variable)) (λ x. leaf (flow_of (tree.when a c) (Some c) (When x)))
     walk (tree.current x) k = leaf (flow_of (tree.current x) k (Current (variable_place x)))
-    walk (tree.merge c a b) k =
-        after (walk a (condition c (patterns.Truth true))) (λ x. after (walk b (condition c (patterns.Truth false))) (λ y.
-        leaf (flow_of (tree.merge c a b) k (Merge (variable_place c) (x ∷ y ∷ [])))))
+    walk (tree.merge c ps all) k =
+        walk_branches c ps all (λ branches. leaf (flow_of (tree.merge c ps all) k (Merge (variable_place c) branches)))
     walk (tree.call f all) k = walk_all all k (λ arguments. instance p lists f (clock_place node k) arguments)
 
     -- the arguments of a call, and behind them the rest, which is told their places
     pub walk_all : Trees → Option Condition → (List ℕ → Walking) → Walking
     walk_all tree.none k rest = rest []
     walk_all (tree.more a all) k rest = after (walk a k) (λ x. walk_all all k (λ xs. rest (x ∷ xs)))
+
+    -- the branches of a merge, each on the clock of its variable with the branch's pattern, and behind them the rest, which is
+    -- told their places
+    pub walk_branches : List ℕ → List Pattern → Trees → (List ℕ → Walking) → Walking
+    walk_branches c ps tree.none rest = rest []
+    walk_branches c ps (tree.more a all) rest =
+        after (walk a (condition c (first_pattern ps))) (λ x. walk_branches c (next_patterns ps) all (λ xs. rest (x ∷ xs)))
 
   -- EQUATIONS
 
@@ -250,6 +258,13 @@ variables_as role = map (λ d. record { name = d.name; role = role; kind = d.kin
 abbrev pub main_variables : NodeTree → List Variable
 main_variables node = variables_as role.Input node.inputs ++ (variables_as role.Output node.outputs ++ variables_as role.Local node.locals)
 
+-- the types of a program, as a flat program has them
+abbrev pub enum_of : TypeTree → Enum
+enum_of t = record { name = t.name; names = t.names }
+
+abbrev pub types_of : ProgramTree → List Enum
+types_of p = map enum_of p.types
+
 -- the flat list of a program is that of its main node, whose inputs are the columns of the table
 pub record IsLaidOut (p : ProgramTree) (main : List ℕ) (flat : FlatProgram) : Type 0 where
   pub lists : List (List Flow)
@@ -259,3 +274,4 @@ pub record IsLaidOut (p : ProgramTree) (main : List ℕ) (flat : FlatProgram) : 
   pub flows : flat.flows ≡ node_flows p lists node
   pub owners : flat.owners ≡ node_owners p lists node
   pub variables : flat.variables ≡ main_variables node
+  pub types : flat.types ≡ types_of p

@@ -25,6 +25,7 @@ loop =
 abbrev pub loop_flat : FlatProgram
 loop_flat =
     record {
+      types = [];
       flows = flat.int_flow (Copied 1) ∷ flat.int_flow (Copied 0) ∷ [];
       order = [];
       owners = 0 ∷ 1 ∷ [];

@@ -31,6 +31,7 @@ module _ (p : ProgramTree) (sizes : List ℕ) where
     pub made_size : Tree → ℕ
     made_size (tree.number n) = 1
     made_size (tree.truth b) = 1
+    made_size (tree.label x) = 1
     made_size (tree.variable x) = 0
     made_size (tree.unary op a) = made_size a + 1
     made_size (tree.binary (Data op) a b) = made_size a + made_size b + 1
@@ -39,7 +40,7 @@ module _ (p : ProgramTree) (sizes : List ℕ) where
     made_size (tree.choice c a b) = made_size c + made_size a + made_size b + 1
     made_size (tree.when a c) = made_size a + 1
     made_size (tree.current x) = 1
-    made_size (tree.merge c a b) = made_size a + made_size b + 1
+    made_size (tree.merge c ps all) = all_size all + 1
     made_size (tree.call f all) = all_size all + size_of p sizes f
 
     pub all_size : Trees → ℕ

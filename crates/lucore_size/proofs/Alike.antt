@@ -16,19 +16,21 @@ use Rattle.lucore_size.proofs.Capped.{sum_alike}
 abbrev pub inside : ProgramTree → List ℕ → Tree → ℕ
 inside p s (tree.number n) = 0
 inside p s (tree.truth b) = 0
+inside p s (tree.label x) = 0
 inside p s (tree.variable x) = 0
 inside p s (tree.unary op a) = made_size p s a
 inside p s (tree.binary op a b) = made_size p s a + made_size p s b + further op
 inside p s (tree.choice c a b) = made_size p s c + made_size p s a + made_size p s b
 inside p s (tree.when a c) = made_size p s a
 inside p s (tree.current x) = 0
-inside p s (tree.merge c a b) = made_size p s a + made_size p s b
+inside p s (tree.merge c ps all) = all_size p s all
 inside p s (tree.call f all) = all_size p s all + size_of p s f
 
 -- all that it makes are those and its root
 pub made_is : (p : ProgramTree) (s : List ℕ) (e : Tree) → made_size p s e ≡ inside p s e + root_size e
 made_is p s (tree.number n) = refl
 made_is p s (tree.truth b) = refl
+made_is p s (tree.label x) = refl
 made_is p s (tree.variable x) = refl
 made_is p s (tree.unary op a) = refl
 made_is p s (tree.binary (Data op) a b) = omega arith
@@ -37,7 +39,7 @@ made_is p s (tree.binary FollowedBy a b) = omega arith
 made_is p s (tree.choice c a b) = refl
 made_is p s (tree.when a c) = refl
 made_is p s (tree.current x) = refl
-made_is p s (tree.merge c a b) = refl
+made_is p s (tree.merge c ps all) = refl
 made_is p s (tree.call f all) = omega arith
 
 pub inside_is : (p : ProgramTree) (s : List ℕ) (e : Tree) → made_size p s e - root_size e ≡ inside p s e
@@ -56,6 +58,7 @@ module _ (p : ProgramTree) (s t : List ℕ) where
     inside_alike : (e : Tree) → All Alike (calls_in e) → capped (inside p s e) ≡ capped (inside p t e)
     inside_alike (tree.number n) h = refl
     inside_alike (tree.truth b) h = refl
+    inside_alike (tree.label x) h = refl
     inside_alike (tree.variable x) h = refl
     inside_alike (tree.unary op a) h = made_alike a (inside_alike a h)
     inside_alike (tree.binary op a b) h =
@@ -72,10 +75,7 @@ module _ (p : ProgramTree) (s t : List ℕ) where
         (sum_alike (made_size p s c) (made_size p s a) (made_size p t c) (made_size p t a) zero one) two
     inside_alike (tree.when a c) h = made_alike a (inside_alike a h)
     inside_alike (tree.current x) h = refl
-    inside_alike (tree.merge c a b) h =
-        let one = made_alike a (inside_alike a (all_left Alike (calls_in a) (calls_in b) h)) in
-        let two = made_alike b (inside_alike b (all_right Alike (calls_in a) (calls_in b) h)) in
-        sum_alike (made_size p s a) (made_size p s b) (made_size p t a) (made_size p t b) one two
+    inside_alike (tree.merge c ps all) h = all_alike all h
     inside_alike (tree.call f all) h =
         let c : Call = record { node = f; arguments = length (trees_in all) } in
         sum_alike (all_size p s all) (size_of p s f) (all_size p t all) (size_of p t f)

@@ -21,9 +21,6 @@ use Rattle.lucore_size.proofs.Alike.{inside, made_is, inside_is}
 pub viewed-Binary : (op : Infix) (a b : Box Expr Global) → view (variant.Binary op a b) ≡ tree.binary op (view a.value) (view b.value)
 viewed-Binary op a b = ap view (sym (variant.rolls-Binary op a b)) ∙ fold-roll-Expr Tree view_step (Expr-F.Binary op a b)
 
-pub viewed-Merge : (c : List ℕ) (a b : Box Expr Global) → view (variant.Merge c a b) ≡ tree.merge c (view a.value) (view b.value)
-viewed-Merge c a b = ap view (sym (variant.rolls-Merge c a b)) ∙ fold-roll-Expr Tree view_step (Expr-F.Merge c a b)
-
 pub viewed-If : (c a b : Box Expr Global) → view (variant.If c a b) ≡ tree.choice (view c.value) (view a.value) (view b.value)
 viewed-If c a b = ap view (sym (variant.rolls-If c a b)) ∙ fold-roll-Expr Tree view_step (Expr-F.If c a b)
 

@@ -62,18 +62,18 @@ fn inner(catalog: &Catalog, counts: &[usize], e: &Expr) -> usize
         root_size (view e.now)) }
 {
     match e {
-        Expr::Number(_) | Expr::Truth(_) | Expr::Variable(_) | Expr::Current(_) => 0,
+        Expr::Number(_)
+        | Expr::Truth(_)
+        | Expr::Label(_)
+        | Expr::Variable(_)
+        | Expr::Current(_) => 0,
         Expr::Unary(_, a) | Expr::When(a, _) => with_root(inner(catalog, counts, a), a),
         Expr::Binary(op, a, b) => {
             let left = with_root(inner(catalog, counts, a), a);
             let right = with_root(inner(catalog, counts, b), b);
             capped_sum(capped_sum(left, right), further(*op))
         }
-        Expr::Merge(_, a, b) => {
-            let left = with_root(inner(catalog, counts, a), a);
-            let right = with_root(inner(catalog, counts, b), b);
-            capped_sum(left, right)
-        }
+        Expr::Merge(_, _, branches) => all_made(catalog, counts, branches),
         Expr::If(c, a, b) => {
             let condition = with_root(inner(catalog, counts, c), c);
             let left = with_root(inner(catalog, counts, a), a);
@@ -87,7 +87,7 @@ fn inner(catalog: &Catalog, counts: &[usize], e: &Expr) -> usize
     }
 }
 
-// How many flows the arguments of a call make, up to 4,097.
+// How many flows the arguments of a call, or the branches of a merge, make, up to 4,097.
 #[cycle(made)]
 fn all_made(catalog: &Catalog, counts: &[usize], arguments: &[Expr]) -> usize
     ensures { result ≡ capped (all_size (program_view catalog.now) counts.now

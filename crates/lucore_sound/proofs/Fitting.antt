@@ -2,22 +2,26 @@
 use Rattle.std.proofs.Common.{◌≡◌, ◌≢◌, ℕ, ◌+◌, ◌<◌, Bool, true, false, List, [], ◌∷◌, length, map, Some, refl, sym, ap, ◌∙◌, subst}
 use Rattle.std.specs.Prelude.{slice_get, slice_index, Contains}
 use Rattle.std.proofs.lemmas.Option.{slice_get_within}
+use Rattle.lutree.specs.declared.expr.Label.{Label}
 use Rattle.lutree.specs.declared.expr.Pattern.{Pattern}
 use Rattle.lutree.specs.declared.expr.Pattern.TheVariants as patterns
+use Rattle.lutree.specs.declared.expr.Condition.{Condition}
 use Rattle.lutree.specs.declared.program.Kind.{Kind}
-use Rattle.lutree.specs.declared.program.Kind.TheVariants.{Bool as Truths}
-use Rattle.lutree.specs.Tree.{DeclarationTree}
+use Rattle.lutree.specs.declared.program.Kind.TheVariants.{Int as Ints, Bool as Truths, Enum}
+use Rattle.lutree.specs.Tree.{TypeTree, DeclarationTree, NodeTree, ProgramTree}
 use Rattle.luflow.specs.declared.data.Datum.{Datum}
-use Rattle.luflow.specs.declared.data.Datum.TheVariants.{Bool as Truth}
+use Rattle.luflow.specs.declared.data.Datum.TheVariants.{Name}
 use Rattle.luflow.specs.declared.form.Clock.{Clock}
 use Rattle.luflow.specs.declared.form.Clock.TheVariants.{Base, On as Sampled}
 use Rattle.luflow.specs.declared.form.Form.{Form}
 use Rattle.luflow.specs.declared.form.Form.TheVariants.{Input, Constant, Copied, Unary, Binary, If, Pre, Arrow, When, Current, Merge}
 use Rattle.luflow.specs.declared.form.Flow.{Flow}
 use Rattle.luflow.specs.Operators.{single_sort, takes, makes}
-use Rattle.luflow.specs.Sound.{AtMost, IsConstantOf, clock_values}
-use Rattle.luflow.proofs.Patterns.{truth_pattern}
+use Rattle.luflow.specs.Sound.{AtMost, IsOf, IsConstantOf, clock_values}
+use Rattle.luflow.proofs.Patterns.{truth_pattern, name_pattern}
 use Rattle.lusource.specs.Source.{pattern_value}
+use Rattle.lustat_rules.specs.Naming.{IsEnumeration, LabelKnown, PatternKnown}
+use Rattle.lustat_rules.specs.Clocks.{pattern_kind, IsTypedClock}
 use Rattle.lucore_list.specs.Layout.{moved_form, moved_clock, moved}
 
 -- CLASSES
@@ -34,9 +38,25 @@ same_class b c e h = sym e ∙ h
 
 -- CLOCKS
 
--- a pattern of the tree is a truth value
-pub condition_pattern : (pattern : Pattern) → Contains (clock_values Truths) (pattern_value pattern)
-condition_pattern (patterns.Truth b) = truth_pattern b
+-- a name of an enumeration is a value of its type
+pub label_within : (p : ProgramTree) (kind : Kind) (t : TypeTree) (i : ℕ) (x : List ℕ) → IsEnumeration p kind t → slice_get t.names i ≡ Some x → IsOf kind (Name i) × Contains (clock_values kind) (Name i)
+label_within p Ints t i x is e = absurd is
+label_within p Truths t i x is e = absurd is
+label_within p (Enum place size) t i x is e =
+    let lt : i < size = subst (λ n. i < n) is.1 (slice_get_within t.names i x e) in
+    (lt, name_pattern place size i lt)
+
+pub label_is : (p : ProgramTree) (l : Label) → LabelKnown p l → IsOf l.kind (Name l.number) × Contains (clock_values l.kind) (Name l.number)
+label_is p l known = label_within p l.kind known.0 l.number l.name known.1 known.2
+
+-- a pattern is a value of its type
+pub condition_pattern : (p : ProgramTree) (x : Pattern) → PatternKnown p x → Contains (clock_values (pattern_kind x)) (pattern_value x)
+condition_pattern p (patterns.Truth b) known = truth_pattern b
+condition_pattern p (patterns.Label l) known = (label_is p l known).1
+
+-- a clock's variable has the type of its pattern, which is a value of that type
+abbrev pub IsSampled : NodeTree → Condition → Type 0
+IsSampled n c = IsTypedClock n c × Contains (clock_values (pattern_kind c.pattern)) (pattern_value c.pattern)
 
 -- A FLOW AMONG OTHERS
 

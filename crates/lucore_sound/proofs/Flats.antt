@@ -1,8 +1,8 @@
 -- The flat program of an accepted program, with an order of rank, can be evaluated.
 use Rattle.std.proofs.Common.{◌≡◌, ℕ, ◌+◌, ◌<◌, List, ◌++◌, length, Some, refl, sym, ap, ◌∙◌, subst}
-use Rattle.std.specs.Prelude.{slice_get, slice_index, All}
+use Rattle.std.specs.Prelude.{slice_get, slice_index, option_map, All}
 use Rattle.std.proofs.lemmas.List.{length-map}
-use Rattle.lutree.specs.Tree.{NodeTree, ProgramTree}
+use Rattle.lutree.specs.Tree.{DeclarationTree, NodeTree, ProgramTree}
 use Rattle.luflow.specs.declared.form.Clock.TheVariants.{Base}
 use Rattle.luflow.specs.declared.form.Form.TheVariants.{Input}
 use Rattle.luflow.specs.declared.form.Flow.{Flow}
@@ -10,25 +10,30 @@ use Rattle.luflow.specs.declared.variable.Variable.{Variable}
 use Rattle.luflow.specs.declared.variable.Role.TheVariants as role
 use Rattle.luflow.specs.Program.{FlatProgram, places, clock_reads}
 use Rattle.luflow.specs.Variables.{inputs_of}
-use Rattle.luflow.specs.Flats.{IsWithin}
-use Rattle.lustat_rules.specs.Scope.{node_called}
+use Rattle.luflow.specs.Flats.{IsWithin, IsTypeAmong}
+use Rattle.lusource.specs.Names.{variables_of}
+use Rattle.lustat_rules.specs.Scope.{declarations_of, node_called}
+use Rattle.lustat_rules.specs.Scope as rules
 use Rattle.lustat_rules.specs.Naming.{Reaches}
 use Rattle.lustat_rules.specs.Accepted.{IsAccepted}
-use Rattle.lucore_list.specs.Layout.{IsLaidOut, variable_count, variables_as, main_variables, list_of}
+use Rattle.lucore_list.specs.Layout.{IsLaidOut, variable_count, variables_as, main_variables, list_of, node_flows}
 use Rattle.lucore_list.specs.Laws.{DefineSomething}
-use Rattle.lucore_list.proofs.Names.{listed}
+use Rattle.lucore_list.proofs.Names.{listed, get-names, place_at}
 use Rattle.lucore_list.proofs.Roots.{input, get-input}
 use Rattle.lucore_list.proofs.Facts.{Below, NodeFacts, facts, never_round}
 use Rattle.lucore_list.proofs.Static.{AreFit, CopyFits, clock_on}
-use Rattle.lucore_list.proofs.NodeStatic.{lists_fit, output_on}
+use Rattle.lucore_list.proofs.NodeStatic.{lists_fit, output_on, first_is}
 use Rattle.lucore_list.proofs.Whole as whole
 use Rattle.lucore_list.proofs.Closed.{closed}
 use Rattle.lucore_sound.specs.Laws.{InsideLaw, FlatLaw}
 use Rattle.lucore_sound.proofs.Owners.{FlowOwned, node_owned}
 use Rattle.std.proofs.lemmas.Option.{same_Some}
 use Rattle.lucore_sound.proofs.Types.{declared}
-use Rattle.lucore_sound.proofs.Roles.{variable_of, input_at, input_variable, declared_at, inputs_are}
+use Rattle.lucore_sound.proofs.Roles.{variable_of, input_at, input_variable, declared_at, inputs_are, main_declared}
 use Rattle.lucore_sound.proofs.Programs.{sound}
+use Rattle.lucore_sound.proofs.Ruling.{ruling}
+use Rattle.lucore_sound.proofs.Variables.{variable_kind}
+use Rattle.lucore_sound.proofs.FlowTypes.{lists_typed, typed_at}
 
 module _ (p : ProgramTree) (main : List ℕ) (flat : FlatProgram) (accepted : IsAccepted p main) (some : DefineSomething p) (out : IsLaidOut p main flat) where
   abbrev node : NodeTree
@@ -76,6 +81,26 @@ module _ (p : ProgramTree) (main : List ℕ) (flat : FlatProgram) (accepted : Is
       let rest = variables_as role.Output node.outputs ++ variables_as role.Local node.locals in
       (rest, out.variables ∙ ap (λ xs. xs ++ rest) (sym (ap inputs_of out.variables ∙ inputs_are node)))
 
+  -- the list's flows have types of the program
+  types : (i : ℕ) (flow : Flow) → slice_get flat.flows i ≡ Some flow → IsTypeAmong flat.types flow.kind
+  types i flow e =
+      let all = lists_typed p out.lists out.are_lists fs (λ f n e. ruling p main accepted f n e) never main in
+      let there : slice_get (list_of p out.lists main) i ≡ Some flow = ap (λ l. slice_get l i) (listed p out.lists out.are_lists main node out.is_main ∙ sym out.flows) ∙ e in
+      subst (λ ts. IsTypeAmong ts flow.kind) (sym out.types) (typed_at p (list_of p out.lists main) i flow all there)
+
+  -- a main variable's flow has its type
+  kinds : (v : ℕ) (x : Variable) (flow : Flow) → slice_get flat.variables v ≡ Some x → slice_get flat.flows v ≡ Some flow → flow.kind ≡ x.kind
+  kinds v x flow e there =
+      let d = main_declared node v x (ap (λ l. slice_get l v) (sym out.variables) ∙ e) in
+      let facts = fs main node out.is_main in
+      let named : slice_get (variables_of node) v ≡ Some d.0.name = get-names (declarations_of node) v ∙ ap (option_map (λ (d : DeclarationTree). d.name)) d.1 in
+      let at = place_at (variables_of node) d.0.name v facts.apart named in
+      let means : rules.meaning node d.0.name ≡ Some d.0 = first_is (declarations_of node) d.0.name ∙ ap (slice_get (declarations_of node)) at ∙ d.1 in
+      let kind = variable_kind p out.lists node facts (ruling p main accepted main node out.is_main) d.0.name d.0.kind (ap (option_map (λ (d : DeclarationTree). d.kind)) means) in
+      let here : option_map (λ (f : Flow). f.kind) (slice_get (node_flows p out.lists node) v) ≡ Some d.0.kind = ap (λ v. option_map (λ (f : Flow). f.kind) (slice_get (node_flows p out.lists node) v)) (sym at) ∙ kind in
+      let flow_there : option_map (λ (f : Flow). f.kind) (slice_get (node_flows p out.lists node) v) ≡ Some flow.kind = ap (λ l. option_map (λ (f : Flow). f.kind) (slice_get l v)) (sym out.flows) ∙ ap (option_map (λ (f : Flow). f.kind)) there in
+      same_Some flow.kind d.0.kind (sym flow_there ∙ here) ∙ d.2
+
 pub inside : InsideLaw
 inside p main flat accepted some out =
     record { inner = inner p main flat accepted some out; input_there = input_there p main flat accepted some out; input_is = input_is p main flat accepted some out; inputs_first = inputs_first p main flat accepted some out }
@@ -94,6 +119,8 @@ is_flat p main flat accepted some out ordered ranked few =
       main_clocks = is_closed.main_clocks;
       input_there = input_there p main flat accepted some out;
       input_is = input_is p main flat accepted some out;
+      kinds = kinds p main flat accepted some out;
+      types = types p main flat accepted some out;
       variables_first = is_closed.variables_first;
       inputs_first = inputs_first p main flat accepted some out;
     }

@@ -1,5 +1,6 @@
 pub mod Types
 pub mod Fitting
+pub mod Parts
 pub mod Walks
 pub mod Expressions
 pub mod Ruling
@@ -10,3 +11,4 @@ pub mod Programs
 pub mod Near
 pub mod Owners
 pub mod Flats
+pub mod FlowTypes

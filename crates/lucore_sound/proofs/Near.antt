@@ -3,13 +3,13 @@ use Rattle.std.proofs.Common.{◌≡◌, ℕ, suc, ◌+◌, ◌<◌, ◌≤◌, 
 use Rattle.std.specs.Prelude.{slice_index, pos, All}
 use Rattle.std.proofs.lemmas.List.{length-map}
 use Rattle.std.proofs.lemmas.List.Elements.{All-nil, All-map, All-weaker}
-use Rattle.lutree.specs.declared.expr.Pattern.TheVariants as patterns
+use Rattle.lutree.specs.declared.expr.Pattern.{Pattern}
 use Rattle.lutree.specs.declared.expr.Condition.{Condition}
 use Rattle.lutree.specs.declared.expr.Prefix.TheVariants.{Data as Data1, Pre as Before}
 use Rattle.lutree.specs.declared.expr.Infix.TheVariants.{Data as Data2, Arrow as Starts, FollowedBy}
 use Rattle.lutree.specs.Tree.{Tree, Trees, list_of as trees_in, NodeTree, ProgramTree}
 use Rattle.lutree.specs.Tree as tree
-use Rattle.luflow.specs.declared.data.Datum.TheVariants.{Int, Bool as Truth}
+use Rattle.luflow.specs.declared.data.Datum.TheVariants.{Int, Bool as Truth, Name}
 use Rattle.luflow.specs.declared.form.Clock.{Clock}
 use Rattle.luflow.specs.declared.form.Clock.TheVariants.{Base, On as Sampled}
 use Rattle.luflow.specs.declared.form.Form.{Form}
@@ -18,8 +18,8 @@ use Rattle.luflow.specs.declared.form.Flow.{Flow}
 use Rattle.luflow.specs.Program.{places, clock_reads}
 use Rattle.lusource.specs.Names.{clock_of}
 use Rattle.lustat_rules.specs.Scope.{node_called}
-use Rattle.lusource.specs.Source.{condition}
-use Rattle.lucore_list.specs.Layout.{Root, Walking, root_flows, made, root_place, place, behind, leaf, after, moved_form, moved_clock, moved, list_of, inputs_in, instance, clock_place, flow_of, variable_place, variable_count, walk, walk_all}
+use Rattle.lusource.specs.Source.{condition, first_pattern, next_patterns}
+use Rattle.lucore_list.specs.Layout.{Root, Walking, root_flows, made, root_place, place, behind, leaf, after, moved_form, moved_clock, moved, list_of, inputs_in, instance, clock_place, flow_of, variable_place, variable_count, walk, walk_all, walk_branches}
 use Rattle.lucore_list.specs.Layout.Root.{own, at}
 use Rattle.lucore_list.proofs.Each.{Each, each_join, each_all, each_map}
 use Rattle.lucore_list.proofs.Names.{all_head, all_tail}
@@ -159,6 +159,7 @@ module _ (p : ProgramTree) (lists : List (List Flow)) (node : NodeTree) (Below :
       pub near : (e : Tree) (k : Option Condition) (w : ℕ) → ClockKnown k → IsWell p node Below e w → Inside nv lo hi (walk p lists node e k) w
       near (tree.number a) k w known well = near_leaf nv lo hi (flow_of p lists node (tree.number a) k (Constant (Int (pos a)))) w (own_near (tree.number a) k (Constant (Int (pos a))) known (none_near nv lo hi))
       near (tree.truth b) k w known well = near_leaf nv lo hi (flow_of p lists node (tree.truth b) k (Constant (Truth b))) w (own_near (tree.truth b) k (Constant (Truth b)) known (none_near nv lo hi))
+      near (tree.label x) k w known well = near_leaf nv lo hi (flow_of p lists node (tree.label x) k (Constant (Name x.number))) w (own_near (tree.label x) k (Constant (Name x.number)) known (none_near nv lo hi))
       near (tree.variable x) k w known well = λ s low high.
           (tt, λ j lt. let e = well.0 in let z : variable_place p lists node x ≡ variable_place p lists node x + j = omega arith in subst (Near nv lo hi) z (inl well.1))
       near (tree.unary (Data1 op) a) k w known well =
@@ -201,13 +202,12 @@ module _ (p : ProgramTree) (lists : List (List Flow)) (node : NodeTree) (Below :
           (λ x h. near_leaf nv lo hi (root x) w (own_near (tree.when a c) (Some c) (When x) well.0 (one_near nv lo hi x h)))
       near (tree.current x) k w known well =
           near_leaf nv lo hi (flow_of p lists node (tree.current x) k (Current (variable_place p lists node x))) w (own_near (tree.current x) k (Current (variable_place p lists node x)) known (one_near nv lo hi (variable_place p lists node x) (inl well)))
-      near (tree.merge c a b) k w known well =
-          let e = tree.merge c a b in
+      near (tree.merge c ps all) k w known well =
+          let e = tree.merge c ps all in
           let cp = variable_place p lists node c in
-          let root = λ (x y : ℕ). flow_of p lists node e k (Merge cp (x ∷ y ∷ [])) in
-          near_after nv lo hi (walk p lists node a (condition c (patterns.Truth true))) (λ x. after (walk p lists node b (condition c (patterns.Truth false))) (λ y. leaf (root x y))) w (near a (condition c (patterns.Truth true)) 1 well.0 well.1)
-          (λ x h. near_after nv lo hi (walk p lists node b (condition c (patterns.Truth false))) (λ y. leaf (root x y)) w (near b (condition c (patterns.Truth false)) 1 well.0 well.2)
-          (λ y g. near_leaf nv lo hi (root x y) w (own_near e k (Merge cp (x ∷ y ∷ [])) known (three_near nv lo hi cp x y (inl well.0) h g))))
+          let root = λ (xs : List ℕ). flow_of p lists node e k (Merge cp xs) in
+          near_branches c ps all w (λ xs. leaf (root xs)) well.0 well.1
+          (λ xs places. near_leaf nv lo hi (root xs) w (own_near e k (Merge cp xs) known (all_cons (Near nv lo hi) cp xs (inl well.0) places)))
       near (tree.call f all) k w known well =
           near_all all k w (λ xs. instance p lists f (clock_place node k) xs) known well.1
           (λ xs l places. near_instance f k xs w known (subst (λ n. CallIs p node Below f n w) (sym l) well.0) places)
@@ -218,3 +218,11 @@ module _ (p : ProgramTree) (lists : List (List Flow)) (node : NodeTree) (Below :
       near_all (tree.more a all) k w rest known well h =
           near_after nv lo hi (walk p lists node a k) (λ x. walk_all p lists node all k (λ xs. rest (x ∷ xs))) w (near a k 1 known well.0)
           (λ x g. near_all all k w (λ xs. rest (x ∷ xs)) known well.1 (λ xs l places. h (x ∷ xs) (ap suc l) (all_cons (Near nv lo hi) x xs g places)))
+
+      pub near_branches : (c : List ℕ) (ps : List Pattern) (all : Trees) (w : ℕ) (rest : List ℕ → Walking) → Known p node Below c → AllWell p node Below all
+          → ((xs : List ℕ) → All (Near nv lo hi) xs → Inside nv lo hi (rest xs) w) → Inside nv lo hi (walk_branches p lists node c ps all rest) w
+      near_branches c ps tree.none w rest known well h = h [] (none_near nv lo hi)
+      near_branches c ps (tree.more a all) w rest known well h =
+          let k = condition c (first_pattern ps) in
+          near_after nv lo hi (walk p lists node a k) (λ x. walk_branches p lists node c (next_patterns ps) all (λ xs. rest (x ∷ xs))) w (near a k 1 known well.0)
+          (λ x g. near_branches c (next_patterns ps) all w (λ xs. rest (x ∷ xs)) known well.1 (λ xs places. h (x ∷ xs) (all_cons (Near nv lo hi) x xs g places)))

@@ -50,14 +50,14 @@ module _ (p : ProgramTree) (lists : List (List Flow)) (node : NodeTree) (facts :
   a = ruling.class
 
   abbrev IsClocked : Option Condition → Type 0
-  IsClocked = expressions.Clocked p lists node (Below node) a L node.inputs (variables_on p lists node facts ruling) (beginnings p lists node facts ruling) ruling.truth callee_sound callee_outputs
+  IsClocked = expressions.Clocked p lists node (Below node) a L node.inputs (variables_on p lists node facts ruling) (beginnings p lists node facts ruling) ruling.sampled callee_sound callee_outputs
 
   abbrev HasClasses : Classing → Type 0
-  HasClasses = expressions.Assigned p lists node (Below node) a L node.inputs (variables_on p lists node facts ruling) (beginnings p lists node facts ruling) ruling.truth callee_sound callee_outputs
+  HasClasses = expressions.Assigned p lists node (Below node) a L node.inputs (variables_on p lists node facts ruling) (beginnings p lists node facts ruling) ruling.sampled callee_sound callee_outputs
 
   clocked_one : (x : List ℕ) (k : Option Condition) → HasClock node x k → IsClocked k
   clocked_one x None has = tt
-  clocked_one x (Some c) has = (facts.clocks x c has, ruling.above x c has, ruling.truth x c has, ruling.zero x c has)
+  clocked_one x (Some c) has = (facts.clocks x c has, ruling.above x c has, ruling.sampled x c has, ruling.zero x c has)
 
   clocked_by : (x : List ℕ) → IsClocked (clock_of node x)
   clocked_by x =
@@ -87,7 +87,7 @@ module _ (p : ProgramTree) (lists : List (List Flow)) (node : NodeTree) (facts :
           subst (On L (clock_place node k) (unwrap_or (rules.kind_of node x) Ints)) z (subst (λ t. On L (clock_place node k) t (i + j)) kind (on j t.0 t.1)),
           subst (λ y. AtMost (class y) (a x)) z (λ h. le (most j (slice_get_within kinds j t.0 t.1) h)),
         );
-        clock = expressions.clock_sound p lists node (Below node) a L node.inputs (variables_on p lists node facts ruling) (beginnings p lists node facts ruling) ruling.truth callee_sound callee_outputs class k assigned (clocked_by (name_at q.left 0));
+        clock = expressions.clock_sound p lists node (Below node) a L node.inputs (variables_on p lists node facts ruling) (beginnings p lists node facts ruling) ruling.sampled callee_sound callee_outputs class k assigned (clocked_by (name_at q.left 0));
       }
 
   equations_sound : (qs : List EquationTree) (s : ℕ) → ((j : ℕ) (q : EquationTree) → slice_get qs j ≡ Some q → (i : ℕ) × (slice_get node.equations i ≡ Some q)) → Each (λ x f. slice_get L x ≡ Some f) s (inner_flows p lists node qs s)
@@ -101,8 +101,8 @@ module _ (p : ProgramTree) (lists : List (List Flow)) (node : NodeTree) (facts :
       let rest = inner_flows p lists node qs s' in
       let ty = ruling.typed t.0 q t.1 in
       let e = is_one a q.right in
-      let r = expressions.sound_right p lists node (Below node) a L node.inputs (variables_on p lists node facts ruling) (beginnings p lists node facts ruling) ruling.truth callee_sound callee_outputs clocked_by q.right k (length q.left) ty.0
-      (record { clocked = clocked_by (name_at q.left 0); well = facts.rights t.0 q t.1; fits = left_fits t.0 q t.1; needs = all_at (λ (q : EquationTree). NeedsMet a q.right) node.equations t.0 q ruling.meets.needs t.1; samplers = ruling.samplers t.0 q t.1; starts = ruling.starts t.0 q t.1 }) ty.1
+      let r = expressions.sound_right p lists node (Below node) a L node.inputs (variables_on p lists node facts ruling) (beginnings p lists node facts ruling) ruling.sampled callee_sound callee_outputs clocked_by q.right k (length q.left) ty.0
+      (record { clocked = clocked_by (name_at q.left 0); well = facts.rights t.0 q t.1; fits = left_fits t.0 q t.1; needs = all_at (λ (q : EquationTree). NeedsMet a q.right) node.equations t.0 q ruling.meets.needs t.1; zeros = ruling.zeros t.0 q t.1; parts = ruling.parts t.0 q t.1; starts = ruling.starts t.0 q t.1 }) ty.1
       s (each_left (λ x f. slice_get L x ≡ Some f) s w.inner rest stand) in
       let raise = all_at (IsRaised a) node.equations t.0 q ruling.meets.raised t.1 in
       let g = equations_sound qs s' (λ j q e. there (suc j) q e) (each_right (λ x f. slice_get L x ≡ Some f) s w.inner rest stand) in

@@ -1,15 +1,16 @@
 -- The roles of the main variables, by their places.
-use Rattle.std.proofs.Common.{◌≡◌, ℕ, Bool, ◌+◌, ◌-◌, ◌<◌, ◌≤◌, ◌⊎◌, inl, inr, ⊎_elim, List, [], ◌∷◌, ◌++◌, length, map, filter, Some, refl, sym, ap, ap₂, ◌∙◌, arith, append-nil}
+use Rattle.std.proofs.Common.{◌≡◌, ℕ, zero, suc, Bool, ◌+◌, ◌-◌, ◌<◌, ◌≤◌, ◌⊎◌, inl, inr, ⊎_elim, List, [], ◌∷◌, ◌++◌, length, map, filter, Some, refl, sym, ap, ap₂, ◌∙◌, arith, append-nil}
 use Rattle.std.specs.Prelude.{slice_get, option_map}
 use Rattle.std.proofs.lemmas.Bool.{cases_lt}
 use Rattle.std.proofs.lemmas.List.{length-map}
 use Rattle.std.proofs.lemmas.List.Elements.{filter-append}
-use Rattle.std.proofs.lemmas.Option.{slice_get-map}
+use Rattle.std.proofs.lemmas.Option.{slice_get-map, same_Some}
 use Rattle.lutree.specs.Tree.{DeclarationTree, NodeTree}
 use Rattle.luflow.specs.declared.variable.Variable.{Variable}
 use Rattle.luflow.specs.declared.variable.Role.{Role}
 use Rattle.luflow.specs.declared.variable.Role.TheVariants as role
 use Rattle.luflow.specs.Variables.{is_input, inputs_of}
+use Rattle.lustat_rules.specs.Scope.{declarations_of}
 use Rattle.lucore_list.specs.Layout.{variables_as, main_variables}
 use Rattle.lucore_list.proofs.Names.{get-front, get-behind, mapped_some}
 use Rattle.lucore_sound.proofs.Types.{declared}
@@ -111,3 +112,28 @@ inputs_are node =
     filter-append p (variables_as role.Input node.inputs) (os ++ ls)
     ∙ ap₂ (λ xs ys. xs ++ ys) (all_inputs node.inputs) (filter-append p os ls ∙ ap₂ (λ xs ys. xs ++ ys) (no_outputs node.outputs) (no_locals node.locals))
     ∙ append-nil (variables_as role.Input node.inputs)
+
+-- the declaration of a main variable
+abbrev pub IsDeclaredAt : List DeclarationTree → ℕ → Variable → Type 0
+IsDeclaredAt ds v x = (d : DeclarationTree) × (slice_get ds v ≡ Some d) × (d.kind ≡ x.kind) × (d.name ≡ x.name)
+
+declared_is : (r : Role) (d : DeclarationTree) (ds : List DeclarationTree) (x : Variable) → slice_get (variable_of r d ∷ []) 0 ≡ Some x → IsDeclaredAt (d ∷ ds) 0 x
+declared_is r d ds x e =
+    let same = same_Some (variable_of r d) x e in
+    (d, refl, ap (λ (x : Variable). x.kind) same, ap (λ (x : Variable). x.name) same)
+
+declared_as : (r : Role) (ds : List DeclarationTree) (vs : List Variable) (es : List DeclarationTree) → ((v : ℕ) (x : Variable) → slice_get vs v ≡ Some x → IsDeclaredAt es v x)
+    → (v : ℕ) (x : Variable) → slice_get (variables_as r ds ++ vs) v ≡ Some x → IsDeclaredAt (ds ++ es) v x
+declared_as r [] vs es h v x e = h v x e
+declared_as r (d ∷ ds) vs es h zero x e = declared_is r d (ds ++ es) x e
+declared_as r (d ∷ ds) vs es h (suc v) x e = declared_as r ds vs es h v x e
+
+declared_last : (r : Role) (ds : List DeclarationTree) (v : ℕ) (x : Variable) → slice_get (variables_as r ds) v ≡ Some x → IsDeclaredAt ds v x
+declared_last r [] v x e = cc
+declared_last r (d ∷ ds) zero x e = declared_is r d ds x e
+declared_last r (d ∷ ds) (suc v) x e = declared_last r ds v x e
+
+pub main_declared : (n : NodeTree) (v : ℕ) (x : Variable) → slice_get (main_variables n) v ≡ Some x → IsDeclaredAt (declarations_of n) v x
+main_declared n =
+    declared_as role.Input n.inputs (variables_as role.Output n.outputs ++ variables_as role.Local n.locals) (n.outputs ++ n.locals)
+    (declared_as role.Output n.outputs (variables_as role.Local n.locals) n.locals (declared_last role.Local n.locals))

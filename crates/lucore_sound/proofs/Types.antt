@@ -1,25 +1,61 @@
 -- What the type of an expression tells of its operands.
-use Rattle.std.proofs.Common.{◌≡◌, ℕ, zero, suc, ◌<◌, Bool, true, false, ◌&&◌, cond, List, [], ◌∷◌, length, map, Option, Some, None, refl, sym, ap, ◌∙◌, arith}
-use Rattle.std.specs.Prelude.{slice_get, option_map, unwrap_or}
+use Rattle.std.proofs.Common.{◌≡◌, ℕ, zero, suc, ◌<◌, Bool, true, false, ◌&&◌, cond, nat_eq, List, [], ◌∷◌, length, map, Option, Some, None, refl, sym, ap, ◌∙◌, arith}
+use Rattle.std.specs.Prelude.{slice_get, option_map, unwrap_or, fold}
 use Rattle.std.proofs.lemmas.Option.{same_Some}
+use Rattle.std.proofs.lemmas.Bool.{eqb-true}
 use Rattle.lutree.specs.declared.expr.UnaryOperator.{UnaryOperator}
 use Rattle.lutree.specs.declared.expr.UnaryOperator.TheVariants.{Minus}
 use Rattle.lutree.specs.declared.expr.BinaryOperator.{BinaryOperator}
 use Rattle.lutree.specs.declared.expr.BinaryOperator.TheVariants.{Add}
 use Rattle.lutree.specs.declared.program.Kind.{Kind}
-use Rattle.lutree.specs.declared.program.Kind.TheVariants.{Int as Ints, Bool as Truths}
+use Rattle.lutree.specs.declared.program.Kind.TheVariants.{Int as Ints, Bool as Truths, Enum}
 use Rattle.lutree.specs.Tree.{DeclarationTree, NodeTree}
 use Rattle.luflow.specs.Operators.{single_sort, asks, allows, takes, makes}
-use Rattle.lustat_rules.specs.Typing.{agreed, has_kind, single_kind, operand_kind, result_kind, as_asked, double_kind, choice_kind, arguments_fit, call_kinds, only}
+use Rattle.lustat_rules.specs.Typing.{same_kind, agreed, agreed_all, has_kind, single_kind, operand_kind, result_kind, as_asked, double_kind, choice_kind, arguments_fit, call_kinds, only}
+
+both_true : (b c : Bool) → (b && c) ≡ true → (b ≡ true) × (c ≡ true)
+both_true true c e = (refl, e)
+both_true false c e = cc
+
+-- types that are one are equal
+pub same_kind_is : (j k : Kind) → same_kind j k ≡ true → j ≡ k
+same_kind_is Ints Ints e = refl
+same_kind_is Ints Truths e = cc
+same_kind_is Ints (Enum i m) e = cc
+same_kind_is Truths Ints e = cc
+same_kind_is Truths Truths e = refl
+same_kind_is Truths (Enum i m) e = cc
+same_kind_is (Enum i m) Ints e = cc
+same_kind_is (Enum i m) Truths e = cc
+same_kind_is (Enum i m) (Enum j n) e =
+    let h = both_true (nat_eq i j) (nat_eq m n) e in
+    ap (λ i. Enum i m) (eqb-true i j h.0) ∙ ap (Enum j) (eqb-true m n h.1)
 
 pub agreed_is : (a b : Option Kind) (t : Kind) → agreed a b ≡ Some t → (a ≡ Some t) × (b ≡ Some t)
 agreed_is None b t e = cc
-agreed_is (Some Ints) None t e = cc
-agreed_is (Some Ints) (Some Ints) t e = (e, e)
-agreed_is (Some Ints) (Some Truths) t e = cc
-agreed_is (Some Truths) None t e = cc
-agreed_is (Some Truths) (Some Ints) t e = cc
-agreed_is (Some Truths) (Some Truths) t e = (e, e)
+agreed_is (Some j) None t e = cc
+agreed_is (Some j) (Some k) t e = go (same_kind j k) refl e
+  where
+    go : (same : Bool) → same_kind j k ≡ same → cond same (Some j) None ≡ Some t → (Some j ≡ Some t) × (Some k ≡ Some t)
+    go true is h = (h, ap Some (sym (same_kind_is j k is)) ∙ h)
+    go false is h = cc
+
+-- each has this type
+abbrev pub EachIs : Kind → List (Option Kind) → Type 0
+EachIs t [] = Unit {0}
+EachIs t (k ∷ ks) = (k ≡ Some t) × EachIs t ks
+
+folded_is : (k : Option Kind) (ks : List (Option Kind)) (t : Kind) → fold agreed k ks ≡ Some t → (k ≡ Some t) × EachIs t ks
+folded_is k [] t e = (e, tt)
+folded_is k (j ∷ ks) t e =
+    let h = folded_is (agreed k j) ks t e in
+    let both = agreed_is k j t h.0 in
+    (both.0, (both.1, h.1))
+
+-- where the branches of a merge have one type, each has it
+pub agreed_all_is : (ks : List (Option Kind)) (t : Kind) → agreed_all ks ≡ Some t → EachIs t ks
+agreed_all_is [] t e = cc
+agreed_all_is (k ∷ ks) t e = folded_is k ks t e
 
 -- the types of operators, as the static rules have them and as flows have them
 
@@ -35,15 +71,29 @@ asks_is : (op : BinaryOperator) → operand_kind op ≡ asks op
 asks_is Add = refl
 asks_is _ = refl
 
-allows_asked : (asked : Option Kind) (u : Kind) → as_asked asked (Some u) ≡ Some u → allows asked u ≡ true
-allows_asked None u e = refl
-allows_asked (Some Ints) Ints e = refl
-allows_asked (Some Ints) Truths e = cc
-allows_asked (Some Truths) Ints e = cc
-allows_asked (Some Truths) Truths e = refl
+-- no operator asks for an enumeration
+abbrev IsPlain : Option Kind → Type 0
+IsPlain None = Unit {0}
+IsPlain (Some Ints) = Unit {0}
+IsPlain (Some Truths) = Unit {0}
+IsPlain (Some (Enum i m)) = ⊥
+
+plain_asks : (op : BinaryOperator) → IsPlain (asks op)
+plain_asks Add = tt
+plain_asks _ = tt
+
+allows_asked : (asked : Option Kind) (u : Kind) → IsPlain asked → as_asked asked (Some u) ≡ Some u → allows asked u ≡ true
+allows_asked None u plain e = refl
+allows_asked (Some Ints) Ints plain e = refl
+allows_asked (Some Ints) Truths plain e = cc
+allows_asked (Some Ints) (Enum i m) plain e = cc
+allows_asked (Some Truths) Ints plain e = cc
+allows_asked (Some Truths) Truths plain e = refl
+allows_asked (Some Truths) (Enum i m) plain e = cc
+allows_asked (Some (Enum i m)) u plain e = absurd plain
 
 takes_asked : (op : BinaryOperator) (u : Kind) → as_asked (operand_kind op) (Some u) ≡ Some u → takes op u ≡ true
-takes_asked op u e = allows_asked (asks op) u (sym (ap (λ (o : Option Kind). as_asked o (Some u)) (asks_is op)) ∙ e)
+takes_asked op u e = allows_asked (asks op) u (plain_asks op) (sym (ap (λ (o : Option Kind). as_asked o (Some u)) (asks_is op)) ∙ e)
 
 -- where a type is asked for and met, the operands have it
 asked_is : (asked c : Option Kind) (u : Kind) → as_asked asked c ≡ Some u → (c ≡ Some u) × (as_asked asked (Some u) ≡ Some u)
@@ -68,18 +118,12 @@ double_is op a b t e =
 pub choice_is : (c a b : Option Kind) (t : Kind) → choice_kind c a b ≡ Some t → (c ≡ Some Truths) × (a ≡ Some t) × (b ≡ Some t)
 choice_is None a b t e = cc
 choice_is (Some Ints) a b t e = cc
+choice_is (Some (Enum i m)) a b t e = cc
 choice_is (Some Truths) a b t e = let h = agreed_is a b t e in (refl, h.0, h.1)
 
 has_kind_is : (k : Option Kind) (t : Kind) → has_kind k t ≡ true → k ≡ Some t
 has_kind_is None t e = cc
-has_kind_is (Some Ints) Ints e = refl
-has_kind_is (Some Ints) Truths e = cc
-has_kind_is (Some Truths) Ints e = cc
-has_kind_is (Some Truths) Truths e = refl
-
-both_true : (b c : Bool) → (b && c) ≡ true → (b ≡ true) × (c ≡ true)
-both_true true c e = (refl, e)
-both_true false c e = cc
+has_kind_is (Some k) t e = ap Some (same_kind_is k t e)
 
 abbrev pub kinds_of : List DeclarationTree → List Kind
 kinds_of = map (λ d. d.kind)

@@ -8,22 +8,21 @@ use Rattle.lutree.specs.declared.expr.Condition.{Condition}
 use Rattle.lutree.specs.declared.expr.Prefix.TheVariants.{Data as Data1, Pre as Before}
 use Rattle.lutree.specs.declared.expr.Infix.TheVariants.{Data as Data2, Arrow as Starts, FollowedBy}
 use Rattle.lutree.specs.declared.program.Kind.{Kind}
-use Rattle.lutree.specs.declared.program.Kind.TheVariants.{Int as Ints, Bool as Truths}
+use Rattle.lutree.specs.declared.program.Kind.TheVariants.{Int as Ints}
 use Rattle.lutree.specs.Tree.{Tree, Trees, DeclarationTree, EquationTree, NodeTree, ProgramTree}
 use Rattle.lutree.specs.Tree as tree
-use Rattle.luflow.specs.declared.data.Datum.TheVariants.{Bool as Truth}
 use Rattle.luflow.specs.declared.form.Clock.TheVariants.{Base}
 use Rattle.luflow.specs.declared.form.Form.{Form}
 use Rattle.luflow.specs.declared.form.Form.TheVariants.{Constant, Arrow}
 use Rattle.luflow.specs.declared.form.Flow.{Flow}
 use Rattle.lusource.specs.Names.{variables_of}
-use Rattle.lusource.specs.Source.{pattern_value}
+use Rattle.lusource.specs.Source.{next_patterns, pattern_value}
 use Rattle.lustat_rules.specs.Scope.{declarations_of}
 use Rattle.lustat_rules.specs.Scope as rules
 use Rattle.lustat_rules.specs.Typing.{type_of, right_types}
-use Rattle.lustat_rules.specs.Clocks.{HasClock, IsTruth}
+use Rattle.lustat_rules.specs.Clocks.{pattern_kind, HasClock}
 use Rattle.lustat_rules.specs.Classes.{StartsWith, IsTrueAtFirst}
-use Rattle.lucore_list.specs.Layout.{Root, Walking, walk, walk_all, walk_right, left_clock, root_flow, inner_flows, variable_flow, variable_place, variable_count, clock_place, flow_of, node_flows}
+use Rattle.lucore_list.specs.Layout.{Root, Walking, walk, walk_all, walk_branches, walk_right, left_clock, root_flow, inner_flows, variable_flow, variable_place, variable_count, clock_place, flow_of, node_flows}
 use Rattle.lucore_list.specs.Layout.Root.{own, at}
 use Rattle.lucore_list.proofs.Each.{Each, each_left, each_right, each_at, each_all}
 use Rattle.lucore_list.proofs.Names.{get-front, get-behind, contains_at, all_at, mapped_some, get-names, get_place, place_at, first_at}
@@ -33,7 +32,7 @@ use Rattle.lucore_list.proofs.Facts.{Below, NodeFacts}
 use Rattle.lucore_list.proofs.NodeToFlat.{other_has_equation}
 use Rattle.lucore_list.proofs.NodeStatic.{first_is, variables}
 use Rattle.lucore_sound.proofs.Types.{single_kinds}
-use Rattle.lucore_sound.proofs.Fitting.{condition_pattern, On, Begins}
+use Rattle.lucore_sound.proofs.Fitting.{IsSampled, On, Begins}
 use Rattle.lucore_sound.proofs.Ruling.{Ruling}
 
 -- a flow at the root of a right side has the type of its one value
@@ -72,9 +71,14 @@ module _ (p : ProgramTree) (lists : List (List Flow)) (node : NodeTree) where
   call_root kinds tree.none k rest h s = h [] s
   call_root kinds (tree.more a all) k rest h s = call_root kinds all k _ (λ xs s. h _ s) _
 
+  merge_root : (kinds : List Kind) (c : List ℕ) (ps : List Pattern) (all : Trees) (rest : List ℕ → Walking) → ((xs : List ℕ) (s : ℕ) → RightKind kinds (rest xs s).root) → (s : ℕ) → RightKind kinds (walk_branches p lists node c ps all rest s).root
+  merge_root kinds c ps tree.none rest h s = h [] s
+  merge_root kinds c ps (tree.more a all) rest h s = merge_root kinds c (next_patterns ps) all _ (λ xs s. h _ s) _
+
   right_kind : (e : Tree) (k : Option Condition) (s : ℕ) (kinds : List Kind) → right_types p node e ≡ Some kinds → RightKind kinds (walk p lists node e k s).root
   right_kind (tree.number n) k s kinds h = single_kinds (type_of p node (tree.number n)) kinds h
   right_kind (tree.truth b) k s kinds h = single_kinds (type_of p node (tree.truth b)) kinds h
+  right_kind (tree.label x) k s kinds h = single_kinds (type_of p node (tree.label x)) kinds h
   right_kind (tree.variable x) k s kinds h = tt
   right_kind (tree.unary (Data1 op) a) k s kinds h = single_kinds _ kinds h
   right_kind (tree.unary Before a) k s kinds h = single_kinds _ kinds h
@@ -84,16 +88,22 @@ module _ (p : ProgramTree) (lists : List (List Flow)) (node : NodeTree) where
   right_kind (tree.choice c a b) k s kinds h = single_kinds _ kinds h
   right_kind (tree.when a c) k s kinds h = single_kinds _ kinds h
   right_kind (tree.current x) k s kinds h = single_kinds _ kinds h
-  right_kind (tree.merge c a b) k s kinds h = single_kinds _ kinds h
+  right_kind (tree.merge c ps all) k s kinds h = merge_root kinds c ps all _ (λ xs s. single_kinds _ kinds h) s
   right_kind (tree.call f all) k s kinds h = call_root kinds all k _ (λ xs s. tt) s
 
-  -- `true -> e` and `true fby e` are an arrow at the root, whose first operand is the constant
+  -- `true -> e` and `true fby e` are an arrow at the root, whose first operand is the constant; likewise for a name of an enumeration
   pub starting : (L : List Flow) (pattern : Pattern) (e : Tree) (k : Option Condition) (s : ℕ) → StartsWith pattern e → Each (λ x f. slice_get L x ≡ Some f) s (walk p lists node e k s).inner
-      → ((walk p lists node e k s).root ≡ own (flow_of p lists node e k (Arrow (s + 0) (second_of (walk p lists node e k s).root)))) × (slice_get L (s + 0) ≡ Some (record { form = Constant (pattern_value pattern); clock = clock_place node k; kind = Truths }))
+      → ((walk p lists node e k s).root ≡ own (flow_of p lists node e k (Arrow (s + 0) (second_of (walk p lists node e k s).root)))) × (slice_get L (s + 0) ≡ Some (record { form = Constant (pattern_value pattern); clock = clock_place node k; kind = pattern_kind pattern }))
   starting L (patterns.Truth sign) _ k s (StartsWith.arrow e) stand =
       let z : s ≡ s + 0 = omega arith in
       (refl, ap (slice_get L) (sym z) ∙ stand.0)
   starting L (patterns.Truth sign) _ k s (StartsWith.followed e) stand =
+      let z : s ≡ s + 0 = omega arith in
+      (refl, ap (slice_get L) (sym z) ∙ stand.0)
+  starting L (patterns.Label x) _ k s (StartsWith.arrow e) stand =
+      let z : s ≡ s + 0 = omega arith in
+      (refl, ap (slice_get L) (sym z) ∙ stand.0)
+  starting L (patterns.Label x) _ k s (StartsWith.followed e) stand =
       let z : s ≡ s + 0 = omega arith in
       (refl, ap (slice_get L) (sym z) ∙ stand.0)
 
@@ -126,7 +136,7 @@ module _ (p : ProgramTree) (lists : List (List Flow)) (node : NodeTree) (facts :
         kinds_from qs (s + length (walk_right p lists node q s).inner) (λ j q e. there (suc j) q e),
       )
 
-  variable_kind : (x : List ℕ) (t : Kind) → rules.kind_of node x ≡ Some t → option_map (λ (f : Flow). f.kind) (slice_get L (variable_place p lists node x)) ≡ Some t
+  pub variable_kind : (x : List ℕ) (t : Kind) → rules.kind_of node x ≡ Some t → option_map (λ (f : Flow). f.kind) (slice_get L (variable_place p lists node x)) ≡ Some t
   variable_kind x t ty =
       let d = mapped_some (λ (d : DeclarationTree). d.kind) (rules.meaning node x) t ty in
       let there = first_at (declarations_of node) x d.0 d.1 in
@@ -184,8 +194,8 @@ module _ (p : ProgramTree) (lists : List (List Flow)) (node : NodeTree) (facts :
       let z : 0 + length (front p lists node) ≡ nv = omega arith in
       subst (λ s. Each (λ x f. slice_get L x ≡ Some f) s (inner_flows p lists node node.equations nv)) z (each_right (λ x f. slice_get L x ≡ Some f) 0 (front p lists node) (inner_flows p lists node node.equations nv) stands')
 
-  pub beginnings : (c : Condition) (k : Option Condition) → IsTrueAtFirst node c → HasClock node c.variable k → IsTruth node c.variable → Begins L (clock_place node k) (pattern_value c.pattern) (variable_place p lists node c.variable)
-  beginnings c k first has truth =
+  pub beginnings : (c : Condition) (k : Option Condition) → IsTrueAtFirst node c → HasClock node c.variable k → IsSampled node c → Begins L (clock_place node k) (pattern_value c.pattern) (variable_place p lists node c.variable)
+  beginnings c k first has sampled =
       let q = first.0 in
       let x = c.variable in
       let v = variable_place p lists node x in
@@ -197,17 +207,18 @@ module _ (p : ProgramTree) (lists : List (List Flow)) (node : NodeTree) (facts :
       let g = starting p lists node L c.pattern q.right lk s.start first.3 s.stand in
       let f = flow_of p lists node q.right lk (Arrow (s.start + 0) (second_of w.root)) in
       let no_input = all_at (λ x. ¬ rules.IsInput node x) q.left 0 x (facts.anew at.0 q at.1).no_input named in
-      let on = variables_on x k Truths has truth in
+      let u = pattern_kind c.pattern in
+      let on = variables_on x k u has sampled.0 in
       let lt = all_at (Known p node (Below node)) q.left 0 x (facts.lefts at.0 q at.1) named in
       let root : variable_flow p lists node node.equations nv x ≡ f =
       each_at (λ j x. variable_flow p lists node node.equations nv x ≡ root_flow p lists node q w.root j x) 0 q.left 0 x s.roots named ∙ ap (λ r. root_flow p lists node q r (0 + 0) x) g.0 in
       let there : slice_get L v ≡ Some f = get-variable p lists node x lt no_input ∙ ap Some root in
-      let same : f ≡ record { form = on.form; clock = clock_place node k; kind = Truths } = same_Some f _ (sym there ∙ on.there) in
+      let same : f ≡ record { form = on.form; clock = clock_place node k; kind = u } = same_Some f _ (sym there ∙ on.there) in
       record {
-        kind = Truths;
+        kind = u;
         first = s.start + 0;
         then = second_of w.root;
-        there = on.there ∙ ap (λ (form : Form). Some (record { form = form; clock = clock_place node k; kind = Truths })) (sym (ap (λ (f : Flow). f.form) same));
-        constant = g.1 ∙ ap (λ c'. Some (record { form = Constant (pattern_value c.pattern); clock = c'; kind = Truths })) (ap (λ (f : Flow). f.clock) same);
-        pattern = condition_pattern c.pattern;
+        there = on.there ∙ ap (λ (form : Form). Some (record { form = form; clock = clock_place node k; kind = u })) (sym (ap (λ (f : Flow). f.form) same));
+        constant = g.1 ∙ ap (λ c'. Some (record { form = Constant (pattern_value c.pattern); clock = c'; kind = u })) (ap (λ (f : Flow). f.clock) same);
+        pattern = sampled.1;
       }

@@ -153,6 +153,7 @@ fn declared(
     let declaration = Declaration {
         name: Name::from_text(alloc, name)?,
         kind: Kind::Bool,
+        type_name: None,
         clock,
         byte: 9,
     };
@@ -179,6 +180,7 @@ fn nameless(alloc: Global, right: Right) -> Result<Program, AllocError> {
         equations: Row::new(vec![in alloc; equation]?),
     };
     Ok(Program {
+        types: Row::new(Vec::new(alloc)),
         nodes: Row::new(vec![in alloc; main]?),
     })
 }

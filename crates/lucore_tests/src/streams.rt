@@ -68,6 +68,8 @@ fn is_answered(alloc: Global, text: &str, table: Table, want: Want) -> Result<bo
     }
 }
 
+const FIRST: Status = Status::Present(Datum::Name(0));
+const SECOND: Status = Status::Present(Datum::Name(1));
 const ZERO: Status = Status::Present(Datum::Int(0));
 
 const ONE: Status = Status::Present(Datum::Int(1));
@@ -196,10 +198,16 @@ fn outputs_have_one_length_and_keep_their_columns(rt: HostRuntime) -> Result<(),
     Ok(())
 }
 
-/// Whether the table of these outputs is written so.
-fn is_written(alloc: Global, columns: &[&[Status]], text: &str) -> Result<bool, AllocError> {
+/// Whether the table of these outputs of a program is written so.
+fn is_written(
+    alloc: Global,
+    program: &str,
+    columns: &[&[Status]],
+    text: &str,
+) -> Result<bool, Fail> {
+    let flat = flat_of(alloc, program)?;
     match outputs(alloc, columns)? {
-        Some(outputs) => Ok(write_outputs(alloc, &outputs)?.as_str() == text),
+        Some(outputs) => Ok(write_outputs(alloc, &flat, &outputs)?.as_str() == text),
         None => Ok(false),
     }
 }
@@ -207,6 +215,16 @@ fn is_written(alloc: Global, columns: &[&[Status]], text: &str) -> Result<bool, 
 #[test]
 fn nil_is_written_too(rt: HostRuntime) -> Result<(), Fail> {
     let columns = [[NIL, Status::Absent, NO].as_slice(), &[ZERO, NIL, YES]];
-    assert!(rt; is_written(rt.alloc(), &columns, "y,y\nnil,0\n-,nil\nfalse,true\n")?);
+    let text = "y,y\nnil,0\n-,nil\nfalse,true\n";
+    assert!(rt; is_written(rt.alloc(), "node main(x: int) returns (y: int; b: bool); let y = x; b = true; tel", &columns, text)?);
+    Ok(())
+}
+
+#[test]
+fn names_are_written_as_their_types_spell_them(rt: HostRuntime) -> Result<(), Fail> {
+    let program = "type t = enum { Up, Down }; type u = enum { Left, Right }; node main(m: t; n: u) returns (y: t; z: u); let y = m; z = n; tel";
+    let columns = [[FIRST, Status::Absent, SECOND].as_slice(), &[SECOND, NIL, FIRST]];
+    let text = "y,y\nUp,Right\n-,nil\nDown,Left\n";
+    assert!(rt; is_written(rt.alloc(), program, &columns, text)?);
     Ok(())
 }

@@ -57,7 +57,7 @@ no_fault flat inputs shown lasts is_flat fit stands σ sol i t kind lt f =
     stands.sound i t li lt (solutions_same flat inputs (solution flat inputs) σ is_flat.ordered one sol i t li ∙ fault_broken flat inputs σ is_flat fit sol i t kind f)
 
 -- what the machine's answers for the line of rank p say of the solution
-module _ (flat : FlatProgram) (inputs : Table) (machine : Machine) (t p : ℕ) (line : Line) (is_flat : IsFlat flat) (fit : IsFit flat inputs) (stands : StandsAt flat inputs machine t p) (lp : p < length flat.order) (lt : t < inputs.instants) (at : IsLine flat p line) where
+module _ (flat : FlatProgram) (inputs : Table) (machine : Machine) (t : ℕ) (branches : List ℕ) (p : ℕ) (line : Line) (is_flat : IsFlat flat) (fit : IsFit flat inputs) (stands : StandsAt flat inputs machine t p) (lp : p < length flat.order) (lt : t < inputs.instants) (at : IsLine flat branches p line) where
   abbrev pub σ : Streams
   σ = solution flat inputs
 
@@ -75,7 +75,7 @@ module _ (flat : FlatProgram) (inputs : Table) (machine : Machine) (t p : ℕ) (
       clock_here flat inputs σ is_flat fit one_is shown lasts t p stands line.place at.flow lp at.place at.there lt
       ∙ ap (λ (k : Clock). Some (unwrap_or (clock_in shown k) false)) (sym at.clock) ∙ ap (λ (x : Bool). Some x) (sym e)
 
-  value_is : (a : Answer) → Computes inputs machine t line a → value_at inputs σ at.flow.clock at.flow.form t ≡ outcome_of a
+  value_is : (a : Answer) → Computes inputs machine t branches line a → value_at inputs σ at.flow.clock at.flow.form t ≡ outcome_of a
   value_is a c =
       value_here flat inputs σ is_flat fit one_is shown lasts t p stands line.place at.flow lp at.place at.there
       ∙ ap (λ (f : Form). value_of f (view_of (given_at inputs t) shown lasts line.place)) (sym at.form) ∙ sym c
@@ -85,7 +85,7 @@ module _ (flat : FlatProgram) (inputs : Table) (machine : Machine) (t p : ℕ) (
       subst (λ (xs : List Status). Stands flat inputs σ xs lasts t (p + 1)) (sym (statuses_set machine.shown.items line.place cell.Absent))
       (step_absent flat inputs σ is_flat fit one_is shown lasts t p stands line.place at.flow lp at.place at.there lt (ap (λ (k : Clock). unwrap_or (clock_in shown k) false) (sym at.clock) ∙ sym off))
 
-  pub never_stuck : (a : Answer) → outcome_of a ≡ Stuck → true ≡ unwrap_or (clock_in shown (clock_of line.clock)) false → Computes inputs machine t line a → ⊥
+  pub never_stuck : (a : Answer) → outcome_of a ≡ Stuck → true ≡ unwrap_or (clock_in shown (clock_of line.clock)) false → Computes inputs machine t branches line a → ⊥
   never_stuck a e on c = not_stuck flat inputs σ is_flat fit one_is shown lasts t p stands line.place at.flow lp at.place at.there lt (clock_is true on) (value_is a c ∙ e)
 
   present : (c : Cell) (d : Datum) → status_of c ≡ Present d → true ≡ unwrap_or (clock_in shown (clock_of line.clock)) false → value_at inputs σ at.flow.clock at.flow.form t ≡ Gives d → Stands flat inputs σ (statuses (set machine.shown.items line.place c)) lasts t (p + 1)
@@ -93,14 +93,15 @@ module _ (flat : FlatProgram) (inputs : Table) (machine : Machine) (t p : ℕ) (
       subst (λ (xs : List Status). Stands flat inputs σ xs lasts t (p + 1)) (sym (statuses_set machine.shown.items line.place c ∙ ap (set shown line.place) e))
       (step_gives flat inputs σ is_flat fit one_is shown lasts t p stands line.place at.flow d lp at.place at.there (clock_is true on) v)
 
-  pub gives_next : (c : Cell) → true ≡ unwrap_or (clock_in shown (clock_of line.clock)) false → Computes inputs machine t line (answer.Gives c) → Stands flat inputs σ (statuses (set machine.shown.items line.place c)) lasts t (p + 1)
+  pub gives_next : (c : Cell) → true ≡ unwrap_or (clock_in shown (clock_of line.clock)) false → Computes inputs machine t branches line (answer.Gives c) → Stands flat inputs σ (statuses (set machine.shown.items line.place c)) lasts t (p + 1)
   gives_next cell.Absent on c = absurd (never_stuck (answer.Gives cell.Absent) refl on c)
   gives_next cell.Nil on c = present cell.Nil datum.Nil refl on (value_is (answer.Gives cell.Nil) c)
   gives_next (cell.Truth b) on c = present (cell.Truth b) (datum.Bool b) refl on (value_is (answer.Gives (cell.Truth b)) c)
   gives_next (cell.Number n) on c = present (cell.Number n) (datum.Int n) refl on (value_is (answer.Gives (cell.Number n)) c)
+  gives_next (cell.Name k) on c = present (cell.Name k) (datum.Name k) refl on (value_is (answer.Gives (cell.Name k)) c)
 
   -- a fault at hand is the first of each solution
-  pub first_fault : (kind : FaultKind) → true ≡ unwrap_or (clock_in shown (clock_of line.clock)) false → Computes inputs machine t line (answer.Faults kind) → (τ : Streams) → IsSolution flat inputs τ → IsFirstFault flat inputs τ (slice_index flat.owners line.place) t kind
+  pub first_fault : (kind : FaultKind) → true ≡ unwrap_or (clock_in shown (clock_of line.clock)) false → Computes inputs machine t branches line (answer.Faults kind) → (τ : Streams) → IsSolution flat inputs τ → IsFirstFault flat inputs τ (slice_index flat.owners line.place) t kind
   first_fault kind on c τ sol =
       let i = line.place in
       let lo : i < length flat.owners = let l = slice_get_within flat.flows i at.flow at.there in let n = is_flat.owners_len in omega arith in

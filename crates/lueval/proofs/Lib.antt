@@ -6,6 +6,7 @@ pub mod Listing
 pub mod Noting
 pub mod Reading
 pub mod Seeing
+pub mod Spans
 pub mod Steps
 pub mod Told
 pub mod Unders

@@ -95,9 +95,9 @@ pub record IsRanked (flat : FlatProgram) (p i : ℕ) (flow : Flow) : Type 0 wher
   pub place : i ≡ slice_index flat.order p
   pub there : flow_at flat i ≡ Some flow
 
--- the value of a line, from the table and what the machine holds
-abbrev pub Computes : Table → Machine → ℕ → Line → Answer → Type 0
-Computes inputs machine t line answer = outcome_of answer ≡ value_of (form_of line.operation) (view_of (given_at inputs t) (statuses machine.shown.items) machine.lasts.items line.place)
+-- the value of a line whose branches are among these, from the table and what the machine holds
+abbrev pub Computes : Table → Machine → ℕ → List ℕ → Line → Answer → Type 0
+Computes inputs machine t branches line answer = outcome_of answer ≡ value_of (form_of branches line.operation) (view_of (given_at inputs t) (statuses machine.shown.items) machine.lasts.items line.place)
 
 -- every flow is shown as it is at t
 abbrev pub AreShown : Streams → List Status → ℕ → Type 0

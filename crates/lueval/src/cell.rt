@@ -3,7 +3,7 @@
 ghost use Rattle.std.specs.Prelude.{◌≡◌, slice_get, unwrap_or, false, Some};
 ghost use Rattle.luflow.specs.Values.{gives};
 ghost use Rattle.lueval.specs.Frames.{datum_in, latest, clock_in};
-ghost use Rattle.lueval.specs.Cells.{status_of, statuses, held, last_in, ticked_in, clock_of, outcome_of, is_absent, is_datum, is_sign, newest};
+ghost use Rattle.lueval.specs.Cells.{status_of, statuses, held, last_in, ticked_in, clock_of, outcome_of, is_plain, is_absent, is_datum, is_name, number_of, is_sign, is_label, newest};
 
 use crate::line::LineClock;
 use luflow::{Datum, FaultKind, Outcome, Status};
@@ -19,6 +19,8 @@ pub enum Cell {
     Truth(bool),
     /// Present, with a whole number.
     Number(i64),
+    /// Present, with the name of this number of an enumeration.
+    Name(u8),
 }
 
 /// What a flow's value is where its clock is true.
@@ -30,15 +32,35 @@ pub enum Answer {
     Stuck,
 }
 
-/// The cell of a present datum.
+/// Whether a datum is a number or a truth value.
+#[inline(always)]
+fn is_plain(d: Datum) -> bool
+    ensures { result ≡ is_plain d }
+{
+    match d {
+        Datum::Int(_) => true,
+        Datum::Bool(_) => true,
+        Datum::Name(_) => false,
+        Datum::Nil => false,
+    }
+}
+
+/// The cell of a present datum; not by a match of four, for the reason that [`crate::operation`] gives.
 #[inline(always)]
 pub fn cell_of(d: Datum) -> Cell
     ensures { held result ≡ Some d }
 {
+    if is_plain(d) {
+        return match d {
+            Datum::Int(n) => Cell::Number(n),
+            Datum::Bool(b) => Cell::Truth(b),
+            _ => Cell::Absent,
+        };
+    }
     match d {
+        Datum::Name(n) => Cell::Name(n),
         Datum::Nil => Cell::Nil,
-        Datum::Bool(b) => Cell::Truth(b),
-        Datum::Int(n) => Cell::Number(n),
+        _ => Cell::Absent,
     }
 }
 
@@ -53,7 +75,7 @@ pub fn is_absent(cell: Cell) -> bool
     }
 }
 
-/// Whether a cell holds a number or a truth value.
+/// Whether a cell holds a number, a truth value or a name.
 #[inline(always)]
 pub fn is_datum(cell: Cell) -> bool
     ensures { result ≡ is_datum cell }
@@ -63,6 +85,29 @@ pub fn is_datum(cell: Cell) -> bool
         Cell::Nil => false,
         Cell::Truth(_) => true,
         Cell::Number(_) => true,
+        Cell::Name(_) => true,
+    }
+}
+
+/// Whether a cell holds a name.
+#[inline(always)]
+pub fn is_name(cell: Cell) -> bool
+    ensures { result ≡ is_name cell }
+{
+    match cell {
+        Cell::Name(_) => true,
+        _ => false,
+    }
+}
+
+/// The number of the name that a cell holds; 0 where it holds none.
+#[inline(always)]
+pub fn number_of(cell: Cell) -> u8
+    ensures { result ≡ number_of cell }
+{
+    match cell {
+        Cell::Name(n) => n,
+        _ => 0,
     }
 }
 
@@ -75,6 +120,7 @@ pub fn status(cell: Cell) -> Status
         return match cell {
             Cell::Number(n) => Status::Present(Datum::Int(n)),
             Cell::Truth(b) => Status::Present(Datum::Bool(b)),
+            Cell::Name(n) => Status::Present(Datum::Name(n)),
             _ => Status::Absent,
         };
     }
@@ -151,8 +197,8 @@ pub fn is_on(shown: &[Cell], clock: LineClock) -> bool
 {
     match clock {
         LineClock::Base => true,
-        LineClock::True(c) => is_truth(cell_at(shown, c), true),
-        LineClock::False(c) => is_truth(cell_at(shown, c), false),
+        LineClock::Truth(sign, c) => is_truth(cell_at(shown, c), sign),
+        LineClock::Name(number, c) => is_label(cell_at(shown, c), number),
     }
 }
 
@@ -163,6 +209,17 @@ fn is_truth(cell: Cell, sign: bool) -> bool
 {
     match cell {
         Cell::Truth(b) => b == sign,
+        _ => false,
+    }
+}
+
+/// Whether a cell is the name of this number.
+#[inline(always)]
+fn is_label(cell: Cell, number: u8) -> bool
+    ensures { result ≡ is_label number (held cell) }
+{
+    match cell {
+        Cell::Name(n) => n == number,
         _ => false,
     }
 }

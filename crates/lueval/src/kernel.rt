@@ -72,6 +72,7 @@ fn has_value(value: Datum, status: Status) -> bool
     match (value, status) {
         (Datum::Bool(sign), Status::Present(Datum::Bool(b))) => { if sign { b } else { !b } }
         (Datum::Int(m), Status::Present(Datum::Int(n))) => m <= n && n <= m,
+        (Datum::Name(m), Status::Present(Datum::Name(n))) => m == n,
         _ => false,
     }
 }
@@ -111,6 +112,7 @@ fn branch_of(datum: Datum) -> Option<usize>
     match datum {
         Datum::Bool(true) => Some(0),
         Datum::Bool(false) => Some(1),
+        Datum::Name(number) => Some(number as usize),
         _ => None,
     }
 }

@@ -5,7 +5,8 @@
 //! - [`value`], [`clock_now`], [`kept`]: a flow's value and clock from what a machine holds, and what it keeps afterwards.
 //! - [`Past`]: what is kept of a flow from the instants before.
 //! - [`Cell`], [`Answer`], [`Line`]: a status in two words, what a flow's value is in such words, and a flow laid out for its machine;
-//!   [`line_of`], [`value_with`], [`is_on`], [`newest`]: how a line is made, its value, its clock, and what is kept of it.
+//!   [`line_of`], [`value_with`], [`is_on`], [`newest`]: how a line is made, its value, its clock, and what is kept of it. The
+//!   branches of merges stand in one list beside the lines.
 //! - [`whole`], [`Streams`], [`EvalError`]: a program's only solution at a table, or its first fault; [`whole_outputs`]: its
 //!   outputs alone, in less memory.
 #![tactic(auto)]
@@ -25,7 +26,7 @@ mod outputs;
 mod streams;
 
 pub use answers::value_with;
-pub use cell::{Answer, Cell, cell_at, cell_of, is_absent, is_on, newest, status};
+pub use cell::{Answer, Cell, cell_at, cell_of, is_absent, is_datum, is_on, newest, status};
 pub use error::EvalError;
 pub use evaluator::{whole, whole_outputs};
 pub use kernel::{Past, clock_now, datum_at, kept, value};

@@ -93,6 +93,41 @@ fn a_merge_has_the_value_of_its_branch(rt: HostRuntime) -> Result<(), Fail> {
     Ok(())
 }
 
+/// Three flows: the first has the second name of its type, the second is absent, and the third has 4.
+const MODES: [Status; 3] = [
+    Status::Present(Datum::Name(1)),
+    Status::Absent,
+    Status::Present(Datum::Int(4)),
+];
+
+/// Whether a merge by the first flow, which has a name, has this value.
+fn chooses(branches: Vec<usize>, want: Outcome) -> bool {
+    let form = Form::Merge(0, Row::new(branches));
+    value(&form, 0, None, &MODES, &PASTS) == want
+}
+
+#[test]
+fn a_name_chooses_its_branch_and_no_other(rt: HostRuntime) -> Result<(), Fail> {
+    assert!(rt; chooses(vec![in rt.alloc(); 1, 2, 1]?, FOUR));
+    assert!(rt; chooses(vec![in rt.alloc(); 2, 1, 2]?, Outcome::Stuck));
+    assert!(rt; chooses(vec![in rt.alloc(); 2]?, Outcome::Stuck));
+    assert!(rt; clock_now(&MODES, Clock::On(0, Datum::Name(1))) == Some(true));
+    assert!(rt; clock_now(&MODES, Clock::On(0, Datum::Name(0))) == Some(false));
+    assert!(rt; clock_now(&MODES, Clock::On(0, YES)) == Some(false));
+    Ok(())
+}
+
+#[test]
+fn names_are_equal_or_not_and_nothing_else(rt: HostRuntime) {
+    let (up, down) = (Datum::Name(0), Datum::Name(1));
+    assert!(rt; double(BinaryOperator::Equal, down, down) == Outcome::Gives(YES));
+    assert!(rt; double(BinaryOperator::Unequal, up, down) == Outcome::Gives(YES));
+    assert!(rt; double(BinaryOperator::Less, up, down) == Outcome::Stuck);
+    assert!(rt; double(BinaryOperator::Equal, up, Datum::Nil) == NIL);
+    assert!(rt; single(UnaryOperator::Not, up) == Outcome::Stuck);
+    assert!(rt; choice(YES, up, down) == Outcome::Gives(up));
+}
+
 #[test]
 fn clocks_data_and_the_past_are_those_shown(rt: HostRuntime) {
     assert!(rt; clock_now(&SHOWN, Clock::Base) == Some(true));

@@ -4,13 +4,13 @@ use Rattle.std.specs.Prelude.{FitsSigned}
 use Rattle.std.specs.Int.{w64}
 use Rattle.std.proofs.lemmas.Int.{ints}
 use Rattle.luflow.specs.declared.data.Datum.{Datum}
-use Rattle.luflow.specs.declared.data.Datum.TheVariants.{Int, Bool as Truth, Nil}
+use Rattle.luflow.specs.declared.data.Datum.TheVariants.{Int, Bool as Truth, Name, Nil}
 use Rattle.lutree.specs.declared.expr.UnaryOperator.{UnaryOperator}
 use Rattle.lutree.specs.declared.expr.BinaryOperator.{BinaryOperator}
 use Rattle.luflow.specs.declared.form.FaultKind.{FaultKind}
 use Rattle.luflow.specs.declared.form.FaultKind.TheVariants.{Overflow, DivZero}
 use Rattle.luflow.specs.declared.form.Outcome.TheVariants.{Gives, Faults, Stuck}
-use Rattle.luflow.specs.Operators.{fits, is_zero, int_of, Exact, whole, divided, verdict, nothing, settled, at_int, at_truth, at_ints, at_truths, single_of, double_of, IsFaultAt, ZeroDivisor, OverDivided, OverWhole, IsFaultOf, IsFaultOfOne}
+use Rattle.luflow.specs.Operators.{fits, is_zero, int_of, Exact, whole, divided, verdict, nothing, settled, at_int, at_truth, at_ints, at_truths, at_names, single_of, double_of, IsFaultAt, ZeroDivisor, OverDivided, OverWhole, IsFaultOf, IsFaultOfOne}
 
 pub fits_from : (z : ℤ) → FitsSigned w64 z → fits z ≡ true
 fits_from z h = grind (arith, ints)
@@ -81,11 +81,18 @@ fault_value op (Int a) (Truth b) kind f = absurd f
 fault_value op (Truth a) Nil kind f = absurd f
 fault_value op (Truth a) (Int b) kind f = absurd f
 fault_value op (Truth a) (Truth b) kind f = fault_settled (at_truths op a b) kind f
+fault_value op (Int a) (Name b) kind f = absurd f
+fault_value op (Truth a) (Name b) kind f = absurd f
+fault_value op (Name a) Nil kind f = absurd f
+fault_value op (Name a) (Int b) kind f = absurd f
+fault_value op (Name a) (Truth b) kind f = absurd f
+fault_value op (Name a) (Name b) kind f = fault_settled (at_names op a b) kind f
 
 pub fault_value_one : (op : UnaryOperator) (x : Datum) (kind : FaultKind) → IsFaultOfOne op x kind → single_of op x ≡ Faults kind
 fault_value_one op Nil kind f = absurd f
 fault_value_one op (Int a) kind f = fault_settled (at_int op a) kind f
 fault_value_one op (Truth a) kind f = fault_settled (at_truth op a) kind f
+fault_value_one op (Name a) kind f = absurd f
 
 pub fault_back : (op : BinaryOperator) (x y : Datum) (kind : FaultKind) → double_of op x y ≡ Faults kind → IsFaultOf op x y kind
 fault_back op Nil y kind h = nil_no kind h
@@ -95,8 +102,15 @@ fault_back op (Int a) (Truth b) kind h = stuck_no kind h
 fault_back op (Truth a) Nil kind h = nil_no kind h
 fault_back op (Truth a) (Int b) kind h = stuck_no kind h
 fault_back op (Truth a) (Truth b) kind h = settled_fault (at_truths op a b) kind h
+fault_back op (Int a) (Name b) kind h = stuck_no kind h
+fault_back op (Truth a) (Name b) kind h = stuck_no kind h
+fault_back op (Name a) Nil kind h = nil_no kind h
+fault_back op (Name a) (Int b) kind h = stuck_no kind h
+fault_back op (Name a) (Truth b) kind h = stuck_no kind h
+fault_back op (Name a) (Name b) kind h = settled_fault (at_names op a b) kind h
 
 pub fault_back_one : (op : UnaryOperator) (x : Datum) (kind : FaultKind) → single_of op x ≡ Faults kind → IsFaultOfOne op x kind
 fault_back_one op Nil kind h = nil_no kind h
 fault_back_one op (Int a) kind h = settled_fault (at_int op a) kind h
 fault_back_one op (Truth a) kind h = settled_fault (at_truth op a) kind h
+fault_back_one op (Name a) kind h = stuck_no kind h

@@ -1,10 +1,10 @@
 -- Where a value is a fault, the flow is an operator that is one.
-use Rattle.std.proofs.Common.{◌≡◌, ℕ, Bool, true, false, cond, List, Option, Some, None, refl}
+use Rattle.std.proofs.Common.{◌≡◌, ℕ, Bool, true, false, cond, List, map, Option, Some, None, refl}
 use Rattle.std.specs.Prelude.{◌||◌, slice_get, unwrap_or}
 use Rattle.lutree.specs.declared.expr.UnaryOperator.{UnaryOperator}
 use Rattle.lutree.specs.declared.expr.BinaryOperator.{BinaryOperator}
 use Rattle.luflow.specs.declared.data.Datum.{Datum}
-use Rattle.luflow.specs.declared.data.Datum.TheVariants.{Int, Bool as Truth, Nil}
+use Rattle.luflow.specs.declared.data.Datum.TheVariants.{Int, Bool as Truth, Name, Nil}
 use Rattle.luflow.specs.declared.data.Status.TheVariants.{Absent, Present}
 use Rattle.luflow.specs.declared.form.Clock.{Clock}
 use Rattle.luflow.specs.declared.form.Form.{Form}
@@ -15,7 +15,7 @@ use Rattle.luflow.specs.declared.form.Outcome.TheVariants.{Gives, Faults}
 use Rattle.luflow.specs.Program.{FlatProgram, Table, flow_at}
 use Rattle.luflow.specs.Operators.{single_of, double_of, is_nil, picked_of, choice_of}
 use Rattle.luflow.specs.Streams.{Mark, Known, Broken, Streams, datum_of, clock_at}
-use Rattle.luflow.specs.Values.{gives, on_one, on_two, on_three, arrow_of, branch_of, branch_value, merge_of, value_at}
+use Rattle.luflow.specs.Values.{gives, on_one, on_two, on_three, arrow_of, branch_of, branch_value, merge_of, view_at, value_at}
 use Rattle.luflow.specs.Faults.{IsFaultOn, OnUnary, OnBinary, IsFault}
 use Rattle.luflow.proofs.Faults.{fault_back, fault_back_one}
 
@@ -27,6 +27,7 @@ picked_no : (c x y : Datum) (kind : FaultKind) → picked_of c x y ≡ Faults ki
 picked_no (Truth true) x y kind h = cc
 picked_no (Truth false) x y kind h = cc
 picked_no (Int n) x y kind h = cc
+picked_no (Name n) x y kind h = cc
 picked_no Nil x y kind h = cc
 
 choice_no : (c x y : Datum) (kind : FaultKind) → choice_of c x y ≡ Faults kind → ⊥
@@ -80,7 +81,7 @@ fault_on inputs σ k t (Pre a) kind h = absurd (gives_no _ kind h)
 fault_on inputs σ k t (Arrow a b) kind h = absurd (arrow_no _ _ _ kind h)
 fault_on inputs σ k t (When a) kind h = absurd (gives_no _ kind h)
 fault_on inputs σ k t (Current a) kind h = absurd (gives_no _ kind h)
-fault_on inputs σ k t (Merge c xs) kind h = absurd (merge_no _ _ kind h)
+fault_on inputs σ k t (Merge c xs) kind h = let v = view_at inputs σ k t in absurd (merge_no (v.now c) (map v.now xs) kind h)
 
 -- a flow whose value is a fault is a fault of the language
 pub is_fault : (flat : FlatProgram) (inputs : Table) (σ : Streams) (i t : ℕ) (kind : FaultKind) (flow : Flow) → flow_at flat i ≡ Some flow → clock_at inputs σ flow.clock t ≡ Some true → value_at inputs σ flow.clock flow.form t ≡ Faults kind → IsFault flat inputs σ i t kind

@@ -1,24 +1,22 @@
 -- Where a merge is present, it is one of its branches, and the others are absent.
-use Rattle.std.proofs.Common.{◌≡◌, ◌≢◌, ℕ, zero, suc, ◌<◌, Bool, true, false, List, [], ◌∷◌, map, Option, Some, None, nat_eq, refl, sym, ap, ◌∙◌, subst}
-use Rattle.std.specs.Prelude.{slice_get, option_map, unwrap_or, All}
+use Rattle.std.proofs.Common.{◌≡◌, ◌≢◌, ℕ, ◌<◌, Bool, true, false, List, map, Option, Some, None, nat_eq, refl, sym, ap, ◌∙◌, subst}
+use Rattle.std.specs.Prelude.{option_map, unwrap_or}
 use Rattle.std.proofs.lemmas.Bool.{eqb-true, ne_eqb}
 use Rattle.std.proofs.lemmas.Option.{slice_get_within, slice_get-map, same_Some}
 use Rattle.luflow.specs.declared.data.Datum.{Datum}
 use Rattle.luflow.specs.declared.data.Datum.TheVariants.{Nil}
 use Rattle.luflow.specs.declared.data.Status.TheVariants.{Absent, Present}
 use Rattle.luflow.specs.declared.form.Clock.TheVariants.{On}
-use Rattle.luflow.specs.declared.form.Form.{Form}
 use Rattle.luflow.specs.declared.form.Form.TheVariants.{Merge}
 use Rattle.luflow.specs.declared.form.Flow.{Flow}
 use Rattle.luflow.specs.declared.form.Outcome.{Outcome}
 use Rattle.luflow.specs.declared.form.Outcome.TheVariants.{Gives, Faults, Stuck}
-use Rattle.luflow.specs.Program.{FlatProgram, Table, IsOrdered, flow_at, flows_of, places}
+use Rattle.luflow.specs.Program.{FlatProgram, Table, IsOrdered}
 use Rattle.luflow.specs.Streams.{Mark, Known, Broken, Streams, datum_of, is_value, truth_in, clock_at, ticked}
-use Rattle.luflow.specs.Values.{gives, branch_value, merge_of, value_at, mark_of, under}
+use Rattle.luflow.specs.Values.{gives, branch_value, merge_of, value_at, under}
 use Rattle.luflow.specs.Solution.{IsSolution}
-use Rattle.luflow.specs.Sound.{IsOf, IsOn, clock_values, FormFits, IsSound, IsFit, IsTidyMark}
-use Rattle.luflow.specs.FlatLaws.{SplitsAt, IsOneBranch, MergeLaw}
-use Rattle.luflow.proofs.Solutions.{all_at}
+use Rattle.luflow.specs.Sound.{clock_values, FormFits, IsSound, IsFit, IsTidyMark}
+use Rattle.luflow.specs.FlatLaws.{IsOneBranch, MergeLaw}
 use Rattle.luflow.proofs.Patterns.{value_self, pattern_at, splits, branch_there, branch_at, value_there}
 use Rattle.luflow.proofs.TidyStreams.{says_at, tidy}
 

@@ -1,20 +1,20 @@
 -- In every solution of a sound program each flow is present exactly where its clock is true until it is broken, has its
 -- sort, and is nil only where its class allows it; and a value is stuck only where something that it reads is broken.
-use Rattle.std.proofs.Common.{◌≡◌, ◌≢◌, Bool, true, false, cond, not, Option, Some, None, ℤ, refl, ap, ap₂, ◌∙◌}
+use Rattle.std.proofs.Common.{◌≡◌, ◌≢◌, ℕ, Bool, true, false, cond, not, Option, Some, None, ℤ, refl, ap, ap₂, ◌∙◌}
 use Rattle.std.specs.Prelude.{◌||◌}
 use Rattle.luflow.specs.declared.data.Datum.{Datum}
-use Rattle.luflow.specs.declared.data.Datum.TheVariants.{Int, Bool as Truth, Nil}
+use Rattle.luflow.specs.declared.data.Datum.TheVariants.{Int, Bool as Truth, Name, Nil}
 use Rattle.luflow.specs.declared.data.Status.TheVariants.{Absent, Present}
 use Rattle.lutree.specs.declared.program.Kind.{Kind}
-use Rattle.lutree.specs.declared.program.Kind.TheVariants.{Int as Ints, Bool as Truths}
+use Rattle.lutree.specs.declared.program.Kind.TheVariants.{Int as Ints, Bool as Truths, Enum}
 use Rattle.lutree.specs.declared.expr.UnaryOperator.{UnaryOperator}
-use Rattle.lutree.specs.declared.expr.UnaryOperator.TheVariants.{Minus}
+use Rattle.lutree.specs.declared.expr.UnaryOperator.TheVariants.{Minus, Not}
 use Rattle.lutree.specs.declared.expr.BinaryOperator.{BinaryOperator}
 use Rattle.lutree.specs.declared.expr.BinaryOperator.TheVariants.{Add}
 use Rattle.luflow.specs.declared.form.FaultKind.TheVariants.{Overflow, DivZero}
 use Rattle.luflow.specs.declared.form.Outcome.{Outcome}
 use Rattle.luflow.specs.declared.form.Outcome.TheVariants.{Gives, Faults, Stuck}
-use Rattle.luflow.specs.Operators.{single_sort, takes, makes, fits, is_zero, Exact, whole, divided, verdict, nothing, settled, at_int, at_truth, at_ints, at_truths, ints_of, truths_of, single_of, double_of, picked_of, choice_of}
+use Rattle.luflow.specs.Operators.{single_sort, takes, makes, fits, is_zero, Exact, whole, divided, verdict, nothing, settled, at_int, at_truth, at_ints, at_truths, at_names, ints_of, truths_of, names_of, single_of, double_of, picked_of, choice_of}
 use Rattle.luflow.specs.Streams.{Mark, Known, Broken, datum_of, is_value, truth_in, either, newer}
 use Rattle.luflow.specs.Values.{gives, on_one, on_two, on_three, arrow_of, under}
 use Rattle.luflow.specs.Sound.{IsOf, AtMost, IsTidyMark}
@@ -45,6 +45,7 @@ weaker e e' was d le h n = (le (h n).0, (h n).1)
 pub nil_of : (s : Kind) → IsOf s Nil
 nil_of Ints = tt
 nil_of Truths = tt
+nil_of (Enum p n) = tt
 
 pub int_ok : (B : Type 0) (e : Bool) (was : Option Bool) (b : Bool) (z : ℤ) → IsTidyOutcome B Ints e was (cond b (Gives (Int z)) (Faults Overflow))
 int_ok B e was true z = (tt, λ n. let f : Int z ≡ Nil = n in cc)
@@ -71,6 +72,7 @@ where_taken false s = None
 abbrev is_ints : Kind → Bool
 is_ints Ints = true
 is_ints Truths = false
+is_ints (Enum p n) = false
 
 sort_at_int : (op : UnaryOperator) (x : ℤ) → sort_of (at_int op x) ≡ where_taken (is_ints (single_sort op)) Ints
 sort_at_int Minus x = refl
@@ -88,6 +90,10 @@ sort_at_truths : (op : BinaryOperator) (x y : Bool) → sort_of (at_truths op x 
 sort_at_truths Add x y = refl
 sort_at_truths _ x y = refl
 
+sort_at_names : (op : BinaryOperator) (x y p n : ℕ) → sort_of (at_names op x y) ≡ where_taken (takes op (Enum p n)) (makes op)
+sort_at_names Add x y p n = refl
+sort_at_names _ x y p n = refl
+
 settled_ok : (B : Type 0) (e : Bool) (was : Option Bool) (s : Kind) (x : Exact) → sort_of x ≡ Some s → IsTidyOutcome B s e was (settled x)
 settled_ok B e was Ints (whole z) h = int_ok B e was (fits z) z
 settled_ok B e was Ints (divided y z) h = zero_ok B e was (is_zero y) (fits z) z
@@ -95,6 +101,9 @@ settled_ok B e was Ints (verdict b) h = absurd cc
 settled_ok B e was Truths (whole z) h = absurd cc
 settled_ok B e was Truths (divided y z) h = absurd cc
 settled_ok B e was Truths (verdict b) h = truth_ok B e was b
+settled_ok B e was (Enum p n) (whole z) h = absurd cc
+settled_ok B e was (Enum p n) (divided y z) h = absurd cc
+settled_ok B e was (Enum p n) (verdict b) h = absurd cc
 settled_ok B e was s nothing h = absurd cc
 
 pub ints_ok : (B : Type 0) (e : Bool) (was : Option Bool) (op : BinaryOperator) (x y : ℤ) → takes op Ints ≡ true → IsTidyOutcome B (makes op) e was (ints_of op x y)
@@ -103,31 +112,50 @@ ints_ok B e was op x y h = settled_ok B e was (makes op) (at_ints op x y) (sort_
 pub truths_ok : (B : Type 0) (e : Bool) (was : Option Bool) (op : BinaryOperator) (x y : Bool) → takes op Truths ≡ true → IsTidyOutcome B (makes op) e was (truths_of op x y)
 truths_ok B e was op x y h = settled_ok B e was (makes op) (at_truths op x y) (sort_at_truths op x y ∙ ap (λ b. where_taken b (makes op)) h)
 
+pub names_ok : (B : Type 0) (e : Bool) (was : Option Bool) (op : BinaryOperator) (x y p n : ℕ) → takes op (Enum p n) ≡ true → IsTidyOutcome B (makes op) e was (names_of op x y)
+names_ok B e was op x y p n h = settled_ok B e was (makes op) (at_names op x y) (sort_at_names op x y p n ∙ ap (λ b. where_taken b (makes op)) h)
+
 -- the operators at data
 pub double_ok : (B : Type 0) (e ea eb : Bool) (was : Option Bool) (op : BinaryOperator) (u : Kind) (x y : Datum) → takes op u ≡ true → IsOf u x → NilOk ea was x → IsOf u y → NilOk eb was y → AtMost ea e → AtMost eb e → IsTidyOutcome B (makes op) e was (double_of op x y)
 double_ok B e ea eb was op u Nil y h hx nx hy ny la lb = (nil_of (makes op), weaker e ea was Nil la nx)
 double_ok B e ea eb was op u (Int a) Nil h hx nx hy ny la lb = (nil_of (makes op), weaker e eb was Nil lb ny)
 double_ok B e ea eb was op u (Truth a) Nil h hx nx hy ny la lb = (nil_of (makes op), weaker e eb was Nil lb ny)
+double_ok B e ea eb was op u (Name a) Nil h hx nx hy ny la lb = (nil_of (makes op), weaker e eb was Nil lb ny)
 double_ok B e ea eb was op Ints (Int a) (Int b) h hx nx hy ny la lb = ints_ok B e was op a b h
-double_ok B e ea eb was op Truths (Int a) (Int b) h hx nx hy ny la lb = absurd hx
 double_ok B e ea eb was op Ints (Int a) (Truth b) h hx nx hy ny la lb = absurd hy
-double_ok B e ea eb was op Truths (Int a) (Truth b) h hx nx hy ny la lb = absurd hx
-double_ok B e ea eb was op Ints (Truth a) (Int b) h hx nx hy ny la lb = absurd hx
+double_ok B e ea eb was op Ints (Int a) (Name b) h hx nx hy ny la lb = absurd hy
+double_ok B e ea eb was op Ints (Truth a) y h hx nx hy ny la lb = absurd hx
+double_ok B e ea eb was op Ints (Name a) y h hx nx hy ny la lb = absurd hx
+double_ok B e ea eb was op Truths (Int a) y h hx nx hy ny la lb = absurd hx
 double_ok B e ea eb was op Truths (Truth a) (Int b) h hx nx hy ny la lb = absurd hy
-double_ok B e ea eb was op Ints (Truth a) (Truth b) h hx nx hy ny la lb = absurd hx
 double_ok B e ea eb was op Truths (Truth a) (Truth b) h hx nx hy ny la lb = truths_ok B e was op a b h
+double_ok B e ea eb was op Truths (Truth a) (Name b) h hx nx hy ny la lb = absurd hy
+double_ok B e ea eb was op Truths (Name a) y h hx nx hy ny la lb = absurd hx
+double_ok B e ea eb was op (Enum p n) (Int a) y h hx nx hy ny la lb = absurd hx
+double_ok B e ea eb was op (Enum p n) (Truth a) y h hx nx hy ny la lb = absurd hx
+double_ok B e ea eb was op (Enum p n) (Name a) (Int b) h hx nx hy ny la lb = absurd hy
+double_ok B e ea eb was op (Enum p n) (Name a) (Truth b) h hx nx hy ny la lb = absurd hy
+double_ok B e ea eb was op (Enum p n) (Name a) (Name b) h hx nx hy ny la lb = names_ok B e was op a b p n h
 
 one_int_ok : (B : Type 0) (e : Bool) (was : Option Bool) (s : Kind) (x : Exact) (n : ℤ) → IsOf s (Int n) → sort_of x ≡ where_taken (is_ints s) Ints → IsTidyOutcome B s e was (settled x)
 one_int_ok B e was Ints x n h k = settled_ok B e was Ints x k
 one_int_ok B e was Truths x n h k = absurd h
+one_int_ok B e was (Enum p m) x n h k = absurd h
 
 one_truth_ok : (B : Type 0) (e : Bool) (was : Option Bool) (s : Kind) (x : Exact) (b : Bool) → IsOf s (Truth b) → sort_of x ≡ where_taken (not (is_ints s)) Truths → IsTidyOutcome B s e was (settled x)
 one_truth_ok B e was Ints x b h k = absurd h
 one_truth_ok B e was Truths x b h k = settled_ok B e was Truths x k
+one_truth_ok B e was (Enum p n) x b h k = absurd h
+
+-- no operator with one operand takes names
+no_names : (op : UnaryOperator) (k : ℕ) → IsOf (single_sort op) (Name k) → ⊥
+no_names Minus k h = h
+no_names Not k h = h
 
 pub single_ok : (B : Type 0) (e ea : Bool) (was : Option Bool) (op : UnaryOperator) (x : Datum) → IsOf (single_sort op) x → NilOk ea was x → AtMost ea e → IsTidyOutcome B (single_sort op) e was (single_of op x)
 single_ok B e ea was op (Int n) h ok le = one_int_ok B e was (single_sort op) (at_int op n) n h (sort_at_int op n)
 single_ok B e ea was op (Truth b) h ok le = one_truth_ok B e was (single_sort op) (at_truth op b) b h (sort_at_truth op b)
+single_ok B e ea was op (Name k) h ok le = absurd (no_names op k h)
 single_ok B e ea was op Nil h ok le = (nil_of (single_sort op), weaker e ea was Nil le ok)
 
 pub picked_ok : (B : Type 0) (s : Kind) (e ea eb : Bool) (was : Option Bool) (v : Bool) (x y : Datum) → IsOf s x → NilOk ea was x → IsOf s y → NilOk eb was y → AtMost ea e → AtMost eb e → IsTidyOutcome B s e was (picked_of (Truth v) x y)
@@ -137,13 +165,10 @@ picked_ok B s e ea eb was false x y hx nx hy ny la lb = (hy, weaker e eb was y l
 pub choice_ok : (B : Type 0) (s : Kind) (e ec ea eb : Bool) (was : Option Bool) (c x y : Datum) → IsOf Truths c → NilOk ec was c → IsOf s x → NilOk ea was x → IsOf s y → NilOk eb was y → AtMost ec e → AtMost ea e → AtMost eb e → IsTidyOutcome B s e was (choice_of c x y)
 choice_ok B s e ec ea eb was Nil x y hc nc hx nx hy ny lc la lb = (nil_of s, weaker e ec was Nil lc nc)
 choice_ok B s e ec ea eb was (Int n) x y hc nc hx nx hy ny lc la lb = absurd hc
+choice_ok B s e ec ea eb was (Name n) x y hc nc hx nx hy ny lc la lb = absurd hc
 choice_ok B s e ec ea eb was (Truth v) Nil y hc nc hx nx hy ny lc la lb = (nil_of s, weaker e ea was Nil la nx)
-choice_ok B s e ec ea eb was (Truth v) (Int a) Nil hc nc hx nx hy ny lc la lb = (nil_of s, weaker e eb was Nil lb ny)
-choice_ok B s e ec ea eb was (Truth v) (Truth a) Nil hc nc hx nx hy ny lc la lb = (nil_of s, weaker e eb was Nil lb ny)
-choice_ok B s e ec ea eb was (Truth v) (Int a) (Int b) hc nc hx nx hy ny lc la lb = picked_ok B s e ea eb was v (Int a) (Int b) hx nx hy ny la lb
-choice_ok B s e ec ea eb was (Truth v) (Int a) (Truth b) hc nc hx nx hy ny lc la lb = picked_ok B s e ea eb was v (Int a) (Truth b) hx nx hy ny la lb
-choice_ok B s e ec ea eb was (Truth v) (Truth a) (Int b) hc nc hx nx hy ny lc la lb = picked_ok B s e ea eb was v (Truth a) (Int b) hx nx hy ny la lb
-choice_ok B s e ec ea eb was (Truth v) (Truth a) (Truth b) hc nc hx nx hy ny lc la lb = picked_ok B s e ea eb was v (Truth a) (Truth b) hx nx hy ny la lb
+choice_ok B s e ec ea eb was (Truth v) x Nil hc nc hx nx hy ny lc la lb = (nil_of s, weaker e eb was Nil lb ny)
+choice_ok B s e ec ea eb was (Truth v) x y hc nc hx nx hy ny lc la lb = picked_ok B s e ea eb was v x y hx nx hy ny la lb
 
 -- the forms at what is read
 pub gives_ok : (B : Type 0) (s : Kind) (e ea : Bool) (was : Option Bool) (m : Mark) (o : Option Datum) → Reads s ea was m o → AtMost ea e → (B → m ≢ Broken) → IsTidyOutcome B s e was (gives o)

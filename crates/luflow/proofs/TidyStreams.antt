@@ -5,10 +5,10 @@ use Rattle.std.proofs.lemmas.List.Elements.{All-weaker}
 use Rattle.std.proofs.lemmas.Bool.{cases_lt}
 use Rattle.std.proofs.lemmas.Option.{slice_get_within, slice_get-map}
 use Rattle.luflow.specs.declared.data.Datum.{Datum}
-use Rattle.luflow.specs.declared.data.Datum.TheVariants.{Int, Bool as Truth, Nil}
+use Rattle.luflow.specs.declared.data.Datum.TheVariants.{Nil}
 use Rattle.luflow.specs.declared.data.Status.TheVariants.{Absent, Present}
 use Rattle.lutree.specs.declared.program.Kind.{Kind}
-use Rattle.lutree.specs.declared.program.Kind.TheVariants.{Int as Ints, Bool as Truths}
+use Rattle.lutree.specs.declared.program.Kind.TheVariants.{Int as Ints, Bool as Truths, Enum}
 use Rattle.luflow.specs.declared.form.Clock.{Clock}
 use Rattle.luflow.specs.declared.form.Clock.TheVariants.{Base, On}
 use Rattle.luflow.specs.declared.form.Form.{Form}
@@ -28,6 +28,7 @@ use Rattle.luflow.proofs.Tidy.{Reads, IsTidyOutcome, operand, gives_ok, one_ok, 
 nil_is : (s : Kind) → IsOf s Nil
 nil_is Ints = tt
 nil_is Truths = tt
+nil_is (Enum p n) = tt
 
 slice_get_below : {X : Type 0} (xs : List X) (i : ℕ) (x : X) → slice_get xs i ≡ Some x → i < length xs
 slice_get_below xs i x is = slice_get_within xs i x is

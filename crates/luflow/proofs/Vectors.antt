@@ -23,15 +23,15 @@ use Rattle.luflow.specs.Values.{under, value_at}
 use Rattle.luflow.specs.Solution.{says, solution}
 use Rattle.luflow.specs.Sound.{IsSound, IsFitFor, IsOn, AtMost, FormFits, ClockFits}
 use Rattle.luflow.specs.Flats.{IsFlat}
-use Rattle.luflow.specs.declared.data.Datum.TheVariants.{Int, Bool as Truth}
+use Rattle.luflow.specs.declared.data.Datum.TheVariants.{Int, Bool as Truth, Name}
 use Rattle.luflow.specs.declared.form.FaultKind.TheVariants.{DivZero}
 use Rattle.luflow.specs.Operators.{ZeroDivisor}
 use Rattle.luflow.specs.Faults.{IsFault, OnBinary}
-use Rattle.luflow.specs.Vectors.{int_flow, truth_flow, int_variable, truth_variable, number, IsWorked, two_counters, three, sampled_sum, four_samples, division, one_zero, one_two, held_sample, three_samples, chained, four_rows}
+use Rattle.luflow.specs.Vectors.{int_flow, truth_flow, int_variable, truth_variable, number, IsWorked, two_counters, three, sampled_sum, four_samples, division, one_zero, one_two, held_sample, three_samples, chained, four_rows, three_names, of_three, mode_flow, three_ways, four_modes}
 use Rattle.luflow.specs.FormVectors.{no_samples}
 use Rattle.luflow.proofs.Solutions.{some_at, IsSolution-solution}
-use Rattle.luflow.proofs.Patterns.{truth_pattern, some_values}
-use Rattle.luflow.proofs.Worked.{each_at, ranked, ordered, places_below, inner, main_clocks, column, columns_long}
+use Rattle.luflow.proofs.Patterns.{truth_pattern, name_pattern, some_values, some_names}
+use Rattle.luflow.proofs.Worked.{each_at, ranked, ordered, places_below, inner, main_clocks, kinds, types, column, columns_long}
 
 counters_ordered : IsOrdered two_counters
 counters_ordered = ordered two_counters refl refl refl refl refl refl
@@ -118,6 +118,8 @@ counters_flat =
           ((λ c e. cc), ((λ c e. cc), ((λ c e. cc), ((λ c e. cc), ((λ c e. cc), ((λ c e. cc), ((λ c e. cc), ((λ c e. cc), ((λ c e. cc), ((λ c e. cc), tt))))))))))
           i flow here c;
       input_is = each_at (IsInputFlow two_counters) two_counters.variables ((λ e. cc), ((λ e. cc), tt));
+      kinds = kinds two_counters (refl, (refl, tt));
+      types = types two_counters (tt, (tt, (tt, (tt, (tt, (tt, (tt, (tt, (tt, (tt, tt))))))))));
       variables_first = omega arith;
       inputs_first = (_, refl);
     }
@@ -219,6 +221,8 @@ sum_flat =
           ((λ e. cc), ((λ e. cc), ((λ e. cc), tt))),
         ),
       );
+      kinds = kinds sampled_sum (refl, (refl, (refl, (refl, (refl, tt)))));
+      types = types sampled_sum (tt, (tt, (tt, (tt, (tt, (tt, (tt, (tt, tt))))))));
       variables_first = omega arith;
       inputs_first = (_, refl);
     }
@@ -282,6 +286,8 @@ division_flat =
           i flow here c;
       input_is = each_at (IsInputFlow division) division.variables
           ((λ e. (int_flow (Input 0), refl, refl, refl)), ((λ e. cc), ((λ e. cc), ((λ e. cc), tt))));
+      kinds = kinds division (refl, (refl, (refl, (refl, tt))));
+      types = types division (tt, (tt, (tt, (tt, (tt, (tt, tt))))));
       variables_first = omega arith;
       inputs_first = (_, refl);
     }
@@ -388,6 +394,8 @@ held_flat =
           i flow here c;
       input_is = each_at (IsInputFlow held_sample) held_sample.variables
           ((λ e. (int_flow (Input 0), refl, refl, refl)), ((λ e. cc), ((λ e. cc), ((λ e. cc), ((λ e. cc), tt)))));
+      kinds = kinds held_sample (refl, (refl, (refl, (refl, (refl, tt)))));
+      types = types held_sample (tt, (tt, (tt, (tt, (tt, (tt, (tt, (tt, (tt, (tt, tt))))))))));
       variables_first = omega arith;
       inputs_first = (_, refl);
     }
@@ -471,6 +479,8 @@ chained_flat =
           ((λ e. (truth_flow (Input 2), refl, refl, refl)), ((λ e. cc), ((λ e. cc), ((λ e. cc), tt)))),
         ),
       );
+      kinds = kinds chained (refl, (refl, (refl, (refl, (refl, (refl, tt))))));
+      types = types chained (tt, (tt, (tt, (tt, (tt, (tt, (tt, tt)))))));
       variables_first = omega arith;
       inputs_first = (_, refl);
     }
@@ -484,6 +494,92 @@ chained_worked =
           record {
             columns = each_at (λ i flow. IsFitFor four_rows flow.kind flow.form) chained.flows
                 (column Ints (column_of four_rows 0) refl, (column Truths (column_of four_rows 1) refl, (column Truths (column_of four_rows 2) refl, (tt, (tt, (tt, (tt, tt)))))));
+          };
+    }
+
+-- the clock that is true where m has a name
+on_name : (k : ℕ) → k < 3 → ClockFits three_ways never_nil (On 0 (Name k))
+on_name k l = (Base, of_three, name_pattern 0 3 k l, there (Input 0) refl, refl)
+
+ways_sound : IsSound three_ways
+ways_sound =
+    record {
+      class = never_nil;
+      forms = each_at (λ i flow. FormFits three_ways never_nil flow.clock flow.kind false flow.form) three_ways.flows (
+        refl,
+        (
+          refl,
+          (
+            (of_three, some_names 0 2, there (Input 0) refl, refl, (there (When 1) refl, refl, (there (When 1) refl, refl, (there (When 6) refl, refl, tt)))),
+            (
+              (of_three, refl, refl, there (Input 0) refl, there (Constant (Name 1)) refl, never, never),
+              (
+                (0, Name 1, of_three, Base, refl, there (Input 0) refl, there (Input 1) refl, never),
+                (
+                  (0, Name 0, of_three, Base, refl, there (Input 0) refl, there (Input 1) refl, never),
+                  (
+                    (tt, λ e. cc),
+                    (
+                      (0, Name 2, of_three, Base, refl, there (Input 0) refl, there (number 7) refl, never),
+                      (
+                        (omega arith, λ e. cc),
+                        tt,
+                      ),
+                    ),
+                  ),
+                ),
+              ),
+            ),
+          ),
+        ),
+      );
+      clocks = each_at (λ i flow. ClockFits three_ways never_nil flow.clock) three_ways.flows
+          (tt, (tt, (tt, (tt, (on_name 1 (omega arith), (on_name 0 (omega arith), (tt, (on_name 2 (omega arith), (tt, tt)))))))));
+      outputs = λ v x e o. refl;
+    }
+
+ways_flat : IsFlat three_ways
+ways_flat =
+    record {
+      ordered = ordered three_ways refl refl refl refl refl refl;
+      ranked = ranked (reads_of three_ways) three_ways.order refl refl;
+      sound = ways_sound;
+      few = omega arith;
+      owners_len = refl;
+      owners_in = places_below three_ways 5 three_ways.owners refl;
+      inner = inner three_ways refl;
+      main_clocks = main_clocks three_ways refl;
+      input_there = λ i c flow here. each_at (IsInputThere three_ways) three_ways.flows (
+        (λ c e. (cc, record { name = codes "m"; role = role.Input; kind = of_three }, refl, refl)),
+        (
+          (λ c e. (cc, int_variable role.Input (codes "x"), refl, refl)),
+          ((λ c e. cc), ((λ c e. cc), ((λ c e. cc), ((λ c e. cc), ((λ c e. cc), ((λ c e. cc), ((λ c e. cc), tt))))))),
+        ),
+      )
+          i flow here c;
+      input_is = each_at (IsInputFlow three_ways) three_ways.variables (
+        (λ e. (mode_flow (Input 0), refl, refl, refl)),
+        (
+          (λ e. (int_flow (Input 1), refl, refl, refl)),
+          ((λ e. cc), ((λ e. cc), ((λ e. cc), tt))),
+        ),
+      );
+      kinds = kinds three_ways (refl, (refl, (refl, (refl, (refl, tt)))));
+      types = types three_ways
+          ((three_names, refl, refl), (tt, (tt, (tt, (tt, (tt, (tt, (tt, ((three_names, refl, refl), tt)))))))));
+      variables_first = omega arith;
+      inputs_first = (_, refl);
+    }
+
+pub ways_worked : IsWorked three_ways four_modes
+ways_worked =
+    record {
+      flat_is = ways_flat;
+      table_is = record { few = omega arith; long = columns_long four_modes refl };
+      fit =
+          record {
+            columns = each_at (λ i flow. IsFitFor four_modes flow.kind flow.form) three_ways.flows
+                (column of_three (column_of four_modes 0) refl, (column Ints (column_of four_modes 1) refl, (tt, (tt, (tt, (tt, (tt, (tt, (tt, tt)))))))));
           };
     }
 

@@ -2,17 +2,19 @@
 use Rattle.std.proofs.Common.{◌≡◌, ℕ, zero, suc, ◌<◌, inl, inr, Bool, true, false, nat_eq, List, [], ◌∷◌, ◌++◌, length, take, Option, Some, None, refl, sym, ap, ◌∙◌, subst, arith}
 use Rattle.std.specs.Prelude.{slice_get, slice_index, All, Contains, ◌&&◌, ◌||◌, not, nat_lt}
 use Rattle.std.specs.List.{list_all}
+use Rattle.std.specs.Option.{option_map}
 use Rattle.std.proofs.lemmas.Bool.{agree_below, agree_below_at, and_parts, cases_eq, false≢true, ltb-true, lt-ltb, eqb-true, eq-eqb, ne_eqb}
 use Rattle.std.proofs.lemmas.List.Elements.{All-weaker}
 use Rattle.std.proofs.lemmas.List.Sums.{AllPass-from_list_all}
-use Rattle.std.proofs.lemmas.Option.{slice_get_within, get_or_from_slice_get}
+use Rattle.std.proofs.lemmas.Option.{slice_get_within, get_or_from_slice_get, same_Some}
 use Rattle.lutree.specs.declared.program.Kind.{Kind}
-use Rattle.lutree.specs.declared.program.Kind.TheVariants.{Int as Ints, Bool as Truths}
+use Rattle.lutree.specs.declared.program.Kind.TheVariants.{Int as Ints, Bool as Truths, Enum as Names}
 use Rattle.luflow.specs.declared.data.Datum.{Datum}
-use Rattle.luflow.specs.declared.data.Datum.TheVariants.{Int, Bool as Truth, Nil}
+use Rattle.luflow.specs.declared.data.Datum.TheVariants.{Int, Bool as Truth, Name, Nil}
 use Rattle.luflow.specs.declared.form.Flow.{Flow}
+use Rattle.luflow.specs.declared.variable.Variable.{Variable}
 use Rattle.luflow.specs.Program.{FlatProgram, Table, IsOrdered, flow_at, flows_of, places, clock_reads, reads}
-use Rattle.luflow.specs.Flats.{IsWithin}
+use Rattle.luflow.specs.Flats.{IsTypeAmong, IsWithin}
 use Rattle.luflow.specs.Rank.{has, is_ready, IsNext, IsRankOrder}
 use Rattle.luflow.specs.Sound.{IsConstantOf}
 use Rattle.luflow.proofs.Solutions.{some_at}
@@ -140,22 +142,42 @@ module _ (flat : FlatProgram) where
       let test = flow_passes flat (λ i flow. are_in (length flat.variables) (clock_reads flow.clock) || not (nat_lt i (length flat.variables))) h v flow e in
       places_below (length flat.variables) (clock_reads flow.clock) (implied (are_in (length flat.variables) (clock_reads flow.clock)) (nat_lt v (length flat.variables)) test (lt-ltb v (length flat.variables) l))
 
+  -- a variable's flow has its type, and each type is one of the program's
+  pub kinds : Each (λ v (x : Variable). option_map (λ (flow : Flow). flow.kind) (flow_at flat v) ≡ Some x.kind) flat.variables → (v : ℕ) (x : Variable) (flow : Flow) → slice_get flat.variables v ≡ Some x → flow_at flat v ≡ Some flow → flow.kind ≡ x.kind
+  kinds all v x flow at there =
+      same_Some flow.kind x.kind (sym (ap (option_map (λ (f : Flow). f.kind)) there) ∙ each_at (λ v (x : Variable). option_map (λ (f : Flow). f.kind) (flow_at flat v) ≡ Some x.kind) flat.variables all v x at)
+
+  pub types : Each (λ i (flow : Flow). IsTypeAmong flat.types flow.kind) flat.flows → (i : ℕ) (flow : Flow) → flow_at flat i ≡ Some flow → IsTypeAmong flat.types flow.kind
+  types all i flow at = each_at (λ i (f : Flow). IsTypeAmong flat.types f.kind) flat.flows all i flow at
+
 -- the data of a column
 abbrev is_constant : Kind → Datum → Bool
 is_constant Ints (Int n) = true
 is_constant Ints (Truth b) = false
+is_constant Ints (Name k) = false
 is_constant Ints Nil = false
 is_constant Truths (Int n) = false
 is_constant Truths (Truth b) = true
+is_constant Truths (Name k) = false
 is_constant Truths Nil = false
+is_constant (Names p n) (Int z) = false
+is_constant (Names p n) (Truth b) = false
+is_constant (Names p n) (Name k) = nat_lt k n
+is_constant (Names p n) Nil = false
 
 constant_is : (s : Kind) (d : Datum) → is_constant s d ≡ true → IsConstantOf s d
 constant_is Ints (Int n) h = (tt, λ e. cc)
 constant_is Ints (Truth b) h = cc
+constant_is Ints (Name k) h = cc
 constant_is Ints Nil h = cc
 constant_is Truths (Int n) h = cc
 constant_is Truths (Truth b) h = (tt, λ e. cc)
+constant_is Truths (Name k) h = cc
 constant_is Truths Nil h = cc
+constant_is (Names p n) (Int z) h = cc
+constant_is (Names p n) (Truth b) h = cc
+constant_is (Names p n) (Name k) h = (ltb-true k n h, λ e. cc)
+constant_is (Names p n) Nil h = cc
 
 pub column : (s : Kind) (ds : List Datum) → list_all (is_constant s) ds ≡ true → (t : ℕ) → t < length ds → (d : Datum) × (slice_get ds t ≡ Some d) × IsConstantOf s d
 column s ds h t l =

@@ -5,7 +5,7 @@ use Rattle.std.specs.List.{range_with_len}
 use Rattle.lutree.specs.declared.expr.UnaryOperator.TheVariants.{Minus}
 use Rattle.lutree.specs.declared.expr.BinaryOperator.TheVariants.{Subtract}
 use Rattle.lutree.specs.declared.program.Kind.TheVariants.{Int as Ints}
-use Rattle.luflow.specs.declared.data.Datum.TheVariants.{Int, Bool as Truth, Nil}
+use Rattle.luflow.specs.declared.data.Datum.TheVariants.{Int, Bool as Truth, Name, Nil}
 use Rattle.luflow.specs.declared.data.Status.TheVariants.{Absent, Present}
 use Rattle.luflow.specs.declared.form.Clock.{Clock}
 use Rattle.luflow.specs.declared.form.Clock.TheVariants.{Base, On}
@@ -17,7 +17,7 @@ use Rattle.luflow.specs.Program.{Table}
 use Rattle.luflow.specs.Streams.{Mark, Known, Broken, Stream, Streams, clock_at, ticked, before}
 use Rattle.luflow.specs.Messages.{marks, messages, presents}
 use Rattle.luflow.specs.Solution.{says, solution}
-use Rattle.luflow.specs.Vectors.{known, known_truth, ints, number, division, sampled_sum, IsWorked}
+use Rattle.luflow.specs.Vectors.{known, known_truth, known_name, ints, number, division, sampled_sum, IsWorked}
 
 -- STREAMS
 
@@ -59,6 +59,8 @@ listed (ms ∷ rows) (suc i) = listed rows i
 -- 7 late       nil 1 2 3
 -- 8 spent      broken 2 3 4
 -- 9 idle       false false broken true, a clock that breaks before it was true
+-- 10 mode      the names 0, 2, 1 and then broken
+-- 11 pause     - 1 - 0, names where the clock is false
 abbrev pub streams : Streams
 streams =
     listed (
@@ -72,6 +74,8 @@ streams =
     ∷ (nil ∷ known 1 ∷ known 2 ∷ known 3 ∷ [])
     ∷ (Broken ∷ known 2 ∷ known 3 ∷ known 4 ∷ [])
     ∷ (no ∷ no ∷ Broken ∷ yes ∷ [])
+    ∷ (known_name 0 ∷ known_name 2 ∷ known_name 1 ∷ Broken ∷ [])
+    ∷ (none ∷ known_name 1 ∷ none ∷ known_name 0 ∷ [])
     ∷ []
     )
 
@@ -120,10 +124,15 @@ pub record ClocksAre : Type 0 where
   pub of_lost_turned : told_by (On 3 (Truth false)) ≡ Some false ∷ None ∷ Some false ∷ Some false ∷ []
   pub of_absent : map (λ b. clock_at four_instants (listed []) (On 0 (Truth b)) 0) (true ∷ false ∷ []) ≡
       map sure (false ∷ false ∷ [])
+  -- on a name: true where the variable has it, false where it has another or is absent, broken where it is broken
+  pub of_name : told_by (On 10 (Name 1)) ≡ Some false ∷ Some false ∷ Some true ∷ None ∷ []
+  pub of_last_name : told_by (On 10 (Name 2)) ≡ Some false ∷ Some true ∷ Some false ∷ None ∷ []
+  pub of_slow_name : told_by (On 11 (Name 0)) ≡ map sure (false ∷ false ∷ false ∷ true ∷ [])
   -- true before: not at the first instant, and not known where it broke before, even if it was true
   pub base_before : ticked_by Base ≡ map sure (false ∷ true ∷ true ∷ true ∷ [])
   pub true_before : ticked_by (On 2 (Truth false)) ≡ map sure (false ∷ false ∷ true ∷ true ∷ [])
   pub lost_before : ticked_by (On 3 (Truth true)) ≡ Some false ∷ Some true ∷ None ∷ None ∷ []
+  pub name_before : ticked_by (On 11 (Name 1)) ≡ map sure (false ∷ false ∷ true ∷ true ∷ [])
   pub idle_before : ticked_by (On 9 (Truth true)) ≡ Some false ∷ Some false ∷ Some false ∷ None ∷ []
 
 -- FORMS
@@ -175,6 +184,10 @@ pub record ChoicesAre : Type 0 where
   pub merged_cut : on_base (Merge 2 (5 ∷ 6 ∷ [])) ≡ known 1 ∷ known 6 ∷ Broken ∷ known 4 ∷ []
   pub not_taken_is_no_matter : on_base (Merge 2 (1 ∷ 0 ∷ [])) ≡ known 5 ∷ known 2 ∷ known 7 ∷ known 8 ∷ []
   pub clock_broken : on_base (Merge 3 (0 ∷ 0 ∷ [])) ≡ known 1 ∷ Broken ∷ known 3 ∷ known 4 ∷ []
+  -- by names: the branch of the name's number, and none beyond the branches
+  pub merged_names : on_base (Merge 10 (0 ∷ 1 ∷ 7 ∷ [])) ≡ known 1 ∷ known 1 ∷ known 7 ∷ Broken ∷ []
+  pub merged_otherwise : on_base (Merge 10 (7 ∷ 0 ∷ 1 ∷ [])) ≡ nil ∷ Broken ∷ known 3 ∷ Broken ∷ []
+  pub beyond_branches : on_base (Merge 10 (0 ∷ 1 ∷ [])) ≡ known 1 ∷ Broken ∷ known 7 ∷ Broken ∷ []
 
 pub record OthersAre : Type 0 where
   -- absent where the clock is false, even if the operand breaks there, and broken where the clock is
@@ -182,6 +195,7 @@ pub record OthersAre : Type 0 where
   pub sample_of_breaking : on_clock (When 1) ≡ known 5 ∷ none ∷ known 7 ∷ known 8 ∷ []
   pub sample_elsewhere : off_clock (When 1) ≡ none ∷ Broken ∷ none ∷ none ∷ []
   pub sample_by_lost : on_lost (When 0) ≡ known 1 ∷ Broken ∷ known 3 ∷ known 4 ∷ []
+  pub sample_by_name : given (On 10 (Name 2)) (When 0) ≡ none ∷ known 2 ∷ none ∷ Broken ∷ []
   pub constant : on_clock (number 9) ≡ known 9 ∷ none ∷ known 9 ∷ known 9 ∷ []
   pub constant_by_lost : on_lost (number 9) ≡ known 9 ∷ Broken ∷ known 9 ∷ known 9 ∷ []
   pub copy : on_base (Copied 1) ≡ known 5 ∷ Broken ∷ known 7 ∷ known 8 ∷ []
@@ -196,6 +210,9 @@ pub record OthersAre : Type 0 where
 
 abbrev pub value_no : ℕ → ℕ → Msg
 value_no k n = record { no = k; body = Value (Int (pos n)) }
+
+abbrev pub name_no : ℕ → ℕ → Msg
+name_no k n = record { no = k; body = Value (Name n) }
 
 abbrev pub close_no : ℕ → Msg
 close_no k = record { no = k; body = Close }
@@ -214,6 +231,10 @@ pub record MessagesAre : Type 0 where
   -- nil is a value
   pub of_late : carried (streams 7) 2 ≡
       record { no = 0; body = Value Nil } ∷ value_no 1 1 ∷ close_no 2 ∷ []
+  -- so is a name, by its number
+  pub of_mode : carried (streams 10) 3 ≡
+      name_no 0 0 ∷ name_no 1 2 ∷ name_no 2 1 ∷ close_no 3 ∷ []
+  pub of_pause : carried (streams 11) 4 ≡ name_no 0 1 ∷ name_no 1 0 ∷ close_no 2 ∷ []
   -- at a break it ends, without a close, and nothing comes after it
   pub of_breaking : carried (streams 1) 4 ≡ value_no 0 5 ∷ []
   pub of_cut : carried (streams 5) 4 ≡ value_no 0 1 ∷ []

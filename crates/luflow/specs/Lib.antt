@@ -7,6 +7,7 @@ pub mod Solution
 pub mod Faults
 pub mod Sound
 pub mod Variables
+pub mod Types
 pub mod Messages
 pub mod Tables
 pub mod Flats

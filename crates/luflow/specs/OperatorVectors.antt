@@ -1,15 +1,15 @@
 -- The data operators at chosen data, worked out by hand from what the language says of them.
 -- `negsuc n` is -(n + 1).
-use Rattle.std.specs.Prelude.{◌≡◌, Bool, true, false, List, [], ◌∷◌, map, ℤ, pos, negsuc}
-use Rattle.lutree.specs.declared.program.Kind.TheVariants.{Int as Ints, Bool as Truths}
+use Rattle.std.specs.Prelude.{◌≡◌, ℕ, Bool, true, false, List, [], ◌∷◌, map, ℤ, pos, negsuc}
+use Rattle.lutree.specs.declared.program.Kind.TheVariants.{Int as Ints, Bool as Truths, Enum}
 use Rattle.lutree.specs.declared.expr.UnaryOperator.TheVariants.{Minus, Not}
 use Rattle.lutree.specs.declared.expr.BinaryOperator.{BinaryOperator}
 use Rattle.lutree.specs.declared.expr.BinaryOperator.TheVariants.{Add, Subtract, Multiply, Divide, Modulo, Less, LessEqual, Greater, GreaterEqual, Equal, Unequal, And, Or, Xor, Implies}
 use Rattle.luflow.specs.declared.data.Datum.{Datum}
-use Rattle.luflow.specs.declared.data.Datum.TheVariants.{Int, Bool as Truth, Nil}
+use Rattle.luflow.specs.declared.data.Datum.TheVariants.{Int, Bool as Truth, Name, Nil}
 use Rattle.luflow.specs.declared.form.FaultKind.TheVariants.{Overflow, DivZero}
 use Rattle.luflow.specs.declared.form.Outcome.{Outcome}
-use Rattle.luflow.specs.declared.form.Outcome.TheVariants.{Gives, Faults}
+use Rattle.luflow.specs.declared.form.Outcome.TheVariants.{Gives, Faults, Stuck}
 use Rattle.luflow.specs.Operators.{single_sort, makes, takes, single_of, double_of, choice_of}
 
 -- the greatest and the least number of 64 bits
@@ -19,12 +19,15 @@ greatest = pos 9223372036854775807
 abbrev pub least : ℤ
 least = negsuc 9223372036854775807
 
--- an operator at two numbers, and at two truths
+-- an operator at two numbers, at two truths, and at two names
 abbrev pub ints : BinaryOperator → ℤ → ℤ → Outcome
 ints op x y = double_of op (Int x) (Int y)
 
 abbrev pub truths : BinaryOperator → Bool → Bool → Outcome
 truths op x y = double_of op (Truth x) (Truth y)
+
+abbrev pub names : BinaryOperator → ℕ → ℕ → Outcome
+names op x y = double_of op (Name x) (Name y)
 
 -- what comes out: a number, a truth, nil, or a fault
 abbrev pub number_is : ℤ → Outcome
@@ -182,6 +185,9 @@ all_operators =
 abbrev pub fifteen_nils : List Outcome
 fifteen_nils = map (λ op. nil_is) all_operators
 
+abbrev pub fifteen_stuck : List Outcome
+fifteen_stuck = map (λ op. Stuck) all_operators
+
 -- the number of an `if`: where its condition is true and where it is false
 abbrev pub choice : Datum → Datum → Datum → Outcome
 choice = choice_of
@@ -201,6 +207,8 @@ pub record NilsAre : Type 0 where
   pub after_true : map (λ op. double_of op (Truth true) Nil) all_operators ≡ fifteen_nils
   pub before_false : map (λ op. double_of op Nil (Truth false)) all_operators ≡ fifteen_nils
   pub after_false : map (λ op. double_of op (Truth false) Nil) all_operators ≡ fifteen_nils
+  pub before_name : map (λ op. double_of op Nil (Name 0)) all_operators ≡ fifteen_nils
+  pub after_name : map (λ op. double_of op (Name 0) Nil) all_operators ≡ fifteen_nils
   pub on_both : map (λ op. double_of op Nil Nil) all_operators ≡ fifteen_nils
   pub minus : single_of Minus Nil ≡ nil_is
   pub negation : single_of Not Nil ≡ nil_is
@@ -213,25 +221,52 @@ pub record NilsAre : Type 0 where
   pub nil_taken_if_false : choice (Truth false) one Nil ≡ nil_is
   pub nil_not_taken_if_false : choice (Truth false) Nil two ≡ nil_is
 
+-- NAMES
+
+-- the operators that take no names
+abbrev pub nameless : List BinaryOperator
+nameless =
+    Add ∷ Subtract ∷ Multiply ∷ Divide ∷ Modulo
+    ∷ Less ∷ LessEqual ∷ Greater ∷ GreaterEqual ∷ And ∷ Or ∷ Xor ∷ Implies ∷ []
+
+pub record NamesAre : Type 0 where
+  -- two names are equal or not, and no other operator takes them
+  pub same : names Equal 1 1 ≡ truth_is true
+  pub other : names Equal 0 1 ≡ truth_is false
+  pub other_turned : names Equal 1 0 ≡ truth_is false
+  pub unequal : names Unequal 0 1 ≡ truth_is true
+  pub not_unequal : names Unequal 2 2 ≡ truth_is false
+  pub others : map (λ op. names op 1 1) nameless ≡ map (λ op. Stuck) nameless
+  pub singles : map (λ op. single_of op (Name 0)) (Minus ∷ Not ∷ []) ≡ Stuck ∷ Stuck ∷ []
+  -- a name is no number and no truth
+  pub beside_number : map (λ op. double_of op (Name 1) (Int (pos 1))) all_operators ≡ fifteen_stuck
+  pub behind_number : map (λ op. double_of op (Int (pos 1)) (Name 1)) all_operators ≡ fifteen_stuck
+  pub beside_truth : map (λ op. double_of op (Name 1) (Truth false)) all_operators ≡ fifteen_stuck
+  pub behind_truth : map (λ op. double_of op (Truth false) (Name 1)) all_operators ≡ fifteen_stuck
+  -- an `if` chooses between names, and never by one
+  pub where_true : choice_of (Truth true) (Name 0) (Name 2) ≡ Gives (Name 0)
+  pub where_false : choice_of (Truth false) (Name 0) (Name 2) ≡ Gives (Name 2)
+  pub by_name : choice_of (Name 0) (Name 0) (Name 2) ≡ Stuck
+
 -- TYPES
 
--- which types an operator takes: two numbers, two truths
+-- which types an operator takes: two numbers, two truths, two names
 abbrev pub taken : BinaryOperator → List Bool
-taken op = takes op Ints ∷ takes op Truths ∷ []
+taken op = takes op Ints ∷ takes op Truths ∷ takes op (Enum 0 3) ∷ []
 
 abbrev pub of_ints : List Bool
-of_ints = true ∷ false ∷ []
+of_ints = true ∷ false ∷ false ∷ []
 
 abbrev pub of_truths : List Bool
-of_truths = false ∷ true ∷ []
+of_truths = false ∷ true ∷ false ∷ []
 
-abbrev pub of_either : List Bool
-of_either = true ∷ true ∷ []
+abbrev pub of_any : List Bool
+of_any = true ∷ true ∷ true ∷ []
 
 pub record TypesAre : Type 0 where
   pub takes_are : map taken all_operators ≡
       of_ints ∷ of_ints ∷ of_ints ∷ of_ints ∷ of_ints
-      ∷ of_ints ∷ of_ints ∷ of_ints ∷ of_ints ∷ of_either ∷ of_either
+      ∷ of_ints ∷ of_ints ∷ of_ints ∷ of_ints ∷ of_any ∷ of_any
       ∷ of_truths ∷ of_truths ∷ of_truths ∷ of_truths ∷ []
   pub makes_are : map makes all_operators ≡
       Ints ∷ Ints ∷ Ints ∷ Ints ∷ Ints ∷ Truths ∷ Truths ∷ Truths ∷ Truths ∷ Truths ∷ Truths
@@ -246,4 +281,5 @@ pub record OperatorVectors : Type 0 where
   pub comparisons_are : ComparisonsAre
   pub truths_are : TruthsAre
   pub nils : NilsAre
+  pub names_are : NamesAre
   pub types : TypesAre

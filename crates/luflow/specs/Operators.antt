@@ -1,13 +1,13 @@
 -- The data operators: what each takes and gives, in whole numbers, and where it is a fault.
 --
 -- One table for each kind of operator: its types (`single_sort`; `asks`, `makes`), and what it gives at data that are not nil
--- (`at_int`, `at_truth`; `at_ints`, `at_truths`). All else here goes by what an operator gives, and names none.
-use Rattle.std.specs.Prelude.{◌≢◌, zero, suc, Bool, true, false, not, ◌&&◌, ◌||◌, if◌then◌else◌, Option, Some, None, List, codes, ℕ, ℤ, pos, negsuc, ◌+ℤ◌, ◌-ℤ◌, ◌*ℤ◌, neg_ℤ, int_le, int_lt, int_div, FitsSigned}
+-- (`at_int`, `at_truth`; `at_ints`, `at_truths`, `at_names`). All else here goes by what an operator gives, and names none.
+use Rattle.std.specs.Prelude.{◌≢◌, zero, suc, Bool, true, false, not, ◌&&◌, ◌||◌, if◌then◌else◌, Option, Some, None, List, codes, ℕ, nat_eq, ℤ, pos, negsuc, ◌+ℤ◌, ◌-ℤ◌, ◌*ℤ◌, neg_ℤ, int_le, int_lt, int_div, FitsSigned}
 use Rattle.std.specs.Int.{w64}
 use Rattle.luflow.specs.declared.data.Datum.{Datum}
-use Rattle.luflow.specs.declared.data.Datum.TheVariants.{Int, Bool as Truth, Nil}
+use Rattle.luflow.specs.declared.data.Datum.TheVariants.{Int, Bool as Truth, Name, Nil}
 use Rattle.lutree.specs.declared.program.Kind.{Kind}
-use Rattle.lutree.specs.declared.program.Kind.TheVariants.{Int as Ints, Bool as Truths}
+use Rattle.lutree.specs.declared.program.Kind.TheVariants.{Int as Ints, Bool as Truths, Enum}
 use Rattle.lutree.specs.declared.expr.UnaryOperator.{UnaryOperator}
 use Rattle.lutree.specs.declared.expr.UnaryOperator.TheVariants.{Minus, Not}
 use Rattle.lutree.specs.declared.expr.BinaryOperator.{BinaryOperator}
@@ -52,8 +52,11 @@ abbrev pub allows : Option Kind → Kind → Bool
 allows None s = true
 allows (Some Ints) Ints = true
 allows (Some Ints) Truths = false
+allows (Some Ints) (Enum p n) = false
 allows (Some Truths) Ints = false
 allows (Some Truths) Truths = true
+allows (Some Truths) (Enum p n) = false
+allows (Some (Enum p n)) s = false
 
 -- whether an operator takes operands that both have this type
 abbrev pub takes : BinaryOperator → Kind → Bool
@@ -133,6 +136,12 @@ at_truths Xor x y = verdict (differ x y)
 at_truths Implies x y = verdict (not x || y)
 at_truths op x y = nothing
 
+-- an operator at two names of one enumeration, by their numbers
+abbrev pub at_names : BinaryOperator → ℕ → ℕ → Exact
+at_names Equal x y = verdict (nat_eq x y)
+at_names Unequal x y = verdict (not (nat_eq x y))
+at_names op x y = nothing
+
 -- a whole number of more than 64 bits is a fault, and so is a divisor that is zero
 abbrev pub settled : Exact → Outcome
 settled (whole z) = int_of z
@@ -146,24 +155,35 @@ ints_of op x y = settled (at_ints op x y)
 abbrev pub truths_of : BinaryOperator → Bool → Bool → Outcome
 truths_of op x y = settled (at_truths op x y)
 
+abbrev pub names_of : BinaryOperator → ℕ → ℕ → Outcome
+names_of op x y = settled (at_names op x y)
+
 -- nil in, nil out
 abbrev pub single_of : UnaryOperator → Datum → Outcome
 single_of op Nil = Gives Nil
 single_of op (Int x) = settled (at_int op x)
 single_of op (Truth b) = settled (at_truth op b)
+single_of op (Name x) = Stuck
 
 abbrev pub double_of : BinaryOperator → Datum → Datum → Outcome
 double_of op Nil y = Gives Nil
 double_of op (Int a) Nil = Gives Nil
 double_of op (Int a) (Int b) = ints_of op a b
 double_of op (Int a) (Truth b) = Stuck
+double_of op (Int a) (Name b) = Stuck
 double_of op (Truth a) Nil = Gives Nil
 double_of op (Truth a) (Int b) = Stuck
 double_of op (Truth a) (Truth b) = truths_of op a b
+double_of op (Truth a) (Name b) = Stuck
+double_of op (Name a) Nil = Gives Nil
+double_of op (Name a) (Int b) = Stuck
+double_of op (Name a) (Truth b) = Stuck
+double_of op (Name a) (Name b) = names_of op a b
 
 abbrev pub is_nil : Datum → Bool
 is_nil (Int n) = false
 is_nil (Truth b) = false
+is_nil (Name x) = false
 is_nil Nil = true
 
 -- `if`, strict: nil where one of the three is nil
@@ -171,6 +191,7 @@ abbrev pub picked_of : Datum → Datum → Datum → Outcome
 picked_of (Truth true) x y = Gives x
 picked_of (Truth false) x y = Gives y
 picked_of (Int n) x y = Stuck
+picked_of (Name n) x y = Stuck
 picked_of Nil x y = Stuck
 
 abbrev pub choice_of : Datum → Datum → Datum → Outcome
@@ -191,11 +212,18 @@ IsFaultOf op Nil y kind = ⊥
 IsFaultOf op (Int a) Nil kind = ⊥
 IsFaultOf op (Int a) (Int b) kind = IsFaultAt (at_ints op a b) kind
 IsFaultOf op (Int a) (Truth b) kind = ⊥
+IsFaultOf op (Int a) (Name b) kind = ⊥
 IsFaultOf op (Truth a) Nil kind = ⊥
 IsFaultOf op (Truth a) (Int b) kind = ⊥
 IsFaultOf op (Truth a) (Truth b) kind = IsFaultAt (at_truths op a b) kind
+IsFaultOf op (Truth a) (Name b) kind = ⊥
+IsFaultOf op (Name a) Nil kind = ⊥
+IsFaultOf op (Name a) (Int b) kind = ⊥
+IsFaultOf op (Name a) (Truth b) kind = ⊥
+IsFaultOf op (Name a) (Name b) kind = IsFaultAt (at_names op a b) kind
 
 abbrev pub IsFaultOfOne : UnaryOperator → Datum → FaultKind → Type 0
 IsFaultOfOne op Nil kind = ⊥
 IsFaultOfOne op (Int x) kind = IsFaultAt (at_int op x) kind
 IsFaultOfOne op (Truth b) kind = IsFaultAt (at_truth op b) kind
+IsFaultOfOne op (Name x) kind = ⊥

@@ -7,10 +7,12 @@ use Rattle.luflow.specs.declared.form.Form.{Form}
 use Rattle.luflow.specs.declared.form.Form.TheVariants.{Input, Constant, Copied, Unary, Binary, If, Pre, Arrow, When, Current, Merge}
 use Rattle.luflow.specs.declared.form.Flow.{Flow}
 use Rattle.luflow.specs.declared.variable.Variable.{Variable}
+use Rattle.luflow.specs.declared.variable.Enum.{Enum}
 
--- The flows by place, the main variables first; all places in order of rank; for each flow the main variable in whose
+-- The types of the source; the flows by place, the main variables first; all places in order of rank; for each flow the main variable in whose
 -- equation it stands; and the main variables.
 pub record FlatProgram : Type 0 where
+  pub types : List Enum
   pub flows : List Flow
   pub order : List ℕ
   pub owners : List ℕ

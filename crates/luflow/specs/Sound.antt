@@ -1,10 +1,11 @@
 -- What a checked program's flows satisfy, and what follows for each status.
-use Rattle.std.specs.Prelude.{◌≡◌, ◌≢◌, ℕ, ◌<◌, Bool, true, false, Option, Some, slice_get, All, List, [], ◌∷◌, Contains}
+use Rattle.std.specs.Prelude.{◌≡◌, ◌≢◌, ℕ, ◌<◌, Bool, true, false, Option, Some, slice_get, All, List, [], ◌∷◌, map, Contains}
+use Rattle.std.specs.List.{range_with_len}
 use Rattle.luflow.specs.declared.data.Datum.{Datum}
-use Rattle.luflow.specs.declared.data.Datum.TheVariants.{Int, Bool as Truth, Nil}
+use Rattle.luflow.specs.declared.data.Datum.TheVariants.{Int, Bool as Truth, Name, Nil}
 use Rattle.luflow.specs.declared.data.Status.TheVariants.{Absent, Present}
 use Rattle.lutree.specs.declared.program.Kind.{Kind}
-use Rattle.lutree.specs.declared.program.Kind.TheVariants.{Int as Ints, Bool as Truths}
+use Rattle.lutree.specs.declared.program.Kind.TheVariants.{Int as Ints, Bool as Truths, Enum}
 use Rattle.luflow.specs.declared.form.Clock.{Clock}
 use Rattle.luflow.specs.declared.form.Clock.TheVariants.{Base, On}
 use Rattle.luflow.specs.declared.form.Form.{Form}
@@ -16,14 +17,20 @@ use Rattle.luflow.specs.Program.{FlatProgram, Table, flow_at, places, clock_read
 use Rattle.luflow.specs.Operators.{single_sort, takes, makes}
 use Rattle.luflow.specs.Streams.{Mark, Known, Broken, Streams, clock_at, ticked}
 
--- whether a datum has a type; nil has both
+-- whether a datum has a type; nil has each
 abbrev pub IsOf : Kind → Datum → Type 0
 IsOf Ints (Int n) = Unit {0}
 IsOf Ints (Truth b) = ⊥
+IsOf Ints (Name k) = ⊥
 IsOf Ints Nil = Unit {0}
 IsOf Truths (Int n) = ⊥
 IsOf Truths (Truth b) = Unit {0}
+IsOf Truths (Name k) = ⊥
 IsOf Truths Nil = Unit {0}
+IsOf (Enum p n) (Int z) = ⊥
+IsOf (Enum p n) (Truth b) = ⊥
+IsOf (Enum p n) (Name k) = k < n
+IsOf (Enum p n) Nil = Unit {0}
 
 -- flow r stands on this clock, with this sort
 pub record IsOn (flat : FlatProgram) (k : Clock) (s : Kind) (r : ℕ) : Type 0 where
@@ -34,8 +41,9 @@ pub record IsOn (flat : FlatProgram) (k : Clock) (s : Kind) (r : ℕ) : Type 0 w
 abbrev pub clock_values : Kind → List Datum
 clock_values Ints = []
 clock_values Truths = Truth true ∷ Truth false ∷ []
+clock_values (Enum p n) = map Name (range_with_len 0 n)
 
--- the flow of c begins with this constant: true -> e, false -> e
+-- the flow of c begins with this constant: true -> e, false -> e, A -> e
 pub record BeginsWith (flat : FlatProgram) (k : Clock) (d : Datum) (c : ℕ) : Type 0 where
   pub kind : Kind
   pub first : ℕ

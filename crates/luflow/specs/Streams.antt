@@ -1,7 +1,7 @@
 -- Streams: what a flow has at each instant, and what its past is.
-use Rattle.std.specs.Prelude.{ℕ, zero, suc, Bool, true, false, ◌||◌, not, cond, Option, Some, None, nat_lt}
+use Rattle.std.specs.Prelude.{ℕ, zero, suc, Bool, true, false, ◌||◌, not, cond, Option, Some, None, nat_lt, nat_eq}
 use Rattle.luflow.specs.declared.data.Datum.{Datum}
-use Rattle.luflow.specs.declared.data.Datum.TheVariants.{Int, Bool as Truth, Nil}
+use Rattle.luflow.specs.declared.data.Datum.TheVariants.{Int, Bool as Truth, Name, Nil}
 use Rattle.luflow.specs.declared.data.Status.{Status}
 use Rattle.luflow.specs.declared.data.Status.TheVariants.{Absent, Present}
 use Rattle.luflow.specs.declared.form.Clock.{Clock}
@@ -41,10 +41,16 @@ abbrev pub is_value : Datum → Datum → Bool
 is_value d Nil = false
 is_value Nil (Int n) = false
 is_value Nil (Truth b) = false
+is_value Nil (Name n) = false
 is_value (Int m) (Int n) = int_same m n
 is_value (Int m) (Truth b) = false
+is_value (Int m) (Name n) = false
 is_value (Truth sign) (Int n) = false
 is_value (Truth sign) (Truth b) = cond sign b (not b)
+is_value (Truth sign) (Name n) = false
+is_value (Name m) (Int n) = false
+is_value (Name m) (Truth b) = false
+is_value (Name m) (Name n) = nat_eq m n
 
 -- a variable with a value, as a clock: true where the variable is present with that value
 abbrev pub truth_in : Datum → Mark → Option Bool

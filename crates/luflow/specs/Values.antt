@@ -1,7 +1,7 @@
 -- The value of one flow at one instant, from what it looks at.
 use Rattle.std.specs.Prelude.{ℕ, suc, Bool, true, false, List, map, Option, Some, None, slice_get, unwrap_or}
 use Rattle.luflow.specs.declared.data.Datum.{Datum}
-use Rattle.luflow.specs.declared.data.Datum.TheVariants.{Int, Bool as Truth, Nil}
+use Rattle.luflow.specs.declared.data.Datum.TheVariants.{Int, Bool as Truth, Name, Nil}
 use Rattle.luflow.specs.declared.data.Status.TheVariants.{Present, Absent}
 use Rattle.luflow.specs.declared.form.Clock.{Clock}
 use Rattle.luflow.specs.declared.form.Form.{Form}
@@ -49,12 +49,13 @@ branch_of Nil = None
 branch_of (Int n) = None
 branch_of (Truth true) = Some 0
 branch_of (Truth false) = Some 1
+branch_of (Name n) = Some n
 
 abbrev pub branch_value : Option ℕ → List (Option Datum) → Outcome
 branch_value None branches = Stuck
 branch_value (Some b) branches = gives (unwrap_or (slice_get branches b) None)
 
--- `merge c (true -> a) (false -> b)`: the branch of the value that c has
+-- `merge c (true -> a) (false -> b)` or `merge c (A -> a) (B -> b)`: the branch of the value that c has
 abbrev pub merge_of : Option Datum → List (Option Datum) → Outcome
 merge_of None branches = Stuck
 merge_of (Some d) branches = branch_value (branch_of d) branches

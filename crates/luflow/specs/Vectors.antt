@@ -1,16 +1,18 @@
 -- Worked programs, and their solutions computed on the definitions.
 use Rattle.std.specs.Prelude.{◌≡◌, ℕ, ◌<◌, ◌≤◌, Bool, true, false, List, [], ◌∷◌, map, pos, codes}
 use Rattle.lutree.specs.declared.expr.UnaryOperator.TheVariants.{Not}
-use Rattle.lutree.specs.declared.expr.BinaryOperator.TheVariants.{Add, Multiply, Divide}
-use Rattle.lutree.specs.declared.program.Kind.TheVariants.{Int as Ints, Bool as Truths}
+use Rattle.lutree.specs.declared.expr.BinaryOperator.TheVariants.{Add, Multiply, Divide, Equal}
+use Rattle.lutree.specs.declared.program.Kind.{Kind}
+use Rattle.lutree.specs.declared.program.Kind.TheVariants.{Int as Ints, Bool as Truths, Enum as Names}
 use Rattle.luflow.specs.declared.data.Datum.{Datum}
-use Rattle.luflow.specs.declared.data.Datum.TheVariants.{Int, Bool as Truth, Nil}
+use Rattle.luflow.specs.declared.data.Datum.TheVariants.{Int, Bool as Truth, Name, Nil}
 use Rattle.luflow.specs.declared.data.Status.TheVariants.{Absent, Present}
 use Rattle.luflow.specs.declared.form.Clock.TheVariants.{Base, On}
 use Rattle.luflow.specs.declared.form.FaultKind.TheVariants.{DivZero}
 use Rattle.luflow.specs.declared.form.Form.{Form}
 use Rattle.luflow.specs.declared.form.Form.TheVariants.{Input, Constant, Copied, Unary, Binary, Pre, Arrow, When, Current, Merge}
 use Rattle.luflow.specs.declared.form.Flow.{Flow}
+use Rattle.luflow.specs.declared.variable.Enum.{Enum}
 use Rattle.luflow.specs.declared.variable.Variable.{Variable}
 use Rattle.luflow.specs.declared.variable.Role.{Role}
 use Rattle.luflow.specs.declared.variable.Role.TheVariants as role
@@ -63,6 +65,7 @@ known_truth b = Known (Present (Truth b))
 abbrev pub two_counters : FlatProgram
 two_counters =
     record {
+      types = [];
       flows =
           int_flow (Arrow 2 5) ∷ int_flow (Arrow 6 9)
           ∷ int_flow (number 0) ∷ int_flow (Pre 1) ∷ int_flow (number 1) ∷ int_flow (Binary Add 3 4)
@@ -81,6 +84,7 @@ three = record { instants = 3; columns = [] }
 abbrev pub sampled_sum : FlatProgram
 sampled_sum =
     record {
+      types = [];
       flows =
           int_flow (Input 0) ∷ truth_flow (Input 1)
           ∷ int_flow (Arrow 0 7) ∷ sampled_flow 1 (Binary Multiply 5 4) ∷ sampled_flow 1 (When 0)
@@ -107,6 +111,7 @@ four_samples =
 abbrev pub division : FlatProgram
 division =
     record {
+      types = [];
       flows =
           int_flow (Input 0) ∷ int_flow (Arrow 5 3) ∷ int_flow (Binary Divide 4 0) ∷ int_flow (Pre 2)
           ∷ int_flow (number 1) ∷ int_flow (number 0) ∷ [];
@@ -130,6 +135,7 @@ one_two = record { instants = 2; columns = record { name = codes "x"; values = i
 abbrev pub held_sample : FlatProgram
 held_sample =
     record {
+      types = [];
       flows =
           int_flow (Input 0) ∷ int_flow (Current 4) ∷ int_flow (Merge 3 (4 ∷ 9 ∷ [])) ∷ truth_flow (Arrow 5 7) ∷ sampled_flow 3 (When 0)
           ∷ truth_flow (Constant (Truth true)) ∷ truth_flow (Pre 3) ∷ truth_flow (Unary Not 6)
@@ -150,6 +156,7 @@ three_samples = record { instants = 3; columns = record { name = codes "x"; valu
 abbrev pub chained : FlatProgram
 chained =
     record {
+      types = [];
       flows =
           int_flow (Input 0) ∷ truth_flow (Input 1) ∷ truth_flow (Input 2)
           ∷ slow_truths 1 (When 2) ∷ sampled_flow 3 (Copied 5) ∷ sampled_flow 3 (When 6)
@@ -171,6 +178,55 @@ four_rows =
           record { name = codes "x"; values = ints (1 ∷ 2 ∷ 3 ∷ 4 ∷ []) }
           ∷ record { name = codes "b"; values = map Truth (true ∷ false ∷ true ∷ true ∷ []) }
           ∷ record { name = codes "d"; values = map Truth (true ∷ true ∷ false ∷ true ∷ []) } ∷ [];
+    }
+
+-- an enumeration of three names
+abbrev pub three_names : Enum
+three_names = record { name = codes "t"; names = codes "Up" ∷ codes "Down" ∷ codes "Halt" ∷ [] }
+
+-- the type of the first enumeration of a program, which has three names
+abbrev pub of_three : Kind
+of_three = Names 0 3
+
+-- a flow of ints, where variable c has the name of this number
+abbrev pub named_flow : ℕ → ℕ → Form → Flow
+named_flow c k form = record { form = form; clock = On c (Name k); kind = Ints }
+
+-- a flow of names, on the base clock
+abbrev pub mode_flow : Form → Flow
+mode_flow form = record { form = form; clock = Base; kind = of_three }
+
+-- the mark of a name that is present
+abbrev pub known_name : ℕ → Mark
+known_name k = Known (Present (Name k))
+
+-- type t = enum { Up, Down, Halt };
+-- node main(m: t; x: int) returns (y: int; b: bool; z: int when Down(m));
+-- let y = merge m (Up -> x when Up(m)) (Down -> z) (Halt -> 7 when Halt(m)); b = m = Down; z = x when Down(m); tel
+abbrev pub three_ways : FlatProgram
+three_ways =
+    record {
+      types = three_names ∷ [];
+      flows =
+          mode_flow (Input 0) ∷ int_flow (Input 1) ∷ int_flow (Merge 0 (5 ∷ 4 ∷ 7 ∷ []))
+          ∷ truth_flow (Binary Equal 0 8) ∷ named_flow 0 1 (When 1) ∷ named_flow 0 0 (When 1)
+          ∷ int_flow (number 7) ∷ named_flow 0 2 (When 6) ∷ mode_flow (Constant (Name 1)) ∷ [];
+      order = 0 ∷ 1 ∷ 4 ∷ 5 ∷ 6 ∷ 7 ∷ 2 ∷ 8 ∷ 3 ∷ [];
+      owners = 0 ∷ 1 ∷ 2 ∷ 3 ∷ 4 ∷ 2 ∷ 2 ∷ 2 ∷ 3 ∷ [];
+      variables =
+          record { name = codes "m"; role = role.Input; kind = of_three }
+          ∷ int_variable role.Input (codes "x") ∷ int_variable role.Output (codes "y")
+          ∷ truth_variable role.Output (codes "b") ∷ int_variable role.Output (codes "z") ∷ [];
+    }
+
+-- m is Up, Halt, Down, Down, and x is 1, 2, 3, 4
+abbrev pub four_modes : Table
+four_modes =
+    record {
+      instants = 4;
+      columns =
+          record { name = codes "m"; values = map Name (0 ∷ 2 ∷ 1 ∷ 1 ∷ []) }
+          ∷ record { name = codes "x"; values = ints (1 ∷ 2 ∷ 3 ∷ 4 ∷ []) } ∷ [];
     }
 
 -- what every run asks of a program and its table
@@ -228,6 +284,17 @@ pub record ChainsAre : Type 0 where
   pub inner : marks (solution chained four_rows 6) 4 ≡
       known 1 ∷ Known Absent ∷ known 3 ∷ known 4 ∷ []
 
+-- y is x, 7 or z, by the name that m has; b tells where that is Down; and z is there alone
+pub record WaysAre : Type 0 where
+  pub worked : IsWorked three_ways four_modes
+  pub m : marks (solution three_ways four_modes 0) 4 ≡ map known_name (0 ∷ 2 ∷ 1 ∷ 1 ∷ [])
+  pub y : marks (solution three_ways four_modes 2) 4 ≡ map known (1 ∷ 7 ∷ 3 ∷ 4 ∷ [])
+  pub b : marks (solution three_ways four_modes 3) 4 ≡ map known_truth (false ∷ false ∷ true ∷ true ∷ [])
+  pub z : marks (solution three_ways four_modes 4) 4 ≡
+      Known Absent ∷ Known Absent ∷ known 3 ∷ known 4 ∷ []
+  pub halted : marks (solution three_ways four_modes 7) 4 ≡
+      Known Absent ∷ known 7 ∷ Known Absent ∷ Known Absent ∷ []
+
 pub record SolutionVectors : Type 0 where
   pub counters : CountersAre
   pub sums : SumsAre
@@ -235,3 +302,4 @@ pub record SolutionVectors : Type 0 where
   pub quotients : QuotientsAre
   pub samples : SamplesAre
   pub chains : ChainsAre
+  pub ways : WaysAre

@@ -7,6 +7,8 @@ pub enum Datum {
     Int(i64),
     /// A truth value.
     Bool(bool),
+    /// The name of this number, counted from 0, of an enumeration.
+    Name(u8),
     /// The value that a `pre` has at the first instant of its clock.
     Nil,
 }

@@ -3,18 +3,20 @@
 ghost use Rattle.std.specs.Prelude.{◌≡◌, ◌<◌, ◌≤◌, length, slice_get, Some, slice_index, take};
 ghost use Rattle.luflow.specs.Program.{FlatProgram};
 ghost use Rattle.luflow.specs.Flats.{IsFlat};
+ghost use Rattle.luflow.specs.Types.{variable_names};
 ghost use Rattle.luflow.specs.Variables.{inputs_of};
 ghost use Rattle.luflow.specs.declared.form.Flow.{Flow};
 
 use crate::form::{Clock, Flow};
-use crate::variable::{Variable, inputs_among};
-use lulist::Row;
+use crate::variable::{Enum, Variable, inputs_among, names_of};
+use lulist::{Name, Row};
 use std::marker::Model;
 
 /// A flat program: the flows that remain of a checked program when all calls are inlined, the main variables first. It
 /// is sound and in order of rank. A contract sees the `FlatProgram` of `specs/Program.antt`.
 #[derive(Drop)]
 pub struct Flat {
+    types: Row<Enum>,
     flows: Row<Flow>,
     order: Row<usize>,
     owners: Row<usize>,
@@ -29,6 +31,7 @@ impl Model for Flat {
     ghost use Rattle.luflow.specs.Flats.{IsFlat};
 
     ghost view = { λ a. record {
+      types = a.types;
       flows = a.flows;
       order = a.order;
       owners = a.owners;
@@ -36,6 +39,7 @@ impl Model for Flat {
     } };
 
     ghost invariant = { λ a. IsFlat (record {
+      types = a.types;
       flows = a.flows;
       order = a.order;
       owners = a.owners;
@@ -44,15 +48,17 @@ impl Model for Flat {
 }
 
 impl Flat {
-    /// The flat program of these flows, given their order of rank, the main variable in whose equation each stands, and
-    /// the main variables.
+    /// The flat program of these types and flows, given the flows' order of rank, the main variable in whose equation each
+    /// stands, and the main variables.
     pub fn new(
+        types: Row<Enum>,
         flows: Row<Flow>,
         order: Row<usize>,
         owners: Row<usize>,
         variables: Row<Variable>,
     ) -> Flat
         requires { IsFlat (record {
+          types = types;
           flows = flows;
           order = order;
           owners = owners;
@@ -60,6 +66,7 @@ impl Flat {
               variables;
         }) }
         ensures { result ≡ record {
+          types = types;
           flows = flows;
           order = order;
           owners = owners;
@@ -68,10 +75,29 @@ impl Flat {
         } }
     {
         Flat {
+            types,
             flows,
             order,
             owners,
             variables,
+        }
+    }
+
+    /// The types of the source program, in order of declaration; the kind of an enumeration holds its place here. Takes no
+    /// memory.
+    pub fn types(&self) -> &[Enum]
+        ensures { result.now ≡ self.now.types }
+    {
+        self.types.as_slice()
+    }
+
+    /// The names of the type of a main variable, in order of declaration; none where it is no enumeration. Takes no memory.
+    pub fn variable_names(&self, variable: usize) -> &[Name]
+        ensures { result.now ≡ variable_names self.now variable }
+    {
+        match self.variables.as_slice().get(variable) {
+            Some(found) => names_of(self.types.as_slice(), found.kind),
+            None => &[],
         }
     }
 

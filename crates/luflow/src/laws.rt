@@ -39,15 +39,15 @@ pub fn fault_law()
     ensures { FaultLaw }
 {}
 
-/// The solutions of five worked programs at their tables: two counters that feed each other, a sum beside a doubled sample
-/// on a slow clock, a division that breaks at its second instant, a sample that is held, and a clock on a clock. They are flat
-/// programs, so the rules of types, clocks and ranks can be met.
+/// The solutions of six worked programs at their tables: two counters that feed each other, a sum beside a doubled sample
+/// on a slow clock, a division that breaks at its second instant, a sample that is held, a clock on a clock, and a choice
+/// among three names. They are flat programs, so the rules of types, clocks and ranks can be met.
 pub fn solution_vectors_law()
     ensures { SolutionVectors }
 {}
 
-/// The data operators at chosen data: at the ends of 64 bits, at negative numbers and zero, at equal ones, at all truths, and
-/// at nil; and their types.
+/// The data operators at chosen data: at the ends of 64 bits, at negative numbers and zero, at equal ones, at all truths, at
+/// names, and at nil; and their types.
 pub fn operator_vectors_law()
     ensures { OperatorVectors }
 {}
@@ -59,7 +59,7 @@ pub fn form_vectors_law()
 {}
 
 /// What flows of each form read, which orders are those of ranks and which aren't, which columns are a program's and which
-/// aren't, and its variables by their roles.
+/// aren't, its types and their names, and its variables by their roles.
 pub fn shape_vectors_law()
     ensures { ShapeVectors }
 {}

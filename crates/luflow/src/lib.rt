@@ -2,12 +2,12 @@
 //!
 //! - [`Datum`], [`Status`]: what a flow has at an instant.
 //! - [`Form`], [`Flow`], [`Clock`]: what a flow is made of; [`Outcome`], [`FaultKind`]: what its value may be.
-//! - [`Flat`], [`Variable`]: a whole flat program; [`Inputs`]: the table of its inputs; [`Outputs`]: that of its outputs.
+//! - [`Flat`], [`Variable`], [`Enum`], [`names_of`], [`name_of`]: a whole flat program, and how its names are spelled; [`Inputs`]: the table of its inputs; [`Outputs`]: that of its outputs.
 //! - [`Msg`], [`Body`]: what a link carries.
 //! - [`laws`]: exactly one solution, what every solution keeps, and worked programs.
 //!
 //! The definitions stand in `specs/`: `Program`, `Rank`, `Streams`, `Operators`, `Values`, `Solution`, `Faults`, `Sound`,
-//! `Messages`; worked programs in `Vectors`.
+//! `Messages`, `Types`; worked programs in `Vectors`.
 #![tactic(auto)]
 
 mod data;
@@ -25,4 +25,4 @@ pub use form::{Clock, FaultKind, Flow, Form, Outcome};
 pub use message::{Body, Msg};
 pub use outputs::Outputs;
 pub use table::Inputs;
-pub use variable::{Role, Variable};
+pub use variable::{Enum, Role, Variable, name_of, names_of};

@@ -57,6 +57,7 @@ fn is_constant_of(kind: Kind, datum: Datum) -> bool
     match (kind, datum) {
         (Kind::Int, Datum::Int(_)) => true,
         (Kind::Bool, Datum::Bool(_)) => true,
+        (Kind::Enum(_, size), Datum::Name(number)) => number < size,
         _ => false,
     }
 }

@@ -1,9 +1,10 @@
 //! The variables of the main node.
 
 ghost use Rattle.std.specs.Prelude.{◌≡◌, length};
+ghost use Rattle.luflow.specs.Types.{name_of, names_of};
 ghost use Rattle.luflow.specs.Variables.{is_input, inputs_of};
 
-use lulist::Name;
+use lulist::{Name, Row};
 use lutree::Kind;
 
 /// How a variable stands in its node.
@@ -12,6 +13,37 @@ pub enum Role {
     Input,
     Output,
     Local,
+}
+
+/// An enumeration of the program.
+#[derive(Drop)]
+pub struct Enum {
+    pub name: Name,
+    /// Its names, in order of declaration.
+    pub names: Row<Name>,
+}
+
+/// The names of a type of a program with these types, in order of declaration; none where it is no enumeration.
+pub fn names_of(types: &[Enum], kind: Kind) -> &[Name]
+    ensures { result.now ≡ names_of types.now kind }
+{
+    match kind {
+        Kind::Enum(place, _) => match types.get(place as usize) {
+            Some(found) => found.names.as_slice(),
+            None => &[],
+        },
+        Kind::Int | Kind::Bool => &[],
+    }
+}
+
+/// The name of this number among those of a type; the empty text where there is none.
+pub fn name_of(names: &[Name], number: u8) -> &str
+    ensures { result.now ≡ name_of names.now number }
+{
+    match names.get(number as usize) {
+        Some(name) => name.as_str(),
+        None => "",
+    }
 }
 
 /// A variable of the main node.

@@ -13,6 +13,14 @@ longest_run = 1000
 abbrev pub most_nodes : ℕ
 most_nodes = 256
 
+-- the most types of a program
+abbrev pub most_types : ℕ
+most_types = 64
+
+-- the most names of an enumeration
+abbrev pub most_names : ℕ
+most_names = 64
+
 -- the most flows of a flat program
 abbrev pub most_flows : ℕ
 most_flows = 4096

@@ -1,12 +1,12 @@
 //! The limits of the code are those of the definitions. The function does nothing.
 
 ghost use Rattle.std.specs.Prelude.{◌≡◌};
-ghost use Rattle.lulimits.specs.Limits.{longest_program, longest_run, most_nodes, most_flows, longest_placement, longest_site_name, most_sites, most_capacity, usual_capacity, longest_table, most_instants, longest_schedule};
+ghost use Rattle.lulimits.specs.Limits.{longest_program, longest_run, most_nodes, most_types, most_names, most_flows, longest_placement, longest_site_name, most_sites, most_capacity, usual_capacity, longest_table, most_instants, longest_schedule};
 
 use crate::limits::{
     LONGEST_PLACEMENT, LONGEST_PROGRAM, LONGEST_RUN, LONGEST_SCHEDULE, LONGEST_SITE_NAME,
-    LONGEST_TABLE, MOST_CAPACITY, MOST_FLOWS, MOST_INSTANTS, MOST_NODES, MOST_SITES,
-    USUAL_CAPACITY,
+    LONGEST_TABLE, MOST_CAPACITY, MOST_FLOWS, MOST_INSTANTS, MOST_NAMES, MOST_NODES, MOST_SITES,
+    MOST_TYPES, USUAL_CAPACITY,
 };
 
 /// Each limit of the code is the one of its name that contracts cite.
@@ -14,6 +14,8 @@ pub fn limits_law()
     ensures longest_program { LONGEST_PROGRAM ≡ longest_program }
     ensures longest_run { LONGEST_RUN ≡ longest_run }
     ensures most_nodes { MOST_NODES ≡ most_nodes }
+    ensures most_types { MOST_TYPES ≡ most_types }
+    ensures most_names { MOST_NAMES ≡ most_names }
     ensures most_flows { MOST_FLOWS ≡ most_flows }
     ensures longest_placement { LONGEST_PLACEMENT ≡ longest_placement }
     ensures longest_site_name { LONGEST_SITE_NAME ≡ longest_site_name }

@@ -9,6 +9,12 @@ pub const LONGEST_RUN: usize = 1_000;
 /// The most nodes of a program.
 pub const MOST_NODES: usize = 256;
 
+/// The most types of a program.
+pub const MOST_TYPES: usize = 64;
+
+/// The most names of an enumeration.
+pub const MOST_NAMES: usize = 64;
+
 /// The most flows of a flat program.
 pub const MOST_FLOWS: usize = 4_096;
 

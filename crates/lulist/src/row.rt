@@ -26,6 +26,13 @@ impl<T> Row<T> {
         Row { items }
     }
 
+    /// The vector of its items.
+    pub fn into_items(self) -> Vec<T>
+        ensures { result.items ≡ self }
+    {
+        self.items
+    }
+
     /// The items, in order.
     pub fn as_slice(&self) -> &[T]
         ensures { result.now ≡ self.now }

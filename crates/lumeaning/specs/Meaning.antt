@@ -6,7 +6,6 @@ use Rattle.luflow.specs.declared.message.Msg.{Msg}
 use Rattle.luflow.specs.Variables.{variable_name}
 use Rattle.luflow.specs.Streams.{Stream, Known, is_broken}
 use Rattle.luflow.specs.Messages.{marks, messages}
-use Rattle.luworld.specs.Needs.{Distribution}
 use Rattle.luworld.specs.Runs.{Run, carried}
 use Rattle.lusource.specs.Source.{SourceStreams, IsSourceSolution}
 use Rattle.lusource.specs.Agreement.{Agrees}

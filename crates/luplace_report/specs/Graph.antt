@@ -60,7 +60,7 @@ boxes plan = flat_map (box plan) (range_with_len 0 (sites_of plan))
 
 -- EDGES
 
--- ` when c` or ` when not c`, and nothing for the base clock
+-- ` when c`, ` when not c` or ` when A(c)`, and nothing for the base clock
 abbrev pub when_text : FlatProgram → Clock → List ℕ
 when_text flat Base = []
 when_text flat (On c d) = codes " when " ++ clock_text flat (On c d)

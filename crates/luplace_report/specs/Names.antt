@@ -4,36 +4,41 @@ use Rattle.std.specs.declared.string.String.{String}
 use Rattle.std.specs.declared.alloc.Global.{Global}
 use Rattle.std.specs.Option.{option_map}
 use Rattle.lutree.specs.declared.program.Kind.{Kind}
-use Rattle.lutree.specs.declared.program.Kind.TheVariants.{Int, Bool}
+use Rattle.lutree.specs.declared.program.Kind.TheVariants.{Int, Bool, Enum as Names}
 use Rattle.luflow.specs.declared.data.Datum.TheVariants as datum
 use Rattle.luflow.specs.declared.form.Clock.{Clock}
 use Rattle.luflow.specs.declared.form.Clock.TheVariants.{Base, On}
 use Rattle.luflow.specs.declared.form.Flow.{Flow}
+use Rattle.luflow.specs.declared.variable.Enum.{Enum}
 use Rattle.luflow.specs.declared.variable.Variable.{Variable}
 use Rattle.luflow.specs.Program.{FlatProgram, flow_at}
+use Rattle.luflow.specs.Types.{name_of, variable_names}
 use Rattle.luflow.specs.Variables.{variable_name}
 
 -- the name of a site, by its number
 abbrev pub site_name : List (List ℕ) → ℕ → List ℕ
 site_name names site = unwrap_or (slice_get names site) []
 
-abbrev pub type_name : Kind → List ℕ
-type_name Int = codes "int"
-type_name Bool = codes "bool"
+-- the name of a type of a program with these types
+abbrev pub type_name : List Enum → Kind → List ℕ
+type_name types Int = codes "int"
+type_name types Bool = codes "bool"
+type_name types (Names place size) = unwrap_or (option_map (λ (t : Enum). t.name) (slice_get types place)) []
 
 -- the type of a main variable, by its number
 abbrev pub type_of : FlatProgram → ℕ → List ℕ
-type_of flat v = unwrap_or (option_map (λ (x : Variable). type_name x.kind) (slice_get flat.variables v)) []
+type_of flat v = unwrap_or (option_map (λ (x : Variable). type_name flat.types x.kind) (slice_get flat.variables v)) []
 
 -- the clock of a flow, by its place
 abbrev pub clock_of : FlatProgram → ℕ → Clock
 clock_of flat i = unwrap_or (option_map (λ (flow : Flow). flow.clock) (flow_at flat i)) Base
 
--- `c` or `not c`, and nothing for the base clock
+-- `c`, `not c` or `A(c)`, and nothing for the base clock
 abbrev pub clock_text : FlatProgram → Clock → List ℕ
 clock_text flat Base = []
 clock_text flat (On c (datum.Bool false)) = codes "not " ++ variable_name flat c
 clock_text flat (On c (datum.Bool true)) = variable_name flat c
+clock_text flat (On c (datum.Name k)) = name_of (variable_names flat c) k ++ (codes "(" ++ (variable_name flat c ++ codes ")"))
 clock_text flat (On c (datum.Int n)) = variable_name flat c
 clock_text flat (On c datum.Nil) = variable_name flat c
 

@@ -52,7 +52,7 @@ site_rows plan = flat_map (site_row plan) (range_with_len 0 (sites_of plan))
 
 -- LINKS
 
--- `c` or `not c`, and `-` for the base clock
+-- `c`, `not c` or `A(c)`, and `-` for the base clock
 abbrev pub clock_cell : FlatProgram → Clock → List ℕ
 clock_cell flat Base = codes "-"
 clock_cell flat (On c d) = clock_text flat (On c d)

@@ -12,7 +12,7 @@ use Rattle.luflow.specs.declared.form.Form.TheVariants.{Input, Arrow, Binary, Wh
 use Rattle.lutree.specs.declared.expr.BinaryOperator.TheVariants.{Add, Multiply}
 use Rattle.lutree.specs.declared.program.Kind.TheVariants.{Int as Ints}
 use Rattle.luflow.specs.Program.{FlatProgram}
-use Rattle.luflow.specs.Vectors.{int_flow, truth_flow, number, sampled_sum}
+use Rattle.luflow.specs.Vectors.{int_flow, truth_flow, number, sampled_sum, three_ways}
 use Rattle.luworld.specs.Needs.{Distribution}
 use Rattle.luworld.specs.RunVectors.{sampled, shared_run, link_of}
 use Rattle.luworld.specs.PlanVectors.{handed}
@@ -34,6 +34,7 @@ other_flow form = record { form = form; clock = On 1 (Truth false); kind = Ints 
 abbrev pub turned_flat : FlatProgram
 turned_flat =
     record {
+      types = [];
       flows =
           int_flow (Input 0) ∷ truth_flow (Input 1)
           ∷ int_flow (Arrow 0 7) ∷ other_flow (Binary Multiply 5 4) ∷ other_flow (When 0)
@@ -55,17 +56,32 @@ turned =
       capacity = 1;
     }
 
--- As JSON: one site for each variable; c at both sites, so that s alone crosses; s and z on `not c`.
+-- a choice among the names of m, Up, Down and Halt, with z, which is there where m is Down, at site B
+abbrev pub moded : Distribution
+moded =
+    record {
+      flat = three_ways;
+      names = sampled.plan.names;
+      placed = (0 ∷ []) ∷ (0 ∷ []) ∷ (0 ∷ []) ∷ (0 ∷ []) ∷ (1 ∷ []) ∷ [];
+      needs = (0 ∷ 1 ∷ 4 ∷ 5 ∷ 6 ∷ 7 ∷ 8 ∷ []) ∷ (0 ∷ 1 ∷ []) ∷ [];
+      links = link_of 0 0 1 ∷ link_of 1 0 1 ∷ link_of 4 1 0 ∷ [];
+      capacity = 16;
+    }
+
+-- As JSON: one site for each variable; c at both sites, so that s alone crosses; s and z on `not c`; an
+-- enumeration and a clock on a name.
 pub record JsonsAre : Type 0 where
   pub one_site : report_text sampled.plan ≡ codes "{\"capacity\":16,\"flows\":[{\"clock\":\"\",\"name\":\"x\",\"site\":\"A\",\"type\":\"int\"},{\"clock\":\"\",\"name\":\"c\",\"site\":\"A\",\"type\":\"bool\"},{\"clock\":\"\",\"name\":\"y\",\"site\":\"A\",\"type\":\"int\"},{\"clock\":\"c\",\"name\":\"z\",\"site\":\"B\",\"type\":\"int\"},{\"clock\":\"c\",\"name\":\"s\",\"site\":\"A\",\"type\":\"int\"}],\"links\":[{\"clock\":\"\",\"flow\":\"c\",\"from\":\"A\",\"to\":\"B\"},{\"clock\":\"c\",\"flow\":\"s\",\"from\":\"A\",\"to\":\"B\"}],\"sites\":[\"A\",\"B\"]}"
   pub two_sites : report_text shared_run.plan ≡ codes "{\"capacity\":16,\"flows\":[{\"clock\":\"\",\"name\":\"x\",\"site\":\"A\",\"type\":\"int\"},{\"clock\":\"\",\"name\":\"c\",\"site\":[\"A\",\"B\"],\"type\":\"bool\"},{\"clock\":\"\",\"name\":\"y\",\"site\":\"A\",\"type\":\"int\"},{\"clock\":\"c\",\"name\":\"z\",\"site\":\"B\",\"type\":\"int\"},{\"clock\":\"c\",\"name\":\"s\",\"site\":\"A\",\"type\":\"int\"}],\"links\":[{\"clock\":\"c\",\"flow\":\"s\",\"from\":\"A\",\"to\":\"B\"}],\"sites\":[\"A\",\"B\"]}"
   pub opposite : report_text turned ≡ codes "{\"capacity\":1,\"flows\":[{\"clock\":\"\",\"name\":\"x\",\"site\":\"A\",\"type\":\"int\"},{\"clock\":\"\",\"name\":\"c\",\"site\":\"A\",\"type\":\"bool\"},{\"clock\":\"\",\"name\":\"y\",\"site\":\"A\",\"type\":\"int\"},{\"clock\":\"not c\",\"name\":\"z\",\"site\":\"B\",\"type\":\"int\"},{\"clock\":\"not c\",\"name\":\"s\",\"site\":\"A\",\"type\":\"int\"}],\"links\":[{\"clock\":\"\",\"flow\":\"c\",\"from\":\"A\",\"to\":\"B\"},{\"clock\":\"not c\",\"flow\":\"s\",\"from\":\"A\",\"to\":\"B\"}],\"sites\":[\"A\",\"B\"]}"
+  pub by_names : report_text moded ≡ codes "{\"capacity\":16,\"flows\":[{\"clock\":\"\",\"name\":\"m\",\"site\":\"A\",\"type\":\"t\"},{\"clock\":\"\",\"name\":\"x\",\"site\":\"A\",\"type\":\"int\"},{\"clock\":\"\",\"name\":\"y\",\"site\":\"A\",\"type\":\"int\"},{\"clock\":\"\",\"name\":\"b\",\"site\":\"A\",\"type\":\"bool\"},{\"clock\":\"Down(m)\",\"name\":\"z\",\"site\":\"B\",\"type\":\"int\"}],\"links\":[{\"clock\":\"\",\"flow\":\"m\",\"from\":\"A\",\"to\":\"B\"},{\"clock\":\"\",\"flow\":\"x\",\"from\":\"A\",\"to\":\"B\"},{\"clock\":\"Down(m)\",\"flow\":\"z\",\"from\":\"B\",\"to\":\"A\"}],\"sites\":[\"A\",\"B\"]}"
 
 -- Three sites: x and c at A, s and z at B, y = current s at C, where c is needed since s is on it.
 pub record CausesAre : Type 0 where
   pub sampled_causes : map (cause_of sampled.plan) sampled.plan.links ≡ Some (Reader 3) ∷ Some (Reader 3) ∷ []
   pub shared_causes : map (cause_of shared_run.plan) shared_run.plan.links ≡ Some (Reader 3) ∷ []
   pub handed_causes : map (cause_of handed.plan) handed.plan.links ≡ Some (Reader 4) ∷ Some (Reader 2) ∷ Some (Clock 4) ∷ Some (Reader 1) ∷ []
+  pub moded_causes : map (cause_of moded) moded.links ≡ Some (Reader 4) ∷ Some (Reader 4) ∷ Some (Reader 2) ∷ []
   -- what a site doesn't need doesn't cross to it
   pub no_cause : cause_of sampled.plan (link_of 2 0 1) ≡ None
 
@@ -111,6 +127,21 @@ pub record TablesAre : Type 0 where
       ∷ codes "1\tc crosses A -> B since z at B reads it"
       ∷ codes "2\tc crosses A -> C since the clock of s needs it"
       ∷ codes "3\ts crosses B -> C since y at C reads it"
+      ∷ [])
+  pub by_names : table_text moded ≡ lines
+      (codes "site\tflows\titems"
+      ∷ codes "A\t8\t11"
+      ∷ codes "B\t1\t4"
+      ∷ []
+      ∷ codes "link\tflow\tfrom\tto\tclock"
+      ∷ codes "0\tm\tA\tB\t-"
+      ∷ codes "1\tx\tA\tB\t-"
+      ∷ codes "2\tz\tB\tA\tDown(m)"
+      ∷ []
+      ∷ codes "link\twhy"
+      ∷ codes "0\tm crosses A -> B since z at B reads it"
+      ∷ codes "1\tx crosses A -> B since z at B reads it"
+      ∷ codes "2\tz crosses B -> A since y at A reads it"
       ∷ [])
 
 pub record GraphsAre : Type 0 where
@@ -175,6 +206,26 @@ pub record GraphsAre : Type 0 where
       ∷ codes "  s0v3 -> s1v2 [label=\"c\"];"
       ∷ codes "  s0v3 -> s2 [label=\"c\"];"
       ∷ codes "  s1v4 -> s2v1 [label=\"s when c\"];"
+      ∷ codes "}"
+      ∷ [])
+  pub by_names : graph_text moded ≡ lines
+      (codes "digraph plan {"
+      ∷ codes "  subgraph cluster_0 {"
+      ∷ codes "    label=\"A\";"
+      ∷ codes "    s0 [shape=point];"
+      ∷ codes "    s0v0 [label=\"m\"];"
+      ∷ codes "    s0v1 [label=\"x\"];"
+      ∷ codes "    s0v2 [label=\"y\"];"
+      ∷ codes "    s0v3 [label=\"b\"];"
+      ∷ codes "  }"
+      ∷ codes "  subgraph cluster_1 {"
+      ∷ codes "    label=\"B\";"
+      ∷ codes "    s1 [shape=point];"
+      ∷ codes "    s1v4 [label=\"z\"];"
+      ∷ codes "  }"
+      ∷ codes "  s0v0 -> s1v4 [label=\"m\"];"
+      ∷ codes "  s0v1 -> s1v4 [label=\"x\"];"
+      ∷ codes "  s1v4 -> s0v2 [label=\"z when Down(m)\"];"
       ∷ codes "}"
       ∷ [])
 

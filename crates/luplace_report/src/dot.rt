@@ -74,7 +74,7 @@ fn put_boxes(text: &mut String, plan: &Plan) -> Result<(), AllocError>
     Ok(())
 }
 
-/// ` when c` or ` when not c`, or nothing for the base clock.
+/// ` when c`, ` when not c` or ` when A(c)`, or nothing for the base clock.
 fn put_when(text: &mut String, flat: &Flat, clock: Clock) -> Result<(), AllocError>
     ensures { Adds result text.old text.new (when_text flat.now clock) }
 {

@@ -4,7 +4,7 @@ ghost use Rattle.std.specs.Prelude.{◌≡◌, ◌++◌, IfOk, slice_index, stri
 ghost use Rattle.luflow.specs.Variables.{variable_name};
 ghost use Rattle.luplace_report.specs.Names.{site_name, type_name, type_of, clock_text, clock_of, Adds};
 
-use luflow::{Clock, Datum, Flat};
+use luflow::{Clock, Datum, Enum, Flat, name_of};
 use lulist::Name;
 use lutree::Kind;
 use std::alloc::{AllocError, Global};
@@ -46,13 +46,17 @@ pub fn site_name(names: &[Name], site: u8) -> &str
     }
 }
 
-/// The name of a type.
-fn type_name(kind: Kind) -> &'static str
-    ensures { result.now ≡ type_name kind }
+/// The name of a type of a program with these types.
+fn type_name(types: &[Enum], kind: Kind) -> &str
+    ensures { result.now ≡ type_name types.now kind }
 {
     match kind {
         Kind::Int => "int",
         Kind::Bool => "bool",
+        Kind::Enum(place, _) => match types.get(usize::from(place)) {
+            Some(found) => found.name.as_str(),
+            None => "",
+        },
     }
 }
 
@@ -61,7 +65,7 @@ pub fn type_of(flat: &Flat, variable: usize) -> &str
     ensures { result.now ≡ type_of flat.now variable }
 {
     match flat.variables().get(variable) {
-        Some(found) => type_name(found.kind),
+        Some(found) => type_name(flat.types(), found.kind),
         None => "",
     }
 }
@@ -76,7 +80,7 @@ pub fn clock_of(flat: &Flat, place: usize) -> Clock
     }
 }
 
-/// Adds `c` or `not c`, or nothing for the base clock.
+/// Adds `c`, `not c` or `A(c)`, or nothing for the base clock.
 pub fn put_clock(text: &mut String, flat: &Flat, clock: Clock) -> Result<(), AllocError>
     ensures { Adds result text.old text.new (clock_text flat.now clock) }
 {
@@ -86,11 +90,16 @@ pub fn put_clock(text: &mut String, flat: &Flat, clock: Clock) -> Result<(), All
             text.push_str("not ")?;
             text.push_str(variable_name(flat, variable))
         }
+        Clock::On(variable, Datum::Name(number)) => {
+            let name = name_of(flat.variable_names(variable), number);
+            let on = variable_name(flat, variable);
+            write!(text, "{name}({on})")
+        }
         Clock::On(variable, _) => text.push_str(variable_name(flat, variable)),
     }
 }
 
-/// `c` or `not c`, or the empty text for the base clock.
+/// `c`, `not c` or `A(c)`, or the empty text for the base clock.
 pub fn clock_text(alloc: Global, flat: &Flat, clock: Clock) -> Result<String, AllocError>
     ensures { IfOk result (λ text. string_bytes text ≡ clock_text flat.now clock) }
 {

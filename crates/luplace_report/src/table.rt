@@ -64,7 +64,7 @@ fn put_sites(text: &mut String, plan: &Plan) -> Result<(), AllocError>
     Ok(())
 }
 
-/// `c` or `not c`, or `-` for the base clock.
+/// `c`, `not c` or `A(c)`, or `-` for the base clock.
 fn put_clock_cell(text: &mut String, flat: &Flat, clock: Clock) -> Result<(), AllocError>
     ensures { Adds result text.old text.new (clock_cell flat.now clock) }
 {

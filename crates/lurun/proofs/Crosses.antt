@@ -61,12 +61,15 @@ inside_program =
                     (
                       search (sendable, crosses, row.the_send) depth 12,
                       (
-                        search sendable,
+                        search (sendable, crosses, row.the_send) depth 12,
                         (
-                          search (sendable, crosses, row.the_send, name.the_send) depth 12,
+                          search sendable,
                           (
-                            search sendable,
-                            tt,
+                            search (sendable, crosses, row.the_send, name.the_send) depth 12,
+                            (
+                              search sendable,
+                              tt,
+                            ),
                           ),
                         ),
                       ),

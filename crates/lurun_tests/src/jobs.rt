@@ -90,6 +90,6 @@ pub(crate) fn prints<R: Threads + Wait + Sync, G: Gate>(
     let job = job(alloc, texts)?;
     let stations = stations(alloc, &job)?;
     let outputs = answer(rt, alloc, stations, how, gate)?;
-    let text = write_outputs(alloc, &outputs)?;
+    let text = write_outputs(alloc, job.plan().flat(), &outputs)?;
     Ok(text.as_str() == texts.wanted)
 }

@@ -74,6 +74,7 @@ status_some (Rules (rules.Undefined byte)) = inl refl
 status_some (Rules (rules.DefinedTwice byte)) = inl refl
 status_some (Rules (rules.RecursiveNode byte)) = inl refl
 status_some (Rules rules.NoMain) = inl refl
+status_some (Rules (rules.BadMerge byte)) = inl refl
 status_some (Rules (rules.ClockMismatch byte)) = inl refl
 status_some (Rules (rules.NotAClock byte)) = inl refl
 status_some (Rules (rules.ClockedParameter byte)) = inl refl

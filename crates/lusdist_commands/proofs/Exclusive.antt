@@ -2,10 +2,11 @@
 use Rattle.std.proofs.Common.{refl, ◌≡◌, ℕ, ◌<◌, List, length, map, Option, Some, None, Result, Ok, Err, false, sym, ap, ◌∙◌, subst, arith, inl, inr}
 use Rattle.std.specs.Prelude.{IsUtf8}
 use Rattle.std.proofs.lemmas.Str.{IsUtf8-from_ascii}
-use Rattle.lutree.specs.Places.{NodePlaces}
+use Rattle.lutree.specs.Places.{ProgramPlaces}
 use Rattle.lutree.specs.Tree.{ProgramTree}
 use Rattle.luflow.specs.declared.form.Flow.{Flow}
 use Rattle.luflow.specs.declared.form.FaultKind.{FaultKind}
+use Rattle.luflow.specs.declared.variable.Enum.{Enum}
 use Rattle.luflow.specs.declared.variable.Variable.{Variable}
 use Rattle.luflow.specs.Program.{FlatProgram, Table, reads}
 use Rattle.luflow.specs.Rank.{reads_of, IsRankOrder}
@@ -15,7 +16,7 @@ use Rattle.luflow.proofs.Solutions.{IsSolution-solution}
 use Rattle.luflow.specs.Faults.{IsFault}
 use Rattle.luworld.specs.Needs.{Distribution}
 use Rattle.luworld.specs.Runs.{Run}
-use Rattle.lustat_rules.specs.Accepted.{Rule, Keeps, Breaks, program, node, declaration, equation}
+use Rattle.lustat_rules.specs.Accepted.{Rule, Keeps, Breaks, program, enumeration, node, declaration, equation}
 use Rattle.lustat_rules.specs.Accepted as accepted
 use Rattle.lustat_rules.specs.declared.error.StatError.{StatError}
 use Rattle.lustat_rules.specs.declared.error.StatError.TheVariants as rules
@@ -74,24 +75,27 @@ memory_is stop other e h = subst SaysNothing (sym e) h
 
 -- ---- one flat program
 
-flat_is : (a b : FlatProgram) → a.flows ≡ b.flows → a.order ≡ b.order → a.owners ≡ b.owners → a.variables ≡ b.variables → a ≡ b
-flat_is a b flows order owners variables =
-    ap (λ (x : List Flow). record { flows = x; order = a.order; owners = a.owners; variables = a.variables }) flows
-    ∙ ap (λ (x : List ℕ). record { flows = b.flows; order = x; owners = a.owners; variables = a.variables }) order
-    ∙ ap (λ (x : List ℕ). record { flows = b.flows; order = b.order; owners = x; variables = a.variables }) owners
-    ∙ ap (λ (x : List Variable). record { flows = b.flows; order = b.order; owners = b.owners; variables = x }) variables
+flat_is : (a b : FlatProgram) → a.types ≡ b.types → a.flows ≡ b.flows → a.order ≡ b.order → a.owners ≡ b.owners → a.variables ≡ b.variables → a ≡ b
+flat_is a b types flows order owners variables =
+    ap (λ (x : List Enum). record { types = x; flows = a.flows; order = a.order; owners = a.owners; variables = a.variables }) types
+    ∙ ap (λ (x : List Flow). record { types = b.types; flows = x; order = a.order; owners = a.owners; variables = a.variables }) flows
+    ∙ ap (λ (x : List ℕ). record { types = b.types; flows = b.flows; order = x; owners = a.owners; variables = a.variables }) order
+    ∙ ap (λ (x : List ℕ). record { types = b.types; flows = b.flows; order = b.order; owners = x; variables = a.variables }) owners
+    ∙ ap (λ (x : List Variable). record { types = b.types; flows = b.flows; order = b.order; owners = b.owners; variables = x }) variables
 
 flat_same : (tree : ProgramTree) (main : List ℕ) (a b : FlatProgram) → IsFlatOf tree main a → IsFlatOf tree main b → a ≡ b
 flat_same tree main a b x y =
     let same = one_list tree main a b (x.accepted accepted.recursive_node) x.laid_out y.laid_out in
     let rows : reads_of b ≡ reads_of a = ap (map reads) (sym same.flows) in
     let order = one_order (reads_of a) a.order b.order x.is_flat.ranked (subst (λ xs. IsRankOrder xs b.order) rows y.is_flat.ranked) in
-    flat_is a b same.flows order same.owners same.variables
+    flat_is a b same.types same.flows order same.owners same.variables
 
 -- ---- a program that has a flat program isn't refused
 
 kept : (tree : ProgramTree) (main : List ℕ) (r : Rule) → Breaks tree main r → Keeps tree main r → ⊥
 kept tree main r (program never) keeps = never keeps.program
+kept tree main r (enumeration i t at never) keeps = never (keeps.types i t at)
+kept tree main r (accepted.name i j t x at there never) keeps = never (keeps.names i j t x at there)
 kept tree main r (node i n at never) keeps = never (keeps.nodes i n at)
 kept tree main r (declaration i j n d at there never) keeps = never (keeps.declarations i j n d at there)
 kept tree main r (equation i j n q at there never) keeps = never (keeps.equations i j n q at there)
@@ -106,6 +110,7 @@ rules_memory tree main (rules.Undefined byte) keeps h = absurd (kept tree main a
 rules_memory tree main (rules.DefinedTwice byte) keeps h = absurd (kept tree main accepted.defined_twice h.1.broken (keeps accepted.defined_twice))
 rules_memory tree main (rules.RecursiveNode byte) keeps h = absurd (kept tree main accepted.recursive_node h.1.broken (keeps accepted.recursive_node))
 rules_memory tree main rules.NoMain keeps h = absurd (kept tree main accepted.no_main h.1.broken (keeps accepted.no_main))
+rules_memory tree main (rules.BadMerge byte) keeps h = absurd (kept tree main accepted.bad_merge h.1.broken (keeps accepted.bad_merge))
 rules_memory tree main (rules.ClockMismatch byte) keeps h = absurd (kept tree main accepted.clock_mismatch h.1.broken (keeps accepted.clock_mismatch))
 rules_memory tree main (rules.NotAClock byte) keeps h = absurd (kept tree main accepted.not_a_clock h.1.broken (keeps accepted.not_a_clock))
 rules_memory tree main (rules.ClockedParameter byte) keeps h = absurd (kept tree main accepted.clocked_parameter h.1.broken (keeps accepted.clocked_parameter))
@@ -122,14 +127,14 @@ flat_memory tree main own core.TooLarge is h =
 flat_memory tree main own (core.Cycle name) is h = absurd (is.causal (h.occurrence, h.leads))
 flat_memory tree main own core.OutOfMemory is h = tt
 
-told_memory : (tree : ProgramTree) (places : List NodePlaces) (main : List ℕ) (own : FlatProgram) (stop : Stop) → IsFlatOf tree main own → IsToldOf tree places main stop → SaysNothing stop
+told_memory : (tree : ProgramTree) (places : ProgramPlaces) (main : List ℕ) (own : FlatProgram) (stop : Stop) → IsFlatOf tree main own → IsToldOf tree places main stop → SaysNothing stop
 told_memory tree places main own stop is (rule told read e tells same there first) = memory_is stop (Rules told) e (rules_memory tree main told is.accepted tells)
 told_memory tree places main own stop is (flat told e keeps refuses) = memory_is stop (Flat told) e (flat_memory tree main own told is refuses)
 
 -- ---- a text that spells a program isn't refused
 
 pub text_memory : (text : List ℕ) (tree : ProgramTree) (stop : Stop) → SpellsText text tree → IsProgramRefused text stop → SaysNothing stop
-text_memory text tree NotAscii spelled h = absurd (h (IsUtf8-from_ascii text spelled.0.1.0.1))
+text_memory text tree NotAscii spelled h = absurd (h (IsUtf8-from_ascii text spelled.1.1.0.1))
 text_memory text tree (Syntax told) spelled (inl memory) = memory_is (Syntax told) (Syntax syntax.OutOfMemory) (ap (λ (x : SynError). Syntax x) memory) tt
 text_memory text tree (Syntax told) spelled (inr (utf8, refused)) = absurd (not_refused text tree told spelled refused)
 text_memory text tree (CannotRead path) spelled h = absurd h
@@ -155,25 +160,25 @@ flats_same text main tree other a b x y is also =
 
 -- ---- the other files
 
-table_memory : (inputs : List Variable) (text : List ℕ) (table : Table) (stop : Stop) → IsTextOf inputs table text → is_too_long text ≡ false → IsUtf8 text → IsTableRefused inputs text stop → SaysNothing stop
-table_memory inputs text table (BadTable told) is short utf8 (inl bytes) = absurd (bytes.1 utf8)
-table_memory inputs text table (BadTable told) is short utf8 (inr (same, refused)) =
+table_memory : (types : List Enum) (inputs : List Variable) (text : List ℕ) (table : Table) (stop : Stop) → IsTextOf types inputs table text → is_too_long text ≡ false → IsUtf8 text → IsTableRefused types inputs text stop → SaysNothing stop
+table_memory types inputs text table (BadTable told) is short utf8 (inl bytes) = absurd (bytes.1 utf8)
+table_memory types inputs text table (BadTable told) is short utf8 (inr (same, refused)) =
     elim (memory_or told) [
       | inl memory ↦ memory_is (BadTable told) (BadTable tab.OutOfMemory) (ap (λ (x : TabError). BadTable x) memory) tt
-      | inr other ↦ absurd (table_fine inputs text table told is short (refused other))
+      | inr other ↦ absurd (table_fine types inputs text table told is short (refused other))
     ]
-table_memory inputs text table (CannotRead path) is short utf8 h = absurd h
-table_memory inputs text table NotAscii is short utf8 h = absurd h
-table_memory inputs text table (Syntax told) is short utf8 h = absurd h
-table_memory inputs text table (Rules told) is short utf8 h = absurd h
-table_memory inputs text table (Flat told) is short utf8 h = absurd h
-table_memory inputs text table (BadPlace told) is short utf8 h = absurd h
-table_memory inputs text table (Schedule told) is short utf8 h = absurd h
-table_memory inputs text table (Fault name instant kind) is short utf8 h = absurd h
-table_memory inputs text table OutOfMemory is short utf8 h = absurd h
-table_memory inputs text table LinkLost is short utf8 h = absurd h
-table_memory inputs text table NoThread is short utf8 h = absurd h
-table_memory inputs text table (Mistaken mistake) is short utf8 h = absurd h
+table_memory types inputs text table (CannotRead path) is short utf8 h = absurd h
+table_memory types inputs text table NotAscii is short utf8 h = absurd h
+table_memory types inputs text table (Syntax told) is short utf8 h = absurd h
+table_memory types inputs text table (Rules told) is short utf8 h = absurd h
+table_memory types inputs text table (Flat told) is short utf8 h = absurd h
+table_memory types inputs text table (BadPlace told) is short utf8 h = absurd h
+table_memory types inputs text table (Schedule told) is short utf8 h = absurd h
+table_memory types inputs text table (Fault name instant kind) is short utf8 h = absurd h
+table_memory types inputs text table OutOfMemory is short utf8 h = absurd h
+table_memory types inputs text table LinkLost is short utf8 h = absurd h
+table_memory types inputs text table NoThread is short utf8 h = absurd h
+table_memory types inputs text table (Mistaken mistake) is short utf8 h = absurd h
 
 none_some : {A : Type 0} (o : Option A) (x : A) → o ≡ None → o ≡ Some x → ⊥
 none_some o x h k = absurd cc
@@ -265,13 +270,13 @@ module _ (gives : List ℕ → Option (List ℕ) → Type 0) (settled : HasOneTe
       (subst (λ (f : FlatProgram). IsPlaceRefused f place stop) (flats_one path main source bytes plan.flat own given other has own_is) (subst (λ b. IsPlaceRefused own b stop) place_same refused))
 
   pub refused_memory : (path table_path main source table other text : List ℕ) (own list : FlatProgram) (inputs : Table) (stop : Stop) → gives path (Some source) → gives path (Some other) → HasFlat source main own → HasFlat other main list
-      → gives table_path (Some table) → gives table_path (Some text) → IsTextOf (inputs_of own.variables) inputs table → is_too_long table ≡ false → IsUtf8 table
-      → IsTableRefused (inputs_of list.variables) text stop → SaysNothing stop
+      → gives table_path (Some table) → gives table_path (Some text) → IsTextOf own.types (inputs_of own.variables) inputs table → is_too_long table ≡ false → IsUtf8 table
+      → IsTableRefused list.types (inputs_of list.variables) text stop → SaysNothing stop
   refused_memory path table_path main source table other text own list inputs stop given other_given has also table_given text_given is short utf8 refused =
       let table_same = one_of table_path text table text_given table_given in
       let flat_eq = flats_one path main source other own list given other_given has also in
-      table_memory (inputs_of own.variables) table inputs stop is short utf8
-      (subst (λ (f : FlatProgram). IsTableRefused (inputs_of f.variables) table stop) flat_eq (subst (λ b. IsTableRefused (inputs_of list.variables) b stop) table_same refused))
+      table_memory own.types (inputs_of own.variables) table inputs stop is short utf8
+      (subst (λ (f : FlatProgram). IsTableRefused f.types (inputs_of f.variables) table stop) flat_eq (subst (λ b. IsTableRefused list.types (inputs_of list.variables) b stop) table_same refused))
 
   check_outcome : (request : CheckRequest) (text : List ℕ) (stop : Stop) → IsChecked gives request text → IsCheckStopped gives request stop → SaysNothing stop
   check_outcome request text stop is (check_program at) =
@@ -286,8 +291,8 @@ module _ (gives : List ℕ → Option (List ℕ) → Type 0) (settled : HasOneTe
       let table_same = one_of request.table.now other.table asked.table other.table_given asked.table_given in
       let spelled = subst (λ b. SpellsText b other.tree) program_same other.posed.spelled in
       let flat_eq = flats_same asked.program request.main.now asked.tree other.tree is.flat fault.flat asked.posed.spelled spelled asked.posed.flat_is other.posed.flat_is in
-      let columns = subst (λ b. IsTextOf (inputs_of fault.flat.variables) fault.inputs b) table_same other.posed.table_is in
-      let inputs_eq = one_table (inputs_of is.flat.variables) asked.table fault.inputs is.inputs (subst (λ (f : FlatProgram). IsTextOf (inputs_of f.variables) fault.inputs asked.table) flat_eq columns) asked.posed.table_is in
+      let columns = subst (λ b. IsTextOf fault.flat.types (inputs_of fault.flat.variables) fault.inputs b) table_same other.posed.table_is in
+      let inputs_eq = one_table is.flat.types (inputs_of is.flat.variables) asked.table fault.inputs is.inputs (subst (λ (f : FlatProgram). IsTextOf f.types (inputs_of f.variables) fault.inputs asked.table) flat_eq columns) asked.posed.table_is in
       let ordered = asked.posed.flat_is.is_flat.ordered in
       let told = subst (λ (i : Table). IsFaultTold is.flat i name instant kind) inputs_eq (subst (λ (f : FlatProgram). IsFaultTold f fault.inputs name instant kind) flat_eq fault.told) in
       let solves = IsSolution-solution is.flat is.inputs ordered in
@@ -328,8 +333,8 @@ module _ (gives : List ℕ → Option (List ℕ) → Type 0) (settled : HasOneTe
   jobs_one path place_path table_path main a b x y =
       let flat_eq = flats_one path main x.program y.program a.plan.flat b.plan.flat x.program_given y.program_given x.job_is.flat y.job_is.flat in
       let table_same = one_of table_path y.table x.table y.table_given x.table_given in
-      let columns = subst (λ t. IsTextOf (inputs_of b.plan.flat.variables) b.inputs t) table_same y.job_is.inputs in
-      (flat_eq, one_table (inputs_of a.plan.flat.variables) x.table b.inputs a.inputs (subst (λ (f : FlatProgram). IsTextOf (inputs_of f.variables) b.inputs x.table) flat_eq columns) x.job_is.inputs)
+      let columns = subst (λ t. IsTextOf b.plan.flat.types (inputs_of b.plan.flat.variables) b.inputs t) table_same y.job_is.inputs in
+      (flat_eq, one_table a.plan.flat.types (inputs_of a.plan.flat.variables) x.table b.inputs a.inputs (subst (λ (f : FlatProgram). IsTextOf f.types (inputs_of f.variables) b.inputs x.table) flat_eq columns) x.job_is.inputs)
 
   module _ (request : ReplayRequest) (text : List ℕ) (stop : Stop) (is : IsReplayed gives request text) where
     replay_outcome : IsReplayStopped gives request stop → SaysNothing stop

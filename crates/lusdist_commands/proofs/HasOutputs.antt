@@ -3,20 +3,21 @@ use Rattle.std.proofs.Common.{◌≡◌, ℕ, ◌<◌, List, [], ◌∷◌, ◌+
 use Rattle.std.specs.Str.{bytes_eq}
 use Rattle.std.proofs.lemmas.List.{length-append, length-map}
 use Rattle.std.proofs.lemmas.List.Elements.{filter-append}
-use Rattle.lutree.specs.Tree.{DeclarationTree, NodeTree, ProgramTree}
+use Rattle.lutree.specs.Tree.{DeclarationTree, NodeTree, TypeTree, ProgramTree}
 use Rattle.luflow.specs.declared.variable.Variable.{Variable}
 use Rattle.luflow.specs.declared.variable.Role.TheVariants as role
 use Rattle.luflow.specs.Program.{FlatProgram}
 use Rattle.luflow.specs.Variables.{is_output, outputs_of}
-use Rattle.lustat_rules.specs.Scope.{node_called}
-use Rattle.lusyn_grammar.specs.Grammar.{WrittenDeclaration, WrittenNode, WrittenProgram, Each, IsNonempty, IsProperDeclaration, IsProperNode, declaration_tree, node_tree, program_tree}
+use Rattle.lustat_rules.specs.Scope.{first_named, node_called}
+use Rattle.lusyn_grammar.specs.Grammar.{WrittenDeclaration, WrittenNode, Each, IsNonempty, IsProperDeclaration, IsProperNode, declaration_tree, node_tree, program_tree}
 use Rattle.lucore_list.specs.Layout.{variables_as, main_variables}
+use Rattle.lusyn_labels.specs.Resolved.{resolved, resolved_node, resolved_declaration}
 use Rattle.lusyn.specs.Texts.{SpellsText}
 use Rattle.lucore.specs.Result.{IsFlatOf}
 
 some_declared : (ds : List WrittenDeclaration) → IsNonempty ds → Each IsProperDeclaration ds → 0 < length (flat_map declaration_tree ds)
 some_declared [] some proper = absurd some
-some_declared (d ∷ ds) some proper = go d.names proper.0
+some_declared (d ∷ ds) some proper = go d.names proper.0.0
   where
     go : (names : List (List ℕ)) → IsNonempty names → 0 < length (map (Rattle.lusyn_grammar.specs.Grammar.declared d.kind d.clock) names ++ flat_map declaration_tree ds)
     go [] none = absurd none
@@ -25,16 +26,20 @@ some_declared (d ∷ ds) some proper = go d.names proper.0
 abbrev HasSome : NodeTree → Type 0
 HasSome node = 0 < length node.outputs
 
-in_node : (n : WrittenNode) → IsProperNode n → HasSome (node_tree n)
-in_node n proper = some_declared n.outputs proper.1 proper.2
+in_node : (types : List TypeTree) (n : WrittenNode) → IsProperNode n → HasSome (resolved_node types (node_tree n))
+in_node types n proper =
+    let some = some_declared n.outputs proper.1 proper.2 in
+    let same = length-map (flat_map declaration_tree n.outputs) (resolved_declaration types) in
+    omega (arith, some, same)
 
 pick : (n : NodeTree) (b : Bool) (rest : Option NodeTree) (node : NodeTree) → HasSome n → (rest ≡ Some node → HasSome node) → cond b (Some n) rest ≡ Some node → HasSome node
 pick n true rest node some more e = let same : n ≡ node = cc in subst HasSome same some
 pick n false rest node some more e = more e
 
-in_program : (p : WrittenProgram) → Each IsProperNode p → (f : List ℕ) (node : NodeTree) → node_called (program_tree p) f ≡ Some node → HasSome node
-in_program [] proper f node e = cc
-in_program (n ∷ p) proper f node e = pick (node_tree n) (bytes_eq n.name f) (node_called (program_tree p) f) node (in_node n proper.0) (in_program p proper.1 f node) e
+in_program : (types : List TypeTree) (ns : List WrittenNode) → Each IsProperNode ns → (f : List ℕ) (node : NodeTree) → first_named (map (resolved_node types) (map node_tree ns)) f ≡ Some node → HasSome node
+in_program types [] proper f node e = cc
+in_program types (n ∷ ns) proper f node e =
+    pick (resolved_node types (node_tree n)) (bytes_eq n.name f) (first_named (map (resolved_node types) (map node_tree ns)) f) node (in_node types n proper.0) (in_program types ns proper.1 f node) e
 
 all_outputs : (ds : List DeclarationTree) → outputs_of (variables_as role.Output ds) ≡ variables_as role.Output ds
 all_outputs [] = refl
@@ -56,7 +61,8 @@ variables_have node some =
 
 pub some_output : (text main : List ℕ) (tree : ProgramTree) (flat : FlatProgram) → SpellsText text tree → IsFlatOf tree main flat → 0 < length (outputs_of flat.variables)
 some_output text main tree flat spelled is =
-    let written = spelled.0.2 in
+    let written = spelled.1.2 in
     let laid = is.laid_out in
-    let here : node_called (program_tree written.0) main ≡ Some laid.node = ap (λ t. node_called t main) written.3 ∙ laid.is_main in
-    subst (λ xs. 0 < length (outputs_of xs)) (sym laid.variables) (variables_have laid.node (in_program written.0 written.1.1 main laid.node here))
+    let same : resolved (program_tree written.0) ≡ tree = ap resolved written.3 ∙ spelled.3 in
+    let here : node_called (resolved (program_tree written.0)) main ≡ Some laid.node = ap (λ t. node_called t main) same ∙ laid.is_main in
+    subst (λ xs. 0 < length (outputs_of xs)) (sym laid.variables) (variables_have laid.node (in_program written.0.types written.0.nodes written.1.1 main laid.node here))

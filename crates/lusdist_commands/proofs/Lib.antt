@@ -3,6 +3,7 @@ pub mod Worlds
 pub mod AskedFor
 pub mod HasOutputs
 pub mod Outcomes
+pub mod Spelled
 pub mod Tellings
 pub mod Replays
 pub mod Exclusive

@@ -3,12 +3,13 @@ use Rattle.std.proofs.Common.{◌≡◌, ◌<◌, ◌⊎◌, inl, inr, ℕ, zero
 use Rattle.std.specs.Prelude.{slice_get, slice_index, IsUtf8}
 use Rattle.std.proofs.lemmas.Option.{same_Some}
 use Rattle.lutree.specs.Tree.{ProgramTree}
-use Rattle.lutree.specs.Places.{NodePlaces}
+use Rattle.lutree.specs.Places.{ProgramPlaces}
 use Rattle.luflow.specs.declared.data.Datum.{Datum}
 use Rattle.luflow.specs.declared.data.Status.TheVariants.{Present}
 use Rattle.luflow.specs.declared.form.Flow.{Flow}
 use Rattle.luflow.specs.declared.form.Form.{Form}
 use Rattle.luflow.specs.declared.form.FaultKind.{FaultKind}
+use Rattle.luflow.specs.declared.variable.Enum.{Enum}
 use Rattle.luflow.specs.declared.variable.Variable.{Variable}
 use Rattle.luflow.specs.Faults.{IsFault, IsFaultOn}
 use Rattle.luflow.specs.Faults.IsFaultOn.{OnBinary, OnUnary}
@@ -169,30 +170,30 @@ place_told own bytes (Mistaken mistake) h = absurd h
 
 -- THE TABLE
 
-abbrev IsTableTold : List Variable → List ℕ → TabError → Type 0
-IsTableTold inputs bytes = Of bytes tab.BadHeader (IsRefusedTable inputs bytes)
+abbrev IsTableTold : List Enum → List Variable → List ℕ → TabError → Type 0
+IsTableTold types inputs bytes = Of bytes tab.BadHeader (IsRefusedTable types inputs bytes)
 
-table_one : (inputs : List Variable) (bytes : List ℕ) (e f : TabError) → IsTableTold inputs bytes e → IsTableTold inputs bytes f → e ≡ f
-table_one inputs bytes e f h k = one_of_bytes bytes tab.BadHeader (IsRefusedTable inputs bytes) e f (one_table_refusal inputs bytes) h k
+table_one : (types : List Enum) (inputs : List Variable) (bytes : List ℕ) (e f : TabError) → IsTableTold types inputs bytes e → IsTableTold types inputs bytes f → e ≡ f
+table_one types inputs bytes e f h k = one_of_bytes bytes tab.BadHeader (IsRefusedTable types inputs bytes) e f (one_table_refusal types inputs bytes) h k
 
-table_told : (inputs : List Variable) (bytes : List ℕ) (stop : Stop) → IsTableRefused inputs bytes stop → Tells_of (λ e. BadTable e) (IsTableTold inputs bytes) stop
-table_told inputs bytes (BadTable e) (inl h) = speaks e (inl h) refl
-table_told inputs bytes (BadTable e) (inr (utf8, h)) = elim (memory_or e) [
+table_told : (types : List Enum) (inputs : List Variable) (bytes : List ℕ) (stop : Stop) → IsTableRefused types inputs bytes stop → Tells_of (λ e. BadTable e) (IsTableTold types inputs bytes) stop
+table_told types inputs bytes (BadTable e) (inl h) = speaks e (inl h) refl
+table_told types inputs bytes (BadTable e) (inr (utf8, h)) = elim (memory_or e) [
   | inl memory ↦ silent (memory_is (BadTable e) (BadTable tab.OutOfMemory) (ap (λ (x : TabError). BadTable x) memory) tt)
   | inr other ↦ speaks e (inr (utf8, h other)) refl
 ]
-table_told inputs bytes (CannotRead path) h = absurd h
-table_told inputs bytes (Fault variable instant kind) h = absurd h
-table_told inputs bytes NotAscii h = absurd h
-table_told inputs bytes (Syntax e) h = absurd h
-table_told inputs bytes (Rules e) h = absurd h
-table_told inputs bytes (Flat e) h = absurd h
-table_told inputs bytes (BadPlace e) h = absurd h
-table_told inputs bytes (Schedule e) h = absurd h
-table_told inputs bytes OutOfMemory h = absurd h
-table_told inputs bytes LinkLost h = absurd h
-table_told inputs bytes NoThread h = absurd h
-table_told inputs bytes (Mistaken mistake) h = absurd h
+table_told types inputs bytes (CannotRead path) h = absurd h
+table_told types inputs bytes (Fault variable instant kind) h = absurd h
+table_told types inputs bytes NotAscii h = absurd h
+table_told types inputs bytes (Syntax e) h = absurd h
+table_told types inputs bytes (Rules e) h = absurd h
+table_told types inputs bytes (Flat e) h = absurd h
+table_told types inputs bytes (BadPlace e) h = absurd h
+table_told types inputs bytes (Schedule e) h = absurd h
+table_told types inputs bytes OutOfMemory h = absurd h
+table_told types inputs bytes LinkLost h = absurd h
+table_told types inputs bytes NoThread h = absurd h
+table_told types inputs bytes (Mistaken mistake) h = absurd h
 
 -- THE SCHEDULE
 
@@ -277,7 +278,7 @@ flat_one tree main (core.Cycle m) core.TooLarge keeps h k ne nf =
     absurd (omega (arith, count, h.few, k.large))
 flat_one tree main (core.Cycle m) (core.Cycle n) keeps h k ne nf = ap core.Cycle (cycle_one tree main m n keeps h k)
 
-told_one : (tree : ProgramTree) (places : List NodePlaces) (main : List ℕ) (a b : Stop) → IsToldOf tree places main a → IsToldOf tree places main b → (¬ SaysNothing a) → (¬ SaysNothing b) → a ≡ b
+told_one : (tree : ProgramTree) (places : ProgramPlaces) (main : List ℕ) (a b : Stop) → IsToldOf tree places main a → IsToldOf tree places main b → (¬ SaysNothing a) → (¬ SaysNothing b) → a ≡ b
 told_one tree places main a b (rule e read is tells seen there first) (rule f other also tells_too seen_too there_too first_too) na nb =
     let one = told_along read other main e (sym seen ∙ seen_too) (sym there ∙ there_too) first in
     let T : StatError → ProgramTree → Type 0 = λ x t. Tells 3 t main x in
@@ -302,7 +303,7 @@ no_flat_one bytes main a b (unspelled x) (unspelled y) na nb = one_of_kind text_
 no_flat_one bytes main a b (unspelled x) (unruled tree places spelled there y) na nb = absurd (na (text_memory bytes tree a spelled x))
 no_flat_one bytes main a b (unruled tree places spelled there x) (unspelled y) na nb = absurd (nb (text_memory bytes tree b spelled y))
 no_flat_one bytes main a b (unruled tree places spelled there x) (unruled other others spelled_too there_too y) na nb =
-    let I : ProgramTree → List NodePlaces → Type 0 = λ t ps. IsToldOf t ps main b in
+    let I : ProgramTree → ProgramPlaces → Type 0 = λ t ps. IsToldOf t ps main b in
     told_one tree places main a b x (subst (I tree) (one_places bytes others places there_too there) (subst (λ t. I t others) (one_program bytes other tree spelled_too spelled) y)) na nb
 
 -- ---- the first fault of an evaluation
@@ -389,11 +390,13 @@ module _ (gives : List ℕ → Option (List ℕ) → Type 0) (settled : HasOneTe
       let there = subst (λ (l : FlatProgram). IsPlaceRefused l place b) flat_eq (subst (λ t. IsPlaceRefused list t b) same y) in
       one_of_kind (λ e. BadPlace e) (IsPlaceTold own place) a b (place_one own place) (place_told own place a x) (place_told own place b there) na nb
 
-  table_stop : (inputs others : List Variable) (path table text : List ℕ) (a b : Stop) → others ≡ inputs → gives path (Some table) → gives path (Some text) → IsTableRefused inputs table a → IsTableRefused others text b
+  table_stop : (own other : FlatProgram) (path table text : List ℕ) (a b : Stop) → other ≡ own → gives path (Some table) → gives path (Some text) → IsTableRefused own.types (inputs_of own.variables) table a → IsTableRefused other.types (inputs_of other.variables) text b
       → (¬ SaysNothing a) → (¬ SaysNothing b) → a ≡ b
-  table_stop inputs others path table text a b same given text_given x y na nb =
-      let there = subst (λ vs. IsTableRefused vs table b) same (subst (λ t. IsTableRefused others t b) (one_of gives settled path text table text_given given) y) in
-      one_of_kind (λ e. BadTable e) (IsTableTold inputs table) a b (table_one inputs table) (table_told inputs table a x) (table_told inputs table b there) na nb
+  table_stop own other path table text a b same given text_given x y na nb =
+      let types = own.types in
+      let inputs = inputs_of own.variables in
+      let there = subst (λ (f : FlatProgram). IsTableRefused f.types (inputs_of f.variables) table b) same (subst (λ t. IsTableRefused other.types (inputs_of other.variables) t b) (one_of gives settled path text table text_given given) y) in
+      one_of_kind (λ e. BadTable e) (IsTableTold types inputs table) a b (table_one types inputs table) (table_told types inputs table a x) (table_told types inputs table b there) na nb
 
   module _ (request : EvalRequest) where
     both_faults : (m n : List ℕ) (t u : ℕ) (k l : FaultKind) → IsFaultOf gives request m t k → IsFaultOf gives request n u l → ◌≡◌ {A = Stop} (Fault m t k) (Fault n u l)
@@ -404,8 +407,8 @@ module _ (gives : List ℕ → Option (List ℕ) → Type 0) (settled : HasOneTe
         let table_same = one_of gives settled request.table.now other.table asked.table other.table_given asked.table_given in
         let spelled = subst (λ b. SpellsText b other.tree) program_same other.posed.spelled in
         let flat_eq = flats_same asked.program request.main.now asked.tree other.tree x.flat y.flat asked.posed.spelled spelled asked.posed.flat_is other.posed.flat_is in
-        let columns = subst (λ b. IsTextOf (inputs_of y.flat.variables) y.inputs b) table_same other.posed.table_is in
-        let inputs_eq = one_table (inputs_of x.flat.variables) asked.table y.inputs x.inputs (subst (λ (f : FlatProgram). IsTextOf (inputs_of f.variables) y.inputs asked.table) flat_eq columns) asked.posed.table_is in
+        let columns = subst (λ b. IsTextOf y.flat.types (inputs_of y.flat.variables) y.inputs b) table_same other.posed.table_is in
+        let inputs_eq = one_table x.flat.types (inputs_of x.flat.variables) asked.table y.inputs x.inputs (subst (λ (f : FlatProgram). IsTextOf f.types (inputs_of f.variables) y.inputs asked.table) flat_eq columns) asked.posed.table_is in
         let told = subst (λ (i : Table). IsFaultTold x.flat i n u l) inputs_eq (subst (λ (f : FlatProgram). IsFaultTold f y.inputs n u l) flat_eq y.told) in
         fault_one x.flat x.inputs m n t u k l asked.posed.flat_is.is_flat.ordered x.told told
 
@@ -426,7 +429,7 @@ module _ (gives : List ℕ → Option (List ℕ) → Type 0) (settled : HasOneTe
     eval_stop a b (eval_table program table own given table_given has x) (eval_unread other list also other_has y) na nb = never gives settled request.table.now table b table_given y nb
     eval_stop a b (eval_table program table own given table_given has x) (eval_table other text list also text_given other_has y) na nb =
         let flat_eq = flats_one gives settled request.program.now request.main.now program other own list given also has other_has in
-        table_stop (inputs_of own.variables) (inputs_of list.variables) request.table.now table text a b (ap (λ (f : FlatProgram). inputs_of f.variables) flat_eq) table_given text_given x y na nb
+        table_stop own list request.table.now table text a b flat_eq table_given text_given x y na nb
     eval_stop a b (eval_table program table own given table_given has x) (eval_fault name instant kind e fault) na nb = past_table gives settled request program table name own instant kind a given table_given has fault x na
     eval_stop a b (eval_fault name instant kind e fault) (eval_memory m) na nb = absurd (nb (memory_is b OutOfMemory m tt))
     eval_stop a b (eval_fault name instant kind e fault) (eval_program y) na nb = fault_past gives settled request name instant kind b fault y nb
@@ -446,7 +449,7 @@ module _ (gives : List ℕ → Option (List ℕ) → Type 0) (settled : HasOneTe
     job_stop a b (table_refused plan table is given x) (table_unread other also y) na nb = never gives settled table_path table b given y nb
     job_stop a b (table_refused plan table is given x) (table_refused other text also text_given y) na nb =
         let flat_eq = flats_one gives settled path main is.program also.program plan.flat other.flat is.program_given also.program_given is.flat also.flat in
-        table_stop (inputs_of plan.flat.variables) (inputs_of other.flat.variables) table_path table text a b (ap (λ (f : FlatProgram). inputs_of f.variables) flat_eq) given text_given x y na nb
+        table_stop plan.flat other.flat table_path table text a b flat_eq given text_given x y na nb
 
   module _ (request : ReplayRequest) where
     replay_stop : (a b : Stop) → IsReplayStopped gives request a → IsReplayStopped gives request b → (¬ SaysNothing a) → (¬ SaysNothing b) → a ≡ b

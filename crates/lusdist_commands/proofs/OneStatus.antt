@@ -65,6 +65,7 @@ one_of_text (Rules (rules.Undefined byte)) is not = refl
 one_of_text (Rules (rules.DefinedTwice byte)) is not = refl
 one_of_text (Rules (rules.RecursiveNode byte)) is not = refl
 one_of_text (Rules rules.NoMain) is not = refl
+one_of_text (Rules (rules.BadMerge byte)) is not = refl
 one_of_text (Rules (rules.ClockMismatch byte)) is not = refl
 one_of_text (Rules (rules.NotAClock byte)) is not = refl
 one_of_text (Rules (rules.ClockedParameter byte)) is not = refl
@@ -139,20 +140,20 @@ place_text list bytes LinkLost h = tt
 place_text list bytes NoThread h = tt
 place_text list bytes (Mistaken mistake) h = absurd h
 
-table_text : (inputs : _) (bytes : List ℕ) (stop : Stop) → IsTableRefused inputs bytes stop → IsOfText stop
-table_text inputs bytes (CannotRead path) h = absurd h
-table_text inputs bytes (Fault variable instant kind) h = absurd h
-table_text inputs bytes NotAscii h = tt
-table_text inputs bytes (Syntax e) h = tt
-table_text inputs bytes (Rules e) h = tt
-table_text inputs bytes (Flat e) h = tt
-table_text inputs bytes (Place e) h = tt
-table_text inputs bytes (Table e) h = tt
-table_text inputs bytes (Schedule e) h = tt
-table_text inputs bytes OutOfMemory h = tt
-table_text inputs bytes LinkLost h = tt
-table_text inputs bytes NoThread h = tt
-table_text inputs bytes (Mistaken mistake) h = absurd h
+table_text : (types inputs : _) (bytes : List ℕ) (stop : Stop) → IsTableRefused types inputs bytes stop → IsOfText stop
+table_text types inputs bytes (CannotRead path) h = absurd h
+table_text types inputs bytes (Fault variable instant kind) h = absurd h
+table_text types inputs bytes NotAscii h = tt
+table_text types inputs bytes (Syntax e) h = tt
+table_text types inputs bytes (Rules e) h = tt
+table_text types inputs bytes (Flat e) h = tt
+table_text types inputs bytes (Place e) h = tt
+table_text types inputs bytes (Table e) h = tt
+table_text types inputs bytes (Schedule e) h = tt
+table_text types inputs bytes OutOfMemory h = tt
+table_text types inputs bytes LinkLost h = tt
+table_text types inputs bytes NoThread h = tt
+table_text types inputs bytes (Mistaken mistake) h = absurd h
 
 schedule_text : (bytes : List ℕ) (stop : Stop) → IsScheduleRefused bytes stop → IsOfText stop
 schedule_text bytes (CannotRead path) h = absurd h
@@ -222,7 +223,7 @@ module _ (gives : List ℕ → Option (List ℕ) → Type 0) (settled : HasOneTe
   module _ (request : EvalRequest) where
     -- a table that a fault is of isn't refused
     pub past_table : {X : Type 0} (program table name : List ℕ) (own : FlatProgram) (instant : ℕ) (kind : FaultKind) (stop : Stop) → gives request.program.now (Some program) → gives request.table.now (Some table) → HasFlat program request.main.now own
-        → IsFaultOf gives request name instant kind → IsTableRefused (inputs_of own.variables) table stop → (¬ SaysNothing stop) → X
+        → IsFaultOf gives request name instant kind → IsTableRefused own.types (inputs_of own.variables) table stop → (¬ SaysNothing stop) → X
     past_table program table name own instant kind stop given table_given has fault x not =
         let asked = fault.asked in
         absurd (not (refused_memory gives settled request.program.now request.table.now request.main.now asked.program asked.table program table fault.flat own fault.inputs stop asked.program_given given (posed_flat gives settled request fault.flat fault.inputs asked) has
@@ -252,7 +253,7 @@ module _ (gives : List ℕ → Option (List ℕ) → Type 0) (settled : HasOneTe
     eval_status a b (eval_table program table own given table_given has x) (eval_program y) na nb = past_program request.program.now request.main.now program own b given has y nb
     eval_status a b (eval_table program table own given table_given has x) (eval_unread other list also other_has y) na nb = never request.table.now table b table_given y nb
     eval_status a b (eval_table program table own given table_given has x) (eval_table other text list also text_given other_has y) na nb =
-        both_text a b (table_text (inputs_of own.variables) table a x) (table_text (inputs_of list.variables) text b y) na nb
+        both_text a b (table_text own.types (inputs_of own.variables) table a x) (table_text list.types (inputs_of list.variables) text b y) na nb
     eval_status a b (eval_table program table own given table_given has x) (eval_fault name instant kind e fault) na nb = past_table program table name own instant kind a given table_given has fault x na
     eval_status a b (eval_fault name instant kind e fault) (eval_memory m) na nb = absurd (nb (memory_is b OutOfMemory m tt))
     eval_status a b (eval_fault name instant kind e fault) (eval_program y) na nb = fault_past name instant kind b fault y nb
@@ -279,7 +280,7 @@ module _ (gives : List ℕ → Option (List ℕ) → Type 0) (settled : HasOneTe
     job_status a b (table_refused plan table is given x) (no_plan y) na nb = past_plan plan b is y nb
     job_status a b (table_refused plan table is given x) (table_unread other also y) na nb = never table_path table b given y nb
     job_status a b (table_refused plan table is given x) (table_refused other text also text_given y) na nb =
-        both_text a b (table_text (inputs_of plan.flat.variables) table a x) (table_text (inputs_of other.flat.variables) text b y) na nb
+        both_text a b (table_text plan.flat.types (inputs_of plan.flat.variables) table a x) (table_text other.flat.types (inputs_of other.flat.variables) text b y) na nb
 
   module _ (request : ReplayRequest) where
     pub replay_past : {X : Type 0} (job : Run) (stop : Stop) → IsJobFor gives request.program.now request.place.now request.table.now request.main.now job → StopsAtJob gives request.program.now request.place.now request.table.now request.main.now stop → (¬ SaysNothing stop) → X

@@ -51,7 +51,7 @@ of_source text main table tree flat inputs outputs posed are =
     }
 
 -- a program and a table that are posed
-pub posed : (text main table : List ℕ) (tree : ProgramTree) (flat : FlatProgram) (inputs : Table) → SpellsText text tree → IsFlatOf tree main flat → IsTextOf (inputs_of flat.variables) inputs table → is_too_long table ≡ false → IsUtf8 table → Fits flat inputs → IsPosed text main table tree flat inputs
+pub posed : (text main table : List ℕ) (tree : ProgramTree) (flat : FlatProgram) (inputs : Table) → SpellsText text tree → IsFlatOf tree main flat → IsTextOf flat.types (inputs_of flat.variables) inputs table → is_too_long table ≡ false → IsUtf8 table → Fits flat inputs → IsPosed text main table tree flat inputs
 posed text main table tree flat inputs spelled flat_is table_is short utf8 fits =
     let columns = flat_is.columns inputs fits in
     record { spelled = spelled; flat_is = flat_is; table_is = table_is; short = short; utf8 = utf8; agrees = flat_is.agrees inputs columns; one_meaning = flat_is.one_meaning inputs columns }

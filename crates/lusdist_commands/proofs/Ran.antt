@@ -39,7 +39,7 @@ use Rattle.lusdist_commands.proofs.Tellings.{owner_of}
 
 -- the job of a plan and a table that the files give
 pub job_found : (gives : List ℕ → Option (List ℕ) → Type 0) (path place_path table_path main : List ℕ) (plan : Distribution) (table : List ℕ) → IsPlanFor gives path place_path main plan → gives table_path (Some table) → (result : Result Run Stop)
-    → IfOk result (λ job. job.plan ≡ plan) → IfOk result (λ job. IsTextOf (inputs_of plan.flat.variables) job.inputs table) → IfOk result (λ _. is_too_long table ≡ false) → IfOk result (λ _. IsUtf8 table) → IfOk result (λ job. Fits plan.flat job.inputs) → IfOk result IsRun
+    → IfOk result (λ job. job.plan ≡ plan) → IfOk result (λ job. IsTextOf plan.flat.types (inputs_of plan.flat.variables) job.inputs table) → IfOk result (λ _. is_too_long table ≡ false) → IfOk result (λ _. IsUtf8 table) → IfOk result (λ job. Fits plan.flat job.inputs) → IfOk result IsRun
     → IfOk result (IsJobFor gives path place_path table_path main)
 job_found gives path place_path table_path main plan table found given (Ok job) same text short utf8 fits run =
     record {

@@ -1,9 +1,9 @@
 -- What a replay prints is true of the program that was asked for.
 use Rattle.std.proofs.Common.{Option, ℕ, List, sym, subst}
-use Rattle.luflow.specs.Flats.{IsFlat}
+use Rattle.luworld.specs.Needs.{IsPlan}
 use Rattle.luworld.specs.Runs.{Run}
 use Rattle.lusource.specs.Source.{SourceStreams, IsSourceSolution}
-use Rattle.lucore.specs.Result.{HasSourceFaults}
+use Rattle.lucore.specs.Result.{IsFlatOf}
 use Rattle.lumeaning.specs.Meaning.{IsMeant}
 use Rattle.lumeaning.specs.Telling.{IsTrueOf}
 use Rattle.lusdist_shell.specs.declared.request.ReplayRequest.{ReplayRequest}
@@ -17,8 +17,8 @@ is_replayed gives request job turns text asked printed =
     let found = told_in w text printed.text_is in
     let same = printed.world_is.job_is in
     let source = asked.job_for.job_is.flat.flat_is in
-    let is_flat = subst (λ (j : Run). IsFlat j.plan.flat) (sym same) source.is_flat in
-    let faults = subst (λ (j : Run). HasSourceFaults tree request.main.now j.plan.flat) (sym same) source.faults in
+    let flat_is = subst (λ (j : Run). IsFlatOf tree request.main.now j.plan.flat) (sym same) source in
+    let is_plan = subst (λ (j : Run). IsPlan j.plan) (sym same) asked.job_for.job_is.is_run.plan_is in
     let meant = subst (λ (j : Run). (σ : SourceStreams) → IsSourceSolution tree request.main.now j.inputs σ → IsMeant j σ) (sym same) asked.job_for.job_is.is_meant in
     record {
       job = job;
@@ -28,5 +28,5 @@ is_replayed gives request job turns text asked printed =
       told = found.told;
       told_by = found.by;
       spelled = found.spelled;
-      is_true = subst (λ (j : Run). IsTrueOf tree request.main.now j.inputs found.told) same (told_true w tree request.main.now found.told found.by is_flat faults printed.faithful meant);
+      is_true = subst (λ (j : Run). IsTrueOf tree request.main.now j.inputs found.told) same (told_true w tree request.main.now found.told found.by flat_is is_plan printed.faithful meant);
     }

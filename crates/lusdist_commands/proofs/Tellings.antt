@@ -17,30 +17,32 @@ use Rattle.luflow.specs.Streams.{Known, Stream}
 use Rattle.luflow.specs.Messages.{marks, messages, numbered, carried_bodies}
 use Rattle.luflow.specs.declared.variable.Variable.{Variable}
 use Rattle.luflow.specs.Flats.{IsFlat}
-use Rattle.luflow.specs.Tables.{OutputColumn}
+use Rattle.luflow.specs.Types.{variable_names}
 use Rattle.luflow.specs.Variables.{is_output_of, variable_name}
 use Rattle.luflow.proofs.Solutions.{some_at, IsSolution-solution}
 use Rattle.luworld.specs.declared.link.Link.{Link}
-use Rattle.luworld.specs.Needs.{sites_of}
+use Rattle.luworld.specs.Needs.{sites_of, IsPlan}
 use Rattle.luworld.specs.World.{done, put_count, taken_count}
 use Rattle.luworld.specs.Outline.{HasEnded}
 use Rattle.luworld.specs.Runs.{Run, streams_of, system_of, outline, link_list, carried}
 use Rattle.luworld.specs.Progress.{Progress, IsBeginning, AllEnded, taken_of, queued_of}
 use Rattle.lusource.specs.Source.{SourceStreams, IsSourceSolution}
 use Rattle.lusource.specs.Faults.{IsSourceFault}
-use Rattle.lucore.specs.Result.{HasSourceFaults}
+use Rattle.lucore.specs.Result.{IsFlatOf, HasSourceFaults}
 use Rattle.lumeaning.specs.Meaning.{IsMeant, source_list, source_stream}
-use Rattle.lumeaning.specs.Telling.{LinkTold, ended, SiteTold, Telling, HasEndedSites, main_marks, IsLinkTrue, IsLinkWhole, IsOutputTrue, IsOutputWhole, IsEndingTrue, IsSiteTrue, IsTrueOf}
+use Rattle.lumeaning.specs.Telling.{LinkTold, ended, SiteTold, OutputTold, Telling, HasEndedSites, main_marks, IsLinkTrue, IsLinkWhole, IsOutputTrue, IsOutputWhole, IsEndingTrue, IsSiteTrue, names_told, IsTrueOf}
 use Rattle.lusite.specs.declared.next.Fault.{Fault}
 use Rattle.lusite.specs.Machine.{IsStanding, IsFaultAt}
 use Rattle.lusite.specs.declared.report.Standing.{Standing}
 use Rattle.lusite.specs.declared.report.Standing.TheVariants.{Ended, Faulted, Cut}
+use Rattle.luworld.proofs.Fitting.{fits}
 use Rattle.lusite.proofs.Outputs.{output_there}
 use Rattle.luweave.specs.Headline.{IsFaithful}
 use Rattle.luweave_text.specs.WorldText.{body_text, site_name, site_line, standing_text, line_of, AreSiteLines, NoSites, OneSiteMore, AreOutputLines, NoVariables, NoOutput, OneOutputMore, IsWorldText}
 use Rattle.lusdist_commands.specs.TellingText.{link_text, ending_text, site_text, output_text, telling_text, link_told, link_there, links_told, ending_of, IsSiteTold, IsOutputTold, IsToldBy}
 use Rattle.luweave_text.proofs.Texts.{count_told, count_other}
 use Rattle.lusdist_commands.proofs.NewSites.{pushed}
+use Rattle.lusdist_commands.proofs.Spelled.{names_are}
 
 -- the bodies of numbered messages
 bodies : (n : ℕ) (bs : List Body) → map (λ (m : Msg). m.body) (numbered n bs) ≡ bs
@@ -104,7 +106,7 @@ module _ (w : Progress) where
   line_is : (link : Link) (l : ℕ) → line_of w (Some link) l ≡ link_text (link_told w link l)
   line_is link l =
       ap (λ xs. codes_of ++ (xs ++ (codes " queued " ++ (decimal (length (queued_of w l)) ++ 10 ∷ []))))
-      (sym (flat_map-map body_text (λ (m : Msg). m.body) (taken_of w l)))
+      (sym (flat_map-map (body_text (variable_names w.job.plan.flat link.flow)) (λ (m : Msg). m.body) (taken_of w l)))
     where
       codes_of : List ℕ
       codes_of = codes "link " ++ (variable_name w.job.plan.flat link.flow ++ (codes " " ++ (site_name w.job.plan.names link.from ++ (codes " " ++ (site_name w.job.plan.names link.to ++ codes " taken")))))
@@ -150,10 +152,10 @@ module _ (w : Progress) where
 
   -- the outputs that lines of outputs tell of
   pub record OutputsOf (v k : ℕ) (lines : List ℕ) : Type 0 where
-    pub told : List OutputColumn
+    pub told : List OutputTold
     pub len : length told ≡ k
     pub count : k ≡ length (filter (is_output_of w.job.plan.flat) (range_with_len 0 v))
-    pub each : (j : ℕ) (output : OutputColumn) → slice_get told j ≡ Some output → IsOutputTold w j output
+    pub each : (j : ℕ) (output : OutputTold) → slice_get told j ≡ Some output → IsOutputTold w j output
     pub text : flat_map output_text told ≡ lines
 
   outputs_in : (v k : ℕ) (lines : List ℕ) → AreOutputLines w v k lines → OutputsOf v k lines
@@ -163,8 +165,8 @@ module _ (w : Progress) where
       record { told = before.told; len = before.len; count = count_other w v k lines are before.count other; each = before.each; text = before.text }
   outputs_in _ _ _ (OneOutputMore v k lines statuses are at collected) =
       let before = outputs_in v k lines are in
-      let output : OutputColumn = record { name = variable_name w.job.plan.flat v; statuses = statuses } in
-      let here : IsOutputTold w k output = record { variable = v; there = at; named = refl; collected = collected } in
+      let output : OutputTold = record { name = variable_name w.job.plan.flat v; names = variable_names w.job.plan.flat v; statuses = statuses } in
+      let here : IsOutputTold w k output = record { variable = v; there = at; named = refl; spelled = refl; collected = collected } in
       record {
         told = before.told ++ output ∷ [];
         len = length-append before.told (output ∷ []) ∙ ap (λ j. j + 1) before.len;
@@ -233,14 +235,14 @@ module _ (w : Progress) where
         let lt = slice_get_within w.job.plan.links l link at in
         ap (map (λ (m : Msg). m.body)) ((faithful.taken σ l meant lt).ended all) ∙ list_is l link at
 
-    output_true : (k : ℕ) (output : OutputColumn) → IsOutputTold w k output → IsOutputTrue w.job.inputs σ output
+    output_true : (k : ℕ) (output : OutputTold) → IsOutputTold w k output → IsOutputTrue w.job.inputs σ output
     output_true k output told =
         let begun = (faithful.outputs σ k output.statuses meant told.collected told.variable told.there).0 in
         let s = σ [] output.name in
         let is : map Known output.statuses ≡ marks s begun.0 = begun.2 ∙ ap (λ x. marks (σ [] x) begun.0) (sym told.named) in
         subst (λ xs. IsBeginning xs (marks s w.job.inputs.instants)) (sym is) (marks_begin s begun.0 w.job.inputs.instants begun.1)
 
-    output_whole : AllEnded w.job w.dones → (k : ℕ) (output : OutputColumn) → IsOutputTold w k output → IsOutputWhole w.job.inputs σ output
+    output_whole : AllEnded w.job w.dones → (k : ℕ) (output : OutputTold) → IsOutputTold w k output → IsOutputWhole w.job.inputs σ output
     output_whole all k output told =
         (faithful.outputs σ k output.statuses meant told.collected told.variable told.there).1 all ∙ ap (λ x. marks (σ [] x) w.job.inputs.instants) (sym told.named)
 
@@ -263,11 +265,24 @@ module _ (w : Progress) where
   abbrev all_there : List ℕ
   all_there = range_with_len 0 (length w.job.plan.links)
 
-  pub told_true : (program : ProgramTree) (main : List ℕ) (told : Telling) → IsToldBy w told → IsFlat w.job.plan.flat → HasSourceFaults program main w.job.plan.flat → IsFaithful w.job w.dones → ((σ : SourceStreams) → IsSourceSolution program main w.job.inputs σ → IsMeant w.job σ) → IsTrueOf program main w.job.inputs told
-  told_true program main told by is_flat faults faithful meant = record {
-    faults = λ σ solves. all_by_place (IsSiteTrue program main w.job.inputs σ) told.sites (λ s site at. site_true program main σ is_flat faults solves s site (by.sites s site at));
+  -- data are spelled by the names that the source declares
+  module _ (program : ProgramTree) (main : List ℕ) (names : (v : ℕ) → v < length w.job.plan.flat.variables → variable_names w.job.plan.flat v ≡ names_told program main (variable_name w.job.plan.flat v)) where
+    link_spelled : IsPlan w.job.plan → (l : ℕ) (link : Link) → slice_get w.job.plan.links l ≡ Some link → variable_names w.job.plan.flat link.flow ≡ names_told program main (variable_name w.job.plan.flat link.flow)
+    link_spelled plan l link at =
+        let flow : carried w.job.plan l ≡ link.flow = ap (λ o. unwrap_or (option_map (λ (k : Link). k.flow) o) 0) at in
+        names link.flow (subst (λ v. v < length w.job.plan.flat.variables) flow ((fits w.job.plan plan).carries l (slice_get_within w.job.plan.links l link at)))
+
+    output_spelled : (k : ℕ) (output : OutputTold) → IsOutputTold w k output → output.names ≡ names_told program main output.name
+    output_spelled k output told =
+        told.spelled ∙ names told.variable (output_there w.job.plan k told.variable told.there).0 ∙ ap (names_told program main) (sym told.named)
+
+  pub told_true : (program : ProgramTree) (main : List ℕ) (told : Telling) → IsToldBy w told → IsFlatOf program main w.job.plan.flat → IsPlan w.job.plan → IsFaithful w.job w.dones → ((σ : SourceStreams) → IsSourceSolution program main w.job.inputs σ → IsMeant w.job σ) → IsTrueOf program main w.job.inputs told
+  told_true program main told by source plan faithful meant = record {
+    faults = λ σ solves. all_by_place (IsSiteTrue program main w.job.inputs σ) told.sites (λ s site at. site_true program main σ source.is_flat source.faults solves s site (by.sites s site at));
     links = λ σ solves. subst (All (IsLinkTrue w.job.inputs σ)) (sym by.links) (all_links (IsLinkTrue w.job.inputs σ) (link_true σ (meant σ solves) faithful) all_there);
     outputs = λ σ solves. all_by_place (IsOutputTrue w.job.inputs σ) told.outputs (λ k output at. output_true σ (meant σ solves) faithful k output (by.outputs k output at));
     links_whole = λ σ solves all. subst (All (IsLinkWhole w.job.inputs σ)) (sym by.links) (all_links (IsLinkWhole w.job.inputs σ) (link_whole σ (meant σ solves) faithful (all_ended told by all)) all_there);
     outputs_whole = λ σ solves all. all_by_place (IsOutputWhole w.job.inputs σ) told.outputs (λ k output at. output_whole σ (meant σ solves) faithful (all_ended told by all) k output (by.outputs k output at));
+    link_names = subst (All (λ (link : LinkTold). link.names ≡ names_told program main link.variable)) (sym by.links) (all_links (λ (link : LinkTold). link.names ≡ names_told program main link.variable) (link_spelled program main (names_are program main w.job.plan.flat source) plan) all_there);
+    output_names = all_by_place (λ (output : OutputTold). output.names ≡ names_told program main output.name) told.outputs (λ k output at. output_spelled program main (names_are program main w.job.plan.flat source) k output (by.outputs k output at));
   }

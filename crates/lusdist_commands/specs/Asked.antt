@@ -59,7 +59,7 @@ pub record IsPlanOfText (text : List ℕ) (plan : Distribution) : Type 0 where
 pub record IsJobOf (program place table main : List ℕ) (job : Run) : Type 0 where
   pub flat : HasFlat program main job.plan.flat
   pub plan : IsPlanOfText place job.plan
-  pub inputs : IsTextOf (inputs_of job.plan.flat.variables) job.inputs table
+  pub inputs : IsTextOf job.plan.flat.types (inputs_of job.plan.flat.variables) job.inputs table
   pub short : is_too_long table ≡ false
   pub utf8 : IsUtf8 table
   pub is_run : IsRun job
@@ -122,7 +122,7 @@ pub record IsRan (gives : List ℕ → Option (List ℕ) → Type 0) (request : 
   pub asked_for : IsJobFor gives request.program.now request.place.now request.table.now request.main.now job
   pub outputs : List OutputColumn
   pub are_outputs : AreOutputsOf asked_for.job_is.flat.tree request.main.now job.plan.flat job.inputs outputs
-  pub text_is : text ≡ output_text outputs
+  pub text_is : text ≡ output_text job.plan.flat outputs
 
 -- the text of a check of what a request asks for: the program that the file's bytes spell keeps all rules and has a flat program,
 -- and the text is its canonical one, which spells that program too if it isn't longer than a text may be

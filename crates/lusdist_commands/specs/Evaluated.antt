@@ -26,7 +26,7 @@ use Rattle.lusdist_commands.specs.declared.stop.Stop.TheVariants.{Fault, OutOfMe
 pub record IsPosed (text main table : List ℕ) (tree : ProgramTree) (flat : FlatProgram) (inputs : Table) : Type 0 where
   pub spelled : SpellsText text tree
   pub flat_is : IsFlatOf tree main flat
-  pub table_is : IsTextOf (inputs_of flat.variables) inputs table
+  pub table_is : IsTextOf flat.types (inputs_of flat.variables) inputs table
   pub short : is_too_long table ≡ false
   pub utf8 : IsUtf8 table
   pub agrees : Agrees tree main inputs flat
@@ -50,7 +50,7 @@ pub record AreEvaluated (flat : FlatProgram) (inputs : Table) (outputs : List Ou
 pub record IsOutputTable (flat : FlatProgram) (inputs : Table) (text : List ℕ) : Type 0 where
   pub outputs : List OutputColumn
   pub are_outputs : AreEvaluated flat inputs outputs
-  pub text_is : text ≡ output_text outputs
+  pub text_is : text ≡ output_text flat outputs
 
 -- the program and the table that the files of a request gave
 pub record IsPosedBy (gives : List ℕ → Option (List ℕ) → Type 0) (request : EvalRequest) (flat : FlatProgram) (inputs : Table) : Type 0 where
@@ -68,7 +68,7 @@ pub record IsEvaluated (gives : List ℕ → Option (List ℕ) → Type 0) (requ
   pub asked : IsPosedBy gives request flat inputs
   pub outputs : List OutputColumn
   pub are_outputs : AreOutputsOf asked.tree request.main.now flat inputs outputs
-  pub text_is : text ≡ output_text outputs
+  pub text_is : text ≡ output_text flat outputs
 
 -- the fault of the least instant, and there of the least rank, by the name of the main variable in whose equation it stands
 pub record IsFaultTold (flat : FlatProgram) (inputs : Table) (name : List ℕ) (instant : ℕ) (kind : FaultKind) : Type 0 where

@@ -31,4 +31,4 @@ IsStopOfRun job _ = ⊥
 pub record IsRunTable (job : Run) (text : List ℕ) : Type 0 where
   pub outputs : List OutputColumn
   pub are_outputs : AreOutputsOf job outputs
-  pub text_is : text ≡ output_text outputs
+  pub text_is : text ≡ output_text job.plan.flat outputs

@@ -1,6 +1,6 @@
 -- Why a call stops before it prints anything.
 use Rattle.std.specs.Prelude.{◌≡◌, ◌⊎◌, ℕ, List, Option, Some, None, Err}
-use Rattle.lutree.specs.Places.{NodePlaces}
+use Rattle.lutree.specs.Places.{ProgramPlaces}
 use Rattle.lutree.specs.Tree.{ProgramTree}
 use Rattle.luflow.specs.Program.{FlatProgram}
 use Rattle.luflow.specs.Variables.{inputs_of}
@@ -45,7 +45,7 @@ IsScheduleRefused bytes _ = ⊥
 -- the bytes of a program's file spell no program, or one that has no flat program from this main node
 pub data HasNoFlat (bytes main : List ℕ) (stop : Stop) : Type 0 where
   unspelled : IsProgramRefused bytes stop → HasNoFlat bytes main stop
-  unruled : (tree : ProgramTree) (places : List NodePlaces) → SpellsText bytes tree → ArePlacesOf bytes places → IsToldOf tree places main stop → HasNoFlat bytes main stop
+  unruled : (tree : ProgramTree) (places : ProgramPlaces) → SpellsText bytes tree → ArePlacesOf bytes places → IsToldOf tree places main stop → HasNoFlat bytes main stop
 
 -- A call stops at the program of this path: it can't be read, or has no flat program from this main node.
 pub data StopsAtProgram (gives : List ℕ → Option (List ℕ) → Type 0) (path main : List ℕ) (stop : Stop) : Type 0 where
@@ -68,7 +68,7 @@ pub data IsCheckStopped (gives : List ℕ → Option (List ℕ) → Type 0) (req
 pub data IsEvalStopped (gives : List ℕ → Option (List ℕ) → Type 0) (request : EvalRequest) (stop : Stop) : Type 0 where
   eval_program : StopsAtProgram gives request.program.now request.main.now stop → IsEvalStopped gives request stop
   eval_unread : (program : List ℕ) (flat : FlatProgram) → gives request.program.now (Some program) → HasFlat program request.main.now flat → IsUnread gives request.table.now stop → IsEvalStopped gives request stop
-  eval_table : (program table : List ℕ) (flat : FlatProgram) → gives request.program.now (Some program) → gives request.table.now (Some table) → HasFlat program request.main.now flat → IsTableRefused (inputs_of flat.variables) table stop → IsEvalStopped gives request stop
+  eval_table : (program table : List ℕ) (flat : FlatProgram) → gives request.program.now (Some program) → gives request.table.now (Some table) → HasFlat program request.main.now flat → IsTableRefused flat.types (inputs_of flat.variables) table stop → IsEvalStopped gives request stop
   eval_fault : (name : List ℕ) (instant : ℕ) (kind : FaultKind) → stop ≡ Fault name instant kind → IsFaultOf gives request name instant kind → IsEvalStopped gives request stop
   eval_memory : stop ≡ OutOfMemory → IsEvalStopped gives request stop
 
@@ -81,7 +81,7 @@ pub data IsPlanStopped (gives : List ℕ → Option (List ℕ) → Type 0) (requ
 pub data StopsAtJob (gives : List ℕ → Option (List ℕ) → Type 0) (path place_path table_path main : List ℕ) (stop : Stop) : Type 0 where
   no_plan : StopsAtPlan gives path place_path main stop → StopsAtJob gives path place_path table_path main stop
   table_unread : (plan : Distribution) → IsPlanFor gives path place_path main plan → IsUnread gives table_path stop → StopsAtJob gives path place_path table_path main stop
-  table_refused : (plan : Distribution) (table : List ℕ) → IsPlanFor gives path place_path main plan → gives table_path (Some table) → IsTableRefused (inputs_of plan.flat.variables) table stop → StopsAtJob gives path place_path table_path main stop
+  table_refused : (plan : Distribution) (table : List ℕ) → IsPlanFor gives path place_path main plan → gives table_path (Some table) → IsTableRefused plan.flat.types (inputs_of plan.flat.variables) table stop → StopsAtJob gives path place_path table_path main stop
 
 -- A replay of what a request asks for stops so: at its job, or, where there is one, at its schedule.
 pub data IsReplayStopped (gives : List ℕ → Option (List ℕ) → Type 0) (request : ReplayRequest) (stop : Stop) : Type 0 where

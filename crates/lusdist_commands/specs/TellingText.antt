@@ -5,14 +5,14 @@ use Rattle.std.specs.Fmt.{decimal}
 use Rattle.luflow.specs.declared.message.Msg.{Msg}
 use Rattle.luflow.specs.Program.{FlatProgram}
 use Rattle.luflow.specs.Operators.{kind_text}
-use Rattle.luflow.specs.Tables.{OutputColumn}
+use Rattle.luflow.specs.Types.{variable_names}
 use Rattle.luflow.specs.Variables.{variable_name}
 use Rattle.luworld.specs.declared.link.Link.{Link}
 use Rattle.luworld.specs.Needs.{sites_of}
 use Rattle.luworld.specs.World.{done}
 use Rattle.luworld.specs.Runs.{outputs_of}
 use Rattle.luworld.specs.Progress.{Progress, IsCollected, taken_of, queued_of}
-use Rattle.lumeaning.specs.Telling.{LinkTold, Ending, ended, open_yet, faulted, SiteTold, Telling}
+use Rattle.lumeaning.specs.Telling.{LinkTold, Ending, ended, open_yet, faulted, SiteTold, OutputTold, Telling}
 use Rattle.lusite.specs.Machine.{IsStanding}
 use Rattle.lusite.specs.declared.report.Standing.{Standing}
 use Rattle.lusite.specs.declared.report.Standing.TheVariants.{Ended, Faulted, Cut}
@@ -22,7 +22,7 @@ use Rattle.luweave_text.specs.WorldText.{body_text, site_name, output_line}
 abbrev pub link_text : LinkTold → List ℕ
 link_text link =
     codes "link " ++ (link.variable ++ (codes " " ++ (link.from ++ (codes " " ++ (link.to ++ codes " taken")))))
-    ++ (flat_map body_text link.taken ++ (codes " queued " ++ (decimal link.waiting ++ 10 ∷ [])))
+    ++ (flat_map (body_text link.names) link.taken ++ (codes " queued " ++ (decimal link.waiting ++ 10 ∷ [])))
 
 -- `ended`, `open`, or `faulted VARIABLE INSTANT KIND`
 abbrev pub ending_text : Ending → List ℕ
@@ -35,8 +35,8 @@ abbrev pub site_text : SiteTold → List ℕ
 site_text site = codes "site " ++ (site.name ++ codes " ") ++ (ending_text site.ending ++ 10 ∷ [])
 
 -- `output NAME`, a space and a value or `-` for each status
-abbrev pub output_text : OutputColumn → List ℕ
-output_text output = output_line output.name output.statuses
+abbrev pub output_text : OutputTold → List ℕ
+output_text output = output_line output.name output.names output.statuses
 
 -- a line for each link, each site and each output, in order
 abbrev pub telling_text : Telling → List ℕ
@@ -47,6 +47,7 @@ abbrev pub link_told : Progress → Link → ℕ → LinkTold
 link_told w link l =
     record {
       variable = variable_name w.job.plan.flat link.flow;
+      names = variable_names w.job.plan.flat link.flow;
       from = site_name w.job.plan.names link.from;
       to = site_name w.job.plan.names link.to;
       taken = map (λ (m : Msg). m.body) (taken_of w l);
@@ -72,10 +73,11 @@ pub record IsSiteTold (w : Progress) (s : ℕ) (site : SiteTold) : Type 0 where
   pub named : site.name ≡ site_name w.job.plan.names s
   pub ends : site.ending ≡ ending_of w.job.plan.flat standing
 
-pub record IsOutputTold (w : Progress) (k : ℕ) (output : OutputColumn) : Type 0 where
+pub record IsOutputTold (w : Progress) (k : ℕ) (output : OutputTold) : Type 0 where
   pub variable : ℕ
   pub there : slice_get (outputs_of w.job.plan) k ≡ Some variable
   pub named : output.name ≡ variable_name w.job.plan.flat variable
+  pub spelled : output.names ≡ variable_names w.job.plan.flat variable
   pub collected : IsCollected w.job w.dones k output.statuses
 
 -- what a world tells: of all its links, its sites and its outputs, each in order
@@ -84,4 +86,4 @@ pub record IsToldBy (w : Progress) (told : Telling) : Type 0 where
   pub sites_len : length told.sites ≡ sites_of w.job.plan
   pub sites : (s : ℕ) (site : SiteTold) → slice_get told.sites s ≡ Some site → IsSiteTold w s site
   pub outputs_len : length told.outputs ≡ length (outputs_of w.job.plan)
-  pub outputs : (k : ℕ) (output : OutputColumn) → slice_get told.outputs k ≡ Some output → IsOutputTold w k output
+  pub outputs : (k : ℕ) (output : OutputTold) → slice_get told.outputs k ≡ Some output → IsOutputTold w k output

@@ -60,6 +60,6 @@ pub fn output_table(alloc: Global, flat: &Flat, inputs: &Inputs) -> Result<Strin
     ensures fault { IfErr result (IsStopped flat.now inputs.now) }
 {
     let outputs = evaluated(alloc, flat, inputs)?;
-    let text = write_outputs(alloc, &outputs)?;
+    let text = write_outputs(alloc, flat, &outputs)?;
     Ok(text)
 }

@@ -96,7 +96,7 @@ pub fn run_table<R: Threads + Wait + Sync, P: Progress>(
 {
     match outputs_of_run(rt, alloc, job, workers, progress) {
         Ok(outputs) => {
-            let text = write_outputs(alloc, &outputs)?;
+            let text = write_outputs(alloc, job.plan().flat(), &outputs)?;
             Ok(text)
         }
         Err(error) => Err(stop_of(alloc, job, error)),

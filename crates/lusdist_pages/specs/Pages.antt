@@ -4,7 +4,7 @@ use Rattle.std.specs.Str.{bytes_eq}
 use Rattle.std.specs.List.{flat_map}
 use Rattle.lusdist_pages.specs.declared.clocks.TheConstants.{E20, E21, E22, E23}
 use Rattle.lusdist_pages.specs.declared.files.TheConstants.{F01, F02}
-use Rattle.lusdist_pages.specs.declared.names.TheConstants.{E10, E11, E12, E13, E14, E15, E16, E17, E18}
+use Rattle.lusdist_pages.specs.declared.names.TheConstants.{E10, E11, E12, E13, E14, E15, E16, E17, E18, E19}
 use Rattle.lusdist_pages.specs.declared.placements.TheConstants.{P01, P02, P03, P04, P05, P06, P07, P08}
 use Rattle.lusdist_pages.specs.declared.runs.TheConstants.{R1, R2, R3, R4}
 use Rattle.lusdist_pages.specs.declared.schedules.TheConstants.{S01, S02}
@@ -37,6 +37,7 @@ pages =
     record { code = codes "E16"; name = codes "DefinedTwice"; text = E16.now } ∷
     record { code = codes "E17"; name = codes "RecursiveNode"; text = E17.now } ∷
     record { code = codes "E18"; name = codes "NoMain"; text = E18.now } ∷
+    record { code = codes "E19"; name = codes "BadMerge"; text = E19.now } ∷
     record { code = codes "E20"; name = codes "ClockMismatch"; text = E20.now } ∷
     record { code = codes "E21"; name = codes "NotAClock"; text = E21.now } ∷
     record { code = codes "E22"; name = codes "ClockedParameter"; text = E22.now } ∷

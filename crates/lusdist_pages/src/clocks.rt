@@ -35,8 +35,9 @@ them):
 pub const E21: &str = "E21 NotAClock
 
 What a declaration's `when`, a `when` in an expression or a `merge` names is a
-`bool`; and whoever goes from a variable to its clock, and on to the clock of
-that, comes to the base clock. BYTE is the declared name, or where the equation
+`bool`, or, where names of an enumeration stand with it, of that enumeration;
+and whoever goes from a variable to its clock, and on to the clock of that,
+comes to the base clock. BYTE is the declared name, or where the equation
 begins.
 
 A file `p.lus`:

@@ -17,6 +17,7 @@ E15 Undefined
 E16 DefinedTwice
 E17 RecursiveNode
 E18 NoMain
+E19 BadMerge
 E20 ClockMismatch
 E21 NotAClock
 E22 ClockedParameter

@@ -4,7 +4,10 @@
 pub const E10: &str = "E10 DuplicateName
 
 No two nodes have one name, and no two variables of a node, be they inputs,
-outputs or locals. BYTE is the later one of the two names.
+outputs or locals. No two types have one name, no two names of enumerations are
+equal, also in two types, and no variable has the name of an enumeration's
+name. BYTE is the later one of the two names, and the variable's where that is
+one of them.
 
 A file `p.lus`:
 
@@ -32,8 +35,10 @@ Give each its own name:
 pub const E11: &str = "E11 UnknownName
 
 Each name in an equation, and each clock behind a declaration's `when`, is an
-input, an output or a local of the same node. BYTE is where the equation
-begins, or the declared name whose clock it is.
+input, an output or a local of the same node; where a value stands, or a
+pattern of a clock or a merge, it may be a name of an enumeration. A declared
+type is `int`, `bool` or a type of the file. BYTE is where the equation begins,
+or the declared name whose clock it is.
 
 A file `p.lus`:
 
@@ -252,5 +257,36 @@ Call the node `main`, or say its name:
     node pump(level: int) returns (on: bool);
     let
       on = level < 20;
+    tel
+";
+
+/// The page of `E19 BadMerge`.
+pub const E19: &str = "E19 BadMerge
+
+A merge on a variable of an enumeration has a branch for each name of that
+type, in the order in which they are declared, and no other. So no value of the
+variable is forgotten, and none has two branches. BYTE is where the equation
+with the merge begins.
+
+A file `p.lus`:
+
+    type mode = enum { Idle, Heating, Error };
+    node main(mode: mode; level: int) returns (power: int);
+    let
+      power = merge mode (Idle -> 0) (Heating -> level when Heating(mode));
+    tel
+
+    $ lusdist check p.lus
+    E19 BadMerge at 105
+
+Say what comes in the mode that has no branch:
+
+      power = merge mode (Idle -> 0) (Heating -> level when Heating(mode)) (Error -> 0);
+
+    $ lusdist check p.lus
+    type mode = enum { Idle, Heating, Error };
+    node main(mode: mode; level: int) returns (power: int);
+    let
+      power = merge mode (Idle -> 0) (Heating -> level when Heating(mode)) (Error -> 0);
     tel
 ";

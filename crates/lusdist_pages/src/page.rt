@@ -5,7 +5,7 @@ ghost use Rattle.lusdist_pages.specs.Pages.{page_of};
 
 use crate::clocks::{E20, E21, E22, E23};
 use crate::files::{F01, F02};
-use crate::names::{E10, E11, E12, E13, E14, E15, E16, E17, E18};
+use crate::names::{E10, E11, E12, E13, E14, E15, E16, E17, E18, E19};
 use crate::placements::{P01, P02, P03, P04, P05, P06, P07, P08};
 use crate::runs::{R1, R2, R3, R4};
 use crate::schedules::{S01, S02};
@@ -35,6 +35,7 @@ pub fn page(code: &str) -> Option<&'static str>
         "E16" => Some(E16),
         "E17" => Some(E17),
         "E18" => Some(E18),
+        "E19" => Some(E19),
         "E20" => Some(E20),
         "E21" => Some(E21),
         "E22" => Some(E22),

@@ -36,8 +36,9 @@ pub const E31: &str = "E31 CurrentMayBeNil
 
 `current v` is the last value that `v` had, so it needs one from the beginning:
 where `v` is on `c`, the equation of `c` is `c = true -> ..` or `c = true fby
-..`, and where `v` is on `not c`, it is `c = false -> ..` or `c = false fby
-..`. BYTE is where the equation with `current` begins.
+..`, where `v` is on `not c`, it is `c = false -> ..` or `c = false fby ..`,
+and where `v` is on `A(c)`, `c = A -> ..` or `c = A fby ..`. BYTE is where the
+equation with `current` begins.
 
 A file `p.lus`:
 

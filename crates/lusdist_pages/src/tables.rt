@@ -69,8 +69,8 @@ pub const T03: &str = "T03 BadValue
 
 An `int` is `0`, or digits that don't begin with 0, with or without `-` before
 them, from -9223372036854775808 to 9223372036854775807; a `bool` is `true` or
-`false`. No blanks, no `+`, no quotes. N is the number of the line; the header
-is line 1.
+`false`; a field of an enumeration is one of its names. No blanks, no `+`, no
+quotes. N is the number of the line; the header is line 1.
 
 A file `p.lus`:
 

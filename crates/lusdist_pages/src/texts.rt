@@ -91,7 +91,8 @@ Write it in other letters:
 /// The page of `E04 TooLong`.
 pub const E04: &str = "E04 TooLong
 
-A program's text has at most 1,048,576 bytes, and at most 256 nodes.
+A program's text has at most 1,048,576 bytes, at most 256 nodes and 64 types,
+and a type at most 64 names.
 
 A file `p.lus`:
 

@@ -32,6 +32,7 @@ fn is_value(value: Datum, datum: Datum) -> bool
     match (value, datum) {
         (Datum::Bool(sign), Datum::Bool(b)) => { if sign { b } else { !b } }
         (Datum::Int(m), Datum::Int(n)) => m <= n && n <= m,
+        (Datum::Name(m), Datum::Name(n)) => m == n,
         _ => false,
     }
 }
@@ -166,6 +167,7 @@ fn branch_of(datum: Datum) -> Option<usize>
     match datum {
         Datum::Bool(true) => Some(0),
         Datum::Bool(false) => Some(1),
+        Datum::Name(number) => Some(number as usize),
         _ => None,
     }
 }

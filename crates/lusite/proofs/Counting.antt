@@ -5,7 +5,7 @@ use Rattle.std.proofs.lemmas.Bool.{cases_lt, cases_eq, false≢true}
 use Rattle.std.proofs.lemmas.List.{length-set}
 use Rattle.std.proofs.lemmas.Option.{same_Some, slice_get_within, slice_get-get_or}
 use Rattle.lueval.specs.declared.cell.Cell.{Cell}
-use Rattle.lueval.specs.declared.cell.Cell.TheVariants.{Absent, Nil, Truth, Number}
+use Rattle.lueval.specs.declared.cell.Cell.TheVariants.{Absent, Nil, Truth, Number, Name}
 use Rattle.lueval.specs.Cells.{is_absent, newest}
 use Rattle.lusite.specs.Machine.{more_of}
 use Rattle.lusite.proofs.Machine.{slice_get-set_same, slice_get-set_other}
@@ -41,12 +41,14 @@ newest_absent Absent y e = refl
 newest_absent Nil y e = absurd (false≢true e)
 newest_absent (Truth b) y e = absurd (false≢true e)
 newest_absent (Number n) y e = absurd (false≢true e)
+newest_absent (Name k) y e = absurd (false≢true e)
 
 pub newest_present : (x y : Cell) → is_absent x ≡ false → x ≡ newest x y
 newest_present Absent y e = absurd (false≢true (sym e))
 newest_present Nil y e = refl
 newest_present (Truth b) y e = refl
 newest_present (Number n) y e = refl
+newest_present (Name k) y e = refl
 
 pub more_low : (x : Cell) (n : ℕ) → more_of x n ≤ n + 1
 more_low x n = go (is_absent x)

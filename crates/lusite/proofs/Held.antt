@@ -11,7 +11,7 @@ use Rattle.luflow.specs.Values.{View, gives}
 use Rattle.luflow.proofs.Solutions.{some_at}
 use Rattle.lueval.specs.declared.kernel.Past.{Past}
 use Rattle.lueval.specs.declared.cell.Cell.{Cell}
-use Rattle.lueval.specs.declared.cell.Cell.TheVariants.{Absent, Nil, Truth, Number}
+use Rattle.lueval.specs.declared.cell.Cell.TheVariants.{Absent, Nil, Truth, Number, Name}
 use Rattle.lueval.specs.Cells.{status_of, statuses, held, newest, view_of, last_in as last_cell, ticked_in as ticked_cell}
 use Rattle.lueval.specs.Frames.{datum_in, latest, last_in, ticked_in, view_in, later}
 use Rattle.lusite.specs.Machine.{past_of, pasts_in, more_of, count_kept}
@@ -80,6 +80,7 @@ more_later Absent y n = refl
 more_later Nil y n = refl
 more_later (Truth b) y n = refl
 more_later (Number m) y n = refl
+more_later (Name k) y n = refl
 
 pub counts_few : (t : ℕ) (xs : List Cell) (ns : List ℕ) → length xs ≡ length ns → All (λ (y : Past). y.count ≤ t) (pasts_in xs ns) → All (λ n. n ≤ t) ns
 counts_few t xs ns e h = λ k d l.
@@ -119,12 +120,14 @@ gives_datum Absent h = absurd (h refl)
 gives_datum Nil h = (_, refl, refl)
 gives_datum (Truth b) h = (_, refl, refl)
 gives_datum (Number n) h = (_, refl, refl)
+gives_datum (Name k) h = (_, refl, refl)
 
 pub held_status : (c : Cell) (d : Datum) → held c ≡ Some d → status_of c ≡ status.Present d
 held_status Absent d e = absurd cc
 held_status Nil d e = ap status.Present (same_Some _ d e)
 held_status (Truth b) d e = ap status.Present (same_Some _ d e)
 held_status (Number n) d e = ap status.Present (same_Some _ d e)
+held_status (Name k) d e = ap status.Present (same_Some _ d e)
 
 -- what is kept of a flow, one instant later
 pub aged_pasts : (shown lasts lasts' : List Cell) (counts counts' : List ℕ) (i : ℕ) (x : Status) (y : Past) → ((u v : Cell) → slice_get shown i ≡ Some u → slice_get lasts i ≡ Some v → slice_get lasts' i ≡ Some (newest u v)) → ((u : Cell) (n : ℕ) → slice_get shown i ≡ Some u → slice_get counts i ≡ Some n → slice_get counts' i ≡ Some (more_of u n)) → slice_get (statuses shown) i ≡ Some x → slice_get (pasts_in lasts counts) i ≡ Some y → slice_get (pasts_in lasts' counts') i ≡ Some (later x y)

@@ -1,13 +1,15 @@
 -- What the machine of a site has of its flows.
-use Rattle.std.proofs.Common.{◌≡◌, ℕ, zero, suc, ◌<◌, inl, inr, Bool, true, false, List, [], ◌∷◌, ◌++◌, length, Option, Some, None, refl, sym, ap, ap₂, ◌∙◌, subst, arith}
+use Rattle.std.proofs.Common.{◌≡◌, ℕ, zero, suc, ◌<◌, ◌≤◌, ◌*◌, ◌^◌, inl, inr, Bool, true, false, List, [], ◌∷◌, ◌++◌, length, Option, Some, None, refl, sym, ap, ap₂, ◌∙◌, subst, arith}
+use Rattle.std.specs.List.{range_with_len}
+use Rattle.std.proofs.lemmas.List.FromFn.{length-range_with_len}
 use Rattle.std.specs.Prelude.{slice_get, slice_index, unwrap_or, not, ◌||◌, nat_lt, is_some}
 use Rattle.std.proofs.lemmas.Option.{same_Some, slice_get-get_or}
 use Rattle.std.proofs.lemmas.Bool.{cases_lt}
 use Rattle.std.proofs.lemmas.List.Elements.{All-get_or}
 use Rattle.luflow.specs.declared.form.Flow.{Flow}
 use Rattle.luflow.specs.Program.{flow_at, flows_of, column_of, IsOrdered}
-use Rattle.luworld.specs.Needs.{Distribution, stands}
-use Rattle.luworld.specs.Runs.{is_open}
+use Rattle.luworld.specs.Needs.{Distribution, IsPlan, stands}
+use Rattle.luworld.specs.Runs.{is_open, knows}
 use Rattle.lueval.specs.Cells.{clock_of, view_of}
 use Rattle.lueval.specs.Frames.{clock_in}
 use Rattle.lusite.specs.declared.program.Part.{Part}
@@ -19,11 +21,13 @@ use Rattle.lusite.proofs.Desks.{part_there}
 use Rattle.lusite.proofs.Held.{view_same}
 use Rattle.lusite.proofs.Moves.{place_over}
 use Rattle.lusite.proofs.Skips.{rank_in}
+use Rattle.lusite.proofs.Widths.{filter_short}
 use Rattle.luflow.specs.declared.data.Datum.{Datum}
 use Rattle.luflow.specs.declared.form.Outcome.{Outcome}
 use Rattle.luflow.specs.declared.form.Form.TheVariants.{Input}
 use Rattle.luflow.specs.Values.{value_of}
-use Rattle.lueval.specs.Operations.{form_of}
+use Rattle.lueval.specs.Operations.{IsLonger, form_of}
+use Rattle.lueval.proofs.Lines.{longer_line, few_branches}
 
 -- a flow that has items is present, or closes
 pub begun_size : (open' own early : Bool) (outs : ℕ) (into : Bool) → 0 < in_cell open' own early outs into → in_cell true own early outs into ≡ in_cell open' own early outs into
@@ -37,11 +41,29 @@ pushed P [] y here each (suc k) x e = absurd cc
 pushed P (z ∷ xs) y here each zero x e = each zero x e
 pushed P (z ∷ xs) y here each (suc k) x e = pushed (λ n. P (suc n)) xs y here (λ j w h. each (suc j) w h) k x e
 
-pub posts_more : (plan : Distribution) (s : ℕ) (posts posts' : List Post) (k rank : ℕ) (post : Post) → posts' ≡ posts ++ post ∷ [] → length posts ≡ k → slice_get (ranks_of plan s) k ≡ Some rank → IsPost plan s rank post → ((j p : ℕ) (x : Post) → slice_get (ranks_of plan s) j ≡ Some p → slice_get posts j ≡ Some x → IsPost plan s p x) → (j p : ℕ) (x : Post) → slice_get (ranks_of plan s) j ≡ Some p → slice_get posts' j ≡ Some x → IsPost plan s p x
-posts_more plan s posts posts' k rank post is len there new each j p x ep ex =
-    let P : ℕ → Post → Type 0 = λ i y. (q : ℕ) → slice_get (ranks_of plan s) i ≡ Some q → IsPost plan s q y in
-    let here : P (length posts) post = λ q eq. subst (λ (r : ℕ). IsPost plan s r post) (same_Some rank q (sym there ∙ ap (slice_get (ranks_of plan s)) (sym len) ∙ eq)) new in
-    pushed P posts post here (λ i y ey q eq. each i q y eq ey) j x (ap (λ (ys : List Post). slice_get ys j) (sym is) ∙ ex) p ep
+-- branches of other flows behind its own change nothing for a flow
+longer_post : (plan : Distribution) (s : ℕ) (old new : List ℕ) (p : ℕ) (post : Post) → IsLonger old new → IsPost plan s old p post → IsPost plan s new p post
+longer_post plan s old new p post longer is = record {
+  line = longer_line plan.flat old new p post.line longer is.line;
+  own = is.own;
+  told = is.told;
+  from = is.from;
+  outs = is.outs;
+}
+
+pub posts_more : (plan : Distribution) (s : ℕ) (old new : List ℕ) (posts posts' : List Post) (k rank : ℕ) (post : Post) → IsLonger old new → posts' ≡ posts ++ post ∷ [] → length posts ≡ k → slice_get (ranks_of plan s) k ≡ Some rank → IsPost plan s new rank post → ((j p : ℕ) (x : Post) → slice_get (ranks_of plan s) j ≡ Some p → slice_get posts j ≡ Some x → IsPost plan s old p x) → (j p : ℕ) (x : Post) → slice_get (ranks_of plan s) j ≡ Some p → slice_get posts' j ≡ Some x → IsPost plan s new p x
+posts_more plan s old new posts posts' k rank post longer is len there last each j p x ep ex =
+    let P : ℕ → Post → Type 0 = λ i y. (q : ℕ) → slice_get (ranks_of plan s) i ≡ Some q → IsPost plan s new q y in
+    let here : P (length posts) post = λ q eq. subst (λ (r : ℕ). IsPost plan s new r post) (same_Some rank q (sym there ∙ ap (slice_get (ranks_of plan s)) (sym len) ∙ eq)) last in
+    pushed P posts post here (λ i y ey q eq. longer_post plan s old new q y longer (each i q y eq ey)) j x (ap (λ (ys : List Post). slice_get ys j) (sym is) ∙ ex) p ep
+
+-- a site has few flows, so their merges have few branches
+pub few_posts : (plan : Distribution) (s k : ℕ) (ranks branches : List ℕ) → IsPlan plan → ranks ≡ ranks_of plan s → k < length ranks → length branches ≤ k * 255 → length branches < 2 ^ 32
+few_posts plan s k ranks branches is_plan e l h =
+    let short = filter_short (λ p. knows plan s (slice_index plan.flat.order p)) (range_with_len 0 (length plan.flat.order)) in
+    let n = length-range_with_len 0 (length plan.flat.order) in
+    let m = ap length e in
+    few_branches plan.flat branches k is_plan.flat_is (omega (arith, short, n, m, l)) h
 
 -- the flow of a rank, from the parts in all flows
 pub post_part : (plan : Distribution) (s p place : ℕ) (parts : List Part) → parts ≡ parts_of plan s → place ≡ slice_index plan.flat.order p → place < flows_of plan.flat → unwrap_or (slice_get parts place) no_part ≡ part_of plan s (slice_index plan.flat.order p)
@@ -66,7 +88,7 @@ row_within a set lp = elim (cases_lt a.row (length (places_of a.program.plan a.p
       absurd (omega (arith, over, same, lp))
 ]
 
-module _ (a : Desk) (set : IsSet a) (post : Post) (is : IsPost a.program.plan a.program.site a.place post) (lp : a.place < length a.program.plan.flat.order) where
+module _ (a : Desk) (set : IsSet a) (post : Post) (branches : List ℕ) (is : IsPost a.program.plan a.program.site branches a.place post) (lp : a.place < length a.program.plan.flat.order) where
   abbrev i : ℕ
   i = slice_index a.program.plan.flat.order a.place
 
@@ -104,7 +126,7 @@ module _ (a : Desk) (set : IsSet a) (post : Post) (is : IsPost a.program.plan a.
   on_is = open_on (clock_in (shown_of a) (clock_of post.line.clock)) ∙ ap (λ k. is_open (clock_in (shown_of a) k)) is.line.clock ∙ ap (λ (o : Option Flow). is_open (clock_there (shown_of a) o)) (sym flow_is)
 
   -- the value of the flow at hand
-  pub computes_is : (d : Option Datum) (o : Outcome) → o ≡ value_of (form_of post.line.operation) (view_of (λ c. d) (shown_of a) a.lasts.items post.line.place) → ((c : ℕ) → form_of post.line.operation ≡ Input c → stands a.inputs.job.plan c a.inputs.site ≡ true → d ≡ slice_get (column_of a.inputs.job.inputs c) a.instant) → Computes a i (flow_at a.program.plan.flat i) o
+  pub computes_is : (d : Option Datum) (o : Outcome) → o ≡ value_of (form_of branches post.line.operation) (view_of (λ c. d) (shown_of a) a.lasts.items post.line.place) → ((c : ℕ) → form_of branches post.line.operation ≡ Input c → stands a.inputs.job.plan c a.inputs.site ≡ true → d ≡ slice_get (column_of a.inputs.job.inputs c) a.instant) → Computes a i (flow_at a.program.plan.flat i) o
   computes_is d o e given = record {
     given = d;
     is_given = λ c f flow form own. given c (is.line.form ∙ ap (λ (x : Flow). x.form) (same_Some is.line.flow f (sym flow_is ∙ flow)) ∙ form) own;

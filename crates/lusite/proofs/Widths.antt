@@ -31,7 +31,7 @@ use Rattle.lusite.proofs.Desks.{Going, part_here}
 use Rattle.lusite.proofs.Offers.{Here, hand_next}
 
 -- a width is small
-filter_short : (p : ℕ → Bool) (xs : List ℕ) → length (filter p xs) ≤ length xs
+pub filter_short : (p : ℕ → Bool) (xs : List ℕ) → length (filter p xs) ≤ length xs
 filter_short p [] = omega arith
 filter_short p (x ∷ xs) = go (p x) (filter_short p xs)
   where

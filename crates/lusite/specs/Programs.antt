@@ -44,18 +44,18 @@ places_of plan s = map (slice_index plan.flat.order) (ranks_of plan s)
 abbrev pub rank_at : SitePlan → ℕ → ℕ
 rank_at p k = unwrap_or (slice_get (ranks_of p.plan p.site) k) (length p.plan.flat.order)
 
--- what the machine of a site has of the flow of rank p
-pub record IsPost (plan : Distribution) (s p : ℕ) (post : Post) : Type 0 where
-  pub line : IsLine plan.flat p post.line
+-- what the machine of a site has of the flow of rank p, whose branches, where it is a merge, are among these
+pub record IsPost (plan : Distribution) (s : ℕ) (branches : List ℕ) (p : ℕ) (post : Post) : Type 0 where
+  pub line : IsLine plan.flat branches p post.line
   pub own : post.own ≡ (part_of plan s (slice_index plan.flat.order p)).own
   pub told : post.told ≡ (part_of plan s (slice_index plan.flat.order p)).told
   pub from : post.from ≡ (part_of plan s (slice_index plan.flat.order p)).from
   pub outs : post.outs ≡ length (part_of plan s (slice_index plan.flat.order p)).to
 
 -- the same of each flow that the site computes or takes, in order of rank
-pub record ArePosts (plan : Distribution) (s : ℕ) (posts : List Post) : Type 0 where
+pub record ArePosts (plan : Distribution) (s : ℕ) (branches : List ℕ) (posts : List Post) : Type 0 where
   pub len : length posts ≡ length (ranks_of plan s)
-  pub each : (k p : ℕ) (post : Post) → slice_get (ranks_of plan s) k ≡ Some p → slice_get posts k ≡ Some post → IsPost plan s p post
+  pub each : (k p : ℕ) (post : Post) → slice_get (ranks_of plan s) k ≡ Some p → slice_get posts k ≡ Some post → IsPost plan s branches p post
 
 -- the names of the main outputs, in order of declaration
 abbrev pub output_names : Distribution → List (List ℕ)
@@ -69,7 +69,7 @@ is_home plan s (Some i) = nat_eq (home plan i) s
 abbrev pub reports_output : Distribution → ℕ → ℕ → Bool
 reports_output plan s k = is_home plan s (slice_get (outputs_of plan) k)
 
-pub record IsProgram (plan : Distribution) (site flows : ℕ) (order owners : List ℕ) (parts : List Part) (ranks places : List ℕ) (posts : List Post) (outputs : List ℕ) (sites : ℕ) (names : List (List ℕ)) : Type 0 where
+pub record IsProgram (plan : Distribution) (site flows : ℕ) (order owners : List ℕ) (parts : List Part) (ranks places branches : List ℕ) (posts : List Post) (outputs : List ℕ) (sites : ℕ) (names : List (List ℕ)) : Type 0 where
   pub plan_is : IsPlan plan
   pub flows_are : flows ≡ flows_of plan.flat
   pub order_is : order ≡ plan.flat.order
@@ -77,7 +77,7 @@ pub record IsProgram (plan : Distribution) (site flows : ℕ) (order owners : Li
   pub parts_are : parts ≡ parts_of plan site
   pub ranks_are : ranks ≡ ranks_of plan site
   pub places_are : places ≡ places_of plan site
-  pub posts_are : ArePosts plan site posts
+  pub posts_are : ArePosts plan site branches posts
   pub outputs_are : outputs ≡ outputs_of plan
   pub sites_are : sites ≡ sites_of plan
   pub names_are : names ≡ output_names plan

@@ -18,7 +18,7 @@ use crate::logs::note;
 use crate::next::{Fault, LinkNo, Next};
 use crate::program::{Post, SiteProgram};
 use lueval::{
-    Answer, Cell, Line, cell_at, cell_of, column_of, is_absent, is_on, status, value_with,
+    Answer, Cell, Line, cell_at, cell_of, column_of, is_absent, is_datum, is_on, status, value_with,
 };
 use luflow::{Body, Datum, Form, Msg, Status};
 use luplace::SiteInputs;
@@ -152,11 +152,15 @@ fn count_at(counts: &[u32], i: usize) -> u32
 fn datum_of(cell: Cell) -> Datum
     ensures { result ≡ unwrap_or (held cell) Datum.Nil }
 {
-    match cell {
-        Cell::Number(n) => Datum::Int(n),
-        Cell::Truth(b) => Datum::Bool(b),
-        _ => Datum::Nil,
+    if is_datum(cell) {
+        return match cell {
+            Cell::Number(n) => Datum::Int(n),
+            Cell::Truth(b) => Datum::Bool(b),
+            Cell::Name(n) => Datum::Name(n),
+            _ => Datum::Nil,
+        };
     }
+    Datum::Nil
 }
 
 /// The flow of place i shows this now.
@@ -179,15 +183,30 @@ fn show_body(shown: &mut Vec<Cell>, i: usize, body: Body)
 }
 
 impl Desk {
+    /// The flow at hand, with the list of all branches.
+    #[inline(always)]
+    fn here(&self) -> (&Post, &[u16])
+        requires set { IsSet self.now }
+        requires within { self.now.row < length (places_of self.now.program.plan
+            self.now.program.site) }
+        ensures { IsPost self.now.program.plan self.now.program.site result.1.now self.now.place
+            result.0.now }
+    {
+        let (posts, branches) = self.program.code();
+        (&posts[self.row], branches)
+    }
+
     /// The flow at hand.
     #[inline(always)]
     fn post(&self) -> &Post
         requires set { IsSet self.now }
         requires within { self.now.row < length (places_of self.now.program.plan
             self.now.program.site) }
-        ensures { IsPost self.now.program.plan self.now.program.site self.now.place result.now }
+        ensures { (branches : List ℕ) × IsPost self.now.program.plan self.now.program.site branches
+            self.now.place result.now }
     {
-        &self.program.posts()[self.row]
+        let (post, _) = self.here();
+        post
     }
 
     /// Whether the site reports the flow at hand.
@@ -408,7 +427,7 @@ impl Desk {
     /// What the table gives a line now, where it is an input of the site's; absent where it gives nothing.
     #[inline(always)]
     fn given(&self, line: &Line) -> Cell
-        ensures { (c : ℕ) → form_of line.now.operation ≡ Form.Input c
+        ensures { (branches : List ℕ) (c : ℕ) → form_of branches line.now.operation ≡ Form.Input c
             → stands self.now.inputs.job.plan c self.now.inputs.site ≡ true → held result
             ≡ slice_get (column_of self.now.inputs.job.inputs c) self.now.instant }
     {
@@ -431,9 +450,14 @@ impl Desk {
             (flow_at self.now.program.plan.flat (slice_index self.now.program.plan.flat.order
             self.now.place)) (outcome_of result) }
     {
-        let post = self.post();
-        let line = &post.line;
-        value_with(line, self.given(line), &self.shown, &self.lasts)
+        let (post, branches) = self.here();
+        value_with(
+            &post.line,
+            branches,
+            self.given(&post.line),
+            &self.shown,
+            &self.lasts,
+        )
     }
 
     /// What the machine offers next.

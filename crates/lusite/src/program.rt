@@ -56,6 +56,8 @@ pub struct SiteProgram {
     pub(crate) places: Row<usize>,
     /// These flows, in order of rank.
     pub(crate) posts: Row<Post>,
+    /// The places of the branches of the merges among them.
+    pub(crate) branches: Row<u16>,
     pub(crate) outputs: Row<usize>,
     pub(crate) sites: u8,
     pub(crate) names: Row<Name>,
@@ -70,7 +72,7 @@ impl Model for SiteProgram {
     ghost view = { λ a. record { plan = a.plan.value; site = a.site } };
 
     ghost invariant = { λ a. IsProgram a.plan.value a.site a.flows a.order a.owners a.parts a.ranks
-        a.places a.posts a.outputs a.sites a.names };
+        a.places a.branches a.posts a.outputs a.sites a.names };
 }
 
 pub(crate) fn own_at(parts: &[Part], place: usize) -> bool
@@ -139,11 +141,13 @@ impl SiteProgram {
         self.places.as_slice()
     }
 
-    /// The flows that the site computes or takes, in order of rank, as its machine has them.
-    pub(crate) fn posts(&self) -> &[Post]
-        ensures { ArePosts self.now.plan self.now.site result.now }
+    /// The flows that the site computes or takes, in order of rank, as its machine has them, and the places of the branches of the
+    /// merges among them.
+    #[inline(always)]
+    pub(crate) fn code(&self) -> (&[Post], &[u16])
+        ensures { ArePosts self.now.plan self.now.site result.1.now result.0.now }
     {
-        self.posts.as_slice()
+        (self.posts.as_slice(), self.branches.as_slice())
     }
 
     /// The rank of flow number k of those that the site computes or takes; behind the last the number of all flows.

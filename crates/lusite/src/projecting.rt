@@ -1,11 +1,12 @@
 //! From a plan to a site's program.
 
-ghost use Rattle.std.specs.Prelude.{◌≡◌, ℕ, ◌+◌, ◌<◌, ◌&&◌, nat_eq, cond, [], ◌∷◌, ◌++◌, filter, map, length, IfOk, OnOk, Option, position, slice_get, slice_index, unwrap_or};
+ghost use Rattle.std.specs.Prelude.{◌≡◌, ℕ, ◌+◌, ◌<◌, ◌^◌, ◌&&◌, nat_eq, cond, [], ◌∷◌, ◌++◌, filter, map, length, IfOk, OnOk, Option, position, slice_get, slice_index, unwrap_or};
 ghost use Rattle.std.specs.List.{range_with_len};
-ghost use Rattle.luworld.specs.Needs.{sites_of, home, stands};
+ghost use Rattle.luworld.specs.Needs.{IsPlan, sites_of, home, stands};
 ghost use Rattle.luworld.specs.Runs.{link_into, sends};
 ghost use Rattle.lusite.specs.Programs.{part_of, parts_of, no_part, knows_in, ranks_of, places_of, IsPost, ArePosts, role_at};
 ghost use Rattle.luflow.specs.Variables.{is_output_of, is_output, variable_name};
+ghost use Rattle.lueval.specs.Operations.{IsLonger};
 
 use crate::carriers::{carriers_of, take_row};
 use crate::next::LinkNo;
@@ -182,40 +183,53 @@ fn known_places(
     Ok(places)
 }
 
-/// The flow of a rank, as the machine of a site has it.
-fn post(plan: &Plan, site: u8, parts: &[Part], rank: usize) -> Post
+/// The flow of a rank, as the machine of a site has it. The places of its branches, where it is a merge, are put behind those of
+/// other flows.
+fn post(
+    plan: &Plan,
+    site: u8,
+    parts: &[Part],
+    branches: &mut Vec<u16>,
+    rank: usize,
+) -> Result<Post, AllocError>
     requires rank { rank < length plan.now.flat.order }
     requires parts { parts.now ≡ parts_of plan.now site }
-    ensures { IsPost plan.now site rank result }
+    requires few { length branches.old.items < 2 ^ 32 }
+    ensures post { IfOk result (IsPost plan.now site branches.new.items rank) }
+    ensures longer { OnOk result (IsLonger branches.old.items branches.new.items) }
 {
-    let line = line_of(plan.flat(), rank);
+    let line = line_of(plan.flat(), rank, branches)?;
     let place = line.place as usize;
-    Post {
+    Ok(Post {
         line,
         own: own_at(parts, place),
         told: told_at(parts, place),
         from: from_at(parts, place),
         outs: to_at(parts, place).len(),
-    }
+    })
 }
 
-/// The flows that a site computes or takes, in order of rank, as its machine has them.
+/// The flows that a site computes or takes, in order of rank, as its machine has them, and the places of the branches of the
+/// merges among them.
 fn posts(
     alloc: Global,
     plan: &Plan,
     site: u8,
     parts: &[Part],
     ranks: &[usize],
-) -> Result<Vec<Post>, AllocError>
+) -> Result<(Vec<Post>, Vec<u16>), AllocError>
+    requires plan { IsPlan plan.now }
     requires parts { parts.now ≡ parts_of plan.now site }
     requires ranks { ranks.now ≡ ranks_of plan.now site }
-    ensures { IfOk result (λ v. ArePosts plan.now site v.items) }
+    ensures { IfOk result (λ v. ArePosts plan.now site v.1.items v.0.items) }
 {
     let mut posts = Vec::with_capacity(alloc, ranks.len())?;
+    let mut branches = Vec::new(alloc);
     for rank in ranks {
-        posts.push_reserved(post(plan, site, parts, *rank));
+        let next = post(plan, site, parts, &mut branches, *rank)?;
+        posts.push_reserved(next);
     }
-    Ok(posts)
+    Ok((posts, branches))
 }
 
 /// What of a plan a site runs.
@@ -229,7 +243,7 @@ pub fn project(alloc: Global, plan: &Plan, site: u8) -> Result<SiteProgram, Allo
     let parts = parts(alloc, plan, site)?;
     let ranks = known_ranks(alloc, plan, site, parts.as_slice())?;
     let places = known_places(alloc, plan, site, ranks.as_slice())?;
-    let posts = posts(alloc, plan, site, parts.as_slice(), ranks.as_slice())?;
+    let (posts, branches) = posts(alloc, plan, site, parts.as_slice(), ranks.as_slice())?;
     let outputs = told_places(alloc, plan.flat().variables())?;
     let names = names_of(alloc, plan.flat(), outputs.as_slice())?;
     Ok(SiteProgram {
@@ -241,6 +255,7 @@ pub fn project(alloc: Global, plan: &Plan, site: u8) -> Result<SiteProgram, Allo
         ranks: Row::new(ranks),
         places: Row::new(places),
         posts: Row::new(posts),
+        branches: Row::new(branches),
         outputs: Row::new(outputs),
         sites: plan.sites().len() as u8,
         names: Row::new(names),

@@ -1,8 +1,8 @@
 -- The operators that are at fault stand in instances.
 use Rattle.std.proofs.Common.{◌≡◌, ℕ, zero, suc, ◌+◌, ◌<◌, ◌≤◌, ◌⊎◌, inl, inr, List, [], ◌∷◌, ◌++◌, length, Option, Some, None, refl, sym, ap, ◌∙◌, subst, arith, length-append}
-use Rattle.std.specs.Prelude.{slice_get, option_map, option_and_then, true, false}
+use Rattle.std.specs.Prelude.{slice_get, option_map, option_and_then}
 use Rattle.std.proofs.lemmas.Option.{slice_get_within, slice_get-map}
-use Rattle.lutree.specs.declared.expr.Pattern.TheVariants as patterns
+use Rattle.lutree.specs.declared.expr.Pattern.{Pattern}
 use Rattle.lutree.specs.declared.expr.Condition.{Condition}
 use Rattle.lutree.specs.declared.expr.Prefix.TheVariants.{Data as Data1, Pre}
 use Rattle.lutree.specs.declared.expr.Infix.TheVariants.{Data as Data2, Arrow, FollowedBy}
@@ -12,7 +12,7 @@ use Rattle.luflow.specs.declared.form.FaultKind.{FaultKind}
 use Rattle.luflow.specs.Streams.{Stream, Ticks, base_clock}
 use Rattle.lustat_rules.specs.Scope.{node_called}
 use Rattle.lusource.specs.Names.{clock_of}
-use Rattle.lusource.specs.Source.{Named, Site, Path, SourceStreams, InstanceHolds, If, HoldsAt, calls, calls_in, condition, ticks, values, given_streams, left_clock, sites, sites_in, all_sites, sites_of}
+use Rattle.lusource.specs.Source.{Named, Site, Path, SourceStreams, InstanceHolds, If, HoldsAt, calls, calls_in, condition, first_pattern, next_patterns, ticks, values, given_streams, left_clock, sites, sites_in, branch_sites, all_sites, sites_of}
 use Rattle.lusource.specs.Instances.{called_in, instance_at}
 use Rattle.lusource.specs.Faults as faults
 use Rattle.lusource.specs.FaultPaths.{CallStands, StandsIn, NoCall, FaultPathsLaw}
@@ -40,6 +40,9 @@ module _ (program : ProgramTree) (node : NodeTree) (base : Ticks) (var : Named) 
   abbrev SI : Trees → Option Condition → ℕ → List Site
   SI all k i = sites_in program node base var inner all k i
 
+  abbrev SB : List ℕ → List Pattern → Trees → ℕ → List Site
+  SB c ps all i = branch_sites program node base var inner c ps all i
+
   abbrev F : Tree → Option Condition → ℕ → Type 0
   F = faults.Fails program node base var inner t kind C
 
@@ -65,6 +68,7 @@ module _ (program : ProgramTree) (node : NodeTree) (base : Ticks) (var : Named) 
     long : (e : Tree) (k : Option Condition) (i : ℕ) → length (S e k i) ≡ calls e
     long (tree.number n) k i = refl
     long (tree.truth b) k i = refl
+    long (tree.label x) k i = refl
     long (tree.variable x) k i = refl
     long (tree.unary op a) k i = long a k i
     long (tree.binary op a b) k i = joined (S a k i) (S b k (i + calls a)) (calls a) (calls b) (long a k i) (long b k (i + calls a))
@@ -74,19 +78,26 @@ module _ (program : ProgramTree) (node : NodeTree) (base : Ticks) (var : Named) 
         joined (S c k i) (S a k ia ++ S b k ib) (calls c) (calls a + calls b) (long c k i) (joined (S a k ia) (S b k ib) (calls a) (calls b) (long a k ia) (long b k ib))
     long (tree.when a c) k i = long a (clock_of node c.variable) i
     long (tree.current x) k i = refl
-    long (tree.merge c a b) k i =
-        joined (S a (condition c (patterns.Truth true)) i) (S b (condition c (patterns.Truth false)) (i + calls a)) (calls a) (calls b) (long a (condition c (patterns.Truth true)) i) (long b (condition c (patterns.Truth false)) (i + calls a))
+    long (tree.merge c ps all) k i = long_branches c ps all i
     long (tree.call f all) k i = joined (SI all k i) _ (calls_in all) 1 (long_in all k i) refl
 
     long_in : (all : Trees) (k : Option Condition) (i : ℕ) → length (SI all k i) ≡ calls_in all
     long_in tree.none k i = refl
     long_in (tree.more a all) k i = joined (S a k i) (SI all k (i + calls a)) (calls a) (calls_in all) (long a k i) (long_in all k (i + calls a))
 
+    long_branches : (c : List ℕ) (ps : List Pattern) (all : Trees) (i : ℕ) → length (SB c ps all i) ≡ calls_in all
+    long_branches c ps tree.none i = refl
+    long_branches c ps (tree.more a all) i =
+        let k = condition c (first_pattern ps) in
+        let qs = next_patterns ps in
+        joined (S a k i) (SB c qs all (i + calls a)) (calls a) (calls_in all) (long a k i) (long_branches c qs all (i + calls a))
+
   mutual
     -- an expression fails by an operator of its own, or by a call
     split : (e : Tree) (k : Option Condition) (i : ℕ) → F e k i → Own e k i ⊎ Call (S e k i) i
     split (tree.number n) k i h = absurd h
     split (tree.truth b) k i h = absurd h
+    split (tree.label x) k i h = absurd h
     split (tree.variable x) k i h = absurd h
     split (tree.unary (Data1 op) a) k i (inl h) = inl (inl h)
     split (tree.unary (Data1 op) a) k i (inr h) = both inr (λ c. c) (split a k i h)
@@ -114,10 +125,7 @@ module _ (program : ProgramTree) (node : NodeTree) (base : Ticks) (var : Named) 
         both (λ x. inr (inr x)) (λ x. call_right (S c k i) (S a k ia ++ S b k ib) i (calls c) (long c k i) (call_right (S a k ia) (S b k ib) ia (calls a) (long a k ia) x)) (split b k ib h)
     split (tree.when a c) k i h = split a (clock_of node c.variable) i h
     split (tree.current x) k i h = absurd h
-    split (tree.merge c a b) k i (inl h) =
-        both inl (call_left (S a (condition c (patterns.Truth true)) i) (S b (condition c (patterns.Truth false)) (i + calls a)) i) (split a (condition c (patterns.Truth true)) i h)
-    split (tree.merge c a b) k i (inr h) =
-        both inr (call_right (S a (condition c (patterns.Truth true)) i) (S b (condition c (patterns.Truth false)) (i + calls a)) i (calls a) (long a (condition c (patterns.Truth true)) i)) (split b (condition c (patterns.Truth false)) (i + calls a) h)
+    split (tree.merge c ps all) k i h = split_branches c ps all i h
     split (tree.call f all) k i (inl h) = both inl (call_left (SI all k i) _ i) (split_any all k i h)
     split (tree.call f all) k i (inr h) =
         let site : Site = record { node = f; base = ticks base var k; arguments = values program node base var inner all k i } in
@@ -129,6 +137,15 @@ module _ (program : ProgramTree) (node : NodeTree) (base : Ticks) (var : Named) 
     split_any (tree.more a all) k i (inl h) = both inl (call_left (S a k i) (SI all k (i + calls a)) i) (split a k i h)
     split_any (tree.more a all) k i (inr h) =
         both inr (call_right (S a k i) (SI all k (i + calls a)) i (calls a) (long a k i)) (split_any all k (i + calls a) h)
+
+    split_branches : (c : List ℕ) (ps : List Pattern) (all : Trees) (i : ℕ) → faults.BranchFails program node base var inner t kind C c ps all i → faults.BranchFails program node base var inner t kind NoCall c ps all i ⊎ Call (SB c ps all i) i
+    split_branches c ps tree.none i h = absurd h
+    split_branches c ps (tree.more a all) i (inl h) =
+        let k = condition c (first_pattern ps) in
+        both inl (call_left (S a k i) (SB c (next_patterns ps) all (i + calls a)) i) (split a k i h)
+    split_branches c ps (tree.more a all) i (inr h) =
+        let k = condition c (first_pattern ps) in
+        both inr (call_right (S a k i) (SB c (next_patterns ps) all (i + calls a)) i (calls a) (long a k i)) (split_branches c (next_patterns ps) all (i + calls a) h)
 
   abbrev AS : List EquationTree → ℕ → List Site
   AS = all_sites program node base var inner

@@ -1,9 +1,9 @@
 -- The instances of a solution are those of the program's text.
 use Rattle.std.proofs.Common.{◌≡◌, ℕ, ◌+◌, List, [], ◌∷◌, ◌++◌, map, Option, Some, None, refl, sym, ap, ◌∙◌, subst}
-use Rattle.std.specs.Prelude.{slice_get, option_map, option_and_then, flat_map, true, false}
+use Rattle.std.specs.Prelude.{slice_get, option_map, option_and_then, flat_map}
 use Rattle.std.proofs.lemmas.List.{map-append}
 use Rattle.std.proofs.lemmas.Option.{slice_get-map}
-use Rattle.lutree.specs.declared.expr.Pattern.TheVariants as patterns
+use Rattle.lutree.specs.declared.expr.Pattern.{Pattern}
 use Rattle.lutree.specs.declared.expr.Condition.{Condition}
 use Rattle.lutree.specs.Tree.{Tree, Trees, EquationTree, NodeTree, ProgramTree}
 use Rattle.lutree.specs.Tree as tree
@@ -11,7 +11,7 @@ use Rattle.luflow.specs.Streams.{Stream, Ticks, base_clock}
 use Rattle.lustat_rules.specs.Scope.{node_called}
 use Rattle.lustat_rules.specs.Naming.{Call, calls_in, calls_in_all}
 use Rattle.lusource.specs.Names.{clock_of}
-use Rattle.lusource.specs.Source.{Named, Site, Path, SourceStreams, InstanceHolds, If, HoldsAt, calls, condition, given_streams, left_clock, sites, sites_in, all_sites, sites_of}
+use Rattle.lusource.specs.Source.{Named, Site, Path, SourceStreams, InstanceHolds, If, HoldsAt, calls, condition, first_pattern, next_patterns, given_streams, left_clock, sites, sites_in, branch_sites, all_sites, sites_of}
 use Rattle.lusource.specs.Instances.{called_in, instance_at, CalledLaw, InstanceLaw}
 
 abbrev pub site_node : Site → List ℕ
@@ -33,6 +33,7 @@ module _ (program : ProgramTree) (node : NodeTree) (base : Ticks) (var : Named) 
     called : (e : Tree) (k : Option Condition) (i : ℕ) → map site_node (S e k i) ≡ map call_node (calls_in e)
     called (tree.number n) k i = refl
     called (tree.truth b) k i = refl
+    called (tree.label x) k i = refl
     called (tree.variable x) k i = refl
     called (tree.unary op a) k i = called a k i
     called (tree.binary op a b) k i =
@@ -42,8 +43,7 @@ module _ (program : ProgramTree) (node : NodeTree) (base : Ticks) (var : Named) 
         (joined (S a k (i + calls c)) (S b k (i + calls c + calls a)) (calls_in a) (calls_in b) (called a k (i + calls c)) (called b k (i + calls c + calls a)))
     called (tree.when a c) k i = called a (clock_of node c.variable) i
     called (tree.current x) k i = refl
-    called (tree.merge c a b) k i =
-        joined (S a (condition c (patterns.Truth true)) i) (S b (condition c (patterns.Truth false)) (i + calls a)) (calls_in a) (calls_in b) (called a (condition c (patterns.Truth true)) i) (called b (condition c (patterns.Truth false)) (i + calls a))
+    called (tree.merge c ps all) k i = called_branches c ps all i
     called (tree.call f all) k i =
         joined (sites_in program node base var inner all k i) _ (calls_in_all all) _ (called_all all k i) refl
 
@@ -51,6 +51,13 @@ module _ (program : ProgramTree) (node : NodeTree) (base : Ticks) (var : Named) 
     called_all tree.none k i = refl
     called_all (tree.more a all) k i =
         joined (S a k i) (sites_in program node base var inner all k (i + calls a)) (calls_in a) (calls_in_all all) (called a k i) (called_all all k (i + calls a))
+
+    called_branches : (c : List ℕ) (ps : List Pattern) (all : Trees) (i : ℕ) → map site_node (branch_sites program node base var inner c ps all i) ≡ map call_node (calls_in_all all)
+    called_branches c ps tree.none i = refl
+    called_branches c ps (tree.more a all) i =
+        let k = condition c (first_pattern ps) in
+        let rest = branch_sites program node base var inner c (next_patterns ps) all (i + calls a) in
+        joined (S a k i) rest (calls_in a) (calls_in_all all) (called a k i) (called_branches c (next_patterns ps) all (i + calls a))
 
   called_here : (qs : List EquationTree) (i : ℕ) → map site_node (all_sites program node base var inner qs i) ≡ flat_map (λ (q : EquationTree). map call_node (calls_in q.right)) qs
   called_here [] i = refl

@@ -1,10 +1,10 @@
 -- Faults of a program, in the words of its source.
-use Rattle.std.specs.Prelude.{◌≡◌, ℕ, zero, suc, ◌+◌, ◌⊎◌, true, false, List, [], ◌∷◌, Option, Some, None}
+use Rattle.std.specs.Prelude.{◌≡◌, ℕ, zero, suc, ◌+◌, ◌⊎◌, true, List, [], ◌∷◌, Option, Some, None}
 use Rattle.lutree.specs.declared.expr.UnaryOperator.{UnaryOperator}
 use Rattle.lutree.specs.declared.expr.BinaryOperator.{BinaryOperator}
 use Rattle.lutree.specs.declared.expr.Prefix.TheVariants.{Data as Data1, Pre}
 use Rattle.lutree.specs.declared.expr.Infix.TheVariants.{Data as Data2, Arrow, FollowedBy}
-use Rattle.lutree.specs.declared.expr.Pattern.TheVariants as patterns
+use Rattle.lutree.specs.declared.expr.Pattern.{Pattern}
 use Rattle.lutree.specs.declared.expr.Condition.{Condition}
 use Rattle.lutree.specs.Tree.{Tree, Trees, EquationTree, NodeTree, ProgramTree}
 use Rattle.lutree.specs.Tree as tree
@@ -16,7 +16,7 @@ use Rattle.luflow.specs.Program.{Table}
 use Rattle.luflow.specs.Streams.{Known, Stream, Ticks, base_clock}
 use Rattle.lustat_rules.specs.Scope.{node_called}
 use Rattle.lusource.specs.Names.{clock_of, name_at}
-use Rattle.lusource.specs.Source.{Named, SourceStreams, condition, ticks, calls, calls_in, value, left_clock}
+use Rattle.lusource.specs.Source.{Named, SourceStreams, condition, first_pattern, next_patterns, ticks, calls, calls_in, value, left_clock}
 
 -- an operator is at fault at t: its clock is true, and its operand is present, with a datum at which it has no result
 pub record OneFails (op : UnaryOperator) (k : Ticks) (a : Stream) (t : ℕ) (kind : FaultKind) : Type 0 where
@@ -48,6 +48,7 @@ module _ (program : ProgramTree) (node : NodeTree) (base : Ticks) (var : Named) 
     pub Fails : Tree → Option Condition → ℕ → Type 0
     Fails (tree.number n) k i = ⊥
     Fails (tree.truth b) k i = ⊥
+    Fails (tree.label x) k i = ⊥
     Fails (tree.variable x) k i = ⊥
     Fails (tree.unary (Data1 op) a) k i =
         OneFails op (ticks base var k) (stream a k i) t kind ⊎ Fails a k i
@@ -60,13 +61,19 @@ module _ (program : ProgramTree) (node : NodeTree) (base : Ticks) (var : Named) 
     Fails (tree.choice c a b) k i = Fails c k i ⊎ (Fails a k (i + calls c) ⊎ Fails b k (i + calls c + calls a))
     Fails (tree.when a c) k i = Fails a (clock_of node c.variable) i
     Fails (tree.current x) k i = ⊥
-    Fails (tree.merge c a b) k i = Fails a (condition c (patterns.Truth true)) i ⊎ Fails b (condition c (patterns.Truth false)) (i + calls a)
+    Fails (tree.merge c ps all) k i = BranchFails c ps all i
     Fails (tree.call f all) k i = AnyFails all k i ⊎ CallFails f (ticks base var k) (i + calls_in all)
 
     -- the same of one of a call's arguments
     pub AnyFails : Trees → Option Condition → ℕ → Type 0
     AnyFails tree.none k i = ⊥
     AnyFails (tree.more a all) k i = Fails a k i ⊎ AnyFails all k (i + calls a)
+
+    -- the same of one of a merge's branches
+    pub BranchFails : List ℕ → List Pattern → Trees → ℕ → Type 0
+    BranchFails c ps tree.none i = ⊥
+    BranchFails c ps (tree.more a all) i =
+        Fails a (condition c (first_pattern ps)) i ⊎ BranchFails c (next_patterns ps) all (i + calls a)
 
   -- the same of the right side of one of these equations, which has v as its first variable
   abbrev pub EquationFails : List EquationTree → ℕ → List ℕ → Type 0

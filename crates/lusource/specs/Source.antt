@@ -1,6 +1,6 @@
 -- The synchronous meaning of a program: which streams its equations allow. A program is a system of equations between
 -- flows, and a call stands for the equations of the called node, which run where the call's clock is true.
-use Rattle.std.specs.Prelude.{◌≡◌, ℕ, suc, ◌+◌, Bool, true, false, List, [], ◌∷◌, ◌++◌, map, Option, Some, None, pos, slice_get}
+use Rattle.std.specs.Prelude.{◌≡◌, ℕ, suc, ◌+◌, true, List, [], ◌∷◌, ◌++◌, map, Option, Some, None, pos, slice_get}
 use Rattle.lutree.specs.declared.expr.Prefix.TheVariants.{Data as Data1, Pre}
 use Rattle.lutree.specs.declared.expr.Infix.TheVariants.{Data as Data2, Arrow, FollowedBy}
 use Rattle.lutree.specs.declared.expr.Pattern.{Pattern}
@@ -9,7 +9,7 @@ use Rattle.lutree.specs.declared.expr.Condition.{Condition}
 use Rattle.lutree.specs.Tree.{Tree, Trees, DeclarationTree, EquationTree, NodeTree, ProgramTree}
 use Rattle.lutree.specs.Tree as tree
 use Rattle.luflow.specs.declared.data.Datum.{Datum}
-use Rattle.luflow.specs.declared.data.Datum.TheVariants.{Int, Bool as Truth}
+use Rattle.luflow.specs.declared.data.Datum.TheVariants.{Int, Bool as Truth, Name}
 use Rattle.luflow.specs.Program.{Table}
 use Rattle.luflow.specs.Streams.{Stream, Ticks, truth_in, base_clock}
 use Rattle.luflow.specs.Values.{gives, under}
@@ -24,13 +24,14 @@ abbrev mutual
   pub calls : Tree → ℕ
   calls (tree.number n) = 0
   calls (tree.truth b) = 0
+  calls (tree.label x) = 0
   calls (tree.variable x) = 0
   calls (tree.unary op a) = calls a
   calls (tree.binary op a b) = calls a + calls b
   calls (tree.choice c a b) = calls c + (calls a + calls b)
   calls (tree.when a c) = calls a
   calls (tree.current x) = 0
-  calls (tree.merge c a b) = calls a + calls b
+  calls (tree.merge c ps all) = calls_in all
   calls (tree.call f all) = calls_in all + 1
 
   pub calls_in : Trees → ℕ
@@ -51,9 +52,19 @@ Named = List ℕ → Stream
 abbrev pub condition : List ℕ → Pattern → Option Condition
 condition c pattern = Some (record { variable = c; pattern = pattern })
 
+-- The patterns of a merge, one after another with its branches. A merge has as many; where it has fewer, any other pattern is `true`.
+abbrev pub first_pattern : List Pattern → Pattern
+first_pattern [] = patterns.Truth true
+first_pattern (p ∷ ps) = p
+
+abbrev pub next_patterns : List Pattern → List Pattern
+next_patterns [] = []
+next_patterns (p ∷ ps) = ps
+
 -- the value of a clock's variable at which the clock is true
 abbrev pub pattern_value : Pattern → Datum
 pattern_value (patterns.Truth b) = Truth b
+pattern_value (patterns.Label x) = Name x.number
 
 -- the stream of a clock, from the base clock and the variables' streams; none is the base clock
 abbrev pub ticks : Ticks → Named → Option Condition → Ticks
@@ -68,6 +79,7 @@ module _ (program : ProgramTree) (node : NodeTree) (base : Ticks) (var : Named) 
     pub value : Tree → Option Condition → ℕ → Stream
     value (tree.number n) k i = constant_stream (Int (pos n)) (ticks base var k)
     value (tree.truth b) k i = constant_stream (Truth b) (ticks base var k)
+    value (tree.label x) k i = constant_stream (Name x.number) (ticks base var k)
     value (tree.variable x) k i = var x
     value (tree.unary (Data1 op) a) k i = unary_stream op (ticks base var k) (value a k i)
     value (tree.unary Pre a) k i = pre_stream (ticks base var k) (value a k i)
@@ -79,14 +91,18 @@ module _ (program : ProgramTree) (node : NodeTree) (base : Ticks) (var : Named) 
         choice_stream (ticks base var k) (value c k i) (value a k (i + calls c)) (value b k (i + calls c + calls a))
     value (tree.when a c) k i = when_stream (ticks base var (Some c)) (value a (clock_of node c.variable) i)
     value (tree.current x) k i = current_stream (ticks base var k) (var x)
-    value (tree.merge c a b) k i =
-        merge_stream (ticks base var k) (var c) (value a (condition c (patterns.Truth true)) i ∷ value b (condition c (patterns.Truth false)) (i + calls a) ∷ [])
+    value (tree.merge c ps all) k i = merge_stream (ticks base var k) (var c) (branches c ps all i)
     value (tree.call f all) k i = inner (i + calls_in all) (output_name program f 0)
 
     -- the streams of a call's arguments
     pub values : Trees → Option Condition → ℕ → List Stream
     values tree.none k i = []
     values (tree.more a all) k i = value a k i ∷ values all k (i + calls a)
+
+    -- the streams of a merge's branches, each on the clock of the variable with the branch's pattern
+    pub branches : List ℕ → List Pattern → Trees → ℕ → List Stream
+    branches c ps tree.none i = []
+    branches c ps (tree.more a all) i = value a (condition c (first_pattern ps)) i ∷ branches c (next_patterns ps) all (i + calls a)
 
   -- the j-th stream of a right side: output j of a call, or the one stream of any other expression
   abbrev pub output : Tree → Option Condition → ℕ → ℕ → Stream
@@ -98,19 +114,25 @@ module _ (program : ProgramTree) (node : NodeTree) (base : Ticks) (var : Named) 
     pub sites : Tree → Option Condition → ℕ → List Site
     sites (tree.number n) k i = []
     sites (tree.truth b) k i = []
+    sites (tree.label x) k i = []
     sites (tree.variable x) k i = []
     sites (tree.unary op a) k i = sites a k i
     sites (tree.binary op a b) k i = sites a k i ++ sites b k (i + calls a)
     sites (tree.choice c a b) k i = sites c k i ++ (sites a k (i + calls c) ++ sites b k (i + calls c + calls a))
     sites (tree.when a c) k i = sites a (clock_of node c.variable) i
     sites (tree.current x) k i = []
-    sites (tree.merge c a b) k i = sites a (condition c (patterns.Truth true)) i ++ sites b (condition c (patterns.Truth false)) (i + calls a)
+    sites (tree.merge c ps all) k i = branch_sites c ps all i
     sites (tree.call f all) k i =
         sites_in all k i ++ record { node = f; base = ticks base var k; arguments = values all k i } ∷ []
 
     pub sites_in : Trees → Option Condition → ℕ → List Site
     sites_in tree.none k i = []
     sites_in (tree.more a all) k i = sites a k i ++ sites_in all k (i + calls a)
+
+    pub branch_sites : List ℕ → List Pattern → Trees → ℕ → List Site
+    branch_sites c ps tree.none i = []
+    branch_sites c ps (tree.more a all) i =
+        sites a (condition c (first_pattern ps)) i ++ branch_sites c (next_patterns ps) all (i + calls a)
 
   -- the clock that an equation's place demands: that of its first variable
   abbrev pub left_clock : EquationTree → Option Condition

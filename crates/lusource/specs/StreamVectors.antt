@@ -17,6 +17,7 @@ use Rattle.luflow.specs.Messages.{marks}
 use Rattle.luflow.specs.Vectors.{known}
 use Rattle.luflow.specs.FormVectors.{four_instants, none, nil, streams}
 use Rattle.lusource.specs.Source.{Named, condition, value}
+use Rattle.lusource.specs.Vectors.{merge_of}
 
 -- The streams, by names:
 -- whole 1 2 3 4; breaking 5 broken 7 8; c true false true true; lost true broken true true;
@@ -99,7 +100,7 @@ abbrev pub minus : Tree → Tree → Tree
 minus = tree.binary (Data2 Subtract)
 
 abbrev pub merge_c : Tree → Tree → Tree
-merge_c = tree.merge (codes "c")
+merge_c = merge_of (codes "c")
 
 abbrev pub when_in : List ℕ → Tree → Tree
 when_in x e = tree.when e (record { variable = x; pattern = patterns.Truth true })
@@ -160,7 +161,7 @@ pub record ChoicesAre : Type 0 where
   pub merged_cut : on_base (merge_c cut other) ≡ known 1 ∷ known 6 ∷ Broken ∷ known 4 ∷ []
   pub not_taken_is_no_matter : on_base (merge_c breaking whole) ≡
       known 5 ∷ known 2 ∷ known 7 ∷ known 8 ∷ []
-  pub clock_broken : on_base (tree.merge (codes "lost") whole whole) ≡
+  pub clock_broken : on_base (merge_of (codes "lost") whole whole) ≡
       known 1 ∷ Broken ∷ known 3 ∷ known 4 ∷ []
   -- the branches are on the clock and on its other sign
   pub constants : on_base (merge_c (tree.number 9) (tree.number 8)) ≡ map known (9 ∷ 8 ∷ 9 ∷ 9 ∷ [])

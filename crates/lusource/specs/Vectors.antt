@@ -1,16 +1,17 @@
 -- Worked programs and expressions, computed on the definitions.
-use Rattle.std.specs.Prelude.{◌≡◌, ℕ, ◌+◌, Bool, true, false, List, [], ◌∷◌, map, pos, codes, Option, Some, None, slice_get, unwrap_or, if◌then◌else◌}
+use Rattle.std.specs.Prelude.{◌≡◌, ℕ, ◌+◌, Bool, true, false, List, [], ◌∷◌, map, pos, negsuc, codes, Option, Some, None, slice_get, unwrap_or, if◌then◌else◌}
 use Rattle.std.specs.Str.{bytes_eq}
 use Rattle.lutree.specs.declared.expr.UnaryOperator.TheVariants.{Minus, Not}
-use Rattle.lutree.specs.declared.expr.BinaryOperator.TheVariants.{Add, Subtract, Less}
+use Rattle.lutree.specs.declared.expr.BinaryOperator.TheVariants.{Add, Subtract, Equal, Less}
 use Rattle.lutree.specs.declared.expr.Prefix.TheVariants.{Data as Data1, Pre}
 use Rattle.lutree.specs.declared.expr.Infix.TheVariants.{Data as Data2, Arrow, FollowedBy}
 use Rattle.lutree.specs.declared.expr.Pattern.TheVariants as patterns
+use Rattle.lutree.specs.declared.expr.Label.{Label}
 use Rattle.lutree.specs.declared.expr.Condition.{Condition}
-use Rattle.lutree.specs.declared.program.Kind.TheVariants.{Int as Ints, Bool as Truths}
-use Rattle.lutree.specs.Tree.{Tree, DeclarationTree, EquationTree, NodeTree, ProgramTree, program_of}
+use Rattle.lutree.specs.declared.program.Kind.TheVariants.{Int as Ints, Bool as Truths, Enum}
+use Rattle.lutree.specs.Tree.{Tree, DeclarationTree, EquationTree, NodeTree, ProgramTree, program_of, declared}
 use Rattle.lutree.specs.Tree as tree
-use Rattle.luflow.specs.declared.data.Datum.TheVariants.{Int, Bool as Truth, Nil}
+use Rattle.luflow.specs.declared.data.Datum.TheVariants.{Int, Bool as Truth, Name, Nil}
 use Rattle.luflow.specs.declared.data.Status.{Status}
 use Rattle.luflow.specs.declared.data.Status.TheVariants.{Present, Absent}
 use Rattle.luflow.specs.Streams.{Mark, Known, Stream, base_clock}
@@ -45,7 +46,7 @@ two_counters =
     record {
       name = codes "main";
       inputs = [];
-      outputs = record { name = codes "a"; kind = Ints; clock = None } ∷ record { name = codes "b"; kind = Ints; clock = None } ∷ [];
+      outputs = declared (codes "a") Ints None ∷ declared (codes "b") Ints None ∷ [];
       locals = [];
       equations = equation_of a_line ∷ equation_of b_line ∷ [];
     }
@@ -64,9 +65,13 @@ pub record CountersAre : Type 0 where
   pub b_counts : marks (right_of b_line) 3 ≡ map known (0 ∷ 1 ∷ 2 ∷ [])
   pub a_ends : right_of a_line 3 ≡ Known Absent
 
+-- `merge c (true -> a) (false -> b)`
+abbrev pub merge_of : List ℕ → Tree → Tree → Tree
+merge_of c a b = tree.merge c (patterns.Truth true ∷ patterns.Truth false ∷ []) (tree.more a (tree.more b tree.none))
+
 -- x and c on the base clock, s where c is true, and u where it is false
 abbrev pub int_on : Option Condition → List ℕ → DeclarationTree
-int_on clock name = record { name = name; kind = Ints; clock = clock }
+int_on clock name = declared name Ints clock
 
 abbrev pub where_c : Bool → Option Condition
 where_c sign = condition (codes "c") (patterns.Truth sign)
@@ -76,7 +81,7 @@ sampler =
     record {
       name = codes "main";
       inputs =
-          int_on None (codes "x") ∷ record { name = codes "c"; kind = Truths; clock = None }
+          int_on None (codes "x") ∷ declared (codes "c") Truths None
           ∷ int_on (where_c true) (codes "s") ∷ int_on (where_c false) (codes "u") ∷ [];
       outputs = [];
       locals = [];
@@ -150,7 +155,50 @@ pub record ExpressionsAre : Type 0 where
   pub held : gives (tree.current (codes "s")) None ≡ map known (1 ∷ 1 ∷ 3 ∷ 4 ∷ [])
   pub held_later : gives (tree.current (codes "u")) None ≡ Known (Present Nil) ∷ known 2 ∷ known 2 ∷ known 2 ∷ []
   -- merge c (true -> s) (false -> 9)
-  pub merged : gives (tree.merge (codes "c") s (tree.number 9)) None ≡ map known (1 ∷ 9 ∷ 3 ∷ 4 ∷ [])
+  pub merged : gives (merge_of (codes "c") s (tree.number 9)) None ≡ map known (1 ∷ 9 ∷ 3 ∷ 4 ∷ [])
+
+-- type t = enum { Up, Down, Hold }
+abbrev pub label_of : List ℕ → ℕ → Label
+label_of name number = record { name = name; kind = Enum 0 3; number = number }
+
+abbrev pub up : Label
+up = label_of (codes "Up") 0
+
+abbrev pub down : Label
+down = label_of (codes "Down") 1
+
+abbrev pub hold : Label
+hold = label_of (codes "Hold") 2
+
+abbrev pub known_name : ℕ → Mark
+known_name n = Known (Present (Name n))
+
+-- m is Up, Hold, Down, Up, and x is 1 2 3 4
+abbrev pub modes : Named
+modes name = if bytes_eq name (codes "m") then told (map (λ n. Present (Name n)) (0 ∷ 2 ∷ 1 ∷ 0 ∷ [])) else samples name
+
+-- the marks of an expression at four instants, on a clock
+abbrev pub mode_gives : Tree → Option Condition → List Mark
+mode_gives e k = marks (value three_nodes sampler (base_clock four_samples) modes instances e k 0) 4
+
+abbrev pub m : Tree
+m = tree.variable (codes "m")
+
+-- e when A(m)
+abbrev pub when_m : Tree → Label → Tree
+when_m e label = tree.when e (record { variable = codes "m"; pattern = patterns.Label label })
+
+-- merge m (Up -> x when Up(m)) (Down -> (0 - x) when Down(m)) (Hold -> 9)
+abbrev pub turned : Tree
+turned = tree.merge (codes "m") (patterns.Label up ∷ patterns.Label down ∷ patterns.Label hold ∷ [])
+    (tree.more (when_m x up) (tree.more (when_m (tree.binary (Data2 Subtract) (tree.number 0) x) down) (tree.more (tree.number 9) tree.none)))
+
+pub record EnumerationsAre : Type 0 where
+  pub constants : mode_gives (tree.label down) (where_c true) ≡ sampled (known_name 1) (known_name 1) (known_name 1)
+  pub compared : mode_gives (tree.binary (Data2 Equal) m (tree.label up)) None ≡ map known_truth (true ∷ false ∷ false ∷ true ∷ [])
+  pub previous : mode_gives (tree.binary FollowedBy (tree.label hold) m) None ≡ map known_name (2 ∷ 0 ∷ 2 ∷ 1 ∷ [])
+  pub sample : mode_gives (when_m x hold) (condition (codes "m") (patterns.Label hold)) ≡ Known Absent ∷ known 2 ∷ Known Absent ∷ Known Absent ∷ []
+  pub merged : mode_gives turned None ≡ known 1 ∷ known 9 ∷ Known (Present (Int (negsuc 2))) ∷ known 4 ∷ []
 
 abbrev pub call_of : List ℕ → Tree → Tree
 call_of f e = tree.call f (tree.more e tree.none)
@@ -215,6 +263,7 @@ pub record GivenAre : Type 0 where
 pub record VectorsLaw : Type 0 where
   pub counters : CountersAre
   pub expressions : ExpressionsAre
+  pub enumerations : EnumerationsAre
   pub calls : CallsAre
   pub paths : PathsAre
   pub given : GivenAre

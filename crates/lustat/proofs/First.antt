@@ -1,12 +1,13 @@
 -- What each stage tells is told first.
-use Rattle.std.proofs.Common.{◌≡◌, ◌∙◌, ◌≤◌, ◌/◌, inl, inr, ℕ, List, Option, Some, None, refl, ap, arith}
+use Rattle.std.proofs.Common.{◌≡◌, ◌∙◌, ◌/◌, inl, inr, ℕ, List, Option, Some, None, refl, ap, arith}
 use Rattle.lutree.specs.declared.program.Program.{Program}
 use Rattle.lutree.specs.Tree.{program_view}
-use Rattle.lustat_rules.specs.Accepted.{Rule, duplicate_name, unknown_name, unknown_node, type_mismatch, wrong_arity, undefined, defined_twice, recursive_node, no_main, clock_mismatch, not_a_clock, clocked_parameter, hidden_clock, maybe_nil, current_may_be_nil, stage}
+use Rattle.lustat_rules.specs.Accepted.{Rule, stage}
 use Rattle.lustat_rules.specs.declared.error.StatError.{StatError}
-use Rattle.lustat_rules.specs.declared.error.StatError.TheVariants.{DuplicateName, UnknownName, UnknownNode, TypeMismatch, WrongArity, Undefined, DefinedTwice, RecursiveNode, ClockMismatch, NotAClock, ClockedParameter, HiddenClock, MaybeNil, CurrentMayBeNil, NoMain, OutOfMemory}
+use Rattle.lustat_rules.specs.declared.error.StatError.TheVariants.{DuplicateName, UnknownName, UnknownNode, TypeMismatch, WrongArity, Undefined, DefinedTwice, RecursiveNode, ClockMismatch, NotAClock, ClockedParameter, HiddenClock, MaybeNil, CurrentMayBeNil, NoMain, BadMerge, OutOfMemory}
 use Rattle.lustat_rules.specs.Told.{rule_of, number_told, RuleTold, Tells}
 use Rattle.lustat_rules.specs.Faults.{IsJudged, IsFault, AreKept}
+use Rattle.lustat_rules.proofs.Stages.{stage_least}
 use Rattle.lustat_scope.proofs.Keeping.{broken_somewhere}
 use Rattle.lutype.specs.First.{IsToldFirst as IsFirstOfNames}
 use Rattle.lustat_clocks.specs.Asked.{is_asked}
@@ -25,6 +26,7 @@ no_rule (Undefined byte) h = absurd (cc)
 no_rule (DefinedTwice byte) h = absurd (cc)
 no_rule (RecursiveNode byte) h = absurd (cc)
 no_rule NoMain h = absurd (cc)
+no_rule (BadMerge byte) h = absurd (cc)
 no_rule (ClockMismatch byte) h = absurd (cc)
 no_rule (NotAClock byte) h = absurd (cc)
 no_rule (ClockedParameter byte) h = absurd (cc)
@@ -32,24 +34,6 @@ no_rule (HiddenClock byte) h = absurd (cc)
 no_rule (MaybeNil byte) h = absurd (cc)
 no_rule (CurrentMayBeNil byte) h = absurd (cc)
 no_rule OutOfMemory h = refl
-
--- no stage is before the first
-stage_least : (rule : Rule) → 1 ≤ stage rule
-stage_least duplicate_name = omega arith
-stage_least unknown_name = omega arith
-stage_least unknown_node = omega arith
-stage_least type_mismatch = omega arith
-stage_least wrong_arity = omega arith
-stage_least undefined = omega arith
-stage_least defined_twice = omega arith
-stage_least recursive_node = omega arith
-stage_least no_main = omega arith
-stage_least clock_mismatch = omega arith
-stage_least not_a_clock = omega arith
-stage_least clocked_parameter = omega arith
-stage_least hidden_clock = omega arith
-stage_least maybe_nil = omega arith
-stage_least current_may_be_nil = omega arith
 
 -- the stage of the rule that a refusal tells
 stage_of_told : (e : StatError) (rule : Rule) → rule_of e ≡ Some rule → stage_told e ≡ stage rule

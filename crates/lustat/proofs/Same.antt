@@ -3,19 +3,21 @@ use Rattle.std.proofs.Common.{◌≡◌, ◌∙◌, ◌<◌, ◌≤◌, ◌⊎�
 use Rattle.std.specs.Prelude.{slice_get}
 use Rattle.std.proofs.lemmas.List.{map-append}
 use Rattle.std.proofs.lemmas.Option.{same_Some}
+use Rattle.lutree.specs.declared.program.DeclaredName.{DeclaredName}
+use Rattle.lutree.specs.declared.program.TypeDeclaration.{TypeDeclaration}
 use Rattle.lutree.specs.declared.program.Declaration.{Declaration}
 use Rattle.lutree.specs.declared.program.Equation.{Equation}
 use Rattle.lutree.specs.declared.program.Node.{Node}
 use Rattle.lutree.specs.declared.program.Program.{Program}
-use Rattle.lutree.specs.Tree.{DeclarationTree, EquationTree, NodeTree, ProgramTree, declaration_view, equation_view, node_view, program_view}
-use Rattle.lutree.specs.Places.{NodePlaces, declaration_places, node_places, places_view}
-use Rattle.lustat_rules.specs.Accepted.{Rule, ProgramKeeps, NodeKeeps, DeclarationKeeps, EquationKeeps, Keeps, Breaks, stage, IsRefused, duplicate_name, unknown_name, unknown_node, type_mismatch, wrong_arity, undefined, defined_twice, recursive_node, no_main, clock_mismatch, not_a_clock, clocked_parameter, hidden_clock, maybe_nil, current_may_be_nil}
+use Rattle.lutree.specs.Tree.{TypeTree, DeclarationTree, EquationTree, NodeTree, ProgramTree, type_view, declaration_view, equation_view, node_view, program_view}
+use Rattle.lutree.specs.Places.{TypePlaces, NodePlaces, ProgramPlaces, declaration_places, type_places, node_places, places_view}
+use Rattle.lustat_rules.specs.Accepted.{Rule, ProgramKeeps, TypeKeeps, NameKeeps, NodeKeeps, DeclarationKeeps, EquationKeeps, Keeps, Breaks, stage, IsRefused, duplicate_name, unknown_name, unknown_node, type_mismatch, wrong_arity, undefined, defined_twice, recursive_node, no_main, bad_merge, clock_mismatch, not_a_clock, clocked_parameter, hidden_clock, maybe_nil, current_may_be_nil}
 use Rattle.lustat_rules.specs.Accepted as breaks
 use Rattle.lustat_rules.specs.Naming.{Reaches}
 use Rattle.lustat_rules.specs.declared.error.StatError.{StatError}
-use Rattle.lustat_rules.specs.declared.error.StatError.TheVariants.{DuplicateName, UnknownName, UnknownNode, TypeMismatch, WrongArity, Undefined, DefinedTwice, RecursiveNode, ClockMismatch, NotAClock, ClockedParameter, HiddenClock, MaybeNil, CurrentMayBeNil, NoMain, OutOfMemory}
+use Rattle.lustat_rules.specs.declared.error.StatError.TheVariants.{DuplicateName, UnknownName, UnknownNode, TypeMismatch, WrongArity, Undefined, DefinedTwice, RecursiveNode, ClockMismatch, NotAClock, ClockedParameter, HiddenClock, MaybeNil, CurrentMayBeNil, NoMain, BadMerge, OutOfMemory}
 use Rattle.lustat_rules.specs.Told.{rule_of, byte_of, number_of, number_told, RuleTold, Tells}
-use Rattle.lustat_rules.specs.Faults.{declared_in, FaultAt, FaultAmong, NodeFault, DeclarationFault, EquationFault, InNodeFault, IsFault}
+use Rattle.lustat_rules.specs.Faults.{declared_in, FaultAt, FaultAmong, TypeFault, NameFault, InTypeFault, NodeFault, DeclarationFault, EquationFault, InNodeFault, IsFault}
 use Rattle.lustat_rules.specs.Least.{IsLeastFault}
 use Rattle.lustat_scope.proofs.Keeping.{view_item, item_view}
 use Rattle.lutype.specs.CallGraph.{NoneRecursiveBefore}
@@ -53,6 +55,11 @@ among_along : {A : Type 0} (xs ys : List A) (F G : ℕ → A → StatError → T
     → FaultAmong ys G e
 among_along xs ys F G e step (j, x, at, fault) = let (y, there, found) = step j x at fault in (j, y, there, found)
 
+-- two types with one tree and one list of places
+pub record AlikeTypes (t u : TypeDeclaration) : Type 0 where
+  pub tree : type_view t ≡ type_view u
+  pub places : type_places t ≡ type_places u
+
 -- two nodes with one tree and one list of places
 pub record Alike (n m : Node) : Type 0 where
   pub tree : node_view n ≡ node_view m
@@ -72,9 +79,36 @@ declarations_alike n m h =
 
 module _ (p q : Program) (main : List ℕ) (trees : program_view p ≡ program_view q) (places : places_view p ≡ places_view q) where
   node_at : (j : ℕ) (n : Node) → slice_get p.nodes j ≡ Some n → (m : Node) × (slice_get q.nodes j ≡ Some m) × Alike n m
-  node_at j n at = let h = partner node_view node_places p.nodes q.nodes (ap (λ (t : ProgramTree). t.nodes) trees) places j n at in (h.item, h.there, record { tree = h.one; places = h.other })
+  node_at j n at =
+      let h = partner node_view node_places p.nodes q.nodes (ap (λ (t : ProgramTree). t.nodes) trees) (ap (λ (t : ProgramPlaces). t.nodes) places) j n at in
+      (h.item, h.there, record { tree = h.one; places = h.other })
+
+  type_at : (j : ℕ) (t : TypeDeclaration) → slice_get p.types j ≡ Some t → (u : TypeDeclaration) × (slice_get q.types j ≡ Some u) × AlikeTypes t u
+  type_at j t at =
+      let h = partner type_view type_places p.types q.types (ap (λ (t : ProgramTree). t.types) trees) (ap (λ (t : ProgramPlaces). t.types) places) j t at in
+      (h.item, h.there, record { tree = h.one; places = h.other })
 
   module _ (asked : Rule → Bool) (e : StatError) where
+    type_fault : (j : ℕ) (t u : TypeDeclaration) → AlikeTypes t u → TypeFault asked p main j t e → TypeFault asked q main j u e
+    type_fault j t u h = fault_along asked t.byte u.byte _ _ e (ap (λ (a : TypePlaces). a.name) h.places)
+        (λ r kept. subst (λ (a : ProgramTree). TypeKeeps a main r j (type_view t)) (sym trees) (subst (λ (a : TypeTree). TypeKeeps (program_view q) main r j a) (sym h.tree) kept))
+
+    name_fault : (i : ℕ) (t u : TypeDeclaration) → AlikeTypes t u → FaultAmong t.names (NameFault asked p main i t) e → FaultAmong u.names (NameFault asked q main i u) e
+    name_fault i t u h = among_along t.names u.names (NameFault asked p main i t) (NameFault asked q main i u) e
+        (λ j x at fault.
+        let s = partner (λ (y : DeclaredName). y.name) (λ (y : DeclaredName). y.byte) t.names u.names (ap (λ (a : TypeTree). a.names) h.tree) (ap (λ (a : TypePlaces). a.names) h.places) j x at in (
+          s.item,
+          s.there,
+          fault_along asked x.byte s.item.byte _ _ e s.other
+              (λ r kept. subst (λ (a : ProgramTree). NameKeeps a main r i (type_view t) j x.name) (sym trees)
+              (subst (λ (a : TypeTree). NameKeeps (program_view q) main r i a j x.name) (sym h.tree)
+              (subst (λ (y : List ℕ). NameKeeps (program_view q) main r i (type_view u) j y) (sym s.one) kept))) fault,
+        ))
+
+    in_type_fault : (j : ℕ) (t u : TypeDeclaration) → AlikeTypes t u → InTypeFault asked p main j t e → InTypeFault asked q main j u e
+    in_type_fault j t u h (inl own) = inl (type_fault j t u h own)
+    in_type_fault j t u h (inr found) = inr (name_fault j t u h found)
+
     node_fault : (j : ℕ) (n m : Node) → Alike n m → NodeFault asked p main j n e → NodeFault asked q main j m e
     node_fault j n m h = fault_along asked n.byte m.byte _ _ e (ap (λ (t : NodePlaces). t.name) h.places)
         (λ r kept. subst (λ (t : ProgramTree). NodeKeeps t main r j (node_view n)) (sym trees) (subst (λ (t : NodeTree). NodeKeeps (program_view q) main r j t) (sym h.tree) kept))
@@ -111,8 +145,10 @@ module _ (p q : Program) (main : List ℕ) (trees : program_view p ≡ program_v
 
     fault_of : IsFault asked p main e → IsFault asked q main e
     fault_of (inl own) = inl (fault_along asked 0 0 _ _ e refl (λ r kept. subst (λ (t : ProgramTree). ProgramKeeps t main r) (sym trees) kept) own)
-    fault_of (inr found) = inr (among_along p.nodes q.nodes (InNodeFault asked p main) (InNodeFault asked q main) e
-        (λ j n at fault. let (m, there, h) = node_at j n at in (m, there, in_node_fault j n m h fault)) found)
+    fault_of (inr (inl found)) = inr (inl (among_along p.types q.types (InTypeFault asked p main) (InTypeFault asked q main) e
+        (λ j t at fault. let (u, there, h) = type_at j t at in (u, there, in_type_fault j t u h fault)) found))
+    fault_of (inr (inr found)) = inr (inr (among_along p.nodes q.nodes (InNodeFault asked p main) (InNodeFault asked q main) e
+        (λ j n at fault. let (m, there, h) = node_at j n at in (m, there, in_node_fault j n m h fault)) found))
 
   recursion_of : (e : StatError) → IsRecursionFault p e → IsRecursionFault q e
   recursion_of e a =
@@ -169,7 +205,7 @@ made : ℕ → ℕ → StatError
 made n b =
     if nat_eq n 10 then DuplicateName b else if nat_eq n 11 then UnknownName b else if nat_eq n 12 then UnknownNode b else if nat_eq n 13 then TypeMismatch b
     else if nat_eq n 14 then WrongArity b else if nat_eq n 15 then Undefined b else if nat_eq n 16 then DefinedTwice b else if nat_eq n 17 then RecursiveNode b
-    else if nat_eq n 18 then NoMain else if nat_eq n 20 then ClockMismatch b else if nat_eq n 21 then NotAClock b else if nat_eq n 22 then ClockedParameter b
+    else if nat_eq n 18 then NoMain else if nat_eq n 19 then BadMerge b else if nat_eq n 20 then ClockMismatch b else if nat_eq n 21 then NotAClock b else if nat_eq n 22 then ClockedParameter b
     else if nat_eq n 23 then HiddenClock b else if nat_eq n 30 then MaybeNil b else if nat_eq n 31 then CurrentMayBeNil b else OutOfMemory
 
 made_again : (e : StatError) → made (number_of e) (byte_of e) ≡ e
@@ -183,6 +219,7 @@ made_again (Undefined byte) = refl
 made_again (DefinedTwice byte) = refl
 made_again (RecursiveNode byte) = refl
 made_again NoMain = refl
+made_again (BadMerge byte) = refl
 made_again (ClockMismatch byte) = refl
 made_again (NotAClock byte) = refl
 made_again (ClockedParameter byte) = refl
@@ -206,6 +243,8 @@ one_least F e f h k = same_error e f (at_most_both (byte_of e) (byte_of f) (numb
 
 broken_kept : (tree : ProgramTree) (main : List ℕ) (r : Rule) → Breaks tree main r → Keeps tree main r → ⊥
 broken_kept tree main r (breaks.program never) keeps = never keeps.program
+broken_kept tree main r (breaks.enumeration i t at never) keeps = never (keeps.types i t at)
+broken_kept tree main r (breaks.name i j t x at there never) keeps = never (keeps.names i j t x at there)
 broken_kept tree main r (breaks.node i n at never) keeps = never (keeps.nodes i n at)
 broken_kept tree main r (breaks.declaration i j n d at there never) keeps = never (keeps.declarations i j n d at there)
 broken_kept tree main r (breaks.equation i j n q at there never) keeps = never (keeps.equations i j n q at there)

@@ -2,7 +2,7 @@
 use Rattle.std.proofs.Common.{◌≡◌, ◌<◌, ℕ, List, Option, Some, None, IsTrue, refl, sym, subst, arith, true≢false}
 use Rattle.lutree.specs.declared.program.Program.{Program}
 use Rattle.lutree.specs.Tree.{ProgramTree, program_view}
-use Rattle.lustat_rules.specs.Accepted.{Rule, duplicate_name, unknown_name, unknown_node, type_mismatch, wrong_arity, undefined, defined_twice, recursive_node, no_main, clock_mismatch, not_a_clock, clocked_parameter, hidden_clock, maybe_nil, current_may_be_nil, stage, Keeps, Passes, IsNamed, IsAccepted}
+use Rattle.lustat_rules.specs.Accepted.{Rule, duplicate_name, unknown_name, unknown_node, type_mismatch, wrong_arity, undefined, defined_twice, recursive_node, no_main, bad_merge, clock_mismatch, not_a_clock, clocked_parameter, hidden_clock, maybe_nil, current_may_be_nil, stage, Keeps, Passes, IsNamed, IsAccepted}
 use Rattle.lustat_rules.specs.declared.error.StatError.{StatError}
 use Rattle.lustat_rules.specs.Told.{rule_of, RuleTold, Tells}
 use Rattle.lustat_rules.specs.Faults.{IsFault, AreKept}
@@ -22,6 +22,7 @@ accepted_from p main named clocked begun undefined = named undefined refl
 accepted_from p main named clocked begun defined_twice = named defined_twice refl
 accepted_from p main named clocked begun recursive_node = named recursive_node refl
 accepted_from p main named clocked begun no_main = named no_main refl
+accepted_from p main named clocked begun bad_merge = named bad_merge refl
 accepted_from p main named clocked begun clock_mismatch = clocked clock_mismatch refl
 accepted_from p main named clocked begun not_a_clock = clocked not_a_clock refl
 accepted_from p main named clocked begun clocked_parameter = clocked clocked_parameter refl
@@ -50,6 +51,7 @@ before_clocks p main named undefined lt = named undefined refl
 before_clocks p main named defined_twice lt = named defined_twice refl
 before_clocks p main named recursive_node lt = named recursive_node refl
 before_clocks p main named no_main lt = named no_main refl
+before_clocks p main named bad_merge lt = named bad_merge refl
 before_clocks p main named clock_mismatch lt = absurd (omega (arith, lt))
 before_clocks p main named not_a_clock lt = absurd (omega (arith, lt))
 before_clocks p main named clocked_parameter lt = absurd (omega (arith, lt))
@@ -68,6 +70,7 @@ before_classes p main named clocked undefined lt = named undefined refl
 before_classes p main named clocked defined_twice lt = named defined_twice refl
 before_classes p main named clocked recursive_node lt = named recursive_node refl
 before_classes p main named clocked no_main lt = named no_main refl
+before_classes p main named clocked bad_merge lt = named bad_merge refl
 before_classes p main named clocked clock_mismatch lt = clocked clock_mismatch refl
 before_classes p main named clocked not_a_clock lt = clocked not_a_clock refl
 before_classes p main named clocked clocked_parameter lt = clocked clocked_parameter refl
@@ -86,6 +89,7 @@ second undefined one = absurd (true≢false (sym one))
 second defined_twice one = absurd (true≢false (sym one))
 second recursive_node one = absurd (true≢false (sym one))
 second no_main one = absurd (true≢false (sym one))
+second bad_merge one = absurd (true≢false (sym one))
 second clock_mismatch one = refl
 second not_a_clock one = refl
 second clocked_parameter one = refl

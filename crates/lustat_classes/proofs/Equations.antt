@@ -1,7 +1,7 @@
 -- From the tests of single rules to a judgement of an equation.
 use Rattle.std.proofs.Common.{◌↔◌, ◌⊎◌, inl, inr, ℕ, List, Option, IsTrue, refl, sym, true≢false}
 use Rattle.lutree.specs.Tree.{EquationTree, NodeTree}
-use Rattle.lustat_rules.specs.Accepted.{Rule, duplicate_name, unknown_name, unknown_node, type_mismatch, wrong_arity, undefined, defined_twice, recursive_node, no_main, clock_mismatch, not_a_clock, clocked_parameter, hidden_clock, maybe_nil, current_may_be_nil}
+use Rattle.lustat_rules.specs.Accepted.{Rule, duplicate_name, unknown_name, unknown_node, type_mismatch, wrong_arity, undefined, defined_twice, recursive_node, no_main, bad_merge, clock_mismatch, not_a_clock, clocked_parameter, hidden_clock, maybe_nil, current_may_be_nil}
 use Rattle.lustat_rules.specs.Classes.{Classes, IsLeast}
 use Rattle.lustat_rules.specs.declared.error.StatError.{StatError}
 use Rattle.lustat_rules.specs.Faults.{lesser_of, IsJudged, FaultAt, AllKept}
@@ -53,6 +53,7 @@ module _ (byte : ℕ) (K : Rule → Type 0) where
   from_rule defined_twice one e h = absurd (true≢false (sym one))
   from_rule recursive_node one e h = absurd (true≢false (sym one))
   from_rule no_main one e h = absurd (true≢false (sym one))
+  from_rule bad_merge one e h = absurd (true≢false (sym one))
   from_rule clock_mismatch one e h = absurd (true≢false (sym one))
   from_rule not_a_clock one e h = absurd (true≢false (sym one))
   from_rule clocked_parameter one e h = absurd (true≢false (sym one))
@@ -70,6 +71,7 @@ module _ (byte : ℕ) (K : Rule → Type 0) where
   kept h defined_twice one = absurd (true≢false (sym one))
   kept h recursive_node one = absurd (true≢false (sym one))
   kept h no_main one = absurd (true≢false (sym one))
+  kept h bad_merge one = absurd (true≢false (sym one))
   kept h clock_mismatch one = absurd (true≢false (sym one))
   kept h not_a_clock one = absurd (true≢false (sym one))
   kept h clocked_parameter one = absurd (true≢false (sym one))

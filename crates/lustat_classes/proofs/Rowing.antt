@@ -12,7 +12,7 @@ use Rattle.lutree.specs.declared.program.Program.{Program}
 use Rattle.lutree.specs.Tree.{EquationTree, NodeTree, equation_view, node_view, program_view}
 use Rattle.lustat_rules.specs.Scope.{IsVariable}
 use Rattle.lustat_rules.specs.Classes.{Classes, Meets, HasClasses, CurrentsStart}
-use Rattle.lustat_rules.specs.Accepted.{Rule, duplicate_name, unknown_name, unknown_node, type_mismatch, wrong_arity, undefined, defined_twice, recursive_node, no_main, clock_mismatch, not_a_clock, clocked_parameter, hidden_clock, maybe_nil, current_may_be_nil, Keeps, Breaks, Passes}
+use Rattle.lustat_rules.specs.Accepted.{Rule, duplicate_name, unknown_name, unknown_node, type_mismatch, wrong_arity, undefined, defined_twice, recursive_node, no_main, bad_merge, clock_mismatch, not_a_clock, clocked_parameter, hidden_clock, maybe_nil, current_may_be_nil, Keeps, Breaks, Passes}
 use Rattle.lustat_rules.specs.declared.error.StatError.{StatError}
 use Rattle.lustat_rules.specs.Told.{rule_of}
 use Rattle.lustat_scope.proofs.Keeping.{view_item, item_view}
@@ -122,6 +122,8 @@ module _ (p : Program) (rows : Rows) (least : GiveLeastBelow (length p.nodes) p.
   nodes_have main =
       record {
         program = tt;
+        types = λ i t at. tt;
+        names = λ i j t x at there. tt;
         nodes = λ i n at. (assigned n (row_at rows i), classes_kept.meets i n at);
         declarations = λ i j n d at there. tt;
         equations = λ i j n q at there. tt;
@@ -131,6 +133,8 @@ module _ (p : Program) (rows : Rows) (least : GiveLeastBelow (length p.nodes) p.
   currents_start main =
       record {
         program = tt;
+        types = λ i t at. tt;
+        names = λ i j t x at there. tt;
         nodes = λ i n at. tt;
         declarations = λ i j n d at there. tt;
         equations = λ i j n q at there. starts i j n q (view_item node_view nodes i n at) there;
@@ -153,6 +157,7 @@ module _ (p : Program) (rows : Rows) (least : GiveLeastBelow (length p.nodes) p.
   all_pass main defined_twice third = absurd (omega (arith, third))
   all_pass main recursive_node third = absurd (omega (arith, third))
   all_pass main no_main third = absurd (omega (arith, third))
+  all_pass main bad_merge third = absurd (omega (arith, third))
   all_pass main clock_mismatch third = absurd (omega (arith, third))
   all_pass main not_a_clock third = absurd (omega (arith, third))
   all_pass main clocked_parameter third = absurd (omega (arith, third))
@@ -191,6 +196,7 @@ broken_rule p main e i m j q at there undefined one told = absurd (true≢false 
 broken_rule p main e i m j q at there defined_twice one told = absurd (true≢false (sym one))
 broken_rule p main e i m j q at there recursive_node one told = absurd (true≢false (sym one))
 broken_rule p main e i m j q at there no_main one told = absurd (true≢false (sym one))
+broken_rule p main e i m j q at there bad_merge one told = absurd (true≢false (sym one))
 broken_rule p main e i m j q at there clock_mismatch one told = absurd (true≢false (sym one))
 broken_rule p main e i m j q at there not_a_clock one told = absurd (true≢false (sym one))
 broken_rule p main e i m j q at there clocked_parameter one told = absurd (true≢false (sym one))

@@ -42,6 +42,7 @@ module _ (a : Classes) where
   pub there : (e : Tree) → IsTrue (is_one a e) → By (own e) (class_sources e)
   there (tree.number n) h = inl h
   there (tree.truth b) h = inl h
+  there (tree.label l) h = inl h
   there (tree.variable x) h = inr (x, Contains-push [] x, h)
   there (tree.unary (Data1 op) e) h = there e h
   there (tree.unary Pre e) h = inl h
@@ -53,12 +54,13 @@ module _ (a : Classes) where
       (both_there (is_one a d) (is_one a e) (own d) (own e) (class_sources d) (class_sources e) (there d) (there e)) h
   there (tree.when e c) h = there e h
   there (tree.current x) h = inl h
-  there (tree.merge c d e) h = inl h
+  there (tree.merge c ps all) h = inl h
   there (tree.call f all) h = inl h
 
   pub back : (e : Tree) → By (own e) (class_sources e) → IsTrue (is_one a e)
   back (tree.number n) h = absurd (no_source h)
   back (tree.truth b) h = absurd (no_source h)
+  back (tree.label l) h = absurd (no_source h)
   back (tree.variable x) (inl h) = absurd (true≢false (sym h))
   back (tree.variable x) (inr h) = elim (Contains-push_cases [] x h.0 h.1) [ inl none ↦ absurd (omega (arith, none.1)) | inr e ↦ subst (λ y. IsTrue (a y)) (sym e) h.2 ]
   back (tree.unary (Data1 op) e) h = back e h
@@ -71,5 +73,5 @@ module _ (a : Classes) where
       (both_back (is_one a d) (is_one a e) (own d) (own e) (class_sources d) (class_sources e) (back d) (back e)) h
   back (tree.when e c) h = back e h
   back (tree.current x) h = absurd (no_source h)
-  back (tree.merge c d e) h = absurd (no_source h)
+  back (tree.merge c ps all) h = absurd (no_source h)
   back (tree.call f all) h = absurd (no_source h)

@@ -39,6 +39,7 @@ module _ (n : NodeTree) (w : ℕ) where
   pub reads_there : (e : Tree) (u v : ℕ) → Contains (reads_in n w e) (link u v) → IsRead e u v
   reads_there (tree.number a) u v h = absurd (nothing (link u v) h)
   reads_there (tree.truth b) u v h = absurd (nothing (link u v) h)
+  reads_there (tree.label l) u v h = absurd (nothing (link u v) h)
   reads_there (tree.variable x) u v h = one_read x (place_of n x) u v refl h
   reads_there (tree.unary (Data1 op) e) u v h = reads_there e u v h
   reads_there (tree.unary Pre e) u v h = absurd (nothing (link u v) h)
@@ -61,12 +62,13 @@ module _ (n : NodeTree) (w : ℕ) where
       ]
   reads_there (tree.when e c) u v h = reads_there e u v h
   reads_there (tree.current x) u v h = absurd (nothing (link u v) h)
-  reads_there (tree.merge c d e) u v h = absurd (nothing (link u v) h)
+  reads_there (tree.merge c ps all) u v h = absurd (nothing (link u v) h)
   reads_there (tree.call f all) u v h = absurd (nothing (link u v) h)
 
   pub reads_back : (e : Tree) (x : List ℕ) (u : ℕ) → Contains (class_sources e) x → place_of n x ≡ Some u → Contains (reads_in n w e) (link u w)
   reads_back (tree.number a) x u h at = absurd (nothing x h)
   reads_back (tree.truth b) x u h at = absurd (nothing x h)
+  reads_back (tree.label l) x u h at = absurd (nothing x h)
   reads_back (tree.variable y) x u h at =
       subst (λ o. Contains (read_link o w) (link u w)) (sym (ap (place_of n) (only y x h) ∙ at)) (Contains-push [] (link u w))
   reads_back (tree.unary (Data1 op) e) x u h at = reads_back e x u h at
@@ -90,7 +92,7 @@ module _ (n : NodeTree) (w : ℕ) where
       ]
   reads_back (tree.when e c) x u h at = reads_back e x u h at
   reads_back (tree.current y) x u h at = absurd (nothing x h)
-  reads_back (tree.merge c d e) x u h at = absurd (nothing x h)
+  reads_back (tree.merge c ps all) x u h at = absurd (nothing x h)
   reads_back (tree.call f all) x u h at = absurd (nothing x h)
 
   -- WRITES

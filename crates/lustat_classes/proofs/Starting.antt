@@ -20,6 +20,7 @@ module _ (a b : Classes) (same : (x : List ℕ) → a x ≡ b x) where
   pub same_one : (e : Tree) → is_one a e ≡ is_one b e
   same_one (tree.number n) = refl
   same_one (tree.truth t) = refl
+  same_one (tree.label l) = refl
   same_one (tree.variable x) = same x
   same_one (tree.unary (Data1 op) e) = same_one e
   same_one (tree.unary Pre e) = refl
@@ -31,7 +32,7 @@ module _ (a b : Classes) (same : (x : List ℕ) → a x ≡ b x) where
       (same_or (is_one a d) (is_one b d) (is_one a e) (is_one b e) (same_one d) (same_one e))
   same_one (tree.when e c) = same_one e
   same_one (tree.current x) = refl
-  same_one (tree.merge c d e) = refl
+  same_one (tree.merge c ps all) = refl
   same_one (tree.call f all) = refl
 
 no_mark : (o : Option ℕ) → class_at [] o ≡ false

@@ -23,6 +23,7 @@ write_link w (Some v) = link w v ∷ []
 abbrev pub reads_in : NodeTree → ℕ → Tree → List Link
 reads_in n w (tree.number a) = []
 reads_in n w (tree.truth b) = []
+reads_in n w (tree.label l) = []
 reads_in n w (tree.variable x) = read_link (place_of n x) w
 reads_in n w (tree.unary (Data1 op) e) = reads_in n w e
 reads_in n w (tree.unary Pre e) = []
@@ -32,7 +33,7 @@ reads_in n w (tree.binary FollowedBy d e) = reads_in n w d
 reads_in n w (tree.choice c d e) = reads_in n w c ++ (reads_in n w d ++ reads_in n w e)
 reads_in n w (tree.when e c) = reads_in n w e
 reads_in n w (tree.current x) = []
-reads_in n w (tree.merge c d e) = []
+reads_in n w (tree.merge c ps all) = []
 reads_in n w (tree.call f all) = []
 
 -- links from an equation to what it defines

@@ -10,6 +10,7 @@ use Rattle.lustat_rules.specs.Classes.{Classes, is_one}
 abbrev pub class_sources : Tree → List (List ℕ)
 class_sources (tree.number n) = []
 class_sources (tree.truth b) = []
+class_sources (tree.label l) = []
 class_sources (tree.variable x) = x ∷ []
 class_sources (tree.unary (Data1 op) e) = class_sources e
 class_sources (tree.unary Pre e) = []
@@ -19,7 +20,7 @@ class_sources (tree.binary FollowedBy d e) = class_sources d
 class_sources (tree.choice c d e) = class_sources c ++ (class_sources d ++ class_sources e)
 class_sources (tree.when e c) = class_sources e
 class_sources (tree.current x) = []
-class_sources (tree.merge c d e) = []
+class_sources (tree.merge c ps all) = []
 class_sources (tree.call f all) = []
 
 -- all variables are of class 0

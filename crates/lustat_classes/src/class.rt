@@ -46,7 +46,7 @@ pub fn needs_met(scope: &Scope, marks: &[bool], e: &Expr) -> bool
     ensures { IsTrue result ↔ NeedsMet (assigned (node_view scope.now) marks.now) (view e.now) }
 {
     match e {
-        Expr::Number(_) | Expr::Truth(_) | Expr::Variable(_) => true,
+        Expr::Number(_) | Expr::Truth(_) | Expr::Label(_) | Expr::Variable(_) => true,
         Expr::Unary(Prefix::Data(_), a) => needs_met(scope, marks, a),
         Expr::Unary(Prefix::Pre, a) => !is_one(scope, marks, a) && needs_met(scope, marks, a),
         Expr::Binary(Infix::FollowedBy, a, b) => {
@@ -58,17 +58,12 @@ pub fn needs_met(scope: &Scope, marks: &[bool], e: &Expr) -> bool
         }
         Expr::When(a, _) => needs_met(scope, marks, a),
         Expr::Current(x) => !class_of(scope, marks, x.as_str()),
-        Expr::Merge(_, a, b) => {
-            !is_one(scope, marks, a)
-                && needs_met(scope, marks, a)
-                && !is_one(scope, marks, b)
-                && needs_met(scope, marks, b)
-        }
+        Expr::Merge(_, _, branches) => all_ready(scope, marks, branches),
         Expr::Call(_, arguments) => all_ready(scope, marks, arguments),
     }
 }
 
-// Whether all arguments of a call are of class 0 and have what they need.
+// Whether all arguments of a call or branches of a merge are of class 0 and have what they need.
 #[cycle(needs)]
 fn all_ready(scope: &Scope, marks: &[bool], arguments: &[Expr]) -> bool
     ensures { IsTrue result

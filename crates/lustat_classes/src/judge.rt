@@ -46,7 +46,8 @@ fn push_samplers<'a>(names: &mut Vec<&'a str>, e: &'a Expr) -> Result<(), AllocE
         (spelled names.new.items ≡ spelled names.old.items ++ clocks_in (view e.now)) }
 {
     match e {
-        Expr::Number(_) | Expr::Truth(_) | Expr::Variable(_) | Expr::Current(_) => Ok(()),
+        Expr::Number(_) | Expr::Truth(_) | Expr::Label(_) | Expr::Variable(_) | Expr::Current(_) =>
+            Ok(()),
         Expr::Unary(_, a) => push_samplers(names, a),
         Expr::Binary(_, a, b) => {
             push_samplers(names, a)?;
@@ -62,16 +63,15 @@ fn push_samplers<'a>(names: &mut Vec<&'a str>, e: &'a Expr) -> Result<(), AllocE
             names.push(c.variable.as_str())?;
             Ok(())
         }
-        Expr::Merge(c, a, b) => {
+        Expr::Merge(c, _, branches) => {
             names.push(c.as_str())?;
-            push_samplers(names, a)?;
-            push_samplers(names, b)
+            push_samplers_of_all(names, branches)
         }
         Expr::Call(_, arguments) => push_samplers_of_all(names, arguments),
     }
 }
 
-// Likewise in the arguments of a call.
+// Likewise in the arguments of a call or the branches of a merge.
 #[cycle(samplers)]
 fn push_samplers_of_all<'a>(
     names: &mut Vec<&'a str>,

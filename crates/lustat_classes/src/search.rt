@@ -15,7 +15,7 @@ use crate::least::least_classes;
 use lustat_currents::Firsts;
 use lustat_rules::{StatError, lesser, told};
 use lustat_scope::{Catalog, Places, Scope, Stage, least_fault};
-use lutree::{Declaration, Equation};
+use lutree::{Declaration, DeclaredName, Equation, TypeDeclaration};
 use std::alloc::{AllocError, Global};
 
 /// What [`initialise`] finds.
@@ -40,19 +40,27 @@ struct Prepared<'r, 'a> {
 // The rules of initialisation at the equations of nodes, with marks of the least classes for each node.
 #[derive(Drop)]
 struct ClassStage<'r, 'a> {
-    scopes: &'r [Scope<'a>],
+    catalog: &'r Catalog<'a>,
     rows: &'r [Vec<bool>],
-    ghost least: { AreLeast scopes.now (plain rows.now) },
+    ghost least: { AreLeast catalog.now.nodes (plain rows.now) },
 }
 
 impl<'r, 'a> Stage<'a> for ClassStage<'r, 'a> {
     type Prepared = Prepared<'r, 'a>;
 
-    ghost nodes = { λ s. s.scopes.now };
+    ghost program = { λ s. s.catalog.now };
 
     ghost serves = { λ s n prepared. Serves n prepared.named prepared.firsts prepared.marks.now };
 
-    // No rule of initialisation is told at a node or at a declaration.
+    // No rule of initialisation is told at a type, at a node or at a declaration.
+    ghost breaks_type = { λ _ _ _ _. ⊥ };
+
+    ghost keeps_type = { λ _ _ _. Unit {0} };
+
+    ghost breaks_name = { λ _ _ _ _ _ _. ⊥ };
+
+    ghost keeps_name = { λ _ _ _ _ _. Unit {0} };
+
     ghost breaks_node = { λ _ _ _ _. ⊥ };
 
     ghost keeps_node = { λ _ _ _. Unit {0} };
@@ -65,6 +73,20 @@ impl<'r, 'a> Stage<'a> for ClassStage<'r, 'a> {
 
     ghost keeps_equation = { λ _ n _ q. EquationKept n q };
 
+    fn type_fault(&self, _place: usize, _declaration: &TypeDeclaration) -> Option<StatError> {
+        None
+    }
+
+    fn name_fault(
+        &self,
+        _place: usize,
+        _declaration: &TypeDeclaration,
+        _number: usize,
+        _name: &DeclaredName,
+    ) -> Option<StatError> {
+        None
+    }
+
     fn prepare(
         &self,
         alloc: Global,
@@ -72,7 +94,7 @@ impl<'r, 'a> Stage<'a> for ClassStage<'r, 'a> {
         scope: &Scope<'a>,
     ) -> Result<Prepared<'r, 'a>, AllocError> {
         let named = clocks_named(alloc, scope)?;
-        let firsts = Firsts::new(alloc, scope.node())?;
+        let firsts = Firsts::new(alloc, scope)?;
         let marks = self.rows[place].as_slice();
         Ok(Prepared {
             named,
@@ -128,13 +150,13 @@ fn rows_of(alloc: Global, scopes: &[Scope]) -> Result<Vec<Vec<bool>>, AllocError
 // The least fault of nodes.
 fn nodes_fault(
     alloc: Global,
-    scopes: &[Scope],
+    catalog: &Catalog,
     rows: &[Vec<bool>],
 ) -> Result<Option<StatError>, AllocError>
-    requires { GiveLeastBelow (length scopes.now) scopes.now (plain rows.now) }
-    ensures { IfOk result (IsJudged (IsFault scopes.now) (AreKept scopes.now)) }
+    requires { GiveLeastBelow (length catalog.now.nodes) catalog.now.nodes (plain rows.now) }
+    ensures { IfOk result (IsJudged (IsFault catalog.now.nodes) (AreKept catalog.now.nodes)) }
 {
-    least_fault(alloc, &ClassStage { scopes, rows }, scopes)
+    least_fault(alloc, &ClassStage { catalog, rows }, catalog)
 }
 
 /// Whether a program keeps the rules of initialisation: the least classes of each node, or the least fault, that of the least byte,
@@ -156,9 +178,8 @@ pub fn initialise(alloc: Global, catalog: &Catalog) -> Result<Initialised, Alloc
     ensures first { IfOk result (λ found. IsJudged (IsFault catalog.now.nodes)
         (AreKept catalog.now.nodes) (fault_of found)) }
 {
-    let scopes = catalog.scopes();
-    let rows = rows_of(alloc, scopes)?;
-    match nodes_fault(alloc, scopes, &rows)? {
+    let rows = rows_of(alloc, catalog.scopes())?;
+    match nodes_fault(alloc, catalog, &rows)? {
         None => Ok(Initialised::Kept(rows)),
         Some(fault) => Ok(Initialised::Broken(fault)),
     }

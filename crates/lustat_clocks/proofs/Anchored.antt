@@ -25,6 +25,7 @@ mutual
   pub anchored : (n : NodeTree) (e : Tree) (k : Clock) → FitsInside n e k → IsAnchored (anchor n e) k (FitsInside n e)
   anchored n (tree.number a) k f = inr (refl, λ j. tt)
   anchored n (tree.truth b) k f = inr (refl, λ j. tt)
+  anchored n (tree.label l) k f = inr (refl, λ j. tt)
   anchored n (tree.variable x) k f = inl f
   anchored n (tree.unary op a) k f = anchored n a k f
   anchored n (tree.binary op a b) k f = both (anchor n a) (anchor n b) k (FitsInside n a) (FitsInside n b) (anchored n a k f.0) (anchored n b k f.1)
@@ -34,7 +35,7 @@ mutual
       (both (anchor n a) (anchor n b) k (FitsInside n a) (FitsInside n b) (anchored n a k f.1) (anchored n b k f.2)))
   anchored n (tree.when a c) k f = inl (ap Some (sym f.0))
   anchored n (tree.current x) k f = inl (ap (clock_below n) f.1 ∙ f.2)
-  anchored n (tree.merge c a b) k f = inl f.0
+  anchored n (tree.merge c ps all) k f = inl f.0
   anchored n (tree.call g all) k f = all_anchored n all k f
 
   pub all_anchored : (n : NodeTree) (all : Trees) (k : Clock) → AllFitInside n all k → IsAnchored (anchor_of_all n all) k (AllFitInside n all)

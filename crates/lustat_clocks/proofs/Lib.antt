@@ -5,3 +5,4 @@ pub mod Lent
 pub mod Chaining
 pub mod Uncalled
 pub mod Places
+pub mod Branched

@@ -1,6 +1,6 @@
 -- From the tests of single rules to a judgement of a place.
 use Rattle.std.proofs.Common.{◌≡◌, ◌⊎◌, inl, inr, ℕ, Option, None, Some, IsTrue, refl, sym, subst, true≢false}
-use Rattle.lustat_rules.specs.Accepted.{Rule, duplicate_name, unknown_name, unknown_node, type_mismatch, wrong_arity, undefined, defined_twice, recursive_node, no_main, clock_mismatch, not_a_clock, clocked_parameter, hidden_clock, maybe_nil, current_may_be_nil}
+use Rattle.lustat_rules.specs.Accepted.{Rule, duplicate_name, unknown_name, unknown_node, type_mismatch, wrong_arity, undefined, defined_twice, recursive_node, no_main, bad_merge, clock_mismatch, not_a_clock, clocked_parameter, hidden_clock, maybe_nil, current_may_be_nil}
 use Rattle.lustat_rules.specs.declared.error.StatError.{StatError}
 use Rattle.lustat_rules.specs.Faults.{lesser_of, IsJudged, FaultAt, AllKept}
 use Rattle.lustat_rules.proofs.Judging.{RuleFault, judged_both, judged_same}
@@ -42,6 +42,7 @@ module _ (byte : ℕ) (K : Rule → Type 0) where
   from_rule defined_twice one e h = absurd (true≢false (sym one))
   from_rule recursive_node one e h = absurd (true≢false (sym one))
   from_rule no_main one e h = absurd (true≢false (sym one))
+  from_rule bad_merge one e h = absurd (true≢false (sym one))
   from_rule maybe_nil one e h = absurd (true≢false (sym one))
   from_rule current_may_be_nil one e h = absurd (true≢false (sym one))
 
@@ -59,6 +60,7 @@ module _ (byte : ℕ) (K : Rule → Type 0) where
   kept h defined_twice one = absurd (true≢false (sym one))
   kept h recursive_node one = absurd (true≢false (sym one))
   kept h no_main one = absurd (true≢false (sym one))
+  kept h bad_merge one = absurd (true≢false (sym one))
   kept h maybe_nil one = absurd (true≢false (sym one))
   kept h current_may_be_nil one = absurd (true≢false (sym one))
 

@@ -22,13 +22,14 @@ abbrev mutual
   pub anchor : NodeTree → Tree → Option Clock
   anchor n (tree.number a) = None
   anchor n (tree.truth b) = None
+  anchor n (tree.label l) = None
   anchor n (tree.variable x) = clock_of n x
   anchor n (tree.unary op a) = anchor n a
   anchor n (tree.binary op a b) = or_else (anchor n a) (anchor n b)
   anchor n (tree.choice c a b) = or_else (anchor n c) (or_else (anchor n a) (anchor n b))
   anchor n (tree.when a c) = Some (Some c)
   anchor n (tree.current x) = current_anchor n x
-  anchor n (tree.merge c a b) = clock_of n c
+  anchor n (tree.merge c ps all) = clock_of n c
   anchor n (tree.call f all) = anchor_of_all n all
 
   pub anchor_of_all : NodeTree → Trees → Option Clock

@@ -27,7 +27,7 @@ fn anchor_of<'s: 'e, 'e>(scope: &Scope<'s>, e: &'e Expr) -> Option<ClockRef<'e>>
     ensures { option_map the_clock result ≡ anchor (node_view scope.now) (view e.now) }
 {
     match e {
-        Expr::Number(_) | Expr::Truth(_) => None,
+        Expr::Number(_) | Expr::Truth(_) | Expr::Label(_) => None,
         Expr::Variable(x) => scope.clock(x.as_str()),
         Expr::Unary(_, a) => anchor_of(scope, a),
         Expr::Binary(_, a, b) => match anchor_of(scope, a) {

@@ -10,7 +10,7 @@ ghost use Rattle.lustat_clocks.specs.Chains.{MarksEnds};
 ghost use Rattle.lustat_clocks.specs.Asked.{is_asked};
 
 use crate::agree::agrees;
-use crate::chain::{is_clock, names_truths};
+use crate::chain::{is_clock, names_clocks};
 use crate::parameter::{calls_unclocked, is_unclocked, is_visible};
 use lustat_rules::{StatError, lesser, told};
 use lustat_scope::{Catalog, Scope};
@@ -56,10 +56,10 @@ pub fn equation_fault(
 {
     let byte = equation.byte;
     let agrees = agrees(scope, equation);
-    let names_truths = names_truths(scope, equation);
+    let names_clocks = names_clocks(scope, equation);
     let calls_unclocked = calls_unclocked(equation, main, unclocked);
     let mismatch = told(agrees, StatError::ClockMismatch { byte });
-    let clock = told(names_truths, StatError::NotAClock { byte });
+    let clock = told(names_clocks, StatError::NotAClock { byte });
     let parameter = told(calls_unclocked, StatError::ClockedParameter { byte });
     lesser(mismatch, lesser(clock, parameter))
 }

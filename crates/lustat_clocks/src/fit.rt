@@ -1,13 +1,15 @@
 //! Which expressions fit a clock.
 
 ghost use Rattle.std.specs.Prelude.{◌≡◌, ◌↔◌, IsTrue, Some};
+ghost use Rattle.lunames.specs.Places.{first_place};
+ghost use Rattle.lustat_rules.specs.Scope.{declarations_of, names_of};
 ghost use Rattle.lutree.specs.Tree.{view, views, trees_of, node_view};
 ghost use Rattle.lutree.specs.Tree as tree;
-ghost use Rattle.lustat_rules.specs.Clocks.{HasClock, Fits, FitsInside, AllFitInside};
+ghost use Rattle.lustat_rules.specs.Clocks.{on, HasClock, Fits, FitsInside, AllFitInside, BranchesFitInside};
 ghost use Rattle.lustat_scope.specs.ClockRefs.{the_clock, placed_view, clock_under, IsPlaced};
 
 use lustat_scope::{ClockRef, PatternRef, PlacedClock, Scope};
-use lutree::Expr;
+use lutree::{Expr, Pattern};
 
 /// Whether a variable has a clock.
 pub fn has_clock(scope: &Scope, name: &str, k: PlacedClock) -> bool
@@ -52,7 +54,7 @@ fn fits_inside(scope: &Scope, e: &Expr, k: PlacedClock) -> bool
     ensures { IsTrue result ↔ FitsInside (node_view scope.now) (view e.now) (placed_view k.entry) }
 {
     match e {
-        Expr::Number(_) | Expr::Truth(_) => true,
+        Expr::Number(_) | Expr::Truth(_) | Expr::Label(_) => true,
         Expr::Variable(x) => has_clock(scope, x.as_str(), k),
         Expr::Unary(_, a) => fits_inside(scope, a, k),
         Expr::Binary(_, a, b) => fits_inside(scope, a, k) && fits_inside(scope, b, k),
@@ -68,22 +70,51 @@ fn fits_inside(scope: &Scope, e: &Expr, k: PlacedClock) -> bool
                 }
         }
         Expr::Current(x) => current_fits(scope, x.as_str(), k),
-        Expr::Merge(c, a, b) => {
+        Expr::Merge(c, patterns, branches) => {
             let name = c.as_str();
             has_clock(scope, name, k)
-                && fits_inside(
+                && branches_fit(
                     scope,
-                    a,
-                    scope.placed(ClockRef::On(name, PatternRef::Truth(true))),
-                )
-                && fits_inside(
-                    scope,
-                    b,
-                    scope.placed(ClockRef::On(name, PatternRef::Truth(false))),
+                    name,
+                    scope.place(name),
+                    patterns.as_slice(),
+                    branches,
                 )
         }
         Expr::Call(_, arguments) => all_fit(scope, arguments, k),
     }
+}
+
+// Whether a branch of a merge fits the clock of its pattern. The place is that of the merge's variable.
+#[cycle(fits)]
+fn branch_fits(scope: &Scope, name: &str, place: Option<usize>, pattern: &Pattern, e: &Expr) -> bool
+    requires { place ≡ first_place (names_of (declarations_of (node_view scope.now))) name.now }
+    ensures { IsTrue result
+        ↔ FitsInside (node_view scope.now) (view e.now) (on name.now pattern.now) }
+{
+    let clock = ClockRef::On(name, PatternRef::of(pattern));
+    fits_inside(scope, e, PlacedClock { clock, place })
+}
+
+// Whether the branches of a merge fit the clocks of their patterns, and are as many.
+#[cycle(fits)]
+fn branches_fit(
+    scope: &Scope,
+    name: &str,
+    place: Option<usize>,
+    patterns: &[Pattern],
+    branches: &[Expr],
+) -> bool
+    requires { place ≡ first_place (names_of (declarations_of (node_view scope.now))) name.now }
+    ensures { IsTrue result ↔ BranchesFitInside (node_view scope.now) name.now patterns.now
+        (trees_of (views branches.now)) }
+{
+    for (i, e) in branches.iter().enumerate() {
+        if i >= patterns.len() || !branch_fits(scope, name, place, &patterns[i], e) {
+            return false;
+        }
+    }
+    branches.len() == patterns.len()
 }
 
 // Whether all arguments of a call fit a clock.

@@ -2,8 +2,8 @@
 //!
 //! - [`agrees`]: whether the variables on an equation's left have one clock, which its right side fits.
 //! - [`fits`]: whether an expression fits a clock.
-//! - [`chain_ends`], [`is_clock`]: whether declared clocks are bools, in chains that end.
-//! - [`names_truths`]: whether what an expression names as a clock is a bool.
+//! - [`chain_ends`], [`is_clock`]: whether the variables of declared clocks have the types of their patterns, in chains that end.
+//! - [`names_clocks`]: whether those of the clocks that an expression names have them.
 //! - [`is_unclocked`], [`main_is_unclocked`], [`calls_unclocked`]: whether inputs and outputs are on the base clock.
 //! - [`declaration_fault`], [`equation_fault`]: the least fault at a place.
 //! - [`clock_fault`]: the least fault of a program.
@@ -19,7 +19,7 @@ mod parameter;
 mod search;
 
 pub use agree::agrees;
-pub use chain::{chain_ends, is_clock, names_truths};
+pub use chain::{chain_ends, is_clock, names_clocks};
 pub use fault::{declaration_fault, equation_fault};
 pub use fit::fits;
 pub use parameter::{calls_unclocked, is_unclocked, is_visible, main_is_unclocked};

@@ -69,17 +69,18 @@ fn calls_no(e: &Expr, name: &str) -> bool
     ensures { IsTrue result ↔ EachCall (IsOther name.now) (view e.now) }
 {
     match e {
-        Expr::Number(_) | Expr::Truth(_) | Expr::Variable(_) | Expr::Current(_) => true,
+        Expr::Number(_) | Expr::Truth(_) | Expr::Label(_) | Expr::Variable(_) | Expr::Current(_) =>
+            true,
         Expr::Unary(_, a) => calls_no(a, name),
         Expr::Binary(_, a, b) => calls_no(a, name) && calls_no(b, name),
         Expr::If(c, a, b) => calls_no(c, name) && calls_no(a, name) && calls_no(b, name),
         Expr::When(a, _) => calls_no(a, name),
-        Expr::Merge(_, a, b) => calls_no(a, name) && calls_no(b, name),
+        Expr::Merge(_, _, branches) => all_call_no(branches, name),
         Expr::Call(f, arguments) => all_call_no(arguments, name) && is_other(f, name),
     }
 }
 
-// Whether no call in the arguments is of a node.
+// Whether no call in the arguments of a call or the branches of a merge is of a node.
 #[cycle(calls)]
 fn all_call_no(arguments: &[Expr], name: &str) -> bool
     ensures { IsTrue result ↔ EachCallOfAll (IsOther name.now) (trees_of (views arguments.now)) }

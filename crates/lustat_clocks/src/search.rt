@@ -5,7 +5,7 @@ ghost use Rattle.std.proofs.Props.{props};
 ghost use Rattle.lutree.specs.Tree.{node_view, program_view};
 ghost use Rattle.lustat_rules.specs.Scope.{node_called};
 ghost use Rattle.lustat_rules.specs.Clocks.{HasUnclockedOutputs};
-ghost use Rattle.lustat_rules.specs.Faults.{IsJudged, NodeFault, NodeKept, DeclarationFault, DeclarationKept, EquationFault, EquationKept, IsFault, AreKept};
+ghost use Rattle.lustat_rules.specs.Faults.{IsJudged, TypeFault, TypeKept, NameFault, NameKept, NodeFault, NodeKept, DeclarationFault, DeclarationKept, EquationFault, EquationKept, IsFault, AreKept};
 ghost use Rattle.lustat_clocks.specs.Chains.{MarksEnds};
 ghost use Rattle.lustat_clocks.specs.Asked.{is_asked};
 
@@ -14,7 +14,7 @@ use crate::fault::{declaration_fault, equation_fault};
 use crate::parameter::main_is_unclocked;
 use lustat_rules::StatError;
 use lustat_scope::{Catalog, Scope, Stage, least_fault};
-use lutree::{Declaration, Equation};
+use lutree::{Declaration, DeclaredName, Equation, TypeDeclaration};
 use std::alloc::{AllocError, Global};
 
 // The rules of clocks at the places of a program, with the name of its main node, and whether that one has all its outputs on the base
@@ -30,9 +30,17 @@ struct ClockStage<'r, 'a> {
 impl<'r, 'a> Stage<'a> for ClockStage<'r, 'a> {
     type Prepared = Vec<bool>;
 
-    ghost nodes = { λ s. s.catalog.now.nodes };
+    ghost program = { λ s. s.catalog.now };
 
     ghost serves = { λ s n ends. MarksEnds (node_view n) ends.items };
+
+    ghost breaks_type = { λ s. TypeFault is_asked s.catalog.now s.main.now };
+
+    ghost keeps_type = { λ s. TypeKept is_asked s.catalog.now s.main.now };
+
+    ghost breaks_name = { λ s. NameFault is_asked s.catalog.now s.main.now };
+
+    ghost keeps_name = { λ s. NameKept is_asked s.catalog.now s.main.now };
 
     ghost breaks_node = { λ s. NodeFault is_asked s.catalog.now s.main.now };
 
@@ -45,6 +53,21 @@ impl<'r, 'a> Stage<'a> for ClockStage<'r, 'a> {
     ghost breaks_equation = { λ s. EquationFault is_asked s.catalog.now s.main.now };
 
     ghost keeps_equation = { λ s. EquationKept is_asked s.catalog.now s.main.now };
+
+    // No rule of clocks speaks of types.
+    fn type_fault(&self, _place: usize, _declaration: &TypeDeclaration) -> Option<StatError> {
+        None
+    }
+
+    fn name_fault(
+        &self,
+        _place: usize,
+        _declaration: &TypeDeclaration,
+        _number: usize,
+        _name: &DeclaredName,
+    ) -> Option<StatError> {
+        None
+    }
 
     fn prepare(
         &self,
@@ -107,5 +130,5 @@ pub fn clock_fault(
         main,
         unclocked: main_is_unclocked(catalog, main),
     };
-    least_fault(alloc, &stage, catalog.scopes())
+    least_fault(alloc, &stage, catalog)
 }

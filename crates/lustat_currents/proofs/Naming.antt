@@ -16,6 +16,7 @@ mutual
   pub currents_listed : (P : List ℕ → Type 0) (e : Tree) → EachCurrent P e → All P (currents_in e)
   currents_listed P (tree.number n) h = All-nil P
   currents_listed P (tree.truth b) h = All-nil P
+  currents_listed P (tree.label l) h = All-nil P
   currents_listed P (tree.variable x) h = All-nil P
   currents_listed P (tree.unary op a) h = currents_listed P a h
   currents_listed P (tree.binary op a b) h = All-append P (currents_in a) (currents_in b) (currents_listed P a h.0) (currents_listed P b h.1)
@@ -23,7 +24,7 @@ mutual
       All-append P (currents_in c) (currents_in a ++ currents_in b) (currents_listed P c h.0) (All-append P (currents_in a) (currents_in b) (currents_listed P a h.1) (currents_listed P b h.2))
   currents_listed P (tree.when a c) h = currents_listed P a h
   currents_listed P (tree.current x) h = All-cons P x [] h (All-nil P)
-  currents_listed P (tree.merge c a b) h = All-append P (currents_in a) (currents_in b) (currents_listed P a h.0) (currents_listed P b h.1)
+  currents_listed P (tree.merge c ps all) h = currents_of_all_listed P all h
   currents_listed P (tree.call f all) h = currents_of_all_listed P all h
 
   pub currents_of_all_listed : (P : List ℕ → Type 0) (es : Trees) → EachCurrentOfAll P es → All P (currents_in_all es)
@@ -34,6 +35,7 @@ mutual
   pub currents_each : (P : List ℕ → Type 0) (e : Tree) → All P (currents_in e) → EachCurrent P e
   currents_each P (tree.number n) h = tt
   currents_each P (tree.truth b) h = tt
+  currents_each P (tree.label l) h = tt
   currents_each P (tree.variable x) h = tt
   currents_each P (tree.unary op a) h = currents_each P a h
   currents_each P (tree.binary op a b) h = (currents_each P a (all_left P (currents_in a) (currents_in b) h), currents_each P b (all_right P (currents_in a) (currents_in b) h))
@@ -42,7 +44,7 @@ mutual
       (currents_each P c (all_left P (currents_in c) (currents_in a ++ currents_in b) h), currents_each P a (all_left P (currents_in a) (currents_in b) rest), currents_each P b (all_right P (currents_in a) (currents_in b) rest))
   currents_each P (tree.when a c) h = currents_each P a h
   currents_each P (tree.current x) h = All-head P x [] h
-  currents_each P (tree.merge c a b) h = (currents_each P a (all_left P (currents_in a) (currents_in b) h), currents_each P b (all_right P (currents_in a) (currents_in b) h))
+  currents_each P (tree.merge c ps all) h = currents_of_all_each P all h
   currents_each P (tree.call f all) h = currents_of_all_each P all h
 
   pub currents_of_all_each : (P : List ℕ → Type 0) (es : Trees) → All P (currents_in_all es) → EachCurrentOfAll P es

@@ -1,2 +1,3 @@
 pub mod Currents
+pub mod Beginnings
 pub mod Tables

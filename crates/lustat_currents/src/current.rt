@@ -1,153 +1,49 @@
 //! The condition of `current`.
 
-ghost use Rattle.std.specs.Prelude.{◌≡◌, ◌↔◌, ◌++◌, ℕ, List, IsTrue, true, false, map, IfOk, IfNone, IfSome, OnOk};
+ghost use Rattle.std.specs.Prelude.{◌≡◌, ◌↔◌, IsTrue, map, IfOk};
 ghost use Rattle.lutree.specs.Tree.{equation_view, node_view, view, views, trees_of};
-ghost use Rattle.lustat_rules.specs.Classes.{StartsWith, CurrentsStart};
-ghost use Rattle.lutree.specs.Tree as tree;
-ghost use Rattle.lustat_currents.specs.Currents.{StartsInside, IsStarted, EachCurrent, EachCurrentOfAll, Begins, AreBegun, starts_among};
+ghost use Rattle.lustat_rules.specs.Classes.{CurrentsStart};
+ghost use Rattle.lustat_currents.specs.Beginnings.{begun_view, IsBegun, AreMarked};
+ghost use Rattle.lustat_currents.specs.Currents.{IsStarted, EachCurrent, EachCurrentOfAll};
 ghost use Rattle.lustat_scope.specs.Scopes.{clock_list};
-ghost use Rattle.lustat_rules.specs.Faults.{declared_in};
 
-use lustat_scope::{Places, Scope};
-use lutree::{Declaration, Equation, Expr, Infix, Node, Pattern};
+use crate::begun::Table;
+use lustat_scope::Scope;
+use lutree::{Declaration, Equation, Expr, Node};
 use std::alloc::{AllocError, Global};
 use std::marker::Model;
 
-// Whether an expression is a truth value.
-fn is_truth(e: &Expr, sign: bool) -> bool
-    ensures { IsTrue result ↔ (view e.now ≡ tree.truth sign) }
-{
-    match e {
-        Expr::Truth(b) => *b == sign,
-        _ => false,
-    }
-}
-
-// Whether an expression is the constant of a pattern.
-fn is_constant(e: &Expr, pattern: &Pattern) -> bool
-    ensures { IsTrue result ↔ (view e.now ≡ tree.constant_of pattern.now) }
-{
-    match pattern {
-        Pattern::Truth(b) => is_truth(e, *b),
-    }
-}
-
-// Whether an expression begins with the constant of a pattern, by `->` or `fby`, form by form.
-fn starts_inside(e: &Expr, pattern: &Pattern) -> bool
-    ensures { IsTrue result ↔ StartsInside pattern.now (view e.now) }
-{
-    match e {
-        Expr::Binary(op, a, _) => match op {
-            Infix::Arrow => is_constant(a, pattern),
-            Infix::FollowedBy => is_constant(a, pattern),
-            Infix::Data(_) => false,
-        },
-        _ => false,
-    }
-}
-
-// Whether an expression begins with the constant of a pattern, by `->` or `fby`.
-fn starts_with(e: &Expr, pattern: &Pattern) -> bool
-    ensures { IsTrue result ↔ StartsWith pattern.now (view e.now) }
-{
-    starts_inside(e, pattern)
-}
-
-// The name that an equation begins with the constant of a pattern, if it defines one name so.
-fn begun_name<'a>(equation: &'a Equation, pattern: &Pattern) -> Option<&'a str>
-    ensures none { IfNone result
-        ((x : List ℕ) → ¬ Begins pattern.now (equation_view equation.now) x) }
-    ensures some { IfSome result (λ y. Begins pattern.now (equation_view equation.now) y.now) }
-{
-    match equation.left.as_slice() {
-        [x] if starts_with(&equation.right, pattern) => Some(x.as_str()),
-        _ => None,
-    }
-}
-
-// The names that equations begin with the constant of a pattern.
-fn begun<'a>(
-    alloc: Global,
-    equations: &'a [Equation],
-    pattern: &Pattern,
-) -> Result<Vec<&'a str>, AllocError>
-    ensures { IfOk result (λ names. AreBegun pattern.now (map equation_view equations.now)
-        (map (λ x. x.now) names.items)) }
-{
-    let mut names = Vec::new(alloc);
-    for q in equations {
-        if let Some(x) = begun_name(q, pattern) {
-            names.push(x)?;
-        }
-    }
-    Ok(names)
-}
-
-// The table of those names.
-fn begun_table<'a>(
-    alloc: Global,
-    equations: &'a [Equation],
-    pattern: &Pattern,
-) -> Result<Places<'a>, AllocError>
-    ensures { IfOk result (AreBegun pattern.now (map equation_view equations.now)) }
-{
-    let names = begun(alloc, equations, pattern)?;
-    Places::new(alloc, names)
-}
-
-// Whether the clock of a declaration, if it has one, is true at first, by the names that begin with true and with false.
-fn starts_by(truths: &Places, falses: &Places, declaration: &Declaration) -> bool
-    ensures { result ≡ starts_among truths.now falses.now declaration.now.clock }
+// Whether the clock of a declaration, if it has one, is true at first.
+fn starts_by(table: &Table, declaration: &Declaration) -> bool
+    ensures { IsTrue result
+        ↔ IsBegun (map begun_view table.now.all.items) declaration.now.clock }
 {
     match &declaration.clock {
         None => true,
-        Some(c) => match &c.pattern {
-            Pattern::Truth(true) => truths.find(c.variable.as_str()).is_some(),
-            Pattern::Truth(false) => falses.find(c.variable.as_str()).is_some(),
-        },
+        Some(c) => table.has(c.variable.as_str(), &c.pattern),
     }
 }
 
-// For each of some declarations whether its clock is true at first, behind the marks before.
-fn push_starts(
-    marks: &mut Vec<bool>,
-    truths: &Places,
-    falses: &Places,
-    declarations: &[Declaration],
-) -> Result<(), AllocError>
-    ensures { OnOk result (marks.new.items ≡ marks.old.items
-        ++ map (starts_among truths.now falses.now) (clock_list declarations.now)) }
-{
-    for d in declarations {
-        marks.push(starts_by(truths, falses, d))?;
-    }
-    Ok(())
-}
-
-// For each declaration of a node whether its clock is true at first.
-fn starts_in(
+// For each of some declarations whether its clock is true at first.
+fn starts_of(
     alloc: Global,
-    truths: &Places,
-    falses: &Places,
-    node: &Node,
+    table: &Table,
+    declarations: &[&Declaration],
 ) -> Result<Vec<bool>, AllocError>
-    ensures { IfOk result (λ marks. marks.items
-        ≡ map (starts_among truths.now falses.now) (clock_list (declared_in node.now))) }
+    ensures { IfOk result (λ marks. AreMarked (IsBegun (map begun_view table.now.all.items))
+        marks.items (clock_list (map (λ d. d.now) declarations.now))) }
 {
-    let mut marks = Vec::new(alloc);
-    push_starts(&mut marks, truths, falses, node.inputs.as_slice())?;
-    push_starts(&mut marks, truths, falses, node.outputs.as_slice())?;
-    push_starts(&mut marks, truths, falses, node.locals.as_slice())?;
+    let mut marks = Vec::with_capacity(alloc, declarations.len())?;
+    for d in declarations {
+        marks.push(starts_by(table, d))?;
+    }
     Ok(marks)
 }
 
-/// Which variables of a node are true at first, and which are false, by the form of their equations; and for each declaration whether
-/// its clock is true at first. A contract sees the node.
+/// For each declaration of a node whether its clock is true at first, by the form of the equations. A contract sees the node.
 #[derive(Drop)]
 pub struct Firsts<'a> {
     node: &'a Node,
-    truths: Places<'a>,
-    falses: Places<'a>,
     started: Vec<bool>,
 }
 
@@ -168,23 +64,18 @@ impl<'a> Model for Firsts<'a> {
 }
 
 impl<'a> Firsts<'a> {
-    /// The tables of a node. Their time grows with the length of the node.
+    /// The marks of a node. Their time grows with the length of the node.
     ///
     /// # Errors
     ///
     /// An error means that memory ran out.
-    pub fn new(alloc: Global, node: &'a Node) -> Result<Firsts<'a>, AllocError>
-        ensures { IfOk result (λ firsts. firsts ≡ node.now) }
+    pub fn new(alloc: Global, scope: &Scope<'a>) -> Result<Firsts<'a>, AllocError>
+        ensures { IfOk result (λ firsts. firsts ≡ scope.now) }
     {
-        let truths = begun_table(alloc, node.equations.as_slice(), &Pattern::Truth(true))?;
-        let falses = begun_table(alloc, node.equations.as_slice(), &Pattern::Truth(false))?;
-        let started = starts_in(alloc, &truths, &falses, node)?;
-        Ok(Firsts {
-            node,
-            truths,
-            falses,
-            started,
-        })
+        let node = scope.node();
+        let table = Table::new(alloc, node.equations.as_slice())?;
+        let started = starts_of(alloc, &table, scope.declarations())?;
+        Ok(Firsts { node, started })
     }
 
     // Whether the clock of a variable is true at first, if it has one. The clock's name isn't looked at.
@@ -205,7 +96,7 @@ impl<'a> Firsts<'a> {
         ensures { IsTrue result ↔ EachCurrent (IsStarted (node_view self.now)) (view e.now) }
     {
         match e {
-            Expr::Number(_) | Expr::Truth(_) | Expr::Variable(_) => true,
+            Expr::Number(_) | Expr::Truth(_) | Expr::Label(_) | Expr::Variable(_) => true,
             Expr::Unary(_, a) => self.all_start(scope, a),
             Expr::Binary(_, a, b) => self.all_start(scope, a) && self.all_start(scope, b),
             Expr::If(c, a, b) => {
@@ -213,12 +104,12 @@ impl<'a> Firsts<'a> {
             }
             Expr::When(a, _) => self.all_start(scope, a),
             Expr::Current(x) => self.starts(scope, x.as_str()),
-            Expr::Merge(_, a, b) => self.all_start(scope, a) && self.all_start(scope, b),
+            Expr::Merge(_, _, branches) => self.arguments_start(scope, branches),
             Expr::Call(_, arguments) => self.arguments_start(scope, arguments),
         }
     }
 
-    // Likewise in the arguments of a call.
+    // Likewise in the arguments of a call or the branches of a merge.
     #[cycle(currents)]
     fn arguments_start(&self, scope: &Scope, arguments: &[Expr]) -> bool
         requires { scope.now ≡ self.now }

@@ -3,6 +3,7 @@
 //! - [`Firsts`]: which clocks are true at first, by the form of their equations, and which uses of `current` that allows.
 #![tactic(auto)]
 
+mod begun;
 mod current;
 
 pub use current::Firsts;

@@ -19,13 +19,22 @@ bare = delay (tree.unary Pre x)
 
 pub kept_before : (r : Rule) → stage r < 3 → Keeps (program_of (bare ∷ [])) (codes "delay") r
 kept_before Rule.duplicate_name h =
-    keeps_one bare (codes "delay") Rule.duplicate_name tt (nothing_in (codes "delay"))
-    (nothing_in (codes "x"), (not_in (codes "x" ∷ []) (codes "y") refl (refl, tt), tt)) (tt, tt)
+    keeps_one bare (codes "delay") Rule.duplicate_name tt (nothing_in (codes "delay")) (
+      record { first = nothing_in (codes "x"); no_label = nothing_in (codes "x") },
+      (record { first = not_in (codes "x" ∷ []) (codes "y") refl (refl, tt); no_label = nothing_in (codes "y") }, tt),
+    )
+    (tt, tt)
 kept_before Rule.unknown_name h =
-    keeps_one bare (codes "delay") Rule.unknown_name tt tt (tt, (tt, tt))
-    (record { left = All-from_recursion (IsVariable bare) (codes "y" ∷ []) (refl, tt); right = All-from_recursion (IsVariable bare) (codes "x" ∷ []) (refl, tt) }, tt)
+    keeps_one bare (codes "delay") Rule.unknown_name tt tt (record { type = tt; clock = tt }, (record { type = tt; clock = tt }, tt)) (
+      record {
+        left = All-from_recursion (IsVariable bare) (codes "y" ∷ []) (refl, tt);
+        right = All-from_recursion (IsVariable bare) (codes "x" ∷ []) (refl, tt);
+        parts = tt;
+      },
+      tt,
+    )
 kept_before Rule.unknown_node h = keeps_one bare (codes "delay") Rule.unknown_node tt tt (tt, (tt, tt)) ((λ k d l. absurd (none_below l)), tt)
-kept_before Rule.type_mismatch h = keeps_one bare (codes "delay") Rule.type_mismatch tt tt (tt, (tt, tt)) ((λ a b c. (Int ∷ [], refl, refl)), tt)
+kept_before Rule.type_mismatch h = keeps_one bare (codes "delay") Rule.type_mismatch tt tt (tt, (tt, tt)) ((λ a b c d. (Int ∷ [], refl, refl)), tt)
 kept_before Rule.wrong_arity h =
     keeps_one bare (codes "delay") Rule.wrong_arity tt tt (tt, (tt, tt))
     (record { arguments = λ k d l. absurd (none_below l); inner = λ k d l. absurd (none_below l); values = refl; some = omega arith }, tt)
@@ -43,12 +52,13 @@ kept_before Rule.defined_twice h =
 kept_before Rule.recursive_node h =
     keeps_one bare (codes "delay") Rule.recursive_node tt (λ f. reaches_none (codes "delay") bare refl refl f refl) (tt, (tt, tt)) (tt, tt)
 kept_before Rule.no_main h = keeps_one bare (codes "delay") Rule.no_main refl tt (tt, (tt, tt)) (tt, tt)
+kept_before Rule.bad_merge h = keeps_one bare (codes "delay") Rule.bad_merge tt tt (tt, (tt, tt)) (tt, tt)
 kept_before Rule.clock_mismatch h =
     keeps_one bare (codes "delay") Rule.clock_mismatch tt tt (tt, (tt, tt))
     ((base, All-from_recursion (λ x. HasClock bare x base) (codes "y" ∷ []) (refl, tt), outside bare _ _ refl), tt)
 kept_before Rule.not_a_clock h =
     keeps_one bare (codes "delay") Rule.not_a_clock tt tt
-    (record { truth = tt; ends = Ends.at_base }, (record { truth = tt; ends = Ends.at_base }, tt)) ((λ k d l. absurd (none_below l)), tt)
+    (record { typed = tt; ends = Ends.at_base }, (record { typed = tt; ends = Ends.at_base }, tt)) (tt, tt)
 kept_before Rule.clocked_parameter h =
     keeps_one bare (codes "delay") Rule.clocked_parameter tt tt
     (((λ i. refl), (λ o m. refl)), (((λ i. refl), (λ o m. refl)), tt)) ((λ k d l. absurd (none_below l)), tt)

@@ -9,3 +9,8 @@ pub mod Calling
 pub mod Rounds
 pub mod Judging
 pub mod Classed
+pub mod Stages
+pub mod Switch
+pub mod Enumerated
+pub mod Agreeing
+pub mod Merging

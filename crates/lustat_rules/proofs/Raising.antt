@@ -24,6 +24,7 @@ module _ (a b : Classes) (up : (x : List ℕ) → IsTrue (a x) → IsTrue (b x))
   pub is_one_grows : (e : Tree) → IsTrue (is_one a e) → IsTrue (is_one b e)
   is_one_grows (tree.number n) h = h
   is_one_grows (tree.truth t) h = h
+  is_one_grows (tree.label l) h = h
   is_one_grows (tree.variable x) h = up x h
   is_one_grows (tree.unary (Data1 op) e) h = is_one_grows e h
   is_one_grows (tree.unary Pre e) h = h
@@ -34,7 +35,7 @@ module _ (a b : Classes) (up : (x : List ℕ) → IsTrue (a x) → IsTrue (b x))
       or_map (is_one a c) (is_one a d || is_one a e) _ _ (is_one_grows c) (or_map (is_one a d) (is_one a e) _ _ (is_one_grows d) (is_one_grows e)) h
   is_one_grows (tree.when e c) h = is_one_grows e h
   is_one_grows (tree.current x) h = h
-  is_one_grows (tree.merge c d e) h = h
+  is_one_grows (tree.merge c ps all) h = h
   is_one_grows (tree.call f all) h = h
 
   zero_falls : (e : Tree) → IsZero b e → IsZero a e
@@ -47,6 +48,7 @@ module _ (a b : Classes) (up : (x : List ℕ) → IsTrue (a x) → IsTrue (b x))
     pub needs_fall : (e : Tree) → NeedsMet b e → NeedsMet a e
     needs_fall (tree.number n) h = tt
     needs_fall (tree.truth t) h = tt
+    needs_fall (tree.label l) h = tt
     needs_fall (tree.variable x) h = tt
     needs_fall (tree.unary (Data1 op) e) h = needs_fall e h
     needs_fall (tree.unary Pre e) h = (zero_falls e h.0, needs_fall e h.1)
@@ -56,7 +58,7 @@ module _ (a b : Classes) (up : (x : List ℕ) → IsTrue (a x) → IsTrue (b x))
     needs_fall (tree.choice c d e) h = (needs_fall c h.0, needs_fall d h.1, needs_fall e h.2)
     needs_fall (tree.when e c) h = needs_fall e h
     needs_fall (tree.current x) h = name_falls x h
-    needs_fall (tree.merge c d e) h = (zero_falls d h.0, needs_fall d h.1, zero_falls e h.2, needs_fall e h.3)
+    needs_fall (tree.merge c ps all) h = all_fall all h
     needs_fall (tree.call f all) h = all_fall all h
 
     all_fall : (all : Trees) → AllReady b all → AllReady a all

@@ -6,7 +6,7 @@ use Rattle.lutree.specs.declared.expr.Pattern.TheVariants as patterns
 use Rattle.lutree.specs.Tree.{EquationTree, program_of}
 use Rattle.lutree.specs.declared.program.Kind.TheVariants.{Int}
 use Rattle.lustat_rules.specs.Scope.{declarations_of, names_of, IsVariable, IsInput}
-use Rattle.lustat_rules.specs.Clocks.{on, base, HasClock, IsTruth, Ends}
+use Rattle.lustat_rules.specs.Clocks.{on, base, HasClock, Ends}
 use Rattle.lustat_rules.specs.Classes.{Classes, IsRaised, NeedsMet, IsHeld, SamplersAreZero, HasClasses}
 use Rattle.lustat_rules.specs.Accepted.{Rule, IsAccepted}
 use Rattle.lustat_rules.specs.Vectors.{sampler, main}
@@ -44,25 +44,46 @@ classes =
 pub accepted : IsAccepted (program_of (sampler ∷ [])) main
 accepted Rule.duplicate_name =
     keeps_one sampler main Rule.duplicate_name tt (nothing_in main) (
-      nothing_in (codes "x"),
+      record { first = nothing_in (codes "x"); no_label = nothing_in (codes "x") },
       (
-        not_in (codes "x" ∷ []) (codes "c") refl (refl, tt),
+        record { first = not_in (codes "x" ∷ []) (codes "c") refl (refl, tt); no_label = nothing_in (codes "c") },
         (
-          not_in (codes "x" ∷ codes "c" ∷ []) (codes "y") refl (refl, (refl, tt)),
+          record { first = not_in (codes "x" ∷ codes "c" ∷ []) (codes "y") refl (refl, (refl, tt)); no_label = nothing_in (codes "y") },
           (
-            not_in (codes "x" ∷ codes "c" ∷ codes "y" ∷ []) (codes "z") refl (refl, (refl, (refl, tt))),
-            (not_in (codes "x" ∷ codes "c" ∷ codes "y" ∷ codes "z" ∷ []) (codes "s") refl (refl, (refl, (refl, (refl, tt)))), tt),
+            record { first = not_in (codes "x" ∷ codes "c" ∷ codes "y" ∷ []) (codes "z") refl (refl, (refl, (refl, tt))); no_label = nothing_in (codes "z") },
+            (record { first = not_in (codes "x" ∷ codes "c" ∷ codes "y" ∷ codes "z" ∷ []) (codes "s") refl (refl, (refl, (refl, (refl, tt)))); no_label = nothing_in (codes "s") }, tt),
           ),
         ),
       ),
     )
     (tt, (tt, (tt, tt)))
 accepted Rule.unknown_name =
-    keeps_one sampler main Rule.unknown_name tt tt (tt, (tt, (tt, (refl, (refl, tt))))) (
-      record { left = All-from_recursion (IsVariable sampler) (codes "s" ∷ []) (refl, tt); right = All-from_recursion (IsVariable sampler) (codes "x" ∷ codes "c" ∷ []) (refl, (refl, tt)) },
+    keeps_one sampler main Rule.unknown_name tt tt (
+      record { type = tt; clock = tt },
       (
-        record { left = All-from_recursion (IsVariable sampler) (codes "z" ∷ []) (refl, tt); right = All-from_recursion (IsVariable sampler) (codes "s" ∷ []) (refl, tt) },
-        (record { left = All-from_recursion (IsVariable sampler) (codes "y" ∷ []) (refl, tt); right = All-from_recursion (IsVariable sampler) (codes "x" ∷ codes "y" ∷ codes "x" ∷ []) (refl, (refl, (refl, tt))) }, tt),
+        record { type = tt; clock = tt },
+        (record { type = tt; clock = tt }, (record { type = tt; clock = (refl, tt) }, (record { type = tt; clock = (refl, tt) }, tt))),
+      ),
+    ) (
+      record {
+        left = All-from_recursion (IsVariable sampler) (codes "s" ∷ []) (refl, tt);
+        right = All-from_recursion (IsVariable sampler) (codes "x" ∷ codes "c" ∷ []) (refl, (refl, tt));
+        parts = (tt, tt);
+      },
+      (
+        record {
+          left = All-from_recursion (IsVariable sampler) (codes "z" ∷ []) (refl, tt);
+          right = All-from_recursion (IsVariable sampler) (codes "s" ∷ []) (refl, tt);
+          parts = (tt, tt);
+        },
+        (
+          record {
+            left = All-from_recursion (IsVariable sampler) (codes "y" ∷ []) (refl, tt);
+            right = All-from_recursion (IsVariable sampler) (codes "x" ∷ codes "y" ∷ codes "x" ∷ []) (refl, (refl, (refl, tt)));
+            parts = (tt, (tt, tt));
+          },
+          tt,
+        ),
       ),
     )
 accepted Rule.unknown_node =
@@ -70,7 +91,7 @@ accepted Rule.unknown_node =
     ((λ k d l. absurd (none_below l)), ((λ k d l. absurd (none_below l)), ((λ k d l. absurd (none_below l)), tt)))
 accepted Rule.type_mismatch =
     keeps_one sampler main Rule.type_mismatch tt tt (tt, (tt, (tt, (tt, (tt, tt)))))
-    ((λ a b c. (Int ∷ [], refl, refl)), ((λ a b c. (Int ∷ [], refl, refl)), ((λ a b c. (Int ∷ [], refl, refl)), tt)))
+    ((λ a b c d. (Int ∷ [], refl, refl)), ((λ a b c d. (Int ∷ [], refl, refl)), ((λ a b c d. (Int ∷ [], refl, refl)), tt)))
 accepted Rule.wrong_arity =
     keeps_one sampler main Rule.wrong_arity tt tt (tt, (tt, (tt, (tt, (tt, tt))))) (
       record { arguments = λ k d l. absurd (none_below l); inner = λ k d l. absurd (none_below l); values = refl; some = omega arith },
@@ -109,6 +130,8 @@ accepted Rule.defined_twice =
 accepted Rule.recursive_node =
     keeps_one sampler main Rule.recursive_node tt (λ f. reaches_none main sampler refl refl f refl) (tt, (tt, (tt, (tt, (tt, tt))))) (tt, (tt, (tt, tt)))
 accepted Rule.no_main = keeps_one sampler main Rule.no_main refl tt (tt, (tt, (tt, (tt, (tt, tt))))) (tt, (tt, (tt, tt)))
+accepted Rule.bad_merge =
+    keeps_one sampler main Rule.bad_merge tt tt (tt, (tt, (tt, (tt, (tt, tt))))) ((tt, tt), ((tt, tt), ((tt, (tt, tt)), tt)))
 accepted Rule.clock_mismatch =
     keeps_one sampler main Rule.clock_mismatch tt tt (tt, (tt, (tt, (tt, (tt, tt))))) (
       (on (codes "c") (patterns.Truth true), All-from_recursion (λ x. HasClock sampler x (on (codes "c") (patterns.Truth true))) (codes "s" ∷ []) (refl, tt), outside sampler _ _ (refl, (base, refl, refl))),
@@ -119,19 +142,19 @@ accepted Rule.clock_mismatch =
     )
 accepted Rule.not_a_clock =
     keeps_one sampler main Rule.not_a_clock tt tt (
-      record { truth = tt; ends = Ends.at_base },
+      record { typed = tt; ends = Ends.at_base },
       (
-        record { truth = tt; ends = Ends.at_base },
+        record { typed = tt; ends = Ends.at_base },
         (
-          record { truth = tt; ends = Ends.at_base },
+          record { typed = tt; ends = Ends.at_base },
           (
-            record { truth = refl; ends = Ends.after (record { variable = codes "c"; pattern = patterns.Truth true }) None refl Ends.at_base },
-            (record { truth = refl; ends = Ends.after (record { variable = codes "c"; pattern = patterns.Truth true }) None refl Ends.at_base }, tt),
+            record { typed = refl; ends = Ends.after (record { variable = codes "c"; pattern = patterns.Truth true }) None refl Ends.at_base },
+            (record { typed = refl; ends = Ends.after (record { variable = codes "c"; pattern = patterns.Truth true }) None refl Ends.at_base }, tt),
           ),
         ),
       ),
     )
-    (All-from_recursion (IsTruth sampler) (codes "c" ∷ []) (refl, tt), ((λ k d l. absurd (none_below l)), ((λ k d l. absurd (none_below l)), tt)))
+    ((tt, refl), ((tt, tt), ((tt, (tt, tt)), tt)))
 accepted Rule.clocked_parameter =
     keeps_one sampler main Rule.clocked_parameter tt tt (
       ((λ i. refl), (λ o m. refl)),

@@ -82,6 +82,7 @@ base_is_on e = true≢false (ap is_base e)
 
 abbrev sign : Pattern → Bool
 sign (patterns.Truth b) = b
+sign (patterns.Label l) = true
 
 abbrev pub sign_of : Option Clock → Bool
 sign_of (Some (Some c)) = sign c.pattern

@@ -9,7 +9,7 @@ use Rattle.lustat_rules.specs.Naming.{IsCallOrder}
 use Rattle.lustat_rules.specs.Clocks.{on, base}
 use Rattle.lustat_rules.specs.Classes.{HasClasses}
 use Rattle.lustat_rules.specs.Accepted.{Rule, EquationKeeps, DeclarationKeeps, NodeKeeps}
-use Rattle.lustat_rules.specs.Vectors.{int_variable, bool_variable, defines, x, s, call_one, keeps, breaks, main, delay}
+use Rattle.lustat_rules.specs.Vectors.{int_variable, bool_variable, defines, x, s, merge_on, call_one, keeps, breaks, main, delay}
 
 -- FBY
 
@@ -70,11 +70,11 @@ sampled_late right =
     }
 
 pub record NeededVectors : Type 0 where
-  pub branch_of_merge : ¬ HasClasses (delay (tree.merge (codes "c") (tree.unary Pre x) x))
-  pub other_branch : ¬ HasClasses (delay (tree.merge (codes "c") x (tree.unary Pre x)))
+  pub branch_of_merge : ¬ HasClasses (delay (merge_on (codes "c") (tree.unary Pre x) x))
+  pub other_branch : ¬ HasClasses (delay (merge_on (codes "c") x (tree.unary Pre x)))
   pub variable_of_current : ¬ HasClasses held
   pub clock_variable : ¬ HasClasses late
-  pub variable_of_merge : ¬ HasClasses (sampled_late (tree.merge (codes "c") (tree.number 0) (tree.number 1)))
+  pub variable_of_merge : ¬ HasClasses (sampled_late (merge_on (codes "c") (tree.number 0) (tree.number 1)))
   pub variable_of_when : ¬ HasClasses (sampled_late (tree.when x (record { variable = codes "c"; pattern = patterns.Truth true })))
 
 -- CLOCKS

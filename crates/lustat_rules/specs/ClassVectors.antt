@@ -12,7 +12,7 @@ use Rattle.lutree.specs.Tree as tree
 use Rattle.lustat_rules.specs.Clocks.{on, base, clocks_in}
 use Rattle.lustat_rules.specs.Classes.{Classes, is_one, NeedsMet, IsRaised, SamplersAreZero, HasClasses, currents_in}
 use Rattle.lustat_rules.specs.Accepted.{Rule, EquationKeeps}
-use Rattle.lustat_rules.specs.Vectors.{int_variable, bool_variable, defines, x, c, plus, call_one, main, delay}
+use Rattle.lustat_rules.specs.Vectors.{int_variable, bool_variable, defines, x, c, plus, merge_on, call_one, main, delay}
 
 -- SPELLING
 
@@ -74,7 +74,7 @@ abbrev pub when_p : Tree → Tree
 when_p e = tree.when e (record { variable = codes "p"; pattern = patterns.Truth true })
 
 abbrev pub merge_c : Tree → Tree → Tree
-merge_c = tree.merge (codes "c")
+merge_c = merge_on (codes "c")
 
 abbrev pub call_f : Tree → Tree
 call_f = call_one (codes "f")
@@ -114,7 +114,7 @@ pub record ClassesAre : Type 0 where
   -- never, whatever stands inside
   pub held : map late (held_of (codes "x") ∷ held_of (codes "p") ∷ []) ≡ false ∷ false ∷ []
   pub merged :
-      map late (merge_c x x ∷ merge_c p x ∷ merge_c x p ∷ tree.merge (codes "p") x x ∷ []) ≡
+      map late (merge_c x x ∷ merge_c p x ∷ merge_c x p ∷ merge_on (codes "p") x x ∷ []) ≡
       false ∷ false ∷ false ∷ false ∷ []
   pub called : map late (call_f x ∷ call_f p ∷ tree.call (codes "f") tree.none ∷ []) ≡
       false ∷ false ∷ false ∷ []
@@ -188,7 +188,7 @@ pub record Missed : Type 0 where
 abbrev pub tangled : Tree
 tangled =
     plus (call_two (when_c x) (held_of (codes "p")))
-    (choose (tree.merge (codes "d") (held_of (codes "s")) (when_p x)) (pre x)
+    (choose (merge_on (codes "d") (held_of (codes "s")) (when_p x)) (pre x)
     (follows one (held_of (codes "x"))))
 
 pub record NamedAre : Type 0 where
@@ -208,7 +208,7 @@ pub record VariablesAre : Type 0 where
   pub above : IsRaised only_p (defines (codes "p") x)
   pub one_below : ¬ IsRaised only_p (record { left = codes "p" ∷ codes "y" ∷ []; right = pre x })
   pub merged_by_late :
-      ¬ SamplersAreZero only_p (defines (codes "y") (tree.merge (codes "p") one one))
+      ¬ SamplersAreZero only_p (defines (codes "y") (merge_on (codes "p") one one))
   pub merged : SamplersAreZero only_p (defines (codes "y") (merge_c p p))
   pub sampled_by_late : ¬ SamplersAreZero only_p (defines (codes "y") (plus one (when_p x)))
   pub sampled : SamplersAreZero only_p (defines (codes "y") (plus one (when_c p)))

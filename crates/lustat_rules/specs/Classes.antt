@@ -20,6 +20,7 @@ Classes = List ℕ → Bool
 abbrev pub is_one : Classes → Tree → Bool
 is_one a (tree.number n) = false
 is_one a (tree.truth b) = false
+is_one a (tree.label l) = false
 is_one a (tree.variable x) = a x
 is_one a (tree.unary (Data1 op) e) = is_one a e
 is_one a (tree.unary Pre e) = true
@@ -29,7 +30,7 @@ is_one a (tree.binary FollowedBy d e) = is_one a d
 is_one a (tree.choice c d e) = is_one a c || (is_one a d || is_one a e)
 is_one a (tree.when e c) = is_one a e
 is_one a (tree.current x) = false
-is_one a (tree.merge c d e) = false
+is_one a (tree.merge c ps all) = false
 is_one a (tree.call f all) = false
 
 abbrev pub IsZero : Classes → Tree → Type 0
@@ -41,6 +42,7 @@ abbrev mutual
   pub NeedsMet : Classes → Tree → Type 0
   NeedsMet a (tree.number n) = Unit {0}
   NeedsMet a (tree.truth b) = Unit {0}
+  NeedsMet a (tree.label l) = Unit {0}
   NeedsMet a (tree.variable x) = Unit {0}
   NeedsMet a (tree.unary (Data1 op) e) = NeedsMet a e
   NeedsMet a (tree.unary Pre e) = IsZero a e × NeedsMet a e
@@ -50,7 +52,7 @@ abbrev mutual
   NeedsMet a (tree.choice c d e) = NeedsMet a c × NeedsMet a d × NeedsMet a e
   NeedsMet a (tree.when e c) = NeedsMet a e
   NeedsMet a (tree.current x) = IsFalse (a x)
-  NeedsMet a (tree.merge c d e) = IsZero a d × NeedsMet a d × IsZero a e × NeedsMet a e
+  NeedsMet a (tree.merge c ps all) = AllReady a all
   NeedsMet a (tree.call f all) = AllReady a all
 
   pub AllReady : Classes → Trees → Type 0
@@ -100,20 +102,21 @@ abbrev mutual
   pub currents_in : Tree → List (List ℕ)
   currents_in (tree.number n) = []
   currents_in (tree.truth b) = []
+  currents_in (tree.label l) = []
   currents_in (tree.variable x) = []
   currents_in (tree.unary op a) = currents_in a
   currents_in (tree.binary op a b) = currents_in a ++ currents_in b
   currents_in (tree.choice c a b) = currents_in c ++ (currents_in a ++ currents_in b)
   currents_in (tree.when a c) = currents_in a
   currents_in (tree.current x) = x ∷ []
-  currents_in (tree.merge c a b) = currents_in a ++ currents_in b
+  currents_in (tree.merge c ps all) = currents_in_all all
   currents_in (tree.call f all) = currents_in_all all
 
   pub currents_in_all : Trees → List (List ℕ)
   currents_in_all tree.none = []
   currents_in_all (tree.more a all) = currents_in a ++ currents_in_all all
 
--- what begins with the constant of a pattern: `true -> e` or `true fby e`; likewise for `false`
+-- what begins with the constant of a pattern: `true -> e` or `true fby e`; likewise for `false` and for a name of an enumeration
 pub data StartsWith (pattern : Pattern) : Tree → Type 0 where
   arrow : (e : Tree) → StartsWith pattern (tree.binary Arrow (tree.constant_of pattern) e)
   followed : (e : Tree) → StartsWith pattern (tree.binary FollowedBy (tree.constant_of pattern) e)

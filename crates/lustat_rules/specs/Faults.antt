@@ -1,11 +1,13 @@
 -- The faults of a program with their places in the text, and the least of them.
 use Rattle.std.specs.Prelude.{◌≡◌, ◌<◌, ◌≤◌, ◌⊎◌, ℕ, Bool, ◌&&◌, ◌||◌, nat_eq, nat_lt, if◌then◌else◌, List, ◌++◌, Option, Some, None, IsTrue, slice_get}
+use Rattle.lutree.specs.declared.program.DeclaredName.{DeclaredName}
+use Rattle.lutree.specs.declared.program.TypeDeclaration.{TypeDeclaration}
 use Rattle.lutree.specs.declared.program.Declaration.{Declaration}
 use Rattle.lutree.specs.declared.program.Equation.{Equation}
 use Rattle.lutree.specs.declared.program.Node.{Node}
 use Rattle.lutree.specs.declared.program.Program.{Program}
-use Rattle.lutree.specs.Tree.{declaration_view, equation_view, node_view, program_view}
-use Rattle.lustat_rules.specs.Accepted.{Rule, ProgramKeeps, NodeKeeps, DeclarationKeeps, EquationKeeps, Keeps}
+use Rattle.lutree.specs.Tree.{type_view, declaration_view, equation_view, node_view, program_view}
+use Rattle.lustat_rules.specs.Accepted.{Rule, ProgramKeeps, TypeKeeps, NameKeeps, NodeKeeps, DeclarationKeeps, EquationKeeps, Keeps}
 use Rattle.lustat_rules.specs.declared.error.StatError.{StatError}
 use Rattle.lustat_rules.specs.Told.{rule_of, byte_of, number_of}
 
@@ -66,6 +68,18 @@ module _ (asked : Rule → Bool) where
     abbrev pub ProgramFault : StatError → Type 0
     ProgramFault = FaultAt 0 (ProgramKeeps (program_view p) main)
 
+    abbrev pub TypeKept : ℕ → TypeDeclaration → Type 0
+    TypeKept i t = AllKept (λ rule. TypeKeeps (program_view p) main rule i (type_view t))
+
+    abbrev pub TypeFault : ℕ → TypeDeclaration → StatError → Type 0
+    TypeFault i t = FaultAt t.byte (λ rule. TypeKeeps (program_view p) main rule i (type_view t))
+
+    abbrev pub NameKept : ℕ → TypeDeclaration → ℕ → DeclaredName → Type 0
+    NameKept i t j x = AllKept (λ rule. NameKeeps (program_view p) main rule i (type_view t) j x.name)
+
+    abbrev pub NameFault : ℕ → TypeDeclaration → ℕ → DeclaredName → StatError → Type 0
+    NameFault i t j x = FaultAt x.byte (λ rule. NameKeeps (program_view p) main rule i (type_view t) j x.name)
+
     abbrev pub NodeKept : ℕ → Node → Type 0
     NodeKept i n = AllKept (λ rule. NodeKeeps (program_view p) main rule i (node_view n))
 
@@ -84,6 +98,14 @@ module _ (asked : Rule → Bool) where
     abbrev pub EquationFault : Node → ℕ → Equation → StatError → Type 0
     EquationFault n j q = FaultAt q.byte (λ rule. EquationKeeps (program_view p) main rule (node_view n) j (equation_view q))
 
+    -- what is kept in a type at a place, and a fault in it
+    pub record AllOfTypeKept (i : ℕ) (t : TypeDeclaration) : Type 0 where
+      pub own : TypeKept i t
+      pub names : KeptAmong t.names (NameKept i t)
+
+    abbrev pub InTypeFault : ℕ → TypeDeclaration → StatError → Type 0
+    InTypeFault i t e = TypeFault i t e ⊎ FaultAmong t.names (NameFault i t) e
+
     -- what is kept in a node at a place, and a fault in it
     pub record AllOfNodeKept (i : ℕ) (n : Node) : Type 0 where
       pub node : NodeKept i n
@@ -95,7 +117,7 @@ module _ (asked : Rule → Bool) where
 
     -- a fault of the program, at its place
     abbrev pub IsFault : StatError → Type 0
-    IsFault e = ProgramFault e ⊎ FaultAmong p.nodes InNodeFault e
+    IsFault e = ProgramFault e ⊎ FaultAmong p.types InTypeFault e ⊎ FaultAmong p.nodes InNodeFault e
 
     -- the program keeps all of these rules
     abbrev pub AreKept : Type 0

@@ -1,4 +1,5 @@
 pub mod Scope
+pub mod Parts
 pub mod Naming
 pub mod Typing
 pub mod Clocks
@@ -6,6 +7,7 @@ pub mod Classes
 pub mod Accepted
 pub mod Vectors
 pub mod Chains
+pub mod EnumVectors
 pub mod Told
 pub mod Faults
 pub mod Lines

@@ -2,7 +2,7 @@
 use Rattle.std.specs.Prelude.{ℕ, List, ◌++◌, codes}
 use Rattle.std.specs.Fmt.{decimal}
 use Rattle.lustat_rules.specs.declared.error.StatError.{StatError}
-use Rattle.lustat_rules.specs.declared.error.StatError.TheVariants.{DuplicateName, UnknownName, UnknownNode, TypeMismatch, WrongArity, Undefined, DefinedTwice, RecursiveNode, NoMain, ClockMismatch, NotAClock, ClockedParameter, HiddenClock, MaybeNil, CurrentMayBeNil, OutOfMemory}
+use Rattle.lustat_rules.specs.declared.error.StatError.TheVariants.{DuplicateName, UnknownName, UnknownNode, TypeMismatch, WrongArity, Undefined, DefinedTwice, RecursiveNode, NoMain, BadMerge, ClockMismatch, NotAClock, ClockedParameter, HiddenClock, MaybeNil, CurrentMayBeNil, OutOfMemory}
 
 -- a code and a name, and where; no line feed
 abbrev pub line_of : StatError → List ℕ
@@ -15,6 +15,7 @@ line_of (Undefined byte) = codes "E15 Undefined at " ++ decimal byte
 line_of (DefinedTwice byte) = codes "E16 DefinedTwice at " ++ decimal byte
 line_of (RecursiveNode byte) = codes "E17 RecursiveNode at " ++ decimal byte
 line_of NoMain = codes "E18 NoMain at 0"
+line_of (BadMerge byte) = codes "E19 BadMerge at " ++ decimal byte
 line_of (ClockMismatch byte) = codes "E20 ClockMismatch at " ++ decimal byte
 line_of (NotAClock byte) = codes "E21 NotAClock at " ++ decimal byte
 line_of (ClockedParameter byte) = codes "E22 ClockedParameter at " ++ decimal byte

@@ -1,9 +1,16 @@
 -- The rules of names: each name is declared once, each variable has one equation, each call is of a node and has its arity.
 use Rattle.std.specs.Prelude.{◌≡◌, ◌⊎◌, ◌<◌, ℕ, suc, if◌then◌else◌, slice_get, List, [], ◌∷◌, ◌++◌, map, flat_map, take, length, Option, Some, None, IfSome, option_map, All, Contains}
 use Rattle.std.specs.Str.{bytes_eq}
-use Rattle.lutree.specs.Tree.{Tree, Trees, list_of, DeclarationTree, EquationTree, NodeTree, ProgramTree}
+use Rattle.lutree.specs.declared.expr.Label.{Label}
+use Rattle.lutree.specs.declared.expr.Pattern.{Pattern}
+use Rattle.lutree.specs.declared.expr.Pattern.TheVariants as patterns
+use Rattle.lutree.specs.declared.program.Kind.{Kind}
+use Rattle.lutree.specs.declared.program.Kind.TheVariants.{Int, Bool as Truths, Enum}
+use Rattle.lutree.specs.Tree.{Tree, Trees, list_of, TypeTree, DeclarationTree, EquationTree, NodeTree, ProgramTree}
 use Rattle.lutree.specs.Tree as tree
-use Rattle.lustat_rules.specs.Scope.{declarations_of, names_of, IsVariable, IsInput, node_called, IsNode, lefts_of, IsNew, AreDistinct}
+use Rattle.lustat_rules.specs.Scope.{declarations_of, names_of, IsVariable, IsInput, node_called, IsNode, labels_of, lefts_of, IsNew, AreDistinct}
+use Rattle.lustat_rules.specs.Parts.{Part, EachPart}
+use Rattle.lustat_rules.specs.Parts as part
 
 -- WHAT AN EXPRESSION NAMES
 
@@ -12,13 +19,14 @@ abbrev mutual
   pub names_in : Tree → List (List ℕ)
   names_in (tree.number n) = []
   names_in (tree.truth b) = []
+  names_in (tree.label l) = []
   names_in (tree.variable x) = x ∷ []
   names_in (tree.unary op a) = names_in a
   names_in (tree.binary op a b) = names_in a ++ names_in b
   names_in (tree.choice c a b) = names_in c ++ (names_in a ++ names_in b)
   names_in (tree.when a c) = names_in a ++ c.variable ∷ []
   names_in (tree.current x) = x ∷ []
-  names_in (tree.merge c a b) = c ∷ names_in a ++ names_in b
+  names_in (tree.merge c ps all) = c ∷ names_in_all all
   names_in (tree.call f all) = names_in_all all
 
   pub names_in_all : Trees → List (List ℕ)
@@ -35,13 +43,14 @@ abbrev mutual
   pub calls_in : Tree → List Call
   calls_in (tree.number n) = []
   calls_in (tree.truth b) = []
+  calls_in (tree.label l) = []
   calls_in (tree.variable x) = []
   calls_in (tree.unary op a) = calls_in a
   calls_in (tree.binary op a b) = calls_in a ++ calls_in b
   calls_in (tree.choice c a b) = calls_in c ++ (calls_in a ++ calls_in b)
   calls_in (tree.when a c) = calls_in a
   calls_in (tree.current x) = []
-  calls_in (tree.merge c a b) = calls_in a ++ calls_in b
+  calls_in (tree.merge c ps all) = calls_in_all all
   calls_in (tree.call f all) = calls_in_all all ++ record { node = f; arguments = length (list_of all) } ∷ []
 
   pub calls_in_all : Trees → List Call
@@ -58,26 +67,74 @@ abbrev pub value_count : ProgramTree → Tree → Option ℕ
 value_count p (tree.call f all) = option_map (λ (n : NodeTree). length n.outputs) (node_called p f)
 value_count p e = Some 1
 
--- E10: no name is declared twice
+-- E10: no name is declared twice, and no variable has the name of a name of an enumeration
+
+-- the type at a place is the first of its name
+abbrev pub IsNewType : ProgramTree → ℕ → TypeTree → Type 0
+IsNewType p i t = IsNew (map (λ (u : TypeTree). u.name) p.types) i t.name
+
+-- the name at a place of the type at a place is the first of its spelling among the names of all enumerations
+abbrev pub IsNewLabel : ProgramTree → ℕ → TypeTree → ℕ → List ℕ → Type 0
+IsNewLabel p i t j x = ¬ Contains (labels_of (take i p.types) ++ take j t.names) x
 
 -- the node at a place is the first of its name
 abbrev pub IsNewNode : ProgramTree → ℕ → NodeTree → Type 0
 IsNewNode p i n = IsNew (map (λ (m : NodeTree). m.name) p.nodes) i n.name
 
--- the declaration at a place of a node is the first of its name
-abbrev pub IsNewVariable : NodeTree → ℕ → DeclarationTree → Type 0
-IsNewVariable n i d = IsNew (names_of (declarations_of n)) i d.name
+-- the declaration at a place of a node is the first of its name, and no name of an enumeration is spelled so
+pub record IsNewVariable (p : ProgramTree) (n : NodeTree) (i : ℕ) (d : DeclarationTree) : Type 0 where
+  pub first : IsNew (names_of (declarations_of n)) i d.name
+  pub no_label : ¬ Contains (labels_of p.types) d.name
 
--- E11: each name is a variable of the node
+-- E11: each name is a variable of the node, and each type and each name of an enumeration is the program's
+
+-- the type at the place that a kind tells, with as many names as it tells
+abbrev pub IsEnumeration : ProgramTree → Kind → TypeTree → Type 0
+IsEnumeration p (Enum place size) t = (slice_get p.types place ≡ Some t) × (length t.names ≡ size)
+IsEnumeration p kind t = ⊥
+
+-- a name of an enumeration is the program's: its type has it, at its number
+abbrev pub LabelKnown : ProgramTree → Label → Type 0
+LabelKnown p l = (t : TypeTree) × IsEnumeration p l.kind t × (slice_get t.names l.number ≡ Some l.name)
+
+abbrev pub PatternKnown : ProgramTree → Pattern → Type 0
+PatternKnown p (patterns.Truth b) = Unit {0}
+PatternKnown p (patterns.Label l) = LabelKnown p l
+
+-- what an expression says of enumerations is known
+abbrev pub PartKnown : ProgramTree → Part → Type 0
+PartKnown p (part.label l) = LabelKnown p l
+PartKnown p (part.clock c) = PatternKnown p c.pattern
+PartKnown p (part.merge c ps count) = All (PatternKnown p) ps
 
 -- the names of an equation are known
-pub record NamesKnown (n : NodeTree) (q : EquationTree) : Type 0 where
+pub record NamesKnown (p : ProgramTree) (n : NodeTree) (q : EquationTree) : Type 0 where
   pub left : All (IsVariable n) q.left
   pub right : All (IsVariable n) (names_in q.right)
+  pub parts : EachPart (PartKnown p) q.right
 
--- the name in a declared clock is known
-abbrev pub ClockKnown : NodeTree → DeclarationTree → Type 0
-ClockKnown n d = IfSome d.clock (λ c. IsVariable n c.variable)
+-- a type that no program declares
+abbrev pub IsBuiltIn : Kind → Type 0
+IsBuiltIn Int = Unit {0}
+IsBuiltIn Truths = Unit {0}
+IsBuiltIn (Enum place size) = ⊥
+
+-- a type is the one that is written so
+abbrev pub IsWrittenAs : ProgramTree → Kind → Option (List ℕ) → Type 0
+IsWrittenAs p kind None = IsBuiltIn kind
+IsWrittenAs p kind (Some name) = (t : TypeTree) × IsEnumeration p kind t × (t.name ≡ name)
+
+abbrev pub TypeKnown : ProgramTree → DeclarationTree → Type 0
+TypeKnown p d = IsWrittenAs p d.kind d.type_name
+
+-- the names in a declared clock are known
+abbrev pub ClockKnown : ProgramTree → NodeTree → DeclarationTree → Type 0
+ClockKnown p n d = IfSome d.clock (λ c. IsVariable n c.variable × PatternKnown p c.pattern)
+
+-- the names of a declaration are known
+pub record DeclarationKnown (p : ProgramTree) (n : NodeTree) (d : DeclarationTree) : Type 0 where
+  pub type : TypeKnown p d
+  pub clock : ClockKnown p n d
 
 -- E12: each call is of a node
 abbrev pub CallsKnown : ProgramTree → EquationTree → Type 0

@@ -3,7 +3,7 @@ use Rattle.std.specs.Prelude.{◌≡◌, ℕ, if◌then◌else◌, List, [], ◌
 use Rattle.std.specs.Str.{bytes_eq}
 use Rattle.lutree.specs.declared.expr.Condition.{Condition}
 use Rattle.lutree.specs.declared.program.Kind.{Kind}
-use Rattle.lutree.specs.Tree.{DeclarationTree, EquationTree, NodeTree, ProgramTree}
+use Rattle.lutree.specs.Tree.{TypeTree, DeclarationTree, EquationTree, NodeTree, ProgramTree}
 
 -- the variables of a node: inputs, outputs and locals, each in order of declaration
 abbrev pub declarations_of : NodeTree → List DeclarationTree
@@ -53,6 +53,10 @@ node_called p f = first_named p.nodes f
 
 abbrev pub IsNode : ProgramTree → List ℕ → Type 0
 IsNode p f = IsSome (node_called p f)
+
+-- the names of some enumerations, type by type
+abbrev pub labels_of : List TypeTree → List (List ℕ)
+labels_of = flat_map (λ t. t.names)
 
 -- the variables that some equations define, in order
 abbrev pub lefts_of : List EquationTree → List (List ℕ)

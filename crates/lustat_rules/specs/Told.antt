@@ -4,7 +4,7 @@ use Rattle.lutree.specs.Tree.{ProgramTree}
 use Rattle.lustat_rules.specs.Accepted.{Rule, number, stage, IsRefused}
 use Rattle.lustat_rules.specs.Accepted as accepted
 use Rattle.lustat_rules.specs.declared.error.StatError.{StatError}
-use Rattle.lustat_rules.specs.declared.error.StatError.TheVariants.{DuplicateName, UnknownName, UnknownNode, TypeMismatch, WrongArity, Undefined, DefinedTwice, RecursiveNode, ClockMismatch, NotAClock, ClockedParameter, HiddenClock, MaybeNil, CurrentMayBeNil, NoMain, OutOfMemory}
+use Rattle.lustat_rules.specs.declared.error.StatError.TheVariants.{DuplicateName, UnknownName, UnknownNode, TypeMismatch, WrongArity, Undefined, DefinedTwice, RecursiveNode, ClockMismatch, NotAClock, ClockedParameter, HiddenClock, MaybeNil, CurrentMayBeNil, NoMain, BadMerge, OutOfMemory}
 
 -- the rule that a refusal tells; none where memory ran out
 abbrev pub rule_of : StatError → Option Rule
@@ -17,6 +17,7 @@ rule_of (Undefined byte) = Some accepted.undefined
 rule_of (DefinedTwice byte) = Some accepted.defined_twice
 rule_of (RecursiveNode byte) = Some accepted.recursive_node
 rule_of NoMain = Some accepted.no_main
+rule_of (BadMerge byte) = Some accepted.bad_merge
 rule_of (ClockMismatch byte) = Some accepted.clock_mismatch
 rule_of (NotAClock byte) = Some accepted.not_a_clock
 rule_of (ClockedParameter byte) = Some accepted.clocked_parameter
@@ -36,6 +37,7 @@ byte_of (Undefined byte) = byte
 byte_of (DefinedTwice byte) = byte
 byte_of (RecursiveNode byte) = byte
 byte_of NoMain = 0
+byte_of (BadMerge byte) = byte
 byte_of (ClockMismatch byte) = byte
 byte_of (NotAClock byte) = byte
 byte_of (ClockedParameter byte) = byte

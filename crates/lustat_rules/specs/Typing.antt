@@ -1,5 +1,7 @@
 -- The types of expressions.
-use Rattle.std.specs.Prelude.{◌≡◌, Bool, true, false, ◌&&◌, if◌then◌else◌, List, [], ◌∷◌, map, Option, Some, None, option_map}
+use Rattle.std.specs.Prelude.{◌≡◌, ℕ, nat_eq, Bool, true, false, ◌&&◌, if◌then◌else◌, List, [], ◌∷◌, map, fold, length, slice_get, Option, Some, None, option_map, All}
+use Rattle.lutree.specs.declared.expr.Pattern.{Pattern}
+use Rattle.lutree.specs.declared.expr.Pattern.TheVariants as patterns
 use Rattle.lutree.specs.declared.expr.UnaryOperator.{UnaryOperator}
 use Rattle.lutree.specs.declared.expr.UnaryOperator.TheVariants.{Minus, Not}
 use Rattle.lutree.specs.declared.expr.BinaryOperator.{BinaryOperator}
@@ -7,25 +9,37 @@ use Rattle.lutree.specs.declared.expr.BinaryOperator.TheVariants.{Add, Subtract,
 use Rattle.lutree.specs.declared.expr.Prefix.TheVariants.{Data as Data1, Pre}
 use Rattle.lutree.specs.declared.expr.Infix.TheVariants.{Data as Data2, Arrow, FollowedBy}
 use Rattle.lutree.specs.declared.program.Kind.{Kind}
-use Rattle.lutree.specs.declared.program.Kind.TheVariants.{Int, Bool as Truths}
+use Rattle.lutree.specs.declared.program.Kind.TheVariants.{Int, Bool as Truths, Enum}
 use Rattle.lutree.specs.Tree.{Tree, Trees, DeclarationTree, EquationTree, NodeTree, ProgramTree}
 use Rattle.lutree.specs.Tree as tree
 use Rattle.lustat_rules.specs.Scope.{kind_of, node_called}
 use Rattle.lustat_rules.specs.Naming.{NamesKnown, CallsKnown, AritiesRight}
+use Rattle.lustat_rules.specs.Parts.{Part, EachPart}
+use Rattle.lustat_rules.specs.Parts as part
 
 -- TYPES THAT AGREE
 
+-- whether two types are one
+abbrev pub same_kind : Kind → Kind → Bool
+same_kind Int Int = true
+same_kind Truths Truths = true
+same_kind (Enum i m) (Enum j n) = nat_eq i j && nat_eq m n
+same_kind j k = false
+
 -- the type that two expressions both have, if they have one
 abbrev pub agreed : Option Kind → Option Kind → Option Kind
-agreed (Some Int) (Some Int) = Some Int
-agreed (Some Truths) (Some Truths) = Some Truths
+agreed (Some j) (Some k) = if same_kind j k then Some j else None
 agreed a b = None
+
+-- the type that all of some expressions have, if there are any and they have one
+abbrev pub agreed_all : List (Option Kind) → Option Kind
+agreed_all [] = None
+agreed_all (k ∷ ks) = fold agreed k ks
 
 -- whether an expression has a type
 abbrev pub has_kind : Option Kind → Kind → Bool
-has_kind (Some Int) Int = true
-has_kind (Some Truths) Truths = true
-has_kind a k = false
+has_kind (Some j) k = same_kind j k
+has_kind None k = false
 
 -- OPERATORS
 
@@ -85,6 +99,38 @@ abbrev pub only : Option (List Kind) → Option Kind
 only (Some (k ∷ [])) = Some k
 only ks = None
 
+-- MERGES
+
+-- a pattern is the name of a number of an enumeration
+abbrev pub IsNumbered : Kind → ℕ → Pattern → Type 0
+IsNumbered kind k (patterns.Truth b) = ⊥
+IsNumbered kind k (patterns.Label l) = (l.kind ≡ kind) × (l.number ≡ k)
+
+-- the patterns are the names of an enumeration of so many, in order of declaration
+pub record AreNames (kind : Kind) (size : ℕ) (ps : List Pattern) : Type 0 where
+  pub count : length ps ≡ size
+  pub each : (k : ℕ) (x : Pattern) → slice_get ps k ≡ Some x → IsNumbered kind k x
+
+abbrev pub IsSign : Pattern → Type 0
+IsSign (patterns.Truth b) = Unit {0}
+IsSign (patterns.Label l) = ⊥
+
+-- The patterns of a merge on a variable of a type: of an enumeration all its names, and `true` and `false` on a bool, if none of them is a name. Others
+-- are a matter of clocks.
+abbrev pub PatternsAre : Option Kind → List Pattern → Type 0
+PatternsAre (Some (Enum place size)) ps = AreNames (Enum place size) size ps
+PatternsAre (Some Truths) ps = All IsSign ps → ps ≡ patterns.Truth true ∷ patterns.Truth false ∷ []
+PatternsAre kind ps = Unit {0}
+
+-- a merge has as many branches as patterns, and these are those of its variable's type
+abbrev pub IsWholeMerge : NodeTree → Part → Type 0
+IsWholeMerge n (part.merge c ps count) = (length ps ≡ count) × PatternsAre (kind_of n c) ps
+IsWholeMerge n x = Unit {0}
+
+-- E19: each merge is whole
+abbrev pub MergesWhole : NodeTree → EquationTree → Type 0
+MergesWhole n q = EachPart (IsWholeMerge n) q.right
+
 -- EXPRESSIONS
 
 -- The type of an expression in a node, or none where it has none. The name of a clock has no type to meet here.
@@ -93,6 +139,7 @@ module _ (p : ProgramTree) (n : NodeTree) where
     pub type_of : Tree → Option Kind
     type_of (tree.number a) = Some Int
     type_of (tree.truth b) = Some Truths
+    type_of (tree.label l) = Some l.kind
     type_of (tree.variable x) = kind_of n x
     type_of (tree.unary (Data1 op) a) = agreed (Some (single_kind op)) (type_of a)
     type_of (tree.unary Pre a) = type_of a
@@ -102,7 +149,7 @@ module _ (p : ProgramTree) (n : NodeTree) where
     type_of (tree.choice c a b) = choice_kind (type_of c) (type_of a) (type_of b)
     type_of (tree.when a c) = type_of a
     type_of (tree.current x) = kind_of n x
-    type_of (tree.merge c a b) = agreed (type_of a) (type_of b)
+    type_of (tree.merge c ps all) = agreed_all (types_of all)
     type_of (tree.call f all) = only (call_kinds (node_called p f) (types_of all))
 
     pub types_of : Trees → List (Option Kind)
@@ -118,6 +165,6 @@ module _ (p : ProgramTree) (n : NodeTree) where
   abbrev pub IsWellTyped : EquationTree → Type 0
   IsWellTyped q = (kinds : List Kind) × (right_types q.right ≡ Some kinds) × (map (kind_of n) q.left ≡ map Some kinds)
 
-  -- E13: an equation whose names and calls are known and whose arities are right is well typed
+  -- E13: an equation whose names and calls are known, whose arities are right and whose merges are whole is well typed
   abbrev pub IsTyped : EquationTree → Type 0
-  IsTyped q = NamesKnown n q → CallsKnown p q → AritiesRight p q → IsWellTyped q
+  IsTyped q = NamesKnown p n q → CallsKnown p q → AritiesRight p q → MergesWhole n q → IsWellTyped q

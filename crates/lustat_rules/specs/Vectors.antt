@@ -7,7 +7,7 @@ use Rattle.lutree.specs.declared.expr.Infix.TheVariants.{Data as Data2, Arrow, F
 use Rattle.lutree.specs.declared.expr.Pattern.TheVariants as patterns
 use Rattle.lutree.specs.declared.program.Kind.{Kind}
 use Rattle.lutree.specs.declared.program.Kind.TheVariants.{Int, Bool as Truths}
-use Rattle.lutree.specs.Tree.{Tree, Trees, DeclarationTree, EquationTree, NodeTree, ProgramTree, program_of}
+use Rattle.lutree.specs.Tree.{Tree, Trees, DeclarationTree, EquationTree, NodeTree, ProgramTree, program_of, declared}
 use Rattle.lutree.specs.Tree as tree
 use Rattle.lustat_rules.specs.Scope.{Clock, kind_of, clock_of}
 use Rattle.lustat_rules.specs.Naming.{Call, names_in, calls_in, inner_calls, value_count}
@@ -19,10 +19,10 @@ use Rattle.lustat_rules.specs.Accepted.{Rule, stage, EquationKeeps, DeclarationK
 -- SPELLING
 
 abbrev pub int_variable : List ℕ → Clock → DeclarationTree
-int_variable x k = record { name = x; kind = Int; clock = k }
+int_variable x k = declared x Int k
 
 abbrev pub bool_variable : List ℕ → Clock → DeclarationTree
-bool_variable x k = record { name = x; kind = Truths; clock = k }
+bool_variable x k = declared x Truths k
 
 abbrev pub defines : List ℕ → Tree → EquationTree
 defines x e = record { left = x ∷ []; right = e }
@@ -44,6 +44,10 @@ plus = tree.binary (Data2 Add)
 
 abbrev pub x_when_c : Tree
 x_when_c = tree.when x (record { variable = codes "c"; pattern = patterns.Truth true })
+
+-- merge NAME (true -> a) (false -> b)
+abbrev pub merge_on : List ℕ → Tree → Tree → Tree
+merge_on c a b = tree.merge c (patterns.Truth true ∷ patterns.Truth false ∷ []) (tree.more a (tree.more b tree.none))
 
 abbrev pub call_one : List ℕ → Tree → Tree
 call_one f e = tree.call f (tree.more e tree.none)
@@ -143,8 +147,8 @@ pub record TypesAre : Type 0 where
   -- that a clock is bool is no matter of types
   pub sample : has_type (tree.when c (record { variable = codes "x"; pattern = patterns.Truth false })) ≡ Some Truths
   pub held : has_type (tree.current (codes "s")) ≡ Some Int
-  pub merged : has_type (tree.merge (codes "c") s x) ≡ Some Int
-  pub merged_of_both : has_type (tree.merge (codes "c") s c) ≡ None
+  pub merged : has_type (merge_on (codes "c") s x) ≡ Some Int
+  pub merged_of_both : has_type (merge_on (codes "c") s c) ≡ None
   pub call : has_type (call_one (codes "one") x) ≡ Some Int
   pub call_of_truth : has_type (call_one (codes "one") c) ≡ None
   pub call_of_two : has_type (call_one (codes "two") x) ≡ None
@@ -154,7 +158,7 @@ pub record TypesAre : Type 0 where
 -- NUMBERS OF RULES
 
 pub record NumbersAre : Type 0 where
-  pub names : map stage (Rule.duplicate_name ∷ Rule.no_main ∷ []) ≡ 1 ∷ 1 ∷ []
+  pub names : map stage (Rule.duplicate_name ∷ Rule.no_main ∷ Rule.bad_merge ∷ []) ≡ 1 ∷ 1 ∷ 1 ∷ []
   pub clocks : map stage (Rule.clock_mismatch ∷ Rule.hidden_clock ∷ []) ≡ 2 ∷ 2 ∷ []
   pub initialisation : map stage (Rule.maybe_nil ∷ Rule.current_may_be_nil ∷ []) ≡ 3 ∷ 3 ∷ []
 
@@ -209,12 +213,12 @@ pub record TypedEquations : Type 0 where
 pub record ClockedEquations : Type 0 where
   pub constant_anywhere : keeps Rule.clock_mismatch (defines (codes "z") (plus s (tree.number 1)))
   pub sampled : keeps Rule.clock_mismatch (defines (codes "z") (plus s x_when_c))
-  pub merged : keeps Rule.clock_mismatch (defines (codes "y") (tree.merge (codes "c") s (tree.when x (record { variable = codes "c"; pattern = patterns.Truth false }))))
+  pub merged : keeps Rule.clock_mismatch (defines (codes "y") (merge_on (codes "c") s (tree.when x (record { variable = codes "c"; pattern = patterns.Truth false }))))
   pub held : keeps Rule.clock_mismatch (defines (codes "y") (tree.current (codes "s")))
   pub sum_of_two_clocks : breaks Rule.clock_mismatch (defines (codes "y") (plus x x_when_c))
   pub slow_for_fast : breaks Rule.clock_mismatch (defines (codes "y") s)
   pub wrong_sign : breaks Rule.clock_mismatch (defines (codes "z") (tree.when x (record { variable = codes "c"; pattern = patterns.Truth false })))
-  pub merged_turned : breaks Rule.clock_mismatch (defines (codes "y") (tree.merge (codes "c") (tree.number 1) s))
+  pub merged_turned : breaks Rule.clock_mismatch (defines (codes "y") (merge_on (codes "c") (tree.number 1) s))
   pub held_on_base : breaks Rule.clock_mismatch (defines (codes "y") (tree.current (codes "x")))
   pub two_clocks_left : breaks Rule.clock_mismatch (defines_both (codes "y") (codes "z") (tree.number 1))
   pub truth_is_a_clock : keeps Rule.not_a_clock (defines (codes "z") x_when_c)

@@ -12,13 +12,15 @@ use thiserror::Error;
 /// text, counted from 0.
 #[derive(Clone, Copy, Debug, PartialEq, Eq, Error)]
 pub enum StatError {
-    /// Two nodes, or two variables of a node, have one name. Told at the later name.
+    /// Two types, two names of enumerations, two nodes, or two variables of a node, have one name, or a variable has that of a name
+    /// of an enumeration. Told at the later name, or at the variable.
     DuplicateName { byte: usize },
-    /// A name is no variable of the node. Told at the equation, or at the variable whose clock it is.
+    /// A name is no variable of the node, no type, or no name of an enumeration. Told at the equation, or at the variable whose type or
+    /// clock it is.
     UnknownName { byte: usize },
     /// A call is of no node. Told at the equation.
     UnknownNode { byte: usize },
-    /// An equation whose names, calls and arities are in order is ill typed. Told at the equation.
+    /// An equation whose names, calls, arities and merges are in order is ill typed. Told at the equation.
     TypeMismatch { byte: usize },
     /// A call has another number of arguments, or of outputs, than it needs. Told at the equation.
     WrongArity { byte: usize },
@@ -30,9 +32,12 @@ pub enum StatError {
     RecursiveNode { byte: usize },
     /// No node has the name of the main node.
     NoMain,
+    /// The branches of a merge aren't those of its variable's type. Told at the equation.
+    BadMerge { byte: usize },
     /// A right side doesn't fit the clock of what it defines. Told at the equation.
     ClockMismatch { byte: usize },
-    /// A clock is named by no bool, or its chain of clocks doesn't end. Told at the equation or the declaration.
+    /// The variable of a clock or of a merge isn't of its type, or its chain of clocks doesn't end. Told at the equation or the
+    /// declaration.
     NotAClock { byte: usize },
     /// A parameter has a clock where it may have none. Told at its declaration, or at the equation that calls.
     ClockedParameter { byte: usize },
@@ -64,6 +69,7 @@ impl fmt::Display for StatError {
             StatError::DefinedTwice { byte } => write!(f, "E16 DefinedTwice at {byte}"),
             StatError::RecursiveNode { byte } => write!(f, "E17 RecursiveNode at {byte}"),
             StatError::NoMain => f.write_str("E18 NoMain at 0"),
+            StatError::BadMerge { byte } => write!(f, "E19 BadMerge at {byte}"),
             StatError::ClockMismatch { byte } => write!(f, "E20 ClockMismatch at {byte}"),
             StatError::NotAClock { byte } => write!(f, "E21 NotAClock at {byte}"),
             StatError::ClockedParameter { byte } => write!(f, "E22 ClockedParameter at {byte}"),
@@ -89,6 +95,7 @@ impl StatError {
             | StatError::Undefined { byte }
             | StatError::DefinedTwice { byte }
             | StatError::RecursiveNode { byte }
+            | StatError::BadMerge { byte }
             | StatError::ClockMismatch { byte }
             | StatError::NotAClock { byte }
             | StatError::ClockedParameter { byte }
@@ -113,6 +120,7 @@ impl StatError {
             StatError::DefinedTwice { .. } => 16,
             StatError::RecursiveNode { .. } => 17,
             StatError::NoMain => 18,
+            StatError::BadMerge { .. } => 19,
             StatError::ClockMismatch { .. } => 20,
             StatError::NotAClock { .. } => 21,
             StatError::ClockedParameter { .. } => 22,

@@ -5,6 +5,7 @@ ghost use Rattle.lustat_rules.specs.Chains.{FollowedVectors, NeededVectors, Cloc
 ghost use Rattle.lustat_rules.specs.ClassVectors.{ClassVectors, BeginningVectors};
 ghost use Rattle.lustat_rules.specs.Classes.{LeastDecides};
 ghost use Rattle.lustat_rules.specs.Clocks.{FitsLaw};
+ghost use Rattle.lustat_rules.specs.EnumVectors.{EnumVectors, EnumClockVectors, EnumProgramsAre};
 ghost use Rattle.lustat_rules.specs.Naming.{CallOrderLaw, DefinedOnceLaw};
 ghost use Rattle.lustat_rules.specs.Vectors.{VectorsLaw, NamedEquations, TypedEquations, ClockedEquations, InitialisedNodes, DeclarationsAndNodes, ProgramsAre};
 
@@ -97,4 +98,19 @@ pub fn class_vectors_law()
 /// Which outputs may be nil, and how the variable of a clock has to begin for `current`.
 pub fn beginning_vectors_law()
     ensures { BeginningVectors }
+{}
+
+/// Names of enumerations: their types, equal names, names that aren't known, and merges of all names and of others.
+pub fn enum_vectors_law()
+    ensures { EnumVectors }
+{}
+
+/// Clocks on names of enumerations, and `current` by them.
+pub fn enum_clock_vectors_law()
+    ensures { EnumClockVectors }
+{}
+
+/// One program with an enumeration that is accepted, and one that is refused.
+pub fn enum_program_vectors_law()
+    ensures { EnumProgramsAre }
 {}

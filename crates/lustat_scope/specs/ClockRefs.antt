@@ -14,6 +14,7 @@ use Rattle.lustat_scope.specs.declared.clock_ref.PlacedClock.{PlacedClock}
 
 abbrev pub the_pattern : PatternRef → Pattern
 the_pattern (lent.Truth b) = patterns.Truth b
+the_pattern (lent.Label l) = patterns.Label l.now
 
 abbrev pub the_clock : ClockRef → Clock
 the_clock ref.Base = base

@@ -3,21 +3,30 @@
 ghost use Rattle.std.specs.Prelude.{◌≡◌, ◌↔◌, IsTrue, Some};
 ghost use Rattle.lustat_scope.specs.ClockRefs.{the_pattern, the_clock};
 
-use lutree::{Condition, Pattern};
+use lutree::{Condition, Label, Pattern};
 
 /// A pattern, lent.
 #[derive(Clone, Copy, Debug)]
-pub enum PatternRef {
+pub enum PatternRef<'a> {
     Truth(bool),
+    Label(&'a Label),
 }
 
-impl PatternRef {
+// Whether two names of enumerations are one: of one spelling, of one type and of one number.
+fn is_label(l: &Label, m: &Label) -> bool
+    ensures { IsTrue result ↔ (l.now ≡ m.now) }
+{
+    l.number == m.number && l.kind == m.kind && l.name.as_str() == m.name.as_str()
+}
+
+impl<'a> PatternRef<'a> {
     /// A pattern of the tree, lent.
-    pub fn of(pattern: &Pattern) -> PatternRef
+    pub fn of(pattern: &'a Pattern) -> PatternRef<'a>
         ensures { the_pattern result ≡ pattern.now }
     {
         match pattern {
             Pattern::Truth(b) => PatternRef::Truth(*b),
+            Pattern::Label(l) => PatternRef::Label(l),
         }
     }
 
@@ -27,6 +36,8 @@ impl PatternRef {
     {
         match (*self, *other) {
             (PatternRef::Truth(b), PatternRef::Truth(c)) => b == c,
+            (PatternRef::Label(l), PatternRef::Label(m)) => is_label(l, m),
+            _ => false,
         }
     }
 }
@@ -35,7 +46,7 @@ impl PatternRef {
 #[derive(Clone, Copy, Debug)]
 pub enum ClockRef<'a> {
     Base,
-    On(&'a str, PatternRef),
+    On(&'a str, PatternRef<'a>),
 }
 
 impl<'a> ClockRef<'a> {

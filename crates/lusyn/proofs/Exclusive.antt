@@ -1,5 +1,5 @@
 -- A text spells one program at most, and is not refused where it spells one.
-use Rattle.std.proofs.Common.{◌≡◌, ℕ, List, [], ◌∷◌, ◌++◌, length, Result, Ok, Err, sym, ap, ◌∙◌, subst, arith, inl, inr}
+use Rattle.std.proofs.Common.{◌≡◌, ℕ, List, [], ◌∷◌, ◌++◌, length, Result, Ok, Err, sym, ap, ◌∙◌, subst, inl, inr}
 use Rattle.std.proofs.lemmas.List.{map-append, append-nil}
 use Rattle.lutree.specs.Tree.{ProgramTree}
 use Rattle.lusyn_tokens.specs.Tokens.{Tok}
@@ -14,8 +14,10 @@ use Rattle.lusyn_grammar.proofs.CompletePrograms.{all_of-again}
 use Rattle.lusyn_parser.specs.Refused.{IsWrongFrom, NoneGoesOn, unplaced}
 use Rattle.lusyn.specs.declared.error.SynError.{SynError}
 use Rattle.lusyn.specs.declared.error.SynError.TheVariants as e
+use Rattle.lusyn_labels.specs.Resolved.{resolved}
 use Rattle.lusyn.specs.Refusals.{IsRefused}
-use Rattle.lusyn.specs.Texts.{HasProgram, SpellsText}
+use Rattle.lusyn.specs.Texts.{HasProgram, IsSmall, SpellsText}
+use Rattle.lusyn.proofs.Limits.{not_large}
 
 ok_same : {A E : Type 0} (r : Result A E) (a b : A) → r ≡ Ok a → r ≡ Ok b → a ≡ b
 ok_same r a b h k = cc
@@ -34,7 +36,7 @@ program_same text one other (a, x, s) (b, y, t) =
     tree_same (unplaced a) one other s (subst (λ ts. Spells (unplaced ts) other) (tokens_same text b a y x) t)
 
 pub one_program : (text : List ℕ) (one other : ProgramTree) → SpellsText text one → SpellsText text other → one ≡ other
-one_program text one other x y = program_same text one other x.0 y.0
+one_program text one other (a, x, p, same) (b, y, q, also) = sym same ∙ ap resolved (program_same text a b x y) ∙ also
 
 -- tokens that spell a program aren't wrong from anywhere
 none_wrong : (before rest : List Tok) (found : ProgramTree) → NoneGoesOn before rest → Spells (before ++ rest) found → ⊥
@@ -50,14 +52,13 @@ lexer_fine : (text : List ℕ) (ts : List Placed) (told : LexError) → IsLexed 
 lexer_fine text ts told lexed refused = ok_or_err _ ts told (lexed-whole text ts lexed) (refused-whole text told lexed.0 refused)
 
 pub not_refused : (text : List ℕ) (found : ProgramTree) (refusal : SynError) → SpellsText text found → IsRefused text refusal → ⊥
-not_refused text found e.TooLong ((ts, lexed, s), few) (inl h) = lexer_fine text ts l.TooLong lexed h
-not_refused text found e.TooLong ((ts, lexed, s), few) (inr (other, has, many)) =
-    let same = ap (λ (read : ProgramTree). length read.nodes) (program_same text found other (ts, lexed, s) has) in
-    omega (arith, few, many, same)
-not_refused text found e.NotAscii ((ts, lexed, s), few) h = lexer_fine text ts l.NotAscii lexed h
-not_refused text found (e.Syntax byte) ((ts, lexed, s), few) (inl h) = lexer_fine text ts (l.NoToken byte) lexed h
-not_refused text found (e.Syntax byte) ((ts, lexed, s), few) (inr (us, other, wrong)) =
-    not_wrong text us byte found (subst (λ xs. Spells (unplaced xs) found) (tokens_same text ts us lexed other) s) wrong
-not_refused text found (e.NumberTooLarge byte) ((ts, lexed, s), few) h = lexer_fine text ts (l.NumberTooLarge byte) lexed h
-not_refused text found (e.LongRun byte) ((ts, lexed, s), few) h = lexer_fine text ts (l.LongRun byte) lexed h
-not_refused text found e.OutOfMemory ((ts, lexed, s), few) h = absurd h
+not_refused text found e.TooLong (written, (ts, lexed, s), few, same) (inl h) = lexer_fine text ts l.TooLong lexed h
+not_refused text found e.TooLong (written, (ts, lexed, s), few, same) (inr (other, has, many)) =
+    not_large other (subst IsSmall (program_same text written other (ts, lexed, s) has) few) many
+not_refused text found e.NotAscii (written, (ts, lexed, s), few, same) h = lexer_fine text ts l.NotAscii lexed h
+not_refused text found (e.Syntax byte) (written, (ts, lexed, s), few, same) (inl h) = lexer_fine text ts (l.NoToken byte) lexed h
+not_refused text found (e.Syntax byte) (written, (ts, lexed, s), few, same) (inr (us, other, wrong)) =
+    not_wrong text us byte written (subst (λ xs. Spells (unplaced xs) written) (tokens_same text ts us lexed other) s) wrong
+not_refused text found (e.NumberTooLarge byte) (written, (ts, lexed, s), few, same) h = lexer_fine text ts (l.NumberTooLarge byte) lexed h
+not_refused text found (e.LongRun byte) (written, (ts, lexed, s), few, same) h = lexer_fine text ts (l.LongRun byte) lexed h
+not_refused text found e.OutOfMemory (written, (ts, lexed, s), few, same) h = absurd h

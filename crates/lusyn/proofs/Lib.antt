@@ -1,4 +1,5 @@
 pub mod Again
+pub mod Limits
 pub mod Whole
 pub mod Exclusive
 pub mod Places

@@ -4,7 +4,7 @@ use Rattle.std.specs.Str.{IsAscii}
 use Rattle.std.specs.List.{list_all}
 use Rattle.std.proofs.lemmas.Bool.{and_parts, ltb-true}
 use Rattle.std.proofs.lemmas.Str.Ascii.{IsAscii-nil, IsAscii-cons}
-use Rattle.lutree.specs.Places.{NodePlaces, places_view}
+use Rattle.lutree.specs.Places.{ProgramPlaces, places_view}
 use Rattle.lutree.specs.declared.program.Program.{Program}
 use Rattle.lusyn_tokens.specs.declared.token.Lexeme.{Lexeme}
 use Rattle.lusyn_tokens.specs.Tokens.{located}
@@ -13,7 +13,7 @@ use Rattle.lusyn_tokens.specs.Tokens.{identifier, number, fixed}
 use Rattle.lusyn_lexer.specs.Lexing.{Placed}
 use Rattle.lusyn_lexer.specs.Scanning.{lex, piece}
 use Rattle.lusyn_lexer.proofs.Whole.{whole, answer-is}
-use Rattle.lusyn_grammar.specs.Places.{places_in, behind, declared, begun}
+use Rattle.lusyn_grammar.specs.Places.{places_in, types_in, nodes_in, behind, declared, begun, enumerated}
 use Rattle.lusyn.specs.Places.{ArePlacesOf, two_nodes, two_nodes_places, PlacesVector}
 use Rattle.lusyn.proofs.Exclusive.{tokens_same}
 use Rattle.lusyn.proofs.Whole.{Scanned}
@@ -21,7 +21,7 @@ use Rattle.lusyn.proofs.Whole.{Scanned}
 pub places_of : (text : List ℕ) (ls : List Lexeme) (found : Program) → Scanned text ls → places_view found ≡ places_in (located ls) → ArePlacesOf text (places_view found)
 places_of text ls found s e = (located ls, s.lexed, sym e)
 
-pub one_places : (text : List ℕ) (one other : List NodePlaces) → ArePlacesOf text one → ArePlacesOf text other → one ≡ other
+pub one_places : (text : List ℕ) (one other : ProgramPlaces) → ArePlacesOf text one → ArePlacesOf text other → one ≡ other
 one_places text one other (a, x, p) (b, y, q) = sym p ∙ ap places_in (tokens_same text a b x y) ∙ q
 
 -- A WORKED TEXT
@@ -40,26 +40,33 @@ two_nodes-low = refl
 
 abbrev two_nodes_tokens : List Placed
 two_nodes_tokens =
-    (0, fixed f.Node) ∷ (5, identifier (codes "f")) ∷ (6, fixed f.Open) ∷ (7, identifier (codes "x")) ∷ (8, fixed f.Comma) ∷
-    (10, identifier (codes "y")) ∷ (11, fixed f.Colon) ∷ (13, fixed f.Bool) ∷ (17, fixed f.Close) ∷ (19, fixed f.Returns) ∷ (27, fixed f.Open) ∷
-    (28, identifier (codes "z")) ∷ (29, fixed f.Colon) ∷ (31, fixed f.Int) ∷ (35, fixed f.When) ∷ (40, fixed f.Not) ∷ (44, identifier (codes "y")) ∷
-    (45, fixed f.Close) ∷ (46, fixed f.Semicolon) ∷ (48, fixed f.Let) ∷ (52, identifier (codes "z")) ∷ (54, fixed f.Equal) ∷ (56, number 1) ∷
-    (57, fixed f.Semicolon) ∷ (59, fixed f.Tel) ∷ (63, fixed f.Node) ∷ (68, identifier (codes "g")) ∷ (69, fixed f.Open) ∷
-    (70, identifier (codes "a")) ∷ (71, fixed f.Colon) ∷ (73, fixed f.Int) ∷ (76, fixed f.Close) ∷ (78, fixed f.Returns) ∷ (86, fixed f.Open) ∷
-    (87, identifier (codes "b")) ∷ (88, fixed f.Comma) ∷ (90, identifier (codes "c")) ∷ (91, fixed f.Colon) ∷ (93, fixed f.Int) ∷
-    (96, fixed f.Close) ∷ (98, fixed f.Var) ∷ (102, identifier (codes "k")) ∷ (103, fixed f.Colon) ∷ (105, fixed f.Bool) ∷ (109, fixed f.Semicolon) ∷
-    (111, identifier (codes "v")) ∷ (112, fixed f.Colon) ∷ (114, fixed f.Int) ∷ (118, fixed f.When) ∷ (123, identifier (codes "k")) ∷
-    (124, fixed f.Semicolon) ∷ (126, fixed f.Let) ∷ (142, fixed f.Open) ∷ (143, identifier (codes "b")) ∷ (144, fixed f.Comma) ∷
-    (146, identifier (codes "c")) ∷ (147, fixed f.Close) ∷ (149, fixed f.Equal) ∷ (151, identifier (codes "h")) ∷ (152, fixed f.Open) ∷
-    (153, identifier (codes "a")) ∷ (154, fixed f.Close) ∷ (155, fixed f.Semicolon) ∷ (159, identifier (codes "k")) ∷ (161, fixed f.Equal) ∷
-    (163, fixed f.True) ∷ (167, fixed f.Semicolon) ∷ (169, fixed f.Tel) ∷ []
+    (0, fixed f.Type) ∷ (5, identifier (codes "t")) ∷ (7, fixed f.Equal) ∷ (9, fixed f.Enum) ∷ (14, fixed f.OpenBrace) ∷ (16, identifier (codes "Up")) ∷
+    (18, fixed f.Comma) ∷ (20, identifier (codes "Down")) ∷ (25, fixed f.CloseBrace) ∷ (26, fixed f.Semicolon) ∷ (28, fixed f.Node) ∷
+    (33, identifier (codes "f")) ∷ (34, fixed f.Open) ∷ (35, identifier (codes "x")) ∷ (36, fixed f.Comma) ∷ (38, identifier (codes "y")) ∷
+    (39, fixed f.Colon) ∷ (41, fixed f.Bool) ∷ (45, fixed f.Semicolon) ∷ (47, identifier (codes "m")) ∷ (48, fixed f.Colon) ∷
+    (50, identifier (codes "t")) ∷ (51, fixed f.Close) ∷ (53, fixed f.Returns) ∷ (61, fixed f.Open) ∷ (62, identifier (codes "z")) ∷
+    (63, fixed f.Colon) ∷ (65, fixed f.Int) ∷ (69, fixed f.When) ∷ (74, fixed f.Not) ∷ (78, identifier (codes "y")) ∷ (79, fixed f.Semicolon) ∷
+    (81, identifier (codes "w")) ∷ (82, fixed f.Colon) ∷ (84, identifier (codes "t")) ∷ (86, fixed f.When) ∷ (91, identifier (codes "Up")) ∷
+    (93, fixed f.Open) ∷ (94, identifier (codes "m")) ∷ (95, fixed f.Close) ∷ (96, fixed f.Close) ∷ (97, fixed f.Semicolon) ∷ (99, fixed f.Let) ∷
+    (103, identifier (codes "z")) ∷ (105, fixed f.Equal) ∷ (107, number 1) ∷ (108, fixed f.Semicolon) ∷ (110, identifier (codes "w")) ∷
+    (112, fixed f.Equal) ∷ (114, identifier (codes "Up")) ∷ (117, fixed f.When) ∷ (122, identifier (codes "Up")) ∷ (124, fixed f.Open) ∷
+    (125, identifier (codes "m")) ∷ (126, fixed f.Close) ∷ (127, fixed f.Semicolon) ∷ (129, fixed f.Tel) ∷ (133, fixed f.Node) ∷
+    (138, identifier (codes "g")) ∷ (139, fixed f.Open) ∷ (140, identifier (codes "a")) ∷ (141, fixed f.Colon) ∷ (143, fixed f.Int) ∷
+    (146, fixed f.Close) ∷ (148, fixed f.Returns) ∷ (156, fixed f.Open) ∷ (157, identifier (codes "b")) ∷ (158, fixed f.Comma) ∷
+    (160, identifier (codes "c")) ∷ (161, fixed f.Colon) ∷ (163, fixed f.Int) ∷ (166, fixed f.Close) ∷ (168, fixed f.Var) ∷
+    (172, identifier (codes "k")) ∷ (173, fixed f.Colon) ∷ (175, fixed f.Bool) ∷ (179, fixed f.Semicolon) ∷ (181, identifier (codes "v")) ∷
+    (182, fixed f.Colon) ∷ (184, fixed f.Int) ∷ (188, fixed f.When) ∷ (193, identifier (codes "k")) ∷ (194, fixed f.Semicolon) ∷ (196, fixed f.Let) ∷
+    (212, fixed f.Open) ∷ (213, identifier (codes "b")) ∷ (214, fixed f.Comma) ∷ (216, identifier (codes "c")) ∷ (217, fixed f.Close) ∷
+    (219, fixed f.Equal) ∷ (221, identifier (codes "h")) ∷ (222, fixed f.Open) ∷ (223, identifier (codes "a")) ∷ (224, fixed f.Close) ∷
+    (225, fixed f.Semicolon) ∷ (229, identifier (codes "k")) ∷ (231, fixed f.Equal) ∷ (233, fixed f.True) ∷ (237, fixed f.Semicolon) ∷
+    (239, fixed f.Tel) ∷ []
 
 two_nodes-scanned : whole two_nodes ≡ Ok two_nodes_tokens
 unfolding lex piece
 two_nodes-scanned = refl
 
 two_nodes-told : places_in two_nodes_tokens ≡ two_nodes_places
-unfolding places_in behind declared begun
+unfolding types_in nodes_in behind declared begun enumerated
 two_nodes-told = refl
 
 pub two_nodes-places : PlacesVector

@@ -1,8 +1,6 @@
 -- From the answers of the lexer and of the parser to that of the reader.
-use Rattle.std.proofs.Common.{◌≡◌, ◌⊎◌, inl, inr, ◌≤◌, ◌<◌, ℕ, length, List, map, Result, Ok, Err, IfOk, refl, ap, sym, ◌∙◌, subst, arith}
-use Rattle.std.specs.Result.{IfErr}
-use Rattle.std.proofs.lemmas.List.{length-map}
-use Rattle.lutree.specs.Tree.{ProgramTree, program_view, node_view}
+use Rattle.std.proofs.Common.{◌≡◌, ◌⊎◌, inl, inr, ℕ, length, List, Result, Ok, Err, refl, ap, sym, ◌∙◌, subst}
+use Rattle.lutree.specs.Tree.{ProgramTree, program_view}
 use Rattle.lutree.specs.declared.program.Program.{Program}
 use Rattle.lusyn_tokens.specs.declared.token.Lexeme.{Lexeme}
 use Rattle.lusyn_tokens.specs.Tokens.{toks, located}
@@ -22,7 +20,9 @@ use Rattle.lusyn.specs.declared.error.SynError.{SynError}
 use Rattle.lusyn.specs.declared.error.SynError.TheVariants as e
 use Rattle.lusyn.specs.Gives.{IsAnswered, Refuses, refusal, syntax_refusal}
 use Rattle.lusyn.specs.Refusals.{IsRefused}
-use Rattle.lusyn.specs.Texts.{HasProgram, SpellsText}
+use Rattle.lusyn_labels.specs.Resolved.{resolved}
+use Rattle.lusyn.specs.Texts.{HasProgram, IsSmall, IsLarge, SpellsText}
+use Rattle.lusyn.proofs.Limits.{not_large}
 
 -- ---- the lexer refuses
 
@@ -55,8 +55,8 @@ module _ {Y : Type 0} (seen : Y → List Lexeme) (text : List ℕ) where
   not_answered (l.LongRun byte) tree ts h = absurd cc
 
   pub lexer-only : (told : LexError) (tree : ProgramTree) → ((ts : List Placed) → IsLexed text ts → Lexes {X = Y} seen (Err told) (Ok ts))
-      → SpellsText text tree → IsAnswered (Err (refusal told)) tree
-  lexer-only told tree only ((ts, lexed, s), few) = not_answered told tree ts (only ts lexed)
+      → HasProgram text tree → IsAnswered (Err (refusal told)) tree
+  lexer-only told tree only (ts, lexed, s) = not_answered told tree ts (only ts lexed)
 
   pub lexer-refuses : (told : LexError) (error : SynError) → ((ts : List Placed) → IsLexed text ts → Lexes {X = Y} seen (Err told) (Ok ts))
       → ((other : LexError) → lexing.IsRefused text other → Lexes {X = Y} seen (Err told) (Err other)) → IsRefused text error → Refuses (Err (refusal told)) error
@@ -132,8 +132,8 @@ refused_byte (p.Syntax other) byte h = ap e.Syntax (sym h)
 refused_byte p.OutOfMemory byte h = tt
 
 pub parser-only : (text : List ℕ) (ls : List Lexeme) (told : ParseError) (tree : ProgramTree) → Scanned text ls → ParsesOnly ls (Err told)
-    → SpellsText text tree → IsAnswered (Err (syntax_refusal told)) tree
-parser-only text ls told tree h only ((ts, lexed, s), few) = refused_tree told tree (only tree (spelled-at text ls ts tree h lexed s))
+    → HasProgram text tree → IsAnswered (Err (syntax_refusal told)) tree
+parser-only text ls told tree h only (ts, lexed, s) = refused_tree told tree (only tree (spelled-at text ls ts tree h lexed s))
 
 pub parser-refused : (text : List ℕ) (ls : List Lexeme) (told : ParseError) → Scanned text ls → parsing.IsRefused (located ls) (length text) told
     → (syntax_refusal told ≡ e.OutOfMemory) ⊎ IsRefused text (syntax_refusal told)
@@ -153,28 +153,21 @@ parser-refuses text ls told e.OutOfMemory h only refuses r = absurd r
 
 -- ---- the parser gives a program
 
-nodes-seen : (found : Program) → length (program_view found).nodes ≡ length found.nodes
-nodes-seen found = length-map found.nodes node_view
+read-same : (text : List ℕ) (ls : List Lexeme) (found : Program) (tree : ProgramTree) → Scanned text ls → ParsesOnly ls (Ok found) → HasProgram text tree → tree ≡ program_view found
+read-same text ls found tree h only (ts, lexed, s) = only tree (spelled-at text ls ts tree h lexed s)
 
-pub many-only : (text : List ℕ) (ls : List Lexeme) (found : Program) (tree : ProgramTree) → Scanned text ls → ParsesOnly ls (Ok found) → 256 < length found.nodes
-    → SpellsText text tree → ⊥
-many-only text ls found tree h only many ((ts, lexed, s), few) =
-    let same = ap (λ (read : ProgramTree). length read.nodes) (only tree (spelled-at text ls ts tree h lexed s)) ∙ nodes-seen found in
-    omega (arith, same, few, many)
+pub many-only : (text : List ℕ) (ls : List Lexeme) (found : Program) (tree : ProgramTree) → Scanned text ls → ParsesOnly ls (Ok found) → IsLarge (program_view found) → HasProgram text tree → IsSmall tree → ⊥
+many-only text ls found tree h only many has few = not_large (program_view found) (subst IsSmall (read-same text ls found tree h only has) few) many
 
-pub many-refused : (text : List ℕ) (ls : List Lexeme) (found : Program) → Scanned text ls → Spells (toks ls) (program_view found) → 256 < length found.nodes
+pub many-refused : (text : List ℕ) (ls : List Lexeme) (found : Program) → Scanned text ls → Spells (toks ls) (program_view found) → IsLarge (program_view found)
     → (e.TooLong ≡ e.OutOfMemory) ⊎ IsRefused text e.TooLong
-many-refused text ls found h s many =
-    let seen = nodes-seen found in
-    inr (inr (program_view found, has-program text ls (program_view found) h s, omega (arith, seen, many)))
+many-refused text ls found h s many = inr (inr (program_view found, has-program text ls (program_view found) h s, many))
 
 -- what is true of a text that spells a program
 pub found-refuses : (text : List ℕ) (ls : List Lexeme) (found : Program) (error : SynError) → Scanned text ls → ParsesOnly ls (Ok found) → ParserRefuses ls (length text) (Ok found)
-    → IsRefused text error → (error ≡ e.TooLong) × (256 < length found.nodes)
+    → IsRefused text error → (error ≡ e.TooLong) × IsLarge (program_view found)
 found-refuses text ls found e.TooLong h only refuses (inl r) = absurd (h.fine l.TooLong r)
-found-refuses text ls found e.TooLong h only refuses (inr (other, (ts, lexed, s), many)) =
-    let same = ap (λ (read : ProgramTree). length read.nodes) (only other (spelled-at text ls ts other h lexed s)) ∙ nodes-seen found in
-    (refl, omega (arith, same, many))
+found-refuses text ls found e.TooLong h only refuses (inr (other, has, many)) = (refl, subst IsLarge (read-same text ls found other h only has) many)
 found-refuses text ls found e.NotAscii h only refuses r = absurd (h.fine l.NotAscii r)
 found-refuses text ls found (e.Syntax byte) h only refuses (inl r) = absurd (h.fine (l.NoToken byte) r)
 found-refuses text ls found (e.Syntax byte) h only refuses (inr (ts, lexed, wrong)) = absurd (refuses byte (wrong-from text ls ts (length text) byte h lexed wrong))
@@ -182,10 +175,31 @@ found-refuses text ls found (e.NumberTooLarge byte) h only refuses r = absurd (h
 found-refuses text ls found (e.LongRun byte) h only refuses r = absurd (h.fine (l.LongRun byte) r)
 found-refuses text ls found e.OutOfMemory h only refuses r = absurd r
 
-pub few-spelled : (text : List ℕ) (ls : List Lexeme) (found : Program) → Scanned text ls → Spells (toks ls) (program_view found) → length found.nodes ≤ 256 → SpellsText text (program_view found)
-few-spelled text ls found h s few =
-    let seen = nodes-seen found in
-    (has-program text ls (program_view found) h s, omega (arith, seen, few))
+pub few-spelled : (text : List ℕ) (ls : List Lexeme) (found : Program) → Scanned text ls → Spells (toks ls) (program_view found) → HasProgram text (program_view found)
+few-spelled text ls found h s = has-program text ls (program_view found) h s
 
-pub few-only : (text : List ℕ) (ls : List Lexeme) (found : Program) (tree : ProgramTree) → Scanned text ls → ParsesOnly ls (Ok found) → SpellsText text tree → tree ≡ program_view found
-few-only text ls found tree h only ((ts, lexed, s), few) = only tree (spelled-at text ls ts tree h lexed s)
+pub few-only : (text : List ℕ) (ls : List Lexeme) (found : Program) (tree : ProgramTree) → Scanned text ls → ParsesOnly ls (Ok found) → HasProgram text tree → tree ≡ program_view found
+few-only text ls found tree h only has = read-same text ls found tree h only has
+
+-- ---- names are resolved
+
+abbrev WrittenOnly : List ℕ → Result Program SynError → Type 0
+WrittenOnly text r = (tree : ProgramTree) → HasProgram text tree → IsSmall tree → IsAnswered r tree
+
+any_tree : (told : SynError) (one other : ProgramTree) → IsAnswered (Err told) one → IsAnswered (Err told) other
+any_tree e.OutOfMemory one other h = tt
+any_tree e.TooLong one other h = absurd h
+any_tree e.NotAscii one other h = absurd h
+any_tree (e.Syntax byte) one other h = absurd h
+any_tree (e.NumberTooLarge byte) one other h = absurd h
+any_tree (e.LongRun byte) one other h = absurd h
+
+pub refused-only : (text : List ℕ) (told : SynError) (tree : ProgramTree) → WrittenOnly text (Err told) → SpellsText text tree → IsAnswered (Err told) tree
+refused-only text told tree only (written, has, few, same) = any_tree told written tree (only written has few)
+
+pub resolved-only : (text : List ℕ) (written found : Program) (tree : ProgramTree) → WrittenOnly text (Ok written) → program_view found ≡ resolved (program_view written) → SpellsText text tree → tree ≡ program_view found
+resolved-only text written found tree only is (other, has, few, same) = sym same ∙ ap resolved (only other has few) ∙ sym is
+
+pub resolved-spelled : (text : List ℕ) (written found : Program) → HasProgram text (program_view written) → IsSmall (program_view written) → program_view found ≡ resolved (program_view written)
+    → SpellsText text (program_view found)
+resolved-spelled text written found has few is = (program_view written, has, few, sym is)

@@ -16,7 +16,8 @@ pub enum SynError {
     NumberTooLarge { byte: usize },
     /// A byte is above 127.
     NotAscii,
-    /// The text has more than 1,048,576 bytes, or its program has more than 256 nodes.
+    /// The text has more than 1,048,576 bytes, or its program has more than 256 nodes, more than 64 types, or a type of more than
+    /// 64 names.
     TooLong,
     /// The token at this byte is the first one with 1,000 others of its run before it. A run's tokens are those before
     /// the first `;`, those between two, and those after the last.

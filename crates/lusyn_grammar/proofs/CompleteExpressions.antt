@@ -1,11 +1,13 @@
 -- Expressions that are spelled so are read.
-use Rattle.std.proofs.Common.{◌≡◌, ◌≤◌, ◌<◌, ◌+◌, ◌-◌, ℕ, zero, suc, Some, Ok, Err, List, ◌∷◌, [], ◌++◌, refl, ap, sym, subst, ◌∙◌, inl, inr, arith, cond, Bool, true, false, ◌&&◌, nat_le, length}
+use Rattle.std.proofs.Common.{◌≡◌, ◌≤◌, ◌<◌, ◌+◌, ◌-◌, ℕ, zero, suc, Some, Ok, Err, List, ◌∷◌, [], ◌++◌, refl, ap, sym, subst, ◌∙◌, inl, inr, arith, cond, Bool, true, false, ◌&&◌, nat_le, length, map, Result, ◌⊎◌}
 use Rattle.std.specs.List.{flat_map}
+use Rattle.std.specs.Result.{is_ok}
 use Rattle.std.proofs.lemmas.Bool.{le-leb, lt-leb}
 use Rattle.lutree.specs.declared.expr.UnaryOperator.TheVariants as u
 use Rattle.lutree.specs.declared.expr.Prefix.{Prefix}
 use Rattle.lutree.specs.declared.expr.Prefix.TheVariants as p
 use Rattle.lutree.specs.declared.expr.Infix.{Infix}
+use Rattle.lutree.specs.declared.expr.Label.{Label}
 use Rattle.lutree.specs.declared.expr.Pattern.{Pattern}
 use Rattle.lutree.specs.declared.expr.Pattern.TheVariants as patterns
 use Rattle.lutree.specs.declared.expr.Condition.{Condition}
@@ -15,11 +17,11 @@ use Rattle.lusyn_tokens.specs.declared.token.Fixed.{Fixed}
 use Rattle.lusyn_tokens.specs.declared.token.Fixed.TheVariants as f
 use Rattle.lusyn_tokens.specs.Tokens.{Tok, identifier, number, fixed}
 use Rattle.lusyn_tokens.specs.Tokens.{infix_token, prefix_token, level, left, right}
-use Rattle.lusyn_grammar.specs.Grammar.{Written, Writtens, tree, trees, tokens, further, level_of, IsProper, AreProper, when_tokens, pattern_tokens, repeated, Each}
+use Rattle.lusyn_grammar.specs.Grammar.{Written, Writtens, tree, trees, tokens, further, branches, branch_token, level_of, IsProper, AreProper, IsBare, IsBareLabel, bare_label, truths, AreAsMany, AreBranches, IsNonempty, when_tokens, pattern_tokens, repeated, led, Each}
 use Rattle.lusyn_grammar.specs.Grammar as w
-use Rattle.lusyn_grammar.specs.Reading.{Read, ◌>>=◌, Next, operator, clock, parenthesis, nothing, next, tail, after, begins, condition, many, step, climb, further_operand, closed, operands_by, operands, named, choice, inside, branch, merge, current, at_level, allowed, prefixed, head, whole, expr}
+use Rattle.lusyn_grammar.specs.Reading.{Read, ◌>>=◌, Next, operator, clock, parenthesis, nothing, next, tail, after, begins, clock_from_by, condition, many, step, climb, further_operand, closed, operands_by, operands, named, choice, inside, branch, merged, by_truths, labelled, further_branch, by_labels, merge, current, at_level, allowed, prefixed, head, whole, expr}
 use Rattle.lusyn_grammar.proofs.Tables.{level_low, level_high, right_high, right_bound, left_bound, operator_after, next-operator_token}
-use Rattle.lusyn_grammar.proofs.SoundExpressions.{operand, operand_tree, between}
+use Rattle.lusyn_grammar.proofs.SoundExpressions.{operand, operand_tree, between, Labelled, labelled_tokens, labelled_tree}
 use Rattle.lusyn_grammar.proofs.CompletePieces.{goes_on, chosen_true, after-here, many_complete}
 
 -- no operator of this level or above goes on
@@ -52,13 +54,19 @@ abbrev mutual
   size (w.choice a b c) = suc (size a + size b + size c)
   size (w.when c on) = suc (size c)
   size (w.current x) = 1
-  size (w.merge x a b) = suc (size a + size b)
+  size (w.merge x ps cs) = suc (branch_sizes cs ps)
   size (w.call g cs) = suc (sizes cs)
   size (w.paren c) = suc (size c)
 
   pub sizes : Writtens → ℕ
   sizes w.none = 0
   sizes (w.more c cs) = suc (size c + sizes cs)
+
+  -- of those that have a pattern
+  pub branch_sizes : Writtens → List Pattern → ℕ
+  branch_sizes w.none ps = 0
+  branch_sizes (w.more c cs) [] = 0
+  branch_sizes (w.more c cs) (p ∷ ps) = suc (size c + branch_sizes cs ps)
 
 abbrev pub CompleteAt : (ℕ → List Tok → Read Tree) → ℕ → Type 0
 CompleteAt read bound = (c : Written) (least : ℕ) (rest : List Tok) → size c ≤ bound → IsProper c → least ≤ level_of c → least ≤ 10 → IsQuiet least (next rest) → read least (tokens c rest) ≡ Ok (tree c, rest)
@@ -108,12 +116,25 @@ clock_quiet (w.unary one c) h = absurd (omega arith)
 clock_quiet (w.number n) h = omega arith
 clock_quiet _ h = omega arith
 
-pub condition-taken : (c : Condition) (rest : List Tok) → condition (pattern_tokens c.pattern c.variable rest) ≡ Ok (c, rest)
-condition-taken c rest = by_pattern c.pattern refl
+abbrev on_pattern : Pattern → List ℕ → Condition
+on_pattern p x = record { variable = x; pattern = p }
+
+-- no parenthesis may follow the variable of a clock
+pub condition-taken : (c : Condition) (rest : List Tok) → IsBare c.pattern → after f.Open rest ≡ Err rest → condition (pattern_tokens c.pattern c.variable rest) ≡ Ok (c, rest)
+condition-taken c rest bare over = by_pattern c.pattern bare
   where
-    by_pattern : (p : Pattern) → c.pattern ≡ p → condition (pattern_tokens p c.variable rest) ≡ Ok (record { variable = c.variable; pattern = p }, rest)
-    by_pattern (patterns.Truth true) e = refl
-    by_pattern (patterns.Truth false) e = refl
+    by_pattern : (p : Pattern) → IsBare p → condition (pattern_tokens p c.variable rest) ≡ Ok (on_pattern p c.variable, rest)
+    by_pattern (patterns.Truth true) h = ap (clock_from_by c.variable rest) over
+    by_pattern (patterns.Truth false) h = refl
+    by_pattern (patterns.Label l) h = ap (λ (k : Label). Ok (on_pattern (patterns.Label k) c.variable, rest)) (sym h)
+
+-- no parenthesis follows where no operator does
+pub not_opened : (least : ℕ) (rest : List Tok) → IsQuiet least (next rest) → after f.Open rest ≡ Err rest
+not_opened least [] q = refl
+not_opened least (identifier x ∷ rest) q = refl
+not_opened least (number x ∷ rest) q = refl
+not_opened least (fixed f.Open ∷ rest) q = absurd q
+not_opened least (fixed _ ∷ rest) q = refl
 
 passed_over : {A : Type 0} (a b : Bool) (x y : A) → a ≡ false → cond (a && b) x y ≡ y
 passed_over true b x y e = absurd cc
@@ -143,7 +164,7 @@ not_closed (w.binary op a b) rest = not_closed a (fixed (infix_token op) ∷ tok
 not_closed (w.choice a b c) rest = refl
 not_closed (w.when c on) rest = not_closed c (when_tokens on rest)
 not_closed (w.current x) rest = refl
-not_closed (w.merge x a b) rest = refl
+not_closed (w.merge x ps cs) rest = refl
 not_closed (w.call g w.none) rest = refl
 not_closed (w.call g (w.more c cs)) rest = refl
 not_closed (w.paren c) rest = refl
@@ -178,6 +199,57 @@ list_of-few (w.more c cs) = omega (arith, list_of-few cs)
 abbrev MayFollow : List Tok → Type 0
 MayFollow rest = IsQuiet 0 (next rest)
 
+-- the written branches of a merge with names, as a list of pairs
+abbrev labelled_of : Writtens → List Pattern → List Labelled
+labelled_of (w.more c cs) (patterns.Label l ∷ ps) = (l.name, c) ∷ labelled_of cs ps
+labelled_of _ _ = []
+
+branches-labelled : (cs : Writtens) (ps : List Pattern) (rest : List Tok) → AreAsMany cs ps → Each IsBareLabel ps → branches cs ps rest ≡ repeated (led f.Open labelled_tokens) (labelled_of cs ps) rest
+branches-labelled w.none [] rest many bare = refl
+branches-labelled w.none (p ∷ ps) rest many bare = absurd many
+branches-labelled (w.more c cs) [] rest many bare = absurd many
+branches-labelled (w.more c cs) (patterns.Truth b ∷ ps) rest many bare = absurd bare.0
+branches-labelled (w.more c cs) (patterns.Label l ∷ ps) rest many bare =
+    ap (λ (us : List Tok). fixed f.Open ∷ identifier l.name ∷ fixed f.Arrow ∷ tokens c (fixed f.Close ∷ us)) (branches-labelled cs ps rest many bare.1)
+
+labels-labelled : (cs : Writtens) (ps : List Pattern) → AreAsMany cs ps → Each IsBareLabel ps → map (λ (b : List ℕ × Tree). patterns.Label (bare_label b.0)) (flat_map labelled_tree (labelled_of cs ps)) ≡ ps
+labels-labelled w.none [] many bare = refl
+labels-labelled w.none (p ∷ ps) many bare = absurd many
+labels-labelled (w.more c cs) [] many bare = absurd many
+labels-labelled (w.more c cs) (patterns.Truth b ∷ ps) many bare = absurd bare.0
+labels-labelled (w.more c cs) (patterns.Label l ∷ ps) many bare =
+    ap (λ (qs : List Pattern). patterns.Label (bare_label l.name) ∷ qs) (labels-labelled cs ps many bare.1) ∙ ap (λ (k : Label). patterns.Label k ∷ ps) (sym bare.0)
+
+trees-labelled : (cs : Writtens) (ps : List Pattern) → AreAsMany cs ps → Each IsBareLabel ps → trees_of (map (λ (b : List ℕ × Tree). b.1) (flat_map labelled_tree (labelled_of cs ps))) ≡ trees cs
+trees-labelled w.none [] many bare = refl
+trees-labelled w.none (p ∷ ps) many bare = absurd many
+trees-labelled (w.more c cs) [] many bare = absurd many
+trees-labelled (w.more c cs) (patterns.Truth b ∷ ps) many bare = absurd bare.0
+trees-labelled (w.more c cs) (patterns.Label l ∷ ps) many bare = ap (t.more (tree c)) (trees-labelled cs ps many bare.1)
+
+merged-labelled : (v : List ℕ) (cs : Writtens) (ps : List Pattern) → AreAsMany cs ps → Each IsBareLabel ps → merged v (flat_map labelled_tree (labelled_of cs ps)) ≡ t.merge v ps (trees cs)
+merged-labelled v cs ps many bare =
+    ap (λ (qs : List Pattern). t.merge v qs (trees_of (map (λ (b : List ℕ × Tree). b.1) (flat_map labelled_tree (labelled_of cs ps))))) (labels-labelled cs ps many bare)
+    ∙ ap (t.merge v ps) (trees-labelled cs ps many bare)
+
+abbrev IsSmallBranch : ℕ → Labelled → Type 0
+IsSmallBranch n b = IsSmall n b.1
+
+each_branch_small : (n : ℕ) (cs : Writtens) (ps : List Pattern) → branch_sizes cs ps ≤ n → AreProper cs → Each (IsSmallBranch n) (labelled_of cs ps)
+each_branch_small n w.none ps h p = tt
+each_branch_small n (w.more c cs) [] h p = tt
+each_branch_small n (w.more c cs) (patterns.Truth b ∷ ps) h p = tt
+each_branch_small n (w.more c cs) (patterns.Label l ∷ ps) h p = ((p.0, omega arith), each_branch_small n cs ps (omega arith) p.1)
+
+labelled_of-few : (cs : Writtens) (ps : List Pattern) → length (labelled_of cs ps) ≤ branch_sizes cs ps
+labelled_of-few w.none ps = omega arith
+labelled_of-few (w.more c cs) [] = omega arith
+labelled_of-few (w.more c cs) (patterns.Truth b ∷ ps) = omega arith
+labelled_of-few (w.more c cs) (patterns.Label l ∷ ps) = omega (arith, labelled_of-few cs ps)
+
+abbrev Follows : List Tok → Type 0
+Follows rest = Unit {0}
+
 further_quiet : (cs : Writtens) (rest : List Tok) → IsQuiet 0 (next (further cs (fixed f.Close ∷ rest)))
 further_quiet w.none rest = tt
 further_quiet (w.more c cs) rest = tt
@@ -205,11 +277,11 @@ module _ (read : ℕ → List Tok → Read Tree) (n : ℕ) (complete : CompleteA
       ∙ goes_on (read (right op) (tokens b rest)) (tree b, rest) (λ x. climb read m least (level op) (t.binary op found x.0) x.1) (complete b (right op) rest small p bound (omega (arith, right_high op)) q)
 
   clock_taken : (m least at : ℕ) (c : Condition) (found : Tree) (rest : List Tok)
-      → least ≤ 9 → 9 ≤ at → climb read (suc m) least at found (when_tokens c rest) ≡ climb read m least 9 (t.when found c) rest
+      → least ≤ 9 → 9 ≤ at → IsBare c.pattern → after f.Open rest ≡ Err rest → climb read (suc m) least at found (when_tokens c rest) ≡ climb read m least 9 (t.when found c) rest
   unfolding climb
-  clock_taken m least at c found rest low fits =
+  clock_taken m least at c found rest low fits bare over =
       taken (nat_le least 9) (nat_le 9 at) _ _ (le-leb least 9 low) (le-leb 9 at fits)
-      ∙ goes_on (condition (tail (when_tokens c rest))) (c, rest) (λ x. climb read m least 9 (t.when found x.0) x.1) (condition-taken c rest)
+      ∙ goes_on (condition (tail (when_tokens c rest))) (c, rest) (λ x. climb read m least 9 (t.when found x.0) x.1) (condition-taken c rest bare over)
 
   -- a name alone
   name_alone : (v : List ℕ) (least : ℕ) (rest : List Tok) → IsQuiet least (next rest) → named read n v rest ≡ Ok (t.variable v, rest)
@@ -276,15 +348,69 @@ module _ (read : ℕ → List Tok → Read Tree) (n : ℕ) (complete : CompleteA
       goes_on (after sign (fixed sign ∷ inner)) inner (λ b. after f.Arrow b >>= λ us. inside read us) (after-here sign inner)
       ∙ ap (λ (r : Read Tree). closed r) (complete c 0 (fixed f.Close ∷ rest) h p (omega arith) (omega arith) tt)
 
-  merge_taken : (v : List ℕ) (a b : Written) (least : ℕ) (rest : List Tok) → size a ≤ n → size b ≤ n → IsProper a → IsProper b
-      → head read n least (tokens (w.merge v a b) rest) ≡ Ok (10, t.merge v (tree a) (tree b), rest)
-  unfolding head merge
-  merge_taken v a b least rest ha hb pa pb =
+  inside_taken : (c : Written) (rest : List Tok) → size c ≤ n → IsProper c → inside read (tokens c (fixed f.Close ∷ rest)) ≡ Ok (tree c, rest)
+  unfolding inside
+  inside_taken c rest h p = ap (λ (r : Read Tree). closed r) (complete c 0 (fixed f.Close ∷ rest) h p (omega arith) (omega arith) tt)
+
+  -- a merge with both truths
+  truths_taken : (v : List ℕ) (a b : Written) (rest : List Tok) → size a ≤ n → size b ≤ n → IsProper a → IsProper b
+      → merge read n (identifier v ∷ branches (w.more a (w.more b w.none)) truths rest) ≡ Ok (t.merge v truths (t.more (tree a) (t.more (tree b) t.none)), rest)
+  unfolding merge by_truths
+  truths_taken v a b rest ha hb pa pb =
       let second : List Tok = fixed f.Open ∷ fixed f.False ∷ fixed f.Arrow ∷ tokens b (fixed f.Close ∷ rest) in
-      let first : List Tok = fixed f.Open ∷ fixed f.True ∷ fixed f.Arrow ∷ tokens a (fixed f.Close ∷ second) in
-      ap (λ (r : Read Tree). at_level 10 r) (
-      goes_on (branch read f.True first) (tree a, second) (λ x. branch read f.False x.1 >>= λ y. Ok (t.merge v x.0 y.0, y.1)) (branch_taken f.True a second ha pa)
-      ∙ goes_on (branch read f.False second) (tree b, rest) (λ y. Ok (t.merge v (tree a) y.0, y.1)) (branch_taken f.False b rest hb pb))
+      goes_on (inside read (tokens a (fixed f.Close ∷ second))) (tree a, second) (λ x. branch read f.False x.1 >>= λ y. Ok (t.merge v truths (t.more x.0 (t.more y.0 t.none)), y.1)) (inside_taken a second ha pa)
+      ∙ goes_on (branch read f.False second) (tree b, rest) (λ y. Ok (t.merge v truths (t.more (tree a) (t.more y.0 t.none)), y.1)) (branch_taken f.False b rest hb pb)
+
+  labelled_taken : (b : Labelled) (found : List (List ℕ × Tree)) (rest : List Tok) → IsSmallBranch n b → Follows rest → labelled read found (labelled_tokens b rest) ≡ Ok (found ++ labelled_tree b, rest)
+  unfolding labelled
+  labelled_taken b found rest small follows =
+      goes_on (inside read (tokens b.1 (fixed f.Close ∷ rest))) (tree b.1, rest) (λ e. Ok (found ++ (b.0, e.0) ∷ [], e.1)) (inside_taken b.1 rest small.1 small.0)
+
+  further_branch_taken : (b : Labelled) (found : List (List ℕ × Tree)) (rest : List Tok) → IsSmallBranch n b → Follows rest
+      → further_branch read found (led f.Open labelled_tokens b rest) ≡ Ok (found ++ labelled_tree b, rest)
+  further_branch_taken b found rest small follows = labelled_taken b found rest small follows
+
+  -- a merge with names
+  labels_taken : (v : List ℕ) (b : Labelled) (bs : List Labelled) (rest : List Tok) → IsSmallBranch n b → Each (IsSmallBranch n) bs → length bs < n → after f.Open rest ≡ Err rest
+      → merge read n (identifier v ∷ fixed f.Open ∷ labelled_tokens b (repeated (led f.Open labelled_tokens) bs rest)) ≡ Ok (merged v (flat_map labelled_tree (b ∷ bs)), rest)
+  unfolding merge by_labels
+  labels_taken v b bs rest small others few over =
+      let after_b : List Tok = repeated (led f.Open labelled_tokens) bs rest in
+      goes_on (labelled read [] (labelled_tokens b after_b)) (labelled_tree b, after_b) (λ x. many (begins f.Open) (further_branch read) n x.0 x.1 >>= λ y. Ok (merged v y.0, y.1)) (labelled_taken b [] after_b small tt)
+      ∙ goes_on (many (begins f.Open) (further_branch read) n (labelled_tree b) after_b) (labelled_tree b ++ flat_map labelled_tree bs, rest) (λ y. Ok (merged v y.0, y.1))
+      (many_complete (begins f.Open) (further_branch read) (led f.Open labelled_tokens) labelled_tree (IsSmallBranch n) Follows (λ c r p. refl) (λ c r. tt) further_branch_taken
+      n bs (labelled_tree b) rest others tt (ap (λ (r : Result (List Tok) (List Tok)). is_ok r) over) few)
+
+  both_taken : (v : List ℕ) (cs : Writtens) (rest : List Tok) → branch_sizes cs truths ≤ n → AreProper cs → AreAsMany cs truths
+      → merge read n (identifier v ∷ branches cs truths rest) ≡ Ok (t.merge v truths (trees cs), rest)
+  both_taken v w.none rest h p many = absurd many
+  both_taken v (w.more a w.none) rest h p many = absurd many
+  both_taken v (w.more a (w.more b w.none)) rest h p many = truths_taken v a b rest (omega arith) (omega arith) p.0 p.1.0
+  both_taken v (w.more a (w.more b (w.more c cs))) rest h p many = absurd many
+
+  named_taken : (v : List ℕ) (cs : Writtens) (ps : List Pattern) (rest : List Tok) → branch_sizes cs ps ≤ n → AreProper cs → AreAsMany cs ps → IsNonempty ps → Each IsBareLabel ps → after f.Open rest ≡ Err rest
+      → merge read n (identifier v ∷ branches cs ps rest) ≡ Ok (t.merge v ps (trees cs), rest)
+  named_taken v cs [] rest h p many some bare over = absurd some
+  named_taken v w.none (q ∷ ps) rest h p many some bare over = absurd many
+  named_taken v (w.more c cs) (patterns.Truth b ∷ ps) rest h p many some bare over = absurd bare.0
+  named_taken v (w.more c cs) (patterns.Label l ∷ ps) rest h p many some bare over =
+      let all : List Pattern = patterns.Label l ∷ ps in
+      ap (λ (us : List Tok). merge read n (identifier v ∷ us)) (branches-labelled (w.more c cs) all rest many bare)
+      ∙ labels_taken v (l.name, c) (labelled_of cs ps) rest (p.0, omega arith) (each_branch_small n cs ps (omega arith) p.1) (omega (arith, labelled_of-few cs ps)) over
+      ∙ ap (λ (e : Tree). Ok (e, rest)) (merged-labelled v (w.more c cs) all many bare)
+
+  merge_taken : (v : List ℕ) (cs : Writtens) (ps : List Pattern) (least : ℕ) (rest : List Tok) → branch_sizes cs ps ≤ n → AreProper cs → AreBranches cs ps → after f.Open rest ≡ Err rest
+      → head read n least (tokens (w.merge v ps cs) rest) ≡ Ok (10, t.merge v ps (trees cs), rest)
+  unfolding head
+  merge_taken v cs ps least rest h p fit over = ap (λ (r : Read Tree). at_level 10 r) (by_patterns fit.1)
+    where
+      by_patterns : (ps ≡ truths) ⊎ (IsNonempty ps × Each IsBareLabel ps) → merge read n (identifier v ∷ branches cs ps rest) ≡ Ok (t.merge v ps (trees cs), rest)
+      by_patterns (inl same) =
+          let B : List Pattern → Type 0 = λ qs. branch_sizes cs qs ≤ n in
+          let M : List Pattern → Type 0 = AreAsMany cs in
+          let P : List Pattern → Type 0 = λ qs. merge read n (identifier v ∷ branches cs qs rest) ≡ Ok (t.merge v qs (trees cs), rest) in
+          subst P (sym same) (both_taken v cs rest (subst B same h) p (subst M same fit.0))
+      by_patterns (inr (some, bare)) = named_taken v cs ps rest h p fit.0 some bare over
 
   unary_head : (op : Prefix) (least : ℕ) (ts : List Tok) → head read n least (fixed (prefix_token op) ∷ ts) ≡ allowed 8 least (fixed (prefix_token op) ∷ ts) (prefixed read (fixed (prefix_token op) ∷ ts) (Some op) ts)
   unfolding head
@@ -330,10 +456,10 @@ module _ (read : ℕ → List Tok → Read Tree) (n : ℕ) (complete : CompleteA
       (choice_taken a b c least rest bound (omega arith) (omega arith) (omega arith) p.0 p.1 p.2 q)
   reach (w.when c on) m least rest e small p b ten q =
       reach c (suc m) least (when_tokens on rest) (omega arith) (omega arith) p.1 (omega arith) ten (clock_quiet c p.0)
-      ∙ clock_taken m least (level_of c) on (tree c) rest b p.0
+      ∙ clock_taken m least (level_of c) on (tree c) rest b p.0 p.2 (not_opened 11 rest q)
   reach (w.current x) m least rest e small p b ten q = by_head m least 8 (t.current x) (tokens (w.current x) rest) rest (omega arith) (current_taken x least rest b)
-  reach (w.merge x a c) m least rest e small p b ten q =
-      by_head m least 10 (t.merge x (tree a) (tree c)) (tokens (w.merge x a c) rest) rest (omega arith) (merge_taken x a c least rest (omega arith) (omega arith) p.0 p.1)
+  reach (w.merge x ps cs) m least rest e small p b ten q =
+      by_head m least 10 (t.merge x ps (trees cs)) (tokens (w.merge x ps cs) rest) rest (omega arith) (merge_taken x cs ps least rest (omega arith) p.0 p.1 (not_opened 11 rest q))
   reach (w.call g cs) m least rest e small p b ten q = by_head m least 10 (t.call g (trees cs)) (tokens (w.call g cs) rest) rest (omega arith) (call_taken g cs least rest (omega arith) p)
   reach (w.paren c) m least rest e small p b ten q = by_head m least 10 (tree c) (tokens (w.paren c) rest) rest (omega arith) (paren_taken c least rest (omega arith) p)
 
@@ -358,6 +484,7 @@ when-size c rest = by_pattern c.pattern
     by_pattern : (p : Pattern) → 2 + length rest ≤ suc (length (pattern_tokens p c.variable rest))
     by_pattern (patterns.Truth true) = omega arith
     by_pattern (patterns.Truth false) = omega arith
+    by_pattern (patterns.Label l) = omega arith
 
 mutual
   pub size-tokens : (c : Written) (rest : List Tok) → size c + length rest ≤ length (tokens c rest)
@@ -369,9 +496,7 @@ mutual
   size-tokens (w.choice a b c) rest = omega (arith, size-tokens a (fixed f.Then ∷ tokens b (fixed f.Else ∷ tokens c rest)), size-tokens b (fixed f.Else ∷ tokens c rest), size-tokens c rest)
   size-tokens (w.when c on) rest = omega (arith, size-tokens c (when_tokens on rest), when-size on rest)
   size-tokens (w.current x) rest = omega arith
-  size-tokens (w.merge x a b) rest =
-      let second : List Tok = fixed f.Open ∷ fixed f.False ∷ fixed f.Arrow ∷ tokens b (fixed f.Close ∷ rest) in
-      omega (arith, size-tokens a (fixed f.Close ∷ second), size-tokens b (fixed f.Close ∷ rest))
+  size-tokens (w.merge x ps cs) rest = omega (arith, branches-tokens cs ps rest)
   size-tokens (w.call g w.none) rest = omega arith
   size-tokens (w.call g (w.more c cs)) rest = omega (arith, size-tokens c (further cs (fixed f.Close ∷ rest)), sizes-tokens cs (fixed f.Close ∷ rest))
   size-tokens (w.paren c) rest = omega (arith, size-tokens c (fixed f.Close ∷ rest))
@@ -379,6 +504,11 @@ mutual
   pub sizes-tokens : (cs : Writtens) (rest : List Tok) → sizes cs + length rest ≤ length (further cs rest)
   sizes-tokens w.none rest = omega arith
   sizes-tokens (w.more c cs) rest = omega (arith, size-tokens c (further cs rest), sizes-tokens cs rest)
+
+  branches-tokens : (cs : Writtens) (ps : List Pattern) (rest : List Tok) → branch_sizes cs ps + length rest ≤ length (branches cs ps rest)
+  branches-tokens w.none ps rest = omega arith
+  branches-tokens (w.more c cs) [] rest = omega arith
+  branches-tokens (w.more c cs) (p ∷ ps) rest = omega (arith, size-tokens c (fixed f.Close ∷ branches cs ps rest), branches-tokens cs ps rest)
 
 pub tokens-more : (c : Written) (rest : List Tok) → length rest < length (tokens c rest)
 tokens-more c rest = omega (arith, size-tokens c rest, size-some c)

@@ -1,20 +1,20 @@
 -- Equations, nodes and programs that are spelled so are read.
 use Rattle.std.proofs.Common.{◌≡◌, ◌<◌, ◌≤◌, ◌+◌, ℕ, suc, Ok, Err, List, ◌∷◌, [], ◌++◌, refl, ap, sym, ◌∙◌, Bool, true, false, map, length, arith}
 use Rattle.std.proofs.lemmas.List.Concat.{flat_map_single}
-use Rattle.lutree.specs.Tree.{Tree, Trees, trees_of, DeclarationTree, EquationTree, NodeTree, ProgramTree}
+use Rattle.lutree.specs.Tree.{Tree, Trees, trees_of, TypeTree, DeclarationTree, EquationTree, NodeTree, ProgramTree}
 use Rattle.lutree.specs.Tree as t
 use Rattle.lusyn_tokens.specs.declared.token.Fixed.TheVariants as f
 use Rattle.lusyn_tokens.specs.Tokens.{Tok, identifier, fixed}
 use Rattle.lusyn_grammar.specs.Grammar as w
-use Rattle.lusyn_grammar.specs.Grammar.{Written, WrittenDeclaration, WrittenEquation, WrittenNode, WrittenProgram, tree, tokens, repeated, led, separated, optional, left_tokens, Each, IsNonempty, IsProper, IsCall, IsDefinedBy, IsProperDeclaration, IsProperEquation, IsProperNode, IsProperProgram, equation_tree, node_tree, Spells}
-use Rattle.lusyn_grammar.specs.Reading.{Read, ◌>>=◌, next, after, begins, past, many, expr, operands, further_name, declarations, inputs, ended, locals, single, call, tuple_names, tuple, equation, ended_equation, begins_equation, equations, heading, body, node, further_node, program, to_the_end, all_of}
+use Rattle.lusyn_grammar.specs.Grammar.{Written, WrittenDeclaration, WrittenEquation, WrittenNode, WrittenProgram, tree, tokens, repeated, led, separated, optional, left_tokens, Each, IsNonempty, IsProper, IsCall, IsDefinedBy, IsProperDeclaration, IsProperEquation, IsProperNode, IsProperType, IsProperProgram, equation_tree, node_tree, program_tree, Spells}
+use Rattle.lusyn_grammar.specs.Reading.{Read, ◌>>=◌, next, after, begins, past, many, expr, operands, further_name, names, declarations, inputs, ended, locals, single, call, tuple_names, tuple, equation, ended_equation, begins_equation, equations, heading, body, node, further_node, nodes, type_declaration, types, program, to_the_end, all_of}
 use Rattle.lusyn_grammar.proofs.SoundExpressions.{between, between-tokens}
-use Rattle.lusyn_grammar.proofs.SoundDeclarations.{Any, declarations_tree}
+use Rattle.lusyn_grammar.proofs.SoundDeclarations.{Any, alone, flat_map-alone, declarations_tree}
 use Rattle.lusyn_grammar.proofs.SoundDeclarations as declarations_of
-use Rattle.lusyn_grammar.proofs.SoundPrograms.{ended_tokens, equation_trees, node_trees}
+use Rattle.lusyn_grammar.proofs.SoundPrograms.{ended_tokens, equation_trees, node_trees, enumeration, whole}
 use Rattle.lusyn_grammar.proofs.CompletePieces.{goes_on, past-optional, Complete, may, many_complete, repeated-few, repeated-small, separated-few, separated-small}
 use Rattle.lusyn_grammar.proofs.CompleteExpressions.{IsQuiet, size, operand_trees, trees_of-operand_trees, operands_taken, expr_complete, size-tokens, tokens-more}
-use Rattle.lusyn_grammar.proofs.CompleteDeclarations.{names_taken, IsSmallDeclaration, declarations_complete, inputs_complete, locals_complete, name-more, declaration-more, declaration-small, ended-more, ended-small}
+use Rattle.lusyn_grammar.proofs.CompleteDeclarations.{names_taken, names_complete, IsSmallDeclaration, declarations_complete, inputs_complete, locals_complete, name-more, declaration-more, declaration-small, ended-more, ended-small}
 
 abbrev defined : List (List ℕ) → Tree → EquationTree
 defined left right = record { left = left; right = right }
@@ -110,7 +110,7 @@ heading_complete n p rest small none =
     (inputs_complete n p.inputs (fixed f.Returns ∷ fixed f.Open ∷ outputs_tokens p rest) small.inputs small.few_inputs)
     ∙ goes_on (declarations n (decls p.outputs (fixed f.Close ∷ last))) (declarations_tree p.outputs, fixed f.Close ∷ last)
     (λ outs. after f.Close outs.1 >>= λ us. Ok (headed p.name (declarations_tree p.inputs) outs.0, past f.Semicolon us))
-    (declarations_complete n p.outputs (fixed f.Close ∷ last) small.some small.outputs small.few_outputs refl refl)
+    (declarations_complete n p.outputs (fixed f.Close ∷ last) small.some small.outputs small.few_outputs refl (refl, refl))
     ∙ ap (λ (us : List Tok). Ok (headed p.name (declarations_tree p.inputs) (declarations_tree p.outputs), us)) (past-optional p.is_heading_ended rest none)
 
 body_complete : (n : ℕ) (p : WrittenNode) (rest : List Tok) → IsSmallNode n p → after f.Semicolon rest ≡ Err rest → body n (w.body p rest) ≡ Ok (map equation_tree p.equations, rest)
@@ -147,10 +147,10 @@ EndsNode rest = after f.Semicolon rest ≡ Err rest
 further_node_complete : (n : ℕ) → Complete w.node node_trees (IsSmallNode n) EndsNode (further_node n)
 further_node_complete n p found rest small none = goes_on (node n (w.node p rest)) (node_tree p, rest) (λ x. Ok (found ++ x.0 ∷ [], x.1)) (node_complete n p rest small none)
 
-program_complete : (n : ℕ) (ps : WrittenProgram) → IsNonempty ps → Each (IsSmallNode n) ps → length ps ≤ n → program n (w.program ps []) ≡ Ok (map node_tree ps, [])
-unfolding program
-program_complete n [] some small few = absurd some
-program_complete n (p ∷ ps) some small few =
+nodes_complete : (n : ℕ) (ps : List WrittenNode) → IsNonempty ps → Each (IsSmallNode n) ps → length ps ≤ n → nodes n (repeated w.node ps []) ≡ Ok (map node_tree ps, [])
+unfolding nodes
+nodes_complete n [] some small few = absurd some
+nodes_complete n (p ∷ ps) some small few =
     let P : WrittenNode → Type 0 = IsSmallNode n in
     let May : List Tok → Type 0 = EndsNode in
     let ends : May (repeated w.node ps []) = may (begins f.Node) (further_node n) w.node node_trees P May (λ v r h. refl) (λ v r. refl) (further_node_complete n) ps [] refl in
@@ -158,6 +158,38 @@ program_complete n (p ∷ ps) some small few =
     (further_node_complete n p [] (repeated w.node ps []) small.0 ends)
     ∙ many_complete (begins f.Node) (further_node n) w.node node_trees P May (λ v r h. refl) (λ v r. refl) (further_node_complete n) n ps (node_trees p) [] small.1 refl refl (omega arith)
     ∙ ap (λ (xs : List NodeTree). Ok (node_tree p ∷ xs, [])) (flat_map_single node_tree ps)
+
+-- PROGRAMS
+
+abbrev IsSmallType : ℕ → TypeTree → Type 0
+IsSmallType n x = IsProperType x × (length x.names ≤ n)
+
+type_declaration_complete : (n : ℕ) → Complete w.type_declaration alone (IsSmallType n) Any (type_declaration n)
+unfolding type_declaration
+type_declaration_complete n x found rest small ends =
+    let last : List Tok = fixed f.CloseBrace ∷ fixed f.Semicolon ∷ rest in
+    goes_on (names n (separated f.Comma w.name x.names last)) (x.names, last) (λ xs. after f.CloseBrace xs.1 >>= λ us. after f.Semicolon us >>= λ vs. Ok (found ++ enumeration x.name xs.0 ∷ [], vs))
+    (names_complete n x.names last small.0 refl small.1)
+
+types_complete : (n : ℕ) (xs : List TypeTree) (rest : List Tok) → Each (IsSmallType n) xs → length xs < n → begins f.Type rest ≡ false → types n (repeated w.type_declaration xs rest) ≡ Ok (xs, rest)
+unfolding types
+types_complete n xs rest small few over =
+    many_complete (begins f.Type) (type_declaration n) w.type_declaration alone (IsSmallType n) Any (λ x r p. refl) (λ x r. tt) (type_declaration_complete n) n xs [] rest small tt over few
+    ∙ ap (λ (ys : List TypeTree). Ok (ys, rest)) (flat_map-alone xs)
+
+-- a node begins with no type
+no_type : (ps : List WrittenNode) → begins f.Type (repeated w.node ps []) ≡ false
+no_type [] = refl
+no_type (p ∷ ps) = refl
+
+program_complete : (n : ℕ) (p : WrittenProgram) → IsNonempty p.nodes → Each (IsSmallNode n) p.nodes → Each (IsSmallType n) p.types → length p.nodes ≤ n → length p.types < n
+    → program n (w.program p []) ≡ Ok (program_tree p, [])
+unfolding program
+program_complete n p some small small_types few few_types =
+    let after_types : List Tok = repeated w.node p.nodes [] in
+    goes_on (types n (repeated w.type_declaration p.types after_types)) (p.types, after_types) (λ xs. nodes n xs.1 >>= λ ns. Ok (whole xs.0 ns.0, ns.1))
+    (types_complete n p.types after_types small_types few_types (no_type p.nodes))
+    ∙ goes_on (nodes n after_types) (map node_tree p.nodes, []) (λ ns. Ok (whole p.types ns.0, ns.1)) (nodes_complete n p.nodes some small few)
 
 -- SIZES
 
@@ -230,15 +262,27 @@ node-small most p rest proper h =
       few_equations = omega arith;
     }
 
+type-few : (x : TypeTree) (rest : List Tok) → length x.names + length rest < length (w.type_declaration x rest)
+type-few x rest = omega (arith, separated-few f.Comma w.name name-more x.names (fixed f.CloseBrace ∷ fixed f.Semicolon ∷ rest))
+
+type-more : (x : TypeTree) (rest : List Tok) → length rest < length (w.type_declaration x rest)
+type-more x rest = omega (arith, type-few x rest)
+
+type-small : (most : ℕ) (x : TypeTree) (rest : List Tok) → IsProperType x → length (w.type_declaration x rest) ≤ most → IsSmallType most x
+type-small most x rest proper h = (proper, omega (arith, type-few x rest))
+
 -- what is spelled so is read, by as many steps or more
-pub program-again : (most : ℕ) (ts : List Tok) (found : ProgramTree) → suc (length ts) ≤ most → Spells ts found → program most ts ≡ Ok (found.nodes, [])
-program-again most ts found enough (ps, proper, spelled, tree_is) =
-    let h : length (w.program ps []) ≤ most = omega (arith, ap length spelled) in
+pub program-again : (most : ℕ) (ts : List Tok) (found : ProgramTree) → suc (length ts) ≤ most → Spells ts found → program most ts ≡ Ok (found, [])
+program-again most ts found enough (p, proper, spelled, tree_is) =
+    let h : length (w.program p []) < most = omega (arith, ap length spelled) in
+    let after_types : List Tok = repeated w.node p.nodes [] in
+    let few = repeated-few w.type_declaration type-more p.types after_types in
     ap (program most) (sym spelled)
-    ∙ program_complete most ps proper.0 (repeated-small w.node node-more IsProperNode (IsSmallNode most) most (node-small most) ps [] proper.1 h)
-    (omega (arith, repeated-few w.node node-more ps []))
-    ∙ ap (λ (read : ProgramTree). Ok (read.nodes, [])) tree_is
+    ∙ program_complete most p proper.0 (repeated-small w.node node-more IsProperNode (IsSmallNode most) most (node-small most) p.nodes [] proper.1 (omega (arith, few, h)))
+    (repeated-small w.type_declaration type-more IsProperType (IsSmallType most) most (type-small most) p.types after_types proper.2 (omega (arith, h)))
+    (omega (arith, few, h, repeated-few w.node node-more p.nodes [])) (omega (arith, few, h))
+    ∙ ap (λ (read : ProgramTree). Ok (read, [])) tree_is
 
 pub all_of-again : (ts : List Tok) (found : ProgramTree) → Spells ts found → all_of ts ≡ Ok found
 unfolding all_of
-all_of-again ts found s = goes_on (program (suc (length ts)) ts) (found.nodes, []) to_the_end (program-again (suc (length ts)) ts found (omega arith) s)
+all_of-again ts found s = goes_on (program (suc (length ts)) ts) (found, []) to_the_end (program-again (suc (length ts)) ts found (omega arith) s)

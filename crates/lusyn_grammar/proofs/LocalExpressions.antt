@@ -1,7 +1,6 @@
 -- Reading of expressions looks at no token after the one that it refuses.
 use Rattle.std.proofs.Common.{◌≡◌, ◌≤◌, ◌<◌, ℕ, zero, suc, Bool, true, false, cond, ◌&&◌, nat_le, List, [], ◌∷◌, ◌++◌, length, Option, Some, None, Result, Ok, Err, refl, ap, sym, ◌∙◌, inl, inr, arith}
 use Rattle.lutree.specs.declared.expr.Prefix.{Prefix}
-use Rattle.lutree.specs.declared.expr.Pattern.TheVariants as patterns
 use Rattle.lutree.specs.declared.expr.Condition.{Condition}
 use Rattle.lutree.specs.Tree.{Tree, trees_of}
 use Rattle.lutree.specs.Tree as t
@@ -9,17 +8,14 @@ use Rattle.lusyn_tokens.specs.declared.token.Fixed.{Fixed}
 use Rattle.lusyn_tokens.specs.declared.token.Fixed.TheVariants as f
 use Rattle.lusyn_tokens.specs.Tokens.{Tok, identifier, number, fixed}
 use Rattle.lusyn_tokens.specs.Tokens.{prefix_of, level, left, right}
-use Rattle.lusyn_grammar.specs.Reading.{Read, ◌>>=◌, Next, operator, clock, parenthesis, nothing, next, next_by, tail, after, begins, name, signed, condition_by, condition, many, step, climb, further_operand, closed, operands_by, operands, named_by, named, choice, inside, branch, merge, current, at_level, allowed, prefixed, head, whole, expr}
+use Rattle.lusyn_grammar.specs.Grammar.{truths}
+use Rattle.lusyn_grammar.specs.Reading.{Read, ◌>>=◌, Next, operator, clock, parenthesis, nothing, next, next_by, tail, after, begins, name, on_truth, on_label, labelled_clock, clock_from_by, clock_from, condition_by, condition, many, step, climb, further_operand, closed, operands_by, operands, named_by, named, choice, inside, branch, merged, by_truths, labelled, further_branch, by_labels, merge_by, merge, current, at_level, allowed, prefixed, head, whole, expr}
 use Rattle.std.specs.Result.{is_ok}
 use Rattle.lusyn_grammar.proofs.Local.{after_head, left_of, Same, same_more, far_bind, same_bind, Local, Strict, local_of, local_less, local_along, strict_along, same_if, far_if, local_ok, local_bind, strict_bind, Step, takes, refuses, strict_step, strict_after, local_after, local_case, local_many, read, beyond}
 
 closed-bind : {A : Type 0} (r : Read A) → closed r ≡ (r >>= λ y. after f.Close y.1 >>= λ us. Ok (y.0, us))
 closed-bind (Ok y) = refl
 closed-bind (Err ts) = refl
-
-signed-bind : (sign : Bool) (r : Read (List ℕ)) → signed sign r ≡ (r >>= λ y. let c : Condition = record { variable = y.0; pattern = patterns.Truth sign } in Ok (c, y.1))
-signed-bind sign (Ok y) = refl
-signed-bind sign (Err ts) = refl
 
 abbrev flat : Result (ℕ × Tree × List Tok) (List Tok) → Read (ℕ × Tree)
 flat (Ok z) = Ok ((z.0, z.1), z.2)
@@ -57,19 +53,26 @@ module _ (x : Tok) (rest us : List Tok) where
   pub local_name : (k : ℕ) → Local x rest us k name name
   local_name k = local_less x rest us (suc k) k (omega arith) (local_of x rest us (suc k) (strict_name k))
 
-  abbrev conditioned : Bool → List ℕ → Condition
-  conditioned sign v = record { variable = v; pattern = patterns.Truth sign }
+  local_negated : (k : ℕ) → Local x rest us k (λ ts. name ts >>= λ y. Ok (on_truth false y.0, y.1)) (λ ts. name ts >>= λ y. Ok (on_truth false y.0, y.1))
+  local_negated k = local_bind x rest us k name name (λ v ts. Ok (on_truth false v, ts)) (λ v ts. Ok (on_truth false v, ts)) (local_name k) (λ v. local_ok x rest us k (on_truth false v))
 
-  local_signed : (k : ℕ) (sign : Bool) → Local x rest us k (λ ts. signed sign (name ts)) (λ ts. signed sign (name ts))
-  local_signed k sign =
-      local_along x rest us k (λ ts. signed sign (name ts)) (λ ts. signed sign (name ts)) (λ ts. name ts >>= λ y. Ok (conditioned sign y.0, y.1)) (λ ts. name ts >>= λ y. Ok (conditioned sign y.0, y.1))
-      (λ ts. signed-bind sign (name ts)) (λ ts. signed-bind sign (name ts))
-      (local_bind x rest us k name name (λ v ts. Ok (conditioned sign v, ts)) (λ v ts. Ok (conditioned sign v, ts)) (local_name k) (λ v. local_ok x rest us k (conditioned sign v)))
+  local_labelled_clock : (k : ℕ) (label : List ℕ) → Local x rest us k (labelled_clock label) (labelled_clock label)
+  local_labelled_clock k label =
+      let last : List ℕ → List Tok → Read Condition = λ v ts. after f.Close ts >>= λ vs. Ok (on_label label v, vs) in
+      local_bind x rest us k name name last last (local_name k) (λ v.
+      local_after x rest us k f.Close (λ vs. Ok (on_label label v, vs)) (λ vs. Ok (on_label label v, vs)) (local_ok x rest us k (on_label label v)))
+
+  local_clock_from : (k : ℕ) (v : List ℕ) → Local x rest us k (clock_from v) (clock_from v)
+  local_clock_from k v =
+      local_case x rest us k f.Open (clock_from_by v) (clock_from_by v) (labelled_clock v) (λ ts. Ok (on_truth true v, ts)) (labelled_clock v) (λ ts. Ok (on_truth true v, ts))
+      (λ ts vs. refl) (λ ts vs. refl) (λ ts vs. refl) (λ ts vs. refl) (local_labelled_clock k v) (local_ok x rest us k (on_truth true v))
 
   pub local_condition : (k : ℕ) → Local x rest us k condition condition
   local_condition k =
-      local_case x rest us k f.Not condition_by condition_by (λ ts. signed false (name ts)) (λ ts. signed true (name ts)) (λ ts. signed false (name ts)) (λ ts. signed true (name ts))
-      (λ ts vs. refl) (λ ts vs. refl) (λ ts vs. refl) (λ ts vs. refl) (local_signed k false) (local_signed k true)
+      let negated : List Tok → Read Condition = λ ts. name ts >>= λ y. Ok (on_truth false y.0, y.1) in
+      let from_name : List Tok → Read Condition = λ ts. name ts >>= λ y. clock_from y.0 y.1 in
+      local_case x rest us k f.Not condition_by condition_by negated from_name negated from_name
+      (λ ts vs. refl) (λ ts vs. refl) (λ ts vs. refl) (λ ts vs. refl) (local_negated k) (local_bind x rest us k name name clock_from clock_from (local_name k) (local_clock_from k))
 
   pub local_closed : {A : Type 0} (k : ℕ) (p o : List Tok → Read A) → Local x rest us k p o → Local x rest us k (λ ts. closed (p ts)) (λ ts. closed (o ts))
   local_closed {A = A} k p o l =
@@ -128,13 +131,44 @@ module _ (x : Tok) (rest us : List Tok) where
         (local_after x rest us k sign (λ ts. after f.Arrow ts >>= inside one) (λ ts. after f.Arrow ts >>= inside other)
         (local_after x rest us k f.Arrow (inside one) (inside other) local_inside))
 
-    local_merge : Local x rest us k (merge one) (merge other)
+    abbrev both : List ℕ → Tree → Tree → Tree
+    both v a b = t.merge v truths (t.more a (t.more b t.none))
+
+    local_by_truths : (v : List ℕ) → Local x rest us k (by_truths one v) (by_truths other v)
+    unfolding by_truths
+    local_by_truths v =
+        let second : (ℕ → List Tok → Read Tree) → Tree → List Tok → Read Tree = λ r a ts. branch r f.False ts >>= λ z. Ok (both v a z.0, z.1) in
+        local_after x rest us k f.Arrow (λ ts. inside one ts >>= λ z. second one z.0 z.1) (λ ts. inside other ts >>= λ z. second other z.0 z.1) (
+        local_bind x rest us k (inside one) (inside other) (second one) (second other) local_inside (λ a.
+        local_bind x rest us k (branch one f.False) (branch other f.False) (λ b ts. Ok (both v a b, ts)) (λ b ts. Ok (both v a b, ts)) (local_branch f.False) (λ b. local_ok x rest us k (both v a b))))
+
+    local_labelled : (found : List (List ℕ × Tree)) → Local x rest us k (labelled one found) (labelled other found)
+    unfolding labelled
+    local_labelled found =
+        let last : (ℕ → List Tok → Read Tree) → List ℕ → List Tok → Read (List (List ℕ × Tree)) = λ r v ts. inside r ts >>= λ z. Ok (found ++ (v, z.0) ∷ [], z.1) in
+        local_bind x rest us k name name (λ v ts. after f.Arrow ts >>= last one v) (λ v ts. after f.Arrow ts >>= last other v) (local_name k) (λ v.
+        local_after x rest us k f.Arrow (last one v) (last other v) (
+        local_bind x rest us k (inside one) (inside other) (λ e ts. Ok (found ++ (v, e) ∷ [], ts)) (λ e ts. Ok (found ++ (v, e) ∷ [], ts)) local_inside (λ e. local_ok x rest us k (found ++ (v, e) ∷ []))))
+
+    strict_further_branch : (found : List (List ℕ × Tree)) → Strict x rest us (suc k) (further_branch one found) (further_branch other found)
+    strict_further_branch found = strict_after x rest us k f.Open (labelled one found) (labelled other found) (local_labelled found)
+
+    local_by_labels : (n m : ℕ) (v : List ℕ) → k ≤ n → n ≤ m → Local x rest us k (by_labels one n v) (by_labels other m v)
+    unfolding by_labels
+    local_by_labels n m v low up =
+        let others : (ℕ → List Tok → Read Tree) → ℕ → List (List ℕ × Tree) → List Tok → Read Tree = λ r j found ts. many (begins f.Open) (further_branch r) j found ts >>= λ all. Ok (merged v all.0, all.1) in
+        local_bind x rest us k (labelled one []) (labelled other []) (others one n) (others other m) (local_labelled []) (λ found.
+        local_bind x rest us k (many (begins f.Open) (further_branch one) n found) (many (begins f.Open) (further_branch other) m found) (λ all ts. Ok (merged v all, ts)) (λ all ts. Ok (merged v all, ts))
+        (local_many x rest us k (begins f.Open) (further_branch one) (further_branch other) (first_begins f.Open) strict_further_branch n m k found low up (omega arith)) (λ all. local_ok x rest us k (merged v all)))
+
+    local_merge : (n m : ℕ) → k ≤ n → n ≤ m → Local x rest us k (merge one n) (merge other m)
     unfolding merge
-    local_merge =
-        let second : (ℕ → List Tok → Read Tree) → List ℕ → Tree → List Tok → Read Tree = λ r v a ts. branch r f.False ts >>= λ z. Ok (t.merge v a z.0, z.1) in
-        local_bind x rest us k name name (λ v ts. branch one f.True ts >>= λ z. second one v z.0 z.1) (λ v ts. branch other f.True ts >>= λ z. second other v z.0 z.1) (local_name k) (λ v.
-        local_bind x rest us k (branch one f.True) (branch other f.True) (second one v) (second other v) (local_branch f.True) (λ a.
-        local_bind x rest us k (branch one f.False) (branch other f.False) (λ b ts. Ok (t.merge v a b, ts)) (λ b ts. Ok (t.merge v a b, ts)) (local_branch f.False) (λ b. local_ok x rest us k (t.merge v a b))))
+    local_merge n m low up =
+        let opened : (ℕ → List Tok → Read Tree) → ℕ → List ℕ → List Tok → Read Tree = λ r j v ts. merge_by r j v ts (after f.True ts) in
+        local_bind x rest us k name name (λ v ts. after f.Open ts >>= opened one n v) (λ v ts. after f.Open ts >>= opened other m v) (local_name k) (λ v.
+        local_after x rest us k f.Open (opened one n v) (opened other m v) (
+        local_case x rest us k f.True (merge_by one n v) (merge_by other m v) (by_truths one v) (by_labels one n v) (by_truths other v) (by_labels other m v)
+        (λ ts vs. refl) (λ ts vs. refl) (λ ts vs. refl) (λ ts vs. refl) (local_by_truths v) (local_by_labels n m v low up)))
 
     local_prefixed : (op : Prefix) → Local x rest us k (λ ts. one 8 ts >>= λ z. Ok (t.unary op z.0, z.1)) (λ ts. other 8 ts >>= λ z. Ok (t.unary op z.0, z.1))
     local_prefixed op = local_bind x rest us k (one 8) (other 8) (λ a ts. Ok (t.unary op a, ts)) (λ a ts. Ok (t.unary op a, ts)) (reads 8) (λ a. local_ok x rest us k (t.unary op a))
@@ -180,7 +214,7 @@ module _ (x : Tok) (rest us : List Tok) where
     head_step n m least low up (number v) = takes (λ ts. Ok ((10, t.number v), ts)) (λ ts. Ok ((10, t.number v), ts)) (local_ok x rest us k (10, t.number v)) (λ ts. refl) (λ ts. refl)
     head_step n m least low up (fixed f.True) = takes (λ ts. Ok ((10, t.truth true), ts)) (λ ts. Ok ((10, t.truth true), ts)) (local_ok x rest us k (10, t.truth true)) (λ ts. refl) (λ ts. refl)
     head_step n m least low up (fixed f.False) = takes (λ ts. Ok ((10, t.truth false), ts)) (λ ts. Ok ((10, t.truth false), ts)) (local_ok x rest us k (10, t.truth false)) (λ ts. refl) (λ ts. refl)
-    head_step n m least low up (fixed f.Merge) = takes (levelled 10 (merge one)) (levelled 10 (merge other)) (local_levelled 10 (merge one) (merge other) local_merge) (λ ts. at_level-flat 10 (merge one ts)) (λ ts. at_level-flat 10 (merge other ts))
+    head_step n m least low up (fixed f.Merge) = takes (levelled 10 (merge one n)) (levelled 10 (merge other m)) (local_levelled 10 (merge one n) (merge other m) (local_merge n m low up)) (λ ts. at_level-flat 10 (merge one n ts)) (λ ts. at_level-flat 10 (merge other m ts))
     head_step n m least low up (fixed f.Open) = takes (levelled 10 (inside one)) (levelled 10 (inside other)) (local_levelled 10 (inside one) (inside other) local_inside) (λ ts. at_level-flat 10 (inside one ts)) (λ ts. at_level-flat 10 (inside other ts))
     head_step n m least low up (fixed f.If) = allowed_step 0 least (fixed f.If) (choice one) (choice other) (heads one n least) (heads other m least) local_choice (λ ts. refl) (λ ts. refl)
     head_step n m least low up (fixed f.Current) = allowed_step 8 least (fixed f.Current) current current (heads one n least) (heads other m least) (local_current k) (λ ts. refl) (λ ts. refl)

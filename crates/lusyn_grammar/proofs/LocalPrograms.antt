@@ -2,14 +2,12 @@
 use Rattle.std.proofs.Common.{◌≡◌, ◌≤◌, ◌+◌, ℕ, suc, Bool, ◌||◌, List, [], ◌∷◌, ◌++◌, map, length, Option, Some, None, Result, Ok, Err, refl, ap, sym, ◌∙◌, arith}
 use Rattle.std.proofs.lemmas.List.{length-append}
 use Rattle.lutree.specs.declared.expr.Condition.{Condition}
-use Rattle.lutree.specs.declared.program.Kind.{Kind}
-use Rattle.lutree.specs.declared.program.Kind.TheVariants as kinds
-use Rattle.lutree.specs.Tree.{Tree, trees_of, DeclarationTree, EquationTree, NodeTree, ProgramTree}
+use Rattle.lutree.specs.Tree.{Tree, trees_of, TypeTree, DeclarationTree, EquationTree, NodeTree, ProgramTree}
 use Rattle.lutree.specs.Tree as t
 use Rattle.lusyn_tokens.specs.declared.token.Fixed.TheVariants as f
 use Rattle.lusyn_tokens.specs.Tokens.{Tok, identifier, number, fixed}
-use Rattle.lusyn_grammar.specs.Grammar.{declared, Spells}
-use Rattle.lusyn_grammar.specs.Reading.{Read, ◌>>=◌, after, begins, begins_name, past, past_by, name, condition, many, expr, operands, further_name, names, kind, clock_by, clocked, declaration, further_declaration, declarations, inputs, ended, ended_declaration, locals_by, locals, single, call, tuple_names, tuple, equation_by, equation, ended_equation, begins_equation, equations, heading, body, node, further_node, program, to_the_end, all_of}
+use Rattle.lusyn_grammar.specs.Grammar.{WrittenType, int, bool, named, declared, Spells}
+use Rattle.lusyn_grammar.specs.Reading.{Read, ◌>>=◌, after, begins, begins_name, past, past_by, name, condition, many, expr, operands, further_name, names, kind, clock_by, clocked, declaration, further_declaration, declarations, inputs, ended, ended_declaration, locals_by, locals, single, call, tuple_names, tuple, equation_by, equation, ended_equation, begins_equation, equations, heading, body, node, further_node, nodes, type_declaration, types, program, to_the_end, all_of}
 use Rattle.lusyn_grammar.proofs.Local.{left_of, Same, read, refused, beyond, Local, Strict, local_of, local_less, strict_along, local_ok, local_bind, strict_bind, Step, takes, refuses, strict_step, strict_after, local_after, local_case, strict_case, local_if, local_many}
 use Rattle.lusyn_grammar.proofs.LocalExpressions.{first_begins, strict_name, local_name, local_condition, local_operands, local_expr}
 use Rattle.lusyn_grammar.proofs.CompletePrograms.{program-again}
@@ -31,10 +29,10 @@ module _ (x : Tok) (rest us : List Tok) where
   local_kind k = local_less x rest us (suc k) k (omega arith) (local_of x rest us (suc k) (strict_step x rest us k kind kind refl by_head))
     where
       by_head : (y : Tok) → Step x rest us k kind kind y
-      by_head (identifier v) = refuses (λ ts. refl) (λ ts. refl)
+      by_head (identifier v) = takes (λ ts. Ok (named v, ts)) (λ ts. Ok (named v, ts)) (local_ok x rest us k (named v)) (λ ts. refl) (λ ts. refl)
       by_head (number n) = refuses (λ ts. refl) (λ ts. refl)
-      by_head (fixed f.Int) = takes (λ ts. Ok (kinds.Int, ts)) (λ ts. Ok (kinds.Int, ts)) (local_ok x rest us k kinds.Int) (λ ts. refl) (λ ts. refl)
-      by_head (fixed f.Bool) = takes (λ ts. Ok (kinds.Bool, ts)) (λ ts. Ok (kinds.Bool, ts)) (local_ok x rest us k kinds.Bool) (λ ts. refl) (λ ts. refl)
+      by_head (fixed f.Int) = takes (λ ts. Ok (int, ts)) (λ ts. Ok (int, ts)) (local_ok x rest us k int) (λ ts. refl) (λ ts. refl)
+      by_head (fixed f.Bool) = takes (λ ts. Ok (bool, ts)) (λ ts. Ok (bool, ts)) (local_ok x rest us k bool) (λ ts. refl) (λ ts. refl)
       by_head (fixed _) = refuses (λ ts. refl) (λ ts. refl)
 
   local_clocked : (k : ℕ) → Local x rest us k clocked clocked
@@ -74,7 +72,7 @@ module _ (x : Tok) (rest us : List Tok) where
     strict_declaration : (found : List DeclarationTree) → Strict x rest us (suc n) (declaration n found) (declaration m found)
     unfolding declaration
     strict_declaration found =
-        let third : List (List ℕ) → Kind → List Tok → Read (List DeclarationTree) = λ xs k ts. clocked ts >>= λ c. Ok (found ++ map (declared k c.0) xs, c.1) in
+        let third : List (List ℕ) → WrittenType → List Tok → Read (List DeclarationTree) = λ xs k ts. clocked ts >>= λ c. Ok (found ++ map (declared k c.0) xs, c.1) in
         let second : List (List ℕ) → List Tok → Read (List DeclarationTree) = λ xs ts. kind ts >>= λ k. third xs k.0 k.1 in
         let first : List (List ℕ) → List Tok → Read (List DeclarationTree) = λ xs ts. after f.Colon ts >>= second xs in
         strict_bind x rest us n (names n) (names m) first first strict_names (λ xs.
@@ -210,14 +208,49 @@ module _ (x : Tok) (rest us : List Tok) where
     strict_further_node found =
         strict_bind x rest us n (node n) (node m) (λ p ts. Ok (found ++ p ∷ [], ts)) (λ p ts. Ok (found ++ p ∷ [], ts)) strict_node (λ p. local_ok x rest us n (found ++ p ∷ []))
 
-    pub local_program : Local x rest us n (program n) (program m)
-    unfolding program
-    local_program =
+    local_nodes : Local x rest us n (nodes n) (nodes m)
+    unfolding nodes
+    local_nodes =
         local_bind x rest us n (further_node n []) (further_node m []) (many (begins f.Node) (further_node n) n) (many (begins f.Node) (further_node m) m)
         (local_less x rest us (suc n) n (omega arith) (local_of x rest us (suc n) (strict_further_node []))) (λ ps.
         local_many x rest us n (begins f.Node) (further_node n) (further_node m) (first_begins f.Node) strict_further_node n m n ps (omega arith) up (omega arith))
 
-  longer : (r : Read (List NodeTree)) → length (left_of r) ≤ length rest → (r >>= to_the_end) ≡ Err (x ∷ rest) → ⊥
+    abbrev enumeration : List ℕ → List (List ℕ) → TypeTree
+    enumeration v xs = record { name = v; names = xs }
+
+    strict_type_declaration : (found : List TypeTree) → Strict x rest us (suc n) (type_declaration n found) (type_declaration m found)
+    unfolding type_declaration
+    strict_type_declaration found =
+        let last : List ℕ → List (List ℕ) → List Tok → Read (List TypeTree) = λ v xs ts. after f.Semicolon ts >>= λ vs. Ok (found ++ enumeration v xs ∷ [], vs) in
+        let closes : List ℕ → List (List ℕ) → List Tok → Read (List TypeTree) = λ v xs ts. after f.CloseBrace ts >>= last v xs in
+        let listed : ℕ → List ℕ → List Tok → Read (List TypeTree) = λ k v ts. names k ts >>= λ xs. closes v xs.0 xs.1 in
+        let opened : ℕ → List ℕ → List Tok → Read (List TypeTree) = λ k v ts. after f.OpenBrace ts >>= listed k v in
+        let counted : ℕ → List ℕ → List Tok → Read (List TypeTree) = λ k v ts. after f.Enum ts >>= opened k v in
+        let equal : ℕ → List ℕ → List Tok → Read (List TypeTree) = λ k v ts. after f.Equal ts >>= counted k v in
+        strict_after x rest us n f.Type (λ ts. name ts >>= λ v. equal n v.0 v.1) (λ ts. name ts >>= λ v. equal m v.0 v.1) (
+        local_bind x rest us n name name (equal n) (equal m) (local_name x rest us n) (λ v.
+        local_after x rest us n f.Equal (counted n v) (counted m v) (
+        local_after x rest us n f.Enum (opened n v) (opened m v) (
+        local_after x rest us n f.OpenBrace (listed n v) (listed m v) (
+        local_bind x rest us n (names n) (names m) (closes v) (closes v) (local_less x rest us (suc n) n (omega arith) (local_of x rest us (suc n) strict_names)) (λ xs.
+        local_after x rest us n f.CloseBrace (last v xs) (last v xs) (
+        local_after x rest us n f.Semicolon (λ vs. Ok (found ++ enumeration v xs ∷ [], vs)) (λ vs. Ok (found ++ enumeration v xs ∷ [], vs)) (local_ok x rest us n (found ++ enumeration v xs ∷ [])))))))))
+
+    local_types : Local x rest us n (types n) (types m)
+    unfolding types
+    local_types = local_many x rest us n (begins f.Type) (type_declaration n) (type_declaration m) (first_begins f.Type) strict_type_declaration n m n [] (omega arith) up (omega arith)
+
+    abbrev whole : List TypeTree → List NodeTree → ProgramTree
+    whole ds ns = record { types = ds; nodes = ns }
+
+    pub local_program : Local x rest us n (program n) (program m)
+    unfolding program
+    local_program =
+        let last : ℕ → List TypeTree → List Tok → Read ProgramTree = λ k ds ts. nodes k ts >>= λ ns. Ok (whole ds ns.0, ns.1) in
+        local_bind x rest us n (types n) (types m) (last n) (last m) local_types (λ ds.
+        local_bind x rest us n (nodes n) (nodes m) (λ ns ts. Ok (whole ds ns, ts)) (λ ns ts. Ok (whole ds ns, ts)) local_nodes (λ ns. local_ok x rest us n (whole ds ns)))
+
+  longer : (r : Read ProgramTree) → length (left_of r) ≤ length rest → (r >>= to_the_end) ≡ Err (x ∷ rest) → ⊥
   longer (Ok (ps, [])) b e = absurd cc
   longer (Ok (ps, y ∷ ts)) b e = let h : y ∷ ts ≡ x ∷ rest = same_rest (y ∷ ts) (x ∷ rest) e in absurd (omega (arith, ap length h))
     where
@@ -228,17 +261,17 @@ module _ (x : Tok) (rest us : List Tok) where
       same_rest : (a b : List Tok) → ◌≡◌ {A = Result ProgramTree (List Tok)} (Err a) (Err b) → a ≡ b
       same_rest a b e = cc
 
-  not_read : (q : List Tok) (v found : List NodeTree) → ◌≡◌ {A = Read (List NodeTree)} (Ok (v, q ++ x ∷ us)) (Ok (found, [])) → ⊥
-  not_read q v found e = not_empty q (ap (λ (r : Read (List NodeTree)). left_of r) e)
+  not_read : (q : List Tok) (v found : ProgramTree) → ◌≡◌ {A = Read ProgramTree} (Ok (v, q ++ x ∷ us)) (Ok (found, [])) → ⊥
+  not_read q v found e = not_empty q (ap (λ (r : Read ProgramTree). left_of r) e)
     where
       not_empty : (u : List Tok) → u ++ x ∷ us ≡ [] → ⊥
       not_empty [] h = absurd (omega (arith, ap length h))
       not_empty (y ∷ u) h = absurd (omega (arith, ap length h))
 
-  not_refused : (ts : List Tok) (found : List NodeTree) → ◌≡◌ {A = Read (List NodeTree)} (Err ts) (Ok (found, [])) → ⊥
+  not_refused : (ts : List Tok) (found : ProgramTree) → ◌≡◌ {A = Read ProgramTree} (Err ts) (Ok (found, [])) → ⊥
   not_refused ts found e = absurd cc
 
-  refused_alike : (k : ℕ) (r s : Read (List NodeTree)) (found : List NodeTree) → Same x rest us k r s → (r >>= to_the_end) ≡ Err (x ∷ rest) → s ≡ Ok (found, []) → ⊥
+  refused_alike : (k : ℕ) (r s : Read ProgramTree) (found : ProgramTree) → Same x rest us k r s → (r >>= to_the_end) ≡ Err (x ∷ rest) → s ≡ Ok (found, []) → ⊥
   refused_alike k r s found (read v q b e h) at_x told = not_read q v found (sym h ∙ told)
   refused_alike k r s found (refused q e h) at_x told = not_refused (q ++ x ∷ us) found (sym h ∙ told)
   refused_alike k r s found (beyond b) at_x told = longer r b at_x
@@ -250,5 +283,5 @@ no_text before x rest us found at_x s =
     let n : ℕ = suc (length (before ++ x ∷ rest)) in
     let m : ℕ = n + suc (length (before ++ x ∷ us)) in
     let l : Local x rest us n (program n) (program m) = local_program x rest us n m (omega arith) in
-    refused_alike x rest us (suc (length before)) (program n (before ++ x ∷ rest)) (program m (before ++ x ∷ us)) found.nodes
+    refused_alike x rest us (suc (length before)) (program n (before ++ x ∷ rest)) (program m (before ++ x ∷ us)) found
     (l.near before (omega (arith, length-append before (x ∷ rest)))) at_x (program-again m (before ++ x ∷ us) found (omega arith) s)

@@ -1,14 +1,13 @@
 -- What is read of single tokens and of repeated pieces is spelled so.
-use Rattle.std.proofs.Common.{◌≡◌, ℕ, zero, suc, Result, Ok, Err, List, ◌∷◌, [], ◌++◌, refl, ap, sym, ◌∙◌, cond, Bool, true, false, append_assoc}
+use Rattle.std.proofs.Common.{◌≡◌, ℕ, zero, suc, Result, Ok, Err, List, ◌∷◌, [], ◌++◌, refl, ap, sym, subst, ◌∙◌, cond, Bool, true, false, append_assoc}
 use Rattle.std.specs.List.{flat_map}
 use Rattle.std.proofs.lemmas.List.{append-nil}
-use Rattle.lutree.specs.declared.expr.Pattern.TheVariants as patterns
 use Rattle.lutree.specs.declared.expr.Condition.{Condition}
 use Rattle.lusyn_tokens.specs.declared.token.Fixed.{Fixed}
 use Rattle.lusyn_tokens.specs.declared.token.Fixed.TheVariants as f
 use Rattle.lusyn_tokens.specs.Tokens.{Tok, identifier, number, fixed}
-use Rattle.lusyn_grammar.specs.Grammar.{repeated, optional, Each, sign_tokens, pattern_tokens, when_tokens}
-use Rattle.lusyn_grammar.specs.Reading.{Read, ◌>>=◌, same, after, past_by, past, name, signed, condition_by, condition, many}
+use Rattle.lusyn_grammar.specs.Grammar.{repeated, optional, Each, IsBare, pattern_tokens, when_tokens}
+use Rattle.lusyn_grammar.specs.Reading.{Read, ◌>>=◌, same, after, past_by, past, name, on_truth, on_label, labelled_clock, clock_from_by, clock_from, condition_by, condition, many}
 use Rattle.lusyn_grammar.proofs.Tables.{same-is}
 
 pub bind_ok : {A B E : Type 0} (r : Result A E) (go : A → Result B E) (y : B) → (r >>= go) ≡ Ok y → (x : A) × (r ≡ Ok x) × (go x ≡ Ok y)
@@ -44,21 +43,43 @@ past-is_by ts (Ok rest) e = (true, after-is f.Semicolon ts rest e)
 pub past-is : (ts : List Tok) → (b : Bool) × (optional b (past f.Semicolon ts) ≡ ts)
 past-is ts = past-is_by ts (after f.Semicolon ts) refl
 
-abbrev clock_tokens : Condition → List Tok → List Tok
-clock_tokens c rest = pattern_tokens c.pattern c.variable rest
+-- a clock with these tokens before the rest, of whose label nothing is known
+abbrev IsClockOf : List Tok → Condition × List Tok → Type 0
+IsClockOf ts x = (pattern_tokens x.0.pattern x.0.variable x.1 ≡ ts) × IsBare x.0.pattern
 
-signed-is : (sign : Bool) (ts : List Tok) (r : Read (List ℕ)) (x : Condition × List Tok) → name ts ≡ r → signed sign r ≡ Ok x → clock_tokens x.0 x.1 ≡ sign_tokens sign ts
-signed-is sign ts (Err us) x h e = absurd cc
-signed-is sign ts (Ok y) x h e =
-    let c : Condition = record { variable = y.0; pattern = patterns.Truth sign } in
-    ap (λ (z : Condition × List Tok). clock_tokens z.0 z.1) (sym (same_ok (c, y.1) x e)) ∙ ap (sign_tokens sign) (name-is ts y h)
+clock_of : (ts rest : List Tok) (c : Condition) (x : Condition × List Tok) → (c, rest) ≡ x → IsClockOf ts (c, rest) → IsClockOf ts x
+clock_of ts rest c x same h = let P : Condition × List Tok → Type 0 = IsClockOf ts in subst P same h
 
-condition_by-is : (ts : List Tok) (r : Result (List Tok) (List Tok)) (x : Condition × List Tok) → after f.Not ts ≡ r → condition_by ts r ≡ Ok x → clock_tokens x.0 x.1 ≡ ts
-condition_by-is ts (Err us) x h e = signed-is true ts (name ts) x refl e
-condition_by-is ts (Ok rest) x h e = signed-is false rest (name rest) x refl e ∙ after-is f.Not ts rest h
+clock_along : (ts us : List Tok) (x : Condition × List Tok) → ts ≡ us → IsClockOf ts x → IsClockOf us x
+clock_along ts us x same h = (h.0 ∙ same, h.1)
+
+labelled_clock-is : (label : List ℕ) (ts : List Tok) (x : Condition × List Tok) → labelled_clock label ts ≡ Ok x → IsClockOf (identifier label ∷ fixed f.Open ∷ ts) x
+labelled_clock-is label ts x e =
+    let (y, one, e1) = bind_ok (name ts) (λ y. after f.Close y.1 >>= λ rest. Ok (on_label label y.0, rest)) x e in
+    let (rest, two, e2) = bind_ok (after f.Close y.1) (λ rest. Ok (on_label label y.0, rest)) x e1 in
+    clock_of (identifier label ∷ fixed f.Open ∷ ts) rest (on_label label y.0) x (same_ok (on_label label y.0, rest) x e2) (
+      ap (λ (us : List Tok). identifier label ∷ fixed f.Open ∷ identifier y.0 ∷ us) (after-is f.Close y.1 rest two) ∙ ap (λ (us : List Tok). identifier label ∷ fixed f.Open ∷ us) (name-is ts y one),
+      refl,
+    )
+
+clock_from_by-is : (v : List ℕ) (ts : List Tok) (r : Result (List Tok) (List Tok)) (x : Condition × List Tok) → after f.Open ts ≡ r → clock_from_by v ts r ≡ Ok x → IsClockOf (identifier v ∷ ts) x
+clock_from_by-is v ts (Err us) x h e = clock_of (identifier v ∷ ts) ts (on_truth true v) x (same_ok (on_truth true v, ts) x e) (refl, tt)
+clock_from_by-is v ts (Ok rest) x h e =
+    clock_along (identifier v ∷ fixed f.Open ∷ rest) (identifier v ∷ ts) x (ap (λ (us : List Tok). identifier v ∷ us) (after-is f.Open ts rest h)) (labelled_clock-is v rest x e)
+
+condition_by-is : (ts : List Tok) (r : Result (List Tok) (List Tok)) (x : Condition × List Tok) → after f.Not ts ≡ r → condition_by ts r ≡ Ok x → IsClockOf ts x
+condition_by-is ts (Err us) x h e =
+    let (y, one, e1) = bind_ok (name ts) (λ y. clock_from y.0 y.1) x e in
+    clock_along (identifier y.0 ∷ y.1) ts x (name-is ts y one) (clock_from_by-is y.0 y.1 (after f.Open y.1) x refl e1)
+condition_by-is ts (Ok rest) x h e =
+    let (y, one, e1) = bind_ok (name rest) (λ y. Ok (on_truth false y.0, y.1)) x e in
+    clock_of ts y.1 (on_truth false y.0) x (same_ok (on_truth false y.0, y.1) x e1) (ap (λ (us : List Tok). fixed f.Not ∷ us) (name-is rest y one) ∙ after-is f.Not ts rest h, tt)
 
 pub condition-is : (ts : List Tok) (x : Condition × List Tok) → condition ts ≡ Ok x → when_tokens x.0 x.1 ≡ fixed f.When ∷ ts
-condition-is ts x e = ap (λ (us : List Tok). fixed f.When ∷ us) (condition_by-is ts (after f.Not ts) x refl e)
+condition-is ts x e = ap (λ (us : List Tok). fixed f.When ∷ us) (condition_by-is ts (after f.Not ts) x refl e).0
+
+pub condition-bare : (ts : List Tok) (x : Condition × List Tok) → condition ts ≡ Ok x → IsBare x.0.pattern
+condition-bare ts x e = (condition_by-is ts (after f.Not ts) x refl e).1
 
 -- Tokens begin with a part that is written properly so and stands for what was found.
 pub record Reads {W V : Type 0} (of : W → List Tok → List Tok) (view : W → V) (Good : W → Type 0) (ts : List Tok) (x : V × List Tok) : Type 0 where

@@ -5,14 +5,12 @@ use Rattle.lutree.specs.declared.expr.Infix.{Infix}
 use Rattle.lutree.specs.declared.expr.Pattern.{Pattern}
 use Rattle.lutree.specs.declared.expr.Pattern.TheVariants as patterns
 use Rattle.lutree.specs.declared.expr.Condition.{Condition}
-use Rattle.lutree.specs.declared.program.Kind.{Kind}
-use Rattle.lutree.specs.declared.program.Kind.TheVariants as kinds
 use Rattle.lusyn_tokens.specs.declared.token.Fixed.{Fixed}
 use Rattle.lusyn_tokens.specs.declared.token.Fixed.TheVariants as f
 use Rattle.lusyn_tokens.specs.Tokens.{Tok, identifier, fixed}
 use Rattle.lusyn_tokens.specs.Tokens as tok
 use Rattle.lusyn_tokens.specs.Tokens.{prefix_token, infix_token, prefix_of}
-use Rattle.lusyn_grammar.specs.Grammar.{Written, Writtens, Each, WrittenDeclaration, WrittenEquation, repeated, led, ended, separated, name, truth_token, sign_tokens, pattern_tokens, when_tokens, tokens, further, kind_token, clock, declaration, left_tokens, equation}
+use Rattle.lusyn_grammar.specs.Grammar.{Written, Writtens, Each, WrittenType, WrittenDeclaration, WrittenEquation, repeated, led, ended, separated, name, truth_token, sign_tokens, pattern_tokens, when_tokens, branch_token, tokens, further, branches, type_token, clock, declaration, left_tokens, equation}
 use Rattle.lusyn_grammar.specs.Grammar as w
 use Rattle.lusyn_grammar.specs.Reading.{next, nothing}
 use Rattle.lusyn_grammar.specs.Places.{is}
@@ -20,7 +18,7 @@ use Rattle.lusyn_grammar.proofs.Tables.{same-is, next-operator_token, prefix_of-
 
 -- a keyword at which a part of a program begins or ends
 abbrev pub is_edge : Tok → Bool
-is_edge t = is f.Node t || is f.Returns t || is f.Var t || is f.Let t || is f.Tel t
+is_edge t = is f.Type t || is f.Node t || is f.Returns t || is f.Var t || is f.Let t || is f.Tel t
 
 abbrev pub IsPlain : Tok → Type 0
 IsPlain t = not (is_edge t) ≡ true
@@ -40,6 +38,7 @@ is_false false e = refl
 
 -- what such a token isn't
 pub record NoEdge (t : Tok) : Type 0 where
+  pub types : is f.Type t ≡ false
   pub node : is f.Node t ≡ false
   pub returns : is f.Returns t ≡ false
   pub locals : is f.Var t ≡ false
@@ -48,11 +47,12 @@ pub record NoEdge (t : Tok) : Type 0 where
 
 pub no_edge : (t : Tok) → IsPlain t → NoEdge t
 no_edge t e =
-    let (abcd, ends) = neither (is f.Node t || is f.Returns t || is f.Var t || is f.Let t) (is f.Tel t) e in
-    let (abc, begins) = neither (is f.Node t || is f.Returns t || is f.Var t) (is f.Let t) abcd in
-    let (ab, locals) = neither (is f.Node t || is f.Returns t) (is f.Var t) abc in
-    let (a, returns) = neither (is f.Node t) (is f.Returns t) ab in
-    record { node = is_false (is f.Node t) a; returns = returns; locals = locals; begins = begins; ends = ends }
+    let (abcde, ends) = neither (is f.Type t || is f.Node t || is f.Returns t || is f.Var t || is f.Let t) (is f.Tel t) e in
+    let (abcd, begins) = neither (is f.Type t || is f.Node t || is f.Returns t || is f.Var t) (is f.Let t) abcde in
+    let (abc, locals) = neither (is f.Type t || is f.Node t || is f.Returns t) (is f.Var t) abcd in
+    let (ab, returns) = neither (is f.Type t || is f.Node t) (is f.Returns t) abc in
+    let (a, node) = neither (is f.Type t) (is f.Node t) ab in
+    record { types = is_false (is f.Type t) a; node = node; returns = returns; locals = locals; begins = begins; ends = ends }
 
 pub inner_plain : (t : Tok) → IsInner t → IsPlain t
 inner_plain t e = (neither (is_edge t) (is f.Semicolon t) e).0
@@ -108,21 +108,22 @@ false_unless : (a : Bool) → (a ≡ true → ⊥) → a ≡ false
 false_unless true h = absurd (h refl)
 false_unless false h = refl
 
-none_of : (a b c d e s : Bool) → a ≡ false → b ≡ false → c ≡ false → d ≡ false → e ≡ false → s ≡ false → not ((a || b || c || d || e) || s) ≡ true
-none_of true b c d e s p q r u v x = absurd (true≢false p)
-none_of false true c d e s p q r u v x = absurd (true≢false q)
-none_of false false true d e s p q r u v x = absurd (true≢false r)
-none_of false false false true e s p q r u v x = absurd (true≢false u)
-none_of false false false false true s p q r u v x = absurd (true≢false v)
-none_of false false false false false true p q r u v x = absurd (true≢false x)
-none_of false false false false false false p q r u v x = refl
+none_of : (z a b c d e s : Bool) → z ≡ false → a ≡ false → b ≡ false → c ≡ false → d ≡ false → e ≡ false → s ≡ false → not ((z || a || b || c || d || e) || s) ≡ true
+none_of true a b c d e s o p q r u v x = absurd (true≢false o)
+none_of false true b c d e s o p q r u v x = absurd (true≢false p)
+none_of false false true c d e s o p q r u v x = absurd (true≢false q)
+none_of false false false true d e s o p q r u v x = absurd (true≢false r)
+none_of false false false false true e s o p q r u v x = absurd (true≢false u)
+none_of false false false false false true s o p q r u v x = absurd (true≢false v)
+none_of false false false false false false true o p q r u v x = absurd (true≢false x)
+none_of false false false false false false false o p q r u v x = refl
 
 -- a keyword or sign that is none of these
-fixed_inner : (g : Fixed) → (f.Node ≡ g → ⊥) → (f.Returns ≡ g → ⊥) → (f.Var ≡ g → ⊥) → (f.Let ≡ g → ⊥) → (f.Tel ≡ g → ⊥) → (f.Semicolon ≡ g → ⊥) → IsInner (fixed g)
-fixed_inner g a b c d e s =
+fixed_inner : (g : Fixed) → (f.Type ≡ g → ⊥) → (f.Node ≡ g → ⊥) → (f.Returns ≡ g → ⊥) → (f.Var ≡ g → ⊥) → (f.Let ≡ g → ⊥) → (f.Tel ≡ g → ⊥) → (f.Semicolon ≡ g → ⊥) → IsInner (fixed g)
+fixed_inner g z a b c d e s =
     let other : (h : Fixed) → (h ≡ g → ⊥) → is h (fixed g) ≡ false = λ h no. false_unless (is h (fixed g)) (λ same. no (same-is h g same)) in
-    none_of (is f.Node (fixed g)) (is f.Returns (fixed g)) (is f.Var (fixed g)) (is f.Let (fixed g)) (is f.Tel (fixed g)) (is f.Semicolon (fixed g))
-    (other f.Node a) (other f.Returns b) (other f.Var c) (other f.Let d) (other f.Tel e) (other f.Semicolon s)
+    none_of (is f.Type (fixed g)) (is f.Node (fixed g)) (is f.Returns (fixed g)) (is f.Var (fixed g)) (is f.Let (fixed g)) (is f.Tel (fixed g)) (is f.Semicolon (fixed g))
+    (other f.Type z) (other f.Node a) (other f.Returns b) (other f.Var c) (other f.Let d) (other f.Tel e) (other f.Semicolon s)
 
 -- what is no operator isn't the token of one
 no_infix : (op : Infix) (h : Fixed) → next (fixed h ∷ []) ≡ nothing → h ≡ infix_token op → ⊥
@@ -139,11 +140,11 @@ no_prefix op h none e =
 
 prefix_inner : (op : Prefix) → IsInner (fixed (prefix_token op))
 prefix_inner op =
-    fixed_inner (prefix_token op) (no_prefix op f.Node refl) (no_prefix op f.Returns refl) (no_prefix op f.Var refl) (no_prefix op f.Let refl) (no_prefix op f.Tel refl) (no_prefix op f.Semicolon refl)
+    fixed_inner (prefix_token op) (no_prefix op f.Type refl) (no_prefix op f.Node refl) (no_prefix op f.Returns refl) (no_prefix op f.Var refl) (no_prefix op f.Let refl) (no_prefix op f.Tel refl) (no_prefix op f.Semicolon refl)
 
 infix_inner : (op : Infix) → IsInner (fixed (infix_token op))
 infix_inner op =
-    fixed_inner (infix_token op) (no_infix op f.Node refl) (no_infix op f.Returns refl) (no_infix op f.Var refl) (no_infix op f.Let refl) (no_infix op f.Tel refl) (no_infix op f.Semicolon refl)
+    fixed_inner (infix_token op) (no_infix op f.Type refl) (no_infix op f.Node refl) (no_infix op f.Returns refl) (no_infix op f.Var refl) (no_infix op f.Let refl) (no_infix op f.Tel refl) (no_infix op f.Semicolon refl)
 
 truth_inner : (v : Bool) → IsInner (fixed (truth_token v))
 truth_inner true = refl
@@ -155,6 +156,11 @@ sign_inner false = token (fixed f.Not) refl here
 
 pattern_inner : (p : Pattern) (x : List ℕ) → Own IsInner (pattern_tokens p x)
 pattern_inner (patterns.Truth v) x = both (sign_inner v) (token (identifier x) refl here)
+pattern_inner (patterns.Label l) x = token (identifier l.name) refl (token (fixed f.Open) refl (token (identifier x) refl (token (fixed f.Close) refl here)))
+
+branch_inner : (p : Pattern) → IsInner (branch_token p)
+branch_inner (patterns.Truth v) = truth_inner v
+branch_inner (patterns.Label l) = refl
 
 when_inner : (c : Condition) → Own IsInner (when_tokens c)
 when_inner c = token (fixed f.When) refl (pattern_inner c.pattern c.variable)
@@ -170,10 +176,7 @@ mutual
       token (fixed f.If) refl (both (inner c) (token (fixed f.Then) refl (both (inner e) (token (fixed f.Else) refl (inner g)))))
   inner (w.when c sampler) = both (inner c) (when_inner sampler)
   inner (w.current x) = token (fixed f.Current) refl (token (identifier x) refl here)
-  inner (w.merge x c e) =
-      token (fixed f.Merge) refl (token (identifier x) refl
-      (token (fixed f.Open) refl (token (fixed f.True) refl (token (fixed f.Arrow) refl (both (inner c) (token (fixed f.Close) refl
-      (token (fixed f.Open) refl (token (fixed f.False) refl (token (fixed f.Arrow) refl (both (inner e) (token (fixed f.Close) refl here)))))))))))
+  inner (w.merge x ps cs) = token (fixed f.Merge) refl (token (identifier x) refl (inner_branches cs ps))
   inner (w.call g w.none) = token (identifier g) refl (token (fixed f.Open) refl (token (fixed f.Close) refl here))
   inner (w.call g (w.more c cs)) = token (identifier g) refl (token (fixed f.Open) refl (both (inner c) (both (inners cs) (token (fixed f.Close) refl here))))
   inner (w.paren c) = token (fixed f.Open) refl (both (inner c) (token (fixed f.Close) refl here))
@@ -182,10 +185,19 @@ mutual
   inners w.none = here
   inners (w.more c cs) = token (fixed f.Comma) refl (both (inner c) (inners cs))
 
+  inner_branches : (cs : Writtens) (ps : List Pattern) → Own IsInner (branches cs ps)
+  inner_branches w.none ps = here
+  inner_branches (w.more c cs) [] = here
+  inner_branches (w.more c cs) (p ∷ ps) =
+      token (fixed f.Open) refl (token (branch_token p) (branch_inner p) (token (fixed f.Arrow) refl (both (inner c) (token (fixed f.Close) refl (inner_branches cs ps)))))
+
 -- EQUATIONS
 
 names_inner : (xs : List (List ℕ)) → Own IsInner (separated f.Comma name xs)
 names_inner xs = separated_own f.Comma name refl (λ x. token (identifier x) refl here) xs
+
+pub names_plain : (xs : List (List ℕ)) → Own IsPlain (separated f.Comma name xs)
+names_plain xs = more inner_plain (names_inner xs)
 
 -- what stands behind the first token of an equation's left side, and that token
 pub record Begun (P : Tok → Type 0) (d : List Tok → List Tok) : Type 0 where
@@ -225,9 +237,10 @@ equations_plain es = ended_own f.Semicolon equation refl (λ e. more inner_plain
 
 -- DECLARATIONS
 
-kind_inner : (k : Kind) → IsInner (fixed (kind_token k))
-kind_inner kinds.Int = refl
-kind_inner kinds.Bool = refl
+kind_inner : (k : WrittenType) → IsInner (type_token k)
+kind_inner w.int = refl
+kind_inner w.bool = refl
+kind_inner (w.named x) = refl
 
 clock_inner : (c : Option Condition) → Own IsInner (clock c)
 clock_inner None = here
@@ -235,7 +248,7 @@ clock_inner (Some c) = when_inner c
 
 declaration_plain : (d : WrittenDeclaration) → Own IsPlain (declaration d)
 declaration_plain d =
-    more inner_plain (both (names_inner d.names) (token (fixed f.Colon) refl (token (fixed (kind_token d.kind)) (kind_inner d.kind) (clock_inner d.clock))))
+    more inner_plain (both (names_inner d.names) (token (fixed f.Colon) refl (token (type_token d.kind) (kind_inner d.kind) (clock_inner d.clock))))
 
 pub declarations_plain : (ds : List WrittenDeclaration) → Own IsPlain (separated f.Semicolon declaration ds)
 declarations_plain ds = separated_own f.Semicolon declaration refl declaration_plain ds

@@ -1,16 +1,14 @@
 -- What is read of names and declarations is spelled so.
-use Rattle.std.proofs.Common.{◌≡◌, ℕ, Option, Some, None, Result, Ok, Err, List, ◌∷◌, [], ◌++◌, refl, ap, sym, ◌∙◌, map}
+use Rattle.std.proofs.Common.{◌≡◌, ℕ, Option, Some, None, Result, Ok, Err, List, ◌∷◌, [], ◌++◌, refl, ap, sym, subst, ◌∙◌, map}
 use Rattle.std.specs.List.{flat_map}
 use Rattle.lutree.specs.declared.expr.Condition.{Condition}
-use Rattle.lutree.specs.declared.program.Kind.{Kind}
-use Rattle.lutree.specs.declared.program.Kind.TheVariants as kinds
 use Rattle.lutree.specs.Tree.{DeclarationTree}
 use Rattle.lusyn_tokens.specs.declared.token.Fixed.TheVariants as f
 use Rattle.lusyn_tokens.specs.Tokens.{Tok, identifier, number, fixed}
 use Rattle.lusyn_grammar.specs.Grammar as w
-use Rattle.lusyn_grammar.specs.Grammar.{WrittenDeclaration, repeated, led, separated, Each, IsNonempty, IsProperDeclaration, kind_token, when_tokens, declared, declaration_tree}
+use Rattle.lusyn_grammar.specs.Grammar.{WrittenType, WrittenDeclaration, repeated, led, separated, Each, IsNonempty, IsBareClock, IsProperDeclaration, type_token, when_tokens, declared, declaration_tree}
 use Rattle.lusyn_grammar.specs.Reading.{Read, ◌>>=◌, after, begins, begins_name, name, condition, many, further_name, names, kind, clock_by, clocked, declaration, further_declaration, declarations, inputs, ended, ended_declaration, locals_by, locals}
-use Rattle.lusyn_grammar.proofs.Pieces.{bind_ok, tested, same_ok, after-is, name-is, condition-is, Reads, reads, Begins, Sound, many_sound}
+use Rattle.lusyn_grammar.proofs.Pieces.{bind_ok, tested, same_ok, after-is, name-is, condition-is, condition-bare, Reads, reads, Begins, Sound, many_sound}
 
 abbrev pub Any : {A : Type 0} → A → Type 0
 Any x = Unit {0}
@@ -45,12 +43,12 @@ names_sound n ts x e =
       stands = ap (λ (xs : List (List ℕ)). y.0 ∷ xs) (sym (flat_map-alone k.written)) ∙ k.stands;
     }
 
-pub kind-is : (ts : List Tok) (x : Kind × List Tok) → kind ts ≡ Ok x → fixed (kind_token x.0) ∷ x.1 ≡ ts
+pub kind-is : (ts : List Tok) (x : WrittenType × List Tok) → kind ts ≡ Ok x → type_token x.0 ∷ x.1 ≡ ts
 kind-is [] x e = absurd cc
-kind-is (identifier v ∷ ts) x e = absurd cc
+kind-is (identifier v ∷ ts) x e = ap (λ (y : WrittenType × List Tok). type_token y.0 ∷ y.1) (sym (same_ok (w.named v, ts) x e))
 kind-is (number n ∷ ts) x e = absurd cc
-kind-is (fixed f.Int ∷ ts) x e = ap (λ (y : Kind × List Tok). fixed (kind_token y.0) ∷ y.1) (sym (same_ok (kinds.Int, ts) x e))
-kind-is (fixed f.Bool ∷ ts) x e = ap (λ (y : Kind × List Tok). fixed (kind_token y.0) ∷ y.1) (sym (same_ok (kinds.Bool, ts) x e))
+kind-is (fixed f.Int ∷ ts) x e = ap (λ (y : WrittenType × List Tok). type_token y.0 ∷ y.1) (sym (same_ok (w.int, ts) x e))
+kind-is (fixed f.Bool ∷ ts) x e = ap (λ (y : WrittenType × List Tok). type_token y.0 ∷ y.1) (sym (same_ok (w.bool, ts) x e))
 kind-is (fixed _ ∷ ts) x e = absurd cc
 
 clock_by-is : (ts : List Tok) (r : Result (List Tok) (List Tok)) (x : Option Condition × List Tok) → after f.When ts ≡ r → clock_by ts r ≡ Ok x → w.clock x.0 x.1 ≡ ts
@@ -62,7 +60,17 @@ clock_by-is ts (Ok rest) x h e =
 pub clocked-is : (ts : List Tok) (x : Option Condition × List Tok) → clocked ts ≡ Ok x → w.clock x.0 x.1 ≡ ts
 clocked-is ts x e = clock_by-is ts (after f.When ts) x refl e
 
-declaration_spelled : (d : WrittenDeclaration) (ts us a b rest : List Tok) → separated f.Comma w.name d.names us ≡ ts → fixed f.Colon ∷ a ≡ us → fixed (kind_token d.kind) ∷ b ≡ a → w.clock d.clock rest ≡ b
+clock_by-bare : (ts : List Tok) (r : Result (List Tok) (List Tok)) (x : Option Condition × List Tok) → clock_by ts r ≡ Ok x → IsBareClock x.0
+clock_by-bare ts (Err us) x e = let P : Option Condition × List Tok → Type 0 = λ y. IsBareClock y.0 in subst P (same_ok (None, ts) x e) tt
+clock_by-bare ts (Ok rest) x e =
+    let (y, one, two) = bind_ok (condition rest) (λ y. Ok (Some y.0, y.1)) x e in
+    let P : Option Condition × List Tok → Type 0 = λ z. IsBareClock z.0 in
+    subst P (same_ok (Some y.0, y.1) x two) (condition-bare rest y one)
+
+clocked-bare : (ts : List Tok) (x : Option Condition × List Tok) → clocked ts ≡ Ok x → IsBareClock x.0
+clocked-bare ts x e = clock_by-bare ts (after f.When ts) x e
+
+declaration_spelled : (d : WrittenDeclaration) (ts us a b rest : List Tok) → separated f.Comma w.name d.names us ≡ ts → fixed f.Colon ∷ a ≡ us → type_token d.kind ∷ b ≡ a → w.clock d.clock rest ≡ b
     → w.declaration d rest ≡ ts
 declaration_spelled d ts us a b rest h1 h2 h3 h4 = rw (h4, h3, h2) h1
 
@@ -75,7 +83,7 @@ declaration_sound n found ts x e =
     let (c, four, e4) = bind_ok (clocked k.1) (λ c. Ok (found ++ map (declared k.0 c.0) y.0, c.1)) x e3 in
     let r : Reads (separated f.Comma w.name) itself IsNonempty ts y = names_sound n ts y one in
     let d : WrittenDeclaration = record { names = r.written; kind = k.0; clock = c.0 } in
-    reads w.declaration (λ q. found ++ declaration_tree q) IsProperDeclaration d ts c.1 (found ++ map (declared k.0 c.0) y.0) x r.proper
+    reads w.declaration (λ q. found ++ declaration_tree q) IsProperDeclaration d ts c.1 (found ++ map (declared k.0 c.0) y.0) x (r.proper, clocked-bare k.1 c four)
     (declaration_spelled d ts y.1 a k.1 c.1 r.spelled (after-is f.Colon y.1 a two) (kind-is a k three) (clocked-is k.1 c four))
     (ap (λ (xs : List (List ℕ)). found ++ map (declared k.0 c.0) xs) r.stands) (same_ok (found ++ map (declared k.0 c.0) y.0, c.1) x e4)
 

@@ -1,20 +1,22 @@
 -- What is read of an expression is spelled so.
-use Rattle.std.proofs.Common.{◌≡◌, ◌≤◌, ℕ, zero, suc, Option, Some, None, Result, Ok, Err, List, ◌∷◌, [], ◌++◌, refl, ap, sym, subst, ◌∙◌, arith, true, false, ◌&&◌, nat_le}
+use Rattle.std.proofs.Common.{◌≡◌, ◌≤◌, ℕ, zero, suc, Option, Some, None, Result, Ok, Err, List, ◌∷◌, [], ◌++◌, map, refl, ap, sym, subst, ◌∙◌, arith, inl, inr, true, false, ◌&&◌, nat_le}
 use Rattle.std.specs.List.{flat_map}
 use Rattle.std.proofs.lemmas.Bool.{and_parts, leb-true}
 use Rattle.lutree.specs.declared.expr.Prefix.{Prefix}
 use Rattle.lutree.specs.declared.expr.Infix.{Infix}
+use Rattle.lutree.specs.declared.expr.Pattern.{Pattern}
+use Rattle.lutree.specs.declared.expr.Pattern.TheVariants as patterns
 use Rattle.lutree.specs.Tree.{Tree, Trees, trees_of}
 use Rattle.lutree.specs.Tree as t
 use Rattle.lusyn_tokens.specs.declared.token.Fixed.{Fixed}
 use Rattle.lusyn_tokens.specs.declared.token.Fixed.TheVariants as f
 use Rattle.lusyn_tokens.specs.Tokens.{Tok, identifier, number, fixed}
 use Rattle.lusyn_tokens.specs.Tokens.{infix_token, prefix_token, prefix_of, level, left, right}
-use Rattle.lusyn_grammar.specs.Grammar.{Written, Writtens, tree, trees, tokens, further, level_of, IsProper, AreProper, when_tokens, repeated, led, Each}
+use Rattle.lusyn_grammar.specs.Grammar.{Written, Writtens, tree, trees, tokens, further, level_of, IsProper, AreProper, AreAsMany, IsBareLabel, bare_label, truths, branches, when_tokens, repeated, led, Each}
 use Rattle.lusyn_grammar.specs.Grammar as w
-use Rattle.lusyn_grammar.specs.Reading.{Read, ◌>>=◌, Next, operator, clock, parenthesis, nothing, next, tail, after, begins, name, condition, many, step, climb, further_operand, closed, operands_by, operands, named_by, named, choice, inside, branch, merge, current, at_level, allowed, prefixed, head, whole, expr}
+use Rattle.lusyn_grammar.specs.Reading.{Read, ◌>>=◌, Next, operator, clock, parenthesis, nothing, next, tail, after, begins, name, condition, many, step, climb, further_operand, closed, operands_by, operands, named_by, named, choice, inside, branch, merged, by_truths, labelled, further_branch, by_labels, merge_by, merge, current, at_level, allowed, prefixed, head, whole, expr}
 use Rattle.lusyn_grammar.proofs.Tables.{right_high, next-is_operator, next-is_clock, prefix_of-is}
-use Rattle.lusyn_grammar.proofs.Pieces.{bind_ok, tested, same_ok, after-is, name-is, condition-is, Reads, reads, Begins, many_sound}
+use Rattle.lusyn_grammar.proofs.Pieces.{bind_ok, tested, same_ok, after-is, name-is, condition-is, condition-bare, Reads, reads, Begins, Sound, many_sound}
 
 -- several operands, as a list of what is written and as the written operands of a call
 abbrev pub writtens_of : List Written → Writtens
@@ -91,20 +93,72 @@ choice_spelled a b c ts us vs ys zs rest h1 h2 h3 h4 h5 = rw (h5, h4, h3, h2, h1
 three_trees : (a b c x y z : Tree) → a ≡ x → b ≡ y → c ≡ z → t.choice a b c ≡ t.choice x y z
 three_trees a b c x y z h k l = cc
 
-two_branches : (v : List ℕ) (a b x y : Tree) → a ≡ x → b ≡ y → t.merge v a b ≡ t.merge v x y
+two_branches : (v : List ℕ) (a b x y : Tree) → a ≡ x → b ≡ y → t.merge v truths (t.more a (t.more b t.none)) ≡ t.merge v truths (t.more x (t.more y t.none))
 two_branches v a b x y h k = cc
 
 abbrev branch_tokens : Fixed → Written → List Tok → List Tok
 branch_tokens sign c rest = fixed f.Open ∷ fixed sign ∷ fixed f.Arrow ∷ tokens c (fixed f.Close ∷ rest)
 
-branch_spelled : (sign : Fixed) (c : Written) (ts a b d us rest : List Tok) → fixed f.Open ∷ a ≡ ts → fixed sign ∷ b ≡ a → fixed f.Arrow ∷ d ≡ b → tokens c us ≡ d → fixed f.Close ∷ rest ≡ us
-    → branch_tokens sign c rest ≡ ts
-branch_spelled sign c ts a b d us rest h1 h2 h3 h4 h5 = rw (h5, h4, h3, h2) h1
+branch_spelled : (sign : Fixed) (c : Written) (ts a b d rest : List Tok) → fixed f.Open ∷ a ≡ ts → fixed sign ∷ b ≡ a → fixed f.Arrow ∷ d ≡ b → tokens c (fixed f.Close ∷ rest) ≡ d → branch_tokens sign c rest ≡ ts
+branch_spelled sign c ts a b d rest h1 h2 h3 h4 = rw (h4, h3, h2) h1
 
-merge_spelled : (v : List ℕ) (a b : Written) (ts us vs rest : List Tok) → identifier v ∷ us ≡ ts → branch_tokens f.True a vs ≡ us → branch_tokens f.False b rest ≡ vs
-    → tokens (w.merge v a b) rest ≡ fixed f.Merge ∷ ts
-merge_spelled v a b ts us vs rest h1 h2 h3 =
-    ap (λ (q : List Tok). fixed f.Merge ∷ identifier v ∷ branch_tokens f.True a q) h3 ∙ ap (λ (q : List Tok). fixed f.Merge ∷ identifier v ∷ q) h2 ∙ ap (λ (q : List Tok). fixed f.Merge ∷ q) h1
+-- a written merge with both truths
+abbrev pub by_both : List ℕ → Written → Written → Written
+by_both v a b = w.merge v truths (w.more a (w.more b w.none))
+
+truths_spelled : (v : List ℕ) (a b : Written) (ts us vs rest : List Tok) → fixed f.Arrow ∷ us ≡ ts → tokens a (fixed f.Close ∷ vs) ≡ us → branch_tokens f.False b rest ≡ vs
+    → tokens (by_both v a b) rest ≡ fixed f.Merge ∷ identifier v ∷ fixed f.Open ∷ fixed f.True ∷ ts
+truths_spelled v a b ts us vs rest h1 h2 h3 = rw (h3, h2, h1) refl
+
+-- BRANCHES WITH NAMES, EACH AS A PAIR
+
+abbrev pub Labelled : Type 0
+Labelled = List ℕ × Written
+
+-- behind the parenthesis that opens it
+abbrev pub labelled_tokens : Labelled → List Tok → List Tok
+labelled_tokens b rest = identifier b.0 ∷ fixed f.Arrow ∷ tokens b.1 (fixed f.Close ∷ rest)
+
+abbrev pub labelled_tree : Labelled → List (List ℕ × Tree)
+labelled_tree b = (b.0, tree b.1) ∷ []
+
+abbrev pub IsProperBranch : Labelled → Type 0
+IsProperBranch b = IsProper b.1
+
+abbrev pub labels_of : List Labelled → List Pattern
+labels_of = map (λ b. patterns.Label (bare_label b.0))
+
+abbrev pub branches_of : List Labelled → Writtens
+branches_of [] = w.none
+branches_of (b ∷ bs) = w.more b.1 (branches_of bs)
+
+pub branches-of : (bs : List Labelled) (rest : List Tok) → branches (branches_of bs) (labels_of bs) rest ≡ repeated (led f.Open labelled_tokens) bs rest
+branches-of [] rest = refl
+branches-of (b ∷ bs) rest = ap (λ (us : List Tok). fixed f.Open ∷ identifier b.0 ∷ fixed f.Arrow ∷ tokens b.1 (fixed f.Close ∷ us)) (branches-of bs rest)
+
+pub branches_proper : (bs : List Labelled) → Each IsProperBranch bs → AreProper (branches_of bs)
+branches_proper [] p = tt
+branches_proper (b ∷ bs) p = (p.0, branches_proper bs p.1)
+
+pub as_many : (bs : List Labelled) → AreAsMany (branches_of bs) (labels_of bs)
+as_many [] = tt
+as_many (b ∷ bs) = as_many bs
+
+pub labels_bare : (bs : List Labelled) → Each IsBareLabel (labels_of bs)
+labels_bare [] = tt
+labels_bare (b ∷ bs) = (refl, labels_bare bs)
+
+labels-read : (bs : List Labelled) → map (λ (b : List ℕ × Tree). patterns.Label (bare_label b.0)) (flat_map labelled_tree bs) ≡ labels_of bs
+labels-read [] = refl
+labels-read (b ∷ bs) = ap (λ (ps : List Pattern). patterns.Label (bare_label b.0) ∷ ps) (labels-read bs)
+
+trees-read : (bs : List Labelled) → trees_of (map (λ (b : List ℕ × Tree). b.1) (flat_map labelled_tree bs)) ≡ trees (branches_of bs)
+trees-read [] = refl
+trees-read (b ∷ bs) = ap (t.more (tree b.1)) (trees-read bs)
+
+pub merged-of : (v : List ℕ) (bs : List Labelled) → merged v (flat_map labelled_tree bs) ≡ t.merge v (labels_of bs) (trees (branches_of bs))
+merged-of v bs =
+    ap (λ (ps : List Pattern). t.merge v ps (trees_of (map (λ (b : List ℕ × Tree). b.1) (flat_map labelled_tree bs)))) (labels-read bs) ∙ ap (t.merge v (labels_of bs)) (trees-read bs)
 
 module _ (read : ℕ → List Tok → Read Tree) (sound : SoundAt read) where
   -- what follows an operator or a clock was read by `go`
@@ -126,7 +180,7 @@ module _ (read : ℕ → List Tok → Read Tree) (sound : SoundAt read) where
       → (condition (tail ts) >>= λ y. go 9 (t.when (tree c) y.0) y.1) ≡ Ok x → Expressed least (tokens c ts) x
   clock_sound least go c ts x goes p k low fits e =
       let (y, first, second) = bind_ok (condition (tail ts)) (λ y. go 9 (t.when (tree c) y.0) y.1) x e in
-      along (ap (tokens c) (condition-is (tail ts) y first ∙ next-is_clock ts k)) (goes (w.when c y.0) y.1 x (fits, p) low second)
+      along (ap (tokens c) (condition-is (tail ts) y first ∙ next-is_clock ts k)) (goes (w.when c y.0) y.1 x (fits, p, condition-bare (tail ts) y first) low second)
 
   step_sound : (least : ℕ) (go : ℕ → Tree → List Tok → Read Tree) (c : Written) (ts : List Tok) (x : Tree × List Tok)
       → Goes least go → IsProper c → least ≤ level_of c
@@ -234,32 +288,93 @@ module _ (read : ℕ → List Tok → Read Tree) (sound : SoundAt read) where
       formed (w.paren d.written) d.proper.1 refl
       (ap (λ (vs : List Tok). fixed f.Open ∷ tokens d.written vs) last ∙ ap (λ (vs : List Tok). fixed f.Open ∷ vs) d.spelled) d.stands refl
 
+  -- up to the parenthesis that closes it
+  abbrev Inner : List Tok → Tree × List Tok → Type 0
+  Inner ts x = Reads (λ c rest. tokens c (fixed f.Close ∷ rest)) tree IsProper ts x
+
+  inner_sound : (ts : List Tok) (x : Tree × List Tok) → inside read ts ≡ Ok x → Inner ts x
+  unfolding inside
+  inner_sound ts x e =
+      let (us, first, last) = closed-is (read 0 ts) x e in
+      let d : Expressed 0 ts (x.0, us) = sound 0 ts (x.0, us) (omega arith) first in
+      record { written = d.written; proper = d.proper.1; spelled = ap (tokens d.written) last ∙ d.spelled; stands = d.stands }
+
   branch_sound : (sign : Fixed) (ts : List Tok) (x : Tree × List Tok) → branch read sign ts ≡ Ok x → Reads (branch_tokens sign) tree IsProper ts x
-  unfolding branch inside
+  unfolding branch
   branch_sound sign ts x e =
       let (a, h1, e1) = bind_ok (after f.Open ts) _ x e in
       let (b, h2, e2) = bind_ok (after sign a) _ x e1 in
       let (c, h3, e3) = bind_ok (after f.Arrow b) (λ c. inside read c) x e2 in
-      let (us, h4, last) = closed-is (read 0 c) x e3 in
-      let d : Expressed 0 c (x.0, us) = sound 0 c (x.0, us) (omega arith) h4 in
+      let d : Inner c x = inner_sound c x e3 in
       record {
         written = d.written;
-        proper = d.proper.1;
-        spelled = branch_spelled sign d.written ts a b c us x.1 (after-is f.Open ts a h1) (after-is sign a b h2) (after-is f.Arrow b c h3) d.spelled last;
+        proper = d.proper;
+        spelled = branch_spelled sign d.written ts a b c x.1 (after-is f.Open ts a h1) (after-is sign a b h2) (after-is f.Arrow b c h3) d.spelled;
         stands = d.stands;
       }
 
-  merge_sound : (ts : List Tok) (x : Tree × List Tok) → merge read ts ≡ Ok x → Formed 10 (fixed f.Merge ∷ ts) x
-  unfolding merge
-  merge_sound ts x e =
+  by_truths_sound : (v : List ℕ) (ts : List Tok) (x : Tree × List Tok) → by_truths read v ts ≡ Ok x → Formed 10 (fixed f.Merge ∷ identifier v ∷ fixed f.Open ∷ fixed f.True ∷ ts) x
+  unfolding by_truths
+  by_truths_sound v ts x e =
+      let (a, h1, e1) = bind_ok (after f.Arrow ts) _ x e in
+      let (y, h2, e2) = bind_ok (inside read a) _ x e1 in
+      let (z, h3, e3) = bind_ok (branch read f.False y.1) (λ z. Ok (t.merge v truths (t.more y.0 (t.more z.0 t.none)), z.1)) x e2 in
+      let b : Inner a y = inner_sound a y h2 in
+      let c : Reads (branch_tokens f.False) tree IsProper y.1 z = branch_sound f.False y.1 z h3 in
+      formed (by_both v b.written c.written) ((b.proper, (c.proper, tt)), (tt, inl refl)) refl
+      (truths_spelled v b.written c.written ts a y.1 z.1 (after-is f.Arrow ts a h1) b.spelled c.spelled)
+      (two_branches v (tree b.written) (tree c.written) y.0 z.0 b.stands c.stands) (same_ok (t.merge v truths (t.more y.0 (t.more z.0 t.none)), z.1) x e3)
+
+  labelled_sound : Sound labelled_tokens labelled_tree IsProperBranch (labelled read)
+  unfolding labelled
+  labelled_sound found ts x e =
       let (v, h1, e1) = bind_ok (name ts) _ x e in
-      let (y, h2, e2) = bind_ok (branch read f.True v.1) _ x e1 in
-      let (z, h3, e3) = bind_ok (branch read f.False y.1) (λ z. Ok (t.merge v.0 y.0 z.0, z.1)) x e2 in
-      let a : Reads (branch_tokens f.True) tree IsProper v.1 y = branch_sound f.True v.1 y h2 in
-      let b : Reads (branch_tokens f.False) tree IsProper y.1 z = branch_sound f.False y.1 z h3 in
-      formed (w.merge v.0 a.written b.written) (a.proper, b.proper) refl
-      (merge_spelled v.0 a.written b.written ts v.1 y.1 z.1 (name-is ts v h1) a.spelled b.spelled)
-      (two_branches v.0 (tree a.written) (tree b.written) y.0 z.0 a.stands b.stands) (same_ok (t.merge v.0 y.0 z.0, z.1) x e3)
+      let (a, h2, e2) = bind_ok (after f.Arrow v.1) _ x e1 in
+      let (y, h3, e3) = bind_ok (inside read a) (λ y. Ok (found ++ (v.0, y.0) ∷ [], y.1)) x e2 in
+      let d : Inner a y = inner_sound a y h3 in
+      reads labelled_tokens (λ b. found ++ labelled_tree b) IsProperBranch (v.0, d.written) ts y.1 (found ++ (v.0, y.0) ∷ []) x d.proper
+      (ap (λ (us : List Tok). identifier v.0 ∷ fixed f.Arrow ∷ us) d.spelled ∙ ap (λ (us : List Tok). identifier v.0 ∷ us) (after-is f.Arrow v.1 a h2) ∙ name-is ts v h1)
+      (ap (λ (z : Tree). found ++ (v.0, z) ∷ []) d.stands) (same_ok (found ++ (v.0, y.0) ∷ [], y.1) x e3)
+
+  further_branch_sound : Sound (led f.Open labelled_tokens) labelled_tree IsProperBranch (further_branch read)
+  further_branch_sound found ts x e =
+      let (rest, first, second) = bind_ok (after f.Open ts) (labelled read found) x e in
+      let h : Begins labelled_tokens labelled_tree IsProperBranch found rest x = labelled_sound found rest x second in
+      record { written = h.written; proper = h.proper; spelled = ap (λ (us : List Tok). fixed f.Open ∷ us) h.spelled ∙ after-is f.Open ts rest first; stands = h.stands }
+
+  by_labels_sound : (n : ℕ) (v : List ℕ) (ts : List Tok) (x : Tree × List Tok) → by_labels read n v ts ≡ Ok x → Formed 10 (fixed f.Merge ∷ identifier v ∷ fixed f.Open ∷ ts) x
+  unfolding by_labels
+  by_labels_sound n v ts x e =
+      let (y, h1, e1) = bind_ok (labelled read [] ts) _ x e in
+      let (z, h2, e2) = bind_ok (many (begins f.Open) (further_branch read) n y.0 y.1) (λ z. Ok (merged v z.0, z.1)) x e1 in
+      let b : Begins labelled_tokens labelled_tree IsProperBranch [] ts y = labelled_sound [] ts y h1 in
+      let bs : Begins (repeated (led f.Open labelled_tokens)) (flat_map labelled_tree) (Each IsProperBranch) y.0 y.1 z =
+      many_sound (begins f.Open) (further_branch read) (led f.Open labelled_tokens) labelled_tree IsProperBranch further_branch_sound n y.0 y.1 z h2 in
+      let all : List Labelled = b.written ∷ bs.written in
+      let found : flat_map labelled_tree all ≡ z.0 = ap (λ (us : List (List ℕ × Tree)). us ++ flat_map labelled_tree bs.written) b.stands ∙ bs.stands in
+      formed (w.merge v (labels_of all) (branches_of all)) (branches_proper all (b.proper, bs.proper), (as_many all, inr (tt, labels_bare all))) refl
+      (ap (λ (us : List Tok). fixed f.Merge ∷ identifier v ∷ us)
+      (branches-of all z.1 ∙ ap (λ (us : List Tok). fixed f.Open ∷ labelled_tokens b.written us) bs.spelled ∙ ap (λ (us : List Tok). fixed f.Open ∷ us) b.spelled))
+      (sym (merged-of v all) ∙ ap (merged v) found) (same_ok (merged v z.0, z.1) x e2)
+
+  formed_along : (at : ℕ) (ts us : List Tok) (x : Tree × List Tok) → ts ≡ us → Formed at ts x → Formed at us x
+  formed_along at ts us x e h = record { written = h.written; proper = h.proper; spelled = h.spelled ∙ e; stands = h.stands }
+
+  merge_by_sound : (n : ℕ) (v : List ℕ) (ts : List Tok) (x : Tree × List Tok) (r : Result (List Tok) (List Tok)) → after f.True ts ≡ r → merge_by read n v ts r ≡ Ok x
+      → Formed 10 (fixed f.Merge ∷ identifier v ∷ fixed f.Open ∷ ts) x
+  merge_by_sound n v ts x (Err us) h e = by_labels_sound n v ts x e
+  merge_by_sound n v ts x (Ok rest) h e =
+      formed_along 10 (fixed f.Merge ∷ identifier v ∷ fixed f.Open ∷ fixed f.True ∷ rest) (fixed f.Merge ∷ identifier v ∷ fixed f.Open ∷ ts) x
+      (ap (λ (us : List Tok). fixed f.Merge ∷ identifier v ∷ fixed f.Open ∷ us) (after-is f.True ts rest h)) (by_truths_sound v rest x e)
+
+  merge_sound : (n : ℕ) (ts : List Tok) (x : Tree × List Tok) → merge read n ts ≡ Ok x → Formed 10 (fixed f.Merge ∷ ts) x
+  unfolding merge
+  merge_sound n ts x e =
+      let (v, h1, e1) = bind_ok (name ts) _ x e in
+      let (a, h2, e2) = bind_ok (after f.Open v.1) (λ a. merge_by read n v.0 a (after f.True a)) x e1 in
+      formed_along 10 (fixed f.Merge ∷ identifier v.0 ∷ fixed f.Open ∷ a) (fixed f.Merge ∷ ts) x
+      (ap (λ (us : List Tok). fixed f.Merge ∷ identifier v.0 ∷ us) (after-is f.Open v.1 a h2) ∙ ap (λ (us : List Tok). fixed f.Merge ∷ us) (name-is ts v h1))
+      (merge_by_sound n v.0 a x (after f.True a) refl e2)
 
   current_sound : (ts : List Tok) (x : Tree × List Tok) → current ts ≡ Ok x → Formed 8 (fixed f.Current ∷ ts) x
   current_sound ts x e =
@@ -304,7 +419,7 @@ module _ (read : ℕ → List Tok → Read Tree) (sound : SoundAt read) where
       at_level_sound least 10 (Ok (t.truth true, ts)) (fixed f.True ∷ ts) x b (λ y found. formed (w.truth true) tt refl refl refl (same_ok (t.truth true, ts) y found)) e
   head_sound n least (fixed f.False ∷ ts) x b e =
       at_level_sound least 10 (Ok (t.truth false, ts)) (fixed f.False ∷ ts) x b (λ y found. formed (w.truth false) tt refl refl refl (same_ok (t.truth false, ts) y found)) e
-  head_sound n least (fixed f.Merge ∷ ts) x b e = at_level_sound least 10 (merge read ts) (fixed f.Merge ∷ ts) x b (merge_sound ts) e
+  head_sound n least (fixed f.Merge ∷ ts) x b e = at_level_sound least 10 (merge read n ts) (fixed f.Merge ∷ ts) x b (merge_sound n ts) e
   head_sound n least (fixed f.Open ∷ ts) x b e = at_level_sound least 10 (inside read ts) (fixed f.Open ∷ ts) x b (inside_sound ts) e
   head_sound n least (fixed f.If ∷ ts) x b e = allowed_sound 0 least (choice read ts) (fixed f.If ∷ ts) x (choice_sound ts) e
   head_sound n least (fixed f.Current ∷ ts) x b e = allowed_sound 8 least (current ts) (fixed f.Current ∷ ts) x (current_sound ts) e

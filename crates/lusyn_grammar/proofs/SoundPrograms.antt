@@ -2,16 +2,16 @@
 use Rattle.std.proofs.Common.{◌≡◌, ℕ, suc, Result, Ok, Err, List, ◌∷◌, [], ◌++◌, refl, ap, sym, ◌∙◌, Bool, false, map, length, arith}
 use Rattle.std.specs.List.{flat_map}
 use Rattle.std.proofs.lemmas.List.Concat.{flat_map_single}
-use Rattle.lutree.specs.Tree.{Tree, trees_of, DeclarationTree, EquationTree, NodeTree, ProgramTree, program_of}
+use Rattle.lutree.specs.Tree.{Tree, trees_of, TypeTree, DeclarationTree, EquationTree, NodeTree, ProgramTree}
 use Rattle.lutree.specs.Tree as t
 use Rattle.lusyn_tokens.specs.declared.token.Fixed.TheVariants as f
 use Rattle.lusyn_tokens.specs.Tokens.{Tok, identifier, fixed}
 use Rattle.lusyn_grammar.specs.Grammar as w
-use Rattle.lusyn_grammar.specs.Grammar.{Written, WrittenDeclaration, WrittenEquation, WrittenNode, WrittenProgram, tree, tokens, repeated, led, separated, optional, left_tokens, Each, IsNonempty, IsProper, IsCall, IsDefinedBy, IsProperDeclaration, IsProperEquation, IsProperNode, IsProperProgram, equation_tree, node_tree, Spells}
-use Rattle.lusyn_grammar.specs.Reading.{after, begins, past, name, many, expr, operands, further_name, declarations, inputs, ended, locals, single, call, tuple_names, tuple, equation_by, equation, ended_equation, begins_equation, equations, heading, body, node, further_node, program, to_the_end, all_of}
+use Rattle.lusyn_grammar.specs.Grammar.{Written, WrittenDeclaration, WrittenEquation, WrittenNode, WrittenProgram, tree, tokens, repeated, led, separated, optional, left_tokens, Each, IsNonempty, IsProper, IsCall, IsDefinedBy, IsProperDeclaration, IsProperEquation, IsProperNode, IsProperType, IsProperProgram, equation_tree, node_tree, program_tree, Spells}
+use Rattle.lusyn_grammar.specs.Reading.{after, begins, past, name, many, expr, operands, further_name, names, declarations, inputs, ended, locals, single, call, tuple_names, tuple, equation_by, equation, ended_equation, begins_equation, equations, heading, body, node, further_node, nodes, type_declaration, types, program, to_the_end, all_of}
 use Rattle.lusyn_grammar.proofs.Pieces.{bind_ok, same_ok, after-is, name-is, past-is, Reads, reads, Begins, Sound, many_sound}
 use Rattle.lusyn_grammar.proofs.SoundExpressions.{Expressed, Holds, between-tokens, operands_sound, expr_sound}
-use Rattle.lusyn_grammar.proofs.SoundDeclarations.{Any, alone, flat_map-alone, itself, further_name_sound, AreDeclarations, declarations_tree, declarations_sound, inputs_sound, ended-is, locals_sound}
+use Rattle.lusyn_grammar.proofs.SoundDeclarations.{Any, alone, flat_map-alone, itself, further_name_sound, names_sound, AreDeclarations, declarations_tree, declarations_sound, inputs_sound, ended-is, locals_sound}
 
 single_spelled : (v : List ℕ) (c : Written) (ts a b rest : List Tok) → identifier v ∷ a ≡ ts → fixed f.Equal ∷ b ≡ a → tokens c rest ≡ b → identifier v ∷ fixed f.Equal ∷ tokens c rest ≡ ts
 single_spelled v c ts a b rest h1 h2 h3 = rw (h3, h2) h1
@@ -243,9 +243,13 @@ further_node_sound n found ts x e =
     reads w.node (λ q. found ++ node_trees q) IsProperNode h.written ts y.1 (found ++ y.0 ∷ []) x h.proper h.spelled
     (ap (λ (q : NodeTree). found ++ q ∷ []) h.stands) (same_ok (found ++ y.0 ∷ [], y.1) x second)
 
-program_sound : (n : ℕ) (ts : List Tok) (x : List NodeTree × List Tok) → program n ts ≡ Ok x → Reads w.program (map node_tree) IsProperProgram ts x
-unfolding program
-program_sound n ts x e =
+-- one and more
+abbrev AreNodes : List WrittenNode → Type 0
+AreNodes ps = IsNonempty ps × Each IsProperNode ps
+
+nodes_sound : (n : ℕ) (ts : List Tok) (x : List NodeTree × List Tok) → nodes n ts ≡ Ok x → Reads (repeated w.node) (map node_tree) AreNodes ts x
+unfolding nodes
+nodes_sound n ts x e =
     let (y, one, others) = bind_ok (further_node n [] ts) (λ y. many (begins f.Node) (further_node n) n y.0 y.1) x e in
     let h : Begins w.node node_trees IsProperNode [] ts y = further_node_sound n [] ts y one in
     let k : Begins (repeated w.node) (flat_map node_trees) (Each IsProperNode) y.0 y.1 x = many_sound (begins f.Node) (further_node n) w.node node_trees IsProperNode (further_node_sound n) n y.0 y.1 x others in
@@ -259,15 +263,65 @@ program_sound n ts x e =
           ∙ k.stands;
     }
 
-at_end : (x : List NodeTree × List Tok) (found : ProgramTree) → to_the_end x ≡ Ok found → (x.1 ≡ []) × (program_of x.0 ≡ found)
-at_end (ns, []) found e = (refl, same_ok (program_of ns) found e)
-at_end (ns, u ∷ us) found e = absurd cc
+-- PROGRAMS
+
+abbrev pub enumeration : List ℕ → List (List ℕ) → TypeTree
+enumeration v xs = record { name = v; names = xs }
+
+type_spelled : (q : TypeTree) (ts a b c d g h i rest : List Tok) → fixed f.Type ∷ a ≡ ts → identifier q.name ∷ b ≡ a → fixed f.Equal ∷ c ≡ b → fixed f.Enum ∷ d ≡ c → fixed f.OpenBrace ∷ g ≡ d
+    → separated f.Comma w.name q.names h ≡ g → fixed f.CloseBrace ∷ i ≡ h → fixed f.Semicolon ∷ rest ≡ i → w.type_declaration q rest ≡ ts
+type_spelled q ts a b c d g h i rest k1 k2 k3 k4 k5 k6 k7 k8 = rw (k8, k7, k6, k5, k4, k3, k2) k1
+
+type_declaration_sound : (n : ℕ) → Sound w.type_declaration alone IsProperType (type_declaration n)
+unfolding type_declaration
+type_declaration_sound n found ts x e =
+    let (a, h1, e1) = bind_ok (after f.Type ts) _ x e in
+    let (v, h2, e2) = bind_ok (name a) _ x e1 in
+    let (b, h3, e3) = bind_ok (after f.Equal v.1) _ x e2 in
+    let (c, h4, e4) = bind_ok (after f.Enum b) _ x e3 in
+    let (d, h5, e5) = bind_ok (after f.OpenBrace c) _ x e4 in
+    let (xs, h6, e6) = bind_ok (names n d) _ x e5 in
+    let (g, h7, e7) = bind_ok (after f.CloseBrace xs.1) _ x e6 in
+    let (rest, h8, e8) = bind_ok (after f.Semicolon g) (λ rest. Ok (found ++ enumeration v.0 xs.0 ∷ [], rest)) x e7 in
+    let r : Reads (separated f.Comma w.name) itself IsNonempty d xs = names_sound n d xs h6 in
+    reads w.type_declaration (λ q. found ++ alone q) IsProperType (enumeration v.0 r.written) ts rest (found ++ enumeration v.0 xs.0 ∷ []) x r.proper
+    (type_spelled (enumeration v.0 r.written) ts a v.1 b c d xs.1 g rest (after-is f.Type ts a h1) (name-is a v h2) (after-is f.Equal v.1 b h3) (after-is f.Enum b c h4) (after-is f.OpenBrace c d h5)
+    r.spelled (after-is f.CloseBrace xs.1 g h7) (after-is f.Semicolon g rest h8))
+    (ap (λ (us : List (List ℕ)). found ++ enumeration v.0 us ∷ []) r.stands) (same_ok (found ++ enumeration v.0 xs.0 ∷ [], rest) x e8)
+
+types_sound : (n : ℕ) (ts : List Tok) (x : List TypeTree × List Tok) → types n ts ≡ Ok x → Reads (repeated w.type_declaration) itself (Each IsProperType) ts x
+unfolding types
+types_sound n ts x e =
+    let k : Begins (repeated w.type_declaration) (flat_map alone) (Each IsProperType) [] ts x =
+    many_sound (begins f.Type) (type_declaration n) w.type_declaration alone IsProperType (type_declaration_sound n) n [] ts x e in
+    record { written = k.written; proper = k.proper; spelled = k.spelled; stands = sym (flat_map-alone k.written) ∙ k.stands }
+
+abbrev pub whole : List TypeTree → List NodeTree → ProgramTree
+whole ds ns = record { types = ds; nodes = ns }
+
+same_whole : (ds es : List TypeTree) (ns ms : List NodeTree) → ds ≡ es → ns ≡ ms → whole ds ns ≡ whole es ms
+same_whole ds es ns ms h k = ap (λ (xs : List TypeTree). whole xs ns) h ∙ ap (whole es) k
+
+program_sound : (n : ℕ) (ts : List Tok) (x : ProgramTree × List Tok) → program n ts ≡ Ok x → Reads w.program program_tree IsProperProgram ts x
+unfolding program
+program_sound n ts x e =
+    let (ds, one, e1) = bind_ok (types n ts) _ x e in
+    let (ns, two, e2) = bind_ok (nodes n ds.1) (λ ns. Ok (whole ds.0 ns.0, ns.1)) x e1 in
+    let h : Reads (repeated w.type_declaration) itself (Each IsProperType) ts ds = types_sound n ts ds one in
+    let k : Reads (repeated w.node) (map node_tree) AreNodes ds.1 ns = nodes_sound n ds.1 ns two in
+    let q : WrittenProgram = record { types = h.written; nodes = k.written } in
+    reads w.program program_tree IsProperProgram q ts ns.1 (whole ds.0 ns.0) x (k.proper.0, k.proper.1, h.proper)
+    (ap (repeated w.type_declaration h.written) k.spelled ∙ h.spelled) (same_whole h.written ds.0 (map node_tree k.written) ns.0 h.stands k.stands) (same_ok (whole ds.0 ns.0, ns.1) x e2)
+
+at_end : (x : ProgramTree × List Tok) (found : ProgramTree) → to_the_end x ≡ Ok found → (x.1 ≡ []) × (x.0 ≡ found)
+at_end (p, []) found e = (refl, same_ok p found e)
+at_end (p, u ∷ us) found e = absurd cc
 
 -- what is read is spelled so
 pub all_of-spells : (ts : List Tok) (found : ProgramTree) → all_of ts ≡ Ok found → Spells ts found
 unfolding all_of
 all_of-spells ts found e =
     let (x, first, second) = bind_ok (program (suc (length ts)) ts) to_the_end found e in
-    let k : Reads w.program (map node_tree) IsProperProgram ts x = program_sound (suc (length ts)) ts x first in
+    let k : Reads w.program program_tree IsProperProgram ts x = program_sound (suc (length ts)) ts x first in
     let h = at_end x found second in
-    (k.written, k.proper, ap (w.program k.written) (sym h.0) ∙ k.spelled, ap program_of k.stands ∙ h.1)
+    (k.written, k.proper, ap (w.program k.written) (sym h.0) ∙ k.spelled, k.stands ∙ h.1)

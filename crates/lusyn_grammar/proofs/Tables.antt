@@ -16,7 +16,7 @@ use Rattle.lusyn_grammar.specs.Reading.{operator, clock, next, of_infix, tail, s
 -- no two keywords or signs are spelled alike
 abbrev every : List Fixed
 every =
-    f.Open ∷ f.Close ∷ f.Comma ∷ f.Semicolon ∷ f.Colon ∷ f.Equal ∷ f.Unequal ∷ f.Less ∷ f.LessEqual ∷ f.Greater ∷ f.GreaterEqual ∷ f.Plus ∷ f.Minus ∷ f.Star ∷ f.Arrow ∷ f.Implies ∷ keywords
+    f.Open ∷ f.Close ∷ f.OpenBrace ∷ f.CloseBrace ∷ f.Comma ∷ f.Semicolon ∷ f.Colon ∷ f.Equal ∷ f.Unequal ∷ f.Less ∷ f.LessEqual ∷ f.Greater ∷ f.GreaterEqual ∷ f.Plus ∷ f.Minus ∷ f.Star ∷ f.Arrow ∷ f.Implies ∷ keywords
 
 named-text_of : (g : Fixed) → keyword_among every (text_of g) ≡ Some g
 named-text_of f.Node = refl

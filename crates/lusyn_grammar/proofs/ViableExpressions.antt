@@ -1,7 +1,7 @@
 -- What stands before a refused token of an expression goes on to an expression.
-use Rattle.std.proofs.Common.{◌≡◌, ◌⊎◌, inl, inr, ◌≤◌, ◌<◌, ◌+◌, ℕ, zero, suc, Option, Some, None, Result, Ok, Err, List, ◌∷◌, [], ◌++◌, length, refl, ap, sym, subst, ◌∙◌, arith, true, false, Bool, ◌&&◌, nat_le, cond}
+use Rattle.std.proofs.Common.{◌≡◌, ◌⊎◌, inl, inr, ◌≤◌, ◌<◌, ◌+◌, ℕ, zero, suc, Option, Some, None, Result, Ok, Err, List, ◌∷◌, [], ◌++◌, length, refl, ap, sym, subst, ◌∙◌, arith, true, false, ◌&&◌, nat_le}
 use Rattle.std.proofs.lemmas.Bool.{and_parts, leb-true}
-use Rattle.lutree.specs.declared.expr.Pattern.TheVariants as patterns
+use Rattle.lutree.specs.declared.expr.Pattern.{Pattern}
 use Rattle.lutree.specs.declared.expr.Condition.{Condition}
 use Rattle.lutree.specs.declared.expr.Prefix.{Prefix}
 use Rattle.lutree.specs.declared.expr.Infix.{Infix}
@@ -11,13 +11,13 @@ use Rattle.lusyn_tokens.specs.declared.token.Fixed.{Fixed}
 use Rattle.lusyn_tokens.specs.declared.token.Fixed.TheVariants as f
 use Rattle.lusyn_tokens.specs.Tokens.{Tok, identifier, number, fixed}
 use Rattle.lusyn_tokens.specs.Tokens.{infix_token, prefix_token, prefix_of, level, left, right}
-use Rattle.lusyn_grammar.specs.Grammar.{Written, Writtens, tokens, further, level_of, IsProper, AreProper, when_tokens, sign_tokens}
+use Rattle.lusyn_grammar.specs.Grammar.{Written, Writtens, tokens, further, branches, level_of, IsProper, AreProper, AreBranches, IsBare, truths, repeated, Each, when_tokens}
 use Rattle.lusyn_grammar.specs.Grammar as w
-use Rattle.lusyn_grammar.specs.Reading.{Read, ◌>>=◌, Next, operator, clock, parenthesis, nothing, next, tail, after, begins, name, signed, condition_by, condition, many, step, climb, further_operand, closed, operands_by, operands, named_by, named, choice, inside, branch, merge, current, at_level, allowed, prefixed, head, whole, expr}
+use Rattle.lusyn_grammar.specs.Reading.{Read, ◌>>=◌, Next, operator, clock, parenthesis, nothing, next, tail, after, begins, name, on_truth, on_label, labelled_clock, clock_from_by, clock_from, condition_by, condition, many, step, climb, further_operand, closed, operands_by, operands, named_by, named, choice, inside, branch, merged, by_truths, labelled, further_branch, by_labels, merge_by, merge, current, at_level, allowed, prefixed, head, whole, expr}
 use Rattle.lusyn_grammar.proofs.Tables.{right_high, next-is_operator, next-is_clock, prefix_of-is}
 use Rattle.lusyn_grammar.proofs.Pieces.{bind_ok, tested, same_ok}
-use Rattle.lusyn_grammar.proofs.SoundExpressions.{between, between-tokens}
-use Rattle.lusyn_grammar.proofs.Viable.{Part, Front, front_here, front_token, front_both, front_less, Partial, partial_token, partial_behind, partial_here, Done, Stopped, Some_part, Reader, reader_less, reader_along, reader_same, reader_ok, reader_then, reader_after, reader_name, reader_case, reader_many, bind_err, Here, Named, some_here, some_name, some_along, some_then, some_after, stopped_here, shorter}
+use Rattle.lusyn_grammar.proofs.SoundExpressions.{between, between-tokens, Labelled, labelled_tokens, IsProperBranch, labels_of, branches_of, branches-of, branches_proper, as_many, labels_bare}
+use Rattle.lusyn_grammar.proofs.Viable.{Part, Front, front_here, front_token, front_both, front_less, Partial, partial_token, partial_behind, Done, Stopped, Some_part, Reader, reader_less, reader_along, reader_same, reader_ok, reader_then, reader_after, reader_name, reader_case, reader_many, bind_err, Here, Named, some_here, some_name, some_along, some_then, some_after, stopped_here, shorter, Spelled, Led as LedBy, reader_led as reader_led_by}
 
 -- a written expression of this level or above
 abbrev pub Level : ℕ → Part → Type 0
@@ -40,31 +40,64 @@ refused_all ts us e = cc
 err_tree : (vs us : List Tok) → ◌≡◌ {A = Result (ℕ × Tree × List Tok) (List Tok)} (Err vs) (Err us) → ◌≡◌ {A = Read Tree} (Err vs) (Err us)
 err_tree vs us e = cc
 
+-- a parenthesis that closes
+abbrev Closing : Part → Type 0
+Closing d = (rest : List Tok) → d rest ≡ fixed f.Close ∷ rest
+
+some_closing : Some_part Closing 1
+some_closing = record { part = λ rest. fixed f.Close ∷ rest; good = λ rest. refl; front = front_token (fixed f.Close) front_here }
+
+reader_closing : {A : Type 0} {more : ℕ} (v : A) → Reader Closing 1 (suc more) (λ ts. after f.Close ts >>= λ rest. Ok (v, rest))
+reader_closing {more = more} v = reader_after f.Close (λ rest. Ok (v, rest)) (λ e here rest. ap (λ (us : List Tok). fixed f.Close ∷ us) (here rest)) some_here (reader_ok {most = more} v)
+
 -- a clock behind `when`
 abbrev pub Clocked : Part → Type 0
-Clocked d = (c : Condition) × ((rest : List Tok) → fixed f.When ∷ d rest ≡ when_tokens c rest)
+Clocked d = (c : Condition) × IsBare c.pattern × ((rest : List Tok) → fixed f.When ∷ d rest ≡ when_tokens c rest)
 
-signed_bind : (sign : Bool) (r : Read (List ℕ)) → signed sign r ≡ (r >>= λ x. Ok (let c : Condition = record { variable = x.0; pattern = patterns.Truth sign } in c, x.1))
-signed_bind sign (Err us) = refl
-signed_bind sign (Ok x) = refl
+-- a name and the parenthesis behind it
+abbrev Enclosed : Part → Type 0
+Enclosed d = (x : List ℕ) × ((rest : List Tok) → d rest ≡ identifier x ∷ fixed f.Close ∷ rest)
 
-reader_signed : {most : ℕ} (sign : Bool) → Reader Named 1 most (λ ts. signed sign (name ts))
-reader_signed {most = most} sign =
-    let k : List ℕ → List Tok → Read Condition = λ x ts. Ok (record { variable = x; pattern = patterns.Truth sign }, ts) in
-    reader_same (λ ts. name ts >>= λ x. k x.0 x.1) (λ ts. signed sign (name ts)) (λ ts. signed_bind sign (name ts))
-    (reader_then name k (λ d e (x, h) here. (x, λ rest. h (e rest) ∙ ap (λ (us : List Tok). identifier x ∷ us) (here rest))) some_here (omega arith) reader_name (λ v. reader_ok {most = most} (record { variable = v; pattern = patterns.Truth sign })))
+-- what may stand behind the first name of a clock: nothing, or a name in parentheses
+abbrev BehindName : Part → Type 0
+BehindName d = Here d ⊎ ((x : List ℕ) × ((rest : List Tok) → d rest ≡ fixed f.Open ∷ identifier x ∷ fixed f.Close ∷ rest))
+
+enclosed : (d e : Part) → Named d → Closing e → Enclosed (λ rest. d (e rest))
+enclosed d e (x, h) close = (x, λ rest. h (e rest) ∙ ap (λ (us : List Tok). identifier x ∷ us) (close rest))
+
+labelled_clock_reader : {most : ℕ} (label : List ℕ) → Reader Enclosed 2 most (labelled_clock label)
+labelled_clock_reader {most = most} label =
+    reader_then {most = most} name (λ x ts. after f.Close ts >>= λ rest. Ok (on_label label x, rest)) enclosed some_closing (omega arith) reader_name (λ x. reader_closing {more = most} (on_label label x))
+
+clock_from_reader : {most : ℕ} (v : List ℕ) → Reader BehindName 0 most (clock_from v)
+clock_from_reader {most = most} v =
+    reader_case {D = Here} {E = Enclosed} {most = most} {more = most} f.Open (λ ts. Ok (on_truth true v, ts)) (labelled_clock v) (clock_from_by v)
+    (λ d here. inl here) (λ e (x, h). inr (x, λ rest. ap (λ (us : List Tok). fixed f.Open ∷ us) (h rest)))
+    (omega arith) (omega arith) (omega arith) (λ ts us. refl) (λ ts rest. refl) (reader_ok (on_truth true v)) (labelled_clock_reader v)
+
+clocked_by : (d e : Part) → Named d → BehindName e → Clocked (λ rest. d (e rest))
+clocked_by d e (v, h) (inl here) = (on_truth true v, tt, λ rest. ap (λ (us : List Tok). fixed f.When ∷ us) (h (e rest) ∙ ap (λ (us : List Tok). identifier v ∷ us) (here rest)))
+clocked_by d e (v, h) (inr (x, k)) = (on_label v x, refl, λ rest. ap (λ (us : List Tok). fixed f.When ∷ us) (h (e rest) ∙ ap (λ (us : List Tok). identifier v ∷ us) (k rest)))
+
+negated_reader : {most : ℕ} → Reader Named 1 most (λ ts. name ts >>= λ x. Ok (on_truth false x.0, x.1))
+negated_reader {most = most} =
+    let k : List ℕ → List Tok → Read Condition = λ x ts. Ok (on_truth false x, ts) in
+    reader_then {most = most} name k (λ d e (x, h) here. (x, λ rest. h (e rest) ∙ ap (λ (us : List Tok). identifier x ∷ us) (here rest))) some_here (omega arith) reader_name (λ v. reader_ok {most = most} (on_truth false v))
+
+from_name_reader : {most : ℕ} → Reader Clocked 1 most (λ ts. name ts >>= λ x. clock_from x.0 x.1)
+from_name_reader {most = most} =
+    reader_then {most = most} name clock_from clocked_by (some_along (λ d here. inl here) some_here) (omega arith) reader_name (λ v. clock_from_reader {most = most} v)
 
 pub reader_condition : {most : ℕ} → Reader Clocked 1 most condition
 reader_condition {most = most} =
-    reader_case {most = most} {more = most} f.Not (λ ts. signed true (name ts)) (λ ts. signed false (name ts)) condition_by
-    (λ d (x, h). (record { variable = x; pattern = patterns.Truth true }, λ rest. ap (λ (us : List Tok). fixed f.When ∷ us) (h rest)))
-    (λ d (x, h). (record { variable = x; pattern = patterns.Truth false }, λ rest. ap (λ (us : List Tok). fixed f.When ∷ fixed f.Not ∷ us) (h rest)))
-    (omega arith) (omega arith) (omega arith) (λ ts us. refl) (λ ts rest. refl) (reader_signed true) (reader_signed false)
+    reader_case {D = Clocked} {E = Named} {most = most} {more = most} f.Not (λ ts. name ts >>= λ x. clock_from x.0 x.1) (λ ts. name ts >>= λ x. Ok (on_truth false x.0, x.1)) condition_by
+    (λ d h. h) (λ d (x, h). (on_truth false x, tt, λ rest. ap (λ (us : List Tok). fixed f.When ∷ fixed f.Not ∷ us) (h rest)))
+    (omega arith) (omega arith) (omega arith) (λ ts us. refl) (λ ts rest. refl) from_name_reader negated_reader
 
 pub some_condition : Some_part Clocked 1
 some_condition = record {
   part = λ rest. identifier [] ∷ rest;
-  good = (record { variable = []; pattern = patterns.Truth true }, λ rest. refl);
+  good = (on_truth true [], tt, λ rest. refl);
   front = front_token (identifier []) front_here;
 }
 
@@ -86,8 +119,8 @@ turns_operator least at op fits d e (b, high, q, h) turns = λ c p is.
     (x, low, proper, λ rest. ap (λ (us : List Tok). tokens c (fixed (infix_token op) ∷ us)) (h (e rest)) ∙ k rest)
 
 turns_clock : (least at : ℕ) → 9 ≤ at → (d e : Part) → Clocked d → Turns least 9 e → Turns least at (λ rest. fixed f.When ∷ d (e rest))
-turns_clock least at fits d e (b, h) turns = λ c p is.
-    let (x, low, proper, k) = turns (w.when c b) (omega (arith, fits, is), p) refl in
+turns_clock least at fits d e (b, bare, h) turns = λ c p is.
+    let (x, low, proper, k) = turns (w.when c b) (omega (arith, fits, is), p, bare) refl in
     (x, low, proper, λ rest. ap (tokens c) (h (e rest)) ∙ k rest)
 
 module _ (most : ℕ) (read : ℕ → List Tok → Read Tree) (reads : ReadsAll most read) where
@@ -178,15 +211,6 @@ module _ (most : ℕ) (read : ℕ → List Tok → Read Tree) (reads : ReadsAll 
   closed_bind : {A : Type 0} (r : Read A) → closed r ≡ (r >>= λ x. after f.Close x.1 >>= λ rest. Ok (x.0, rest))
   closed_bind (Err us) = refl
   closed_bind (Ok x) = refl
-
-  abbrev Closing : Part → Type 0
-  Closing d = (rest : List Tok) → d rest ≡ fixed f.Close ∷ rest
-
-  some_closing : Some_part Closing 1
-  some_closing = record { part = λ rest. fixed f.Close ∷ rest; good = λ rest. refl; front = front_token (fixed f.Close) front_here }
-
-  reader_closing : {A : Type 0} {more : ℕ} (v : A) → Reader Closing 1 (suc more) (λ ts. after f.Close ts >>= λ rest. Ok (v, rest))
-  reader_closing {more = more} v = reader_after f.Close (λ rest. Ok (v, rest)) (λ e here rest. ap (λ (us : List Tok). fixed f.Close ∷ us) (here rest)) some_here (reader_ok {most = more} v)
 
   reader_closed : {A : Type 0} {D F : Part → Type 0} {least more : ℕ} (p : List Tok → Read A) → ((d e : Part) → D d → Closing e → F (λ rest. d (e rest))) → Reader D least more p → Reader F (least + 1) more (λ ts. closed (p ts))
   reader_closed {more = more} p both h =
@@ -351,32 +375,132 @@ module _ (most : ℕ) (read : ℕ → List Tok → Read Tree) (reads : ReadsAll 
       (reader_after sign (λ b. after f.Arrow b >>= λ c. inside read c) (signed_led sign) some_arrowed
       (reader_after f.Arrow (λ c. inside read c) arrowed some_inner inside_reader))
 
-  -- both branches
-  abbrev Branches : Part → Type 0
-  Branches d = (a b : Written) × IsProper a × IsProper b
-      × ((rest : List Tok) → d rest ≡ fixed f.Open ∷ fixed f.True ∷ fixed f.Arrow ∷ tokens a (fixed f.Close ∷ fixed f.Open ∷ fixed f.False ∷ fixed f.Arrow ∷ tokens b (fixed f.Close ∷ rest)))
+  -- behind `merge v (true`
+  abbrev BehindTrue : Part → Type 0
+  BehindTrue d = (a b : Written) × IsProper a × IsProper b × ((rest : List Tok) → d rest ≡ fixed f.Arrow ∷ tokens a (fixed f.Close ∷ fixed f.Open ∷ fixed f.False ∷ fixed f.Arrow ∷ tokens b (fixed f.Close ∷ rest)))
 
-  branches : (d e : Part) → Branch f.True d → Branch f.False e → Branches (λ rest. d (e rest))
-  branches d e (a, p, h) (b, q, k) = (a, b, p, q, λ rest. h (e rest) ∙ ap (λ (us : List Tok). fixed f.Open ∷ fixed f.True ∷ fixed f.Arrow ∷ tokens a (fixed f.Close ∷ us)) (k rest))
+  -- behind its arrow
+  abbrev BehindArrow : Part → Type 0
+  BehindArrow d = (a b : Written) × IsProper a × IsProper b × ((rest : List Tok) → d rest ≡ tokens a (fixed f.Close ∷ fixed f.Open ∷ fixed f.False ∷ fixed f.Arrow ∷ tokens b (fixed f.Close ∷ rest)))
 
-  merge_second : (v : List ℕ) (a : Tree) → Reader (Branch f.False) 5 (suc (suc (suc most))) (λ ts. branch read f.False ts >>= λ z. Ok (t.merge v a z.0, z.1))
-  merge_second v a =
-      let k : Tree → List Tok → Read Tree = λ x ts. Ok (t.merge v a x, ts) in
+  behind_arrow : (d e : Part) → Inner d → Branch f.False e → BehindArrow (λ rest. d (e rest))
+  behind_arrow d e (a, p, h) (b, q, k) = (a, b, p, q, λ rest. h (e rest) ∙ ap (λ (us : List Tok). tokens a (fixed f.Close ∷ us)) (k rest))
+
+  behind_true : (e : Part) → BehindArrow e → BehindTrue (λ rest. fixed f.Arrow ∷ e rest)
+  behind_true e (a, b, p, q, h) = (a, b, p, q, λ rest. ap (λ (us : List Tok). fixed f.Arrow ∷ us) (h rest))
+
+  abbrev both : List ℕ → Tree → Tree → Tree
+  both v a b = t.merge v truths (t.more a (t.more b t.none))
+
+  second_truth : (v : List ℕ) (a : Tree) → Reader (Branch f.False) 5 (suc (suc (suc most))) (λ ts. branch read f.False ts >>= λ z. Ok (both v a z.0, z.1))
+  second_truth v a =
+      let k : Tree → List Tok → Read Tree = λ x ts. Ok (both v a x, ts) in
       reader_then (branch read f.False) k
       (λ d e (c, p, h) here. (c, p, λ rest. h (e rest) ∙ ap (λ (us : List Tok). fixed f.Open ∷ fixed f.False ∷ fixed f.Arrow ∷ tokens c (fixed f.Close ∷ us)) (here rest)))
-      some_here (omega arith) (branch_reader f.False) (λ x. reader_ok {most = suc (suc (suc most))} (t.merge v a x))
+      some_here (omega arith) (branch_reader f.False) (λ x. reader_ok {most = suc (suc (suc most))} (both v a x))
 
-  merge_branches : (v : List ℕ) → Reader Branches 10 (suc (suc (suc most))) (λ ts. branch read f.True ts >>= λ y. branch read f.False y.1 >>= λ z. Ok (t.merge v y.0 z.0, z.1))
-  merge_branches v =
-      reader_then (branch read f.True) (λ a ts. branch read f.False ts >>= λ z. Ok (t.merge v a z.0, z.1)) branches (some_branch f.False) (omega arith) (branch_reader f.True) (merge_second v)
+  some_behind_arrow : Some_part BehindArrow 7
+  some_behind_arrow = some_then behind_arrow some_inner (some_branch f.False)
 
-  merge_reader : Reader (Behind (fixed f.Merge) 10) 0 most (merge read)
+  truths_reader : (v : List ℕ) → Reader BehindTrue 8 (suc most) (by_truths read v)
+  unfolding by_truths
+  truths_reader v =
+      reader_after f.Arrow (λ a. inside read a >>= λ y. branch read f.False y.1 >>= λ z. Ok (both v y.0 z.0, z.1)) behind_true some_behind_arrow
+      (reader_then (inside read) (λ a ts. branch read f.False ts >>= λ z. Ok (both v a z.0, z.1)) behind_arrow (some_branch f.False) (omega arith) inside_reader (second_truth v))
+
+  -- a branch with a name, behind the parenthesis that opens it
+  abbrev OneLabelled : Part → Type 0
+  OneLabelled = Spelled labelled_tokens IsProperBranch
+
+  labelled_by : (d e : Part) → Named d → Arrowed e → OneLabelled (λ rest. d (e rest))
+  labelled_by d e (v, h) (c, p, k) = ((v, c), p, λ rest. h (e rest) ∙ ap (λ (us : List Tok). identifier v ∷ us) (k rest))
+
+  some_labelled : Some_part OneLabelled 4
+  some_labelled = some_then labelled_by some_name some_arrowed
+
+  inner_here : (d e : Part) → Inner d → Here e → Inner (λ rest. d (e rest))
+  inner_here d e (c, p, h) here = (c, p, λ rest. h (e rest) ∙ ap (λ (us : List Tok). tokens c (fixed f.Close ∷ us)) (here rest))
+
+  labelled_reader : (found : List (List ℕ × Tree)) → Reader OneLabelled 4 most (labelled read found)
+  unfolding labelled
+  labelled_reader found =
+      let last : List ℕ → Tree → List Tok → Read (List (List ℕ × Tree)) = λ v e ts. Ok (found ++ (v, e) ∷ [], ts) in
+      reader_then {most = most} name (λ v ts. after f.Arrow ts >>= λ a. inside read a >>= λ e. last v e.0 e.1) labelled_by some_arrowed (omega arith) reader_name
+      (λ v. reader_after f.Arrow (λ a. inside read a >>= λ e. last v e.0 e.1) arrowed some_inner
+      (reader_then (inside read) (last v) inner_here some_here (omega arith) inside_reader (λ e. reader_ok {most = most} (found ++ (v, e) ∷ []))))
+
+  abbrev MoreLabelled : Part → Type 0
+  MoreLabelled = Spelled (repeated (LedBy f.Open labelled_tokens)) (Each IsProperBranch)
+
+  none_labelled : (d : Part) → Here d → MoreLabelled d
+  none_labelled d here = ([], tt, here)
+
+  one_more_labelled : (d e : Part) → Spelled (LedBy f.Open labelled_tokens) IsProperBranch d → MoreLabelled e → MoreLabelled (λ rest. d (e rest))
+  one_more_labelled d e (b, p, h) (bs, q, k) = (b ∷ bs, (p, q), λ rest. h (e rest) ∙ ap (λ (us : List Tok). fixed f.Open ∷ labelled_tokens b us) (k rest))
+
+  further_branch_reader : (found : List (List ℕ × Tree)) → Reader (Spelled (LedBy f.Open labelled_tokens) IsProperBranch) 1 most (further_branch read found)
+  further_branch_reader found = reader_less (omega arith) (omega arith) (reader_led_by f.Open labelled_tokens IsProperBranch (labelled read found) some_labelled (labelled_reader found))
+
+  -- one and more
+  abbrev AllLabelled : Part → Type 0
+  AllLabelled d = (b : Labelled) × (bs : List Labelled) × IsProperBranch b × Each IsProperBranch bs × ((rest : List Tok) → d rest ≡ labelled_tokens b (repeated (LedBy f.Open labelled_tokens) bs rest))
+
+  all_labelled : (d e : Part) → OneLabelled d → MoreLabelled e → AllLabelled (λ rest. d (e rest))
+  all_labelled d e (b, p, h) (bs, q, k) = (b, bs, p, q, λ rest. h (e rest) ∙ ap (labelled_tokens b) (k rest))
+
+  some_more_labelled : Some_part MoreLabelled 0
+  some_more_labelled = some_along none_labelled some_here
+
+  some_all_labelled : Some_part AllLabelled 4
+  some_all_labelled = some_then all_labelled some_labelled some_more_labelled
+
+  others_reader : (v : List ℕ) (found : List (List ℕ × Tree)) → Reader MoreLabelled 0 most (λ ts. many (begins f.Open) (further_branch read) most found ts >>= λ all. Ok (merged v all.0, all.1))
+  others_reader v found =
+      let k : List (List ℕ × Tree) → List Tok → Read Tree = λ all ts. Ok (merged v all, ts) in
+      reader_then {most = most} {more = most} (many (begins f.Open) (further_branch read) most found) k
+      (λ d e (bs, p, h) here. (bs, p, λ rest. h (e rest) ∙ ap (repeated (LedBy f.Open labelled_tokens) bs) (here rest))) some_here (omega arith)
+      (reader_many (begins f.Open) (further_branch read) none_labelled one_more_labelled most further_branch_reader found) (λ all. reader_ok (merged v all))
+
+  labels_reader : (v : List ℕ) → Reader AllLabelled 4 most (by_labels read most v)
+  unfolding by_labels
+  labels_reader v =
+      reader_then {most = most} {more = most} (labelled read []) (λ first ts. many (begins f.Open) (further_branch read) most first ts >>= λ all. Ok (merged v all.0, all.1)) all_labelled some_more_labelled (omega arith)
+      (labelled_reader []) (others_reader v)
+
+  -- branches, with the parenthesis that opens the first one and without
+  abbrev Branches : Part → Type 0
+  Branches d = (cs : Writtens) × (ps : List Pattern) × AreProper cs × AreBranches cs ps × ((rest : List Tok) → d rest ≡ branches cs ps rest)
+
+  abbrev Opened : Part → Type 0
+  Opened d = Branches (λ rest. fixed f.Open ∷ d rest)
+
+  opened_labels : (d : Part) → AllLabelled d → Opened d
+  opened_labels d (b, bs, p, q, h) =
+      let all : List Labelled = b ∷ bs in
+      (branches_of all, labels_of all, branches_proper all (p, q), (as_many all, inr (tt, labels_bare all)), λ rest. ap (λ (us : List Tok). fixed f.Open ∷ us) (h rest) ∙ sym (branches-of all rest))
+
+  opened_truths : (e : Part) → BehindTrue e → Opened (λ rest. fixed f.True ∷ e rest)
+  opened_truths e (a, b, p, q, h) =
+      (w.more a (w.more b w.none), truths, (p, (q, tt)), (tt, inl refl), λ rest. ap (λ (us : List Tok). fixed f.Open ∷ fixed f.True ∷ us) (h rest))
+
+  opened_reader : (v : List ℕ) → Reader Opened 4 most (λ ts. merge_by read most v ts (after f.True ts))
+  opened_reader v =
+      reader_case {D = AllLabelled} {E = BehindTrue} {most = most} {more = suc most} f.True (by_labels read most v) (by_truths read v) (merge_by read most v)
+      opened_labels opened_truths (omega arith) (omega arith) (omega arith) (λ ts us. refl) (λ ts rest. refl) (labels_reader v) (truths_reader v)
+
+  some_opened : Some_part Opened 4
+  some_opened = some_along opened_labels some_all_labelled
+
+  branches_reader : (v : List ℕ) → Reader Branches 5 (suc most) (λ ts. after f.Open ts >>= λ a. merge_by read most v a (after f.True a))
+  branches_reader v = reader_after f.Open (λ a. merge_by read most v a (after f.True a)) (λ e h. h) some_opened (opened_reader v)
+
+  merge_reader : Reader (Behind (fixed f.Merge) 10) 0 most (merge read most)
   unfolding merge
   merge_reader =
       reader_less (omega arith) (omega arith)
-      (reader_then {most = most} name (λ v ts. branch read f.True ts >>= λ y. branch read f.False y.1 >>= λ z. Ok (t.merge v y.0 z.0, z.1))
-      (λ d e (v, h) (a, b, p, q, k). (w.merge v a b, (p, q), refl, λ rest. ap (λ (us : List Tok). fixed f.Merge ∷ us) (h (e rest) ∙ ap (λ (us : List Tok). identifier v ∷ us) (k rest))))
-      (some_then branches (some_branch f.True) (some_branch f.False)) (omega arith) reader_name merge_branches)
+      (reader_then {most = most} name (λ v ts. after f.Open ts >>= λ a. merge_by read most v a (after f.True a))
+      (λ d e (v, h) (cs, ps, p, q, k). (w.merge v ps cs, (p, q), refl, λ rest. ap (λ (us : List Tok). fixed f.Merge ∷ us) (h (e rest) ∙ ap (λ (us : List Tok). identifier v ∷ us) (k rest))))
+      (some_after {E = Opened} {F = Branches} f.Open (λ e h. h) some_opened) (omega arith) reader_name branches_reader)
 
   current_reader : Reader (Behind (fixed f.Current) 8) 0 most current
   current_reader =
@@ -481,7 +605,7 @@ module _ (most : ℕ) (read : ℕ → List Tok → Read Tree) (reads : ReadsAll 
   head_done least (number k ∷ ts) y b e = formed_done least 10 (number k) (λ us. Ok (t.number k, us)) ts y (Ok (t.number k, ts)) (number_reader k) b refl e
   head_done least (fixed f.True ∷ ts) y b e = formed_done least 10 (fixed f.True) (λ us. Ok (t.truth true, us)) ts y (Ok (t.truth true, ts)) true_reader b refl e
   head_done least (fixed f.False ∷ ts) y b e = formed_done least 10 (fixed f.False) (λ us. Ok (t.truth false, us)) ts y (Ok (t.truth false, ts)) false_reader b refl e
-  head_done least (fixed f.Merge ∷ ts) y b e = formed_done least 10 (fixed f.Merge) (merge read) ts y (merge read ts) merge_reader b refl e
+  head_done least (fixed f.Merge ∷ ts) y b e = formed_done least 10 (fixed f.Merge) (merge read most) ts y (merge read most ts) merge_reader b refl e
   head_done least (fixed f.Open ∷ ts) y b e = formed_done least 10 (fixed f.Open) (inside read) ts y (inside read ts) paren_reader b refl e
   head_done least (fixed f.If ∷ ts) y b e = allowed_done least 0 (fixed f.If) (choice read) ts y choice_reader e
   head_done least (fixed f.Current ∷ ts) y b e = allowed_done least 8 (fixed f.Current) current ts y current_reader e
@@ -494,7 +618,7 @@ module _ (most : ℕ) (read : ℕ → List Tok → Read Tree) (reads : ReadsAll 
   head_stopped least (number k ∷ ts) us b short e = absurd cc
   head_stopped least (fixed f.True ∷ ts) us b short e = absurd cc
   head_stopped least (fixed f.False ∷ ts) us b short e = absurd cc
-  head_stopped least (fixed f.Merge ∷ ts) us b short e = formed_stopped least 10 (fixed f.Merge) (merge read) ts us (merge read ts) merge_reader b (omega (arith, short)) refl e
+  head_stopped least (fixed f.Merge ∷ ts) us b short e = formed_stopped least 10 (fixed f.Merge) (merge read most) ts us (merge read most ts) merge_reader b (omega (arith, short)) refl e
   head_stopped least (fixed f.Open ∷ ts) us b short e = formed_stopped least 10 (fixed f.Open) (inside read) ts us (inside read ts) paren_reader b (omega (arith, short)) refl e
   head_stopped least (fixed f.If ∷ ts) us b short e = allowed_stopped least 0 (fixed f.If) (choice read) ts us b choice_reader (omega (arith, short)) e
   head_stopped least (fixed f.Current ∷ ts) us b short e = allowed_stopped least 8 (fixed f.Current) current ts us b current_reader (omega (arith, short)) e

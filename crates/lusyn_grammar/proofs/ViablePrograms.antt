@@ -1,22 +1,20 @@
 -- What stands before a refused token of a program goes on to a program.
-use Rattle.std.proofs.Common.{◌≡◌, ◌⊎◌, inl, inr, ◌≤◌, ◌<◌, ◌+◌, ℕ, zero, suc, Option, Some, None, Result, Ok, Err, List, ◌∷◌, [], ◌++◌, length, map, refl, ap, sym, subst, ◌∙◌, arith, true, false, Bool, cond}
+use Rattle.std.proofs.Common.{◌≡◌, ◌⊎◌, inl, inr, ◌+◌, ℕ, suc, Option, Some, None, Result, Ok, Err, List, ◌∷◌, [], ◌++◌, length, map, refl, ap, sym, ◌∙◌, arith, true, false, Bool}
 use Rattle.std.proofs.lemmas.List.{append-nil}
 use Rattle.lutree.specs.declared.expr.Condition.{Condition}
-use Rattle.lutree.specs.declared.program.Kind.{Kind}
-use Rattle.lutree.specs.declared.program.Kind.TheVariants as kinds
-use Rattle.lutree.specs.Tree.{Tree, trees_of, DeclarationTree, EquationTree, NodeTree, ProgramTree}
+use Rattle.lutree.specs.Tree.{Tree, trees_of, TypeTree, DeclarationTree, EquationTree, NodeTree, ProgramTree}
 use Rattle.lutree.specs.Tree as t
 use Rattle.lusyn_tokens.specs.declared.token.Fixed.{Fixed}
 use Rattle.lusyn_tokens.specs.declared.token.Fixed.TheVariants as f
 use Rattle.lusyn_tokens.specs.Tokens.{Tok, identifier, number, fixed}
 use Rattle.lusyn_grammar.specs.Grammar as w
-use Rattle.lusyn_grammar.specs.Grammar.{Written, tokens, WrittenDeclaration, WrittenEquation, WrittenNode, WrittenProgram, repeated, led, separated, optional, Each, IsNonempty, IsCall, IsDefinedBy, IsProper, IsProperDeclaration, IsProperEquation, IsProperNode, kind_token, when_tokens, left_tokens, declared, Spells, program_tree}
-use Rattle.lusyn_grammar.specs.Reading.{Read, ◌>>=◌, after, begins, begins_name, past_by, past, name, condition, many, further_name, names, kind, clock_by, clocked, declaration, further_declaration, declarations, inputs, ended, ended_declaration, locals_by, locals, operands, expr, single, call, tuple_names, tuple, equation_by, equation, ended_equation, begins_equation, equations, heading, body, node, further_node, program, to_the_end, all_of}
+use Rattle.lusyn_grammar.specs.Grammar.{Written, tokens, WrittenType, WrittenDeclaration, WrittenEquation, WrittenNode, WrittenProgram, repeated, led, separated, optional, Each, IsNonempty, IsCall, IsDefinedBy, IsProper, IsBareClock, IsProperDeclaration, IsProperEquation, IsProperNode, IsProperType, type_token, when_tokens, left_tokens, declared, Spells, program_tree}
+use Rattle.lusyn_grammar.specs.Reading.{Read, ◌>>=◌, after, begins, begins_name, past, name, condition, many, further_name, names, kind, clock_by, clocked, declaration, further_declaration, declarations, inputs, ended, ended_declaration, locals_by, locals, operands, expr, single, call, tuple_names, tuple, equation_by, equation, ended_equation, begins_equation, equations, heading, body, node, further_node, nodes, type_declaration, types, program, to_the_end, all_of}
 use Rattle.lusyn_grammar.specs.Laws.{GoesOn}
-use Rattle.lusyn_grammar.proofs.Pieces.{bind_ok, tested, same_ok, past-is}
+use Rattle.lusyn_grammar.proofs.Pieces.{tested, same_ok, past-is}
 use Rattle.lusyn_grammar.proofs.SoundExpressions.{between, between-tokens}
-use Rattle.lusyn_grammar.proofs.Viable.{Part, Front, front_here, front_token, front_both, front_less, Partial, partial_token, partial_here, Done, Stopped, Some_part, Reader, reader_less, reader_along, reader_same, reader_ok, reader_then, reader_after, reader_name, reader_case, reader_many, bind_err, Here, Named, some_here, some_name, some_along, some_then, some_after, stopped_here, Spelled, Led, Both, AreGood, led_spelled, some_led, reader_led, both_spelled, some_both, reader_both, spelled_here, reader_with}
-use Rattle.lusyn_grammar.proofs.ViableExpressions.{Level, some_level, Clocked, reader_condition, some_condition, operands_reader, expr_reader}
+use Rattle.lusyn_grammar.proofs.Viable.{Part, Front, front_here, front_token, front_less, Done, Stopped, Some_part, Reader, reader_less, reader_along, reader_same, reader_ok, reader_then, reader_after, reader_name, reader_case, reader_many, bind_err, Here, Named, some_here, some_name, some_along, some_then, some_after, stopped_here, Spelled, Led, Both, AreGood, some_led, reader_led, some_both, reader_both, reader_with}
+use Rattle.lusyn_grammar.proofs.ViableExpressions.{Level, some_level, Clocked, reader_condition, operands_reader, expr_reader}
 
 -- ---- declarations
 
@@ -70,24 +68,30 @@ reader_names n =
     reader_then {most = n} {more = n} name (λ x ts. many (begins f.Comma) further_name n (x ∷ []) ts) names_of some_further (omega arith) reader_name (λ v. reader_further n (v ∷ []))
 
 abbrev Kinded : Part → Type 0
-Kinded d = (k : Kind) × ((rest : List Tok) → d rest ≡ fixed (kind_token k) ∷ rest)
+Kinded d = (k : WrittenType) × ((rest : List Tok) → d rest ≡ type_token k ∷ rest)
 
 some_kind : Some_part Kinded 1
-some_kind = record { part = λ rest. fixed f.Int ∷ rest; good = (kinds.Int, λ rest. refl); front = front_token (fixed f.Int) front_here }
+some_kind = record { part = λ rest. fixed f.Int ∷ rest; good = (w.int, λ rest. refl); front = front_token (fixed f.Int) front_here }
 
-kind_done : (ts : List Tok) (x : Kind × List Tok) → kind ts ≡ Ok x → Done Kinded 1 ts x.1
+kind_read : (k : WrittenType) (ts : List Tok) (x : WrittenType × List Tok) → (k, ts) ≡ x → Done Kinded 1 (type_token k ∷ ts) x.1
+kind_read k ts x same = record {
+  part = λ rest. type_token k ∷ rest;
+  good = (k, λ rest. refl);
+  front = front_token (type_token k) front_here;
+  at = ap (λ (y : WrittenType × List Tok). type_token k ∷ y.1) (sym same);
+}
+
+kind_done : (ts : List Tok) (x : WrittenType × List Tok) → kind ts ≡ Ok x → Done Kinded 1 ts x.1
 kind_done [] x e = absurd cc
-kind_done (identifier v ∷ ts) x e = absurd cc
+kind_done (identifier v ∷ ts) x e = kind_read (w.named v) ts x (same_ok (w.named v, ts) x e)
 kind_done (number n ∷ ts) x e = absurd cc
-kind_done (fixed f.Int ∷ ts) x e =
-    record { part = λ rest. fixed f.Int ∷ rest; good = (kinds.Int, λ rest. refl); front = front_token (fixed f.Int) front_here; at = ap (λ (y : Kind × List Tok). fixed f.Int ∷ y.1) (sym (same_ok (kinds.Int, ts) x e)) }
-kind_done (fixed f.Bool ∷ ts) x e =
-    record { part = λ rest. fixed f.Bool ∷ rest; good = (kinds.Bool, λ rest. refl); front = front_token (fixed f.Bool) front_here; at = ap (λ (y : Kind × List Tok). fixed f.Bool ∷ y.1) (sym (same_ok (kinds.Bool, ts) x e)) }
+kind_done (fixed f.Int ∷ ts) x e = kind_read w.int ts x (same_ok (w.int, ts) x e)
+kind_done (fixed f.Bool ∷ ts) x e = kind_read w.bool ts x (same_ok (w.bool, ts) x e)
 kind_done (fixed _ ∷ ts) x e = absurd cc
 
 kind_err : (ts us : List Tok) → kind ts ≡ Err us → us ≡ ts
 kind_err [] us e = cc
-kind_err (identifier v ∷ ts) us e = cc
+kind_err (identifier v ∷ ts) us e = absurd cc
 kind_err (number n ∷ ts) us e = cc
 kind_err (fixed f.Int ∷ ts) us e = absurd cc
 kind_err (fixed f.Bool ∷ ts) us e = absurd cc
@@ -97,54 +101,54 @@ reader_kind : {most : ℕ} → Reader Kinded 1 most kind
 reader_kind = record { done = kind_done; stopped = λ ts us short e. stopped_here ts us some_kind (kind_err ts us e) }
 
 abbrev MaybeClocked : Part → Type 0
-MaybeClocked d = (c : Option Condition) × ((rest : List Tok) → d rest ≡ w.clock c rest)
+MaybeClocked d = (c : Option Condition) × IsBareClock c × ((rest : List Tok) → d rest ≡ w.clock c rest)
 
 some_clocked : Some_part MaybeClocked 0
-some_clocked = some_along (λ d here. (None, here)) some_here
+some_clocked = some_along (λ d here. (None, tt, here)) some_here
 
 reader_clocked : {most : ℕ} → Reader MaybeClocked 0 most clocked
 reader_clocked {most = most} =
     let k : Condition → List Tok → Read (Option Condition) = λ c ts. Ok (Some c, ts) in
     let none : List Tok → Read (Option Condition) = λ ts. Ok (None, ts) in
     reader_case {D = Here} {E = Clocked} {most = most} {more = most} f.When none (λ rest. condition rest >>= λ x. k x.0 x.1) clock_by
-    (λ d here. (None, here)) (λ e (c, h). (Some c, h)) (omega arith) (omega arith) (omega arith) (λ ts us. refl) (λ ts rest. refl)
+    (λ d here. (None, tt, here)) (λ e (c, b, h). (Some c, b, h)) (omega arith) (omega arith) (omega arith) (λ ts us. refl) (λ ts rest. refl)
     (reader_ok None)
-    (reader_then {most = most} {more = most} condition k (λ d e (c, h) here. (c, λ rest. h (e rest) ∙ ap (λ (us : List Tok). when_tokens c us) (here rest))) some_here (omega arith) reader_condition (λ c. reader_ok (Some c)))
+    (reader_then {most = most} {more = most} condition k (λ d e (c, b, h) here. (c, b, λ rest. h (e rest) ∙ ap (λ (us : List Tok). when_tokens c us) (here rest))) some_here (omega arith) reader_condition (λ c. reader_ok (Some c)))
 
 -- what stands behind the names
 abbrev Typed : Part → Type 0
-Typed d = (k : Kind) × (c : Option Condition) × ((rest : List Tok) → d rest ≡ fixed (kind_token k) ∷ w.clock c rest)
+Typed d = (k : WrittenType) × (c : Option Condition) × IsBareClock c × ((rest : List Tok) → d rest ≡ type_token k ∷ w.clock c rest)
 
 abbrev Colon : Part → Type 0
-Colon d = (k : Kind) × (c : Option Condition) × ((rest : List Tok) → d rest ≡ fixed f.Colon ∷ fixed (kind_token k) ∷ w.clock c rest)
+Colon d = (k : WrittenType) × (c : Option Condition) × IsBareClock c × ((rest : List Tok) → d rest ≡ fixed f.Colon ∷ type_token k ∷ w.clock c rest)
 
 abbrev Declared : Part → Type 0
 Declared d = (x : WrittenDeclaration) × IsProperDeclaration x × ((rest : List Tok) → d rest ≡ w.declaration x rest)
 
 typed_by : (d e : Part) → Kinded d → MaybeClocked e → Typed (λ rest. d (e rest))
-typed_by d e (k, h) (c, g) = (k, c, λ rest. h (e rest) ∙ ap (λ (us : List Tok). fixed (kind_token k) ∷ us) (g rest))
+typed_by d e (k, h) (c, b, g) = (k, c, b, λ rest. h (e rest) ∙ ap (λ (us : List Tok). type_token k ∷ us) (g rest))
 
 some_typed : Some_part Typed 1
 some_typed = some_then typed_by some_kind some_clocked
 
 colon : (e : Part) → Typed e → Colon (λ rest. fixed f.Colon ∷ e rest)
-colon e (k, c, h) = (k, c, λ rest. ap (λ (us : List Tok). fixed f.Colon ∷ us) (h rest))
+colon e (k, c, b, h) = (k, c, b, λ rest. ap (λ (us : List Tok). fixed f.Colon ∷ us) (h rest))
 
 some_colon : Some_part Colon 2
 some_colon = some_after f.Colon colon some_typed
 
 declared_by : (d e : Part) → Names d → Colon e → Declared (λ rest. d (e rest))
-declared_by d e (xs, p, h) (k, c, g) =
-    (record { names = xs; kind = k; clock = c }, p, λ rest. h (e rest) ∙ ap (λ (us : List Tok). separated f.Comma w.name xs us) (g rest))
+declared_by d e (xs, p, h) (k, c, b, g) =
+    (record { names = xs; kind = k; clock = c }, (p, b), λ rest. h (e rest) ∙ ap (λ (us : List Tok). separated f.Comma w.name xs us) (g rest))
 
 some_declared : Some_part Declared 3
 some_declared = some_then declared_by some_names some_colon
 
 reader_typed : {most : ℕ} (found : List DeclarationTree) (xs : List (List ℕ)) → Reader Typed 1 most (λ ts. kind ts >>= λ k. clocked k.1 >>= λ c. Ok (found ++ map (declared k.0 c.0) xs, c.1))
 reader_typed {most = most} found xs =
-    let last : Kind → Option Condition → List Tok → Read (List DeclarationTree) = λ k c ts. Ok (found ++ map (declared k c) xs, ts) in
+    let last : WrittenType → Option Condition → List Tok → Read (List DeclarationTree) = λ k c ts. Ok (found ++ map (declared k c) xs, ts) in
     reader_then {most = most} {more = most} kind (λ k ts. clocked ts >>= λ c. last k c.0 c.1) typed_by some_clocked (omega arith) reader_kind
-    (λ k. reader_then {most = most} {more = most} clocked (last k) (λ d e (c, h) here. (c, λ rest. h (e rest) ∙ ap (λ (us : List Tok). w.clock c us) (here rest))) some_here (omega arith) reader_clocked (λ c. reader_ok (found ++ map (declared k c) xs)))
+    (λ k. reader_then {most = most} {more = most} clocked (last k) (λ d e (c, b, h) here. (c, b, λ rest. h (e rest) ∙ ap (λ (us : List Tok). w.clock c us) (here rest))) some_here (omega arith) reader_clocked (λ c. reader_ok (found ++ map (declared k c) xs)))
 
 reader_declaration : (n : ℕ) (found : List DeclarationTree) → Reader Declared 3 n (declaration n found)
 unfolding declaration
@@ -610,22 +614,140 @@ none_of_nodes d here = ([], tt, here)
 more_nodes : (d e : Part) → IsNode d → Nodes e → Nodes (λ rest. d (e rest))
 more_nodes d e (x, p, h) (xs, q, k) = (x ∷ xs, (p, q), λ rest. h (e rest) ∙ ap (w.node x) (k rest))
 
-abbrev Program : Part → Type 0
-Program = Spelled w.program w.IsProperProgram
+-- one and more
+abbrev AreNodes : List WrittenNode → Type 0
+AreNodes ps = IsNonempty ps × Each IsProperNode ps
 
-program_of : (d e : Part) → IsNode d → Nodes e → Program (λ rest. d (e rest))
-program_of d e (x, p, h) (xs, q, k) = (x ∷ xs, (tt, (p, q)), λ rest. h (e rest) ∙ ap (w.node x) (k rest))
+abbrev SomeNodes : Part → Type 0
+SomeNodes = Spelled (repeated w.node) AreNodes
+
+nodes_of : (d e : Part) → IsNode d → Nodes e → SomeNodes (λ rest. d (e rest))
+nodes_of d e (x, p, h) (xs, q, k) = (x ∷ xs, (tt, (p, q)), λ rest. h (e rest) ∙ ap (w.node x) (k rest))
 
 reader_further_node : (n : ℕ) (found : List NodeTree) → Reader IsNode 1 n (further_node n found)
 reader_further_node n found =
     let made : NodeTree → List NodeTree = λ x. found ++ x ∷ [] in
     reader_less (omega arith) (omega arith) (reader_with w.node IsProperNode (node n) made (reader_node n))
 
+reader_nodes : (n : ℕ) → Reader SomeNodes 1 n (nodes n)
+unfolding nodes
+reader_nodes n =
+    reader_then {most = n} {more = n} (further_node n []) (many (begins f.Node) (further_node n) n) nodes_of (some_along none_of_nodes some_here) (omega arith) (reader_further_node n [])
+    (λ xs. reader_many (begins f.Node) (further_node n) none_of_nodes more_nodes n (reader_further_node n) xs)
+
+some_nodes : Some_part SomeNodes 1
+some_nodes = some_then {m = 1} {n = 0} nodes_of (record { part = some_node.part; good = some_node.good; front = front_less (omega arith) some_node.front }) (some_along none_of_nodes some_here)
+
+-- ---- types
+
+-- a declaration of a type, from its end to its beginning
+abbrev Braced : List (List ℕ) → Part
+Braced xs rest = separated f.Comma w.name xs (fixed f.CloseBrace ∷ fixed f.Semicolon ∷ rest)
+
+abbrev Ending : Part → Type 0
+Ending d = (rest : List Tok) → d rest ≡ fixed f.CloseBrace ∷ fixed f.Semicolon ∷ rest
+
+ending : (e : Part) → Mark f.Semicolon e → Ending (λ rest. fixed f.CloseBrace ∷ e rest)
+ending e h = λ rest. ap (λ (us : List Tok). fixed f.CloseBrace ∷ us) (h rest)
+
+some_ending : Some_part Ending 2
+some_ending = some_after f.CloseBrace ending (some_mark f.Semicolon)
+
+reader_ending : {A : Type 0} {most : ℕ} (v : A) → Reader Ending 2 most (λ ts. after f.CloseBrace ts >>= λ us. after f.Semicolon us >>= λ rest. Ok (v, rest))
+reader_ending {most = most} v =
+    reader_less (omega arith) (omega arith) (reader_after f.CloseBrace (λ us. after f.Semicolon us >>= λ rest. Ok (v, rest)) ending (some_mark f.Semicolon) (reader_mark {most = most} f.Semicolon v))
+
+braced : (d e : Part) → Names d → Ending e → Spelled Braced IsNonempty (λ rest. d (e rest))
+braced d e (xs, p, h) k = (xs, p, λ rest. h (e rest) ∙ ap (separated f.Comma w.name xs) (k rest))
+
+some_braced : Some_part (Spelled Braced IsNonempty) 3
+some_braced = some_then braced some_names some_ending
+
+abbrev enumeration : List ℕ → List (List ℕ) → TypeTree
+enumeration v xs = record { name = v; names = xs }
+
+reader_braced : (n : ℕ) (found : List TypeTree) (v : List ℕ)
+    → Reader (Spelled Braced IsNonempty) 3 n (λ ts. names n ts >>= λ xs. after f.CloseBrace xs.1 >>= λ us. after f.Semicolon us >>= λ rest. Ok (found ++ enumeration v xs.0 ∷ [], rest))
+reader_braced n found v =
+    reader_then {most = n} {more = n} (names n) (λ xs ts. after f.CloseBrace ts >>= λ us. after f.Semicolon us >>= λ rest. Ok (found ++ enumeration v xs ∷ [], rest)) braced some_ending (omega arith) (reader_names n)
+    (λ xs. reader_ending {most = n} (found ++ enumeration v xs ∷ []))
+
+abbrev Enumerated : List (List ℕ) → Part
+Enumerated = Led f.Equal (Led f.Enum (Led f.OpenBrace Braced))
+
+some_open_brace : Some_part (Spelled (Led f.OpenBrace Braced) IsNonempty) 4
+some_open_brace = some_led f.OpenBrace Braced IsNonempty some_braced
+
+some_enum : Some_part (Spelled (Led f.Enum (Led f.OpenBrace Braced)) IsNonempty) 5
+some_enum = some_led f.Enum (Led f.OpenBrace Braced) IsNonempty some_open_brace
+
+some_enumerated : Some_part (Spelled Enumerated IsNonempty) 6
+some_enumerated = some_led f.Equal (Led f.Enum (Led f.OpenBrace Braced)) IsNonempty some_enum
+
+abbrev Names_of : ℕ → List TypeTree → List ℕ → List Tok → Read (List TypeTree)
+Names_of n found v ts = names n ts >>= λ xs. after f.CloseBrace xs.1 >>= λ us. after f.Semicolon us >>= λ rest. Ok (found ++ enumeration v xs.0 ∷ [], rest)
+
+reader_enumerated : (n : ℕ) (found : List TypeTree) (v : List ℕ)
+    → Reader (Spelled Enumerated IsNonempty) 6 n (λ ts. after f.Equal ts >>= λ b. after f.Enum b >>= λ c. after f.OpenBrace c >>= Names_of n found v)
+reader_enumerated n found v =
+    reader_led f.Equal (Led f.Enum (Led f.OpenBrace Braced)) IsNonempty (λ b. after f.Enum b >>= λ c. after f.OpenBrace c >>= Names_of n found v) some_enum
+    (reader_led f.Enum (Led f.OpenBrace Braced) IsNonempty (λ c. after f.OpenBrace c >>= Names_of n found v) some_open_brace
+    (reader_led f.OpenBrace Braced IsNonempty (Names_of n found v) some_braced (reader_braced n found v)))
+
+abbrev TypeBody : List ℕ × List (List ℕ) → Part
+TypeBody = Both Named_of Enumerated
+
+abbrev IsTypeBody : List ℕ × List (List ℕ) → Type 0
+IsTypeBody = AreGood Any IsNonempty
+
+some_type_body : Some_part (Spelled TypeBody IsTypeBody) 7
+some_type_body = some_both Named_of Any Enumerated IsNonempty (some_along spelled_name some_name) some_enumerated
+
+reader_type_body : (n : ℕ) (found : List TypeTree)
+    → Reader (Spelled TypeBody IsTypeBody) 7 n (λ a. name a >>= λ x. after f.Equal x.1 >>= λ b. after f.Enum b >>= λ c. after f.OpenBrace c >>= Names_of n found x.0)
+reader_type_body n found =
+    reader_both Named_of Any Enumerated IsNonempty name (λ v ts. after f.Equal ts >>= λ b. after f.Enum b >>= λ c. after f.OpenBrace c >>= Names_of n found v) some_enumerated (reader_along spelled_name reader_name)
+    (reader_enumerated n found)
+
+abbrev IsType : Part → Type 0
+IsType = Spelled w.type_declaration IsProperType
+
+type_of : (d : Part) → Spelled (Led f.Type TypeBody) IsTypeBody d → IsType d
+type_of d ((v, xs), (p, q), h) = (enumeration v xs, q, h)
+
+reader_type_declaration : (n : ℕ) (found : List TypeTree) → Reader IsType 1 n (type_declaration n found)
+unfolding type_declaration
+reader_type_declaration n found =
+    reader_less (omega arith) (omega arith) (reader_along type_of
+    (reader_led f.Type TypeBody IsTypeBody (λ a. name a >>= λ x. after f.Equal x.1 >>= λ b. after f.Enum b >>= λ c. after f.OpenBrace c >>= Names_of n found x.0) some_type_body (reader_type_body n found)))
+
+abbrev Types : Part → Type 0
+Types = Spelled (repeated w.type_declaration) (Each IsProperType)
+
+none_of_types : (d : Part) → Here d → Types d
+none_of_types d here = ([], tt, here)
+
+more_types : (d e : Part) → IsType d → Types e → Types (λ rest. d (e rest))
+more_types d e (x, p, h) (xs, q, k) = (x ∷ xs, (p, q), λ rest. h (e rest) ∙ ap (w.type_declaration x) (k rest))
+
+reader_types : (n : ℕ) → Reader Types 0 n (types n)
+unfolding types
+reader_types n = reader_many (begins f.Type) (type_declaration n) none_of_types more_types n (reader_type_declaration n) []
+
+-- ---- whole programs
+
+abbrev Program : Part → Type 0
+Program = Spelled w.program w.IsProperProgram
+
+program_of : (d e : Part) → Types d → SomeNodes e → Program (λ rest. d (e rest))
+program_of d e (xs, p, h) (ps, q, k) = (record { types = xs; nodes = ps }, (q.0, q.1, p), λ rest. h (e rest) ∙ ap (repeated w.type_declaration xs) (k rest))
+
 reader_program : (n : ℕ) → Reader Program 1 n (program n)
 unfolding program
 reader_program n =
-    reader_then {most = n} {more = n} (further_node n []) (many (begins f.Node) (further_node n) n) program_of (some_along none_of_nodes some_here) (omega arith) (reader_further_node n [])
-    (λ xs. reader_many (begins f.Node) (further_node n) none_of_nodes more_nodes n (reader_further_node n) xs)
+    let whole : List TypeTree → List NodeTree → ProgramTree = λ ds ns. record { types = ds; nodes = ns } in
+    reader_then {most = n} {more = n} (types n) (λ ds ts. nodes n ts >>= λ ns. Ok (whole ds ns.0, ns.1)) program_of some_nodes (omega arith) (reader_types n)
+    (λ ds. reader_with (repeated w.node) AreNodes (nodes n) (whole ds) (reader_nodes n))
 
 stopped_program : (ts us : List Tok) → Stopped Program ts us → GoesOn ts us
 stopped_program ts us h =
@@ -635,7 +757,7 @@ stopped_program ts us h =
 refused_rest : (x : Tok) (rest us : List Tok) → ◌≡◌ {A = Result ProgramTree (List Tok)} (Err (x ∷ rest)) (Err us) → us ≡ x ∷ rest
 refused_rest x rest us e = cc
 
-read_too_far : (ts us : List Tok) (x : List NodeTree × List Tok) → Done Program 1 ts x.1 → to_the_end x ≡ Err us → GoesOn ts us
+read_too_far : (ts us : List Tok) (x : ProgramTree × List Tok) → Done Program 1 ts x.1 → to_the_end x ≡ Err us → GoesOn ts us
 read_too_far ts us (found, []) h e = absurd cc
 read_too_far ts us (found, x ∷ rest) h e =
     let (p, proper, same) = h.good in
@@ -643,7 +765,7 @@ read_too_far ts us (found, x ∷ rest) h e =
     let parts : h.front.own ++ (x ∷ rest) ≡ ts = sym (h.front.is (x ∷ rest)) ∙ h.at in
     (h.front.own, [], program_tree p, ap (λ (vs : List Tok). h.front.own ++ vs) rest_is ∙ parts, (p, proper, sym (same []) ∙ h.front.is [], refl))
 
-goes_on_by : (ts us : List Tok) → (program (suc (length ts)) ts ≡ Err us) ⊎ ((x : List NodeTree × List Tok) × (program (suc (length ts)) ts ≡ Ok x) × (to_the_end x ≡ Err us)) → GoesOn ts us
+goes_on_by : (ts us : List Tok) → (program (suc (length ts)) ts ≡ Err us) ⊎ ((x : ProgramTree × List Tok) × (program (suc (length ts)) ts ≡ Ok x) × (to_the_end x ≡ Err us)) → GoesOn ts us
 goes_on_by ts us (inl e) = stopped_program ts us ((reader_program (suc (length ts))).stopped ts us (omega arith) e)
 goes_on_by ts us (inr (x, e1, e2)) = read_too_far ts us x ((reader_program (suc (length ts))).done ts x e1) e2
 

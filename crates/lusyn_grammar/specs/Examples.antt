@@ -1,4 +1,4 @@
--- Worked readings of single expressions and of one whole program.
+-- Worked readings of single expressions and of two whole programs, one of them with its canonical tokens.
 use Rattle.std.specs.Prelude.{◌≡◌, ℕ, suc, Bool, true, false, List, [], ◌∷◌, length, codes, Some, Ok, Err, None}
 use Rattle.lutree.specs.declared.expr.UnaryOperator.TheVariants as u
 use Rattle.lutree.specs.declared.expr.BinaryOperator.TheVariants as b
@@ -6,13 +6,13 @@ use Rattle.lutree.specs.declared.expr.Prefix.TheVariants as p
 use Rattle.lutree.specs.declared.expr.Infix.TheVariants as i
 use Rattle.lutree.specs.declared.expr.Pattern.TheVariants as patterns
 use Rattle.lutree.specs.declared.expr.Condition.{Condition}
-use Rattle.lutree.specs.declared.program.Kind.TheVariants as kinds
-use Rattle.lutree.specs.Tree.{Tree, number, truth, variable, unary, binary, choice, when, current, merge, call, none, more, NodeTree, program_of}
+use Rattle.lutree.specs.Tree.{Tree, number, truth, variable, unary, binary, choice, when, current, merge, call, none, more, NodeTree, ProgramTree, program_of}
 use Rattle.lusyn_tokens.specs.declared.token.Fixed.TheVariants as f
 use Rattle.lusyn_tokens.specs.Tokens.{Tok, identifier, fixed}
 use Rattle.lusyn_tokens.specs.Tokens as tok
-use Rattle.lusyn_grammar.specs.Grammar.{declared}
+use Rattle.lusyn_grammar.specs.Grammar.{int, bool, named, bare_label, truths, declared, program}
 use Rattle.lusyn_grammar.specs.Reading.{Read, expr, all_of}
+use Rattle.lusyn_grammar.specs.Printing.{written_program}
 
 abbrev pub reading : List Tok → Read Tree
 reading ts = expr (suc (length ts)) 0 ts
@@ -32,6 +32,14 @@ three op other = identifier x ∷ op ∷ identifier y ∷ other ∷ identifier z
 
 abbrev pub is_on : Bool → Condition
 is_on sign = record { variable = y; pattern = patterns.Truth sign }
+
+-- y(z)
+abbrev pub is_at : List ℕ → List ℕ → Condition
+is_at label v = record { variable = v; pattern = patterns.Label (bare_label label) }
+
+-- (label -> token)
+abbrev pub branch : List ℕ → Tok → List Tok → List Tok
+branch label t rest = fixed f.Open ∷ identifier label ∷ fixed f.Arrow ∷ t ∷ fixed f.Close ∷ rest
 
 pub record ExpressionsAre : Type 0 where
   -- x - y - z is (x - y) - z, x -> y -> z is x -> (y -> z), and x < y < z ends before the second <
@@ -59,7 +67,12 @@ pub record ExpressionsAre : Type 0 where
   pub choice_last : reading (fixed f.If ∷ identifier x ∷ fixed f.Then ∷ identifier y ∷ fixed f.Else ∷ identifier z ∷ fixed f.Arrow ∷ identifier x ∷ []) ≡ Ok (choice (variable x) (variable y) (binary i.Arrow (variable z) (variable x)), [])
   -- (x - y) when z, merge x (true -> y) (false -> 7), and x(y, true)
   pub parentheses : reading (fixed f.Open ∷ identifier x ∷ fixed f.Minus ∷ identifier y ∷ fixed f.Close ∷ fixed f.When ∷ identifier z ∷ []) ≡ Ok (when (binary (i.Data b.Subtract) (variable x) (variable y)) (record { variable = z; pattern = patterns.Truth true }), [])
-  pub branches : reading (fixed f.Merge ∷ identifier x ∷ fixed f.Open ∷ fixed f.True ∷ fixed f.Arrow ∷ identifier y ∷ fixed f.Close ∷ fixed f.Open ∷ fixed f.False ∷ fixed f.Arrow ∷ tok.number 7 ∷ fixed f.Close ∷ []) ≡ Ok (merge x (variable y) (number 7), [])
+  pub branches : reading (fixed f.Merge ∷ identifier x ∷ fixed f.Open ∷ fixed f.True ∷ fixed f.Arrow ∷ identifier y ∷ fixed f.Close ∷ fixed f.Open ∷ fixed f.False ∷ fixed f.Arrow ∷ tok.number 7 ∷ fixed f.Close ∷ []) ≡ Ok (merge x truths (more (variable y) (more (number 7) none)), [])
+  -- x when y(z), merge x (y -> z) (z -> 7), merge x (y -> z), and x when y(z) when not y
+  pub label_clock : reading (identifier x ∷ fixed f.When ∷ identifier y ∷ fixed f.Open ∷ identifier z ∷ fixed f.Close ∷ []) ≡ Ok (when (variable x) (is_at y z), [])
+  pub labels : reading (fixed f.Merge ∷ identifier x ∷ branch y (identifier z) (branch z (tok.number 7) [])) ≡ Ok (merge x (patterns.Label (bare_label y) ∷ patterns.Label (bare_label z) ∷ []) (more (variable z) (more (number 7) none)), [])
+  pub one_label : reading (fixed f.Merge ∷ identifier x ∷ branch y (identifier z) []) ≡ Ok (merge x (patterns.Label (bare_label y) ∷ []) (more (variable z) none), [])
+  pub clock_again : reading (identifier x ∷ fixed f.When ∷ identifier y ∷ fixed f.Open ∷ identifier z ∷ fixed f.Close ∷ fixed f.When ∷ fixed f.Not ∷ identifier y ∷ []) ≡ Ok (when (when (variable x) (is_at y z)) (is_on false), [])
   pub operands : reading (identifier x ∷ fixed f.Open ∷ identifier y ∷ fixed f.Comma ∷ fixed f.True ∷ fixed f.Close ∷ []) ≡ Ok (call x (more (variable y) (more (truth true) none)), [])
   -- x + if y .. is none
   pub no_choice : reading (identifier x ∷ fixed f.Plus ∷ fixed f.If ∷ identifier y ∷ fixed f.Then ∷ identifier y ∷ fixed f.Else ∷ identifier z ∷ []) ≡ Err (fixed f.If ∷ identifier y ∷ fixed f.Then ∷ identifier y ∷ fixed f.Else ∷ identifier z ∷ [])
@@ -75,11 +88,58 @@ program_tokens =
 abbrev pub program_node : NodeTree
 program_node = record {
   name = x;
-  inputs = declared kinds.Bool None y ∷ declared kinds.Bool None z ∷ [];
-  outputs = declared kinds.Int (Some (is_on false)) x ∷ [];
+  inputs = declared bool None y ∷ declared bool None z ∷ [];
+  outputs = declared int (Some (is_on false)) x ∷ [];
   locals = [];
   equations = record { left = y ∷ z ∷ []; right = call x (more (variable y) none) } ∷ [];
 }
+
+abbrev main : List ℕ
+main = codes "main"
+
+abbrev m : List ℕ
+m = codes "m"
+
+abbrev the_type : List ℕ
+the_type = codes "t"
+
+abbrev up : List ℕ
+up = codes "Up"
+
+abbrev down : List ℕ
+down = codes "Down"
+
+-- type t = enum { Up, Down };
+abbrev pub type_tokens : List Tok → List Tok
+type_tokens rest =
+    fixed f.Type ∷ identifier the_type ∷ fixed f.Equal ∷ fixed f.Enum ∷ fixed f.OpenBrace ∷ identifier up ∷ fixed f.Comma ∷ identifier down ∷ fixed f.CloseBrace ∷ fixed f.Semicolon ∷ rest
+
+-- type t = enum { Up, Down };
+-- node main(m: t; x: int) returns (y: int); let y = merge m (Up -> x when Up(m)) (Down -> (0 - x) when Down(m)); tel
+abbrev pub switch_tokens : List Tok
+switch_tokens = type_tokens (
+    fixed f.Node ∷ identifier main ∷ fixed f.Open ∷ identifier m ∷ fixed f.Colon ∷ identifier the_type ∷ fixed f.Semicolon ∷ identifier x ∷ fixed f.Colon ∷ fixed f.Int ∷ fixed f.Close
+    ∷ fixed f.Returns ∷ fixed f.Open ∷ identifier y ∷ fixed f.Colon ∷ fixed f.Int ∷ fixed f.Close ∷ fixed f.Semicolon
+    ∷ fixed f.Let ∷ identifier y ∷ fixed f.Equal ∷ fixed f.Merge ∷ identifier m
+    ∷ fixed f.Open ∷ identifier up ∷ fixed f.Arrow ∷ identifier x ∷ fixed f.When ∷ identifier up ∷ fixed f.Open ∷ identifier m ∷ fixed f.Close ∷ fixed f.Close
+    ∷ fixed f.Open ∷ identifier down ∷ fixed f.Arrow ∷ fixed f.Open ∷ tok.number 0 ∷ fixed f.Minus ∷ identifier x ∷ fixed f.Close ∷ fixed f.When ∷ identifier down ∷ fixed f.Open ∷ identifier m ∷ fixed f.Close ∷ fixed f.Close
+    ∷ fixed f.Semicolon ∷ fixed f.Tel ∷ [])
+
+abbrev pub switch_node : NodeTree
+switch_node = record {
+  name = main;
+  inputs = declared (named the_type) None m ∷ declared int None x ∷ [];
+  outputs = declared int None y ∷ [];
+  locals = [];
+  equations = record {
+    left = y ∷ [];
+    right = merge m (patterns.Label (bare_label up) ∷ patterns.Label (bare_label down) ∷ [])
+        (more (when (variable x) (is_at up m)) (more (when (binary (i.Data b.Subtract) (number 0) (variable x)) (is_at down m)) none));
+  } ∷ [];
+}
+
+abbrev pub switch : ProgramTree
+switch = record { types = record { name = the_type; names = up ∷ down ∷ [] } ∷ []; nodes = switch_node ∷ [] }
 
 -- node x() returns (y: int) ..
 abbrev pub heading_then : List Tok → List Tok
@@ -109,6 +169,26 @@ pub record RefusalsAre : Type 0 where
   pub no_node : all_of (heading_then (fixed f.Let ∷ fixed f.Tel ∷ fixed f.Tel ∷ [])) ≡ Err (fixed f.Tel ∷ [])
   -- let y = x, at the end
   pub too_short : all_of (equation_then (identifier x ∷ [])) ≡ Err []
+  -- y = x when y(), at )
+  pub no_variable : all_of (equation_then (identifier x ∷ fixed f.When ∷ identifier y ∷ fixed f.Open ∷ fixed f.Close ∷ [])) ≡ Err (fixed f.Close ∷ [])
+  -- y = x when not y(, at (
+  pub negated_label : all_of (equation_then (identifier x ∷ fixed f.When ∷ fixed f.Not ∷ identifier y ∷ fixed f.Open ∷ [])) ≡ Err (fixed f.Open ∷ [])
+  -- y = merge x (true -> y) (z .., at z, and y = merge x (y -> z) (true .., at true
+  pub label_second : all_of (equation_then (fixed f.Merge ∷ identifier x ∷ fixed f.Open ∷ fixed f.True ∷ fixed f.Arrow ∷ identifier y ∷ fixed f.Close ∷ fixed f.Open ∷ identifier z ∷ [])) ≡ Err (identifier z ∷ [])
+  pub truth_second : all_of (equation_then (fixed f.Merge ∷ identifier x ∷ branch y (identifier z) (fixed f.Open ∷ fixed f.True ∷ []))) ≡ Err (fixed f.True ∷ [])
+  -- y = merge x (false .., at false
+  pub false_first : all_of (equation_then (fixed f.Merge ∷ identifier x ∷ fixed f.Open ∷ fixed f.False ∷ [])) ≡ Err (fixed f.False ∷ [])
+  -- type t = enum { }, at }
+  pub no_names : all_of (fixed f.Type ∷ identifier the_type ∷ fixed f.Equal ∷ fixed f.Enum ∷ fixed f.OpenBrace ∷ fixed f.CloseBrace ∷ []) ≡ Err (fixed f.CloseBrace ∷ [])
+  -- types alone, at the end
+  pub types_alone : all_of (type_tokens []) ≡ Err []
+  -- a type behind a node, at type
+  pub type_last : all_of (heading_then (fixed f.Let ∷ fixed f.Tel ∷ type_tokens [])) ≡ Err (type_tokens [])
 
 abbrev pub ExamplesLaw : Type 0
-ExamplesLaw = ExpressionsAre × (all_of program_tokens ≡ Ok (program_of (program_node ∷ []))) × RefusalsAre
+ExamplesLaw =
+    ExpressionsAre
+    × (all_of program_tokens ≡ Ok (program_of (program_node ∷ [])))
+    × (all_of switch_tokens ≡ Ok switch)
+    × (program (written_program switch) [] ≡ switch_tokens)
+    × RefusalsAre

@@ -1,10 +1,12 @@
 -- Which tokens spell which program:
 --
---   program  = node { node }
+--   program  = { typedecl } node { node }
+--   typedecl = "type" ident "=" "enum" "{" ident { "," ident } "}" ";"
 --   node     = "node" ident "(" [ decls ] ")" "returns" "(" decls ")" [ ";" ] [ "var" decl ";" { decl ";" } ]
 --              "let" { equation ";" } "tel" [ ";" ]
 --   decls    = decl { ";" decl }
---   decl     = ident { "," ident } ":" ( "int" | "bool" ) [ "when" [ "not" ] ident ]
+--   decl     = ident { "," ident } ":" ( "int" | "bool" | ident ) [ "when" clock ]
+--   clock    = [ "not" ] ident | ident "(" ident ")"
 --   equation = ident "=" expr | "(" ident "," ident { "," ident } ")" "=" call
 --   expr     = "if" expr "then" expr "else" expr | arrow
 --   arrow    = impl [ ( "->" | "fby" ) expr ]
@@ -15,23 +17,28 @@
 --   sum      = term { ( "+" | "-" ) term }
 --   term     = unary { ( "*" | "div" | "mod" ) unary }
 --   unary    = ( "not" | "-" | "pre" ) unary | "current" ident | post
---   post     = atom { "when" [ "not" ] ident }
+--   post     = atom { "when" clock }
 --   atom     = ident | number | "true" | "false" | call | "(" expr ")"
 --            | "merge" ident "(" "true" "->" expr ")" "(" "false" "->" expr ")"
+--            | "merge" ident branch { branch }
+--   branch   = "(" ident "->" expr ")"
 --   call     = ident "(" [ expr { "," expr } ] ")"
 --
--- The rules from `expr` to `atom` are the levels 0 to 10 of `Levels.antt`: what a rule spells has its level or one above, and
+-- The rules from `expr` to `atom` are the levels 0 to 10 of `Tokens.antt`: what a rule spells has its level or one above, and
 -- a place asks for a rule by its level.
-use Rattle.std.specs.Prelude.{◌≡◌, ◌≤◌, ℕ, Bool, true, false, List, [], ◌∷◌, map, Option, Some, None}
+--
+-- What a name stands for is none of the grammar's: a name in an expression is a variable, and of a name in a clock or a branch nothing is known but the name.
+use Rattle.std.specs.Prelude.{◌≡◌, ◌≤◌, ◌⊎◌, ℕ, Bool, true, false, List, [], ◌∷◌, map, Option, Some, None}
 use Rattle.std.specs.List.{flat_map}
 use Rattle.lutree.specs.declared.expr.Prefix.{Prefix}
 use Rattle.lutree.specs.declared.expr.Infix.{Infix}
+use Rattle.lutree.specs.declared.expr.Label.{Label}
 use Rattle.lutree.specs.declared.expr.Pattern.{Pattern}
 use Rattle.lutree.specs.declared.expr.Pattern.TheVariants as patterns
 use Rattle.lutree.specs.declared.expr.Condition.{Condition}
 use Rattle.lutree.specs.declared.program.Kind.{Kind}
 use Rattle.lutree.specs.declared.program.Kind.TheVariants as kinds
-use Rattle.lutree.specs.Tree.{Tree, Trees, DeclarationTree, EquationTree, NodeTree, ProgramTree}
+use Rattle.lutree.specs.Tree.{Tree, Trees, TypeTree, DeclarationTree, EquationTree, NodeTree, ProgramTree}
 use Rattle.lutree.specs.Tree as t
 use Rattle.lusyn_tokens.specs.declared.token.Fixed.{Fixed}
 use Rattle.lusyn_tokens.specs.declared.token.Fixed.TheVariants as f
@@ -52,18 +59,25 @@ mutual
     choice : Written → Written → Written → Written
     when : Written → Condition → Written
     current : List ℕ → Written
-    merge : List ℕ → Written → Written → Written
+    merge : List ℕ → List Pattern → Writtens → Written
     call : List ℕ → Writtens → Written
     paren : Written → Written
 
+  -- the arguments of a call, or the branches of a merge
   pub data Writtens : Type 0 where
     none : Writtens
     more : Written → Writtens → Writtens
 
+-- a type, as it is written: one of the two keywords, or a name
+pub data WrittenType : Type 0 where
+  int : WrittenType
+  bool : WrittenType
+  named : List ℕ → WrittenType
+
 -- several names, with one type and one clock
 pub record WrittenDeclaration : Type 0 where
   pub names : List (List ℕ)
-  pub kind : Kind
+  pub kind : WrittenType
   pub clock : Option Condition
 
 pub record WrittenEquation : Type 0 where
@@ -80,8 +94,9 @@ pub record WrittenNode : Type 0 where
   pub equations : List WrittenEquation
   pub is_ended : Bool
 
-abbrev pub WrittenProgram : Type 0
-WrittenProgram = List WrittenNode
+pub record WrittenProgram : Type 0 where
+  pub types : List TypeTree
+  pub nodes : List WrittenNode
 
 -- ITS TOKENS, AND THEN THE REST
 
@@ -122,13 +137,19 @@ abbrev pub sign_tokens : Bool → List Tok → List Tok
 sign_tokens true rest = rest
 sign_tokens false rest = fixed f.Not ∷ rest
 
--- [ "not" ] ident
+-- clock
 abbrev pub pattern_tokens : Pattern → List ℕ → List Tok → List Tok
 pattern_tokens (patterns.Truth sign) x rest = sign_tokens sign (identifier x ∷ rest)
+pattern_tokens (patterns.Label l) x rest = identifier l.name ∷ fixed f.Open ∷ identifier x ∷ fixed f.Close ∷ rest
 
--- "when" [ "not" ] ident
+-- "when" clock
 abbrev pub when_tokens : Condition → List Tok → List Tok
 when_tokens c rest = fixed f.When ∷ pattern_tokens c.pattern c.variable rest
+
+-- "true" | "false" | ident
+abbrev pub branch_token : Pattern → Tok
+branch_token (patterns.Truth b) = fixed (truth_token b)
+branch_token (patterns.Label l) = identifier l.name
 
 abbrev mutual
   pub tokens : Written → List Tok → List Tok
@@ -140,8 +161,7 @@ abbrev mutual
   tokens (choice a b c) rest = fixed f.If ∷ tokens a (fixed f.Then ∷ tokens b (fixed f.Else ∷ tokens c rest))
   tokens (when c clock) rest = tokens c (when_tokens clock rest)
   tokens (current x) rest = fixed f.Current ∷ identifier x ∷ rest
-  tokens (merge x a b) rest =
-      fixed f.Merge ∷ identifier x ∷ fixed f.Open ∷ fixed f.True ∷ fixed f.Arrow ∷ tokens a (fixed f.Close ∷ fixed f.Open ∷ fixed f.False ∷ fixed f.Arrow ∷ tokens b (fixed f.Close ∷ rest))
+  tokens (merge x patterns cs) rest = fixed f.Merge ∷ identifier x ∷ branches cs patterns rest
   tokens (call g none) rest = identifier g ∷ fixed f.Open ∷ fixed f.Close ∷ rest
   tokens (call g (more c cs)) rest = identifier g ∷ fixed f.Open ∷ tokens c (further cs (fixed f.Close ∷ rest))
   tokens (paren c) rest = fixed f.Open ∷ tokens c (fixed f.Close ∷ rest)
@@ -151,19 +171,26 @@ abbrev mutual
   further none rest = rest
   further (more c cs) rest = fixed f.Comma ∷ tokens c (further cs rest)
 
--- "int" | "bool"
-abbrev pub kind_token : Kind → Fixed
-kind_token kinds.Int = f.Int
-kind_token kinds.Bool = f.Bool
+  -- branch { branch }, where a branch begins with its pattern
+  pub branches : Writtens → List Pattern → List Tok → List Tok
+  branches none ps rest = rest
+  branches (more c cs) [] rest = rest
+  branches (more c cs) (p ∷ ps) rest = fixed f.Open ∷ branch_token p ∷ fixed f.Arrow ∷ tokens c (fixed f.Close ∷ branches cs ps rest)
 
--- [ "when" [ "not" ] ident ]
+-- "int" | "bool" | ident
+abbrev pub type_token : WrittenType → Tok
+type_token int = fixed f.Int
+type_token bool = fixed f.Bool
+type_token (named x) = identifier x
+
+-- [ "when" clock ]
 abbrev pub clock : Option Condition → List Tok → List Tok
 clock None rest = rest
 clock (Some c) rest = when_tokens c rest
 
 -- decl
 abbrev pub declaration : WrittenDeclaration → List Tok → List Tok
-declaration d rest = separated f.Comma name d.names (fixed f.Colon ∷ fixed (kind_token d.kind) ∷ clock d.clock rest)
+declaration d rest = separated f.Comma name d.names (fixed f.Colon ∷ type_token d.kind ∷ clock d.clock rest)
 
 -- [ "var" decl ";" { decl ";" } ]
 abbrev pub locals : List WrittenDeclaration → List Tok → List Tok
@@ -193,11 +220,58 @@ body n rest = fixed f.Let ∷ repeated (ended f.Semicolon equation) n.equations 
 abbrev pub node : WrittenNode → List Tok → List Tok
 node n rest = heading n (locals n.locals (body n rest))
 
--- node { node }
+-- typedecl
+abbrev pub type_declaration : TypeTree → List Tok → List Tok
+type_declaration x rest =
+    fixed f.Type ∷ identifier x.name ∷ fixed f.Equal ∷ fixed f.Enum ∷ fixed f.OpenBrace ∷ separated f.Comma name x.names (fixed f.CloseBrace ∷ fixed f.Semicolon ∷ rest)
+
+-- { typedecl } node { node }
 abbrev pub program : WrittenProgram → List Tok → List Tok
-program = repeated node
+program p rest = repeated type_declaration p.types (repeated node p.nodes rest)
 
 -- WHAT THE RULES ASK BESIDES
+
+-- P holds of each
+abbrev pub Each : {A : Type 0} → (A → Type 0) → List A → Type 0
+Each P [] = Unit {0}
+Each P (x ∷ xs) = P x × Each P xs
+
+-- at least one
+abbrev pub IsNonempty : {A : Type 0} → List A → Type 0
+IsNonempty [] = ⊥
+IsNonempty (x ∷ xs) = Unit {0}
+
+-- a name of an enumeration of which nothing is known but the name
+abbrev pub bare_label : List ℕ → Label
+bare_label x = record { name = x; kind = kinds.Enum 0 0; number = 0 }
+
+-- a truth, or such a name
+abbrev pub IsBare : Pattern → Type 0
+IsBare (patterns.Truth b) = Unit {0}
+IsBare (patterns.Label l) = l ≡ bare_label l.name
+
+abbrev pub IsBareClock : Option Condition → Type 0
+IsBareClock None = Unit {0}
+IsBareClock (Some c) = IsBare c.pattern
+
+-- such a name
+abbrev pub IsBareLabel : Pattern → Type 0
+IsBareLabel (patterns.Truth b) = ⊥
+IsBareLabel (patterns.Label l) = l ≡ bare_label l.name
+
+-- both truths in order
+abbrev pub truths : List Pattern
+truths = patterns.Truth true ∷ patterns.Truth false ∷ []
+
+-- as many branches as patterns
+abbrev pub AreAsMany : Writtens → List Pattern → Type 0
+AreAsMany none [] = Unit {0}
+AreAsMany (more c cs) (p ∷ ps) = AreAsMany cs ps
+AreAsMany _ _ = ⊥
+
+-- what the branches of a merge begin with: both truths, or one name and more
+abbrev pub AreBranches : Writtens → List Pattern → Type 0
+AreBranches cs ps = AreAsMany cs ps × ((ps ≡ truths) ⊎ (IsNonempty ps × Each IsBareLabel ps))
 
 abbrev pub level_of : Written → ℕ
 level_of (choice a b c) = 0
@@ -216,25 +290,15 @@ abbrev mutual
   IsProper (unary op c) = (8 ≤ level_of c) × IsProper c
   IsProper (binary op a b) = (left op ≤ level_of a) × (right op ≤ level_of b) × IsProper a × IsProper b
   IsProper (choice a b c) = IsProper a × IsProper b × IsProper c
-  IsProper (when c clock) = (9 ≤ level_of c) × IsProper c
+  IsProper (when c clock) = (9 ≤ level_of c) × IsProper c × IsBare clock.pattern
   IsProper (current x) = Unit {0}
-  IsProper (merge x a b) = IsProper a × IsProper b
+  IsProper (merge x patterns cs) = AreProper cs × AreBranches cs patterns
   IsProper (call g cs) = AreProper cs
   IsProper (paren c) = IsProper c
 
   pub AreProper : Writtens → Type 0
   AreProper none = Unit {0}
   AreProper (more c cs) = IsProper c × AreProper cs
-
--- P holds of each
-abbrev pub Each : {A : Type 0} → (A → Type 0) → List A → Type 0
-Each P [] = Unit {0}
-Each P (x ∷ xs) = P x × Each P xs
-
--- at least one
-abbrev pub IsNonempty : {A : Type 0} → List A → Type 0
-IsNonempty [] = ⊥
-IsNonempty (x ∷ xs) = Unit {0}
 
 abbrev pub IsCall : Written → Type 0
 IsCall (call g cs) = Unit {0}
@@ -247,7 +311,7 @@ IsDefinedBy (x ∷ []) IsCalled = Unit {0}
 IsDefinedBy (x ∷ y ∷ zs) IsCalled = IsCalled
 
 abbrev pub IsProperDeclaration : WrittenDeclaration → Type 0
-IsProperDeclaration d = IsNonempty d.names
+IsProperDeclaration d = IsNonempty d.names × IsBareClock d.clock
 
 abbrev pub IsProperEquation : WrittenEquation → Type 0
 IsProperEquation e = IsDefinedBy e.left (IsCall e.right) × IsProper e.right
@@ -259,8 +323,11 @@ IsProperNode n =
     × Each IsProperDeclaration n.locals
     × Each IsProperEquation n.equations
 
+abbrev pub IsProperType : TypeTree → Type 0
+IsProperType x = IsNonempty x.names
+
 abbrev pub IsProperProgram : WrittenProgram → Type 0
-IsProperProgram p = IsNonempty p × Each IsProperNode p
+IsProperProgram p = IsNonempty p.nodes × Each IsProperNode p.nodes × Each IsProperType p.types
 
 -- THE TREE
 
@@ -275,7 +342,7 @@ abbrev mutual
   tree (choice a b c) = t.choice (tree a) (tree b) (tree c)
   tree (when c clock) = t.when (tree c) clock
   tree (current x) = t.current x
-  tree (merge x a b) = t.merge x (tree a) (tree b)
+  tree (merge x patterns cs) = t.merge x patterns (trees cs)
   tree (call g cs) = t.call g (trees cs)
   tree (paren c) = tree c
 
@@ -283,8 +350,19 @@ abbrev mutual
   trees none = t.none
   trees (more c cs) = t.more (tree c) (trees cs)
 
-abbrev pub declared : Kind → Option Condition → List ℕ → DeclarationTree
-declared kind clock x = record { name = x; kind = kind; clock = clock }
+-- a type with a name is an enumeration of which nothing is known but the name
+abbrev pub kind_of : WrittenType → Kind
+kind_of int = kinds.Int
+kind_of bool = kinds.Bool
+kind_of (named x) = kinds.Enum 0 0
+
+abbrev pub type_name_of : WrittenType → Option (List ℕ)
+type_name_of int = None
+type_name_of bool = None
+type_name_of (named x) = Some x
+
+abbrev pub declared : WrittenType → Option Condition → List ℕ → DeclarationTree
+declared kind clock x = record { name = x; kind = kind_of kind; type_name = type_name_of kind; clock = clock }
 
 -- each name is declared by itself
 abbrev pub declaration_tree : WrittenDeclaration → List DeclarationTree
@@ -303,7 +381,7 @@ node_tree n = record {
 }
 
 abbrev pub program_tree : WrittenProgram → ProgramTree
-program_tree p = record { nodes = map node_tree p }
+program_tree p = record { types = p.types; nodes = map node_tree p.nodes }
 
 -- these tokens, to the last, spell this program
 abbrev pub Spells : List Tok → ProgramTree → Type 0

@@ -4,7 +4,7 @@ use Rattle.lutree.specs.Tree.{ProgramTree}
 use Rattle.lusyn_tokens.specs.Tokens.{Tok}
 use Rattle.lusyn_grammar.specs.Grammar.{Spells, program}
 use Rattle.lusyn_grammar.specs.Reading.{all_of}
-use Rattle.lusyn_grammar.specs.Printing.{IsPrintable, written_program}
+use Rattle.lusyn_grammar.specs.Printing.{IsPrintable, bare, written_program}
 
 -- what is read is spelled so, and what is spelled so is read
 abbrev pub ReadingLaw : Type 0
@@ -14,13 +14,13 @@ ReadingLaw = (ts : List Tok) (found : ProgramTree) → (all_of ts ≡ Ok found) 
 abbrev pub OneTreeLaw : Type 0
 OneTreeLaw = (ts : List Tok) (one other : ProgramTree) → Spells ts one → Spells ts other → one ≡ other
 
--- what is printed of a tree spells that tree
+-- what is printed of a tree spells that tree, without what its names of enumerations stand for
 abbrev pub PrintingLaw : Type 0
-PrintingLaw = (found : ProgramTree) → IsPrintable found → Spells (program (written_program found) []) found
+PrintingLaw = (found : ProgramTree) → IsPrintable found → Spells (program (written_program found) []) (bare found)
 
--- nothing but printable trees is spelled
+-- nothing but printable trees is spelled, none of which knows what a name of an enumeration stands for
 abbrev pub PrintableLaw : Type 0
-PrintableLaw = (ts : List Tok) (found : ProgramTree) → Spells ts found → IsPrintable found
+PrintableLaw = (ts : List Tok) (found : ProgramTree) → Spells ts found → IsPrintable found × (bare found ≡ found)
 
 -- where a token is refused, no text goes on with it: none that is spelled has the same tokens up to it and it next
 abbrev pub RefusalLaw : Type 0

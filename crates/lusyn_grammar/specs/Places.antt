@@ -1,6 +1,7 @@
--- The places of a program's parts, as its tokens tell them: where the names of its nodes, its declared names and its equations begin.
+-- The places of a program's parts, as its tokens tell them: where the names of its types and of their enumerations, the names of its nodes, its declared names and
+-- its equations begin.
 use Rattle.std.specs.Prelude.{ℕ, Bool, true, false, not, ◌||◌, List, [], ◌∷◌, if◌then◌else◌}
-use Rattle.lutree.specs.Places.{NodePlaces}
+use Rattle.lutree.specs.Places.{TypePlaces, NodePlaces, ProgramPlaces}
 use Rattle.lusyn_tokens.specs.declared.token.Fixed.{Fixed}
 use Rattle.lusyn_tokens.specs.declared.token.Fixed.TheVariants as f
 use Rattle.lusyn_tokens.specs.Tokens.{Tok, identifier, number, fixed}
@@ -30,21 +31,21 @@ behind g (x ∷ xs) = if is g x.1 then xs else if is f.Let x.1 then [] else behi
 abbrev pub ends_declarations : Tok → Bool
 ends_declarations t = is f.Returns t || is f.Var t || is f.Let t
 
--- the variable of a clock stands behind `when` or `not`
-abbrev pub begins_clock : Tok → Bool
-begins_clock t = is f.When t || is f.Not t
+-- the name of a type stands behind `:`, that of a clock or its variable behind `when`, `not` or `(`
+abbrev pub begins_use : Tok → Bool
+begins_use t = is f.Colon t || is f.When t || is f.Not t || is f.Open t
 
 -- any other identifier of declarations is a declared name
 abbrev pub is_declared : Bool → Tok → Bool
-is_declared of_clock (identifier x) = not of_clock
-is_declared of_clock _ = false
+is_declared used (identifier x) = not used
+is_declared used _ = false
 
--- the places of the names that are declared here; the truth value says whether the first token is behind `when` or `not`
+-- the places of the names that are declared here; the truth value says whether the first token is behind `:`, `when`, `not` or `(`
 unfoldable pub declared : Bool → List Placed → List ℕ
-declared of_clock [] = []
-declared of_clock (x ∷ xs) =
-    let others = declared (begins_clock x.1) xs in
-    if ends_declarations x.1 then [] else if is_declared of_clock x.1 then x.0 ∷ others else others
+declared used [] = []
+declared used (x ∷ xs) =
+    let others = declared (begins_use x.1) xs in
+    if ends_declarations x.1 then [] else if is_declared used x.1 then x.0 ∷ others else others
 
 -- The places at which equations begin here, up to `tel`: one begins behind each `;`, and the truth value says whether one begins at the first token.
 unfoldable pub begun : Bool → List Placed → List ℕ
@@ -53,18 +54,42 @@ begun here (x ∷ xs) =
     let others = begun (is f.Semicolon x.1) xs in
     if is f.Tel x.1 then [] else if here then x.0 ∷ others else others
 
--- The places of a node, of the tokens behind `node`: its name comes first, inputs are declared behind `(`, outputs behind
--- `returns`, locals behind `var`, and equations begin behind `let`.
+-- The places of a node, of the tokens behind `node`: its name comes first, inputs are declared behind `(`, outputs behind the
+-- `(` behind `returns`, locals behind `var`, and equations begin behind `let`.
 abbrev pub node_places_in : List Placed → NodePlaces
 node_places_in xs = record {
   name = first xs;
   inputs = declared false (behind f.Open xs);
-  outputs = declared false (behind f.Returns xs);
+  outputs = declared false (behind f.Open (behind f.Returns xs));
   locals = declared false (behind f.Var xs);
   equations = begun true (behind f.Let xs);
 }
 
 -- the places of the nodes, each of which begins with `node`
-unfoldable pub places_in : List Placed → List NodePlaces
-places_in [] = []
-places_in (x ∷ xs) = let others = places_in xs in if is f.Node x.1 then node_places_in xs ∷ others else others
+unfoldable pub nodes_in : List Placed → List NodePlaces
+nodes_in [] = []
+nodes_in (x ∷ xs) = let others = nodes_in xs in if is f.Node x.1 then node_places_in xs ∷ others else others
+
+abbrev pub is_name : Tok → Bool
+is_name (identifier x) = true
+is_name _ = false
+
+-- the places of all names up to `}`
+unfoldable pub enumerated : List Placed → List ℕ
+enumerated [] = []
+enumerated (x ∷ xs) =
+    let others = enumerated xs in
+    if is f.CloseBrace x.1 then [] else if is_name x.1 then x.0 ∷ others else others
+
+-- the places of a type, of the tokens behind `type`: its name comes first, and those of its enumeration behind `{`
+abbrev pub type_places_in : List Placed → TypePlaces
+type_places_in xs = record { name = first xs; names = enumerated (behind f.OpenBrace xs) }
+
+-- the places of the types, each of which begins with `type`
+unfoldable pub types_in : List Placed → List TypePlaces
+types_in [] = []
+types_in (x ∷ xs) = let others = types_in xs in if is f.Type x.1 then type_places_in xs ∷ others else others
+
+-- those of a program
+abbrev pub places_in : List Placed → ProgramPlaces
+places_in xs = record { types = types_in xs; nodes = nodes_in xs }

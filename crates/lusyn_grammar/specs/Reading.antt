@@ -8,15 +8,13 @@ use Rattle.lutree.specs.declared.expr.Prefix.{Prefix}
 use Rattle.lutree.specs.declared.expr.Infix.{Infix}
 use Rattle.lutree.specs.declared.expr.Pattern.TheVariants as patterns
 use Rattle.lutree.specs.declared.expr.Condition.{Condition}
-use Rattle.lutree.specs.declared.program.Kind.{Kind}
-use Rattle.lutree.specs.declared.program.Kind.TheVariants as kinds
-use Rattle.lutree.specs.Tree.{Tree, trees_of, DeclarationTree, EquationTree, NodeTree, ProgramTree}
+use Rattle.lutree.specs.Tree.{Tree, none, more, trees_of, TypeTree, DeclarationTree, EquationTree, NodeTree, ProgramTree}
 use Rattle.lutree.specs.Tree as t
 use Rattle.lusyn_tokens.specs.declared.token.Fixed.{Fixed}
 use Rattle.lusyn_tokens.specs.declared.token.Fixed.TheVariants as f
 use Rattle.lusyn_tokens.specs.Tokens.{Tok, identifier, number, fixed, text_of}
 use Rattle.lusyn_tokens.specs.Tokens.{infix_of, prefix_of, level, left, right}
-use Rattle.lusyn_grammar.specs.Grammar.{declared}
+use Rattle.lusyn_grammar.specs.Grammar.{WrittenType, int, bool, named as named_type, bare_label, truths as both_truths, declared}
 
 -- what was read, and what follows it; or the rest from the refused token on
 abbrev pub Read : Type 0 → Type 0
@@ -58,14 +56,33 @@ name (fixed h ∷ rest) = Err (fixed h ∷ rest)
 abbrev pub begins_name : List Tok → Bool
 begins_name ts = is_ok (name ts)
 
-abbrev pub signed : Bool → Read (List ℕ) → Read Condition
-signed sign (Err us) = Err us
-signed sign (Ok x) = Ok (record { variable = x.0; pattern = patterns.Truth sign }, x.1)
+-- `x` or `not x`, and `label(x)`
+abbrev pub on_truth : Bool → List ℕ → Condition
+on_truth sign x = record { variable = x; pattern = patterns.Truth sign }
 
--- after `when`: the variable, with `not` before it or without
+abbrev pub on_label : List ℕ → List ℕ → Condition
+on_label label x = record { variable = x; pattern = patterns.Label (bare_label label) }
+
+-- the variable of a clock with a label, after the parenthesis that opens it, up to the one that closes it
+abbrev pub labelled_clock : List ℕ → List Tok → Read Condition
+labelled_clock label ts = name ts >>= λ x. after f.Close x.1 >>= λ rest. Ok (on_label label x.0, rest)
+
+-- after a name: it is the variable, unless a parenthesis follows it
+abbrev pub clock_from_by : List ℕ → List Tok → Result (List Tok) (List Tok) → Read Condition
+clock_from_by x ts (Err us) = Ok (on_truth true x, ts)
+clock_from_by x ts (Ok rest) = labelled_clock x rest
+
+abbrev pub clock_from : List ℕ → List Tok → Read Condition
+clock_from x ts = clock_from_by x ts (after f.Open ts)
+
+-- after `not`: the variable
+abbrev pub negated : List Tok → Read Condition
+negated ts = name ts >>= λ x. Ok (on_truth false x.0, x.1)
+
+-- after `when`: the variable, with `not` before it or without, or a label and the variable in parentheses
 abbrev pub condition_by : List Tok → Result (List Tok) (List Tok) → Read Condition
-condition_by ts (Err us) = signed true (name ts)
-condition_by ts (Ok rest) = signed false (name rest)
+condition_by ts (Err us) = name ts >>= λ x. clock_from x.0 x.1
+condition_by ts (Ok rest) = negated rest
 
 abbrev pub condition : List Tok → Read Condition
 condition ts = condition_by ts (after f.Not ts)
@@ -117,6 +134,10 @@ allowed at least all found = if nat_le least at then at_level at found else Err 
 abbrev pub closed : {A : Type 0} → Read A → Read A
 closed (Err us) = Err us
 closed (Ok x) = after f.Close x.1 >>= λ rest. Ok (x.0, rest)
+
+-- the merge on this variable with these branches, each with its name
+abbrev pub merged : List ℕ → List (List ℕ × Tree) → Tree
+merged v branches = t.merge v (map (λ b. patterns.Label (bare_label b.0)) branches) (trees_of (map (λ b. b.1) branches))
 
 -- after `current`
 abbrev pub current : List Tok → Read Tree
@@ -184,13 +205,42 @@ module _ (read : ℕ → List Tok → Read Tree) where
     c ← after f.Arrow b
     inside c
 
-  -- after `merge`
-  unfoldable pub merge : List Tok → Read Tree
-  merge ts = do
-    x ← name ts
-    first ← branch f.True x.1
+  -- after `merge v (true`, up to the end of the second branch
+  unfoldable pub by_truths : List ℕ → List Tok → Read Tree
+  by_truths v ts = do
+    a ← after f.Arrow ts
+    first ← inside a
     second ← branch f.False first.1
-    Ok (t.merge x.0 first.0 second.0, second.1)
+    Ok (t.merge v both_truths (more first.0 (more second.0 none)), second.1)
+
+  -- after the parenthesis that opens it, a branch of `merge` with the name that it begins with
+  unfoldable pub labelled : List (List ℕ × Tree) → List Tok → Read (List (List ℕ × Tree))
+  labelled found ts = do
+    x ← name ts
+    a ← after f.Arrow x.1
+    e ← inside a
+    Ok (found ++ (x.0, e.0) ∷ [], e.1)
+
+  abbrev pub further_branch : List (List ℕ × Tree) → List Tok → Read (List (List ℕ × Tree))
+  further_branch found ts = after f.Open ts >>= labelled found
+
+  -- after `merge v (`, up to the end of the last branch
+  unfoldable pub by_labels : ℕ → List ℕ → List Tok → Read Tree
+  by_labels n v ts = do
+    first ← labelled [] ts
+    all ← many (begins f.Open) further_branch n first.0 first.1
+    Ok (merged v all.0, all.1)
+
+  abbrev pub merge_by : ℕ → List ℕ → List Tok → Result (List Tok) (List Tok) → Read Tree
+  merge_by n v ts (Err us) = by_labels n v ts
+  merge_by n v ts (Ok rest) = by_truths v rest
+
+  -- after `merge`
+  unfoldable pub merge : ℕ → List Tok → Read Tree
+  merge n ts = do
+    x ← name ts
+    a ← after f.Open x.1
+    merge_by n x.0 a (after f.True a)
 
   -- after an operator that stands before its operand
   abbrev pub prefixed : List Tok → Option Prefix → List Tok → Read Tree
@@ -202,7 +252,7 @@ module _ (read : ℕ → List Tok → Read Tree) where
   head_by n least (number k) rest = at_level 10 (Ok (t.number k, rest))
   head_by n least (fixed f.True) rest = at_level 10 (Ok (t.truth true, rest))
   head_by n least (fixed f.False) rest = at_level 10 (Ok (t.truth false, rest))
-  head_by n least (fixed f.Merge) rest = at_level 10 (merge rest)
+  head_by n least (fixed f.Merge) rest = at_level 10 (merge n rest)
   head_by n least (fixed f.Open) rest = at_level 10 (inside rest)
   head_by n least (fixed f.If) rest = allowed 0 least (fixed f.If ∷ rest) (choice rest)
   head_by n least (fixed f.Current) rest = allowed 8 least (fixed f.Current ∷ rest) (current rest)
@@ -228,9 +278,10 @@ further_name found ts = after f.Comma ts >>= λ rest. name rest >>= λ x. Ok (fo
 unfoldable pub names : ℕ → List Tok → Read (List (List ℕ))
 names n ts = name ts >>= λ x. many (begins f.Comma) further_name n (x.0 ∷ []) x.1
 
-abbrev pub kind : List Tok → Read Kind
-kind (fixed f.Int ∷ rest) = Ok (kinds.Int, rest)
-kind (fixed f.Bool ∷ rest) = Ok (kinds.Bool, rest)
+abbrev pub kind : List Tok → Read WrittenType
+kind (fixed f.Int ∷ rest) = Ok (int, rest)
+kind (fixed f.Bool ∷ rest) = Ok (bool, rest)
+kind (identifier x ∷ rest) = Ok (named_type x, rest)
 kind ts = Err ts
 
 -- a clock, where one is written
@@ -358,12 +409,36 @@ abbrev pub further_node : ℕ → List NodeTree → List Tok → Read (List Node
 further_node n found ts = node n ts >>= λ x. Ok (found ++ x.0 ∷ [], x.1)
 
 -- the nodes of a program
-unfoldable pub program : ℕ → List Tok → Read (List NodeTree)
-program n ts = further_node n [] ts >>= λ x. many (begins f.Node) (further_node n) n x.0 x.1
+unfoldable pub nodes : ℕ → List Tok → Read (List NodeTree)
+nodes n ts = further_node n [] ts >>= λ x. many (begins f.Node) (further_node n) n x.0 x.1
 
-abbrev pub to_the_end : List NodeTree × List Tok → Result ProgramTree (List Tok)
-to_the_end (ns, []) = Ok (record { nodes = ns })
-to_the_end (ns, t ∷ ts) = Err (t ∷ ts)
+-- PROGRAMS
+
+unfoldable pub type_declaration : ℕ → List TypeTree → List Tok → Read (List TypeTree)
+type_declaration n found ts = do
+  a ← after f.Type ts
+  x ← name a
+  b ← after f.Equal x.1
+  c ← after f.Enum b
+  d ← after f.OpenBrace c
+  xs ← names n d
+  e ← after f.CloseBrace xs.1
+  rest ← after f.Semicolon e
+  Ok (found ++ (record { name = x.0; names = xs.0 }) ∷ [], rest)
+
+-- the types of a program
+unfoldable pub types : ℕ → List Tok → Read (List TypeTree)
+types n ts = many (begins f.Type) (type_declaration n) n [] ts
+
+unfoldable pub program : ℕ → List Tok → Read ProgramTree
+program n ts = do
+  xs ← types n ts
+  ns ← nodes n xs.1
+  Ok (record { types = xs.0; nodes = ns.0 }, ns.1)
+
+abbrev pub to_the_end : ProgramTree × List Tok → Result ProgramTree (List Tok)
+to_the_end (p, []) = Ok p
+to_the_end (p, t ∷ ts) = Err (t ∷ ts)
 
 -- all of the tokens, or the rest from the refused one on
 unfoldable pub all_of : List Tok → Result ProgramTree (List Tok)

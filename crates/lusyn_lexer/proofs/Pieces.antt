@@ -176,6 +176,8 @@ spelled-bounds : (g : Fixed) (u : List ℕ) → Bounds (text_of g) u (Some (fixe
 unfolding piece
 spelled-bounds f.Open u = (omega arith, λ same. (refl, tt))
 spelled-bounds f.Close u = (omega arith, λ same. (refl, tt))
+spelled-bounds f.OpenBrace u = (omega arith, λ same. (refl, tt))
+spelled-bounds f.CloseBrace u = (omega arith, λ same. (refl, tt))
 spelled-bounds f.Comma u = (omega arith, λ same. (refl, tt))
 spelled-bounds f.Semicolon u = (omega arith, λ same. (refl, tt))
 spelled-bounds f.Colon u = (omega arith, λ same. (refl, tt))
@@ -208,6 +210,8 @@ word-cases w =
 word-text_of : (g : Fixed) → (is_word_text (text_of g) ≡ false) ⊎ (word (text_of g) ≡ fixed g)
 word-text_of f.Open = inl refl
 word-text_of f.Close = inl refl
+word-text_of f.OpenBrace = inl refl
+word-text_of f.CloseBrace = inl refl
 word-text_of f.Comma = inl refl
 word-text_of f.Semicolon = inl refl
 word-text_of f.Colon = inl refl
@@ -335,6 +339,8 @@ sign-spells b next =
     let P : Option (Fixed × ℕ) → Type 0 = Spells b next in
     by_test (b == 40) (Some (f.Open, 1)) _ P (one b next f.Open 40 refl) (λ h1.
     by_test (b == 41) (Some (f.Close, 1)) _ P (one b next f.Close 41 refl) (λ h2.
+    by_test (b == 123) (Some (f.OpenBrace, 1)) _ P (one b next f.OpenBrace 123 refl) (λ o.
+    by_test (b == 125) (Some (f.CloseBrace, 1)) _ P (one b next f.CloseBrace 125 refl) (λ c.
     by_test (b == 44) (Some (f.Comma, 1)) _ P (one b next f.Comma 44 refl) (λ h3.
     by_test (b == 59) (Some (f.Semicolon, 1)) _ P (one b next f.Semicolon 59 refl) (λ h4.
     by_test (b == 58) (Some (f.Colon, 1)) _ P (one b next f.Colon 58 refl) (λ h5.
@@ -348,7 +354,7 @@ sign-spells b next =
     (λ e. by_test (next == 61) (Some (f.LessEqual, 2)) _ P (two b next f.LessEqual 60 61 refl (omega arith) e)
     (λ k. by_test (next == 62) (Some (f.Unequal, 2)) (Some (f.Less, 1)) P (two b next f.Unequal 60 62 refl (omega arith) e) (λ k2. one b next f.Less 60 refl e))) (λ h10.
     by_test (b == 62) _ None P
-    (λ e. by_test (next == 61) (Some (f.GreaterEqual, 2)) (Some (f.Greater, 1)) P (two b next f.GreaterEqual 62 61 refl (omega arith) e) (λ k. one b next f.Greater 62 refl e)) (λ h11. tt)))))))))))
+    (λ e. by_test (next == 61) (Some (f.GreaterEqual, 2)) (Some (f.Greater, 1)) P (two b next f.GreaterEqual 62 61 refl (omega arith) e) (λ k. one b next f.Greater 62 refl e)) (λ h11. tt)))))))))))))
 
 found-signed : (b : ℕ) (z : List ℕ) (s : Option (Fixed × ℕ)) → Spells b (slice_index (b ∷ z) 1) s → Found (b ∷ z) (signed s)
 found-signed b z None h = record { some = omega arith; within = omega arith; is = inl (refl, refl) }

@@ -29,6 +29,8 @@ abbrev pub sign : ℕ → ℕ → Option (Fixed × ℕ)
 sign b next =
     if b == 40 then Some (f.Open, 1)
     else if b == 41 then Some (f.Close, 1)
+    else if b == 123 then Some (f.OpenBrace, 1)
+    else if b == 125 then Some (f.CloseBrace, 1)
     else if b == 44 then Some (f.Comma, 1)
     else if b == 59 then Some (f.Semicolon, 1)
     else if b == 58 then Some (f.Colon, 1)

@@ -93,6 +93,8 @@ fn sign(byte: u8, next: u8) -> Option<(Fixed, usize)>
     match byte {
         b'(' => Some((Fixed::Open, 1)),
         b')' => Some((Fixed::Close, 1)),
+        b'{' => Some((Fixed::OpenBrace, 1)),
+        b'}' => Some((Fixed::CloseBrace, 1)),
         b',' => Some((Fixed::Comma, 1)),
         b';' => Some((Fixed::Semicolon, 1)),
         b':' => Some((Fixed::Colon, 1)),

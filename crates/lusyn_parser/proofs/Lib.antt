@@ -4,3 +4,4 @@ pub mod Whole
 pub mod Placing
 pub mod PlacingPieces
 pub mod PlacingNodes
+pub mod PlacingTypes

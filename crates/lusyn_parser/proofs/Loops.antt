@@ -1,17 +1,27 @@
 -- A loop that takes piece after piece, against the pieces that reading takes.
-use Rattle.std.proofs.Common.{◌≡◌, ◌<◌, ◌+◌, ◌-◌, ◌++◌, ℕ, zero, suc, Bool, true, false, List, length, [], ◌∷◌, Result, Ok, Err, refl, ap, sym, ◌∙◌, arith, cond, subst}
+use Rattle.std.proofs.Common.{◌≡◌, ◌<◌, ◌+◌, ◌-◌, ◌++◌, ℕ, zero, suc, Bool, true, false, List, length, map, append-nil, [], ◌∷◌, Result, Ok, Err, refl, ap, sym, ◌∙◌, arith, cond, subst}
 use Rattle.std.specs.Result.{is_ok}
 use Rattle.lusyn_parser.specs.declared.error.Stop.{Stop}
 use Rattle.lusyn_parser.specs.declared.error.Stop.TheVariants as stops_by
 use Rattle.std.proofs.lemmas.List.{map-append}
+use Rattle.std.specs.Prelude.{Vec}
+use Rattle.std.specs.Global.{Global}
 use Rattle.lutree.specs.declared.expr.Expr.{Expr}
-use Rattle.lutree.specs.Tree.{Tree, DeclarationTree, NodeTree, view, views}
+use Rattle.lutree.specs.declared.expr.Expr.TheVariants as variant
+use Rattle.lutree.specs.declared.expr.Expr.TheOpen.{Expr-F}
+use Rattle.lutree.specs.declared.expr.Expr.TheFolds.{fold-roll-Expr}
+use Rattle.lutree.specs.declared.expr.Pattern.{Pattern}
+use Rattle.lutree.specs.declared.expr.Pattern.TheVariants as patterns
+use Rattle.lutree.specs.Tree.{Tree, DeclarationTree, NodeTree, view, views, trees_of, view_step}
+use Rattle.lutree.specs.Tree as t
 use Rattle.lusyn_tokens.specs.declared.token.Fixed.{Fixed}
 use Rattle.lusyn_tokens.specs.declared.token.Fixed.TheVariants as f
 use Rattle.lusyn_tokens.specs.declared.token.Lexeme.{Lexeme}
 use Rattle.lusyn_tokens.specs.Tokens.{Tok}
-use Rattle.lusyn_parser.specs.Gives.{ahead, Fails, Gives}
-use Rattle.lusyn_grammar.specs.Reading.{Read, ◌>>=◌, many, after, begins, begins_name, further_operand, declaration, further_declaration, declarations, ended_declaration, locals_by, locals, further_node, program}
+use Rattle.lusyn_parser.specs.declared.pieces.Branch.{Branch}
+use Rattle.lusyn_parser.specs.Gives.{ahead, Fails, Gives, branch_view, branches_view}
+use Rattle.lusyn_grammar.specs.Grammar.{bare_label}
+use Rattle.lusyn_grammar.specs.Reading.{merged, Read, ◌>>=◌, many, after, begins, begins_name, further_operand, inside, labelled, further_branch, name, declaration, further_declaration, declarations, ended_declaration, locals_by, locals, further_node, nodes}
 
 pub many-goes : {A : Type 0} (test : List Tok → Bool) (piece : List A → List Tok → Read (List A)) (n : ℕ) (found : List A) (ts : List Tok)
     → test ts ≡ true → many test piece (suc n) found ts ≡ (piece found ts >>= λ x. many test piece n x.0 x.1)
@@ -142,6 +152,70 @@ pub operands-fail : (read : ℕ → List Tok → Read Tree) (turns less : ℕ) (
 operands-fail read turns less found ts mid ls stops_by.OutOfMemory more passed h = tt
 operands-fail read turns less found ts mid ls (stops_by.Refused q) more passed h = operands-refused read turns less found ts mid (ahead ls q) more passed h
 
+abbrev last_branch : List (List ℕ × Tree) → List ℕ → Read Tree → Read (List (List ℕ × Tree))
+last_branch before v r = r >>= λ e. Ok (before ++ (v, e.0) ∷ [], e.1)
+
+abbrev branches_behind : List (List ℕ × Tree) → Read (List (List ℕ × Tree)) → Read (List (List ℕ × Tree))
+branches_behind found r = r >>= λ y. Ok (found ++ y.0, y.1)
+
+-- a branch is read alike behind whatever was found
+labelled-behind : (read : ℕ → List Tok → Read Tree) (found : List (List ℕ × Tree)) (ts : List Tok) → labelled read found ts ≡ (labelled read [] ts >>= λ y. Ok (found ++ y.0, y.1))
+unfolding labelled
+labelled-behind read found ts = by_name (name ts)
+  where
+    by_inside : (v : List ℕ) (r : Read Tree) → last_branch found v r ≡ branches_behind found (last_branch [] v r)
+    by_inside v (Err us) = refl
+    by_inside v (Ok e) = refl
+
+    by_arrow : (v : List ℕ) (r : Result (List Tok) (List Tok)) → (r >>= λ a. last_branch found v (inside read a)) ≡ branches_behind found (r >>= λ a. last_branch [] v (inside read a))
+    by_arrow v (Err us) = refl
+    by_arrow v (Ok a) = by_inside v (inside read a)
+
+    by_name : (r : Read (List ℕ)) → (r >>= λ x. after f.Arrow x.1 >>= λ a. last_branch found x.0 (inside read a)) ≡ branches_behind found (r >>= λ x. after f.Arrow x.1 >>= λ a. last_branch [] x.0 (inside read a))
+    by_name (Err us) = refl
+    by_name (Ok x) = by_arrow x.0 (after f.Arrow x.1)
+
+one-branch : (read : ℕ → List Tok → Read Tree) (found : List (List ℕ × Tree)) (b : List ℕ × Tree) (ts mid rest : List Tok) → after f.Open ts ≡ Ok mid → labelled read [] mid ≡ Ok (b ∷ [], rest)
+    → further_branch read found ts ≡ Ok (found ++ b ∷ [], rest)
+one-branch read found b ts mid rest passed e =
+    ap (λ (r : Result (List Tok) (List Tok)). r >>= labelled read found) passed
+    ∙ labelled-behind read found mid
+    ∙ ap (λ (r : Read (List (List ℕ × Tree))). r >>= λ y. Ok (found ++ y.0, y.1)) e
+
+pub branches-more : (found all : List Branch) (b : Branch) → all ≡ found ++ b ∷ [] → branches_view all ≡ branches_view found ++ branch_view b ∷ []
+branches-more found all b is = ap branches_view is ∙ map-append branch_view found (b ∷ [])
+
+-- one branch more was read after a parenthesis
+pub branches-continue : (read : ℕ → List Tok → Read Tree) (turns less : ℕ) (found new : List (List ℕ × Tree)) (b : List ℕ × Tree) (ts mid rest : List Tok) → turns ≡ suc less
+    → after f.Open ts ≡ Ok mid → labelled read [] mid ≡ Ok (b ∷ [], rest) → new ≡ found ++ b ∷ []
+    → many (begins f.Open) (further_branch read) turns found ts ≡ many (begins f.Open) (further_branch read) less new rest
+branches-continue read turns less found new b ts mid rest more passed e is =
+    let next : List (List ℕ × Tree) × List Tok → Read (List (List ℕ × Tree)) = λ y. many (begins f.Open) (further_branch read) less y.0 y.1 in
+    ap (λ (n : ℕ). many (begins f.Open) (further_branch read) n found ts) more
+    ∙ many-goes (begins f.Open) (further_branch read) less found ts (ap (λ (r : Result (List Tok) (List Tok)). is_ok r) passed)
+    ∙ ap (λ (r : Read (List (List ℕ × Tree))). r >>= next) (one-branch read found b ts mid rest passed e)
+    ∙ ap (λ (l : List (List ℕ × Tree)). many (begins f.Open) (further_branch read) less l rest) (sym is)
+
+pub branches-stop : (read : ℕ → List Tok → Read Tree) (turns less : ℕ) (found : List (List ℕ × Tree)) (ts us : List Tok) → turns ≡ suc less → after f.Open ts ≡ Err us
+    → many (begins f.Open) (further_branch read) turns found ts ≡ Ok (found, ts)
+branches-stop read turns less found ts us more passed =
+    ap (λ (n : ℕ). many (begins f.Open) (further_branch read) n found ts) more
+    ∙ many-stops (begins f.Open) (further_branch read) less found ts (ap (λ (r : Result (List Tok) (List Tok)). is_ok r) passed)
+
+branches-refused : (read : ℕ → List Tok → Read Tree) (turns less : ℕ) (found : List (List ℕ × Tree)) (ts mid us : List Tok) → turns ≡ suc less → after f.Open ts ≡ Ok mid → labelled read [] mid ≡ Err us
+    → many (begins f.Open) (further_branch read) turns found ts ≡ Err us
+branches-refused read turns less found ts mid us more passed e =
+    let next : List (List ℕ × Tree) × List Tok → Read (List (List ℕ × Tree)) = λ y. many (begins f.Open) (further_branch read) less y.0 y.1 in
+    ap (λ (n : ℕ). many (begins f.Open) (further_branch read) n found ts) more
+    ∙ many-goes (begins f.Open) (further_branch read) less found ts (ap (λ (r : Result (List Tok) (List Tok)). is_ok r) passed)
+    ∙ ap (λ (r : Read (List (List ℕ × Tree))). r >>= next)
+    (ap (λ (r : Result (List Tok) (List Tok)). r >>= labelled read found) passed ∙ labelled-behind read found mid ∙ ap (λ (r : Read (List (List ℕ × Tree))). r >>= λ y. Ok (found ++ y.0, y.1)) e)
+
+pub branches-fail : (read : ℕ → List Tok → Read Tree) (turns less : ℕ) (found : List (List ℕ × Tree)) (ts mid : List Tok) (ls : List Lexeme) (error : Stop) → turns ≡ suc less → after f.Open ts ≡ Ok mid
+    → Fails ls error (labelled read [] mid) → Fails ls error (many (begins f.Open) (further_branch read) turns found ts)
+branches-fail read turns less found ts mid ls stops_by.OutOfMemory more passed h = tt
+branches-fail read turns less found ts mid ls (stops_by.Refused q) more passed h = branches-refused read turns less found ts mid (ahead ls q) more passed h
+
 pub declarations-continues : (n : ℕ) (new : List DeclarationTree) (ts rest : List Tok) → declaration n [] ts ≡ Ok (new, rest)
     → declarations n ts ≡ many (begins f.Semicolon) (further_declaration n) n new rest
 unfolding declarations
@@ -153,7 +227,27 @@ unfolding locals
 locals-continues n new ts mid rest passed e =
     ap (locals_by n ts) passed ∙ ap (λ (r : Read (List DeclarationTree)). r >>= λ x. many begins_name (ended_declaration n) n x.0 x.1) e
 
-pub program-continues : (n : ℕ) (new : List NodeTree) (ts rest : List Tok) → further_node n [] ts ≡ Ok (new, rest)
-    → program n ts ≡ many (begins f.Node) (further_node n) n new rest
-unfolding program
-program-continues n new ts rest e = ap (λ (r : Read (List NodeTree)). r >>= λ x. many (begins f.Node) (further_node n) n x.0 x.1) e
+pub nodes-continues : (n : ℕ) (new : List NodeTree) (ts rest : List Tok) → further_node n [] ts ≡ Ok (new, rest)
+    → nodes n ts ≡ many (begins f.Node) (further_node n) n new rest
+unfolding nodes
+nodes-continues n new ts rest e = ap (λ (r : Read (List NodeTree)). r >>= λ x. many (begins f.Node) (further_node n) n x.0 x.1) e
+
+map_of_map : {A B C : Type 0} (g : B → C) (f : A → B) (xs : List A) → map g (map f xs) ≡ map (λ x. g (f x)) xs
+map_of_map g f [] = refl
+map_of_map g f (x ∷ xs) = ap (λ (ys : List _). g (f x) ∷ ys) (map_of_map g f xs)
+
+abbrev read_as : Tree → Result Tree (List Tok)
+read_as e = Ok e
+
+-- the merge of all branches
+pub merged-all : (v : List ℕ) (found rest : List Branch) (ps : List Pattern) (es : Vec Expr Global)
+    → ps ++ map (λ (b : Branch). patterns.Label (bare_label b.label)) rest ≡ map (λ (b : Branch). patterns.Label (bare_label b.label)) found
+    → views es.items ++ map (λ (b : Branch). view b.value) rest ≡ map (λ (b : Branch). view b.value) found
+    → length rest ≡ 0 → read_as (merged v (branches_view found)) ≡ read_as (view (variant.Merge v ps es))
+merged-all v found [] ps es labels values none =
+    let all : ps ≡ map (λ (b : Branch). patterns.Label (bare_label b.label)) found = sym (append-nil ps) ∙ labels in
+    let trees : views es.items ≡ map (λ (b : Branch). view b.value) found = sym (append-nil (views es.items)) ∙ values in
+    ap (λ (qs : List Pattern). read_as (t.merge v qs (trees_of (map (λ b. b.1) (branches_view found))))) (map_of_map (λ (b : List ℕ × Tree). patterns.Label (bare_label b.0)) branch_view found ∙ sym all)
+    ∙ ap (λ (values : List Tree). read_as (t.merge v ps (trees_of values))) (map_of_map (λ (b : List ℕ × Tree). b.1) branch_view found ∙ sym trees)
+    ∙ ap read_as (sym (ap view (sym (variant.rolls-Merge v ps es)) ∙ fold-roll-Expr Tree view_step (Expr-F.Merge v ps es)))
+merged-all v found (b ∷ rest) ps es labels values none = absurd (omega (arith, none))

@@ -7,7 +7,7 @@ use Rattle.lusyn_tokens.specs.declared.token.Fixed.TheVariants as f
 use Rattle.lusyn_tokens.specs.declared.token.Lexeme.{Lexeme}
 use Rattle.lusyn_tokens.specs.Tokens.{Tok, tok, toks, located}
 use Rattle.lusyn_grammar.specs.Grammar.{Each}
-use Rattle.lusyn_grammar.specs.Places.{Placed, is, first, behind, begun, node_places_in, places_in}
+use Rattle.lusyn_grammar.specs.Places.{Placed, is, first, behind, begun, node_places_in, nodes_in, type_places_in, types_in}
 use Rattle.lusyn_grammar.proofs.Plain.{IsPlain, IsInner, no_edge, inner_plain, inner_semicolon, Own}
 use Rattle.lusyn_parser.specs.Gives.{ahead}
 use Rattle.lusyn_parser.specs.Places.{from}
@@ -77,13 +77,14 @@ module _ {X : Type 0} (P : Tok → Type 0) (F : List Placed → X) (step : (x : 
 pub record Passes (xs ys : List Placed) : Type 0 where
   pub locals : behind f.Var xs ≡ behind f.Var ys
   pub equations : behind f.Let xs ≡ behind f.Let ys
-  pub nodes : places_in xs ≡ places_in ys
+  pub nodes : nodes_in xs ≡ nodes_in ys
+  pub types : types_in xs ≡ types_in ys
 
 pub passes_along : (xs ys zs : List Placed) → Passes xs ys → Passes ys zs → Passes xs zs
-passes_along xs ys zs h k = record { locals = h.locals ∙ k.locals; equations = h.equations ∙ k.equations; nodes = h.nodes ∙ k.nodes }
+passes_along xs ys zs h k = record { locals = h.locals ∙ k.locals; equations = h.equations ∙ k.equations; nodes = h.nodes ∙ k.nodes; types = h.types ∙ k.types }
 
 pub passes_same : (xs ys : List Placed) → xs ≡ ys → Passes xs ys
-passes_same xs ys e = record { locals = ap (behind f.Var) e; equations = ap (behind f.Let) e; nodes = ap places_in e }
+passes_same xs ys e = record { locals = ap (behind f.Var) e; equations = ap (behind f.Let) e; nodes = ap nodes_in e; types = ap types_in e }
 
 past_two : {X : Type 0} (a b : Bool) (x y z : X) → a ≡ false → b ≡ false → cond a x (cond b y z) ≡ z
 past_two a b x y z ea eb = ap (λ (v : Bool). cond v x (cond b y z)) ea ∙ ap (λ (v : Bool). cond v y z) eb
@@ -95,9 +96,13 @@ pub behind_plain : (g : Fixed) (x : Placed) (xs : List Placed) → is g x.1 ≡ 
 unfolding behind
 behind_plain g x xs one other = past_two (is g x.1) (is f.Let x.1) xs [] (behind g xs) one other
 
-pub nodes_plain : (x : Placed) (xs : List Placed) → is f.Node x.1 ≡ false → places_in (x ∷ xs) ≡ places_in xs
-unfolding places_in
-nodes_plain x xs e = past_one (is f.Node x.1) (node_places_in xs ∷ places_in xs) (places_in xs) e
+pub nodes_plain : (x : Placed) (xs : List Placed) → is f.Node x.1 ≡ false → nodes_in (x ∷ xs) ≡ nodes_in xs
+unfolding nodes_in
+nodes_plain x xs e = past_one (is f.Node x.1) (node_places_in xs ∷ nodes_in xs) (nodes_in xs) e
+
+pub types_plain : (x : Placed) (xs : List Placed) → is f.Type x.1 ≡ false → types_in (x ∷ xs) ≡ types_in xs
+unfolding types_in
+types_plain x xs e = past_one (is f.Type x.1) (type_places_in xs ∷ types_in xs) (types_in xs) e
 
 pub returns_plain : (x : Placed) (xs : List Placed) → IsPlain x.1 → behind f.Returns (x ∷ xs) ≡ behind f.Returns xs
 returns_plain x xs h = let e = no_edge x.1 h in behind_plain f.Returns x xs e.returns e.begins
@@ -105,13 +110,14 @@ returns_plain x xs h = let e = no_edge x.1 h in behind_plain f.Returns x xs e.re
 pub passes_plain : (x : Placed) (xs : List Placed) → IsPlain x.1 → Passes (x ∷ xs) xs
 passes_plain x xs h =
     let e = no_edge x.1 h in
-    record { locals = behind_plain f.Var x xs e.locals e.begins; equations = behind_plain f.Let x xs e.begins e.begins; nodes = nodes_plain x xs e.node }
+    record { locals = behind_plain f.Var x xs e.locals e.begins; equations = behind_plain f.Let x xs e.begins e.begins; nodes = nodes_plain x xs e.node; types = types_plain x xs e.types }
 
 pub passes_over : (d : List Tok → List Tok) (ls : List Lexeme) (at next : ℕ) → Own IsPlain d → d (ahead ls next) ≡ ahead ls at → Passes (from ls at) (from ls next)
 passes_over d ls at next o e = record {
   locals = passed_over IsPlain (behind f.Var) (λ x xs h. (passes_plain x xs h).locals) d ls at next o e;
   equations = passed_over IsPlain (behind f.Let) (λ x xs h. (passes_plain x xs h).equations) d ls at next o e;
-  nodes = passed_over IsPlain places_in (λ x xs h. (passes_plain x xs h).nodes) d ls at next o e;
+  nodes = passed_over IsPlain nodes_in (λ x xs h. (passes_plain x xs h).nodes) d ls at next o e;
+  types = passed_over IsPlain types_in (λ x xs h. (passes_plain x xs h).types) d ls at next o e;
 }
 
 pub returns_over : (d : List Tok → List Tok) (ls : List Lexeme) (at next : ℕ) → Own IsPlain d → d (ahead ls next) ≡ ahead ls at → behind f.Returns (from ls at) ≡ behind f.Returns (from ls next)

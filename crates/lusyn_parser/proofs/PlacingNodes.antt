@@ -5,7 +5,7 @@ use Rattle.std.proofs.lemmas.List.{append-nil}
 use Rattle.lutree.specs.declared.program.Declaration.{Declaration}
 use Rattle.lutree.specs.declared.program.Equation.{Equation}
 use Rattle.lutree.specs.declared.program.Node.{Node}
-use Rattle.lutree.specs.Places.{NodePlaces, declaration_places, equation_places, node_places}
+use Rattle.lutree.specs.Places.{TypePlaces, NodePlaces, ProgramPlaces, declaration_places, equation_places, node_places}
 use Rattle.lutree.specs.Tree.{DeclarationTree, EquationTree}
 use Rattle.lusyn_tokens.specs.declared.token.Fixed.{Fixed}
 use Rattle.lusyn_tokens.specs.declared.token.Fixed.TheVariants as f
@@ -14,7 +14,7 @@ use Rattle.lusyn_tokens.specs.Tokens.{Tok, identifier, fixed, toks, located}
 use Rattle.lusyn_grammar.specs.Grammar.{WrittenDeclaration, optional}
 use Rattle.lusyn_grammar.specs.Grammar as w
 use Rattle.lusyn_grammar.specs.Reading.{after, begins, name, past, inputs, declarations, locals, equations, body}
-use Rattle.lusyn_grammar.specs.Places.{Placed, first, behind, declared, begun, node_places_in, places_in}
+use Rattle.lusyn_grammar.specs.Places.{Placed, first, behind, declared, begun, node_places_in, nodes_in, types_in, places_in}
 use Rattle.lusyn_grammar.proofs.Pieces.{bind_ok, after-is, past-is}
 use Rattle.lusyn_grammar.proofs.SoundDeclarations.{inputs_sound, declarations_sound, locals_sound}
 use Rattle.lusyn_grammar.proofs.SoundPrograms.{equations_sound}
@@ -22,13 +22,13 @@ use Rattle.lusyn_grammar.proofs.Plain.{IsPlain, Own, here, token, declarations_p
 use Rattle.lusyn_parser.specs.declared.pieces.Heading.{Heading}
 use Rattle.lusyn_parser.specs.Gives.{ahead}
 use Rattle.lusyn_parser.specs.Refused.{place}
-use Rattle.lusyn_parser.specs.Places.{from, Declares, Defines, Grows, HeadingPlaces, LocalsPlaces, BodyPlaces}
-use Rattle.lusyn_parser.proofs.Placing.{stands, same_from, Passes, passes_along, passes_same, passes_plain, passes_over, returns_plain, returns_over, behind_plain, nodes_plain}
+use Rattle.lusyn_parser.specs.Places.{from, Declares, Defines, Grows, TypesGrow, HeadingPlaces, LocalsPlaces, BodyPlaces}
+use Rattle.lusyn_parser.proofs.Placing.{stands, same_from, Passes, passes_along, passes_same, passes_plain, passes_over, returns_plain, returns_over, behind_plain, nodes_plain, types_plain}
 use Rattle.lusyn_parser.proofs.PlacingPieces.{at_sign, at_name, name_first, sign_names}
 
 -- ONE TOKEN
 
-passes_token : (t : Tok) (ls : List Lexeme) (at next : ℕ) → IsPlain t → from ls at ≡ (first (from ls at), t) ∷ from ls next → Passes (from ls at) (from ls next)
+pub passes_token : (t : Tok) (ls : List Lexeme) (at next : ℕ) → IsPlain t → from ls at ≡ (first (from ls at), t) ∷ from ls next → Passes (from ls at) (from ls next)
 passes_token t ls at next h e = passes_along (from ls at) ((first (from ls at), t) ∷ from ls next) (from ls next) (passes_same _ _ e) (passes_plain (first (from ls at), t) (from ls next) h)
 
 returns_token : (t : Tok) (ls : List Lexeme) (at next : ℕ) → IsPlain t → from ls at ≡ (first (from ls at), t) ∷ from ls next → behind f.Returns (from ls at) ≡ behind f.Returns (from ls next)
@@ -39,11 +39,16 @@ passes_returns p xs = record {
   locals = behind_plain f.Var (p, fixed f.Returns) xs refl refl;
   equations = behind_plain f.Let (p, fixed f.Returns) xs refl refl;
   nodes = nodes_plain (p, fixed f.Returns) xs refl;
+  types = types_plain (p, fixed f.Returns) xs refl;
 }
 
 behind_returns : (p : ℕ) (xs : List Placed) → behind f.Returns ((p, fixed f.Returns) ∷ xs) ≡ xs
 unfolding behind
 behind_returns p xs = refl
+
+behind_first_open : (p : ℕ) (xs : List Placed) → behind f.Open ((p, fixed f.Open) ∷ xs) ≡ xs
+unfolding behind
+behind_first_open p xs = refl
 
 behind_open : (p q : ℕ) (x : List ℕ) (xs : List Placed) → behind f.Open ((p, identifier x) ∷ (q, fixed f.Open) ∷ xs) ≡ xs
 unfolding behind
@@ -81,8 +86,8 @@ ends_at_tel : (p : ℕ) (xs : List Placed) → begun true ((p, fixed f.Tel) ∷ 
 unfolding begun
 ends_at_tel p xs = refl
 
-one_node : (p : ℕ) (xs : List Placed) → places_in ((p, fixed f.Node) ∷ xs) ≡ node_places_in xs ∷ places_in xs
-unfolding places_in
+one_node : (p : ℕ) (xs : List Placed) → nodes_in ((p, fixed f.Node) ∷ xs) ≡ node_places_in xs ∷ nodes_in xs
+unfolding nodes_in
 one_node p xs = refl
 
 -- A SEMICOLON THAT MAY BE LEFT OUT
@@ -157,6 +162,9 @@ module _ (ls : List Lexeme) (at a b c d e g h i j next n end : ℕ) (x : List �
       ∙ ap (behind f.Returns) (at_sign f.Returns ls e g returns)
       ∙ behind_returns (first (from ls e)) (from ls g)
 
+  outputs_open : behind f.Open (from ls g) ≡ from ls h
+  outputs_open = ap (behind f.Open) (at_sign f.Open ls g h opened_again) ∙ behind_first_open (first (from ls g)) (from ls h)
+
   outputs_go : declared false (from ls i) ≡ declared false (from ls next)
   outputs_go = sign_names f.Close ls i j refl refl closed_again ∙ optional_names ls j next ended
 
@@ -172,16 +180,17 @@ module _ (ls : List Lexeme) (at a b c d e g h i j next n end : ℕ) (x : List �
     outputs =
         ap (λ (us : List ℕ). declaration_places found.outputs.items ++ us) (sym outputs_go)
         ∙ outputs_at.same
-        ∙ sym (sign_names f.Open ls g h refl refl opened_again)
-        ∙ ap (declared false) (sym outputs_begin)
-        ∙ ap (λ (xs : List Placed). declared false (behind f.Returns xs)) (sym same_start);
+        ∙ ap (declared false) (sym outputs_open)
+        ∙ ap (λ (xs : List Placed). declared false (behind f.Open xs)) (sym outputs_begin)
+        ∙ ap (λ (xs : List Placed). declared false (behind f.Open (behind f.Returns xs))) (sym same_start);
     locals = ap (behind f.Var) same_start ∙ passes_heading.locals;
     equations = ap (behind f.Let) same_start ∙ passes_heading.equations;
     nodes =
-        ap places_in (at_sign f.Node ls at a begins_node)
+        ap nodes_in (at_sign f.Node ls at a begins_node)
         ∙ one_node (first (from ls at)) (from ls a)
-        ∙ ap (λ (xs : List Placed). node_places_in xs ∷ places_in (from ls a)) (sym same_start)
+        ∙ ap (λ (xs : List Placed). node_places_in xs ∷ nodes_in (from ls a)) (sym same_start)
         ∙ ap (λ (us : List NodePlaces). node_places_in (from ls (at + 1)) ∷ us) passes_heading.nodes;
+    types = ap types_in (at_sign f.Node ls at a begins_node) ∙ types_plain (first (from ls at), fixed f.Node) (from ls a) refl ∙ passes_heading.types;
   }
 
 -- LOCALS
@@ -204,6 +213,7 @@ locals_left_out ls at found none h =
       locals = ap declaration_places none ∙ sym (ap (λ (ys : List Placed). declared false (behind f.Var ys)) e ∙ ap (declared false) (no_locals (first (from ls at)) xs) ∙ none_declared);
       equations = refl;
       nodes = refl;
+      types = refl;
     }
 
 module _ (ls : List Lexeme) (at a next n : ℕ) (trees : List DeclarationTree) (found : List Declaration) (begins_var : after f.Var (ahead ls at) ≡ Ok (ahead ls a))
@@ -214,13 +224,14 @@ module _ (ls : List Lexeme) (at a next n : ℕ) (trees : List DeclarationTree) (
   rest_of : (ts us : List Tok) → fixed f.Var ∷ ts ≡ fixed f.Var ∷ us → ts ≡ us
   rest_of ts us e = cc
 
-  over : (ds : List WrittenDeclaration) → w.locals ds (ahead ls next) ≡ ahead ls at → (behind f.Let (from ls at) ≡ behind f.Let (from ls next)) × (places_in (from ls at) ≡ places_in (from ls next))
-  over [] e = (ap (behind f.Let) (same_from ls at next (sym e)), ap places_in (same_from ls at next (sym e)))
+  over : (ds : List WrittenDeclaration) → w.locals ds (ahead ls next) ≡ ahead ls at → (behind f.Let (from ls at) ≡ behind f.Let (from ls next)) × (nodes_in (from ls at) ≡ nodes_in (from ls next)) × (types_in (from ls at) ≡ types_in (from ls next))
+  over [] e = (ap (behind f.Let) (same_from ls at next (sym e)), ap nodes_in (same_from ls at next (sym e)), ap types_in (same_from ls at next (sym e)))
   over (d ∷ ds) e =
       let parts : w.repeated (w.ended f.Semicolon w.declaration) (d ∷ ds) (ahead ls next) ≡ ahead ls a = rest_of _ _ (e ∙ sym (after-is f.Var (ahead ls at) (ahead ls a) begins_var)) in
       let p = passes_over (w.repeated (w.ended f.Semicolon w.declaration) (d ∷ ds)) ls a next (locals_plain (d ∷ ds)) parts in (
         ap (behind f.Let) here_var ∙ behind_plain f.Let (first (from ls at), fixed f.Var) (from ls a) refl refl ∙ p.equations,
-        ap places_in here_var ∙ nodes_plain (first (from ls at), fixed f.Var) (from ls a) refl ∙ p.nodes,
+        ap nodes_in here_var ∙ nodes_plain (first (from ls at), fixed f.Var) (from ls a) refl ∙ p.nodes,
+        ap types_in here_var ∙ types_plain (first (from ls at), fixed f.Var) (from ls a) refl ∙ p.types,
       )
 
   pub locals_places : begins f.Let (ahead ls next) ≡ true → LocalsPlaces ls at next found
@@ -237,6 +248,7 @@ module _ (ls : List Lexeme) (at a next n : ℕ) (trees : List DeclarationTree) (
             ∙ ap (declared false) (sym (ap (behind f.Var) here_var ∙ behind_var (first (from ls at)) (from ls a)));
         equations = passed.0;
         nodes = passed.1;
+        types = passed.2;
       }
 
 -- THE EQUATIONS
@@ -263,12 +275,19 @@ module _ (ls : List Lexeme) (at a b c next n : ℕ) (trees : List EquationTree) 
         ∙ there.same
         ∙ ap (begun true) (sym (ap (behind f.Let) here_let ∙ behind_let (first (from ls at)) (from ls a)));
     nodes =
-        ap places_in here_let
+        ap nodes_in here_let
         ∙ nodes_plain (first (from ls at), fixed f.Let) (from ls a) refl
         ∙ passes_equations.nodes
-        ∙ ap places_in here_tel
+        ∙ ap nodes_in here_tel
         ∙ nodes_plain (first (from ls b), fixed f.Tel) (from ls c) refl
         ∙ (optional_passes ls c next ended).nodes;
+    types =
+        ap types_in here_let
+        ∙ types_plain (first (from ls at), fixed f.Let) (from ls a) refl
+        ∙ passes_equations.types
+        ∙ ap types_in here_tel
+        ∙ types_plain (first (from ls b), fixed f.Tel) (from ls c) refl
+        ∙ (optional_passes ls c next ended).types;
   }
 
 pub body_begins : (n : ℕ) (ts : List Tok) (x : List EquationTree × List Tok) → body n ts ≡ Ok x → begins f.Let ts ≡ true
@@ -290,16 +309,20 @@ same_places a b c d e g h i j k p q r s t =
 
 pub node_at : (ls : List Lexeme) (at b c next : ℕ) (h : Heading) (declares : List Declaration) (defines : List Equation) (n : Node) → n.byte ≡ h.byte → n.inputs ≡ h.inputs.items → n.outputs ≡ h.outputs.items
     → n.locals ≡ declares → n.equations ≡ defines → HeadingPlaces ls at b h → LocalsPlaces ls b c declares → BodyPlaces ls c next defines
-    → node_places n ∷ places_in (from ls next) ≡ places_in (from ls at)
+    → node_places n ∷ nodes_in (from ls next) ≡ nodes_in (from ls at)
 node_at ls at b c next h declares defines n name_is inputs_are outputs_are locals_are equations_are heads middle ends =
     let here : node_places n ≡ node_places_in (from ls (at + 1)) =
     same_places _ _ _ _ _ _ _ _ _ _ (name_is ∙ heads.name) (ap declaration_places inputs_are ∙ heads.inputs)
     (ap declaration_places outputs_are ∙ sym (append-nil (declaration_places h.outputs.items)) ∙ ap (λ (us : List ℕ). declaration_places h.outputs.items ++ us) (sym middle.outputs) ∙ heads.outputs)
     (ap declaration_places locals_are ∙ middle.locals ∙ ap (declared false) (sym heads.locals))
     (ap equation_places equations_are ∙ ends.equations ∙ ap (begun true) (sym (heads.equations ∙ middle.equations))) in
-    ap (λ (q : NodePlaces). q ∷ places_in (from ls next)) here
+    ap (λ (q : NodePlaces). q ∷ nodes_in (from ls next)) here
     ∙ ap (λ (us : List NodePlaces). node_places_in (from ls (at + 1)) ∷ us) (sym (middle.nodes ∙ ends.nodes))
     ∙ sym heads.nodes
+
+pub node_types : (ls : List Lexeme) (at b c next : ℕ) (h : Heading) (declares : List Declaration) (defines : List Equation) → HeadingPlaces ls at b h → LocalsPlaces ls b c declares → BodyPlaces ls c next defines
+    → types_in (from ls at) ≡ types_in (from ls next)
+node_types ls at b c next h declares defines heads middle ends = heads.types ∙ middle.types ∙ ends.types
 
 -- ALL TOKENS
 
@@ -307,10 +330,22 @@ no_tokens : (ls : List Lexeme) → toks ls ≡ [] → located ls ≡ []
 no_tokens [] e = refl
 no_tokens (l ∷ ls) e = absurd cc
 
-no_nodes : places_in [] ≡ []
-unfolding places_in
+no_nodes : nodes_in [] ≡ []
+unfolding nodes_in
 no_nodes = refl
 
-pub all_places : (ls : List Lexeme) (next : ℕ) (found : List NodePlaces) → Grows ls 0 next [] found → ahead ls next ≡ [] → found ≡ places_in (located ls)
-all_places ls next found h e =
-    sym (append-nil found) ∙ ap (λ (us : List NodePlaces). found ++ us) (sym (ap places_in (no_tokens (drop next ls) e) ∙ no_nodes)) ∙ h.same
+no_types : types_in [] ≡ []
+unfolding types_in
+no_types = refl
+
+abbrev whole : List TypePlaces → List NodePlaces → ProgramPlaces
+whole ds ns = record { types = ds; nodes = ns }
+
+pub all_places : (ls : List Lexeme) (mid next : ℕ) (types : List TypePlaces) (nodes : List NodePlaces) → TypesGrow ls 0 mid [] types → Grows ls mid next [] nodes → ahead ls next ≡ []
+    → whole types nodes ≡ places_in (located ls)
+all_places ls mid next types nodes h k e =
+    let end : from ls next ≡ [] = no_tokens (drop next ls) e in
+    let type_end : types_in (from ls mid) ≡ [] = k.types ∙ ap types_in end ∙ no_types in
+    let node_end : nodes_in (from ls next) ≡ [] = ap nodes_in end ∙ no_nodes in
+    ap (λ (ds : List TypePlaces). whole ds nodes) (sym (append-nil types) ∙ ap (λ (us : List TypePlaces). types ++ us) (sym type_end) ∙ h.same)
+    ∙ ap (whole (types_in (located ls))) (sym (append-nil nodes) ∙ ap (λ (us : List NodePlaces). nodes ++ us) (sym node_end) ∙ k.same ∙ sym h.nodes)

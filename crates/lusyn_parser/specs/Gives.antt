@@ -1,12 +1,15 @@
 -- What the functions of the parser answer, against the reading of the grammar.
 use Rattle.std.specs.Prelude.{◌≡◌, ◌++◌, ◌∷◌, ℕ, true, false, List, [], map, drop, Option, Some, None, Result, Ok, Err}
-use Rattle.lutree.specs.Tree.{Tree, EquationTree, NodeTree, view, declarations_view, equation_view, node_view}
+use Rattle.lutree.specs.Tree.{Tree, TypeTree, EquationTree, NodeTree, view, type_view as enumeration_view, declarations_view, equation_view, node_view}
+use Rattle.lutree.specs.declared.program.DeclaredName.{DeclaredName}
+use Rattle.lutree.specs.declared.program.TypeDeclaration.{TypeDeclaration}
 use Rattle.lutree.specs.declared.program.Equation.{Equation}
 use Rattle.lutree.specs.declared.program.Node.{Node}
 use Rattle.lusyn_tokens.specs.declared.token.Lexeme.{Lexeme}
 use Rattle.lutree.specs.Tree as t
 use Rattle.lusyn_tokens.specs.declared.token.Fixed.TheVariants as f
 use Rattle.lusyn_tokens.specs.Tokens.{Tok, identifier, number, fixed, toks}
+use Rattle.lusyn_grammar.specs.Grammar as grammar
 use Rattle.lusyn_grammar.specs.Reading.{Read, ◌>>=◌}
 use Rattle.lusyn_grammar.specs.Reading as reading
 use Rattle.lusyn_parser.specs.declared.error.Stop.{Stop}
@@ -15,7 +18,9 @@ use Rattle.lusyn_parser.specs.declared.pieces.Next.{Next}
 use Rattle.lusyn_parser.specs.declared.pieces.Next.TheVariants as n
 use Rattle.lusyn_parser.specs.declared.pieces.Operand.{Operand}
 use Rattle.lusyn_parser.specs.declared.pieces.Heading.{Heading}
-use Rattle.lusyn_parser.specs.declared.pieces.PlacedName.{PlacedName}
+use Rattle.lusyn_parser.specs.declared.pieces.Branch.{Branch}
+use Rattle.lusyn_parser.specs.declared.pieces.WrittenType.{WrittenType}
+use Rattle.lusyn_parser.specs.declared.pieces.WrittenType.TheVariants as y
 
 -- the tokens from a place on
 abbrev pub ahead : List Lexeme → ℕ → List Tok
@@ -46,8 +51,24 @@ next_view n.Nothing = reading.nothing
 abbrev pub operand_view : List Lexeme → Operand → ℕ × Tree × List Tok
 operand_view ls x = (x.level, view x.found, ahead ls x.next)
 
-abbrev pub names_view : List PlacedName → List (List ℕ)
+abbrev pub names_view : List DeclaredName → List (List ℕ)
 names_view = map (λ x. x.name)
+
+-- a type, as it is written
+abbrev pub type_view : WrittenType → grammar.WrittenType
+type_view y.Int = grammar.int
+type_view y.Bool = grammar.bool
+type_view (y.Named x) = grammar.named x
+
+-- a branch of a merge with its name
+abbrev pub branch_view : Branch → List ℕ × Tree
+branch_view b = (b.label, view b.value)
+
+abbrev pub branches_view : List Branch → List (List ℕ × Tree)
+branches_view = map branch_view
+
+abbrev pub types_view : List TypeDeclaration → List TypeTree
+types_view = map enumeration_view
 
 -- a name, behind those found
 abbrev pub name_behind : List (List ℕ) → List Tok → Read (List (List ℕ))

@@ -4,7 +4,8 @@
 //! tells by a [`ParseError`] the first token with which no program goes on.
 //!
 //! - `pieces`: what is handed on while tokens are read.
-//! - `reader`: from tokens to expressions, declarations and equations.
+//! - `reader`: from tokens to expressions and equations.
+//! - `declarations`: from tokens to types and declarations.
 //! - `nodes`: from tokens to nodes and programs.
 //! - `error`: why tokens are refused.
 //!
@@ -12,6 +13,7 @@
 //! `specs/Places.antt` which places it answers, against those that the tokens tell, and `specs/Refused.antt` what a refusal tells.
 #![tactic(auto)]
 
+mod declarations;
 mod error;
 mod nodes;
 mod pieces;

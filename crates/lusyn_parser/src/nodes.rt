@@ -98,10 +98,10 @@ impl<'t> Reader<'t> {
     }
 
     /// `node { node }`
-    #[tactic(auto, unfolding(lusyn_grammar::specs::Reading::program))]
-    fn program(&self, at: usize) -> Result<(Vec<Node>, usize), Stop>
-        ensures program { Reads self.now.tokens.now at (λ a. nodes_view a.items) result
-            (reading.program (suc (length self.now.tokens.now))) }
+    #[tactic(auto, unfolding(lusyn_grammar::specs::Reading::nodes))]
+    fn nodes(&self, at: usize) -> Result<(Vec<Node>, usize), Stop>
+        ensures nodes { Reads self.now.tokens.now at (λ a. nodes_view a.items) result
+            (reading.nodes (suc (length self.now.tokens.now))) }
         ensures places { IfOk result (λ x. Grows self.now.tokens.now at x.1 []
             (map node_places x.0.items)) }
     {
@@ -114,15 +114,17 @@ impl<'t> Reader<'t> {
     }
 }
 
-#[tactic(auto, unfolding(lusyn_grammar::specs::Reading::all_of))]
+#[tactic(auto, unfolding(lusyn_grammar::specs::Reading::all_of, lusyn_grammar::specs::Reading::program))]
 fn all(alloc: Global, tokens: &[Lexeme<'_>], end: usize) -> Result<Program, Stop>
     ensures program { Gives tokens.now program_view result (reading.all_of (toks tokens.now)) }
     ensures places { IfOk result (λ found. places_view found ≡ places_in (located tokens.now)) }
 {
     let reader = Reader { alloc, tokens, end };
-    let (nodes, next) = reader.program(0)?;
+    let (types, next) = reader.types(0)?;
+    let (nodes, next) = reader.nodes(next)?;
     match reader.token(next) {
         None => Ok(Program {
+            types: Row::new(types),
             nodes: Row::new(nodes),
         }),
         Some(_) => Err(Stop::Refused(next)),

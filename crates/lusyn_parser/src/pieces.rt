@@ -2,14 +2,16 @@
 
 ghost use Rattle.std.specs.Prelude.{◌≡◌, IfOk, drop};
 ghost use Rattle.std.specs.Result.{IfErr};
-ghost use Rattle.lusyn_parser.specs.Gives.{names_view};
+ghost use Rattle.lusyn_grammar.specs.Grammar.{bare_label};
+ghost use Rattle.lusyn_grammar.specs.Grammar as grammar;
+ghost use Rattle.lusyn_parser.specs.Gives.{names_view, type_view};
 ghost use Rattle.lusyn_tokens.specs.Tokens.{located};
 ghost use Rattle.lusyn_parser.specs.Refused.{place};
 
 use crate::error::Stop;
 use lulist::{Name, Row};
 use lusyn_tokens::Lexeme;
-use lutree::{Condition, Declaration, Expr, Infix, Pattern};
+use lutree::{Condition, Declaration, DeclaredName, Expr, Infix, Kind, Label, Pattern};
 use std::alloc::Global;
 
 /// How an expression goes on after an operand.
@@ -29,11 +31,19 @@ pub(crate) struct Operand {
     pub(crate) next: usize,
 }
 
-/// A name, and the place of its first byte in the text.
+/// A type, as it is written.
 #[derive(Drop)]
-pub(crate) struct PlacedName {
-    pub(crate) name: Name,
-    pub(crate) byte: usize,
+pub(crate) enum WrittenType {
+    Int,
+    Bool,
+    Named(Name),
+}
+
+/// A branch of a merge, and the name that it begins with.
+#[derive(Drop)]
+pub(crate) struct Branch {
+    pub(crate) label: Name,
+    pub(crate) value: Expr,
 }
 
 /// What stands before a node's locals.
@@ -66,7 +76,7 @@ pub(crate) fn operand_of(level: u8, read: (Expr, usize)) -> Operand
 }
 
 /// The names without their places.
-pub(crate) fn plain(alloc: Global, names: &[PlacedName]) -> Result<Row<Name>, Stop>
+pub(crate) fn plain(alloc: Global, names: &[DeclaredName]) -> Result<Row<Name>, Stop>
     ensures ok { IfOk result (λ row. row ≡ names_view names.now) }
     ensures err { IfErr result (λ e. e ≡ Stop.OutOfMemory) }
 {
@@ -77,14 +87,39 @@ pub(crate) fn plain(alloc: Global, names: &[PlacedName]) -> Result<Row<Name>, St
     Ok(Row::new(found))
 }
 
-fn pattern_copied(pattern: &Pattern) -> Pattern
-    ensures { result ≡ pattern.now }
+/// A name of an enumeration, of which nothing is known but the name.
+pub(crate) fn bare_label(name: Name) -> Label
+    ensures { result ≡ bare_label name }
 {
-    match pattern {
-        Pattern::Truth(b) => Pattern::Truth(*b),
+    Label {
+        name,
+        kind: Kind::Enum(0, 0),
+        number: 0,
     }
 }
 
+fn label_copied(alloc: Global, label: &Label) -> Result<Label, Stop>
+    ensures ok { IfOk result (λ copy. copy ≡ label.now) }
+    ensures err { IfErr result (λ e. e ≡ Stop.OutOfMemory) }
+{
+    Ok(Label {
+        name: label.name.copied(alloc)?,
+        kind: label.kind,
+        number: label.number,
+    })
+}
+
+fn pattern_copied(alloc: Global, pattern: &Pattern) -> Result<Pattern, Stop>
+    ensures ok { IfOk result (λ copy. copy ≡ pattern.now) }
+    ensures err { IfErr result (λ e. e ≡ Stop.OutOfMemory) }
+{
+    match pattern {
+        Pattern::Truth(b) => Ok(Pattern::Truth(*b)),
+        Pattern::Label(label) => Ok(Pattern::Label(label_copied(alloc, label)?)),
+    }
+}
+
+/// The same clock once more.
 pub(crate) fn copied(alloc: Global, clock: &Option<Condition>) -> Result<Option<Condition>, Stop>
     ensures ok { IfOk result (λ copy. copy ≡ clock.now) }
     ensures err { IfErr result (λ e. e ≡ Stop.OutOfMemory) }
@@ -92,8 +127,30 @@ pub(crate) fn copied(alloc: Global, clock: &Option<Condition>) -> Result<Option<
     match clock {
         Some(condition) => Ok(Some(Condition {
             variable: condition.variable.copied(alloc)?,
-            pattern: pattern_copied(&condition.pattern),
+            pattern: pattern_copied(alloc, &condition.pattern)?,
         })),
         None => Ok(None),
+    }
+}
+
+/// The type that is written so; one with a name is an enumeration of which nothing is known but the name.
+pub(crate) fn kind_of(written: &WrittenType) -> Kind
+    ensures { result ≡ grammar.kind_of (type_view written.now) }
+{
+    match written {
+        WrittenType::Int => Kind::Int,
+        WrittenType::Bool => Kind::Bool,
+        WrittenType::Named(_) => Kind::Enum(0, 0),
+    }
+}
+
+/// The name that is written, where it is a name.
+pub(crate) fn type_name_of(alloc: Global, written: &WrittenType) -> Result<Option<Name>, Stop>
+    ensures ok { IfOk result (λ name. name ≡ grammar.type_name_of (type_view written.now)) }
+    ensures err { IfErr result (λ e. e ≡ Stop.OutOfMemory) }
+{
+    match written {
+        WrittenType::Named(name) => Ok(Some(name.copied(alloc)?)),
+        WrittenType::Int | WrittenType::Bool => Ok(None),
     }
 }

@@ -1,23 +1,22 @@
 //! From tokens to the tree, from left to right. A place here is an index into the tokens.
 
-ghost use Rattle.std.specs.Prelude.{◌≡◌, ◌≢◌, ◌+◌, ◌<◌, ◌++◌, ◌≤◌, ℕ, suc, true, Ok, [], ◌∷◌, length, map, MatchOption, IfOk};
-ghost use Rattle.std.specs.Result.{IfErr};
-ghost use Rattle.lutree.specs.Tree.{view, views, declarations_view, equation_view};
+ghost use Rattle.std.specs.Prelude.{◌≡◌, ◌≢◌, ◌+◌, ◌<◌, ◌≤◌, ℕ, suc, false, true, Ok, [], ◌∷◌, length, MatchOption, IfOk};
+ghost use Rattle.lutree.specs.Tree.{view, views, equation_view};
 ghost use Rattle.lutree.specs.Tree as t;
-ghost use Rattle.lutree.specs.Places.{declaration_places, equation_places};
+ghost use Rattle.lutree.specs.Places.{equation_places};
 ghost use Rattle.lusyn_tokens.specs.Tokens.{tok};
-ghost use Rattle.lusyn_grammar.specs.Grammar.{declared};
+ghost use Rattle.lusyn_grammar.specs.Grammar.{truths};
 ghost use Rattle.lusyn_grammar.specs.Reading as reading;
 ghost use Rattle.lusyn_grammar.specs.Places.{first};
-ghost use Rattle.lusyn_parser.specs.Places.{from, name_places, Declares, Defines, LocalsPlaces};
+ghost use Rattle.lusyn_parser.specs.Places.{from, Defines};
 ghost use Rattle.lusyn_parser.specs.Refused.{place};
-ghost use Rattle.lusyn_parser.specs.Gives.{Gives, GivesPlace, EndsOperand, atom, ahead, next_view, operand_view, name_behind, names_view, equations_view, Reads, ReadsInto};
+ghost use Rattle.lusyn_parser.specs.Gives.{Gives, GivesPlace, EndsOperand, atom, ahead, next_view, operand_view, names_view, branch_view, branches_view, equations_view, Reads, ReadsInto};
 
 use crate::error::Stop;
-use crate::pieces::{Next, Operand, PlacedName, byte_of, copied, operand_of, plain};
+use crate::pieces::{Branch, Next, Operand, bare_label, byte_of, operand_of, plain};
 use lulist::{Name, Number, Row};
 use lusyn_tokens::{Fixed, Lexeme, Token, binding_of, infix_of, prefix_of};
-use lutree::{Condition, Declaration, Equation, Expr, Infix, Kind, Pattern, Prefix};
+use lutree::{Condition, DeclaredName, Equation, Expr, Infix, Pattern, Prefix};
 use std::alloc::Global;
 
 #[derive(Clone, Copy)]
@@ -56,7 +55,7 @@ impl<'t> Reader<'t> {
     }
 
     /// The place after this token, if it stands here.
-    fn passed(&self, wanted: Fixed, at: usize) -> Option<usize>
+    pub(crate) fn passed(&self, wanted: Fixed, at: usize) -> Option<usize>
         ensures after { GivesPlace self.now.tokens.now at result
             (reading.after wanted (ahead self.now.tokens.now at)) }
         ensures within { MatchOption result (Unit {0}) (λ next. (next ≡ at + 1)
@@ -99,7 +98,7 @@ impl<'t> Reader<'t> {
         }
     }
 
-    fn begins_name(&self, at: usize) -> bool
+    pub(crate) fn begins_name(&self, at: usize) -> bool
         ensures begins { result ≡ reading.begins_name (ahead self.now.tokens.now at) }
         ensures within { result ≡ true → at < length self.now.tokens.now }
     {
@@ -116,25 +115,58 @@ impl<'t> Reader<'t> {
         }
     }
 
-    /// The clock of this sign on the variable that is named here.
-    fn signed(&self, sign: bool, at: usize) -> Result<(Condition, usize), Stop>
-        ensures condition { Gives self.now.tokens.now (λ x. (x.0, ahead self.now.tokens.now x.1))
-            result (reading.signed sign (reading.name (ahead self.now.tokens.now at))) }
+    /// The variable of a clock with this label, after the parenthesis that opens it, up to the one that closes it.
+    fn labelled_clock(&self, label: Name, at: usize) -> Result<(Condition, usize), Stop>
+        ensures condition { Reads self.now.tokens.now at (λ a. a) result
+            (reading.labelled_clock label) }
         ensures within { IfOk result (λ x. at < x.1) }
     {
         let (variable, next) = self.name(at)?;
-        let pattern = Pattern::Truth(sign);
+        let next = self.after(Fixed::Close, next)?;
+        let pattern = Pattern::Label(bare_label(label));
         Ok((Condition { variable, pattern }, next))
     }
 
-    /// `[ "not" ] ident`
-    fn condition(&self, at: usize) -> Result<(Condition, usize), Stop>
+    /// After a name: it is the variable, unless a parenthesis follows it.
+    fn clock_from(&self, name: Name, at: usize) -> Result<(Condition, usize), Stop>
+        ensures condition { Reads self.now.tokens.now at (λ a. a) result
+            (reading.clock_from name) }
+        ensures within { IfOk result (λ x. at ≤ x.1) }
+    {
+        match self.passed(Fixed::Open, at) {
+            Some(next) => self.labelled_clock(name, next),
+            None => {
+                let pattern = Pattern::Truth(true);
+                let condition = Condition {
+                    variable: name,
+                    pattern,
+                };
+                Ok((condition, at))
+            }
+        }
+    }
+
+    /// After `not`: the variable.
+    fn negated(&self, at: usize) -> Result<(Condition, usize), Stop>
+        ensures condition { Reads self.now.tokens.now at (λ a. a) result reading.negated }
+        ensures within { IfOk result (λ x. at < x.1) }
+    {
+        let (variable, next) = self.name(at)?;
+        let pattern = Pattern::Truth(false);
+        Ok((Condition { variable, pattern }, next))
+    }
+
+    /// `[ "not" ] ident`, or `ident "(" ident ")"`
+    pub(crate) fn condition(&self, at: usize) -> Result<(Condition, usize), Stop>
         ensures condition { Reads self.now.tokens.now at (λ a. a) result reading.condition }
         ensures within { IfOk result (λ x. at < x.1) }
     {
         match self.passed(Fixed::Not, at) {
-            Some(next) => self.signed(false, next),
-            None => self.signed(true, at),
+            Some(next) => self.negated(next),
+            None => {
+                let (name, next) = self.name(at)?;
+                self.clock_from(name, next)
+            }
         }
     }
 
@@ -186,11 +218,30 @@ impl<'t> Reader<'t> {
         Ok(Expr::When(Box::new(self.alloc, a)?, clock))
     }
 
-    fn merge_of(&self, variable: Name, a: Expr, b: Expr) -> Result<Expr, Stop>
-        ensures { Gives self.now.tokens.now view result (Ok (t.merge variable (view a) (view b))) }
+    /// The merge on this variable with a branch for each truth.
+    fn both(&self, variable: Name, a: Expr, b: Expr) -> Result<Expr, Stop>
+        ensures { Gives self.now.tokens.now view result
+            (Ok (t.merge variable truths (t.more (view a) (t.more (view b) t.none)))) }
     {
-        let a = Box::new(self.alloc, a)?;
-        Ok(Expr::Merge(variable, a, Box::new(self.alloc, b)?))
+        let patterns = vec![in self.alloc; Pattern::Truth(true), Pattern::Truth(false)]?;
+        let mut branches = Vec::new(self.alloc);
+        branches.push(a)?;
+        branches.push(b)?;
+        Ok(Expr::Merge(variable, Row::new(patterns), branches))
+    }
+
+    /// The merge on this variable with these branches.
+    fn merged(&self, variable: Name, found: Vec<Branch>) -> Result<Expr, Stop>
+        ensures { Gives self.now.tokens.now view result
+            (Ok (reading.merged variable (branches_view found.items))) }
+    {
+        let mut patterns = Vec::new(self.alloc);
+        let mut branches = Vec::new(self.alloc);
+        for branch in found {
+            patterns.push(Pattern::Label(bare_label(branch.label)))?;
+            branches.push(branch.value)?;
+        }
+        Ok(Expr::Merge(variable, Row::new(patterns), branches))
     }
 
     /// What was read, and the closing parenthesis after it.
@@ -371,18 +422,95 @@ impl<'t> Reader<'t> {
         self.closed(inner)
     }
 
+    /// After `merge v (true`, up to the end of the second branch.
+    #[cycle(parser)]
+    #[tactic(auto, unfolding(lusyn_grammar::specs::Reading::by_truths, lusyn_grammar::specs::Reading::inside))]
+    fn by_truths(&self, depth: usize, variable: Name, at: usize) -> Result<(Expr, usize), Stop>
+        ensures merge { Reads self.now.tokens.now at view result
+            (reading.by_truths (reading.expr depth) variable) }
+        ensures within { IfOk result (λ x. at ≤ x.1) }
+    {
+        let next = self.after(Fixed::Arrow, at)?;
+        let inner = self.expr(depth, 0, next)?;
+        let (first, next) = self.closed(inner)?;
+        let (second, next) = self.branch(depth, Fixed::False, next)?;
+        Ok((self.both(variable, first, second)?, next))
+    }
+
+    /// After the parenthesis that opens it, a branch of `merge` with the name that it begins with.
+    #[cycle(parser)]
+    #[tactic(auto, unfolding(lusyn_grammar::specs::Reading::labelled, lusyn_grammar::specs::Reading::inside))]
+    fn labelled(&self, depth: usize, at: usize) -> Result<(Branch, usize), Stop>
+        ensures branch { Gives self.now.tokens.now (λ x. (
+          branch_view x.0 ∷ [],
+          ahead self.now.tokens.now x.1,
+        )) result
+            (reading.labelled (reading.expr depth) [] (ahead self.now.tokens.now at)) }
+        ensures within { IfOk result (λ x. at ≤ x.1) }
+    {
+        let (label, next) = self.name(at)?;
+        let next = self.after(Fixed::Arrow, next)?;
+        let inner = self.expr(depth, 0, next)?;
+        let (value, next) = self.closed(inner)?;
+        Ok((Branch { label, value }, next))
+    }
+
+    /// After `merge v (`, up to the end of the last branch.
+    #[cycle(parser)]
+    #[tactic(auto, unfolding(lusyn_grammar::specs::Reading::by_labels))]
+    fn by_labels(&self, depth: usize, variable: Name, at: usize) -> Result<(Expr, usize), Stop>
+        ensures merge { Reads self.now.tokens.now at view result
+            (reading.by_labels (reading.expr depth) depth variable) }
+        ensures within { IfOk result (λ x. at ≤ x.1) }
+    {
+        let (first, next) = self.labelled(depth, at)?;
+        let mut found = Vec::new(self.alloc);
+        found.push(first)?;
+        let (found, next) = self.further_branches(depth, depth, found, next)?;
+        Ok((self.merged(variable, found)?, next))
+    }
+
+    /// The branches after those found, each with a parenthesis before it, fewer than so many.
+    #[cycle(parser)]
+    #[tactic(auto, unfolding(lusyn_grammar::specs::Reading::many))]
+    fn further_branches(
+        &self,
+        depth: usize,
+        turns: usize,
+        mut found: Vec<Branch>,
+        at: usize,
+    ) -> Result<(Vec<Branch>, usize), Stop>
+        ensures branches { Reads self.now.tokens.now at (λ a. branches_view a.items) result
+            (reading.many (reading.begins Fixed.Open)
+            (reading.further_branch (reading.expr depth)) turns (branches_view found.items)) }
+        ensures within { IfOk result (λ x. at ≤ x.1) }
+    {
+        let mut at = at;
+        for _ in 0..turns {
+            let Some(next) = self.passed(Fixed::Open, at) else {
+                return Ok((found, at));
+            };
+            let (branch, next) = self.labelled(depth, next)?;
+            found.push(branch)?;
+            at = next;
+        }
+        Err(Stop::Refused(at))
+    }
+
     /// After `merge`.
     #[cycle(parser)]
     #[tactic(auto, unfolding(lusyn_grammar::specs::Reading::merge))]
     fn merge(&self, depth: usize, at: usize) -> Result<(Expr, usize), Stop>
         ensures merge { Reads self.now.tokens.now at view result
-            (reading.merge (reading.expr depth)) }
+            (reading.merge (reading.expr depth) depth) }
         ensures within { IfOk result (λ x. at ≤ x.1) }
     {
         let (variable, next) = self.name(at)?;
-        let (first, next) = self.branch(depth, Fixed::True, next)?;
-        let (second, next) = self.branch(depth, Fixed::False, next)?;
-        Ok((self.merge_of(variable, first, second)?, next))
+        let next = self.after(Fixed::Open, next)?;
+        match self.passed(Fixed::True, next) {
+            Some(next) => self.by_truths(depth, variable, next),
+            None => self.by_labels(depth, variable, next),
+        }
     }
 
     /// After a name.
@@ -501,190 +629,6 @@ impl<'t> Reader<'t> {
     }
 }
 
-/// Declarations.
-impl<'t> Reader<'t> {
-    /// Reads one more name, and gives the place after it.
-    fn name_behind(&self, found: &mut Vec<PlacedName>, at: usize) -> Result<usize, Stop>
-        ensures name { ReadsInto self.now.tokens.now at (names_view found.new.items) result
-            (name_behind (names_view found.old.items)) }
-        ensures places { IfOk result (λ next. Declares self.now.tokens.now at next
-            (name_places found.old.items) (name_places found.new.items)) }
-        ensures within { IfOk result (λ next. at < next) }
-    {
-        let byte = self.byte(at);
-        let (name, next) = self.name(at)?;
-        found.push(PlacedName { name, byte })?;
-        Ok(next)
-    }
-
-    /// `{ "," ident }` after the names found
-    fn further_names(&self, found: &mut Vec<PlacedName>, at: usize) -> Result<usize, Stop>
-        ensures names { ReadsInto self.now.tokens.now at (names_view found.new.items) result
-            (reading.many (reading.begins Fixed.Comma) reading.further_name
-            (suc (length self.now.tokens.now)) (names_view found.old.items)) }
-        ensures places { IfOk result (λ next. Declares self.now.tokens.now at next
-            (name_places found.old.items) (name_places found.new.items)) }
-        ensures within { IfOk result (λ next. at ≤ next) }
-    {
-        let mut next = at;
-        while let Some(after) = self.passed(Fixed::Comma, next) {
-            next = self.name_behind(found, after)?;
-        }
-        Ok(next)
-    }
-
-    /// `ident { "," ident }`
-    #[tactic(auto, unfolding(lusyn_grammar::specs::Reading::names))]
-    fn names(&self, at: usize) -> Result<(Vec<PlacedName>, usize), Stop>
-        ensures names { Reads self.now.tokens.now at (λ a. names_view a.items) result
-            (reading.names (suc (length self.now.tokens.now))) }
-        ensures places { IfOk result (λ x. Declares self.now.tokens.now at x.1 []
-            (name_places x.0.items)) }
-        ensures within { IfOk result (λ x. at < x.1) }
-    {
-        let byte = self.byte(at);
-        let (name, next) = self.name(at)?;
-        let mut found = vec![in self.alloc; PlacedName { name, byte }]?;
-        let next = self.further_names(&mut found, next)?;
-        Ok((found, next))
-    }
-
-    fn kind(&self, at: usize) -> Result<(Kind, usize), Stop>
-        ensures kind { Reads self.now.tokens.now at (λ a. a) result reading.kind }
-        ensures within { IfOk result (λ x. x.1 ≡ at + 1) }
-    {
-        match self.token(at) {
-            Some(Token::Fixed(Fixed::Int)) => Ok((Kind::Int, at + 1)),
-            Some(Token::Fixed(Fixed::Bool)) => Ok((Kind::Bool, at + 1)),
-            _ => Err(Stop::Refused(at)),
-        }
-    }
-
-    /// `[ "when" [ "not" ] ident ]`
-    fn clocked(&self, at: usize) -> Result<(Option<Condition>, usize), Stop>
-        ensures clock { Reads self.now.tokens.now at (λ a. a) result reading.clocked }
-        ensures within { IfOk result (λ x. at ≤ x.1) }
-    {
-        let Some(next) = self.passed(Fixed::When, at) else {
-            return Ok((None, at));
-        };
-        let (condition, next) = self.condition(next)?;
-        Ok((Some(condition), next))
-    }
-
-    /// Declares these names after those found.
-    fn declare(
-        &self,
-        found: &mut Vec<Declaration>,
-        names: &[PlacedName],
-        kind: Kind,
-        clock: &Option<Condition>,
-    ) -> Result<(), Stop>
-        ensures ok { IfOk result (λ _. declarations_view found.new.items
-            ≡ declarations_view found.old.items ++ map (declared kind clock.now)
-            (names_view names.now)) }
-        ensures places { IfOk result (λ _. declaration_places found.new.items
-            ≡ declaration_places found.old.items ++ name_places names.now) }
-        ensures err { IfErr result (λ e. e ≡ Stop.OutOfMemory) }
-    {
-        for placed in names {
-            let name = placed.name.copied(self.alloc)?;
-            let clock = copied(self.alloc, clock)?;
-            let byte = placed.byte;
-            found.push(Declaration {
-                name,
-                kind,
-                clock,
-                byte,
-            })?;
-        }
-        Ok(())
-    }
-
-    /// `ident { "," ident } ":" ( "int" | "bool" ) [ "when" [ "not" ] ident ]`
-    #[tactic(auto, unfolding(lusyn_grammar::specs::Reading::declaration))]
-    fn declaration(&self, found: &mut Vec<Declaration>, at: usize) -> Result<usize, Stop>
-        ensures declaration { ReadsInto self.now.tokens.now at (declarations_view found.new.items)
-            result (reading.declaration (suc (length self.now.tokens.now))
-            (declarations_view found.old.items)) }
-        ensures places { IfOk result (λ next. Declares self.now.tokens.now at next
-            (declaration_places found.old.items) (declaration_places found.new.items)) }
-        ensures within { IfOk result (λ next. at < next) }
-    {
-        let (names, next) = self.names(at)?;
-        let next = self.after(Fixed::Colon, next)?;
-        let (kind, next) = self.kind(next)?;
-        let (clock, next) = self.clocked(next)?;
-        self.declare(found, names.as_slice(), kind, &clock)?;
-        Ok(next)
-    }
-
-    /// `decl { ";" decl }`
-    #[tactic(auto, unfolding(lusyn_grammar::specs::Reading::declarations))]
-    pub(crate) fn declarations(&self, at: usize) -> Result<(Vec<Declaration>, usize), Stop>
-        ensures declarations { Reads self.now.tokens.now at (λ a. declarations_view a.items) result
-            (reading.declarations (suc (length self.now.tokens.now))) }
-        ensures places { IfOk result (λ x. Declares self.now.tokens.now at x.1 []
-            (declaration_places x.0.items)) }
-        ensures within { IfOk result (λ x. at ≤ x.1) }
-    {
-        let mut found = Vec::new(self.alloc);
-        let mut next = self.declaration(&mut found, at)?;
-        while let Some(after) = self.passed(Fixed::Semicolon, next) {
-            next = self.declaration(&mut found, after)?;
-        }
-        Ok((found, next))
-    }
-
-    /// `[ decls ]`
-    #[tactic(auto, unfolding(lusyn_grammar::specs::Reading::inputs))]
-    pub(crate) fn inputs(&self, at: usize) -> Result<(Vec<Declaration>, usize), Stop>
-        ensures declarations { Reads self.now.tokens.now at (λ a. declarations_view a.items) result
-            (reading.inputs (suc (length self.now.tokens.now))) }
-        ensures places { IfOk result (λ x. Declares self.now.tokens.now at x.1 []
-            (declaration_places x.0.items)) }
-        ensures within { IfOk result (λ x. at ≤ x.1) }
-    {
-        if self.begins(Fixed::Close, at) {
-            return Ok((Vec::new(self.alloc), at));
-        }
-        self.declarations(at)
-    }
-
-    /// `decl ";"`
-    fn ended_declaration(&self, found: &mut Vec<Declaration>, at: usize) -> Result<usize, Stop>
-        ensures declaration { ReadsInto self.now.tokens.now at (declarations_view found.new.items)
-            result (reading.ended_declaration (suc (length self.now.tokens.now))
-            (declarations_view found.old.items)) }
-        ensures places { IfOk result (λ next. Declares self.now.tokens.now at next
-            (declaration_places found.old.items) (declaration_places found.new.items)) }
-        ensures within { IfOk result (λ next. at < next) }
-    {
-        let next = self.declaration(found, at)?;
-        self.after(Fixed::Semicolon, next)
-    }
-
-    /// `[ "var" decl ";" { decl ";" } ]`
-    #[tactic(auto, unfolding(lusyn_grammar::specs::Reading::locals))]
-    pub(crate) fn locals(&self, at: usize) -> Result<(Vec<Declaration>, usize), Stop>
-        ensures declarations { Reads self.now.tokens.now at (λ a. declarations_view a.items) result
-            (reading.locals (suc (length self.now.tokens.now))) }
-        ensures places { IfOk result (λ x. reading.begins Fixed.Let (ahead self.now.tokens.now x.1)
-            ≡ true → LocalsPlaces self.now.tokens.now at x.1 x.0.items) }
-        ensures within { IfOk result (λ x. at ≤ x.1) }
-    {
-        let mut found = Vec::new(self.alloc);
-        let Some(after) = self.passed(Fixed::Var, at) else {
-            return Ok((found, at));
-        };
-        let mut next = self.ended_declaration(&mut found, after)?;
-        while self.begins_name(next) {
-            next = self.ended_declaration(&mut found, next)?;
-        }
-        Ok((found, next))
-    }
-}
-
 /// Equations.
 impl<'t> Reader<'t> {
     /// `ident "=" expr`
@@ -718,14 +662,14 @@ impl<'t> Reader<'t> {
 
     /// After the parenthesis that opens them, two names and more, up to the one that closes them.
     #[tactic(auto, unfolding(lusyn_grammar::specs::Reading::tuple_names))]
-    fn tuple_names(&self, at: usize) -> Result<(Vec<PlacedName>, usize), Stop>
+    fn tuple_names(&self, at: usize) -> Result<(Vec<DeclaredName>, usize), Stop>
         ensures names { Reads self.now.tokens.now at (λ a. names_view a.items) result
             (reading.tuple_names (suc (length self.now.tokens.now))) }
         ensures within { IfOk result (λ x. at < x.1) }
     {
         let byte = self.byte(at);
         let (name, next) = self.name(at)?;
-        let mut found = vec![in self.alloc; PlacedName { name, byte }]?;
+        let mut found = vec![in self.alloc; DeclaredName { name, byte }]?;
         let next = self.after(Fixed::Comma, next)?;
         let next = self.name_behind(&mut found, next)?;
         let next = self.further_names(&mut found, next)?;

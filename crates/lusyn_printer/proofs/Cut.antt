@@ -14,7 +14,7 @@ use Rattle.std.proofs.lemmas.Str.Ascii.{IsAscii-nil}
 use Rattle.lutree.specs.declared.expr.Pattern.{Pattern}
 use Rattle.lutree.specs.declared.expr.Pattern.TheVariants as patterns
 use Rattle.lutree.specs.declared.expr.Condition.{Condition}
-use Rattle.lutree.specs.Tree.{DeclarationTree, EquationTree, NodeTree, ProgramTree}
+use Rattle.lutree.specs.Tree.{TypeTree, DeclarationTree, EquationTree, NodeTree, ProgramTree}
 use Rattle.lusyn_tokens.specs.declared.token.Fixed.{Fixed}
 use Rattle.lusyn_tokens.specs.declared.token.Fixed.TheVariants as f
 use Rattle.lusyn_tokens.specs.Tokens.{Tok, identifier, fixed, text_of}
@@ -22,14 +22,14 @@ use Rattle.lusyn_tokens.specs.Tokens as tok
 use Rattle.lusyn_lexer.specs.Lexing as lexing
 use Rattle.lusyn_lexer.specs.Lexing.{Pieces, bytes, AreCut, IsPiece, IsLongest, is_letter, is_word, is_word_text, is_digits}
 use Rattle.lusyn_lexer.proofs.Pieces.{letter-is_word}
-use Rattle.lusyn_grammar.specs.Grammar.{Written, Writtens, number, truth, variable, unary, binary, choice, when, current, merge, call, paren, none, more, tree, trees, Each, truth_token, kind_token}
+use Rattle.lusyn_grammar.specs.Grammar.{Written, Writtens, number, truth, variable, unary, binary, choice, when, current, merge, call, paren, none, more, tree, trees, Each, WrittenType, int, bool, named, truth_token}
 use Rattle.lusyn_tokens.specs.Tokens.{prefix_token, infix_token}
-use Rattle.lusyn_grammar.specs.Printing.{written}
+use Rattle.lusyn_grammar.specs.Printing.{written, written_type}
 use Rattle.lusyn_grammar.proofs.Printed.{tree-written}
-use Rattle.lusyn_printer.proofs.Pieces.{space, feed, sign, word, numeral, not_pieces, pattern_pieces, when_pieces, pieces, further, each, behind, clock_pieces, declaration, declarations, locals, left_side, equation, body, node, program}
+use Rattle.lusyn_printer.proofs.Pieces.{space, feed, sign, word, numeral, not_pieces, pattern_pieces, when_pieces, branch_piece, pieces, further, branches, each, behind, apart, clock_pieces, type_piece, declaration, declarations, locals, left_side, equation, body, node, type_declaration, program}
 use Rattle.lusyn_printer.proofs.Longest.{Ends, IsMark, space-longest, feed-longest, mark-longest, fixed-longest, name-longest, digits-longest}
 use Rattle.lusyn_printer.proofs.Longest as ends
-use Rattle.lusyn_printer.proofs.Wholes.{IsName, IsWholeTree, AreWholeTrees, IsWholeClock, IsWholeDeclaration, IsWholeEquation, IsWholeNode, IsWholeProgram}
+use Rattle.lusyn_printer.proofs.Wholes.{IsName, IsWholePattern, IsWholeCondition, IsWholeTree, AreWholeTrees, AreWholeBranches, IsWholeClock, IsWholeType, IsWholeDeclaration, IsWholeEquation, IsWholeNode, IsWholeEnumeration, IsWholeProgram, bare-whole}
 
 -- pieces that are cut as they stand, of ASCII
 pub record Sound (ps : Pieces) : Type 0 where
@@ -173,19 +173,18 @@ not_sound : (b : Bool) (ps : Pieces) → Sound ps → Sound (not_pieces b ps)
 not_sound true ps h = h
 not_sound false ps h = said f.Not ps h
 
-pattern_sound : (p : Pattern) (x : List ℕ) (ps : Pieces) → Sound (word x ps) → Sound (pattern_pieces p x ps)
-pattern_sound (patterns.Truth b) x ps h = not_sound b (word x ps) h
+pattern_sound : (p : Pattern) (x : List ℕ) (ps : Pieces) → IsWholePattern p → IsName x → Ready ps → Sound (pattern_pieces p x ps)
+pattern_sound (patterns.Truth b) x ps whole is h = not_sound b (word x ps) (sound_word x ps is h)
+pattern_sound (patterns.Label l) x ps whole is h =
+    let inner = word x (sign f.Close ps) in
+    sound_word l.name (sign f.Open inner) whole (ready_open inner (sound_word x (sign f.Close ps) is (ready_close ps h.sound)))
 
-when_ready : (c : Condition) (ps : Pieces) → IsName c.variable → Ready ps → Ready (when_pieces c ps)
-when_ready c ps is h =
-    spaced f.When (pattern_pieces c.pattern c.variable ps) (pattern_sound c.pattern c.variable ps (sound_word c.variable ps is h))
+when_ready : (c : Condition) (ps : Pieces) → IsWholeCondition c → Ready ps → Ready (when_pieces c ps)
+when_ready c ps is h = spaced f.When (pattern_pieces c.pattern c.variable ps) (pattern_sound c.pattern c.variable ps is.1 is.0 h)
 
--- what stands before the expression of a branch
-abbrev branch : Fixed → Pieces → Pieces
-branch g ps = sign f.Open (sign g (space (sign f.Arrow (space ps))))
-
-branch_ready : (g : Fixed) (ps : Pieces) → Sound ps → Ready (space (branch g ps))
-branch_ready g ps h = ready_space (branch g ps) (sound_mark f.Open (sign g (space (sign f.Arrow (space ps)))) tt (sound_sign g (space (sign f.Arrow (space ps))) (spaced f.Arrow ps h)))
+branch_sound : (p : Pattern) (ps : Pieces) → IsWholePattern p → Ready ps → Sound (branch_piece p ps)
+branch_sound (patterns.Truth b) ps is h = sound_sign (truth_token b) ps h
+branch_sound (patterns.Label l) ps is h = sound_word l.name ps is h
 
 mutual
   cut_pieces : (c : Written) (ps : Pieces) → IsWholeTree (tree c) → Ready ps → Sound (pieces c ps)
@@ -205,16 +204,7 @@ mutual
       said f.If first (cut_pieces a (space (sign f.Then (space second))) is.0 (spaced f.Then second l))
   cut_pieces (when c clock) ps is h = cut_pieces c (when_pieces clock ps) is.0 (when_ready clock ps is.1 h)
   cut_pieces (current x) ps is h = said f.Current (word x ps) (sound_word x ps is h)
-  cut_pieces (merge x a b) ps is h =
-      let end = sign f.Close ps in
-      let k = cut_pieces b end is.2 (ready_close ps h.sound) in
-      let l = branch_ready f.False (pieces b end) k in
-      let other = branch f.False (pieces b end) in
-      let middle = sign f.Close (space other) in
-      let m = cut_pieces a middle is.1 (ready_close (space other) l.sound) in
-      let n = branch_ready f.True (pieces a middle) m in
-      let one = branch f.True (pieces a middle) in
-      said f.Merge (word x (space one)) (sound_word x (space one) is.0 n)
+  cut_pieces (merge x qs cs) ps is h = said f.Merge (word x (branches cs qs ps)) (sound_word x (branches cs qs ps) is.0 (cut_branches cs qs ps is.1 h))
   cut_pieces (call g none) ps is h =
       sound_word g (sign f.Open (sign f.Close ps)) is.0 (ready_open (sign f.Close ps) (sound_mark f.Close ps tt h.sound))
   cut_pieces (call g (more c cs)) ps is h =
@@ -228,6 +218,16 @@ mutual
   cut_further (more c cs) ps is h =
       let inner = pieces c (further cs ps) in
       ready_comma (space inner) (sound_space inner (cut_pieces c (further cs ps) is.0 (cut_further cs ps is.1 h)))
+
+  cut_branches : (cs : Writtens) (qs : List Pattern) (ps : Pieces) → AreWholeBranches (trees cs) qs → Ready ps → Ready (branches cs qs ps)
+  cut_branches none qs ps is h = h
+  cut_branches (more c cs) [] ps is h = h
+  cut_branches (more c cs) (q ∷ qs) ps is h =
+      let rest = branches cs qs ps in
+      let inner = pieces c (sign f.Close rest) in
+      let k = cut_pieces c (sign f.Close rest) is.1 (ready_close rest (cut_branches cs qs ps is.2 h).sound) in
+      let begun = branch_piece q (space (sign f.Arrow (space inner))) in
+      ready_space (sign f.Open begun) (sound_mark f.Open begun tt (branch_sound q (space (sign f.Arrow (space inner))) is.0 (spaced f.Arrow inner k)))
 
 -- LISTS OF PARTS
 
@@ -251,11 +251,16 @@ clock_ready : (c : Option Condition) (ps : Pieces) → IsWholeClock c → Ready 
 clock_ready None ps is h = h
 clock_ready (Some c) ps is h = when_ready c ps is h
 
+type_sound : (k : WrittenType) (ps : Pieces) → IsWholeType k → Ready ps → Sound (type_piece k ps)
+type_sound int ps is h = sound_sign f.Int ps h
+type_sound bool ps is h = sound_sign f.Bool ps h
+type_sound (named x) ps is h = sound_word x ps is h
+
 cut_declaration : Cuts IsWholeDeclaration declaration
 cut_declaration d ps is h =
     let clocked = clock_pieces d.clock ps in
-    let kind = sign (kind_token d.kind) clocked in
-    sound_word d.name (sign f.Colon (space kind)) is.0 (ready_colon (space kind) (sound_space kind (sound_sign (kind_token d.kind) clocked (clock_ready d.clock ps is.1 h))))
+    let kind = type_piece (written_type d.kind d.type_name) clocked in
+    sound_word d.name (sign f.Colon (space kind)) is.0 (ready_colon (space kind) (sound_space kind (type_sound (written_type d.kind d.type_name) clocked is.2 (clock_ready d.clock ps is.1 h))))
 
 cut_declarations : (ds : List DeclarationTree) (ps : Pieces) → Each IsWholeDeclaration ds → Ready ps → Sound (declarations ds ps)
 cut_declarations [] ps is h = h.sound
@@ -280,7 +285,7 @@ cut_equation e ps is h =
     let P : _ → Type 0 = IsWholeTree in
     let end = sign f.Semicolon (feed ps) in
     let right = pieces (written e.right) end in
-    let k = cut_pieces (written e.right) end (subst P (sym (tree-written e.right)) is.1) (ready_semicolon (feed ps) (sound_feed ps h)) in
+    let k = cut_pieces (written e.right) end (subst P (sym (tree-written e.right)) (bare-whole e.right is.1)) (ready_semicolon (feed ps) (sound_feed ps h)) in
     let left = left_side e.left (space (sign f.Equal (space right))) in
     sound_space (space left) (sound_space left (cut_left e.left (space (sign f.Equal (space right))) is.0 (spaced f.Equal right k)))
 
@@ -314,5 +319,26 @@ cut_nodes : (ns : List NodeTree) → Each IsWholeNode ns → Sound (each node ns
 cut_nodes [] is = sound_nothing
 cut_nodes (n ∷ ns) is = cut_node n (each node ns []) is.0 (cut_nodes ns is.1)
 
+cut_names : (xs : List (List ℕ)) (ps : Pieces) → Each IsName xs → Ready ps → Sound (apart f.Comma word xs ps)
+cut_names [] ps is h = h.sound
+cut_names (x ∷ xs) ps is h = sound_word x (each (behind f.Comma word) xs ps) is.0 (commas_ready xs ps is.1 h)
+
+cut_type : (x : TypeTree) (ps : Pieces) → IsWholeEnumeration x → Sound ps → Sound (type_declaration x ps)
+cut_type x ps is h =
+    let ended = sign f.CloseBrace (sign f.Semicolon (feed ps)) in
+    let k = sound_sign f.CloseBrace (sign f.Semicolon (feed ps)) (ready_semicolon (feed ps) (sound_feed ps h)) in
+    let names = apart f.Comma word x.names (space ended) in
+    let l = cut_names x.names (space ended) is.1 (ready_space ended k) in
+    let opened = sign f.OpenBrace (space names) in
+    let m = said f.OpenBrace names l in
+    let counted = sign f.Enum (space opened) in
+    let n = said f.Enum opened m in
+    let equal = space (sign f.Equal (space counted)) in
+    said f.Type (word x.name equal) (sound_word x.name equal is.0 (spaced f.Equal counted n))
+
+cut_types : (xs : List TypeTree) (ps : Pieces) → Each IsWholeEnumeration xs → Sound ps → Sound (each type_declaration xs ps)
+cut_types [] ps is h = h
+cut_types (x ∷ xs) ps is h = cut_type x (each type_declaration xs ps) is.0 (cut_types xs ps is.1 h)
+
 pub cut_program : (p : ProgramTree) → IsWholeProgram p → Sound (program p [])
-cut_program p is = cut_nodes p.nodes is
+cut_program p is = cut_types p.types (each node p.nodes []) is.0 (cut_nodes p.nodes is.1)

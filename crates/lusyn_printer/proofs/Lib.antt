@@ -8,3 +8,7 @@ pub mod Peaks
 pub mod Sizes
 pub mod Narrow
 pub mod ReadBack
+pub mod Bare
+pub mod Branches
+pub mod Types
+pub mod Vectors

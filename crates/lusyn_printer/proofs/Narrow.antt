@@ -3,15 +3,13 @@ use Rattle.std.proofs.Common.{◌≡◌, ◌≤◌, ◌+◌, ℕ, max, Bool, tru
 use Rattle.lutree.specs.declared.expr.Pattern.{Pattern}
 use Rattle.lutree.specs.declared.expr.Pattern.TheVariants as patterns
 use Rattle.lutree.specs.declared.expr.Condition.{Condition}
-use Rattle.lutree.specs.declared.program.Kind.{Kind}
-use Rattle.lutree.specs.declared.program.Kind.TheVariants as kinds
-use Rattle.lutree.specs.Tree.{DeclarationTree, EquationTree, NodeTree, ProgramTree}
+use Rattle.lutree.specs.Tree.{TypeTree, DeclarationTree, EquationTree, NodeTree, ProgramTree}
 use Rattle.lusyn_tokens.specs.declared.token.Fixed.{Fixed}
 use Rattle.lusyn_tokens.specs.declared.token.Fixed.TheVariants as f
 use Rattle.lusyn_tokens.specs.Tokens.{Tok, identifier, fixed}
 use Rattle.lusyn_lexer.specs.Runs.{is_of_run}
-use Rattle.lusyn_grammar.specs.Grammar.{Written, tokens, WrittenDeclaration, WrittenEquation, WrittenNode, WrittenProgram, Each, IsProperEquation, IsProperNode, kind_token, repeated, separated, led, ended, optional, name, clock, declaration, locals, left_tokens, equation, body, node, program, equation_tree, program_tree}
-use Rattle.lusyn_grammar.specs.Printing.{written, written_declaration, written_equation, written_node, written_program}
+use Rattle.lusyn_grammar.specs.Grammar.{Written, tokens, WrittenType, int, bool, named, WrittenDeclaration, WrittenEquation, WrittenNode, WrittenProgram, Each, IsProperEquation, IsProperNode, type_token, repeated, separated, led, ended, optional, name, clock, declaration, locals, left_tokens, equation, body, node, type_declaration, program, equation_tree, node_tree, program_tree}
+use Rattle.lusyn_grammar.specs.Printing.{bare_clock, written, written_type, written_declaration, written_equation, written_node, written_program}
 use Rattle.lusyn_printer.proofs.Peaks.{peak, peak-mono, peak-tail, peak-of_run}
 use Rattle.lusyn_printer.proofs.Sizes.{size, when_size, pattern_size, peak-when, peak-tokens, Smallest, smallest}
 
@@ -53,8 +51,25 @@ abbrev pub IsNarrow : ℕ → List EquationTree → Type 0
 IsNarrow j [] = Unit {0}
 IsNarrow j (e ∷ es) = (j + width e.left (written e.right) ≤ 1000) × IsNarrow 0 es
 
+-- TYPES
+
+abbrev list_size : List (List ℕ) → ℕ
+list_size [] = 0
+list_size (x ∷ xs) = 1 + names_size xs
+
+abbrev pub IsNarrowType : TypeTree → Type 0
+IsNarrowType x = 6 + list_size x.names ≤ 1000
+
 abbrev pub IsNarrowProgram : ProgramTree → Type 0
-IsNarrowProgram p = Each (λ n. IsNarrow 1 n.equations) p.nodes
+IsNarrowProgram p = Each IsNarrowType p.types × Each (λ n. IsNarrow 1 n.equations) p.nodes
+
+peak-list : (xs : List (List ℕ)) (k : ℕ) (rest : List Tok) → peak k (separated f.Comma name xs rest) ≡ peak (k + list_size xs) rest
+peak-list [] k rest = at k (k + 0) rest (omega arith)
+peak-list (x ∷ xs) k rest = peak-names xs (k + 1) rest ∙ at (k + 1 + names_size xs) (k + (1 + names_size xs)) rest (omega arith)
+
+peak-type : (x : TypeTree) (rest : List Tok) → peak 0 (type_declaration x rest) ≡ max (6 + list_size x.names) (peak 0 rest)
+peak-type x rest =
+    peak-list x.names 5 (fixed f.CloseBrace ∷ fixed f.Semicolon ∷ rest) ∙ ap (λ (n : ℕ). max n (peak 0 rest)) (let e : 5 + list_size x.names + 1 ≡ 6 + list_size x.names = omega arith in e)
 
 -- FROM A TEXT'S TOKENS: WHAT STANDS BEHIND A PART IS NO HIGHER
 
@@ -80,8 +95,8 @@ past_clock (Some c) k rest h = let e = peak-when c k rest in low (k + when_size 
 
 past_declaration : Passes declaration
 past_declaration d k rest h =
-    let behind = past_names d.names k (fixed f.Colon ∷ fixed (kind_token d.kind) ∷ clock d.clock rest) h in
-    past_clock d.clock 0 rest (low_tail 1 (fixed (kind_token d.kind)) (clock d.clock rest) behind)
+    let behind = past_names d.names k (fixed f.Colon ∷ type_token d.kind ∷ clock d.clock rest) h in
+    past_clock d.clock 0 rest (low_tail 1 (type_token d.kind) (clock d.clock rest) behind)
 
 past_repeated : {W : Type 0} (of : W → List Tok → List Tok) → Passes of → (qs : List W) (k : ℕ) (rest : List Tok) → peak k (repeated of qs rest) ≤ 1000 → IsLow rest
 past_repeated of one [] k rest h = low k rest h
@@ -126,11 +141,25 @@ node_narrow n k rest proper h =
     let equations = equations_narrow n.equations 1 _ proper.4 inner in
     (equations.0, past_optional n.is_ended 1 rest equations.1)
 
-pub program_narrow : (p : WrittenProgram) (k : ℕ) → Each IsProperNode p → peak k (program p []) ≤ 1000 → IsNarrowProgram (program_tree p)
-program_narrow [] k proper h = tt
-program_narrow (n ∷ p) k proper h =
-    let x = node_narrow n k (program p []) proper.0 h in
-    (x.0, program_narrow p 0 proper.1 x.1)
+abbrev AreNarrow : List NodeTree → Type 0
+AreNarrow = Each (λ n. IsNarrow 1 n.equations)
+
+nodes_narrow : (ns : List WrittenNode) → Each IsProperNode ns → IsLow (repeated node ns []) → AreNarrow (map node_tree ns)
+nodes_narrow [] proper h = tt
+nodes_narrow (n ∷ ns) proper h =
+    let x = node_narrow n 0 (repeated node ns []) proper.0 h in
+    (x.0, nodes_narrow ns proper.1 x.1)
+
+types_narrow : (xs : List TypeTree) (rest : List Tok) → IsLow (repeated type_declaration xs rest) → Each IsNarrowType xs × IsLow rest
+types_narrow [] rest h = (tt, h)
+types_narrow (x ∷ xs) rest h =
+    let others = repeated type_declaration xs rest in
+    let same : peak 0 (type_declaration x others) ≡ max (6 + list_size x.names) (peak 0 others) = peak-type x others in
+    let k = types_narrow xs rest (omega (arith, same, h)) in
+    ((omega (arith, same, h), k.0), k.1)
+
+pub program_narrow : (p : WrittenProgram) → Each IsProperNode p.nodes → IsLow (program p []) → IsNarrowProgram (program_tree p)
+program_narrow p proper h = let x = types_narrow p.types (repeated node p.nodes []) h in (x.0, nodes_narrow p.nodes proper x.1)
 
 -- TO THE CANONICAL TOKENS: NO RUN IS LONG BEHIND SO FEW OTHERS
 
@@ -146,16 +175,18 @@ calm_token b t ts e calm = λ k h. (let same = peak-of_run k t ts e in let behin
 calm_semicolon : (b : ℕ) (ts : List Tok) → b ≤ 1000 → IsCalm 0 ts → IsCalm b (fixed f.Semicolon ∷ ts)
 calm_semicolon b ts few calm = λ k h. (let behind = calm 0 (omega arith) in omega (arith, behind))
 
-kind_of_run : (kind : Kind) → is_of_run (fixed (kind_token kind)) ≡ true
-kind_of_run kinds.Int = refl
-kind_of_run kinds.Bool = refl
+kind_of_run : (kind : WrittenType) → is_of_run (type_token kind) ≡ true
+kind_of_run int = refl
+kind_of_run bool = refl
+kind_of_run (named x) = refl
 
-pattern_few : (p : Pattern) → pattern_size p ≤ 1
+pattern_few : (p : Pattern) → pattern_size p ≤ 3
 pattern_few (patterns.Truth true) = omega arith
 pattern_few (patterns.Truth false) = omega arith
+pattern_few (patterns.Label l) = omega arith
 
-calm_clock : (c : Option Condition) (b : ℕ) (ts : List Tok) → IsCalm (b + 3) ts → IsCalm b (clock c ts)
-calm_clock None b ts calm = calm_less b (b + 3) ts (omega arith) calm
+calm_clock : (c : Option Condition) (b : ℕ) (ts : List Tok) → IsCalm (b + 5) ts → IsCalm b (clock c ts)
+calm_clock None b ts calm = calm_less b (b + 5) ts (omega arith) calm
 calm_clock (Some c) b ts calm =
     λ k h. (
     let same = peak-when c k ts in
@@ -164,28 +195,29 @@ calm_clock (Some c) b ts calm =
     omega (arith, same, behind)
     )
 
-calm_declaration : (d : DeclarationTree) (b : ℕ) (ts : List Tok) → IsCalm (b + 6) ts → IsCalm b (declaration (written_declaration d) ts)
+calm_declaration : (d : DeclarationTree) (b : ℕ) (ts : List Tok) → IsCalm (b + 8) ts → IsCalm b (declaration (written_declaration d) ts)
 calm_declaration d b ts calm =
-    let clocked = clock d.clock ts in
-    let kind = fixed (kind_token d.kind) in
+    let clocked = clock (bare_clock d.clock) ts in
+    let written_kind : WrittenType = written_type d.kind d.type_name in
+    let kind = type_token written_kind in
     calm_token b (identifier d.name) (fixed f.Colon ∷ kind ∷ clocked) refl
     (calm_token (b + 1) (fixed f.Colon) (kind ∷ clocked) refl
-    (calm_token (b + 1 + 1) kind clocked (kind_of_run d.kind)
-    (calm_clock d.clock (b + 1 + 1 + 1) ts (calm_less (b + 1 + 1 + 1 + 3) (b + 6) ts (omega arith) calm))))
+    (calm_token (b + 1 + 1) kind clocked (kind_of_run written_kind)
+    (calm_clock (bare_clock d.clock) (b + 1 + 1 + 1) ts (calm_less (b + 1 + 1 + 1 + 5) (b + 8) ts (omega arith) calm))))
 
-calm_others : (ds : List DeclarationTree) (b : ℕ) (ts : List Tok) → b ≤ 100 → IsCalm (b + 10) ts → IsCalm (b + 6) (repeated (led f.Semicolon declaration) (map written_declaration ds) ts)
-calm_others [] b ts few calm = calm_less (b + 6) (b + 10) ts (omega arith) calm
+calm_others : (ds : List DeclarationTree) (b : ℕ) (ts : List Tok) → b ≤ 100 → IsCalm (b + 12) ts → IsCalm (b + 8) (repeated (led f.Semicolon declaration) (map written_declaration ds) ts)
+calm_others [] b ts few calm = calm_less (b + 8) (b + 12) ts (omega arith) calm
 calm_others (d ∷ ds) b ts few calm =
     let others = repeated (led f.Semicolon declaration) (map written_declaration ds) ts in
-    calm_semicolon (b + 6) (declaration (written_declaration d) others) (omega arith)
-    (calm_declaration d 0 others (calm_less 6 (b + 6) others (omega arith) (calm_others ds b ts few calm)))
+    calm_semicolon (b + 8) (declaration (written_declaration d) others) (omega arith)
+    (calm_declaration d 0 others (calm_less 8 (b + 8) others (omega arith) (calm_others ds b ts few calm)))
 
-calm_declarations : (ds : List DeclarationTree) (b : ℕ) (ts : List Tok) → b ≤ 100 → IsCalm (b + 10) ts → IsCalm b (separated f.Semicolon declaration (map written_declaration ds) ts)
-calm_declarations [] b ts few calm = calm_less b (b + 10) ts (omega arith) calm
+calm_declarations : (ds : List DeclarationTree) (b : ℕ) (ts : List Tok) → b ≤ 100 → IsCalm (b + 12) ts → IsCalm b (separated f.Semicolon declaration (map written_declaration ds) ts)
+calm_declarations [] b ts few calm = calm_less b (b + 12) ts (omega arith) calm
 calm_declarations (d ∷ ds) b ts few calm = calm_declaration d b (repeated (led f.Semicolon declaration) (map written_declaration ds) ts) (calm_others ds b ts few calm)
 
 calm_ended : (d : DeclarationTree) (b : ℕ) (ts : List Tok) → b ≤ 100 → IsCalm 0 ts → IsCalm b (ended f.Semicolon declaration (written_declaration d) ts)
-calm_ended d b ts few calm = calm_declaration d b (fixed f.Semicolon ∷ ts) (calm_semicolon (b + 6) ts (omega arith) calm)
+calm_ended d b ts few calm = calm_declaration d b (fixed f.Semicolon ∷ ts) (calm_semicolon (b + 8) ts (omega arith) calm)
 
 calm_each : (ds : List DeclarationTree) (ts : List Tok) → IsCalm 0 ts → IsCalm 0 (repeated (ended f.Semicolon declaration) (map written_declaration ds) ts)
 calm_each [] ts calm = calm
@@ -220,19 +252,27 @@ calm_node n ts narrow calm =
     let inner = locals (map written_declaration n.locals) (body (written_node n) ts) in
     let h = calm_locals n.locals (body (written_node n) ts) (calm_body n ts narrow calm) in
     let closed = fixed f.Close ∷ fixed f.Semicolon ∷ inner in
-    let k = calm_token 28 (fixed f.Close) (fixed f.Semicolon ∷ inner) refl (calm_semicolon 29 inner (omega arith) h) in
+    let k = calm_token 32 (fixed f.Close) (fixed f.Semicolon ∷ inner) refl (calm_semicolon 33 inner (omega arith) h) in
     let outputs = separated f.Semicolon declaration (map written_declaration n.outputs) closed in
-    let l = calm_declarations n.outputs 18 closed (omega arith) k in
+    let l = calm_declarations n.outputs 20 closed (omega arith) k in
     let returned = fixed f.Close ∷ fixed f.Returns ∷ fixed f.Open ∷ outputs in
     let m =
-    calm_token 15 (fixed f.Close) (fixed f.Returns ∷ fixed f.Open ∷ outputs) refl (calm_token 16 (fixed f.Returns) (fixed f.Open ∷ outputs) refl (calm_token 17 (fixed f.Open) outputs refl l)) in
+    calm_token 17 (fixed f.Close) (fixed f.Returns ∷ fixed f.Open ∷ outputs) refl (calm_token 18 (fixed f.Returns) (fixed f.Open ∷ outputs) refl (calm_token 19 (fixed f.Open) outputs refl l)) in
     let inputs = separated f.Semicolon declaration (map written_declaration n.inputs) returned in
     let o = calm_declarations n.inputs 5 returned (omega arith) m in
     calm_token 2 (fixed f.Node) (identifier n.name ∷ fixed f.Open ∷ inputs) refl (calm_token 3 (identifier n.name) (fixed f.Open ∷ inputs) refl (calm_token 4 (fixed f.Open) inputs refl o))
 
-calm_nodes : (ns : List NodeTree) → Each (λ n. IsNarrow 1 n.equations) ns → IsCalm 2 (program (map written_node ns) [])
+calm_nodes : (ns : List NodeTree) → AreNarrow ns → IsCalm 2 (repeated node (map written_node ns) [])
 calm_nodes [] narrow = λ k h. omega arith
-calm_nodes (n ∷ ns) narrow = calm_node n (program (map written_node ns) []) narrow.0 (calm_nodes ns narrow.1)
+calm_nodes (n ∷ ns) narrow = calm_node n (repeated node (map written_node ns) []) narrow.0 (calm_nodes ns narrow.1)
+
+low_types : (xs : List TypeTree) (rest : List Tok) → Each IsNarrowType xs → IsLow rest → IsLow (repeated type_declaration xs rest)
+low_types [] rest narrow h = h
+low_types (x ∷ xs) rest narrow h =
+    let others = repeated type_declaration xs rest in
+    let same : peak 0 (type_declaration x others) ≡ max (6 + list_size x.names) (peak 0 others) = peak-type x others in
+    let behind : peak 0 others ≤ 1000 = low_types xs rest narrow.1 h in
+    omega (arith, same, behind, narrow.0)
 
 pub canonical_low : (p : ProgramTree) → IsNarrowProgram p → IsLow (program (written_program p) [])
-canonical_low p narrow = calm_nodes p.nodes narrow 0 (omega arith)
+canonical_low p narrow = low_types p.types (repeated node (map written_node p.nodes) []) narrow.0 (calm_nodes p.nodes narrow.1 0 (omega arith))

@@ -5,9 +5,7 @@ use Rattle.std.specs.Fmt.{decimal}
 use Rattle.lutree.specs.declared.expr.Pattern.{Pattern}
 use Rattle.lutree.specs.declared.expr.Pattern.TheVariants as patterns
 use Rattle.lutree.specs.declared.expr.Condition.{Condition}
-use Rattle.lutree.specs.declared.program.Kind.{Kind}
-use Rattle.lutree.specs.declared.program.Kind.TheVariants as kinds
-use Rattle.lutree.specs.Tree.{DeclarationTree, EquationTree, NodeTree, ProgramTree}
+use Rattle.lutree.specs.Tree.{TypeTree, DeclarationTree, EquationTree, NodeTree, ProgramTree}
 use Rattle.lusyn_tokens.specs.declared.token.Fixed.{Fixed}
 use Rattle.lusyn_tokens.specs.declared.token.Fixed.TheVariants as f
 use Rattle.lusyn_tokens.specs.Tokens.{Tok, identifier, fixed, text_of}
@@ -15,8 +13,8 @@ use Rattle.lusyn_tokens.specs.Tokens as tok
 use Rattle.lusyn_lexer.specs.Lexing.{Pieces, Placed, bytes, before, placed}
 use Rattle.lusyn_tokens.specs.Tokens.{prefix_token, infix_token}
 use Rattle.lusyn_grammar.specs.Grammar as grammar
-use Rattle.lusyn_grammar.specs.Grammar.{Written, Writtens, number, truth, variable, unary, binary, choice, when, current, merge, call, paren, none, more, truth_token, kind_token, tokens, repeated, separated, led, ended}
-use Rattle.lusyn_grammar.specs.Printing.{written, written_declaration, written_equation, written_node, written_program}
+use Rattle.lusyn_grammar.specs.Grammar.{Written, Writtens, number, truth, variable, unary, binary, choice, when, current, merge, call, paren, none, more, WrittenType, int, bool, named, truth_token, branch_token, type_token, tokens, repeated, separated, led, ended}
+use Rattle.lusyn_grammar.specs.Printing.{written, bare_pattern, bare_clock, written_type, written_declaration, written_equation, written_node, written_program}
 use Rattle.lusyn_printer.specs.Canonical as text
 use Rattle.lusyn_printer.specs.Canonical.{joined, expression, canonical}
 
@@ -45,6 +43,11 @@ not_pieces false ps = sign f.Not (space ps)
 
 abbrev pub pattern_pieces : Pattern → List ℕ → Pieces → Pieces
 pattern_pieces (patterns.Truth b) x ps = not_pieces b (word x ps)
+pattern_pieces (patterns.Label l) x ps = word l.name (sign f.Open (word x (sign f.Close ps)))
+
+abbrev pub branch_piece : Pattern → Pieces → Pieces
+branch_piece (patterns.Truth b) ps = sign (truth_token b) ps
+branch_piece (patterns.Label l) ps = word l.name ps
 
 abbrev pub when_pieces : Condition → Pieces → Pieces
 when_pieces c ps = space (sign f.When (space (pattern_pieces c.pattern c.variable ps)))
@@ -59,9 +62,7 @@ abbrev mutual
   pieces (choice a b c) ps = sign f.If (space (pieces a (space (sign f.Then (space (pieces b (space (sign f.Else (space (pieces c ps))))))))))
   pieces (when c clock) ps = pieces c (when_pieces clock ps)
   pieces (current x) ps = sign f.Current (space (word x ps))
-  pieces (merge x a b) ps =
-      sign f.Merge (space (word x (space (sign f.Open (sign f.True (space (sign f.Arrow (space (pieces a (sign f.Close
-      (space (sign f.Open (sign f.False (space (sign f.Arrow (space (pieces b (sign f.Close ps))))))))))))))))))
+  pieces (merge x qs cs) ps = sign f.Merge (space (word x (branches cs qs ps)))
   pieces (call g none) ps = word g (sign f.Open (sign f.Close ps))
   pieces (call g (more c cs)) ps = word g (sign f.Open (pieces c (further cs (sign f.Close ps))))
   pieces (paren c) ps = sign f.Open (pieces c (sign f.Close ps))
@@ -69,6 +70,11 @@ abbrev mutual
   pub further : Writtens → Pieces → Pieces
   further none ps = ps
   further (more c cs) ps = sign f.Comma (space (pieces c (further cs ps)))
+
+  pub branches : Writtens → List Pattern → Pieces → Pieces
+  branches none qs ps = ps
+  branches (more c cs) [] ps = ps
+  branches (more c cs) (q ∷ qs) ps = space (sign f.Open (branch_piece q (space (sign f.Arrow (space (pieces c (sign f.Close (branches cs qs ps))))))))
 
 abbrev pub each : {A : Type 0} → (A → Pieces → Pieces) → List A → Pieces → Pieces
 each part [] ps = ps
@@ -86,8 +92,13 @@ abbrev pub clock_pieces : Option Condition → Pieces → Pieces
 clock_pieces None ps = ps
 clock_pieces (Some c) ps = when_pieces c ps
 
+abbrev pub type_piece : WrittenType → Pieces → Pieces
+type_piece int ps = sign f.Int ps
+type_piece bool ps = sign f.Bool ps
+type_piece (named x) ps = word x ps
+
 abbrev pub declaration : DeclarationTree → Pieces → Pieces
-declaration d ps = word d.name (sign f.Colon (space (sign (kind_token d.kind) (clock_pieces d.clock ps))))
+declaration d ps = word d.name (sign f.Colon (space (type_piece (written_type d.kind d.type_name) (clock_pieces d.clock ps))))
 
 abbrev pub declarations : List DeclarationTree → Pieces → Pieces
 declarations = apart f.Semicolon declaration
@@ -114,8 +125,13 @@ heading n ps =
 abbrev pub node : NodeTree → Pieces → Pieces
 node n ps = heading n (locals n.locals (body n ps))
 
+abbrev pub type_declaration : TypeTree → Pieces → Pieces
+type_declaration x ps =
+    sign f.Type (space (word x.name (space (sign f.Equal (space (sign f.Enum (space (sign f.OpenBrace (space (apart f.Comma word x.names
+    (space (sign f.CloseBrace (sign f.Semicolon (feed ps))))))))))))))
+
 abbrev pub program : ProgramTree → Pieces → Pieces
-program p = each node p.nodes
+program p ps = each type_declaration p.types (each node p.nodes ps)
 
 -- THEIR BYTES
 
@@ -125,6 +141,7 @@ bytes-not false ps = refl
 
 bytes-pattern : (p : Pattern) (x : List ℕ) (ps : Pieces) → bytes (pattern_pieces p x ps) ≡ text.pattern_text p x ++ bytes ps
 bytes-pattern (patterns.Truth b) x ps = simp (append_assoc, bytes-not b (word x ps))
+bytes-pattern (patterns.Label l) x ps = simp append_assoc
 
 bytes-when : (c : Condition) (ps : Pieces) → bytes (when_pieces c ps) ≡ text.when_text c ++ bytes ps
 bytes-when c ps = simp (append_assoc, bytes-pattern c.pattern c.variable ps)
@@ -132,6 +149,13 @@ bytes-when c ps = simp (append_assoc, bytes-pattern c.pattern c.variable ps)
 bytes-truth : (b : Bool) (ps : Pieces) → bytes (sign (truth_token b) ps) ≡ text.truth_text b ++ bytes ps
 bytes-truth true ps = refl
 bytes-truth false ps = refl
+
+bytes-branch : (p : Pattern) (ps : Pieces) → bytes (branch_piece p ps) ≡ text.branch_text p ++ bytes ps
+bytes-branch (patterns.Truth b) ps = bytes-truth b ps
+bytes-branch (patterns.Label l) ps = refl
+
+regroup_branch : (a b c d e g z : List ℕ) → (((((a ++ b) ++ c) ++ d) ++ e) ++ g) ++ z ≡ a ++ (b ++ (c ++ (d ++ (e ++ (g ++ z)))))
+regroup_branch a b c d e g z = simp append_assoc
 
 regroup_call : (a b c d e z : List ℕ) → (((a ++ b) ++ (c ++ d)) ++ e) ++ z ≡ a ++ (b ++ (c ++ (d ++ (e ++ z))))
 regroup_call a b c d e z = simp append_assoc
@@ -147,12 +171,7 @@ mutual
       simp (append_assoc, bytes-pieces a (space (sign f.Then (space (pieces b (space (sign f.Else (space (pieces c ps)))))))), bytes-pieces b (space (sign f.Else (space (pieces c ps)))), bytes-pieces c ps)
   bytes-pieces (when c clock) ps = simp (append_assoc, bytes-pieces c (when_pieces clock ps), bytes-when clock ps)
   bytes-pieces (current x) ps = refl
-  bytes-pieces (merge x a b) ps =
-      simp (
-        append_assoc,
-        bytes-pieces a (sign f.Close (space (sign f.Open (sign f.False (space (sign f.Arrow (space (pieces b (sign f.Close ps))))))))),
-        bytes-pieces b (sign f.Close ps),
-      )
+  bytes-pieces (merge x qs cs) ps = simp (append_assoc, bytes-branches cs qs ps)
   bytes-pieces (call g none) ps = simp append_assoc
   bytes-pieces (call g (more c cs)) ps =
       let end = sign f.Close ps in
@@ -163,6 +182,16 @@ mutual
   bytes-further : (cs : Writtens) (ps : Pieces) → bytes (further cs ps) ≡ text.further cs ++ bytes ps
   bytes-further none ps = refl
   bytes-further (more c cs) ps = simp (append_assoc, bytes-pieces c (further cs ps), bytes-further cs ps)
+
+  bytes-branches : (cs : Writtens) (qs : List Pattern) (ps : Pieces) → bytes (branches cs qs ps) ≡ text.branches cs qs ++ bytes ps
+  bytes-branches none qs ps = refl
+  bytes-branches (more c cs) [] ps = refl
+  bytes-branches (more c cs) (q ∷ qs) ps =
+      let end = sign f.Close (branches cs qs ps) in
+      let inner = space (sign f.Arrow (space (pieces c end))) in
+      ap (λ (z : List ℕ). codes " (" ++ z) (bytes-branch q inner)
+      ∙ ap (λ (z : List ℕ). codes " (" ++ (text.branch_text q ++ (codes " -> " ++ z))) (bytes-pieces c end ∙ ap (λ (z : List ℕ). expression c ++ (codes ")" ++ z)) (bytes-branches cs qs ps))
+      ∙ sym (regroup_branch (codes " (") (text.branch_text q) (codes " -> ") (expression c) (codes ")") (text.branches cs qs) (bytes ps))
 
 bytes-each : {A : Type 0} (part : A → Pieces → Pieces) (of : A → List ℕ) → ((x : A) (ps : Pieces) → bytes (part x ps) ≡ of x ++ bytes ps)
     → (xs : List A) (ps : Pieces) → bytes (each part xs ps) ≡ flat_map of xs ++ bytes ps
@@ -181,16 +210,24 @@ bytes-apart g part of one (x ∷ xs) ps =
     ∙ ap (λ (z : List ℕ). of x ++ z) (bytes-each (behind g part) (λ y. text_of g ++ codes " " ++ of y) (bytes-behind g part of one) xs ps)
     ∙ sym (append_assoc (of x) (flat_map (λ y. text_of g ++ codes " " ++ of y) xs) (bytes ps))
 
+regroup_declaration : (a b c d z : List ℕ) → (((a ++ b) ++ c) ++ d) ++ z ≡ a ++ (b ++ (c ++ (d ++ z)))
+regroup_declaration a b c d z = simp append_assoc
+
 bytes-clock : (c : Option Condition) (ps : Pieces) → bytes (clock_pieces c ps) ≡ text.clock_text c ++ bytes ps
 bytes-clock None ps = refl
 bytes-clock (Some c) ps = bytes-when c ps
 
-kind_spelled : (k : Kind) → text_of (kind_token k) ≡ text.kind_text k
-kind_spelled kinds.Int = refl
-kind_spelled kinds.Bool = refl
+bytes-type : (k : WrittenType) (ps : Pieces) → bytes (type_piece k ps) ≡ text.type_text k ++ bytes ps
+bytes-type int ps = refl
+bytes-type bool ps = refl
+bytes-type (named x) ps = refl
 
 bytes-declaration : (d : DeclarationTree) (ps : Pieces) → bytes (declaration d ps) ≡ text.declaration d ++ bytes ps
-bytes-declaration d ps = simp (append_assoc, kind_spelled d.kind, bytes-clock d.clock ps)
+bytes-declaration d ps =
+    let kind : WrittenType = written_type d.kind d.type_name in
+    ap (λ (z : List ℕ). d.name ++ (codes ": " ++ z)) (bytes-type kind (clock_pieces d.clock ps))
+    ∙ ap (λ (z : List ℕ). d.name ++ (codes ": " ++ (text.type_text kind ++ z))) (bytes-clock d.clock ps)
+    ∙ sym (regroup_declaration d.name (codes ": ") (text.type_text kind) (text.clock_text d.clock) (bytes ps))
 
 bytes-declarations : (ds : List DeclarationTree) (ps : Pieces) → bytes (declarations ds ps) ≡ text.declarations ds ++ bytes ps
 bytes-declarations = bytes-apart f.Semicolon declaration text.declaration bytes-declaration
@@ -240,8 +277,19 @@ bytes-node n ps =
     ∙ ap (λ (z : List ℕ). head ++ (text.locals n.locals ++ z)) (bytes-body n ps)
     ∙ sym (regroup_lines head (text.locals n.locals) (text.line (codes "let")) (flat_map text.equation n.equations) (text.line (codes "tel")) (bytes ps))
 
+regroup_type : (a b c d e g z : List ℕ) → (((((a ++ b) ++ c) ++ d) ++ e) ++ g) ++ z ≡ a ++ (b ++ (c ++ (d ++ (e ++ (g ++ z)))))
+regroup_type a b c d e g z = simp append_assoc
+
+bytes-type_declaration : (x : TypeTree) (ps : Pieces) → bytes (type_declaration x ps) ≡ text.type_declaration x ++ bytes ps
+bytes-type_declaration x ps =
+    ap (λ (z : List ℕ). codes "type " ++ (x.name ++ (codes " = enum { " ++ z))) (bytes-names x.names (space (sign f.CloseBrace (sign f.Semicolon (feed ps)))))
+    ∙ sym (regroup_type (codes "type ") x.name (codes " = enum { ") (joined (codes ", ") (λ y. y) x.names) (codes " };") (10 ∷ []) (bytes ps))
+
 pub bytes-program : (p : ProgramTree) (ps : Pieces) → bytes (program p ps) ≡ canonical p ++ bytes ps
-bytes-program p = bytes-each node text.node bytes-node p.nodes
+bytes-program p ps =
+    bytes-each type_declaration text.type_declaration bytes-type_declaration p.types (each node p.nodes ps)
+    ∙ ap (λ (z : List ℕ). flat_map text.type_declaration p.types ++ z) (bytes-each node text.node bytes-node p.nodes ps)
+    ∙ sym (append_assoc (flat_map text.type_declaration p.types) (flat_map text.node p.nodes) (bytes ps))
 
 -- THEIR TOKENS
 
@@ -267,6 +315,11 @@ shown-not false ps = refl
 
 shown-pattern : (p : Pattern) (x : List ℕ) (ps : Pieces) → shown (pattern_pieces p x ps) ≡ grammar.pattern_tokens p x (shown ps)
 shown-pattern (patterns.Truth b) x ps = shown-not b (word x ps)
+shown-pattern (patterns.Label l) x ps = refl
+
+shown-branch : (p : Pattern) (ps : Pieces) → shown (branch_piece p ps) ≡ branch_token p ∷ shown ps
+shown-branch (patterns.Truth b) ps = refl
+shown-branch (patterns.Label l) ps = refl
 
 shown-when : (c : Condition) (ps : Pieces) → shown (when_pieces c ps) ≡ grammar.when_tokens c (shown ps)
 shown-when c ps = ap (λ (ts : List Tok). fixed f.When ∷ ts) (shown-pattern c.pattern c.variable ps)
@@ -285,11 +338,7 @@ mutual
       ∙ ap (λ (ts : List Tok). fixed f.If ∷ tokens a (fixed f.Then ∷ tokens b (fixed f.Else ∷ ts))) (shown-pieces c ps)
   shown-pieces (when c clock) ps = shown-pieces c (when_pieces clock ps) ∙ ap (tokens c) (shown-when clock ps)
   shown-pieces (current x) ps = refl
-  shown-pieces (merge x a b) ps =
-      let second = space (sign f.Open (sign f.False (space (sign f.Arrow (space (pieces b (sign f.Close ps))))))) in
-      let head : List Tok → List Tok = λ ts. fixed f.Merge ∷ identifier x ∷ fixed f.Open ∷ fixed f.True ∷ fixed f.Arrow ∷ ts in
-      ap head (shown-pieces a (sign f.Close second))
-      ∙ ap (λ (ts : List Tok). head (tokens a (fixed f.Close ∷ fixed f.Open ∷ fixed f.False ∷ fixed f.Arrow ∷ ts))) (shown-pieces b (sign f.Close ps))
+  shown-pieces (merge x qs cs) ps = ap (λ (ts : List Tok). fixed f.Merge ∷ identifier x ∷ ts) (shown-branches cs qs ps)
   shown-pieces (call g none) ps = refl
   shown-pieces (call g (more c cs)) ps =
       ap (λ (ts : List Tok). identifier g ∷ fixed f.Open ∷ ts) (shown-pieces c (further cs (sign f.Close ps)))
@@ -300,6 +349,15 @@ mutual
   shown-further none ps = refl
   shown-further (more c cs) ps =
       ap (λ (ts : List Tok). fixed f.Comma ∷ ts) (shown-pieces c (further cs ps)) ∙ ap (λ (ts : List Tok). fixed f.Comma ∷ tokens c ts) (shown-further cs ps)
+
+  shown-branches : (cs : Writtens) (qs : List Pattern) (ps : Pieces) → shown (branches cs qs ps) ≡ grammar.branches cs qs (shown ps)
+  shown-branches none qs ps = refl
+  shown-branches (more c cs) [] ps = refl
+  shown-branches (more c cs) (q ∷ qs) ps =
+      let end = sign f.Close (branches cs qs ps) in
+      ap (λ (ts : List Tok). fixed f.Open ∷ ts) (shown-branch q (space (sign f.Arrow (space (pieces c end)))))
+      ∙ ap (λ (ts : List Tok). fixed f.Open ∷ branch_token q ∷ fixed f.Arrow ∷ ts) (shown-pieces c end)
+      ∙ ap (λ (ts : List Tok). fixed f.Open ∷ branch_token q ∷ fixed f.Arrow ∷ tokens c (fixed f.Close ∷ ts)) (shown-branches cs qs ps)
 
 -- what a part shows is what it has in the grammar
 abbrev Shows : {A W : Type 0} → (A → Pieces → Pieces) → (W → List Tok → List Tok) → (A → W) → Type 0
@@ -318,12 +376,25 @@ shown-apart : {A W : Type 0} (g : Fixed) (part : A → Pieces → Pieces) (of : 
 shown-apart g part of view one [] ps = refl
 shown-apart g part of view one (x ∷ xs) ps = one x (each (behind g part) xs ps) ∙ ap (of (view x)) (shown-each (behind g part) (led g of) view (shown-behind g part of view one) xs ps)
 
-shown-clock : (c : Option Condition) (ps : Pieces) → shown (clock_pieces c ps) ≡ grammar.clock c (shown ps)
+-- a clock is told by names alone
+pattern-bare : (p : Pattern) (x : List ℕ) (ts : List Tok) → grammar.pattern_tokens p x ts ≡ grammar.pattern_tokens (bare_pattern p) x ts
+pattern-bare (patterns.Truth b) x ts = refl
+pattern-bare (patterns.Label l) x ts = refl
+
+shown-clock : (c : Option Condition) (ps : Pieces) → shown (clock_pieces c ps) ≡ grammar.clock (bare_clock c) (shown ps)
 shown-clock None ps = refl
-shown-clock (Some c) ps = shown-when c ps
+shown-clock (Some c) ps = shown-when c ps ∙ ap (λ (ts : List Tok). fixed f.When ∷ ts) (pattern-bare c.pattern c.variable (shown ps))
+
+shown-type : (k : WrittenType) (ps : Pieces) → shown (type_piece k ps) ≡ type_token k ∷ shown ps
+shown-type int ps = refl
+shown-type bool ps = refl
+shown-type (named x) ps = refl
 
 shown-declaration : Shows declaration grammar.declaration written_declaration
-shown-declaration d ps = ap (λ (ts : List Tok). identifier d.name ∷ fixed f.Colon ∷ fixed (kind_token d.kind) ∷ ts) (shown-clock d.clock ps)
+shown-declaration d ps =
+    let kind : WrittenType = written_type d.kind d.type_name in
+    ap (λ (ts : List Tok). identifier d.name ∷ fixed f.Colon ∷ ts) (shown-type kind (clock_pieces d.clock ps))
+    ∙ ap (λ (ts : List Tok). identifier d.name ∷ fixed f.Colon ∷ type_token kind ∷ ts) (shown-clock d.clock ps)
 
 shown-declarations : (ds : List DeclarationTree) (ps : Pieces) → shown (declarations ds ps) ≡ separated f.Semicolon grammar.declaration (map written_declaration ds) (shown ps)
 shown-declarations = shown-apart f.Semicolon declaration grammar.declaration written_declaration shown-declaration
@@ -372,5 +443,18 @@ shown-node n ps =
     ∙ ap (λ (ts : List Tok). first (of n.inputs (second (of n.outputs (third ts))))) (shown-locals n.locals (body n ps))
     ∙ ap (λ (ts : List Tok). first (of n.inputs (second (of n.outputs (third (grammar.locals (map written_declaration n.locals) ts)))))) (shown-body n ps)
 
+shown-names : (xs : List (List ℕ)) (ps : Pieces) → shown (apart f.Comma word xs ps) ≡ separated f.Comma grammar.name xs (shown ps)
+shown-names [] ps = refl
+shown-names (x ∷ xs) ps = ap (λ (ts : List Tok). identifier x ∷ ts) (names-each xs ps)
+
+shown-type_declaration : (x : TypeTree) (ps : Pieces) → shown (type_declaration x ps) ≡ grammar.type_declaration x (shown ps)
+shown-type_declaration x ps =
+    ap (λ (ts : List Tok). fixed f.Type ∷ identifier x.name ∷ fixed f.Equal ∷ fixed f.Enum ∷ fixed f.OpenBrace ∷ ts) (shown-names x.names (space (sign f.CloseBrace (sign f.Semicolon (feed ps)))))
+
+shown-types : (xs : List TypeTree) (ps : Pieces) → shown (each type_declaration xs ps) ≡ repeated grammar.type_declaration xs (shown ps)
+shown-types [] ps = refl
+shown-types (x ∷ xs) ps = shown-type_declaration x (each type_declaration xs ps) ∙ ap (grammar.type_declaration x) (shown-types xs ps)
+
 pub shown-program : (p : ProgramTree) (ps : Pieces) → shown (program p ps) ≡ grammar.program (written_program p) (shown ps)
-shown-program p = shown-each node grammar.node written_node shown-node p.nodes
+shown-program p ps =
+    shown-types p.types (each node p.nodes ps) ∙ ap (repeated grammar.type_declaration p.types) (shown-each node grammar.node written_node shown-node p.nodes ps)

@@ -8,7 +8,7 @@ use Rattle.lusyn_lexer.specs.Runs.{HasShortRuns}
 use Rattle.lusyn_grammar.specs.Grammar as grammar
 use Rattle.lusyn_grammar.specs.Grammar.{Spells}
 use Rattle.lusyn_grammar.specs.Printing.{written_program}
-use Rattle.lusyn_grammar.proofs.Printed.{spelled-printable, printed-spells}
+use Rattle.lusyn_grammar.proofs.Printed.{spelled-printable, spelled-bare, printed-spells}
 use Rattle.lusyn_printer.specs.Canonical.{canonical}
 use Rattle.lusyn_printer.proofs.Pieces.{program, bytes-program, placed-shown, shown-program}
 use Rattle.lusyn_printer.proofs.Wholes.{AreWhole, IsWholeProgram, cut-whole, program-whole}
@@ -33,17 +33,18 @@ short : (ts : List Placed) (p : ProgramTree) → Spells (map (λ x. x.1) ts) p �
 short ts p (q, proper, spelled, stands) runs =
     let P : List Tok → Type 0 = IsLow in
     let Q : ProgramTree → Type 0 = IsNarrowProgram in
-    let narrow = program_narrow q 0 proper.1 (subst P (sym spelled) (short-peak ts runs)) in
+    let narrow = program_narrow q proper.1 (subst P (sym spelled) (short-peak ts runs)) in
     peak-short (placed 0 (program p [])) (subst P (sym (canonical-tokens p)) (canonical_low p (subst Q stands narrow)))
 
 pub read_back : (text : List ℕ) (ts : List Placed) (p : ProgramTree) → HasTokens text ts → Spells (map (λ x. x.1) ts) p
     → (us : List Placed) × HasTokens (canonical p) us × Spells (map (λ x. x.1) us) p × (HasShortRuns ts → HasShortRuns us)
 read_back text ts p has spells =
     let h = sound text ts p has spells in
-    let P : List Tok → Type 0 = λ us. Spells us p in (
+    let P : List Tok → Type 0 = λ us. Spells us p in
+    let Q : ProgramTree → Type 0 = λ found. Spells (grammar.program (written_program p) []) found in (
       placed 0 (program p []),
       (program p [], (h.cut, append-nil (bytes (program p [])) ∙ canonical-bytes p), refl),
-      subst P (sym (canonical-tokens p)) (printed-spells p (spelled-printable (map (λ x. x.1) ts) p spells)),
+      subst P (sym (canonical-tokens p)) (subst Q (spelled-bare (map (λ x. x.1) ts) p spells) (printed-spells p (spelled-printable (map (λ x. x.1) ts) p spells))),
       short ts p spells,
     )
 

@@ -1,5 +1,5 @@
 -- How many tokens an expression has: in canonical form no more than any other text of it.
-use Rattle.std.proofs.Common.{◌≡◌, ◌≤◌, ◌+◌, ℕ, Bool, true, false, cond, List, ◌∷◌, nat_le, refl, ap, ◌∙◌, arith}
+use Rattle.std.proofs.Common.{◌≡◌, ◌≤◌, ◌+◌, ℕ, Bool, true, false, cond, List, [], ◌∷◌, map, nat_le, refl, ap, ◌∙◌, arith}
 use Rattle.std.proofs.lemmas.Bool.{le-leb}
 use Rattle.lutree.specs.declared.expr.Pattern.{Pattern}
 use Rattle.lutree.specs.declared.expr.Pattern.TheVariants as patterns
@@ -11,11 +11,11 @@ use Rattle.lutree.specs.declared.expr.Infix.{Infix}
 use Rattle.lutree.specs.declared.expr.Infix.TheVariants as i
 use Rattle.lutree.specs.declared.expr.BinaryOperator.TheVariants as b
 use Rattle.lusyn_tokens.specs.declared.token.Fixed.TheVariants as f
-use Rattle.lusyn_tokens.specs.Tokens.{Tok, identifier, fixed}
+use Rattle.lusyn_tokens.specs.Tokens.{Tok, fixed}
 use Rattle.lusyn_lexer.specs.Runs.{is_of_run}
 use Rattle.lusyn_tokens.specs.Tokens.{prefix_token, infix_token, left, right}
-use Rattle.lusyn_grammar.specs.Grammar.{Written, Writtens, number, truth, variable, unary, binary, choice, when, current, merge, call, paren, none, more, level_of, IsProper, AreProper, tree, trees, tokens, further, truth_token, pattern_tokens, when_tokens}
-use Rattle.lusyn_grammar.specs.Printing.{placed, written, writtens}
+use Rattle.lusyn_grammar.specs.Grammar.{Written, Writtens, number, truth, variable, unary, binary, choice, when, current, merge, call, paren, none, more, level_of, IsProper, AreProper, tree, trees, tokens, further, branches, branch_token, truth_token, pattern_tokens, when_tokens}
+use Rattle.lusyn_grammar.specs.Printing.{placed, bare_pattern, written, writtens}
 use Rattle.lusyn_printer.proofs.Peaks.{peak, peak-of_run}
 
 abbrev pub sign_size : Bool → ℕ
@@ -24,6 +24,7 @@ sign_size false = 1
 
 abbrev pub pattern_size : Pattern → ℕ
 pattern_size (patterns.Truth b) = sign_size b
+pattern_size (patterns.Label l) = 3
 
 abbrev pub when_size : Condition → ℕ
 when_size c = 2 + pattern_size c.pattern
@@ -38,7 +39,7 @@ abbrev mutual
   size (choice a b c) = 3 + (size a + (size b + size c))
   size (when c clock) = size c + when_size clock
   size (current x) = 2
-  size (merge x a b) = 10 + (size a + size b)
+  size (merge x ps cs) = 2 + branch_sizes cs ps
   size (call g cs) = 3 + sizes cs
   size (paren c) = 2 + size c
 
@@ -50,6 +51,11 @@ abbrev mutual
   pub further_size : Writtens → ℕ
   further_size none = 0
   further_size (more c cs) = 1 + (size c + further_size cs)
+
+  pub branch_sizes : Writtens → List Pattern → ℕ
+  branch_sizes none ps = 0
+  branch_sizes (more c cs) [] = 0
+  branch_sizes (more c cs) (p ∷ ps) = 4 + (size c + branch_sizes cs ps)
 
 -- ---- the peak behind an expression
 
@@ -81,6 +87,11 @@ peak-when c k rest = by_pattern c.pattern
     by_pattern : (p : Pattern) → peak (k + 1) (pattern_tokens p c.variable rest) ≡ peak (k + (2 + pattern_size p)) rest
     by_pattern (patterns.Truth true) = at (k + 1 + 1) (k + (2 + 0)) rest (omega arith)
     by_pattern (patterns.Truth false) = at (k + 1 + 1 + 1) (k + (2 + 1)) rest (omega arith)
+    by_pattern (patterns.Label l) = at (k + 1 + 1 + 1 + 1 + 1) (k + (2 + 3)) rest (omega arith)
+
+branch_of_run : (p : Pattern) → is_of_run (branch_token p) ≡ true
+branch_of_run (patterns.Truth b) = truth_of_run b
+branch_of_run (patterns.Label l) = refl
 
 mutual
   pub peak-tokens : (c : Written) (k : ℕ) (rest : List Tok) → peak k (tokens c rest) ≡ peak (k + size c) rest
@@ -101,11 +112,7 @@ mutual
       ∙ at (k + 1 + size a + 1 + size b + 1 + size c) (k + (3 + (size a + (size b + size c)))) rest (omega arith)
   peak-tokens (when c clock) k rest = peak-tokens c k (when_tokens clock rest) ∙ peak-when clock (k + size c) rest ∙ at (k + size c + when_size clock) (k + (size c + when_size clock)) rest (omega arith)
   peak-tokens (current x) k rest = at (k + 1 + 1) (k + 2) rest (omega arith)
-  peak-tokens (merge x a b) k rest =
-      let second = fixed f.Close ∷ fixed f.Open ∷ fixed f.False ∷ fixed f.Arrow ∷ tokens b (fixed f.Close ∷ rest) in
-      peak-tokens a (k + 1 + 1 + 1 + 1 + 1) second
-      ∙ peak-tokens b (k + 1 + 1 + 1 + 1 + 1 + size a + 1 + 1 + 1 + 1) (fixed f.Close ∷ rest)
-      ∙ at (k + 1 + 1 + 1 + 1 + 1 + size a + 1 + 1 + 1 + 1 + size b + 1) (k + (10 + (size a + size b))) rest (omega arith)
+  peak-tokens (merge x ps cs) k rest = peak-branches cs ps (k + 1 + 1) rest ∙ at (k + 1 + 1 + branch_sizes cs ps) (k + (2 + branch_sizes cs ps)) rest (omega arith)
   peak-tokens (call g none) k rest = at (k + 1 + 1 + 1) (k + (3 + 0)) rest (omega arith)
   peak-tokens (call g (more c cs)) k rest =
       peak-tokens c (k + 1 + 1) (further cs (fixed f.Close ∷ rest))
@@ -117,6 +124,16 @@ mutual
   peak-further none k rest = at k (k + 0) rest (omega arith)
   peak-further (more c cs) k rest =
       peak-tokens c (k + 1) (further cs rest) ∙ peak-further cs (k + 1 + size c) rest ∙ at (k + 1 + size c + further_size cs) (k + (1 + (size c + further_size cs))) rest (omega arith)
+
+  peak-branches : (cs : Writtens) (ps : List Pattern) (k : ℕ) (rest : List Tok) → peak k (branches cs ps rest) ≡ peak (k + branch_sizes cs ps) rest
+  peak-branches none ps k rest = at k (k + 0) rest (omega arith)
+  peak-branches (more c cs) [] k rest = at k (k + 0) rest (omega arith)
+  peak-branches (more c cs) (p ∷ ps) k rest =
+      let others = branches cs ps rest in
+      peak-of_run (k + 1) (branch_token p) (fixed f.Arrow ∷ tokens c (fixed f.Close ∷ others)) (branch_of_run p)
+      ∙ peak-tokens c (k + 1 + 1 + 1) (fixed f.Close ∷ others)
+      ∙ peak-branches cs ps (k + 1 + 1 + 1 + size c + 1) rest
+      ∙ at (k + 1 + 1 + 1 + size c + 1 + branch_sizes cs ps) (k + (4 + (size c + branch_sizes cs ps))) rest (omega arith)
 
 -- ---- the canonical form is the smallest
 
@@ -143,6 +160,10 @@ same_level c = level_of (written (tree c)) ≡ level_of c
 smallest_from : (c : Written) → level_of (written (tree c)) ≡ level_of c → size (written (tree c)) ≤ size c → Smallest c
 smallest_from c e h = record { bare = h; place = λ least fits. placed_bare least (written (tree c)) (size c) (omega (arith, fits, e)) h }
 
+pattern-size : (p : Pattern) → pattern_size (bare_pattern p) ≡ pattern_size p
+pattern-size (patterns.Truth b) = refl
+pattern-size (patterns.Label l) = refl
+
 mutual
   pub smallest : (c : Written) → IsProper c → Smallest c
   smallest (number n) h = smallest_from (number n) refl (omega arith)
@@ -162,12 +183,12 @@ mutual
       smallest_from (choice a b c) refl (omega (arith, k, l, m))
   smallest (when c clock) h =
       let k = (smallest c h.1).place 9 h.0 in
-      smallest_from (when c clock) refl (omega (arith, k))
+      let l = pattern-size clock.pattern in
+      smallest_from (when c clock) refl (omega (arith, k, l))
   smallest (current x) h = smallest_from (current x) refl (omega arith)
-  smallest (merge x a b) h =
-      let k = (smallest a h.0).place 0 (omega arith) in
-      let l = (smallest b h.1).place 0 (omega arith) in
-      smallest_from (merge x a b) refl (omega (arith, k, l))
+  smallest (merge x ps cs) h =
+      let k = smallest_branches cs ps h.0 in
+      smallest_from (merge x ps cs) refl (omega (arith, k))
   smallest (call g none) h = smallest_from (call g none) refl (omega arith)
   smallest (call g (more c cs)) h =
       let k = (smallest c h.0).place 0 (omega arith) in
@@ -185,4 +206,12 @@ mutual
   smallest_further (more c cs) h =
       let k = (smallest c h.0).place 0 (omega arith) in
       let l = smallest_further cs h.1 in
+      omega (arith, k, l)
+
+  smallest_branches : (cs : Writtens) (ps : List Pattern) → AreProper cs → branch_sizes (writtens (trees cs)) (map bare_pattern ps) ≤ branch_sizes cs ps
+  smallest_branches none ps h = omega arith
+  smallest_branches (more c cs) [] h = omega arith
+  smallest_branches (more c cs) (p ∷ ps) h =
+      let k = (smallest c h.0).place 0 (omega arith) in
+      let l = smallest_branches cs ps h.1 in
       omega (arith, k, l)

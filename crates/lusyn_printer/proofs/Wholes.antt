@@ -4,8 +4,7 @@ use Rattle.std.specs.List.{flat_map}
 use Rattle.lutree.specs.declared.expr.Pattern.{Pattern}
 use Rattle.lutree.specs.declared.expr.Pattern.TheVariants as patterns
 use Rattle.lutree.specs.declared.expr.Condition.{Condition}
-use Rattle.lutree.specs.declared.program.Kind.{Kind}
-use Rattle.lutree.specs.Tree.{Tree, Trees, DeclarationTree, EquationTree, NodeTree, ProgramTree}
+use Rattle.lutree.specs.Tree.{Tree, Trees, TypeTree, DeclarationTree, EquationTree, NodeTree, ProgramTree}
 use Rattle.lutree.specs.Tree as t
 use Rattle.lusyn_tokens.specs.declared.token.Fixed.{Fixed}
 use Rattle.lusyn_tokens.specs.declared.token.Fixed.TheVariants as f
@@ -13,7 +12,8 @@ use Rattle.lusyn_tokens.specs.Tokens.{Tok, identifier, number, fixed, text_of}
 use Rattle.lusyn_lexer.specs.Lexing as pieces
 use Rattle.lusyn_lexer.specs.Lexing.{is_word_text, IsPiece, IsInRange, Pieces, Placed, placed, before, AreCut}
 use Rattle.lusyn_grammar.specs.Grammar as w
-use Rattle.lusyn_grammar.specs.Grammar.{Written, Writtens, tree, trees, tokens, further, WrittenDeclaration, WrittenEquation, WrittenNode, WrittenProgram, Each, repeated, separated, led, ended, optional, name, pattern_tokens, when_tokens, clock, declaration, locals, left_tokens, equation, heading, body, node, program, declared, declaration_tree, equation_tree, node_tree, program_tree}
+use Rattle.lusyn_grammar.specs.Grammar.{Written, Writtens, tree, trees, tokens, further, branches, branch_token, WrittenType, WrittenDeclaration, WrittenEquation, WrittenNode, WrittenProgram, Each, repeated, separated, led, ended, optional, name, pattern_tokens, when_tokens, type_token, clock, declaration, locals, left_tokens, equation, heading, body, node, type_declaration, program, kind_of, type_name_of, declared, declaration_tree, equation_tree, node_tree, program_tree}
+use Rattle.lusyn_grammar.specs.Printing.{written_type, bare_pattern, bare_tree, bare_trees}
 
 abbrev pub IsName : List ℕ → Type 0
 IsName x = (is_word_text x ≡ true) × ((g : Fixed) → x ≢ text_of g)
@@ -52,29 +52,48 @@ cut-whole ((w, t) ∷ ps) at cut = before-whole at t (placed (at + length w) ps)
 
 -- ---- the names and numbers of a tree
 
+abbrev pub IsWholePattern : Pattern → Type 0
+IsWholePattern (patterns.Truth b) = Unit {0}
+IsWholePattern (patterns.Label l) = IsName l.name
+
+abbrev pub IsWholeCondition : Condition → Type 0
+IsWholeCondition c = IsName c.variable × IsWholePattern c.pattern
+
 abbrev mutual
   pub IsWholeTree : Tree → Type 0
   IsWholeTree (t.number n) = n < 2 ^ 63
   IsWholeTree (t.truth b) = Unit {0}
+  IsWholeTree (t.label l) = IsName l.name
   IsWholeTree (t.variable x) = IsName x
   IsWholeTree (t.unary op a) = IsWholeTree a
   IsWholeTree (t.binary op a b) = IsWholeTree a × IsWholeTree b
   IsWholeTree (t.choice a b c) = IsWholeTree a × IsWholeTree b × IsWholeTree c
-  IsWholeTree (t.when a c) = IsWholeTree a × IsName c.variable
+  IsWholeTree (t.when a c) = IsWholeTree a × IsWholeCondition c
   IsWholeTree (t.current x) = IsName x
-  IsWholeTree (t.merge x a b) = IsName x × IsWholeTree a × IsWholeTree b
+  IsWholeTree (t.merge x ps xs) = IsName x × AreWholeBranches xs ps
   IsWholeTree (t.call g xs) = IsName g × AreWholeTrees xs
 
   pub AreWholeTrees : Trees → Type 0
   AreWholeTrees t.none = Unit {0}
   AreWholeTrees (t.more a xs) = IsWholeTree a × AreWholeTrees xs
 
+  -- those that have a pattern
+  pub AreWholeBranches : Trees → List Pattern → Type 0
+  AreWholeBranches t.none ps = Unit {0}
+  AreWholeBranches (t.more a xs) [] = Unit {0}
+  AreWholeBranches (t.more a xs) (p ∷ ps) = IsWholePattern p × IsWholeTree a × AreWholeBranches xs ps
+
 abbrev pub IsWholeClock : Option Condition → Type 0
 IsWholeClock None = Unit {0}
-IsWholeClock (Some c) = IsName c.variable
+IsWholeClock (Some c) = IsWholeCondition c
+
+abbrev pub IsWholeType : WrittenType → Type 0
+IsWholeType w.int = Unit {0}
+IsWholeType w.bool = Unit {0}
+IsWholeType (w.named x) = IsName x
 
 abbrev pub IsWholeDeclaration : DeclarationTree → Type 0
-IsWholeDeclaration d = IsName d.name × IsWholeClock d.clock
+IsWholeDeclaration d = IsName d.name × IsWholeClock d.clock × IsWholeType (written_type d.kind d.type_name)
 
 abbrev pub IsWholeEquation : EquationTree → Type 0
 IsWholeEquation e = Each IsName e.left × IsWholeTree e.right
@@ -82,17 +101,54 @@ IsWholeEquation e = Each IsName e.left × IsWholeTree e.right
 abbrev pub IsWholeNode : NodeTree → Type 0
 IsWholeNode n = IsName n.name × Each IsWholeDeclaration n.inputs × Each IsWholeDeclaration n.outputs × Each IsWholeDeclaration n.locals × Each IsWholeEquation n.equations
 
+abbrev pub IsWholeEnumeration : TypeTree → Type 0
+IsWholeEnumeration x = IsName x.name × Each IsName x.names
+
 abbrev pub IsWholeProgram : ProgramTree → Type 0
-IsWholeProgram p = Each IsWholeNode p.nodes
+IsWholeProgram p = Each IsWholeEnumeration p.types × Each IsWholeNode p.nodes
+
+-- ---- what a name stands for is no matter
+
+pattern-whole : (p : Pattern) → IsWholePattern p → IsWholePattern (bare_pattern p)
+pattern-whole (patterns.Truth b) h = tt
+pattern-whole (patterns.Label l) h = h
+
+mutual
+  pub bare-whole : (a : Tree) → IsWholeTree a → IsWholeTree (bare_tree a)
+  bare-whole (t.number n) h = h
+  bare-whole (t.truth b) h = h
+  bare-whole (t.label l) h = h
+  bare-whole (t.variable x) h = h
+  bare-whole (t.unary op a) h = bare-whole a h
+  bare-whole (t.binary op a b) h = (bare-whole a h.0, bare-whole b h.1)
+  bare-whole (t.choice a b c) h = (bare-whole a h.0, bare-whole b h.1, bare-whole c h.2)
+  bare-whole (t.when a c) h = (bare-whole a h.0, (h.1.0, pattern-whole c.pattern h.1.1))
+  bare-whole (t.current x) h = h
+  bare-whole (t.merge x ps xs) h = (h.0, bare-branches xs ps h.1)
+  bare-whole (t.call g xs) h = (h.0, bare-wholes xs h.1)
+
+  bare-wholes : (xs : Trees) → AreWholeTrees xs → AreWholeTrees (bare_trees xs)
+  bare-wholes t.none h = tt
+  bare-wholes (t.more a xs) h = (bare-whole a h.0, bare-wholes xs h.1)
+
+  bare-branches : (xs : Trees) (ps : List Pattern) → AreWholeBranches xs ps → AreWholeBranches (bare_trees xs) (map bare_pattern ps)
+  bare-branches t.none ps h = tt
+  bare-branches (t.more a xs) [] h = tt
+  bare-branches (t.more a xs) (p ∷ ps) h = (pattern-whole p h.0, bare-whole a h.1, bare-branches xs ps h.2)
 
 -- ---- from the tokens to the tree: those of the part are whole, and so is the rest
 
-when-whole : (c : Condition) (rest : List Tok) → AreWhole (when_tokens c rest) → IsName c.variable × AreWhole rest
+when-whole : (c : Condition) (rest : List Tok) → AreWhole (when_tokens c rest) → IsWholeCondition c × AreWhole rest
 when-whole c rest h = by_pattern c.pattern h.1
   where
-    by_pattern : (p : Pattern) → AreWhole (pattern_tokens p c.variable rest) → IsName c.variable × AreWhole rest
-    by_pattern (patterns.Truth true) k = k
-    by_pattern (patterns.Truth false) k = k.1
+    by_pattern : (p : Pattern) → AreWhole (pattern_tokens p c.variable rest) → (IsName c.variable × IsWholePattern p) × AreWhole rest
+    by_pattern (patterns.Truth true) k = ((k.0, tt), k.1)
+    by_pattern (patterns.Truth false) k = ((k.1.0, tt), k.1.1)
+    by_pattern (patterns.Label l) k = ((k.1.1.0, k.0), k.1.1.1.1)
+
+branch-whole : (p : Pattern) → IsWhole (branch_token p) → IsWholePattern p
+branch-whole (patterns.Truth b) h = tt
+branch-whole (patterns.Label l) h = h
 
 mutual
   tree-whole : (c : Written) (rest : List Tok) → AreWhole (tokens c rest) → IsWholeTree (tree c) × AreWhole rest
@@ -114,10 +170,7 @@ mutual
       let y = when-whole on rest x.1 in
       ((x.0, y.0), y.1)
   tree-whole (w.current x) rest h = h.1
-  tree-whole (w.merge x a b) rest h =
-      let k = tree-whole a _ h.1.1.1.1.1 in
-      let l = tree-whole b _ k.1.1.1.1.1 in
-      ((h.1.0, k.0, l.0), l.1.1)
+  tree-whole (w.merge x ps cs) rest h = let k = branches-whole cs ps rest h.1.1 in ((h.1.0, k.0), k.1)
   tree-whole (w.call g w.none) rest h = ((h.0, tt), h.1.1.1)
   tree-whole (w.call g (w.more c cs)) rest h =
       let x = tree-whole c _ h.1.1 in
@@ -131,6 +184,14 @@ mutual
       let x = tree-whole c _ h.1 in
       let y = trees-whole cs rest x.1 in
       ((x.0, y.0), y.1)
+
+  branches-whole : (cs : Writtens) (ps : List Pattern) (rest : List Tok) → AreWhole (branches cs ps rest) → AreWholeBranches (trees cs) ps × AreWhole rest
+  branches-whole w.none ps rest h = (tt, h)
+  branches-whole (w.more c cs) [] rest h = (tt, h)
+  branches-whole (w.more c cs) (p ∷ ps) rest h =
+      let x = tree-whole c _ h.1.1.1 in
+      let y = branches-whole cs ps rest x.1.1 in
+      ((branch-whole p h.1.0, x.0, y.0), y.1)
 
 -- ---- lists of parts
 
@@ -172,15 +233,20 @@ clock-whole : (c : Option Condition) (rest : List Tok) → AreWhole (clock c res
 clock-whole None rest h = (tt, h)
 clock-whole (Some c) rest h = when-whole c rest h
 
-declared-whole : (kind : Kind) (on : Option Condition) (xs : List (List ℕ)) → IsWholeClock on → Each IsName xs → Each IsWholeDeclaration (map (declared kind on) xs)
-declared-whole kind on [] c h = tt
-declared-whole kind on (x ∷ xs) c h = ((h.0, c), declared-whole kind on xs c h.1)
+type-whole : (k : WrittenType) → IsWhole (type_token k) → IsWholeType (written_type (kind_of k) (type_name_of k))
+type-whole w.int h = tt
+type-whole w.bool h = tt
+type-whole (w.named x) h = h
+
+declared-whole : (kind : WrittenType) (on : Option Condition) (xs : List (List ℕ)) → IsWhole (type_token kind) → IsWholeClock on → Each IsName xs → Each IsWholeDeclaration (map (declared kind on) xs)
+declared-whole kind on [] k c h = tt
+declared-whole kind on (x ∷ xs) k c h = ((h.0, c, type-whole kind k), declared-whole kind on xs k c h.1)
 
 declaration-whole : Gives declaration declaration_tree IsWholeDeclaration
 declaration-whole d rest h =
     let x = apart-whole d.names _ h in
     let y = clock-whole d.clock rest x.1.1.1 in
-    (declared-whole d.kind d.clock d.names y.0 x.0, y.1)
+    (declared-whole d.kind d.clock d.names x.1.1.0 y.0 x.0, y.1)
 
 left-whole : (xs : List (List ℕ)) (rest : List Tok) → AreWhole (left_tokens xs rest) → Each IsName xs × AreWhole rest
 left-whole [] rest h = (tt, h.1.1)
@@ -218,6 +284,16 @@ node-whole n rest h =
     let equations = equations-whole n.equations _ inner.1.1 in
     ((h.1.0, inputs.0, outputs.0, inner.0, equations.0), optional-whole n.is_ended rest equations.1.1)
 
+nodes-whole : (ns : List WrittenNode) → AreWhole (repeated node ns []) → Each IsWholeNode (map node_tree ns)
+nodes-whole [] h = tt
+nodes-whole (n ∷ ns) h = let x = node-whole n _ h in (x.0, nodes-whole ns x.1)
+
+types-whole : (xs : List TypeTree) (rest : List Tok) → AreWhole (repeated type_declaration xs rest) → Each IsWholeEnumeration xs × AreWhole rest
+types-whole [] rest h = (tt, h)
+types-whole (x ∷ xs) rest h =
+    let y = apart-whole x.names _ h.1.1.1.1.1 in
+    let z = types-whole xs rest y.1.1.1 in
+    (((h.1.0, y.0), z.0), z.1)
+
 pub program-whole : (p : WrittenProgram) → AreWhole (program p []) → IsWholeProgram (program_tree p)
-program-whole [] h = tt
-program-whole (n ∷ p) h = let x = node-whole n _ h in (x.0, program-whole p x.1)
+program-whole p h = let x = types-whole p.types _ h in (x.0, nodes-whole p.nodes x.1)

@@ -1,28 +1,27 @@
 -- The canonical text of a program, as its bytes:
 --
---   node main(x: int; c: bool) returns (y: int; z: int when c);
+--   type t = enum { Up, Down };
+--   node main(x: int; c: bool; m: t) returns (y: int; z: int when c);
 --   var s: int when c;
 --   let
 --     s = x when c;
 --     z = 2 * s;
---     y = x -> pre y + x;
+--     y = merge m (Up -> x when Up(m)) (Down -> pre y when Down(m));
 --   tel
 --
--- Each line ends with a line feed, and a node follows the one before without a blank line. Parentheses stand where `written`
--- puts them, which is where they are needed.
+-- Each line ends with a line feed, and a node follows what stands before it without a blank line. Parentheses stand where
+-- `written` puts them, which is where they are needed.
 use Rattle.std.specs.Prelude.{ℕ, Bool, true, false, List, [], ◌∷◌, ◌++◌, codes, Option, Some, None}
 use Rattle.std.specs.List.{flat_map}
 use Rattle.std.specs.Fmt.{decimal}
 use Rattle.lutree.specs.declared.expr.Pattern.{Pattern}
 use Rattle.lutree.specs.declared.expr.Pattern.TheVariants as patterns
 use Rattle.lutree.specs.declared.expr.Condition.{Condition}
-use Rattle.lutree.specs.declared.program.Kind.{Kind}
-use Rattle.lutree.specs.declared.program.Kind.TheVariants as kinds
-use Rattle.lutree.specs.Tree.{DeclarationTree, EquationTree, NodeTree, ProgramTree}
+use Rattle.lutree.specs.Tree.{TypeTree, DeclarationTree, EquationTree, NodeTree, ProgramTree}
 use Rattle.lusyn_tokens.specs.Tokens.{text_of}
 use Rattle.lusyn_tokens.specs.Tokens.{prefix_token, infix_token}
-use Rattle.lusyn_grammar.specs.Grammar.{Written, Writtens, number, truth, variable, unary, binary, choice, when, current, merge, call, paren, none, more}
-use Rattle.lusyn_grammar.specs.Printing.{written}
+use Rattle.lusyn_grammar.specs.Grammar.{Written, Writtens, number, truth, variable, unary, binary, choice, when, current, merge, call, paren, none, more, WrittenType, int, bool, named}
+use Rattle.lusyn_grammar.specs.Printing.{written, written_type}
 
 -- all of them in order, with this text between each two
 abbrev pub joined : {A : Type 0} → List ℕ → (A → List ℕ) → List A → List ℕ
@@ -40,17 +39,23 @@ abbrev pub sign_text : Bool → List ℕ
 sign_text true = []
 sign_text false = codes "not "
 
--- `c` or `not c`
+-- `c`, `not c` or `A(c)`
 abbrev pub pattern_text : Pattern → List ℕ → List ℕ
 pattern_text (patterns.Truth sign) x = sign_text sign ++ x
+pattern_text (patterns.Label l) x = l.name ++ codes "(" ++ x ++ codes ")"
 
--- ` when c` or ` when not c`
+-- ` when c`, ` when not c` or ` when A(c)`
 abbrev pub when_text : Condition → List ℕ
 when_text c = codes " when " ++ pattern_text c.pattern c.variable
 
 abbrev pub truth_text : Bool → List ℕ
 truth_text true = codes "true"
 truth_text false = codes "false"
+
+-- what a branch begins with: `true`, `false` or `A`
+abbrev pub branch_text : Pattern → List ℕ
+branch_text (patterns.Truth b) = truth_text b
+branch_text (patterns.Label l) = l.name
 
 abbrev mutual
   pub expression : Written → List ℕ
@@ -62,7 +67,7 @@ abbrev mutual
   expression (choice a b c) = codes "if " ++ expression a ++ codes " then " ++ expression b ++ codes " else " ++ expression c
   expression (when c clock) = expression c ++ when_text clock
   expression (current x) = codes "current " ++ x
-  expression (merge x a b) = codes "merge " ++ x ++ codes " (true -> " ++ expression a ++ codes ") (false -> " ++ expression b ++ codes ")"
+  expression (merge x ps cs) = codes "merge " ++ x ++ branches cs ps
   expression (call g cs) = g ++ codes "(" ++ operands cs ++ codes ")"
   expression (paren c) = codes "(" ++ expression c ++ codes ")"
 
@@ -76,20 +81,28 @@ abbrev mutual
   further none = []
   further (more c cs) = codes ", " ++ expression c ++ further cs
 
+  -- ` (A -> a) (B -> b)`
+  pub branches : Writtens → List Pattern → List ℕ
+  branches none ps = []
+  branches (more c cs) [] = []
+  branches (more c cs) (p ∷ ps) = codes " (" ++ branch_text p ++ codes " -> " ++ expression c ++ codes ")" ++ branches cs ps
+
 -- DECLARATIONS, EQUATIONS AND NODES
 
-abbrev pub kind_text : Kind → List ℕ
-kind_text kinds.Int = codes "int"
-kind_text kinds.Bool = codes "bool"
+-- `int`, `bool`, or the name of an enumeration
+abbrev pub type_text : WrittenType → List ℕ
+type_text int = codes "int"
+type_text bool = codes "bool"
+type_text (named x) = x
 
--- nothing, or ` when c` or ` when not c`
+-- nothing, or ` when c`, ` when not c` or ` when A(c)`
 abbrev pub clock_text : Option Condition → List ℕ
 clock_text None = []
 clock_text (Some c) = when_text c
 
 -- `x: int`
 abbrev pub declaration : DeclarationTree → List ℕ
-declaration d = d.name ++ codes ": " ++ kind_text d.kind ++ clock_text d.clock
+declaration d = d.name ++ codes ": " ++ type_text (written_type d.kind d.type_name) ++ clock_text d.clock
 
 -- `x: int; y: bool`
 abbrev pub declarations : List DeclarationTree → List ℕ
@@ -116,6 +129,10 @@ equation e = line (codes "  " ++ left_side e.left ++ codes " = " ++ expression (
 abbrev pub node : NodeTree → List ℕ
 node n = line (heading n) ++ locals n.locals ++ line (codes "let") ++ flat_map equation n.equations ++ line (codes "tel")
 
+-- the line `type t = enum { A, B };`
+abbrev pub type_declaration : TypeTree → List ℕ
+type_declaration x = line (codes "type " ++ x.name ++ codes " = enum { " ++ joined (codes ", ") (λ y. y) x.names ++ codes " };")
+
 -- the text of a whole program
 abbrev pub canonical : ProgramTree → List ℕ
-canonical p = flat_map node p.nodes
+canonical p = flat_map type_declaration p.types ++ flat_map node p.nodes

@@ -1,16 +1,16 @@
 //! Expressions.
 
-ghost use Rattle.std.specs.Prelude.{◌≡◌, ◌++◌, ◌≤◌, IfOk, string_bytes};
+ghost use Rattle.std.specs.Prelude.{◌≡◌, ◌++◌, ◌≤◌, IfOk, map, string_bytes};
 ghost use Rattle.lutree.specs.Tree.{view, views, trees_of};
-ghost use Rattle.lusyn_grammar.specs.Printing.{written, writtens, placed};
-ghost use Rattle.lusyn_printer.specs.Canonical.{expression, operands, further, pattern_text, when_text};
+ghost use Rattle.lusyn_grammar.specs.Printing.{written, writtens, placed, bare_pattern};
+ghost use Rattle.lusyn_printer.specs.Canonical.{expression, operands, further, branches, branch_text, pattern_text, when_text};
 
 use crate::levels::{level_of, prefix_text, put_infix};
 use lusyn_tokens::binding_of;
 use lutree::{Condition, Expr, Pattern};
 use std::alloc::AllocError;
 
-/// `c` or `not c`.
+/// `c`, `not c` or `A(c)`.
 fn put_condition(text: &mut String, condition: &Condition) -> Result<(), AllocError>
     ensures { IfOk result (λ _. string_bytes text.new ≡ string_bytes text.old
         ++ pattern_text condition.now.pattern condition.now.variable) }
@@ -21,16 +21,33 @@ fn put_condition(text: &mut String, condition: &Condition) -> Result<(), AllocEr
             text.push_str("not ")?;
             text.push_str(condition.variable.as_str())
         }
+        Pattern::Label(label) => {
+            text.push_str(label.name.as_str())?;
+            text.push('(')?;
+            text.push_str(condition.variable.as_str())?;
+            text.push(')')
+        }
     }
 }
 
-/// ` when c` or ` when not c`.
+/// ` when c`, ` when not c` or ` when A(c)`.
 pub(crate) fn put_when(text: &mut String, condition: &Condition) -> Result<(), AllocError>
     ensures { IfOk result (λ _. string_bytes text.new ≡ string_bytes text.old
         ++ when_text condition.now) }
 {
     text.push_str(" when ")?;
     put_condition(text, condition)
+}
+
+/// What a branch begins with: `true`, `false` or `A`.
+fn put_pattern(text: &mut String, pattern: &Pattern) -> Result<(), AllocError>
+    ensures { IfOk result (λ _. string_bytes text.new ≡ string_bytes text.old
+        ++ branch_text pattern.now) }
+{
+    match pattern {
+        Pattern::Truth(truth) => write!(text, "{truth}"),
+        Pattern::Label(label) => text.push_str(label.name.as_str()),
+    }
 }
 
 /// An expression in a place that asks for this level, in parentheses where it binds less tightly.
@@ -56,6 +73,7 @@ pub(crate) fn put_expr(text: &mut String, e: &Expr) -> Result<(), AllocError>
     match e {
         Expr::Number(n) => write!(text, "{}", n.value()),
         Expr::Truth(truth) => write!(text, "{truth}"),
+        Expr::Label(label) => text.push_str(label.name.as_str()),
         Expr::Variable(x) => text.push_str(x.as_str()),
         Expr::Current(x) => {
             text.push_str("current ")?;
@@ -84,12 +102,10 @@ pub(crate) fn put_expr(text: &mut String, e: &Expr) -> Result<(), AllocError>
             put_operand(text, a, 9)?;
             put_when(text, condition)
         }
-        Expr::Merge(x, a, b) => {
-            write!(text, "merge {} (true -> ", x.as_str())?;
-            put_expr(text, a)?;
-            text.push_str(") (false -> ")?;
-            put_expr(text, b)?;
-            text.push_str(")")
+        Expr::Merge(x, patterns, branches) => {
+            text.push_str("merge ")?;
+            text.push_str(x.as_str())?;
+            put_branches(text, patterns.as_slice(), branches)
         }
         Expr::Call(f, arguments) => {
             text.push_str(f.as_str())?;
@@ -117,4 +133,23 @@ fn put_operands(text: &mut String, arguments: &[Expr]) -> Result<(), AllocError>
             Ok(())
         }
     }
+}
+
+/// ` (A -> a) (B -> b)`
+#[cycle(printing)]
+fn put_branches(text: &mut String, patterns: &[Pattern], values: &[Expr]) -> Result<(), AllocError>
+    ensures { IfOk result (λ _. string_bytes text.new ≡ string_bytes text.old
+        ++ branches (writtens (trees_of (views values.now))) (map bare_pattern patterns.now)) }
+{
+    for (i, value) in values.iter().enumerate() {
+        let Some(pattern) = patterns.get(i) else {
+            return Ok(());
+        };
+        text.push_str(" (")?;
+        put_pattern(text, pattern)?;
+        text.push_str(" -> ")?;
+        put_expr(text, value)?;
+        text.push(')')?;
+    }
+    Ok(())
 }

@@ -1,21 +1,34 @@
-//! Declarations, equations and nodes.
+//! Types, declarations, equations and nodes.
 
 ghost use Rattle.std.specs.Prelude.{◌≡◌, ◌++◌, IfOk, string_bytes, map, flat_map, codes};
-ghost use Rattle.lutree.specs.Tree.{declaration_view, declarations_view, equation_view, node_view, program_view};
-ghost use Rattle.lusyn_printer.specs.Canonical.{joined, declaration, declarations, heading, locals, left_side, equation, node, canonical};
-ghost use Rattle.lusyn_printer.specs.Canonical as canonical_text;
+ghost use Rattle.lutree.specs.Tree.{type_view, declaration_view, declarations_view, equation_view, node_view, program_view};
+ghost use Rattle.lusyn_grammar.specs.Printing.{written_type};
+ghost use Rattle.lusyn_printer.specs.Canonical.{joined, type_text, declaration, declarations, heading, locals, left_side, equation, node, type_declaration, canonical};
 
 use crate::expr::{put_expr, put_when};
 use lulist::Name;
-use lutree::{Declaration, Equation, Kind, Node, Program};
+use lutree::{Declaration, DeclaredName, Equation, Kind, Node, Program, TypeDeclaration};
 use std::alloc::{AllocError, Global};
 
+/// `int` or `bool`; an enumeration has a name instead.
 fn kind_text(kind: Kind) -> &'static str
-    ensures { result.now ≡ canonical_text.kind_text kind }
+    ensures { result.now ≡ type_text (written_type kind None) }
 {
     match kind {
         Kind::Int => "int",
         Kind::Bool => "bool",
+        Kind::Enum(_, _) => "",
+    }
+}
+
+/// `int`, `bool`, or the name of an enumeration.
+fn put_type(text: &mut String, declared: &Declaration) -> Result<(), AllocError>
+    ensures { IfOk result (λ _. string_bytes text.new ≡ string_bytes text.old
+        ++ type_text (written_type declared.now.kind declared.now.type_name)) }
+{
+    match &declared.type_name {
+        Some(name) => text.push_str(name.as_str()),
+        None => text.push_str(kind_text(declared.kind)),
     }
 }
 
@@ -26,7 +39,7 @@ fn put_declaration(text: &mut String, declared: &Declaration) -> Result<(), Allo
 {
     text.push_str(declared.name.as_str())?;
     text.push_str(": ")?;
-    text.push_str(kind_text(declared.kind))?;
+    put_type(text, declared)?;
     match &declared.clock {
         Some(condition) => put_when(text, condition),
         None => Ok(()),
@@ -153,6 +166,46 @@ fn put_nodes(text: &mut String, nodes: &[Node]) -> Result<(), AllocError>
     Ok(())
 }
 
+/// `A, B`
+fn put_enumeration(text: &mut String, names: &[DeclaredName]) -> Result<(), AllocError>
+    ensures { IfOk result (λ _. string_bytes text.new ≡ string_bytes text.old
+        ++ joined (codes ", ") (λ x. x) (map (λ x. x.name) names.now)) }
+{
+    match names {
+        [] => Ok(()),
+        [first, others @ ..] => {
+            text.push_str(first.name.as_str())?;
+            for other in others {
+                text.push_str(", ")?;
+                text.push_str(other.name.as_str())?;
+            }
+            Ok(())
+        }
+    }
+}
+
+/// The line `type t = enum { A, B };`
+fn put_type_declaration(text: &mut String, printed: &TypeDeclaration) -> Result<(), AllocError>
+    ensures { IfOk result (λ _. string_bytes text.new ≡ string_bytes text.old
+        ++ type_declaration (type_view printed.now)) }
+{
+    text.push_str("type ")?;
+    text.push_str(printed.name.as_str())?;
+    text.push_str(" = enum { ")?;
+    put_enumeration(text, printed.names.as_slice())?;
+    text.push_str(" };\n")
+}
+
+fn put_types(text: &mut String, types: &[TypeDeclaration]) -> Result<(), AllocError>
+    ensures { IfOk result (λ _. string_bytes text.new ≡ string_bytes text.old
+        ++ flat_map type_declaration (map type_view types.now)) }
+{
+    for printed in types {
+        put_type_declaration(text, printed)?;
+    }
+    Ok(())
+}
+
 /// The canonical text of a program, in ASCII where its names are. It fails only where memory runs out. The expressions of the
 /// program are gone into by recursion, so the stack has to hold as many calls as they are nested.
 pub fn print_program(alloc: Global, program: &Program) -> Result<String, AllocError>
@@ -160,6 +213,7 @@ pub fn print_program(alloc: Global, program: &Program) -> Result<String, AllocEr
         ≡ canonical (program_view program.now)) }
 {
     let mut text = String::new(alloc);
+    put_types(&mut text, program.types.as_slice())?;
     put_nodes(&mut text, program.nodes.as_slice())?;
     Ok(text)
 }

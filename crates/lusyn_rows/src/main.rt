@@ -10,7 +10,7 @@ use std::io;
 /// One form inside itself: the text before it and after it, and how often.
 type Form = (&'static str, &'static str, usize);
 
-const FORMS: [Form; 20] = [
+const FORMS: [Form; 23] = [
     ("(", ")", 498),
     ("pre ", "", 996),
     ("- ", "", 996),
@@ -29,6 +29,9 @@ const FORMS: [Form; 20] = [
     ("if ", " then x else x", 199),
     ("merge c (true -> ", ") (false -> x)", 90),
     ("merge c (true -> x) (false -> ", ")", 90),
+    ("", " when A(x)", 199),
+    ("merge c (A -> ", ")", 166),
+    ("merge c (A -> x) (B -> ", ")", 90),
     ("(", ")", 499),
     ("- ", "", 997),
 ];
@@ -68,7 +71,7 @@ fn put_answer(rt: &HostRuntime, text: &str) -> io::Result<()> {
     let first = printed(rt.alloc(), text)?;
     let again = printed(rt.alloc(), first.as_str())?;
     print!(rt; "{first}")?;
-    if first.as_str().starts_with("node") {
+    if !first.as_str().starts_with("!") {
         println!(rt; "= kept {}", first.as_str() == again.as_str())?;
     }
     Ok(())
@@ -79,7 +82,7 @@ fn outcome(alloc: Global, form: Form) -> Result<String, AllocError> {
     let text = deep(alloc, form)?;
     let first = printed(alloc, text.as_str())?;
     let again = printed(alloc, first.as_str())?;
-    if !first.as_str().starts_with("node") {
+    if first.as_str().starts_with("!") {
         return Ok(first);
     }
     format!(in alloc;

@@ -62,6 +62,10 @@ pub enum Fixed {
     Open,
     /// `)`
     Close,
+    /// `{`
+    OpenBrace,
+    /// `}`
+    CloseBrace,
     /// `,`
     Comma,
     /// `;`
@@ -125,6 +129,8 @@ impl Fixed {
             Fixed::Enum => "enum",
             Fixed::Open => "(",
             Fixed::Close => ")",
+            Fixed::OpenBrace => "{",
+            Fixed::CloseBrace => "}",
             Fixed::Comma => ",",
             Fixed::Semicolon => ";",
             Fixed::Colon => ":",

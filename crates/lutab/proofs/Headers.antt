@@ -10,29 +10,30 @@ use Rattle.std.proofs.lemmas.Bool.{both_ways}
 use Rattle.std.specs.declared.vec.Vec.{Vec}
 use Rattle.std.specs.declared.string.String.{String}
 use Rattle.std.specs.declared.alloc.Global.{Global}
-use Rattle.lutree.specs.declared.program.Kind.{Kind}
 use Rattle.luflow.specs.declared.data.Datum.{Datum}
+use Rattle.luflow.specs.declared.variable.Enum.{Enum}
 use Rattle.luflow.specs.declared.variable.Variable.{Variable}
 use Rattle.luflow.specs.Program.{Column}
 use Rattle.luflow.specs.Tables.{column_view, columns_view}
-use Rattle.lutab.specs.Text.{HasKind}
-use Rattle.lutab.specs.Table.{kinds_of}
+use Rattle.lutab.specs.Text.{Sort, sort_of, HasKind}
+use Rattle.lutab.specs.Table.{kinds_of, sorts_of}
 use Rattle.lutab.specs.Filling.{AreFilled, AreEmptyOf}
 
-one_column : (ks : List Kind) (k : Kind) (cs : List Column) (c : Column) → AreFilled 0 ks cs → c.values ≡ [] → AreFilled 0 (ks ++ k ∷ []) (cs ++ c ∷ [])
+one_column : (ks : List Sort) (k : Sort) (cs : List Column) (c : Column) → AreFilled 0 ks cs → c.values ≡ [] → AreFilled 0 (ks ++ k ∷ []) (cs ++ c ∷ [])
 one_column [] k [] c is none = (ap length none, subst (λ (x : List Datum). All (HasKind k) x) (sym none) (All-nil (HasKind k)), tt)
 one_column [] k (d ∷ cs) c is none = absurd is
 one_column (j ∷ ks) k [] c is none = absurd is
 one_column (j ∷ ks) k (d ∷ cs) c is none = (is.0, is.1, one_column ks k cs c is.2 none)
 
-pub one_more_column : (inputs : List Variable) (i : ℕ) (input : Variable) (columns new : List (String Global × Vec Datum Global)) (c : String Global × Vec Datum Global) → i < length inputs → AreEmptyOf (take i inputs) (columns_view columns) →
-    string_bytes c.0 ≡ (get_or inputs i input).name → c.1.items ≡ [] → new ≡ columns ++ c ∷ [] → AreEmptyOf (take (i + 1) inputs) (columns_view new)
-one_more_column inputs i input columns new c lt is named none e =
+pub one_more_column : (types : List Enum) (inputs : List Variable) (i : ℕ) (input : Variable) (columns new : List (String Global × Vec Datum Global)) (c : String Global × Vec Datum Global) → i < length inputs → AreEmptyOf types (take i inputs) (columns_view columns) →
+    string_bytes c.0 ≡ (get_or inputs i input).name → c.1.items ≡ [] → new ≡ columns ++ c ∷ [] → AreEmptyOf types (take (i + 1) inputs) (columns_view new)
+one_more_column types inputs i input columns new c lt is named none e =
     let x = get_or inputs i input in
     let names : map (λ y. y.name) (columns_view (columns ++ c ∷ [])) ≡ map (λ y. y.name) (take i inputs ++ x ∷ []) =
     rw (map-append column_view columns (c ∷ []), map-append (λ (y : Column). y.name) (columns_view columns) (column_view c ∷ []), map-append (λ (y : Variable). y.name) (take i inputs) (x ∷ []), is.0, named) refl in
-    let filled : AreFilled 0 (kinds_of (take i inputs ++ x ∷ [])) (columns_view (columns ++ c ∷ [])) =
-    rw (map-append column_view columns (c ∷ []), map-append (λ (y : Variable). y.kind) (take i inputs) (x ∷ [])) (one_column (kinds_of (take i inputs)) x.kind (columns_view columns) (column_view c) is.1 none) in
+    let filled : AreFilled 0 (sorts_of types (take i inputs ++ x ∷ [])) (columns_view (columns ++ c ∷ [])) =
+    rw (map-append column_view columns (c ∷ []), map-append (λ (y : Variable). y.kind) (take i inputs) (x ∷ []), map-append (sort_of types) (kinds_of (take i inputs)) (x.kind ∷ []))
+    (one_column (sorts_of types (take i inputs)) (sort_of types x.kind) (columns_view columns) (column_view c) is.1 none) in
     rw (take_more inputs i input lt, e) (names, filled)
 
 -- a slice written back to its vector

@@ -4,7 +4,7 @@ use Rattle.std.specs.List.{join_with_byte}
 use Rattle.std.proofs.lemmas.List.{map_more, length-map, length-take-le}
 use Rattle.lutab.specs.Text.{comma_before}
 
-join_push : (fs : List (List ℕ)) (x : List ℕ) → join_with_byte 44 (fs ++ x ∷ []) ≡ join_with_byte 44 fs ++ (comma_before (length fs) ++ x)
+pub join_push : (fs : List (List ℕ)) (x : List ℕ) → join_with_byte 44 (fs ++ x ∷ []) ≡ join_with_byte 44 fs ++ (comma_before (length fs) ++ x)
 join_push [] x = refl
 join_push (f ∷ []) x = refl
 join_push (f ∷ g ∷ fs) x = ap (λ (t : List ℕ). f ++ 44 ∷ t) (join_push (g ∷ fs) x) ∙ sym (append_assoc f (44 ∷ join_with_byte 44 (g ∷ fs)) (44 ∷ x))

@@ -10,40 +10,60 @@ use Rattle.lutree.specs.declared.program.Kind.{Kind}
 use Rattle.lutree.specs.declared.program.Kind.TheVariants as kinds
 use Rattle.luflow.specs.declared.data.Datum.{Datum}
 use Rattle.luflow.specs.declared.data.Datum.TheVariants as datums
+use Rattle.luflow.specs.declared.variable.Enum.{Enum}
 use Rattle.luflow.specs.declared.variable.Variable.{Variable}
+use Rattle.luflow.specs.Types.{names_of as names_of_type}
 use Rattle.luflow.specs.Program.{Column, Table}
 use Rattle.luflow.specs.Sound.{IsConstantOf}
 use Rattle.luflow.specs.Tables.{IsTable, AreColumnsOf}
-use Rattle.lutab.specs.Text.{IsWord, HasKind, IsRow, row_text}
-use Rattle.lutab.specs.Table.{header_text, kinds_of, row_of, rows_of, is_feed, is_too_long, table_text, IsTextOf}
+use Rattle.lutab.specs.Text.{Sort, sort_of, IsWord, IsValueOf, HasKind, IsRow, row_text}
+use Rattle.lutab.specs.Table.{header_text, sorts_of, AreWords, row_of, rows_of, is_feed, is_too_long, table_text, IsTextOf}
 use Rattle.lutab.specs.Filling.{AreFilled, AreRead}
 use Rattle.lutab.proofs.Rowwise.{rows_same}
 
 -- ---- values by their types
 
-constant_of : (k : Kind) (d : Datum) → HasKind k d → IsConstantOf k d
-constant_of kinds.Int (datums.Int z) has = (tt, λ e. cc)
-constant_of kinds.Int (datums.Bool b) has = absurd has
-constant_of kinds.Int datums.Nil has = absurd has
-constant_of kinds.Bool (datums.Int z) has = absurd has
-constant_of kinds.Bool (datums.Bool b) has = (tt, λ e. cc)
-constant_of kinds.Bool datums.Nil has = absurd has
+constant_of : (names : List (List ℕ)) (k : Kind) (d : Datum) → IsValueOf names k d → IsConstantOf k d
+constant_of names kinds.Int (datums.Int z) has = (tt, λ e. cc)
+constant_of names kinds.Int (datums.Bool b) has = absurd has
+constant_of names kinds.Int (datums.Name k) has = absurd has
+constant_of names kinds.Int datums.Nil has = absurd has
+constant_of names kinds.Bool (datums.Int z) has = absurd has
+constant_of names kinds.Bool (datums.Bool b) has = (tt, λ e. cc)
+constant_of names kinds.Bool (datums.Name k) has = absurd has
+constant_of names kinds.Bool datums.Nil has = absurd has
+constant_of names (kinds.Enum p n) (datums.Int z) has = absurd has
+constant_of names (kinds.Enum p n) (datums.Bool b) has = absurd has
+constant_of names (kinds.Enum p n) (datums.Name k) has = (has.0, λ e. cc)
+constant_of names (kinds.Enum p n) datums.Nil has = absurd has
 
-word_of : (k : Kind) (d : Datum) → HasKind k d → IsWord d
-word_of kinds.Int (datums.Int z) has = has
-word_of kinds.Int (datums.Bool b) has = absurd has
-word_of kinds.Int datums.Nil has = absurd has
-word_of kinds.Bool (datums.Int z) has = absurd has
-word_of kinds.Bool (datums.Bool b) has = tt
-word_of kinds.Bool datums.Nil has = absurd has
+word_of : (names : List (List ℕ)) (k : Kind) (d : Datum) → IsValueOf names k d → IsWord names d
+word_of names kinds.Int (datums.Int z) has = has
+word_of names kinds.Int (datums.Bool b) has = absurd has
+word_of names kinds.Int (datums.Name k) has = absurd has
+word_of names kinds.Int datums.Nil has = absurd has
+word_of names kinds.Bool (datums.Int z) has = absurd has
+word_of names kinds.Bool (datums.Bool b) has = tt
+word_of names kinds.Bool (datums.Name k) has = absurd has
+word_of names kinds.Bool datums.Nil has = absurd has
+word_of names (kinds.Enum p n) (datums.Int z) has = absurd has
+word_of names (kinds.Enum p n) (datums.Bool b) has = absurd has
+word_of names (kinds.Enum p n) (datums.Name k) has = has.1
+word_of names (kinds.Enum p n) datums.Nil has = absurd has
 
-kind_of : (k : Kind) (d : Datum) → IsConstantOf k d → IsWord d → HasKind k d
-kind_of kinds.Int (datums.Int z) is word = word
-kind_of kinds.Int (datums.Bool b) is word = absurd is.0
-kind_of kinds.Int datums.Nil is word = absurd (is.1 refl)
-kind_of kinds.Bool (datums.Int z) is word = absurd is.0
-kind_of kinds.Bool (datums.Bool b) is word = tt
-kind_of kinds.Bool datums.Nil is word = absurd (is.1 refl)
+kind_of : (names : List (List ℕ)) (k : Kind) (d : Datum) → IsConstantOf k d → IsWord names d → IsValueOf names k d
+kind_of names kinds.Int (datums.Int z) is word = word
+kind_of names kinds.Int (datums.Bool b) is word = absurd is.0
+kind_of names kinds.Int (datums.Name k) is word = absurd is.0
+kind_of names kinds.Int datums.Nil is word = absurd (is.1 refl)
+kind_of names kinds.Bool (datums.Int z) is word = absurd is.0
+kind_of names kinds.Bool (datums.Bool b) is word = tt
+kind_of names kinds.Bool (datums.Name k) is word = absurd is.0
+kind_of names kinds.Bool datums.Nil is word = absurd (is.1 refl)
+kind_of names (kinds.Enum p n) (datums.Int z) is word = absurd is.0
+kind_of names (kinds.Enum p n) (datums.Bool b) is word = absurd is.0
+kind_of names (kinds.Enum p n) (datums.Name k) is word = (is.0, word)
+kind_of names (kinds.Enum p n) datums.Nil is word = absurd (is.1 refl)
 
 -- ---- columns
 
@@ -53,39 +73,38 @@ head_is a b xs ys e = cc
 tail_is : (a b : List ℕ) (xs ys : List (List ℕ)) → a ∷ xs ≡ b ∷ ys → xs ≡ ys
 tail_is a b xs ys e = cc
 
-columns_of : (n : ℕ) (xs : List Variable) (cs : List Column) → AreFilled n (kinds_of xs) cs → map (λ c. c.name) cs ≡ map (λ x. x.name) xs → AreColumnsOf xs cs
-columns_of n [] [] is e = tt
-columns_of n [] (c ∷ cs) is e = absurd is
-columns_of n (x ∷ xs) [] is e = absurd is
-columns_of n (x ∷ xs) (c ∷ cs) is e = (
+columns_of : (types : List Enum) (n : ℕ) (xs : List Variable) (cs : List Column) → AreFilled n (sorts_of types xs) cs → map (λ c. c.name) cs ≡ map (λ x. x.name) xs → AreColumnsOf xs cs
+columns_of types n [] [] is e = tt
+columns_of types n [] (c ∷ cs) is e = absurd is
+columns_of types n (x ∷ xs) [] is e = absurd is
+columns_of types n (x ∷ xs) (c ∷ cs) is e = (
   head_is c.name x.name (map (λ d. d.name) cs) (map (λ y. y.name) xs) e,
-  All-weaker (HasKind x.kind) (IsConstantOf x.kind) (constant_of x.kind) c.values is.1,
-  columns_of n xs cs is.2 (tail_is c.name x.name (map (λ d. d.name) cs) (map (λ y. y.name) xs) e),
+  All-weaker (HasKind (sort_of types x.kind)) (IsConstantOf x.kind) (constant_of (names_of_type types x.kind) x.kind) c.values is.1,
+  columns_of types n xs cs is.2 (tail_is c.name x.name (map (λ d. d.name) cs) (map (λ y. y.name) xs) e),
 )
 
-long_of : (n : ℕ) (ks : List Kind) (cs : List Column) → AreFilled n ks cs → All (λ c. length c.values ≡ n) cs
+long_of : (n : ℕ) (ks : List Sort) (cs : List Column) → AreFilled n ks cs → All (λ c. length c.values ≡ n) cs
 long_of n [] [] is = All-nil (λ (c : Column). length c.values ≡ n)
 long_of n [] (c ∷ cs) is = absurd is
 long_of n (k ∷ ks) [] is = absurd is
 long_of n (k ∷ ks) (c ∷ cs) is = All-cons (λ (c : Column). length c.values ≡ n) c cs is.0 (long_of n ks cs is.2)
 
-words_of : (n : ℕ) (ks : List Kind) (cs : List Column) → AreFilled n ks cs → All (λ c. All IsWord c.values) cs
-words_of n [] [] is = All-nil (λ (c : Column). All IsWord c.values)
-words_of n [] (c ∷ cs) is = absurd is
+words_of : (n : ℕ) (ks : List Sort) (cs : List Column) → AreFilled n ks cs → AreWords ks cs
+words_of n [] cs is = tt
 words_of n (k ∷ ks) [] is = absurd is
-words_of n (k ∷ ks) (c ∷ cs) is = All-cons (λ (c : Column). All IsWord c.values) c cs (All-weaker (HasKind k) IsWord (word_of k) c.values is.1) (words_of n ks cs is.2)
+words_of n (k ∷ ks) (c ∷ cs) is = (All-weaker (HasKind k) (IsWord k.names) (word_of k.names k.kind) c.values is.1, words_of n ks cs is.2)
 
-both_kinds : (k : Kind) (ds : List Datum) → All (IsConstantOf k) ds → All IsWord ds → All (HasKind k) ds
-both_kinds k ds a b i d lt = kind_of k (get_or ds i d) (a i d lt) (b i d lt)
+both_kinds : (k : Sort) (ds : List Datum) → All (IsConstantOf k.kind) ds → All (IsWord k.names) ds → All (HasKind k) ds
+both_kinds k ds a b i d lt = kind_of k.names k.kind (get_or ds i d) (a i d lt) (b i d lt)
 
-filled_of : (n : ℕ) (xs : List Variable) (cs : List Column) → AreColumnsOf xs cs → All (λ c. length c.values ≡ n) cs → All (λ c. All IsWord c.values) cs → AreFilled n (kinds_of xs) cs
-filled_of n [] [] is long words = tt
-filled_of n [] (c ∷ cs) is long words = absurd is
-filled_of n (x ∷ xs) [] is long words = absurd is
-filled_of n (x ∷ xs) (c ∷ cs) is long words = (
+filled_of : (types : List Enum) (n : ℕ) (xs : List Variable) (cs : List Column) → AreColumnsOf xs cs → All (λ c. length c.values ≡ n) cs → AreWords (sorts_of types xs) cs → AreFilled n (sorts_of types xs) cs
+filled_of types n [] [] is long words = tt
+filled_of types n [] (c ∷ cs) is long words = absurd is
+filled_of types n (x ∷ xs) [] is long words = absurd is
+filled_of types n (x ∷ xs) (c ∷ cs) is long words = (
   All-head (λ (c : Column). length c.values ≡ n) c cs long,
-  both_kinds x.kind c.values is.1 (All-head (λ (c : Column). All IsWord c.values) c cs words),
-  filled_of n xs cs is.2 (All-tail (λ (c : Column). length c.values ≡ n) c cs long) (All-tail (λ (c : Column). All IsWord c.values) c cs words),
+  both_kinds (sort_of types x.kind) c.values is.1 words.0,
+  filled_of types n xs cs is.2 (All-tail (λ (c : Column). length c.values ≡ n) c cs long) words.1,
 )
 
 names_of : (xs : List Variable) (cs : List Column) → AreColumnsOf xs cs → map (λ c. c.name) cs ≡ map (λ x. x.name) xs
@@ -96,13 +115,13 @@ names_of (x ∷ xs) (c ∷ cs) is = rw (is.0, names_of xs cs is.2) refl
 
 -- ---- the rows of columns
 
-row_is_row : (n t : ℕ) (ks : List Kind) (cs : List Column) → AreFilled n ks cs → t < n → IsRow ks (row_of cs t)
+row_is_row : (n t : ℕ) (ks : List Sort) (cs : List Column) → AreFilled n ks cs → t < n → IsRow ks (row_of cs t)
 row_is_row n t [] [] is lt = tt
 row_is_row n t [] (c ∷ cs) is lt = absurd is
 row_is_row n t (k ∷ ks) [] is lt = absurd is
 row_is_row n t (k ∷ ks) (c ∷ cs) is lt = (All-get_or (HasKind k) c.values t datums.Nil (omega (arith, is.0)) is.1, row_is_row n t ks cs is.2 lt)
 
-rows_are_rows : (n m : ℕ) (ks : List Kind) (cs : List Column) → AreFilled n ks cs → m ≤ n → All (IsRow ks) (rows_of cs m)
+rows_are_rows : (n m : ℕ) (ks : List Sort) (cs : List Column) → AreFilled n ks cs → m ≤ n → All (IsRow ks) (rows_of cs m)
 rows_are_rows n zero ks cs is le = All-nil (IsRow ks)
 rows_are_rows n (suc m) ks cs is le = All-push (IsRow ks) (rows_of cs m) (row_of cs m) (rows_are_rows n m ks cs is (omega arith)) (row_is_row n m ks cs is (omega arith))
 
@@ -112,8 +131,8 @@ count_of cs (suc n) = omega (arith, length-append (rows_of cs n) (row_of cs n �
 
 -- ---- the text
 
-pub header_same : (xs : List Variable) (table : Table) → AreColumnsOf xs table.columns → table_text table ≡ header_text xs ++ flat_map row_text (rows_of table.columns table.instants)
-header_same xs table is = rw (names_of xs table.columns is) refl
+pub header_same : (ks : List Sort) (xs : List Variable) (table : Table) → AreColumnsOf xs table.columns → table_text ks table ≡ header_text xs ++ flat_map (row_text ks) (rows_of table.columns table.instants)
+header_same ks xs table is = rw (names_of xs table.columns is) refl
 
 -- a text that isn't too long has few line feeds
 few_feeds : (text : List ℕ) → is_too_long text ≡ false → count_by is_feed text ≤ 1000001
@@ -131,28 +150,28 @@ few_read xs text body n short e few =
     let line = join_with_byte 44 (map (λ x. x.name) xs) in
     omega (arith, few, few_feeds text short, ap (count_by is_feed) e, feeds_behind line body)
 
-pub table_read : (xs : List Variable) (text body : List ℕ) (n : ℕ) (cs : List Column) → is_too_long text ≡ false → text ≡ header_text xs ++ body → AreRead (kinds_of xs) (map (λ x. x.name) xs) body n cs → IsTable (record { instants = n; columns = cs })
-table_read xs text body n cs short e read = record { few = few_read xs text body n short e read.few; long = long_of n (kinds_of xs) cs read.filled }
+pub table_read : (types : List Enum) (xs : List Variable) (text body : List ℕ) (n : ℕ) (cs : List Column) → is_too_long text ≡ false → text ≡ header_text xs ++ body → AreRead (sorts_of types xs) (map (λ x. x.name) xs) body n cs → IsTable (record { instants = n; columns = cs })
+table_read types xs text body n cs short e read = record { few = few_read xs text body n short e read.few; long = long_of n (sorts_of types xs) cs read.filled }
 
 -- what was read is spelled so
-pub text_read : (xs : List Variable) (text body : List ℕ) (n : ℕ) (cs : List Column) → is_too_long text ≡ false → text ≡ header_text xs ++ body → AreRead (kinds_of xs) (map (λ x. x.name) xs) body n cs → IsTextOf xs (record { instants = n; columns = cs }) text
-text_read xs text body n cs short e read = record {
-  columns = columns_of n xs cs read.filled read.named;
-  is_table = table_read xs text body n cs short e read;
-  words = words_of n (kinds_of xs) cs read.filled;
+pub text_read : (types : List Enum) (xs : List Variable) (text body : List ℕ) (n : ℕ) (cs : List Column) → is_too_long text ≡ false → text ≡ header_text xs ++ body → AreRead (sorts_of types xs) (map (λ x. x.name) xs) body n cs → IsTextOf types xs (record { instants = n; columns = cs }) text
+text_read types xs text body n cs short e read = record {
+  columns = columns_of types n xs cs read.filled read.named;
+  is_table = table_read types xs text body n cs short e read;
+  words = words_of n (sorts_of types xs) cs read.filled;
   spelled = e ∙ rw (read.named, ← read.spelled) refl;
 }
 
 -- ---- no text spells two tables
 
-filled_in : (xs : List Variable) (table : Table) (text : List ℕ) → IsTextOf xs table text → AreFilled table.instants (kinds_of xs) table.columns
-filled_in xs table text is = filled_of table.instants xs table.columns is.columns is.is_table.long is.words
+filled_in : (types : List Enum) (xs : List Variable) (table : Table) (text : List ℕ) → IsTextOf types xs table text → AreFilled table.instants (sorts_of types xs) table.columns
+filled_in types xs table text is = filled_of types table.instants xs table.columns is.columns is.is_table.long is.words
 
-pub rows_in : (xs : List Variable) (table : Table) (text : List ℕ) → IsTextOf xs table text → All (IsRow (kinds_of xs)) (rows_of table.columns table.instants)
-rows_in xs table text is = rows_are_rows table.instants table.instants (kinds_of xs) table.columns (filled_in xs table text is) (omega arith)
+pub rows_in : (types : List Enum) (xs : List Variable) (table : Table) (text : List ℕ) → IsTextOf types xs table text → All (IsRow (sorts_of types xs)) (rows_of table.columns table.instants)
+rows_in types xs table text is = rows_are_rows table.instants table.instants (sorts_of types xs) table.columns (filled_in types xs table text is) (omega arith)
 
-pub spelled_in : (xs : List Variable) (table : Table) (text : List ℕ) → IsTextOf xs table text → text ≡ header_text xs ++ flat_map row_text (rows_of table.columns table.instants)
-spelled_in xs table text is = is.spelled ∙ header_same xs table is.columns
+pub spelled_in : (types : List Enum) (xs : List Variable) (table : Table) (text : List ℕ) → IsTextOf types xs table text → text ≡ header_text xs ++ flat_map (row_text (sorts_of types xs)) (rows_of table.columns table.instants)
+spelled_in types xs table text is = is.spelled ∙ header_same (sorts_of types xs) xs table is.columns
 
 read_row_at : (cs : List Column) (n t : ℕ) → t < n → get_or (rows_of cs n) t [] ≡ row_of cs t
 read_row_at cs zero t lt = absurd (omega arith)
@@ -195,10 +214,10 @@ columns_same n (x ∷ xs) (c ∷ cs) (d ∷ ds) a b la lb rows =
 table_same : (a b : Table) → a.instants ≡ b.instants → a.columns ≡ b.columns → a ≡ b
 table_same a b n c = ap (λ (x : ℕ). record { instants = x; columns = a.columns }) n ∙ ap (λ (x : List Column). record { instants = b.instants; columns = x }) c
 
-pub one_table : (xs : List Variable) (text : List ℕ) (a b : Table) → IsTextOf xs a text → IsTextOf xs b text → a ≡ b
-one_table xs text a b p q =
-    let bodies = append_cancel_left (header_text xs) _ _ (sym (spelled_in xs a text p) ∙ spelled_in xs b text q) in
-    let rows : rows_of a.columns a.instants ≡ rows_of b.columns b.instants = rows_same (kinds_of xs) _ _ (rows_in xs a text p) (rows_in xs b text q) bodies in
+pub one_table : (types : List Enum) (xs : List Variable) (text : List ℕ) (a b : Table) → IsTextOf types xs a text → IsTextOf types xs b text → a ≡ b
+one_table types xs text a b p q =
+    let bodies = append_cancel_left (header_text xs) _ _ (sym (spelled_in types xs a text p) ∙ spelled_in types xs b text q) in
+    let rows : rows_of a.columns a.instants ≡ rows_of b.columns b.instants = rows_same (sorts_of types xs) _ _ (rows_in types xs a text p) (rows_in types xs b text q) bodies in
     let count : a.instants ≡ b.instants = sym (count_of a.columns a.instants) ∙ (ap length rows ∙ count_of b.columns b.instants) in
     let rows_b : rows_of a.columns b.instants ≡ rows_of b.columns b.instants = subst (λ n. rows_of a.columns n ≡ rows_of b.columns b.instants) count rows in
     let long_a : All (IsLong b.instants) a.columns = subst (λ n. All (IsLong n) a.columns) count p.is_table.long in

@@ -1,31 +1,50 @@
 -- The text of a table of outputs.
-use Rattle.std.specs.Prelude.{ℕ, zero, suc, List, [], ◌∷◌, ◌++◌, length, map, slice_index_or}
+use Rattle.std.specs.Prelude.{ℕ, zero, suc, ◌+◌, List, [], ◌∷◌, ◌++◌, length, map, slice_get, slice_index_or, unwrap_or}
+use Rattle.std.specs.Option.{option_map}
+use Rattle.lutree.specs.declared.program.Kind.{Kind}
 use Rattle.luflow.specs.declared.data.Status.TheVariants.{Absent}
+use Rattle.luflow.specs.declared.variable.Enum.{Enum}
+use Rattle.luflow.specs.declared.variable.Variable.{Variable}
+use Rattle.luflow.specs.Program.{FlatProgram}
 use Rattle.luflow.specs.Tables.{OutputColumn}
+use Rattle.luflow.specs.Types.{names_of}
+use Rattle.luflow.specs.Variables.{outputs_of}
 use Rattle.lutab.specs.Text.{status_text, line_text}
 
--- what the outputs have at an instant, spelled
-abbrev pub statuses_at : List OutputColumn → ℕ → List (List ℕ)
-statuses_at outputs t = map (λ c. status_text (slice_index_or c.statuses t Absent)) outputs
+-- the types of the outputs among these variables, in order
+abbrev pub output_kinds : List Variable → List Kind
+output_kinds variables = map (λ (x : Variable). x.kind) (outputs_of variables)
+
+-- the names of the type of this number among these; none where there is no such type, or it is no enumeration
+abbrev pub names_in : List Enum → List Kind → ℕ → List (List ℕ)
+names_in types kinds i = unwrap_or (option_map (names_of types) (slice_get kinds i)) []
+
+-- what the outputs from number i on have at an instant, spelled by the names of their types
+abbrev pub statuses_from : List Enum → List Kind → ℕ → List OutputColumn → ℕ → List (List ℕ)
+statuses_from types kinds i [] t = []
+statuses_from types kinds i (c ∷ cs) t = status_text (names_in types kinds i) (slice_index_or c.statuses t Absent) ∷ statuses_from types kinds (i + 1) cs t
+
+abbrev pub statuses_at : List Enum → List Kind → List OutputColumn → ℕ → List (List ℕ)
+statuses_at types kinds outputs t = statuses_from types kinds 0 outputs t
 
 -- a line of the names
 abbrev pub names_text : List OutputColumn → List ℕ
 names_text outputs = line_text (map (λ c. c.name) outputs)
 
 -- a line for each of the first n instants
-abbrev pub lines_of : List OutputColumn → ℕ → List ℕ
-lines_of outputs zero = []
-lines_of outputs (suc n) = lines_of outputs n ++ line_text (statuses_at outputs n)
+abbrev pub lines_of : List Enum → List Kind → List OutputColumn → ℕ → List ℕ
+lines_of types kinds outputs zero = []
+lines_of types kinds outputs (suc n) = lines_of types kinds outputs n ++ line_text (statuses_at types kinds outputs n)
 
 -- a line of the names, and a line for each of so many instants
-abbrev pub lines_text : List OutputColumn → ℕ → List ℕ
-lines_text outputs n = names_text outputs ++ lines_of outputs n
+abbrev pub lines_text : List Enum → List Kind → List OutputColumn → ℕ → List ℕ
+lines_text types kinds outputs n = names_text outputs ++ lines_of types kinds outputs n
 
 -- how many instants outputs have: all have as many as the first
 abbrev pub instants_of : List OutputColumn → ℕ
 instants_of [] = zero
 instants_of (c ∷ cs) = length c.statuses
 
--- a line of the names, and a line for each instant
-abbrev pub output_text : List OutputColumn → List ℕ
-output_text outputs = lines_text outputs (instants_of outputs)
+-- the outputs of a program: a line of the names, and a line for each instant
+abbrev pub output_text : FlatProgram → List OutputColumn → List ℕ
+output_text flat outputs = lines_text flat.types (output_kinds flat.variables) outputs (instants_of outputs)

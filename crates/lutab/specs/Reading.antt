@@ -1,11 +1,14 @@
 -- Reading a row from left to right: a value and the bytes after it, if the bytes begin with one.
-use Rattle.std.specs.Prelude.{ℕ, ◌+◌, ◌-◌, ◌*◌, List, [], ◌∷◌, length, codes, true, false, Bool, Option, Some, None, if◌then◌else◌, nat_lt, nat_eq, ◌==◌, pos, negsuc, take, drop}
+use Rattle.std.specs.Prelude.{ℕ, ◌+◌, ◌-◌, ◌*◌, List, [], ◌∷◌, length, codes, true, false, Bool, Option, Some, None, if◌then◌else◌, nat_lt, nat_eq, ◌==◌, pos, negsuc, position, take, drop}
 use Rattle.std.specs.Char.{is_ascii_digit}
 use Rattle.std.specs.Cmp.Lexicographic.{pointwise}
+use Rattle.std.specs.List.{position_or_len}
+use Rattle.std.specs.Str.{bytes_eq}
 use Rattle.lutree.specs.declared.program.Kind.{Kind}
 use Rattle.lutree.specs.declared.program.Kind.TheVariants as kinds
 use Rattle.luflow.specs.declared.data.Datum.{Datum}
 use Rattle.luflow.specs.declared.data.Datum.TheVariants as datums
+use Rattle.lutab.specs.Text.{Sort, is_end}
 
 infixl 10 ◌>>=◌
 abbrev pub ◌>>=◌ : {A B : Type 0} → Option A → (A → Option B) → Option B
@@ -48,9 +51,27 @@ truth b rest = Some (datums.Bool b, rest)
 unfoldable pub bool_at : List ℕ → Option (Datum × List ℕ)
 bool_at bytes = or_else (after (codes "true") bytes >>= truth true) (after (codes "false") bytes >>= truth false)
 
-abbrev pub value_at : Kind → List ℕ → Option (Datum × List ℕ)
-value_at kinds.Int bytes = int_at bytes
-value_at kinds.Bool bytes = bool_at bytes
+-- the field at the front: what stands before the next comma or line feed
+abbrev pub field_length : List ℕ → ℕ
+field_length bytes = position_or_len is_end bytes
+
+abbrev pub front_field : List ℕ → List ℕ
+front_field bytes = take (field_length bytes) bytes
+
+-- the first of these names that is the field, if it is one of the first n
+unfoldable pub name_at : List (List ℕ) → ℕ → List ℕ → Option (Datum × List ℕ)
+name_at names n bytes =
+    position (λ name. bytes_eq name (front_field bytes)) names >>= λ k.
+    if nat_lt k n then Some (datums.Name k, drop (field_length bytes) bytes) else None
+
+-- a value of a type with these names
+abbrev pub value_of : List (List ℕ) → Kind → List ℕ → Option (Datum × List ℕ)
+value_of names kinds.Int bytes = int_at bytes
+value_of names kinds.Bool bytes = bool_at bytes
+value_of names (kinds.Enum place size) bytes = name_at names size bytes
+
+abbrev pub value_at : Sort → List ℕ → Option (Datum × List ℕ)
+value_at s bytes = value_of s.names s.kind bytes
 
 -- what follows the byte
 abbrev pub skip : ℕ → List ℕ → Option (List ℕ)
@@ -58,19 +79,19 @@ skip c [] = None
 skip c (b ∷ bs) = if b == c then Some bs else None
 
 -- what ends a field before those of these types
-abbrev pub end_before : List Kind → ℕ
+abbrev pub end_before : List Sort → ℕ
 end_before [] = 10
 end_before (k ∷ ks) = 44
 
 -- a field and the byte that ends it
-unfoldable pub field_at : Kind → ℕ → List ℕ → Option (Datum × List ℕ)
+unfoldable pub field_at : Sort → ℕ → List ℕ → Option (Datum × List ℕ)
 field_at k end bytes =
     value_at k bytes >>= λ v.
     skip end v.1 >>= λ rest.
     Some (v.0, rest)
 
 -- the fields of these types
-unfoldable pub fields_at : List Kind → List ℕ → Option (List Datum × List ℕ)
+unfoldable pub fields_at : List Sort → List ℕ → Option (List Datum × List ℕ)
 fields_at [] bytes = Some ([], bytes)
 fields_at (k ∷ ks) bytes =
     field_at k (end_before ks) bytes >>= λ v.
@@ -78,6 +99,6 @@ fields_at (k ∷ ks) bytes =
     Some (v.0 ∷ x.0, x.1)
 
 -- a line, of which an empty one has no field where there are no types
-unfoldable pub row_at : List Kind → List ℕ → Option (List Datum × List ℕ)
+unfoldable pub row_at : List Sort → List ℕ → Option (List Datum × List ℕ)
 row_at [] bytes = skip 10 bytes >>= λ rest. Some ([], rest)
 row_at (k ∷ ks) bytes = fields_at (k ∷ ks) bytes

@@ -6,12 +6,13 @@ use Rattle.lulimits.specs.Limits.{longest_table, most_instants}
 use Rattle.lutree.specs.declared.program.Kind.{Kind}
 use Rattle.luflow.specs.declared.data.Datum.{Datum}
 use Rattle.luflow.specs.declared.data.Datum.TheVariants.{Nil}
+use Rattle.luflow.specs.declared.variable.Enum.{Enum}
 use Rattle.luflow.specs.declared.variable.Variable.{Variable}
 use Rattle.luflow.specs.Program.{Column, Table}
 use Rattle.luflow.specs.Tables.{IsTable, AreColumnsOf}
 use Rattle.lutab.specs.declared.error.TabError.{TabError}
 use Rattle.lutab.specs.declared.error.TabError.TheVariants.{BadHeader, BadRow, BadValue, TooLong, OutOfMemory}
-use Rattle.lutab.specs.Text.{IsWord, IsRow, line_text, row_text}
+use Rattle.lutab.specs.Text.{Sort, sort_of, IsWord, IsRow, line_text, row_text}
 
 -- what the columns have at an instant, and at the first n instants
 abbrev pub row_of : List Column → ℕ → List Datum
@@ -29,16 +30,31 @@ header_text inputs = line_text (map (λ x. x.name) inputs)
 abbrev pub kinds_of : List Variable → List Kind
 kinds_of inputs = map (λ x. x.kind) inputs
 
--- a line of the columns' names, and a line for each instant
-abbrev pub table_text : Table → List ℕ
-table_text table = line_text (map (λ c. c.name) table.columns) ++ flat_map row_text (rows_of table.columns table.instants)
+-- these types, in a program with these enumerations
+abbrev pub sorts_in : List Enum → List Kind → List Sort
+sorts_in types kinds = map (sort_of types) kinds
 
--- The text is the spelling of this table of these inputs, whose numbers have 64 bits.
-pub record IsTextOf (inputs : List Variable) (table : Table) (text : List ℕ) : Type 0 where
+-- the types of these inputs in such a program
+abbrev pub sorts_of : List Enum → List Variable → List Sort
+sorts_of types inputs = sorts_in types (kinds_of inputs)
+
+-- a line of the columns' names, and a line for each instant
+abbrev pub table_text : List Sort → Table → List ℕ
+table_text sorts table = line_text (map (λ c. c.name) table.columns) ++ flat_map (row_text sorts) (rows_of table.columns table.instants)
+
+-- each value of these columns is one that a text tells
+abbrev pub AreWords : List Sort → List Column → Type 0
+AreWords [] columns = Unit {0}
+AreWords (s ∷ sorts) [] = Unit {0}
+AreWords (s ∷ sorts) (c ∷ columns) = All (IsWord s.names) c.values × AreWords sorts columns
+
+-- The text is the spelling of this table of these inputs in a program with these enumerations: numbers have 64 bits, and names are
+-- told by what is spelled.
+pub record IsTextOf (types : List Enum) (inputs : List Variable) (table : Table) (text : List ℕ) : Type 0 where
   pub columns : AreColumnsOf inputs table.columns
   pub is_table : IsTable table
-  pub words : All (λ c. All IsWord c.values) table.columns
-  pub spelled : text ≡ table_text table
+  pub words : AreWords (sorts_of types inputs) table.columns
+  pub spelled : text ≡ table_text (sorts_of types inputs) table
 
 abbrev pub is_feed : ℕ → Bool
 is_feed byte = nat_eq byte 10
@@ -60,26 +76,26 @@ unfoldable pub is_bad_row : ℕ → List ℕ → Bool
 is_bad_row fields rest = option_map_or (λ end. has_other_count fields (take end rest)) (position is_feed rest) true
 
 -- no row of these types is spelled by the first line
-abbrev pub IsNoRow : List Kind → List ℕ → Type 0
-IsNoRow kinds rest = (row : List Datum) (after : List ℕ) → IsRow kinds row → rest ≡ row_text row ++ after → ⊥
+abbrev pub IsNoRow : List Sort → List ℕ → Type 0
+IsNoRow sorts rest = (row : List Datum) (after : List ℕ) → IsRow sorts row → rest ≡ row_text sorts row ++ after → ⊥
 
 -- The text isn't too long and begins with the header of these inputs; all lines behind it and before this one, counted from
 -- 1, are rows of their types, and this line begins the rest.
-pub record StandsAt (inputs : List Variable) (text : List ℕ) (line : ℕ) (rest : List ℕ) : Type 0 where
+pub record StandsAt (types : List Enum) (inputs : List Variable) (text : List ℕ) (line : ℕ) (rest : List ℕ) : Type 0 where
   pub short : is_too_long text ≡ false
   pub rows : List (List Datum)
-  pub each : All (IsRow (kinds_of inputs)) rows
-  pub before : text ≡ header_text inputs ++ (flat_map row_text rows ++ rest)
+  pub each : All (IsRow (sorts_of types inputs)) rows
+  pub before : text ≡ header_text inputs ++ (flat_map (row_text (sorts_of types inputs)) rows ++ rest)
   pub number : line ≡ length rows + 2
   pub some : 0 < length rest
 
 -- the text is refused so: the first that is true of it, in the order of these lines and, behind the header, of the text's
-abbrev pub IsRefused : List Variable → List ℕ → TabError → Type 0
-IsRefused inputs text TooLong = is_too_long text ≡ true
-IsRefused inputs text BadHeader = (is_too_long text ≡ false) × ((body : List ℕ) → text ≡ header_text inputs ++ body → ⊥)
-IsRefused inputs text (BadRow line) = (rest : List ℕ) × StandsAt inputs text line rest × (is_bad_row (length inputs) rest ≡ true)
-IsRefused inputs text (BadValue line) = (rest : List ℕ) × StandsAt inputs text line rest × (is_bad_row (length inputs) rest ≡ false) × IsNoRow (kinds_of inputs) rest
-IsRefused inputs text OutOfMemory = ⊥
+abbrev pub IsRefused : List Enum → List Variable → List ℕ → TabError → Type 0
+IsRefused types inputs text TooLong = is_too_long text ≡ true
+IsRefused types inputs text BadHeader = (is_too_long text ≡ false) × ((body : List ℕ) → text ≡ header_text inputs ++ body → ⊥)
+IsRefused types inputs text (BadRow line) = (rest : List ℕ) × StandsAt types inputs text line rest × (is_bad_row (length inputs) rest ≡ true)
+IsRefused types inputs text (BadValue line) = (rest : List ℕ) × StandsAt types inputs text line rest × (is_bad_row (length inputs) rest ≡ false) × IsNoRow (sorts_of types inputs) rest
+IsRefused types inputs text OutOfMemory = ⊥
 
 -- the answer is this one, unless memory ran out
 abbrev pub Answers : Result Table TabError → Result Table TabError → Type 0

@@ -1,9 +1,12 @@
 //! One value in a text.
 
-ghost use Rattle.std.specs.Prelude.{◌≡◌, ◌≤◌, option_map};
-ghost use Rattle.lutab.specs.Reading.{digits_from, number_at, natural_value, negative_value, int_at, bool_at, value_at};
+ghost use Rattle.std.specs.Prelude.{◌≡◌, ◌≤◌, ◌<◌, IfSome, length, option_map, position};
+ghost use Rattle.std.specs.Str.{bytes_eq};
+ghost use Rattle.lutab.specs.Text.{is_end, sort_of};
+ghost use Rattle.lutab.specs.Reading.{digits_from, number_at, natural_value, negative_value, int_at, bool_at, field_length, name_at, value_at};
 
-use luflow::Datum;
+use luflow::{Datum, Enum, names_of};
+use lulist::Name;
 use lutree::Kind;
 
 /// A number above it takes no further digit: ten times it is above 2^63.
@@ -90,12 +93,62 @@ fn truth(bytes: &[u8]) -> Option<(Datum, &[u8])>
     Some((Datum::Bool(false), rest))
 }
 
-/// The value of this type at the front, and what follows it.
-pub fn value(kind: Kind, bytes: &[u8]) -> Option<(Datum, &[u8])>
-    ensures { option_map (λ x. (x.0, x.1.now)) result ≡ value_at kind bytes.now }
+fn is_end(byte: u8) -> bool
+    ensures { result ≡ is_end byte }
+{
+    byte == b',' || byte == b'\n'
+}
+
+/// Where the next comma or line feed stands, if there is one.
+fn field_end(bytes: &[u8]) -> Option<usize>
+    ensures first { result ≡ position is_end bytes.now }
+    ensures within { IfSome result (λ i. i < length bytes.now) }
+{
+    bytes.iter().position(|b| is_end(*b))
+}
+
+/// How many bytes stand before the next comma or line feed.
+fn field_length(bytes: &[u8]) -> usize
+    ensures length { result ≡ field_length bytes.now }
+    ensures within { result ≤ length bytes.now }
+{
+    match field_end(bytes) {
+        Some(end) => end,
+        None => bytes.len(),
+    }
+}
+
+/// The number of the first of these names that is spelled so.
+fn number_of(names: &[Name], word: &[u8]) -> Option<usize>
+    ensures { result ≡ position (λ name. bytes_eq name word.now) names.now }
+{
+    names
+        .iter()
+        .position(|name| name.as_str().as_bytes() == word)
+}
+
+/// The field at the front, where it is one of the first so many of these names, and what follows it.
+#[tactic(auto, unfolding(crate::specs::Reading::name_at))]
+fn name<'a>(names: &[Name], size: u8, bytes: &'a [u8]) -> Option<(Datum, &'a [u8])>
+    ensures { option_map (λ x. (x.0, x.1.now)) result ≡ name_at names.now size bytes.now }
+{
+    let (word, rest) = bytes.split_at(field_length(bytes));
+    let number = number_of(names, word)?;
+    if number < size as usize {
+        Some((Datum::Name(number as u8), rest))
+    } else {
+        None
+    }
+}
+
+/// The value of this type at the front, in a program with these types, and what follows it.
+pub fn value<'a>(types: &[Enum], kind: Kind, bytes: &'a [u8]) -> Option<(Datum, &'a [u8])>
+    ensures { option_map (λ x. (x.0, x.1.now)) result
+        ≡ value_at (sort_of types.now kind) bytes.now }
 {
     match kind {
         Kind::Int => int(bytes),
         Kind::Bool => truth(bytes),
+        Kind::Enum(_, size) => name(names_of(types, kind), size, bytes),
     }
 }

@@ -8,12 +8,13 @@ ghost use Rattle.luflow.specs.Variables.{inputs_of};
 ghost use Rattle.lutab.specs.declared.error.TabError.{TabError as Refusal};
 ghost use Rattle.lutab.specs.declared.error.TabError.TheVariants.{OutOfMemory};
 ghost use Rattle.lutab.specs.Table.{header_text, kinds_of, is_feed, is_too_long, IsTextOf, IsRefused, Answers};
+ghost use Rattle.luflow.specs.declared.variable.Enum.{Enum as AnyEnum};
 ghost use Rattle.lutab.specs.Filling.{AreEmptyOf, ReadsColumns, ReadsText};
 
 use crate::error::TabError;
 use crate::rows::read_rows;
 use crate::writing::put_comma;
-use luflow::{Datum, Flat, Inputs, Variable};
+use luflow::{Datum, Enum, Flat, Inputs, Variable};
 use lulimits::limits::{LONGEST_TABLE, MOST_INSTANTS};
 use lutree::Kind;
 use std::alloc::{AllocError, Global};
@@ -65,7 +66,8 @@ fn empty_columns(
     inputs: &[Variable],
     room: usize,
 ) -> Result<Vec<(String, Vec<Datum>)>, AllocError>
-    ensures { IfOk result (λ v. AreEmptyOf inputs.now (columns_view v.items)) }
+    ensures { (types : List AnyEnum) → IfOk result
+        (λ v. AreEmptyOf types inputs.now (columns_view v.items)) }
 {
     let mut columns = Vec::new(alloc);
     for input in inputs {
@@ -79,15 +81,16 @@ fn empty_columns(
 /// Reads the lines behind the header into columns of these inputs.
 fn read_columns(
     alloc: Global,
+    types: &[Enum],
     inputs: &[Variable],
     body: &[u8],
 ) -> Result<(usize, Vec<(String, Vec<Datum>)>), TabError>
     requires { length body.now ≤ longest_table }
-    ensures { ReadsColumns inputs.now body.now result }
+    ensures { ReadsColumns types.now inputs.now body.now result }
 {
     let kinds = kinds(alloc, inputs)?;
     let mut columns = empty_columns(alloc, inputs, room(body, inputs.len()))?;
-    let instants = read_rows(&kinds, &mut columns, body)?;
+    let instants = read_rows(types, &kinds, &mut columns, body)?;
     Ok((instants, columns))
 }
 
@@ -110,9 +113,14 @@ fn table_of(instants: usize, columns: Vec<(String, Vec<Datum>)>) -> Inputs
     }
 }
 
-/// Reads the text of a table of these inputs.
-fn read_text(alloc: Global, inputs: &[Variable], text: &str) -> Result<Inputs, TabError>
-    ensures { ReadsText inputs.now text.now result }
+/// Reads the text of a table of these inputs, in a program with these types.
+fn read_text(
+    alloc: Global,
+    types: &[Enum],
+    inputs: &[Variable],
+    text: &str,
+) -> Result<Inputs, TabError>
+    ensures { ReadsText types.now inputs.now text.now result }
 {
     let bytes = text.as_bytes();
     if is_too_long(bytes) {
@@ -122,28 +130,28 @@ fn read_text(alloc: Global, inputs: &[Variable], text: &str) -> Result<Inputs, T
     let Some(body) = after_header(header.as_bytes(), bytes) else {
         return Err(TabError::BadHeader);
     };
-    let (instants, columns) = read_columns(alloc, inputs, body)?;
+    let (instants, columns) = read_columns(alloc, types, inputs, body)?;
     Ok(table_of(instants, columns))
 }
 
 /// Reads the text of a table of a program's inputs. The columns are reserved once, for the instants that so many bytes can
-/// hold, and no line takes memory of its own; the time grows with the bytes.
+/// hold, and no line takes memory of its own; the time grows with the bytes, and at a name with the names of its type.
 pub fn read_inputs(alloc: Global, flat: &Flat, text: &str) -> Result<Inputs, TabError>
     // What is read is the table that the text spells.
-    ensures spelled { IfOk result (λ table. IsTextOf (inputs_of flat.now.variables) table
-        text.now) }
+    ensures spelled { IfOk result (λ table. IsTextOf flat.now.types (inputs_of flat.now.variables)
+        table text.now) }
     // A text that is read isn't too long.
     ensures short { IfOk result (λ _. is_too_long text.now ≡ false) }
     // Each text that spells a table and isn't too long is read, and spells no other.
-    ensures only { (table : Table) → IsTextOf (inputs_of flat.now.variables) table text.now
-        → is_too_long text.now ≡ false → Answers result (Ok table) }
+    ensures only { (table : Table) → IsTextOf flat.now.types (inputs_of flat.now.variables) table
+        text.now → is_too_long text.now ≡ false → Answers result (Ok table) }
     // What is told is true of the text, and nothing before it in order is.
-    ensures refused { IfErr result (λ e. e ≢ OutOfMemory → IsRefused (inputs_of flat.now.variables)
-        text.now e) }
+    ensures refused { IfErr result (λ e. e ≢ OutOfMemory → IsRefused flat.now.types
+        (inputs_of flat.now.variables) text.now e) }
     // What is true of the text, and nothing before it in order, is told.
-    ensures refuses { (e : Refusal) → IsRefused (inputs_of flat.now.variables) text.now e
-        → Answers result (Err e) }
+    ensures refuses { (e : Refusal) → IsRefused flat.now.types (inputs_of flat.now.variables)
+        text.now e → Answers result (Err e) }
     ensures fits { IfOk result (λ table. Fits flat.now table) }
 {
-    read_text(alloc, flat.inputs(), text)
+    read_text(alloc, flat.types(), flat.inputs(), text)
 }

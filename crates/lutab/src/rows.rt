@@ -3,12 +3,13 @@
 ghost use Rattle.std.specs.Prelude.{◌≡◌, ◌<◌, ◌≤◌, length, List, ℕ, IfSome, count_by, position};
 ghost use Rattle.lulimits.specs.Limits.{longest_table};
 ghost use Rattle.luflow.specs.Tables.{columns_view};
-ghost use Rattle.lutab.specs.Table.{is_feed, is_comma, has_other_count, is_bad_row, IsNoRow};
+ghost use Rattle.luflow.specs.declared.variable.Enum.{Enum as AnyEnum};
+ghost use Rattle.lutab.specs.Table.{sorts_in, is_feed, is_comma, has_other_count, is_bad_row, IsNoRow};
 ghost use Rattle.lutab.specs.Filling.{ReadsLine, ReadsLines, AreFilled, IsReached, IsLineFault};
 
 use crate::error::{LineError, TabError};
 use crate::row::read_row;
-use luflow::Datum;
+use luflow::{Datum, Enum};
 use lutree::Kind;
 
 fn line_end(bytes: &[u8]) -> Option<usize>
@@ -47,9 +48,9 @@ fn is_bad_row(fields: usize, bytes: &[u8]) -> bool
 
 /// The refusal of the line with this number, which begins the bytes and is no row.
 fn fault_of(kinds: &[Kind], line: usize, bytes: &[u8]) -> TabError
-    requires { IsNoRow kinds.now bytes.now }
-    ensures { (body : List ℕ) → IsReached kinds.now body line bytes.now
-        → IsLineFault kinds.now body result }
+    ensures { (types : List AnyEnum) (body : List ℕ) → IsNoRow (sorts_in types kinds.now) bytes.now
+        → IsReached (sorts_in types kinds.now) body line bytes.now
+        → IsLineFault (sorts_in types kinds.now) body result }
 {
     if is_bad_row(kinds.len(), bytes) {
         TabError::BadRow { line }
@@ -60,32 +61,34 @@ fn fault_of(kinds: &[Kind], line: usize, bytes: &[u8]) -> TabError
 
 /// Reads a line into the columns, by what it spells.
 fn read_line<'a>(
+    types: &[Enum],
     kinds: &[Kind],
     columns: &mut [(String, Vec<Datum>)],
     bytes: &'a [u8],
 ) -> Result<&'a [u8], LineError>
     requires { length columns.old ≡ length kinds.now }
-    ensures { ReadsLine kinds.now bytes.now (columns_view columns.old) (columns_view columns.new)
-        result }
+    ensures { ReadsLine (sorts_in types.now kinds.now) bytes.now (columns_view columns.old)
+        (columns_view columns.new) result }
 {
-    read_row(kinds, columns, bytes)
+    read_row(types, kinds, columns, bytes)
 }
 
 /// Reads all lines, each into the columns. Answers how many there are.
 pub fn read_rows(
+    types: &[Enum],
     kinds: &[Kind],
     columns: &mut [(String, Vec<Datum>)],
     bytes: &[u8],
 ) -> Result<usize, TabError>
-    requires empty { AreFilled 0 kinds.now (columns_view columns.old) }
+    requires empty { AreFilled 0 (sorts_in types.now kinds.now) (columns_view columns.old) }
     requires short { length bytes.now ≤ longest_table }
-    ensures { ReadsLines kinds.now bytes.now (columns_view columns.old) (columns_view columns.new)
-        result }
+    ensures { ReadsLines (sorts_in types.now kinds.now) bytes.now (columns_view columns.old)
+        (columns_view columns.new) result }
 {
     let mut rest = bytes;
     let mut instants: usize = 0;
     while !rest.is_empty() {
-        match read_line(kinds, columns, rest) {
+        match read_line(types, kinds, columns, rest) {
             Ok(after) => rest = after,
             Err(LineError::OutOfMemory) => return Err(TabError::OutOfMemory),
             Err(LineError::Faulty) => return Err(fault_of(kinds, instants + 2, rest)),

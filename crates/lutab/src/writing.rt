@@ -2,11 +2,15 @@
 
 ghost use Rattle.std.specs.Prelude.{◌≡◌, ◌<◌, ◌++◌, All, IfOk, OnOk, string_bytes, vec_len};
 ghost use Rattle.luflow.specs.Tables.{outputs_view};
+ghost use Rattle.luflow.specs.Types.{names_of};
+ghost use Rattle.luflow.specs.Variables.{is_output, outputs_of};
 ghost use Rattle.lutab.specs.Text.{comma_before, datum_text, status_text, line_text};
-ghost use Rattle.lutab.specs.Outputs.{statuses_at, names_text, lines_text, output_text};
+ghost use Rattle.lutab.specs.Outputs.{names_in, output_kinds, statuses_at, names_text, lines_text, output_text};
 
 use itoa::Buffer;
-use luflow::{Datum, Outputs, Status};
+use luflow::{Datum, Enum, Flat, Outputs, Role, Status, Variable, name_of, names_of};
+use lulist::Name;
+use lutree::Kind;
 use std::alloc::{AllocError, Global};
 
 /// The least bytes that a field and what ends it take.
@@ -22,39 +26,54 @@ pub fn put_comma(out: &mut String, i: usize) -> Result<(), AllocError>
     Ok(())
 }
 
-fn put_datum(out: &mut String, datum: Datum) -> Result<(), AllocError>
-    ensures { OnOk result (string_bytes out.new ≡ string_bytes out.old ++ datum_text datum) }
+fn put_datum(out: &mut String, names: &[Name], datum: Datum) -> Result<(), AllocError>
+    ensures { OnOk result (string_bytes out.new
+        ≡ string_bytes out.old ++ datum_text names.now datum) }
 {
     match datum {
         Datum::Int(z) => out.push_str(Buffer::new().format(z)),
         Datum::Bool(true) => out.push_str("true"),
         Datum::Bool(false) => out.push_str("false"),
+        Datum::Name(number) => out.push_str(name_of(names, number)),
         Datum::Nil => out.push_str("nil"),
     }
 }
 
-fn put_status(out: &mut String, status: Status) -> Result<(), AllocError>
-    ensures { OnOk result (string_bytes out.new ≡ string_bytes out.old ++ status_text status) }
+fn put_status(out: &mut String, names: &[Name], status: Status) -> Result<(), AllocError>
+    ensures { OnOk result (string_bytes out.new
+        ≡ string_bytes out.old ++ status_text names.now status) }
 {
     match status {
         Status::Absent => out.push_str("-"),
-        Status::Present(datum) => put_datum(out, datum),
+        Status::Present(datum) => put_datum(out, names, datum),
     }
 }
 
-/// The line of an instant.
+/// The names of the type of this number among these.
+fn names_at<'a>(types: &'a [Enum], kinds: &[Kind], i: usize) -> &'a [Name]
+    ensures { result.now ≡ names_in types.now kinds.now i }
+{
+    match kinds.get(i) {
+        Some(kind) => names_of(types, *kind),
+        None => &[],
+    }
+}
+
+/// The line of an instant, of outputs of these types.
 fn put_row(
     out: &mut String,
+    types: &[Enum],
+    kinds: &[Kind],
     outputs: &[(String, Vec<Status>)],
     instant: usize,
 ) -> Result<(), AllocError>
     requires { All (λ x. instant < vec_len x.1) outputs.now }
     ensures { OnOk result (string_bytes out.new ≡ string_bytes out.old
-        ++ line_text (statuses_at (outputs_view outputs.now) instant)) }
+        ++ line_text (statuses_at types.now kinds.now (outputs_view outputs.now) instant)) }
 {
     for i in 0..outputs.len() {
         put_comma(out, i)?;
-        put_status(out, outputs[i].1[instant])?;
+        put_status(out, names_at(types, kinds, i), outputs[i].1[instant])?;
     }
     out.push('\n')
 }
@@ -70,32 +89,56 @@ fn put_header(out: &mut String, outputs: &[(String, Vec<Status>)]) -> Result<(),
     out.push('\n')
 }
 
-/// The text of outputs that have something at each of these instants.
+/// The text of outputs of these types that have something at each of these instants.
 fn write_lines(
     alloc: Global,
+    types: &[Enum],
+    kinds: &[Kind],
     outputs: &[(String, Vec<Status>)],
     instants: usize,
 ) -> Result<String, AllocError>
     requires { All (λ x. vec_len x.1 ≡ instants) outputs.now }
-    ensures { IfOk result (λ s. string_bytes s ≡ lines_text (outputs_view outputs.now) instants) }
+    ensures { IfOk result (λ s. string_bytes s
+        ≡ lines_text types.now kinds.now (outputs_view outputs.now) instants) }
 {
     let fields = instants.saturating_mul(outputs.len());
     let mut out = String::with_capacity(alloc, fields.saturating_mul(LEAST_FIELD))?;
     put_header(&mut out, outputs)?;
     for instant in 0..instants {
-        put_row(&mut out, outputs, instant)?;
+        put_row(&mut out, types, kinds, outputs, instant)?;
     }
     Ok(out)
 }
 
-/// Writes the text of a table of outputs: a line of the names, and a line for each instant. Memory is the only thing that it
-/// can lack; the time grows with the text.
-pub fn write_outputs(alloc: Global, outputs: &Outputs) -> Result<String, AllocError>
-    ensures exact { IfOk result (λ s. string_bytes s ≡ output_text outputs.now) }
+fn is_output(role: Role) -> bool
+    ensures { result ≡ is_output role }
 {
+    match role {
+        Role::Output => true,
+        Role::Input | Role::Local => false,
+    }
+}
+
+/// The types of the outputs among these variables, in order.
+fn output_kinds(alloc: Global, variables: &[Variable]) -> Result<Vec<Kind>, AllocError>
+    ensures { IfOk result (λ v. v.items ≡ output_kinds variables.now) }
+{
+    variables
+        .iter()
+        .filter(|x| is_output(x.role))
+        .map(|x| x.kind)
+        .collect(alloc)
+}
+
+/// Writes the text of a table of a program's outputs: a line of the names, and a line for each instant. A name is spelled as the type
+/// of the program's output in its column has it. Memory is the only thing that it can lack; the time grows with the text.
+pub fn write_outputs(alloc: Global, flat: &Flat, outputs: &Outputs) -> Result<String, AllocError>
+    ensures exact { IfOk result (λ s. string_bytes s ≡ output_text flat.now outputs.now) }
+{
+    let kinds = output_kinds(alloc, flat.variables())?;
     let columns = outputs.columns();
     match columns {
         [] => unreachable!(),
-        [first, ..] => write_lines(alloc, columns, first.1.len()),
+        [first, ..] => write_lines(alloc, flat.types(), &kinds, columns, first.1.len()),
     }
 }

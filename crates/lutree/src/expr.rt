@@ -1,6 +1,7 @@
 //! Expressions.
 
-use lulist::{Name, Number};
+use crate::program::Kind;
+use lulist::{Name, Number, Row};
 
 /// An operator on data that stands before its one operand.
 #[derive(Clone, Copy, Debug, PartialEq, Eq)]
@@ -66,14 +67,27 @@ pub enum Infix {
     FollowedBy,
 }
 
+/// A name of an enumeration, and what it stands for in its program.
+#[derive(Debug, Drop)]
+pub struct Label {
+    pub name: Name,
+    /// Its type: an enumeration, and one without names where no type of the program has this name.
+    pub kind: Kind,
+    /// Its number among the names of its type, counted from 0.
+    pub number: u8,
+}
+
 /// The value of a clock's variable at which the clock is true.
 #[derive(Debug, Drop)]
 pub enum Pattern {
     /// `true` or `false`.
     Truth(bool),
+    /// A name of an enumeration.
+    Label(Label),
 }
 
-/// A clock: the variable `c` with the pattern `true` is written `c`, with `false` it is written `not c`.
+/// A clock: the variable `c` with the pattern `true` is written `c`, with `false` it is written `not c`, and with the name `A`
+/// of an enumeration `A(c)`.
 #[derive(Debug, Drop)]
 pub struct Condition {
     pub variable: Name,
@@ -81,12 +95,14 @@ pub struct Condition {
 }
 
 /// An expression, without the parentheses of its text.
-#[derive(Debug, Drop)]
+#[derive(Drop)]
 pub enum Expr {
     /// A number.
     Number(Number),
     /// `true` or `false`.
     Truth(bool),
+    /// A name of an enumeration, as a constant.
+    Label(Label),
     /// A variable.
     Variable(Name),
     /// An operand after what stands before it.
@@ -95,12 +111,13 @@ pub enum Expr {
     Binary(Infix, Box<Expr>, Box<Expr>),
     /// `if a then b else c`
     If(Box<Expr>, Box<Expr>, Box<Expr>),
-    /// `e when c` or `e when not c`
+    /// `e when c`, `e when not c` or `e when A(c)`
     When(Box<Expr>, Condition),
     /// `current v`
     Current(Name),
-    /// `merge c (true -> a) (false -> b)`
-    Merge(Name, Box<Expr>, Box<Expr>),
+    /// `merge c (true -> a) (false -> b)` or `merge c (A -> a) (B -> b) (C -> d)`: the variable, the patterns of its branches and
+    /// as many branches.
+    Merge(Name, Row<Pattern>, Vec<Expr>),
     /// `f(a, b)`
     Call(Name, Vec<Expr>),
 }

@@ -10,13 +10,36 @@ pub enum Kind {
     Int,
     /// `bool`
     Bool,
+    /// The enumeration of this place among the program's types, with so many names.
+    Enum(u8, u8),
+}
+
+/// A name of an enumeration where it is declared.
+#[derive(Debug, Drop)]
+pub struct DeclaredName {
+    pub name: Name,
+    /// The place of the name's first byte in the text, counted from 0.
+    pub byte: usize,
+}
+
+/// `type t = enum { A, B };`
+#[derive(Drop)]
+pub struct TypeDeclaration {
+    pub name: Name,
+    /// The place of the name's first byte in the text, counted from 0.
+    pub byte: usize,
+    /// The names of the enumeration, in order of text.
+    pub names: Row<DeclaredName>,
 }
 
 /// One declared variable. A text that declares several names at once has as many declarations.
 #[derive(Debug, Drop)]
 pub struct Declaration {
     pub name: Name,
+    /// Its type; an enumeration without names where its type has a name that no type of the program has.
     pub kind: Kind,
+    /// How its type is written where that is the name of an enumeration.
+    pub type_name: Option<Name>,
     /// The declared clock; none is the node's base clock.
     pub clock: Option<Condition>,
     /// The place of the name's first byte in the text, counted from 0.
@@ -45,8 +68,9 @@ pub struct Node {
     pub equations: Row<Equation>,
 }
 
-/// A program: its nodes, in order of text.
+/// A program: its types and its nodes, each in order of text.
 #[derive(Drop)]
 pub struct Program {
+    pub types: Row<TypeDeclaration>,
     pub nodes: Row<Node>,
 }

@@ -7,6 +7,7 @@ use Rattle.std.proofs.lemmas.List.{map-append, append-nil, take_more}
 use Rattle.std.proofs.lemmas.List.Elements.{filter_map-append}
 use Rattle.std.proofs.lemmas.Grind.{flat_map-append}
 use Rattle.lutree.specs.declared.expr.Infix.{Infix}
+use Rattle.lutree.specs.declared.expr.Pattern.{Pattern}
 use Rattle.lutree.specs.declared.expr.Expr.{Expr}
 use Rattle.lutree.specs.declared.expr.Expr.TheVariants as variant
 use Rattle.lutree.specs.declared.expr.Expr.TheOpen.{Expr-F}
@@ -30,8 +31,8 @@ found_joined look cs ds =
 pub calls-Binary : (op : Infix) (a b : Box Expr Global) → calls_in (view (variant.Binary op a b)) ≡ calls_in (view a.value) ++ calls_in (view b.value)
 calls-Binary op a b = ap calls_in (ap view (sym (variant.rolls-Binary op a b)) ∙ fold-roll-Expr Tree view_step (Expr-F.Binary op a b))
 
-pub calls-Merge : (c : List ℕ) (a b : Box Expr Global) → calls_in (view (variant.Merge c a b)) ≡ calls_in (view a.value) ++ calls_in (view b.value)
-calls-Merge c a b = ap calls_in (ap view (sym (variant.rolls-Merge c a b)) ∙ fold-roll-Expr Tree view_step (Expr-F.Merge c a b))
+pub calls-Merge : (c : List ℕ) (ps : List Pattern) (es : Vec Expr Global) → calls_in (view (variant.Merge c ps es)) ≡ calls_in_all (trees_of (views es.items))
+calls-Merge c ps es = ap calls_in (ap view (sym (variant.rolls-Merge c ps es)) ∙ fold-roll-Expr Tree view_step (Expr-F.Merge c ps es))
 
 pub calls-If : (c a b : Box Expr Global) → calls_in (view (variant.If c a b)) ≡ calls_in (view c.value) ++ (calls_in (view a.value) ++ calls_in (view b.value))
 calls-If c a b = ap calls_in (ap view (sym (variant.rolls-If c a b)) ∙ fold-roll-Expr Tree view_step (Expr-F.If c a b))

@@ -21,10 +21,10 @@ some_item : {A : Type 0} (x y : A) → Some x ≡ Some y → x ≡ y
 some_item x y e = cc
 
 -- what holds of the items before one, and of that one
-pub below_item : (P : ℕ → List ℕ → Type 0) (l : List (List ℕ)) (j : ℕ) (y : List ℕ) → slice_get l j ≡ Some y
-    → ((k : ℕ) (x : List ℕ) → k < j → slice_get l k ≡ Some x → P k x) → P j y
-    → (k : ℕ) (x : List ℕ) → k < j + 1 → slice_get l k ≡ Some x → P k x
-below_item P l j y at h p k x lt there = go (cases_lt k j)
+pub below_item : {A : Type 0} (P : ℕ → A → Type 0) (l : List A) (j : ℕ) (y : A) → slice_get l j ≡ Some y
+    → ((k : ℕ) (x : A) → k < j → slice_get l k ≡ Some x → P k x) → P j y
+    → (k : ℕ) (x : A) → k < j + 1 → slice_get l k ≡ Some x → P k x
+below_item {A} P l j y at h p k x lt there = go (cases_lt k j)
   where
     go : (k < j) ⊎ (j ≤ k) → P k x
     go (inl less) = h k x less there

@@ -1,11 +1,14 @@
 -- What each name and each call of an expression keeps.
-use Rattle.std.proofs.Common.{◌↔◌, ◌≡◌, ◌∙◌, ℕ, zero, suc, ◌<◌, List, [], ◌∷◌, ◌++◌, length, get_or, refl, ap, subst, sym, arith, Bool, true, IsTrue, ◌≤◌}
+use Rattle.std.proofs.Common.{◌↔◌, ◌≡◌, ◌∙◌, ℕ, zero, suc, ◌<◌, List, [], ◌∷◌, ◌++◌, length, get_or, refl, ap, subst, sym, arith, Bool, true, false, IsTrue, ◌≤◌, true≢false}
 use Rattle.std.specs.Prelude.{All}
 use Rattle.std.proofs.lemmas.List.Elements.{All-append, All-nil}
 use Rattle.lutree.specs.declared.expr.Expr.{Expr}
+use Rattle.lutree.specs.declared.expr.Pattern.{Pattern}
 use Rattle.lutree.specs.Tree.{Tree, Trees, list_of, trees_of, views, view}
 use Rattle.lutree.specs.Tree as tree
 use Rattle.lustat_rules.specs.Naming.{Call, names_in, names_in_all, calls_in, calls_in_all, inner_calls}
+use Rattle.lustat_rules.specs.Parts.{Part, EachPartOf}
+use Rattle.lustat_rules.specs.Parts as part
 use Rattle.lutype.specs.Forms.{EachName, EachNameOf, EachCall, EachCallOf}
 
 -- ALL OF A LIST
@@ -38,6 +41,7 @@ mutual
   pub names_to : (P : List ℕ → Type 0) (e : Tree) → EachName P e → All P (names_in e)
   names_to P (tree.number n) h = All-nil P
   names_to P (tree.truth b) h = All-nil P
+  names_to P (tree.label l) h = All-nil P
   names_to P (tree.variable x) h = all_last P x h
   names_to P (tree.unary op a) h = names_to P a h
   names_to P (tree.binary op a b) h = All-append P (names_in a) (names_in b) (names_to P a h.0) (names_to P b h.1)
@@ -46,8 +50,7 @@ mutual
       (All-append P (names_in a) (names_in b) (names_to P a h.1.0) (names_to P b h.1.1))
   names_to P (tree.when a c) h = All-append P (names_in a) (c.variable ∷ []) (names_to P a h.0) (all_last P c.variable h.1)
   names_to P (tree.current x) h = all_last P x h
-  names_to P (tree.merge c a b) h =
-      All-append P (c ∷ names_in a) (names_in b) (all_cons P c (names_in a) h.0 (names_to P a h.1.0)) (names_to P b h.1.1)
+  names_to P (tree.merge c ps all) h = all_cons P c (names_in_all all) h.0 (names_to_all P all h.1)
   names_to P (tree.call f all) h = names_to_all P all h
 
   pub names_to_all : (P : List ℕ → Type 0) (all : Trees) → EachNameOf P all → All P (names_in_all all)
@@ -58,6 +61,7 @@ mutual
   pub names_from : (P : List ℕ → Type 0) (e : Tree) → All P (names_in e) → EachName P e
   names_from P (tree.number n) h = tt
   names_from P (tree.truth b) h = tt
+  names_from P (tree.label l) h = tt
   names_from P (tree.variable x) h = all_head P x [] h
   names_from P (tree.unary op a) h = names_from P a h
   names_from P (tree.binary op a b) h = (names_from P a (all_left P (names_in a) (names_in b) h), names_from P b (all_right P (names_in a) (names_in b) h))
@@ -69,9 +73,7 @@ mutual
   names_from P (tree.when a c) h =
       (names_from P a (all_left P (names_in a) (c.variable ∷ []) h), all_head P c.variable [] (all_right P (names_in a) (c.variable ∷ []) h))
   names_from P (tree.current x) h = all_head P x [] h
-  names_from P (tree.merge c a b) h =
-      let front = all_left P (c ∷ names_in a) (names_in b) h in
-      (all_head P c (names_in a) front, (names_from P a (all_tail P c (names_in a) front), names_from P b (all_right P (c ∷ names_in a) (names_in b) h)))
+  names_from P (tree.merge c ps all) h = (all_head P c (names_in_all all) h, names_from_all P all (all_tail P c (names_in_all all) h))
   names_from P (tree.call f all) h = names_from_all P all h
 
   pub names_from_all : (P : List ℕ → Type 0) (all : Trees) → All P (names_in_all all) → EachNameOf P all
@@ -88,6 +90,7 @@ mutual
   pub calls_to : (P : Call → Type 0) (e : Tree) → EachCall P e → All P (calls_in e)
   calls_to P (tree.number n) h = All-nil P
   calls_to P (tree.truth b) h = All-nil P
+  calls_to P (tree.label l) h = All-nil P
   calls_to P (tree.variable x) h = All-nil P
   calls_to P (tree.unary op a) h = calls_to P a h
   calls_to P (tree.binary op a b) h = All-append P (calls_in a) (calls_in b) (calls_to P a h.0) (calls_to P b h.1)
@@ -96,7 +99,7 @@ mutual
       (All-append P (calls_in a) (calls_in b) (calls_to P a h.1.0) (calls_to P b h.1.1))
   calls_to P (tree.when a c) h = calls_to P a h
   calls_to P (tree.current x) h = All-nil P
-  calls_to P (tree.merge c a b) h = All-append P (calls_in a) (calls_in b) (calls_to P a h.0) (calls_to P b h.1)
+  calls_to P (tree.merge c ps all) h = calls_to_all P all h
   calls_to P (tree.call f all) h = All-append P (calls_in_all all) (the_call f all ∷ []) (calls_to_all P all h.0) (all_last P (the_call f all) h.1)
 
   pub calls_to_all : (P : Call → Type 0) (all : Trees) → EachCallOf P all → All P (calls_in_all all)
@@ -107,6 +110,7 @@ mutual
   pub calls_from : (P : Call → Type 0) (e : Tree) → All P (calls_in e) → EachCall P e
   calls_from P (tree.number n) h = tt
   calls_from P (tree.truth b) h = tt
+  calls_from P (tree.label l) h = tt
   calls_from P (tree.variable x) h = tt
   calls_from P (tree.unary op a) h = calls_from P a h
   calls_from P (tree.binary op a b) h = (calls_from P a (all_left P (calls_in a) (calls_in b) h), calls_from P b (all_right P (calls_in a) (calls_in b) h))
@@ -117,7 +121,7 @@ mutual
       )
   calls_from P (tree.when a c) h = calls_from P a h
   calls_from P (tree.current x) h = tt
-  calls_from P (tree.merge c a b) h = (calls_from P a (all_left P (calls_in a) (calls_in b) h), calls_from P b (all_right P (calls_in a) (calls_in b) h))
+  calls_from P (tree.merge c ps all) h = calls_from_all P all h
   calls_from P (tree.call f all) h = (
     calls_from_all P all (all_left P (calls_in_all all) (the_call f all ∷ []) h),
     all_head P (the_call f all) [] (all_right P (calls_in_all all) (the_call f all ∷ []) h),
@@ -169,3 +173,22 @@ pub one_item : {A : Type 0} (l : List A) (x : A) → 1 ≤ length l → length l
 one_item [] x a b e = absurd (omega (arith, a))
 one_item (y ∷ []) x a b e = ap (λ z. z ∷ []) (sym e)
 one_item (y ∷ z ∷ l) x a b e = absurd (omega (arith, b))
+
+-- PARTS
+
+-- a merge, and the parts of its branches
+pub merge_step : (P : Part → Type 0) (c : List ℕ) (ps : List Pattern) (es : List Expr) (a b : Bool)
+    → a ≡ true → (IsTrue a ↔ P (part.merge c ps (length es))) → (IsTrue b ↔ EachPartOf P (trees_of (views es)))
+    → IsTrue b ↔ (P (part.merge c ps (length (list_of (trees_of (views es))))) × EachPartOf P (trees_of (views es)))
+merge_step P c ps es a b held own rest = (
+  λ h. (subst (λ k. P (part.merge c ps k)) (sym (count_of es)) (own.0 held), rest.0 h),
+  λ h. rest.1 h.1,
+)
+
+pub merge_fails : (P : Part → Type 0) (c : List ℕ) (ps : List Pattern) (es : List Expr) (a : Bool)
+    → a ≡ false → (IsTrue a ↔ P (part.merge c ps (length es)))
+    → IsTrue a ↔ (P (part.merge c ps (length (list_of (trees_of (views es))))) × EachPartOf P (trees_of (views es)))
+merge_fails P c ps es a fails own = (
+  λ h. absurd (true≢false (sym h ∙ fails)),
+  λ h. own.1 (subst (λ k. P (part.merge c ps k)) (count_of es) h.0),
+)

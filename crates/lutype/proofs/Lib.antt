@@ -8,3 +8,5 @@ pub mod Told
 pub mod CallPlaces
 pub mod CallsPushed
 pub mod CallWays
+pub mod Branches
+pub mod NameAt

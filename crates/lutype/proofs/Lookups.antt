@@ -2,11 +2,11 @@
 use Rattle.std.proofs.Common.{◌≡◌, ◌∙◌, ◌↔◌, ◌&&◌, Bool, true, false, List, [], ◌∷◌, map, Option, Some, None, IsTrue, refl, ap, sym, if◌then◌else◌, true≢false, ℕ}
 use Rattle.std.specs.Prelude.{option_map}
 use Rattle.lutree.specs.declared.program.Kind.{Kind}
-use Rattle.lutree.specs.declared.program.Kind.TheVariants.{Int, Bool as Truths}
 use Rattle.lutree.specs.Tree.{Tree, Trees, DeclarationTree, NodeTree, ProgramTree}
 use Rattle.lutree.specs.Tree as tree
 use Rattle.lustat_rules.specs.Typing.{arguments_fit, call_kinds, has_kind, right_types, type_of, types_of}
 use Rattle.lustat_rules.specs.Scope.{node_called}
+use Rattle.lustat_rules.proofs.Agreeing.{has_kind_is}
 
 abbrev pub kinds_of : List DeclarationTree → List Kind
 kinds_of = map (λ (d : DeclarationTree). d.kind)
@@ -16,23 +16,6 @@ call_kinds_fit o n ks e h = ap (λ o. call_kinds o ks) e ∙ ap (λ b. if b then
 
 pub call_kinds_unfit : (o : Option NodeTree) (n : NodeTree) (ks : List (Option Kind)) → o ≡ Some n → arguments_fit ks n.inputs ≡ false → call_kinds o ks ≡ None
 call_kinds_unfit o n ks e h = ap (λ o. call_kinds o ks) e ∙ ap (λ b. if b then Some (kinds_of n.outputs) else None) h
-
-kind_to : (k : Option Kind) (j : Kind) → has_kind k j ≡ true → k ≡ Some j
-kind_to (Some Int) Int h = refl
-kind_to (Some Truths) Truths h = refl
-kind_to (Some Int) Truths h = absurd (true≢false (sym h))
-kind_to (Some Truths) Int h = absurd (true≢false (sym h))
-kind_to None j h = absurd (true≢false (sym h))
-
-kind_itself : (j : Kind) → has_kind (Some j) j ≡ true
-kind_itself Int = refl
-kind_itself Truths = refl
-
-kind_from : (k : Option Kind) (j : Kind) → k ≡ Some j → has_kind k j ≡ true
-kind_from k j e = ap (λ k. has_kind k j) e ∙ kind_itself j
-
-pub has_kind_is : (k : Option Kind) (j : Kind) → IsTrue (has_kind k j) ↔ (k ≡ Some j)
-has_kind_is k j = (kind_to k j, kind_from k j)
 
 both_true : (a b : Bool) → (a && b) ≡ true → (a ≡ true) × (b ≡ true)
 both_true true true h = (refl, refl)
@@ -45,11 +28,11 @@ fit_to [] (d ∷ ds) h = absurd (true≢false (sym h))
 fit_to (k ∷ ks) [] h = absurd (true≢false (sym h))
 fit_to (k ∷ ks) (d ∷ ds) h =
     let b = both_true (has_kind k d.kind) (arguments_fit ks ds) h in
-    ap (λ j. j ∷ ks) (kind_to k d.kind b.0) ∙ ap (λ l. Some d.kind ∷ l) (fit_to ks ds b.1)
+    ap (λ j. j ∷ ks) ((has_kind_is k d.kind).0 b.0) ∙ ap (λ l. Some d.kind ∷ l) (fit_to ks ds b.1)
 
 fit_itself : (ds : List DeclarationTree) → arguments_fit (map Some (kinds_of ds)) ds ≡ true
 fit_itself [] = refl
-fit_itself (d ∷ ds) = ap (λ b. b && arguments_fit (map Some (kinds_of ds)) ds) (kind_itself d.kind) ∙ fit_itself ds
+fit_itself (d ∷ ds) = ap (λ b. b && arguments_fit (map Some (kinds_of ds)) ds) ((has_kind_is (Some d.kind) d.kind).1 refl) ∙ fit_itself ds
 
 pub fit_is : (ks : List (Option Kind)) (ds : List DeclarationTree) → IsTrue (arguments_fit ks ds) ↔ (ks ≡ map Some (kinds_of ds))
 fit_is ks ds = (fit_to ks ds, λ e. ap (λ l. arguments_fit l ds) e ∙ fit_itself ds)
@@ -82,7 +65,7 @@ one_kind k j e = cc
 pub meet_one : (k : Option Kind) (j : Kind) (right : Option (List Kind)) (left : List (Option Kind)) (b : Bool) → b ≡ has_kind k j → right ≡ Some (j ∷ []) → left ≡ k ∷ [] → IsTrue b ↔ TypesMeet right left
 meet_one k j right left b is e l =
     meet_some right left (j ∷ []) b e
-    (λ t. l ∙ ap (λ o. o ∷ []) (kind_to k j (sym is ∙ t)), λ h. is ∙ kind_from k j (one_kind k j (sym l ∙ h)))
+    (λ t. l ∙ ap (λ o. o ∷ []) ((has_kind_is k j).0 (sym is ∙ t)), λ h. is ∙ (has_kind_is k j).1 (one_kind k j (sym l ∙ h)))
 
 pub meet_call : (o : Option NodeTree) (n : NodeTree) (ks left : List (Option Kind)) (b : Bool) → o ≡ Some n → arguments_fit ks n.inputs ≡ true → b ≡ arguments_fit left n.outputs → IsTrue b ↔ TypesMeet (call_kinds o ks) left
 meet_call o n ks left b e fit is =

@@ -7,35 +7,18 @@ use Rattle.lutree.specs.declared.program.Node.{Node}
 use Rattle.lutree.specs.declared.program.Program.{Program}
 use Rattle.lutree.specs.Tree.{NodeTree, ProgramTree, node_view, program_view}
 use Rattle.lustat_rules.specs.Naming.{Reaches}
-use Rattle.lustat_rules.specs.Accepted.{Rule, duplicate_name, unknown_name, unknown_node, type_mismatch, wrong_arity, undefined, defined_twice, recursive_node, no_main, clock_mismatch, not_a_clock, clocked_parameter, hidden_clock, maybe_nil, current_may_be_nil, stage, Keeps, Breaks, IsNamed, IsRefused}
+use Rattle.lustat_rules.specs.Accepted.{Rule, duplicate_name, unknown_name, unknown_node, type_mismatch, wrong_arity, undefined, defined_twice, recursive_node, no_main, bad_merge, clock_mismatch, not_a_clock, clocked_parameter, hidden_clock, maybe_nil, current_may_be_nil, stage, Keeps, Breaks, IsNamed, IsRefused}
 use Rattle.lustat_rules.specs.declared.error.StatError.{StatError}
 use Rattle.lustat_rules.specs.declared.error.StatError.TheVariants.{RecursiveNode}
 use Rattle.lustat_rules.specs.Told.{byte_of, number_of, RuleTold, Tells}
 use Rattle.lustat_rules.specs.Faults.{lesser_of, IsAtMost, IsJudged, IsFault, AreKept}
 use Rattle.lustat_rules.proofs.Judging.{judged_joined}
+use Rattle.lustat_rules.proofs.Stages.{stage_least}
 use Rattle.lustat_scope.proofs.Keeping.{broken_somewhere, view_item, item_view}
 use Rattle.lugraph.proofs.Marks.{below_or_not}
 use Rattle.lutype.specs.CallGraph.{IsRecursive, NoneRecursiveBefore}
 use Rattle.lutype.specs.Asked.{is_asked}
 use Rattle.lutype.specs.First.{IsRecursionFault, IsNameFault, IsToldFirst}
-
--- no stage is before the first
-stage_least : (rule : Rule) → 1 ≤ stage rule
-stage_least duplicate_name = omega arith
-stage_least unknown_name = omega arith
-stage_least unknown_node = omega arith
-stage_least type_mismatch = omega arith
-stage_least wrong_arity = omega arith
-stage_least undefined = omega arith
-stage_least defined_twice = omega arith
-stage_least recursive_node = omega arith
-stage_least no_main = omega arith
-stage_least clock_mismatch = omega arith
-stage_least not_a_clock = omega arith
-stage_least clocked_parameter = omega arith
-stage_least hidden_clock = omega arith
-stage_least maybe_nil = omega arith
-stage_least current_may_be_nil = omega arith
 
 stage_of : (rule : Rule) → IsTrue (is_asked rule) → stage rule ≤ 1
 stage_of duplicate_name one = omega arith
@@ -47,6 +30,7 @@ stage_of undefined one = omega arith
 stage_of defined_twice one = omega arith
 stage_of recursive_node one = absurd (true≢false (sym one))
 stage_of no_main one = omega arith
+stage_of bad_merge one = omega arith
 stage_of clock_mismatch one = absurd (true≢false (sym one))
 stage_of not_a_clock one = absurd (true≢false (sym one))
 stage_of clocked_parameter one = absurd (true≢false (sym one))
@@ -55,7 +39,14 @@ stage_of maybe_nil one = absurd (true≢false (sym one))
 stage_of current_may_be_nil one = absurd (true≢false (sym one))
 
 not_recursive : (p : Program) (main : List ℕ) → ((f : List ℕ) → ¬ Reaches (program_view p) f f) → Keeps (program_view p) main recursive_node
-not_recursive p main straight = record { program = tt; nodes = λ i n at. straight n.name; declarations = λ i j n d at there. tt; equations = λ i j n q at there. tt }
+not_recursive p main straight = record {
+  program = tt;
+  types = λ i t at. tt;
+  names = λ i j t x at there. tt;
+  nodes = λ i n at. straight n.name;
+  declarations = λ i j n d at there. tt;
+  equations = λ i j n q at there. tt;
+}
 
 pub named_from : (p : Program) (main : List ℕ) → AreKept is_asked p main → ((f : List ℕ) → ¬ Reaches (program_view p) f f) → IsNamed (program_view p) main
 named_from p main kept straight duplicate_name first = kept duplicate_name refl
@@ -67,6 +58,7 @@ named_from p main kept straight undefined first = kept undefined refl
 named_from p main kept straight defined_twice first = kept defined_twice refl
 named_from p main kept straight recursive_node first = not_recursive p main straight
 named_from p main kept straight no_main first = kept no_main refl
+named_from p main kept straight bad_merge first = kept bad_merge refl
 named_from p main kept straight clock_mismatch first = absurd (omega (arith, first))
 named_from p main kept straight not_a_clock first = absurd (omega (arith, first))
 named_from p main kept straight clocked_parameter first = absurd (omega (arith, first))

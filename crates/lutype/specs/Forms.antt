@@ -10,13 +10,14 @@ module _ (P : List ℕ → Type 0) where
     pub EachName : Tree → Type 0
     EachName (tree.number n) = Unit {0}
     EachName (tree.truth b) = Unit {0}
+    EachName (tree.label l) = Unit {0}
     EachName (tree.variable x) = P x
     EachName (tree.unary op a) = EachName a
     EachName (tree.binary op a b) = EachName a × EachName b
     EachName (tree.choice c a b) = EachName c × (EachName a × EachName b)
     EachName (tree.when a c) = EachName a × P c.variable
     EachName (tree.current x) = P x
-    EachName (tree.merge c a b) = P c × (EachName a × EachName b)
+    EachName (tree.merge c ps all) = P c × EachNameOf all
     EachName (tree.call f all) = EachNameOf all
 
     pub EachNameOf : Trees → Type 0
@@ -29,13 +30,14 @@ module _ (P : Call → Type 0) where
     pub EachCall : Tree → Type 0
     EachCall (tree.number n) = Unit {0}
     EachCall (tree.truth b) = Unit {0}
+    EachCall (tree.label l) = Unit {0}
     EachCall (tree.variable x) = Unit {0}
     EachCall (tree.unary op a) = EachCall a
     EachCall (tree.binary op a b) = EachCall a × EachCall b
     EachCall (tree.choice c a b) = EachCall c × (EachCall a × EachCall b)
     EachCall (tree.when a c) = EachCall a
     EachCall (tree.current x) = Unit {0}
-    EachCall (tree.merge c a b) = EachCall a × EachCall b
+    EachCall (tree.merge c ps all) = EachCallOf all
     EachCall (tree.call f all) = EachCallOf all × P (record { node = f; arguments = length (list_of all) })
 
     pub EachCallOf : Trees → Type 0

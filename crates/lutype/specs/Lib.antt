@@ -1,6 +1,7 @@
 pub mod Forms
 pub mod Asked
 pub mod CallRules
+pub mod PartRules
 pub mod Starts
 pub mod Tables
 pub mod Named

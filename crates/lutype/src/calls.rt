@@ -46,11 +46,11 @@ fn calls_keep(catalog: &Catalog, rule: CallRule, e: &Expr) -> bool
     ensures { IsTrue result ↔ EachCall (CallKeeps (program_view catalog.now) rule) (view e.now) }
 {
     match e {
-        Expr::Number(_) | Expr::Truth(_) | Expr::Variable(_) | Expr::Current(_) => true,
+        Expr::Number(_) | Expr::Truth(_) | Expr::Label(_) | Expr::Variable(_) | Expr::Current(_) =>
+            true,
         Expr::Unary(_, a) | Expr::When(a, _) => calls_keep(catalog, rule, a),
-        Expr::Binary(_, a, b) | Expr::Merge(_, a, b) => {
-            calls_keep(catalog, rule, a) && calls_keep(catalog, rule, b)
-        }
+        Expr::Binary(_, a, b) => calls_keep(catalog, rule, a) && calls_keep(catalog, rule, b),
+        Expr::Merge(_, _, branches) => all_calls_keep(catalog, rule, branches),
         Expr::If(c, a, b) => {
             calls_keep(catalog, rule, c)
                 && calls_keep(catalog, rule, a)
@@ -70,7 +70,7 @@ fn whole_call_keeps(catalog: &Catalog, rule: CallRule, name: &str, arguments: &[
     all_calls_keep(catalog, rule, arguments) && call_keeps(catalog, rule, name, arguments.len())
 }
 
-/// Whether each call in the arguments of a call keeps a rule.
+/// Whether each call in the arguments of a call or the branches of a merge keeps a rule.
 #[cycle(calls)]
 fn all_calls_keep(catalog: &Catalog, rule: CallRule, arguments: &[Expr]) -> bool
     ensures { IsTrue result ↔ EachCallOf (CallKeeps (program_view catalog.now) rule)

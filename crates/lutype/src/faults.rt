@@ -1,26 +1,35 @@
 //! The faults of single places.
 
 ghost use Rattle.std.specs.Prelude.{◌≡◌, ◌↔◌, ℕ, List, Some, IsTrue, map, slice_get};
-ghost use Rattle.lutree.specs.declared.program.Program.{Program};
-ghost use Rattle.lutree.specs.Tree.{declaration_view, equation_view, node_view, program_view};
-ghost use Rattle.lustat_rules.specs.Naming.{IsNewNode, IsNewVariable, HasMain, NamesKnown, CallsKnown, AritiesRight};
-ghost use Rattle.lustat_rules.specs.Typing.{IsTyped};
-ghost use Rattle.lustat_rules.specs.Faults.{declared_in, IsJudged, ProgramFault, ProgramKept, NodeFault, NodeKept, DeclarationFault, DeclarationKept, EquationFault, EquationKept};
+ghost use Rattle.lutree.specs.Tree.{type_view, declaration_view, equation_view, node_view, program_view};
+ghost use Rattle.lustat_rules.specs.Naming.{IsNewType, IsNewNode, IsNewVariable, HasMain, NamesKnown, CallsKnown, AritiesRight};
+ghost use Rattle.lustat_rules.specs.Typing.{MergesWhole, IsTyped};
+ghost use Rattle.lustat_rules.specs.Faults.{declared_in, IsJudged, ProgramFault, ProgramKept, TypeFault, TypeKept, NameFault, NameKept, NodeFault, NodeKept, DeclarationFault, DeclarationKept, EquationFault, EquationKept};
 ghost use Rattle.lutype.specs.Asked.{is_asked};
 
 use crate::calls::{arities_are_right, calls_are_known};
 use crate::defined::{Definitions, defines_anew, is_defined};
-use crate::known::{clock_is_known, names_are_known};
+use crate::known::{declaration_is_known, names_are_known};
+use crate::parts::merges_are_whole;
 use crate::typing::is_well_typed;
 use lustat_rules::{StatError, lesser, told};
 use lustat_scope::{Catalog, Scope};
-use lutree::{Declaration, Equation, Node};
+use lutree::{Declaration, DeclaredName, Equation, Node, TypeDeclaration};
 
 /// Whether a place that was found is another.
 fn is_at(found: Option<usize>, place: usize) -> bool
     ensures { IsTrue result ↔ (found ≡ Some place) }
 {
     found == Some(place)
+}
+
+/// Whether no type before has the name of the one at a place.
+fn is_new_type(catalog: &Catalog, place: usize, declaration: &TypeDeclaration) -> bool
+    requires { slice_get catalog.now.types place ≡ Some declaration.now }
+    ensures { IsTrue result
+        ↔ IsNewType (program_view catalog.now) place (type_view declaration.now) }
+{
+    is_at(catalog.type_place(declaration.name.as_str()), place)
 }
 
 /// Whether no node before has the name of the one at a place.
@@ -31,13 +40,20 @@ fn is_new_node(catalog: &Catalog, place: usize, node: &Node) -> bool
     is_at(catalog.place(node.name.as_str()), place)
 }
 
-/// Whether no variable before has the name of the one at a place.
-fn is_new_variable(scope: &Scope, place: usize, declaration: &Declaration) -> bool
+/// Whether no variable before has the name of the one at a place, and no name of an enumeration is spelled so.
+fn is_new_variable(
+    catalog: &Catalog,
+    scope: &Scope,
+    place: usize,
+    declaration: &Declaration,
+) -> bool
     requires { slice_get (declared_in scope.now) place ≡ Some declaration.now }
-    ensures { IsTrue result ↔ IsNewVariable (node_view scope.now) place
+    ensures { IsTrue result ↔ IsNewVariable (program_view catalog.now) (node_view scope.now) place
         (declaration_view declaration.now) }
 {
-    is_at(scope.place(declaration.name.as_str()), place)
+    let name = declaration.name.as_str();
+    let is_first = is_at(scope.place(name), place);
+    is_first && !catalog.has_label(name)
 }
 
 /// Whether some node has the name of the main node.
@@ -49,9 +65,11 @@ fn has_main(catalog: &Catalog, main: &str) -> bool
 
 /// Whether an equation is well typed, or isn't ready to be asked.
 fn is_typed(catalog: &Catalog, scope: &Scope, equation: &Equation, is_ready: bool) -> bool
-    requires { IsTrue is_ready ↔ (NamesKnown (node_view scope.now) (equation_view equation.now)
+    requires { IsTrue is_ready ↔ (NamesKnown (program_view catalog.now) (node_view scope.now)
+        (equation_view equation.now)
         × CallsKnown (program_view catalog.now) (equation_view equation.now)
-        × AritiesRight (program_view catalog.now) (equation_view equation.now)) }
+        × AritiesRight (program_view catalog.now) (equation_view equation.now)
+        × MergesWhole (node_view scope.now) (equation_view equation.now)) }
     ensures { IsTrue result ↔ IsTyped (program_view catalog.now) (node_view scope.now)
         (equation_view equation.now) }
 {
@@ -70,6 +88,40 @@ pub fn program_fault(catalog: &Catalog, main: &str) -> Option<StatError>
     told(has_main(catalog, main), StatError::NoMain)
 }
 
+/// The fault of a type's name.
+pub fn type_fault(
+    catalog: &Catalog,
+    place: usize,
+    declaration: &TypeDeclaration,
+) -> Option<StatError>
+    requires { slice_get catalog.now.types place ≡ Some declaration.now }
+    ensures { (main : List ℕ) → IsJudged (TypeFault is_asked catalog.now main place declaration.now)
+        (TypeKept is_asked catalog.now main place declaration.now) result }
+{
+    let byte = declaration.byte;
+    let is_new = is_new_type(catalog, place, declaration);
+    told(is_new, StatError::DuplicateName { byte })
+}
+
+/// The fault of a name of an enumeration.
+pub fn label_fault(
+    catalog: &Catalog,
+    place: usize,
+    declaration: &TypeDeclaration,
+    number: usize,
+    name: &DeclaredName,
+) -> Option<StatError>
+    requires of_type { slice_get catalog.now.types place ≡ Some declaration.now }
+    requires at { slice_get declaration.now.names number ≡ Some name.now }
+    ensures { (main : List ℕ) → IsJudged (NameFault is_asked catalog.now main place declaration.now
+        number name.now) (NameKept is_asked catalog.now main place declaration.now number name.now)
+        result }
+{
+    let byte = name.byte;
+    let is_new = catalog.is_new_label(place, declaration, number, name);
+    told(is_new, StatError::DuplicateName { byte })
+}
+
 /// The fault of a node's name.
 pub fn name_fault(catalog: &Catalog, place: usize, node: &Node) -> Option<StatError>
     requires { slice_get catalog.now.nodes place ≡ Some node.now }
@@ -80,8 +132,9 @@ pub fn name_fault(catalog: &Catalog, place: usize, node: &Node) -> Option<StatEr
     told(is_new, StatError::DuplicateName { byte: node.byte })
 }
 
-/// The least fault of a declaration, whatever the program round its node.
+/// The least fault of a declaration.
 pub fn declaration_fault(
+    catalog: &Catalog,
     scope: &Scope,
     definitions: &Definitions,
     place: usize,
@@ -89,13 +142,13 @@ pub fn declaration_fault(
 ) -> Option<StatError>
     requires same { definitions.now ≡ scope.now }
     requires at { slice_get (declared_in scope.now) place ≡ Some declaration.now }
-    ensures { (program : Program) → (main : List ℕ)
-        → IsJudged (DeclarationFault is_asked program main scope.now place declaration.now)
-        (DeclarationKept is_asked program main scope.now place declaration.now) result }
+    ensures { (main : List ℕ) → IsJudged (DeclarationFault is_asked catalog.now main scope.now place
+        declaration.now) (DeclarationKept is_asked catalog.now main scope.now place declaration.now)
+        result }
 {
     let byte = declaration.byte;
-    let is_new = is_new_variable(scope, place, declaration);
-    let is_known = clock_is_known(scope, declaration);
+    let is_new = is_new_variable(catalog, scope, place, declaration);
+    let is_known = declaration_is_known(catalog, scope, declaration);
     let is_defined = is_defined(scope, definitions, declaration);
     let duplicate = told(is_new, StatError::DuplicateName { byte });
     let unknown = told(is_known, StatError::UnknownName { byte });
@@ -117,14 +170,15 @@ pub fn equation_fault(
         equation.now) (EquationKept is_asked catalog.now main scope.now place equation.now) result }
 {
     let byte = equation.byte;
-    let are_known = names_are_known(scope, equation);
+    let are_known = names_are_known(catalog, scope, equation);
     let are_nodes = calls_are_known(catalog, equation);
     let are_right = arities_are_right(catalog, equation);
+    let are_whole = merges_are_whole(catalog, scope, equation);
     let is_typed = is_typed(
         catalog,
         scope,
         equation,
-        are_known && are_nodes && are_right,
+        are_known && are_nodes && are_right && are_whole,
     );
     let is_anew = defines_anew(scope, definitions, place, equation);
     let unknown_name = told(are_known, StatError::UnknownName { byte });
@@ -132,8 +186,12 @@ pub fn equation_fault(
     let mismatch = told(is_typed, StatError::TypeMismatch { byte });
     let arity = told(are_right, StatError::WrongArity { byte });
     let twice = told(is_anew, StatError::DefinedTwice { byte });
+    let merge = told(are_whole, StatError::BadMerge { byte });
     lesser(
         unknown_name,
-        lesser(unknown_node, lesser(mismatch, lesser(arity, twice))),
+        lesser(
+            unknown_node,
+            lesser(mismatch, lesser(arity, lesser(twice, merge))),
+        ),
     )
 }

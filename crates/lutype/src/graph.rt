@@ -28,16 +28,14 @@ fn push_calls(catalog: &Catalog, e: &Expr, row: &mut Vec<usize>) -> Result<(), A
         ++ filter_map (node_place (program_view catalog.now)) (names_called (view e.now))) }
 {
     match e {
-        Expr::Number(_) | Expr::Truth(_) | Expr::Variable(_) | Expr::Current(_) => Ok(()),
+        Expr::Number(_) | Expr::Truth(_) | Expr::Label(_) | Expr::Variable(_) | Expr::Current(_) =>
+            Ok(()),
         Expr::Unary(_, a) | Expr::When(a, _) => push_calls(catalog, a, row),
         Expr::Binary(_, a, b) => {
             push_calls(catalog, a, row)?;
             push_calls(catalog, b, row)
         }
-        Expr::Merge(_, a, b) => {
-            push_calls(catalog, a, row)?;
-            push_calls(catalog, b, row)
-        }
+        Expr::Merge(_, _, branches) => push_all_calls(catalog, branches, row),
         Expr::If(c, a, b) => {
             push_calls(catalog, c, row)?;
             push_calls(catalog, a, row)?;
@@ -50,7 +48,7 @@ fn push_calls(catalog: &Catalog, e: &Expr, row: &mut Vec<usize>) -> Result<(), A
     }
 }
 
-// The same of all arguments of a call.
+// The same of all arguments of a call or branches of a merge.
 #[cycle(calls)]
 fn push_all_calls(
     catalog: &Catalog,

@@ -1,18 +1,39 @@
 //! The types of operators, by those of their operands.
 
-ghost use Rattle.std.specs.Prelude.{◌≡◌};
-ghost use Rattle.lustat_rules.specs.Typing.{agreed, has_kind, single_kind, operand_kind, result_kind, double_kind, choice_kind};
+ghost use Rattle.std.specs.Prelude.{◌≡◌, nat_eq, if◌then◌else◌};
+ghost use Rattle.lustat_rules.specs.Typing.{same_kind, agreed, has_kind, single_kind, operand_kind, result_kind, double_kind, choice_kind};
 
 use lutree::{BinaryOperator, Kind, UnaryOperator};
+
+// Whether two types are one.
+fn is_same(j: Kind, k: Kind) -> bool
+    ensures { result ≡ same_kind j k }
+{
+    match (j, k) {
+        (Kind::Int, Kind::Int) | (Kind::Bool, Kind::Bool) => true,
+        (Kind::Enum(i, m), Kind::Enum(l, n)) => i == l && m == n,
+        _ => false,
+    }
+}
 
 /// The type that two expressions both have.
 pub fn agreed_kind(a: Option<Kind>, b: Option<Kind>) -> Option<Kind>
     ensures { result ≡ agreed a b }
 {
     match (a, b) {
-        (Some(Kind::Int), Some(Kind::Int)) => Some(Kind::Int),
-        (Some(Kind::Bool), Some(Kind::Bool)) => Some(Kind::Bool),
+        (Some(j), Some(k)) => if is_same(j, k) { Some(j) } else { None },
         _ => None,
+    }
+}
+
+/// The type that some expressions and one more behind them have, where `before` of them have the type `all`.
+pub fn kind_with(before: usize, all: Option<Kind>, kind: Option<Kind>) -> Option<Kind>
+    ensures { result ≡ (if nat_eq before 0 then kind else agreed all kind) }
+{
+    if before == 0 {
+        kind
+    } else {
+        agreed_kind(all, kind)
     }
 }
 
@@ -20,9 +41,9 @@ pub fn agreed_kind(a: Option<Kind>, b: Option<Kind>) -> Option<Kind>
 pub fn is_of_kind(a: Option<Kind>, kind: Kind) -> bool
     ensures { result ≡ has_kind a kind }
 {
-    match (a, kind) {
-        (Some(Kind::Int), Kind::Int) | (Some(Kind::Bool), Kind::Bool) => true,
-        _ => false,
+    match a {
+        Some(j) => is_same(j, kind),
+        None => false,
     }
 }
 

@@ -1,13 +1,15 @@
 //! Whether names are known.
 
 ghost use Rattle.std.specs.Prelude.{◌≡◌, ◌↔◌, IsTrue, All, IsSome, map};
-ghost use Rattle.lutree.specs.Tree.{view, views, trees_of, node_view, declaration_view, equation_view};
+ghost use Rattle.lutree.specs.Tree.{view, views, trees_of, node_view, program_view, declaration_view, equation_view};
 ghost use Rattle.lustat_rules.specs.Scope.{IsVariable};
-ghost use Rattle.lustat_rules.specs.Naming.{NamesKnown, ClockKnown};
+ghost use Rattle.lustat_rules.specs.Naming.{names_in, NamesKnown, ClockKnown, DeclarationKnown};
 ghost use Rattle.lutype.specs.Forms.{EachName, EachNameOf};
 
+use crate::enumerations::{pattern_is_known, type_is_known};
+use crate::parts::labels_are_known;
 use lulist::Name;
-use lustat_scope::Scope;
+use lustat_scope::{Catalog, Scope};
 use lutree::{Declaration, Equation, Expr};
 
 /// Whether a name is a variable of a node.
@@ -23,7 +25,7 @@ fn expr_is_known(scope: &Scope, e: &Expr) -> bool
     ensures { IsTrue result ↔ EachName (IsVariable (node_view scope.now)) (view e.now) }
 {
     match e {
-        Expr::Number(_) | Expr::Truth(_) => true,
+        Expr::Number(_) | Expr::Truth(_) | Expr::Label(_) => true,
         Expr::Variable(x) | Expr::Current(x) => is_variable(scope, x.as_str()),
         Expr::Unary(_, a) => expr_is_known(scope, a),
         Expr::Binary(_, a, b) => expr_is_known(scope, a) && expr_is_known(scope, b),
@@ -31,14 +33,14 @@ fn expr_is_known(scope: &Scope, e: &Expr) -> bool
             expr_is_known(scope, c) && expr_is_known(scope, a) && expr_is_known(scope, b)
         }
         Expr::When(a, c) => expr_is_known(scope, a) && is_variable(scope, c.variable.as_str()),
-        Expr::Merge(c, a, b) => {
-            is_variable(scope, c.as_str()) && expr_is_known(scope, a) && expr_is_known(scope, b)
+        Expr::Merge(c, _, branches) => {
+            is_variable(scope, c.as_str()) && all_are_known(scope, branches)
         }
         Expr::Call(_, arguments) => all_are_known(scope, arguments),
     }
 }
 
-/// Whether the names of all arguments of a call are known.
+/// Whether the names of all arguments of a call or branches of a merge are known.
 #[cycle(known)]
 fn all_are_known(scope: &Scope, arguments: &[Expr]) -> bool
     ensures { IsTrue result ↔ EachNameOf (IsVariable (node_view scope.now))
@@ -66,19 +68,39 @@ fn left_is_known(scope: &Scope, left: &[Name]) -> bool
     true
 }
 
-/// Whether the names of an equation are known.
-pub fn names_are_known(scope: &Scope, equation: &Equation) -> bool
-    ensures { IsTrue result ↔ NamesKnown (node_view scope.now) (equation_view equation.now) }
+/// Whether the variables of an equation are known.
+fn variables_are_known(scope: &Scope, equation: &Equation) -> bool
+    ensures { IsTrue result ↔ (All (IsVariable (node_view scope.now)) equation.now.left
+        × All (IsVariable (node_view scope.now)) (names_in (view equation.now.right))) }
 {
     left_is_known(scope, equation.left.as_slice()) && expr_is_known(scope, &equation.right)
 }
 
-/// Whether the name in a declared clock is known.
-pub fn clock_is_known(scope: &Scope, declaration: &Declaration) -> bool
-    ensures { IsTrue result ↔ ClockKnown (node_view scope.now) (declaration_view declaration.now) }
+/// Whether the names of an equation are known.
+pub fn names_are_known(catalog: &Catalog, scope: &Scope, equation: &Equation) -> bool
+    ensures { IsTrue result ↔ NamesKnown (program_view catalog.now) (node_view scope.now)
+        (equation_view equation.now) }
+{
+    variables_are_known(scope, equation) && labels_are_known(catalog, scope, &equation.right)
+}
+
+/// Whether the names in a declared clock are known.
+fn clock_is_known(catalog: &Catalog, scope: &Scope, declaration: &Declaration) -> bool
+    ensures { IsTrue result ↔ ClockKnown (program_view catalog.now) (node_view scope.now)
+        (declaration_view declaration.now) }
 {
     match &declaration.clock {
         None => true,
-        Some(c) => is_variable(scope, c.variable.as_str()),
+        Some(c) => {
+            is_variable(scope, c.variable.as_str()) && pattern_is_known(catalog, &c.pattern)
+        }
     }
+}
+
+/// Whether the names of a declaration are known.
+pub fn declaration_is_known(catalog: &Catalog, scope: &Scope, declaration: &Declaration) -> bool
+    ensures { IsTrue result ↔ DeclarationKnown (program_view catalog.now) (node_view scope.now)
+        (declaration_view declaration.now) }
+{
+    type_is_known(catalog, declaration) && clock_is_known(catalog, scope, declaration)
 }

@@ -1,14 +1,16 @@
 //! The search for the least fault.
 
 ghost use Rattle.std.specs.Prelude.{◌≡◌, IfOk};
-ghost use Rattle.lustat_rules.specs.Faults.{IsJudged, NodeFault, NodeKept, DeclarationFault, DeclarationKept, EquationFault, EquationKept, IsFault, AreKept};
+ghost use Rattle.lustat_rules.specs.Faults.{IsJudged, TypeFault, TypeKept, NameFault, NameKept, NodeFault, NodeKept, DeclarationFault, DeclarationKept, EquationFault, EquationKept, IsFault, AreKept};
 ghost use Rattle.lutype.specs.Asked.{is_asked};
 
 use crate::defined::Definitions;
-use crate::faults::{declaration_fault, equation_fault, name_fault, program_fault};
+use crate::faults::{
+    declaration_fault, equation_fault, label_fault, name_fault, program_fault, type_fault,
+};
 use lustat_rules::{StatError, lesser};
 use lustat_scope::{Catalog, Scope, Stage};
-use lutree::{Declaration, Equation};
+use lutree::{Declaration, DeclaredName, Equation, TypeDeclaration};
 use std::alloc::{AllocError, Global};
 
 // The rules of names and types at the places of a program, with the name of its main node. The tests of a node share its definitions.
@@ -21,9 +23,17 @@ struct NameStage<'r, 'a> {
 impl<'r, 'a> Stage<'a> for NameStage<'r, 'a> {
     type Prepared = Definitions<'a>;
 
-    ghost nodes = { λ s. s.catalog.now.nodes };
+    ghost program = { λ s. s.catalog.now };
 
     ghost serves = { λ s n definitions. definitions ≡ n };
+
+    ghost breaks_type = { λ s. TypeFault is_asked s.catalog.now s.main.now };
+
+    ghost keeps_type = { λ s. TypeKept is_asked s.catalog.now s.main.now };
+
+    ghost breaks_name = { λ s. NameFault is_asked s.catalog.now s.main.now };
+
+    ghost keeps_name = { λ s. NameKept is_asked s.catalog.now s.main.now };
 
     ghost breaks_node = { λ s. NodeFault is_asked s.catalog.now s.main.now };
 
@@ -36,6 +46,20 @@ impl<'r, 'a> Stage<'a> for NameStage<'r, 'a> {
     ghost breaks_equation = { λ s. EquationFault is_asked s.catalog.now s.main.now };
 
     ghost keeps_equation = { λ s. EquationKept is_asked s.catalog.now s.main.now };
+
+    fn type_fault(&self, place: usize, declaration: &TypeDeclaration) -> Option<StatError> {
+        type_fault(self.catalog, place, declaration)
+    }
+
+    fn name_fault(
+        &self,
+        place: usize,
+        declaration: &TypeDeclaration,
+        number: usize,
+        name: &DeclaredName,
+    ) -> Option<StatError> {
+        label_fault(self.catalog, place, declaration, number, name)
+    }
 
     fn prepare(
         &self,
@@ -57,7 +81,7 @@ impl<'r, 'a> Stage<'a> for NameStage<'r, 'a> {
         place: usize,
         declaration: &Declaration,
     ) -> Option<StatError> {
-        declaration_fault(scope, prepared, place, declaration)
+        declaration_fault(self.catalog, scope, prepared, place, declaration)
     }
 
     fn equation_fault(
@@ -83,6 +107,6 @@ pub fn least_fault(
         (AreKept is_asked catalog.now main.now)) }
 {
     let stage = NameStage { catalog, main };
-    let of_nodes = lustat_scope::least_fault(alloc, &stage, catalog.scopes())?;
-    Ok(lesser(program_fault(catalog, main), of_nodes))
+    let of_places = lustat_scope::least_fault(alloc, &stage, catalog)?;
+    Ok(lesser(program_fault(catalog, main), of_places))
 }

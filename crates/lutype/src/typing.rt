@@ -4,10 +4,12 @@ ghost use Rattle.std.specs.Prelude.{◌≡◌, ◌↔◌, ◌∷◌, [], List, O
 ghost use Rattle.lutree.specs.declared.program.Kind.{Kind};
 ghost use Rattle.lutree.specs.Tree.{view, views, trees_of, node_view, program_view, equation_view, declarations_view};
 ghost use Rattle.lustat_rules.specs.Scope.{node_called, kind_of};
-ghost use Rattle.lustat_rules.specs.Typing.{type_of, types_of, arguments_fit, call_kinds, only, IsWellTyped};
+ghost use Rattle.lustat_rules.specs.Typing.{type_of, types_of, agreed_all, arguments_fit, call_kinds, only, IsWellTyped};
 
 use crate::calls::call_in;
-use crate::kinds::{agreed_kind, is_of_kind, kind_of_binary, kind_of_choice, kind_of_unary};
+use crate::kinds::{
+    agreed_kind, is_of_kind, kind_of_binary, kind_of_choice, kind_of_unary, kind_with,
+};
 use lulist::Name;
 use lustat_scope::{Catalog, Scope};
 use lutree::{Declaration, Equation, Expr, Infix, Kind, Prefix};
@@ -30,6 +32,7 @@ pub fn kind_of_expr(catalog: &Catalog, scope: &Scope, e: &Expr) -> Option<Kind>
     match e {
         Expr::Number(_) => Some(Kind::Int),
         Expr::Truth(_) => Some(Kind::Bool),
+        Expr::Label(l) => Some(l.kind),
         Expr::Variable(x) | Expr::Current(x) => scope.kind(x.as_str()),
         Expr::Unary(Prefix::Data(op), a) => agreed_kind(
             Some(kind_of_unary(*op)),
@@ -41,7 +44,7 @@ pub fn kind_of_expr(catalog: &Catalog, scope: &Scope, e: &Expr) -> Option<Kind>
             kind_of_expr(catalog, scope, a),
             kind_of_expr(catalog, scope, b),
         ),
-        Expr::Binary(Infix::Arrow | Infix::FollowedBy, a, b) | Expr::Merge(_, a, b) => agreed_kind(
+        Expr::Binary(Infix::Arrow | Infix::FollowedBy, a, b) => agreed_kind(
             kind_of_expr(catalog, scope, a),
             kind_of_expr(catalog, scope, b),
         ),
@@ -50,8 +53,23 @@ pub fn kind_of_expr(catalog: &Catalog, scope: &Scope, e: &Expr) -> Option<Kind>
             kind_of_expr(catalog, scope, a),
             kind_of_expr(catalog, scope, b),
         ),
+        Expr::Merge(_, _, branches) => kind_of_branches(catalog, scope, branches),
         Expr::Call(f, arguments) => kind_of_call(catalog, scope, f.as_str(), arguments),
     }
+}
+
+/// The type that all branches of a merge have.
+#[cycle(types)]
+fn kind_of_branches(catalog: &Catalog, scope: &Scope, branches: &[Expr]) -> Option<Kind>
+    ensures { result ≡ agreed_all (types_of (program_view catalog.now) (node_view scope.now)
+        (trees_of (views branches.now))) }
+{
+    let mut all = None;
+    for (i, e) in branches.iter().enumerate() {
+        let kind = kind_of_expr(catalog, scope, e);
+        all = kind_with(i, all, kind);
+    }
+    all
 }
 
 /// The type of a call.

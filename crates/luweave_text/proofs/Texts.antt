@@ -10,6 +10,7 @@ use Rattle.luworld.specs.declared.link.Link.{Link}
 use Rattle.lusite.proofs.Ranges.{filter_more}
 use Rattle.luworld.specs.Progress.{Progress, IsCollected}
 use Rattle.luweave_text.specs.WorldText.{AreOutputLines, NoOutput, OneOutputMore, output_line, links_text, line_of}
+use Rattle.luflow.specs.Types.{variable_names}
 use Rattle.luflow.specs.Variables.{is_output_of, variable_name}
 
 -- what passes a test in a range stands behind those before it that do
@@ -48,7 +49,7 @@ module _ (w : Progress) (v k : ℕ) (lines : List ℕ) (are : AreOutputLines w v
   pub count_other : is_output_of w.job.plan.flat v ≡ false → k ≡ length (filter (is_output_of w.job.plan.flat) (range_with_len 0 (v + 1)))
   count_other is = let c = counted false is in omega (arith, c)
 
-  pub told_more : v < length w.job.plan.flat.variables → is_output_of w.job.plan.flat v ≡ true → (statuses : List Status) → IsCollected w.job w.dones k statuses → AreOutputLines w (v + 1) (k + 1) (lines ++ output_line (variable_name w.job.plan.flat v) statuses)
+  pub told_more : v < length w.job.plan.flat.variables → is_output_of w.job.plan.flat v ≡ true → (statuses : List Status) → IsCollected w.job w.dones k statuses → AreOutputLines w (v + 1) (k + 1) (lines ++ output_line (variable_name w.job.plan.flat v) (variable_names w.job.plan.flat v) statuses)
   told_more lv is statuses collected =
       let z : 0 + v ≡ v = omega arith in
       let at = ap (slice_get (outputs_of w.job.plan)) count ∙ found_at (is_output_of w.job.plan.flat) 0 (length w.job.plan.flat.variables) v lv (ap (is_output_of w.job.plan.flat) z ∙ is) ∙ ap Some z in

@@ -5,7 +5,7 @@ use Rattle.std.specs.declared.alloc.Global.{Global}
 use Rattle.std.specs.List.{range_with_len}
 use Rattle.std.specs.Fmt.{decimal, signed_decimal}
 use Rattle.luflow.specs.declared.data.Datum.{Datum}
-use Rattle.luflow.specs.declared.data.Datum.TheVariants.{Int, Bool as Truth, Nil}
+use Rattle.luflow.specs.declared.data.Datum.TheVariants.{Int, Bool as Truth, Name, Nil}
 use Rattle.luflow.specs.declared.data.Status.{Status}
 use Rattle.luflow.specs.declared.data.Status.TheVariants.{Absent, Present}
 use Rattle.luflow.specs.declared.message.Msg.{Msg}
@@ -13,6 +13,7 @@ use Rattle.luflow.specs.declared.message.Body.{Body}
 use Rattle.luflow.specs.declared.message.Body.TheVariants.{Value, Close}
 use Rattle.luflow.specs.Program.{FlatProgram}
 use Rattle.luflow.specs.Operators.{kind_text}
+use Rattle.luflow.specs.Types.{name_of, variable_names}
 use Rattle.luworld.specs.declared.link.Link.{Link}
 use Rattle.luworld.specs.Needs.{Distribution, sites_of}
 use Rattle.luworld.specs.World.{done}
@@ -23,40 +24,46 @@ use Rattle.lusite.specs.declared.report.Standing.TheVariants.{Ended, Faulted, Cu
 use Rattle.luworld.specs.Progress.{Progress, IsCollected, taken_of, queued_of}
 use Rattle.luflow.specs.Variables.{is_output_of, variable_name}
 
--- a space and a datum
-abbrev pub datum_text : Datum → List ℕ
-datum_text (Int n) = codes " " ++ signed_decimal n
-datum_text (Truth true) = codes " true"
-datum_text (Truth false) = codes " false"
-datum_text Nil = codes " nil"
+-- a space and a datum of a type with these names
+abbrev pub datum_text : List (List ℕ) → Datum → List ℕ
+datum_text names (Int n) = codes " " ++ signed_decimal n
+datum_text names (Truth true) = codes " true"
+datum_text names (Truth false) = codes " false"
+datum_text names (Name k) = codes " " ++ name_of names k
+datum_text names Nil = codes " nil"
 
 -- a space and what a message says
-abbrev pub body_text : Body → List ℕ
-body_text (Value d) = datum_text d
-body_text Close = codes " close"
+abbrev pub body_text : List (List ℕ) → Body → List ℕ
+body_text names (Value d) = datum_text names d
+body_text names Close = codes " close"
 
 -- The text has these bytes more, unless memory ran out.
 abbrev pub Adds : {X E : Type 0} → Result X E → String Global → String Global → List ℕ → Type 0
 Adds result old new more = IfOk result (λ _. string_bytes new ≡ string_bytes old ++ more)
 
 -- a space and a status
-abbrev pub status_text : Status → List ℕ
-status_text Absent = codes " -"
-status_text (Present d) = datum_text d
+abbrev pub status_text : List (List ℕ) → Status → List ℕ
+status_text names Absent = codes " -"
+status_text names (Present d) = datum_text names d
 
 -- the name of a site
 abbrev pub site_name : List (List ℕ) → ℕ → List ℕ
 site_name names s = unwrap_or (slice_get names s) []
 
 -- what passed a link: a space and what each message says
-abbrev pub messages_text : List Msg → List ℕ
-messages_text = flat_map (λ (m : Msg). body_text m.body)
+abbrev pub messages_text : List (List ℕ) → List Msg → List ℕ
+messages_text names = flat_map (λ (m : Msg). body_text names m.body)
 
--- `link FLOW FROM TO taken`, what was taken, and how many messages wait
+-- `link FLOW FROM TO taken`, what was taken, spelled by these names, and how many messages wait
+abbrev pub carried_line : List ℕ → List (List ℕ) → List ℕ → List ℕ → List Msg → ℕ → List ℕ
+carried_line flow names from to taken waiting =
+    codes "link " ++ (flow ++ (codes " " ++ (from ++ (codes " " ++ (to ++ codes " taken")))))
+    ++ (messages_text names taken ++ (codes " queued " ++ (decimal waiting ++ 10 ∷ [])))
+
+-- that of a link of a plan
 abbrev pub link_line : Distribution → Link → List Msg → ℕ → List ℕ
 link_line plan link taken waiting =
-    codes "link " ++ (variable_name plan.flat link.flow ++ (codes " " ++ (site_name plan.names link.from ++ (codes " " ++ (site_name plan.names link.to ++ codes " taken")))))
-    ++ (messages_text taken ++ (codes " queued " ++ (decimal waiting ++ 10 ∷ [])))
+    carried_line (variable_name plan.flat link.flow) (variable_names plan.flat link.flow) (site_name plan.names link.from) (site_name plan.names link.to) taken waiting
 
 -- `site NAME`, and how the site stands
 abbrev pub standing_text : FlatProgram → Standing → List ℕ
@@ -67,12 +74,12 @@ standing_text flat (Faulted fault) = codes "faulted " ++ (variable_name flat fau
 abbrev pub site_line : Distribution → ℕ → Standing → List ℕ
 site_line plan s standing = codes "site " ++ (site_name plan.names s ++ codes " ") ++ (standing_text plan.flat standing ++ 10 ∷ [])
 
--- `output NAME`, and its statuses
-abbrev pub statuses_text : List Status → List ℕ
-statuses_text = flat_map status_text
+-- `output NAME`, and its statuses, of a type with these names
+abbrev pub statuses_text : List (List ℕ) → List Status → List ℕ
+statuses_text names = flat_map (status_text names)
 
-abbrev pub output_line : List ℕ → List Status → List ℕ
-output_line name statuses = codes "output " ++ name ++ (statuses_text statuses ++ 10 ∷ [])
+abbrev pub output_line : List ℕ → List (List ℕ) → List Status → List ℕ
+output_line name names statuses = codes "output " ++ name ++ (statuses_text names statuses ++ 10 ∷ [])
 
 -- the line of link l
 abbrev pub line_of : Progress → Option Link → ℕ → List ℕ
@@ -93,7 +100,7 @@ pub data AreOutputLines (w : Progress) : ℕ → ℕ → List ℕ → Type 0 whe
   NoVariables : AreOutputLines w 0 0 []
   NoOutput : (v k : ℕ) (lines : List ℕ) → AreOutputLines w v k lines → is_output_of w.job.plan.flat v ≡ false → AreOutputLines w (v + 1) k lines
   OneOutputMore : (v k : ℕ) (lines : List ℕ) (statuses : List Status) → AreOutputLines w v k lines → slice_get (outputs_of w.job.plan) k ≡ Some v → IsCollected w.job w.dones k statuses
-      → AreOutputLines w (v + 1) (k + 1) (lines ++ output_line (variable_name w.job.plan.flat v) statuses)
+      → AreOutputLines w (v + 1) (k + 1) (lines ++ output_line (variable_name w.job.plan.flat v) (variable_names w.job.plan.flat v) statuses)
 
 -- the text of a world: its links, its sites and its outputs, each in order
 pub record IsWorldText (w : Progress) (text : List ℕ) : Type 0 where

@@ -1,45 +1,51 @@
 //! What a replay prints.
 
 ghost use Rattle.std.specs.Prelude.{◌≡◌, ◌++◌, ℕ, List, IfOk, length, string_bytes};
-ghost use Rattle.luweave_text.specs.WorldText.{datum_text, body_text, status_text, site_name, messages_text, link_line, links_text, standing_text, site_line, AreSiteLines, output_line, statuses_text, AreOutputLines, IsWorldText, Adds};
+ghost use Rattle.luweave_text.specs.WorldText.{datum_text, body_text, status_text, site_name, messages_text, carried_line, link_line, links_text, standing_text, site_line, AreSiteLines, output_line, statuses_text, AreOutputLines, IsWorldText, Adds};
 ghost use Rattle.luworld.specs.Needs.{sites_of};
+ghost use Rattle.luflow.specs.Types.{variable_names};
 ghost use Rattle.luflow.specs.Variables.{is_output_of, variable_name};
 
-use luflow::{Body, Datum, Flat, Msg, Role, Status};
+use luflow::{Body, Datum, Flat, Msg, Role, Status, name_of};
 use lulist::Name;
 use luplace::{Link, Plan};
 use lusite::{Fault, Standing};
 use luweave::World;
 use std::alloc::{AllocError, Global};
 
-/// A space and a value.
-fn put_datum(text: &mut String, datum: Datum) -> Result<(), AllocError>
-    ensures { IfOk result (λ _. string_bytes text.new ≡ string_bytes text.old ++ datum_text datum) }
+/// A space and a value of a type with these names.
+fn put_datum(text: &mut String, names: &[Name], datum: Datum) -> Result<(), AllocError>
+    ensures { Adds result text.old text.new (datum_text names.now datum) }
 {
     match datum {
         Datum::Int(number) => write!(text, " {number}"),
         Datum::Bool(truth) => write!(text, " {truth}"),
+        Datum::Name(number) => write!(text, " {}", name_of(names, number)),
         Datum::Nil => text.push_str(" nil"),
     }
 }
 
 /// A space and what a message says.
-pub(crate) fn put_message(text: &mut String, message: Msg) -> Result<(), AllocError>
-    ensures { Adds result text.old text.new (body_text message.body) }
+pub(crate) fn put_message(
+    text: &mut String,
+    names: &[Name],
+    message: Msg,
+) -> Result<(), AllocError>
+    ensures { Adds result text.old text.new (body_text names.now message.body) }
 {
     match message.body {
-        Body::Value(datum) => put_datum(text, datum),
+        Body::Value(datum) => put_datum(text, names, datum),
         Body::Close => text.push_str(" close"),
     }
 }
 
 /// A space and a status.
-fn put_status(text: &mut String, status: Status) -> Result<(), AllocError>
-    ensures { Adds result text.old text.new (status_text status) }
+fn put_status(text: &mut String, names: &[Name], status: Status) -> Result<(), AllocError>
+    ensures { Adds result text.old text.new (status_text names.now status) }
 {
     match status {
         Status::Absent => text.push_str(" -"),
-        Status::Present(datum) => put_datum(text, datum),
+        Status::Present(datum) => put_datum(text, names, datum),
     }
 }
 
@@ -74,19 +80,36 @@ fn put_link(
     ensures { Adds result text.old text.new (link_line plan.now link.now taken.now queued) }
 {
     let flow = variable_name(plan.flat(), link.flow);
+    let names = plan.flat().variable_names(link.flow);
     let from = site_name(plan.sites(), link.from);
     let to = site_name(plan.sites(), link.to);
+    put_carried(text, flow, names, from, to, taken, queued)
+}
+
+/// The same of a flow of this name, whose type has these names, between sites of these names.
+fn put_carried(
+    text: &mut String,
+    flow: &str,
+    names: &[Name],
+    from: &str,
+    to: &str,
+    taken: &[Msg],
+    queued: usize,
+) -> Result<(), AllocError>
+    ensures { Adds result text.old text.new
+        (carried_line flow.now names.now from.now to.now taken.now queued) }
+{
     write!(text, "link {flow} {from} {to} taken")?;
-    put_messages(text, taken)?;
+    put_messages(text, names, taken)?;
     writeln!(text, " queued {queued}")
 }
 
 /// What each message says.
-fn put_messages(text: &mut String, messages: &[Msg]) -> Result<(), AllocError>
-    ensures { Adds result text.old text.new (messages_text messages.now) }
+fn put_messages(text: &mut String, names: &[Name], messages: &[Msg]) -> Result<(), AllocError>
+    ensures { Adds result text.old text.new (messages_text names.now messages.now) }
 {
     for message in messages {
-        put_message(text, *message)?;
+        put_message(text, names, *message)?;
     }
     Ok(())
 }
@@ -148,21 +171,30 @@ fn put_sites(text: &mut String, plan: &Plan, world: &World) -> Result<(), AllocE
     Ok(())
 }
 
-/// `output NAME`, and its statuses.
-fn put_output(text: &mut String, name: &str, statuses: &[Status]) -> Result<(), AllocError>
-    ensures { Adds result text.old text.new (output_line name.now statuses.now) }
+/// `output NAME`, and its statuses, of a type with these names.
+fn put_output(
+    text: &mut String,
+    name: &str,
+    names: &[Name],
+    statuses: &[Status],
+) -> Result<(), AllocError>
+    ensures { Adds result text.old text.new (output_line name.now names.now statuses.now) }
 {
     write!(text, "output {name}")?;
-    put_statuses(text, statuses)?;
+    put_statuses(text, names, statuses)?;
     text.push('\n')
 }
 
 /// The statuses of an output.
-fn put_statuses(text: &mut String, statuses: &[Status]) -> Result<(), AllocError>
-    ensures { Adds result text.old text.new (statuses_text statuses.now) }
+fn put_statuses(
+    text: &mut String,
+    names: &[Name],
+    statuses: &[Status],
+) -> Result<(), AllocError>
+    ensures { Adds result text.old text.new (statuses_text names.now statuses.now) }
 {
     for status in statuses {
-        put_status(text, *status)?;
+        put_status(text, names, *status)?;
     }
     Ok(())
 }
@@ -188,7 +220,8 @@ fn put_outputs(text: &mut String, plan: &Plan, world: &World) -> Result<(), Allo
     let mut k = 0;
     for variable in 0..flat.variables().len() {
         if is_output(flat, variable) {
-            put_output(text, variable_name(flat, variable), world.outputs(k))?;
+            let name = variable_name(flat, variable);
+            put_output(text, name, flat.variable_names(variable), world.outputs(k))?;
             k += 1;
         }
     }

@@ -2,6 +2,7 @@
 
 ghost use Rattle.std.specs.Prelude.{◌≡◌, ◌++◌, ◌≤◌, ◌+◌, ℕ, List, Some, true, IfOk, is_some, length, slice_get, string_bytes};
 ghost use Rattle.std.specs.Option.{ForSome};
+ghost use Rattle.luflow.specs.Types.{variable_names};
 ghost use Rattle.luflow.specs.Variables.{variable_name};
 ghost use Rattle.luworld.specs.World.{Item, done, next_item, run, step, NoTurnMoves};
 ghost use Rattle.luworld.specs.Runs.{Run, carried, script, streams_of, system_of};
@@ -13,20 +14,35 @@ ghost use Rattle.luweave_text.specs.Traced.{message_text, item_text, item_line, 
 
 use crate::text::{put_message, site_name, variable_name};
 use luflow::Msg;
+use lulist::Name;
 use luplace::Plan;
 use luweave::{LinkNo, Next, Site, Turn, World};
 use std::alloc::{AllocError, Global};
 
-/// The number of a message, and what it says.
-fn put_numbered(text: &mut String, message: Option<Msg>) -> Result<(), AllocError>
-    ensures { Adds result text.old text.new (message_text message) }
+/// The number of a message, and what it says of a type with these names.
+fn put_numbered(
+    text: &mut String,
+    names: &[Name],
+    message: Option<Msg>,
+) -> Result<(), AllocError>
+    ensures { Adds result text.old text.new (message_text names.now message) }
 {
     match message {
         Some(message) => {
             write!(text, " {}", message.no)?;
-            put_message(text, message)
+            put_message(text, names, message)
         }
         None => Ok(()),
+    }
+}
+
+/// The flow that a link carries.
+fn flow_of(plan: &Plan, link: LinkNo) -> usize
+    ensures { result ≡ carried plan.now link }
+{
+    match plan.links().get(link) {
+        Some(found) => found.flow,
+        None => 0,
     }
 }
 
@@ -34,11 +50,14 @@ fn put_numbered(text: &mut String, message: Option<Msg>) -> Result<(), AllocErro
 fn flow_name(plan: &Plan, link: LinkNo) -> &str
     ensures { result.now ≡ variable_name plan.now.flat (carried plan.now link) }
 {
-    let flow = match plan.links().get(link) {
-        Some(found) => found.flow,
-        None => 0,
-    };
-    variable_name(plan.flat(), flow)
+    variable_name(plan.flat(), flow_of(plan, link))
+}
+
+/// The names of the type of the flow that a link carries.
+fn flow_names(plan: &Plan, link: LinkNo) -> &[Name]
+    ensures { result.now ≡ variable_names plan.now.flat (carried plan.now link) }
+{
+    plan.flat().variable_names(flow_of(plan, link))
 }
 
 /// What a site does next, where it does anything.
@@ -58,11 +77,12 @@ fn put_item(
         Next::Local => text.push_str("compute"),
         Next::Put(link, message) => {
             write!(text, "put {}", flow_name(plan, link))?;
-            put_numbered(text, Some(message))
+            put_numbered(text, flow_names(plan, link), Some(message))
         }
         Next::Take(link) => {
             write!(text, "take {}", flow_name(plan, link))?;
-            put_numbered(text, world.queued(link).first().copied())
+            let first = world.queued(link).first().copied();
+            put_numbered(text, flow_names(plan, link), first)
         }
         Next::Ended => Ok(()),
         Next::Faulted => Ok(()),

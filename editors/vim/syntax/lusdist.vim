@@ -6,15 +6,13 @@ endif
 syntax case match
 syntax sync minlines=200
 
-syntax keyword lusdistStructure node returns var let tel
+syntax keyword lusdistStructure node returns var let tel type enum
 syntax keyword lusdistConditional if then else
 syntax keyword lusdistClock when merge current
 syntax keyword lusdistMemory pre fby
 syntax keyword lusdistOperator and or xor not div mod
 syntax keyword lusdistType int bool
 syntax keyword lusdistTruth true false
-" Reserved: no rule has them yet.
-syntax keyword lusdistReserved type enum
 
 syntax match lusdistNumber /\<\d\+\>/
 syntax match lusdistSign /->\|=>\|<>\|<=\|>=\|[-+*=<>]/
@@ -30,7 +28,6 @@ highlight default link lusdistMemory PreProc
 highlight default link lusdistOperator Operator
 highlight default link lusdistType Type
 highlight default link lusdistTruth Boolean
-highlight default link lusdistReserved Error
 highlight default link lusdistNumber Number
 highlight default link lusdistSign Operator
 highlight default link lusdistCall Function

@@ -2,6 +2,7 @@ use Rattle.std.proofs.Common.{ℕ, List, ◌<◌, length, map, ◌∙◌, sym, a
 use Rattle.std.specs.Prelude.{All, slice_get, slice_index}
 use Rattle.luflow.specs.declared.form.Flow.{Flow}
 use Rattle.luflow.specs.declared.variable.Variable.{Variable}
+use Rattle.luflow.specs.declared.variable.Enum.{Enum}
 use Rattle.luflow.specs.Program.{reads, FlatProgram}
 use Rattle.luflow.specs.Rank.{IsRankOrder, Chain}
 use Rattle.luflow.specs.Flats.{IsFlat}
@@ -12,8 +13,8 @@ use Rattle.lucore.specs.Result.{IsFlatOf}
 use Rattle.lucore.proofs.Told.{too_large, listed_for, are_closed, few_if, flat_is, has_owner, owners_in, cycle_told}
 use Rattle.lucore.proofs.flattening.flatten.Goals as goal
 
-abbrev flat_record : List Flow → List ℕ → List ℕ → List Variable → FlatProgram
-flat_record flows order owners variables = record { flows = flows; order = order; owners = owners; variables = variables }
+abbrev flat_record : List Enum → List Flow → List ℕ → List ℕ → List Variable → FlatProgram
+flat_record types flows order owners variables = record { types = types; flows = flows; order = order; owners = owners; variables = variables }
 
 pub returns-then-branch-clause-refuses : goal.returns-then-branch-clause-refuses
 returns-then-branch-clause-refuses c =
@@ -33,8 +34,8 @@ ranking-requires c =
     let listed = listed_for program c.catalog-catalog.result.now main c.main.result.now laid c.catalog-catalog.ensures.catalog c.main.ensures c.in_ok-laid.ensures in
     subst (λ fs. AreClosed (map reads fs)) (sym c.deref.ensures.value) (are_closed p main laid accepted listed)
 
-pub new-requires-in-Ordered-3 : goal.new-requires-in-Ordered-3
-new-requires-in-Ordered-3 c =
+pub new-requires-in-Ordered-4 : goal.new-requires-in-Ordered-4
+new-requires-in-Ordered-4 c =
     let program = c.args.program.now.program in
     let p = program_view program in
     let main = c.args.program.now.main in
@@ -45,9 +46,10 @@ new-requires-in-Ordered-3 c =
     let ranked = subst (λ fs. IsRankOrder (map reads fs) c.in-Ordered.order) c.deref.ensures.value (subst (λ r. IfOrdered r (IsRankOrder (map reads c.deref.result.now))) c.in-Ordered.is c.in_ok-order.ensures.order) in
     let straight = subst (λ fs. (x : ℕ) → ¬ Chain (map reads fs) x x) c.deref.ensures.value (subst (λ r. IfOrdered r (λ _. (x : ℕ) → ¬ Chain (map reads c.deref.result.now) x x)) c.in-Ordered.is c.in_ok-order.ensures.straight) in
     let done = flat_is p main laid accepted listed c.in-Ordered.order few ranked straight in
-    let a = subst (λ fs. IsFlat (flat_record fs c.in-Ordered.order laid.owners.items laid.variables.items)) (sym c.new.ensures) done.is_flat in
-    let b = subst (λ os. IsFlat (flat_record c.new.result c.in-Ordered.order os laid.variables.items)) (sym c.new-in-Ordered.ensures) a in
-    subst (λ vs. IsFlat (flat_record c.new.result c.in-Ordered.order c.new-in-Ordered.result vs)) (sym c.new-in-Ordered-2.ensures) b
+    let t = subst (λ ts. IsFlat (flat_record ts laid.flows.items c.in-Ordered.order laid.owners.items laid.variables.items)) (sym c.new.ensures) done.is_flat in
+    let a = subst (λ fs. IsFlat (flat_record c.new.result fs c.in-Ordered.order laid.owners.items laid.variables.items)) (sym c.new-in-Ordered.ensures) t in
+    let b = subst (λ os. IsFlat (flat_record c.new.result c.new-in-Ordered.result c.in-Ordered.order os laid.variables.items)) (sym c.new-in-Ordered-2.ensures) a in
+    subst (λ vs. IsFlat (flat_record c.new.result c.new-in-Ordered.result c.in-Ordered.order c.new-in-Ordered-2.result vs)) (sym c.new-in-Ordered-3.ensures) b
 
 pub returns-in-Ordered-clause-flat : goal.returns-in-Ordered-clause-flat
 returns-in-Ordered-clause-flat c =
@@ -61,10 +63,11 @@ returns-in-Ordered-clause-flat c =
     let ranked = subst (λ fs. IsRankOrder (map reads fs) c.in-Ordered.order) c.deref.ensures.value (subst (λ r. IfOrdered r (IsRankOrder (map reads c.deref.result.now))) c.in-Ordered.is c.in_ok-order.ensures.order) in
     let straight = subst (λ fs. (x : ℕ) → ¬ Chain (map reads fs) x x) c.deref.ensures.value (subst (λ r. IfOrdered r (λ _. (x : ℕ) → ¬ Chain (map reads c.deref.result.now) x x)) c.in-Ordered.is c.in_ok-order.ensures.straight) in
     let done = flat_is p main laid accepted listed c.in-Ordered.order few ranked straight in
-    let a = subst (λ fs. IsFlatOf p main (flat_record fs c.in-Ordered.order laid.owners.items laid.variables.items)) (sym c.new.ensures) done in
-    let b = subst (λ os. IsFlatOf p main (flat_record c.new.result c.in-Ordered.order os laid.variables.items)) (sym c.new-in-Ordered.ensures) a in
-    let d = subst (λ vs. IsFlatOf p main (flat_record c.new.result c.in-Ordered.order c.new-in-Ordered.result vs)) (sym c.new-in-Ordered-2.ensures) b in
-    subst (IsFlatOf p main) (sym c.new-in-Ordered-3.ensures) d
+    let t = subst (λ ts. IsFlatOf p main (flat_record ts laid.flows.items c.in-Ordered.order laid.owners.items laid.variables.items)) (sym c.new.ensures) done in
+    let a = subst (λ fs. IsFlatOf p main (flat_record c.new.result fs c.in-Ordered.order laid.owners.items laid.variables.items)) (sym c.new-in-Ordered.ensures) t in
+    let b = subst (λ os. IsFlatOf p main (flat_record c.new.result c.new-in-Ordered.result c.in-Ordered.order os laid.variables.items)) (sym c.new-in-Ordered-2.ensures) a in
+    let d = subst (λ vs. IsFlatOf p main (flat_record c.new.result c.new-in-Ordered.result c.in-Ordered.order c.new-in-Ordered-2.result vs)) (sym c.new-in-Ordered-3.ensures) b in
+    subst (IsFlatOf p main) (sym c.new-in-Ordered-4.ensures) d
 
 pub owner_name-requires-clause-inside : goal.owner_name-requires-clause-inside
 owner_name-requires-clause-inside c =

@@ -19,7 +19,7 @@ returns-in_ok-laid-in-Some c =
     let here = placed p c.args.main.now n is in
     let same = same_Some here.place c.in-Some.place (sym here.at_place ∙ sym c.place.ensures ∙ c.in-Some.is) in
     let there : slice_get p.nodes c.in-Some.place ≡ Some n = subst (λ i. slice_get p.nodes i ≡ Some n) same here.node in
-    (c.in_ok-laid-in-Some.ensures.list n there, c.in_ok-laid-in-Some.ensures.variables n there)
+    (c.in_ok-laid-in-Some.ensures.list n there, c.in_ok-laid-in-Some.ensures.variables n there, c.in_ok-laid-in-Some.ensures.types)
 
 pub returns-in-None : goal.returns-in-None
 returns-in-None c =

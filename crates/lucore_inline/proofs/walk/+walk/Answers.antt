@@ -11,18 +11,18 @@ use Rattle.lutree.specs.Tree as tree
 use Rattle.luflow.specs.declared.form.Form.{Form}
 use Rattle.luflow.specs.declared.form.Form.TheVariants.{Constant, If, When, Current, Merge}
 use Rattle.luflow.specs.declared.data.Datum.{Datum}
-use Rattle.luflow.specs.declared.data.Datum.TheVariants.{Int, Bool as Truth}
+use Rattle.luflow.specs.declared.data.Datum.TheVariants.{Int, Bool as Truth, Name}
 use Rattle.lusource.specs.Names.{clock_of}
 use Rattle.lusource.specs.Source.{condition}
 use Rattle.lustat_rules.specs.Scope.{node_called, kind_of}
-use Rattle.lustat_rules.specs.Typing.{agreed, choice_kind, type_of, types_of, only, call_kinds}
+use Rattle.lustat_rules.specs.Typing.{agreed, choice_kind, agreed_all, type_of, types_of, only, call_kinds}
 use Rattle.lucore_list.specs.Layout.{clock_place, instance, variable_place, walk}
 use Rattle.lucore_list.specs.Layout.Root.{own, at}
 use Rattle.lustat_scope.specs.ClockRefs.{placed_view}
-use Rattle.lucore_inline.specs.Walks.{IsWalked, root_view, plain, flow_on, prefix_form, prefix_kind, kinds_of}
+use Rattle.lucore_inline.specs.Walks.{IsWalked, root_view, plain, flow_on, prefix_form, prefix_kind, kinds_of, pattern_at}
 use Rattle.lucore_moved.specs.Operands.{places_of}
-use Rattle.lucore_inline.proofs.Views.{viewed-Number, viewed-Truth, viewed-Variable, viewed-Current, viewed-Call, viewed-Unary, viewed-Binary, viewed-If, viewed-When, viewed-Merge}
-use Rattle.lucore_inline.proofs.Forms.{AreMade, none_made, argument_made, argument_typed, operand_is, operand_typed, formed, number_is, truth_is, variable_is, current_is, unary_is, binary_is, choice_is, when_is, merge_is, prefix_typed, infix_typed, choice_typed}
+use Rattle.lucore_inline.proofs.Views.{viewed-Number, viewed-Truth, viewed-Variable, viewed-Current, viewed-Call, viewed-Unary, viewed-Binary, viewed-If, viewed-When, viewed-Merge, viewed-Label}
+use Rattle.lucore_inline.proofs.Forms.{AreMade, none_made, argument_made, argument_typed, BranchesAreMade, no_branches, branch_made, operand_is, operand_typed, formed, number_is, truth_is, variable_is, current_is, unary_is, binary_is, choice_is, when_is, merge_is, label_is, prefix_typed, infix_typed, choice_typed}
 use Rattle.lucore_inline.proofs.walk.+walk.Goals as goal
 
 pub walk-returns-in_ok-x-in-Unary-clause-walked : goal.walk-returns-in_ok-x-in-Unary-clause-walked
@@ -156,49 +156,125 @@ walk-returns-in_ok-x-in-When-clause-kind t c =
     let mk = operand_typed p l n c.in-When.a.value c.deref-in-When.result.now c.in_ok-walk-in-When.field-0.kind c.in_ok-x-in-When.x.kind c.deref-in-When.ensures c.in_ok-walk-in-When.ensures.kind c.in_ok-x-in-When.ensures.kind in
     c.own-in-When.ensures.kind ∙ mk ∙ sym (ap (type_of p n) (ap view c.in-When.is ∙ viewed-When c.in-When.a c.in-When.c))
 
-pub walk-returns-in_ok-branches-in-Merge-clause-walked : goal.walk-returns-in_ok-branches-in-Merge-clause-walked
-walk-returns-in_ok-branches-in-Merge-clause-walked t c =
+pub merge-loop-i-init : goal.merge-loop-i-init
+merge-loop-i-init t c =
+    let p = program_view c.args.context.now.catalog.now in
+    let l = plain c.args.context.now.lists.now in
+    let n = node_view c.args.context.now.scope.now in
+    let old = c.args.flows.now.items in
+    let none = c.in_ok-operands.ensures.items in
+    record {
+      made = subst (λ ops. BranchesAreMade p l n c.args.name.now c.args.patterns.now tree.none old old (places_of ops)) (sym none) (no_branches p l n c.args.name.now c.args.patterns.now old);
+      kinds = ap kinds_of none;
+    }
+
+pub merge-loop-i-preserved : goal.merge-loop-i-preserved
+merge-loop-i-preserved t c =
+    let p = program_view c.args.context.now.catalog.now in
+    let l = plain c.args.context.now.lists.now in
+    let n = node_view c.args.context.now.scope.now in
+    let old = c.args.flows.now.items in
+    let args = c.args.branches.now in
+    let x = c.args.name.now in
+    let ps = c.args.patterns.now in
+    let i = c.loop-i.i in
+    let lt : i < length args = omega arith in
+    let a = c.index-branches-i.result in
+    let ops = c.loop-i.operands.items in
+    let y = c.in_ok-x.x in
+    let more = c.in_ok-push.ensures.items in
+    let on = c.placed-on.ensures.clock ∙ ap (condition x) c.pattern_at.ensures in
+    let walked = subst (λ k. IsWalked (walk p l n (view a) k) c.loop-i.flows.items c.walk.new.flows.items (root_view c.in_ok-walk.field-0.root)) on c.in_ok-walk.ensures.walked in
+    let m = operand_is p l n a a (condition x (pattern_at ps i)) c.loop-i.flows.items c.walk.new.flows.items c.settled.new.flows.items (root_view c.in_ok-walk.field-0.root) y.place refl walked c.in_ok-x.ensures.flows c.in_ok-x.ensures.place in
+    let mk = operand_typed p l n a a c.in_ok-walk.field-0.kind y.kind refl c.in_ok-walk.ensures.kind c.in_ok-x.ensures.kind in
+    record {
+      made = branch_made p l n x ps args i a old c.loop-i.flows.items c.settled.new.flows.items ops c.push.new.self.items y lt c.index-branches-i.is c.loop-i.invariant.made m more;
+      kinds = argument_typed p l n args i a ops c.push.new.self.items y lt c.index-branches-i.is c.loop-i.invariant.kinds mk more;
+    }
+
+pub merge-returns-clause-walked : goal.merge-returns-clause-walked
+merge-returns-clause-walked t c =
     let p = program_view c.args.context.now.catalog.now in
     let l = plain c.args.context.now.lists.now in
     let n = node_view c.args.context.now.scope.now in
     let k = placed_view c.args.clock in
     let old = c.args.flows.now.items in
-    let v = c.in-Merge.c in
-    let a = c.in-Merge.a in
-    let b = c.in-Merge.b in
-    let x = c.in_ok-x-in-Merge.x in
-    let y = c.in_ok-y-in-Merge.y in
-    let first = c.settled-in-Merge.new.flows.items in
-    let last = c.settled-in-Merge-2.new.flows.items in
-    let name = c.as_str-name-in-Merge.ensures in
-    let on = c.placed-on.ensures.clock ∙ ap (λ y. condition y (patterns.Truth true)) name in
-    let off = c.placed-off.ensures.clock ∙ ap (λ y. condition y (patterns.Truth false)) name in
-    let g = subst (λ j. IsWalked (walk p l n (view c.deref-in-Merge.result.now) j) old c.walk-in-Merge.new.flows.items (root_view c.in_ok-walk-in-Merge.field-0.root)) on c.in_ok-walk-in-Merge.ensures.walked in
-    let h = subst (λ j. IsWalked (walk p l n (view c.deref-in-Merge-2.result.now) j) first c.walk-in-Merge-2.new.flows.items (root_view c.in_ok-walk-in-Merge-2.field-0.root)) off c.in_ok-walk-in-Merge-2.ensures.walked in
-    let m = operand_is p l n a.value c.deref-in-Merge.result.now (condition v (patterns.Truth true)) old c.walk-in-Merge.new.flows.items first (root_view c.in_ok-walk-in-Merge.field-0.root) x.place c.deref-in-Merge.ensures g c.in_ok-x-in-Merge.ensures.flows c.in_ok-x-in-Merge.ensures.place in
-    let r = operand_is p l n b.value c.deref-in-Merge-2.result.now (condition v (patterns.Truth false)) first c.walk-in-Merge-2.new.flows.items last (root_view c.in_ok-walk-in-Merge-2.field-0.root) y.place c.deref-in-Merge-2.ensures h c.in_ok-y-in-Merge.ensures.flows c.in_ok-y-in-Merge.ensures.place in
-    let mk = operand_typed p l n a.value c.deref-in-Merge.result.now c.in_ok-walk-in-Merge.field-0.kind x.kind c.deref-in-Merge.ensures c.in_ok-walk-in-Merge.ensures.kind c.in_ok-x-in-Merge.ensures.kind in
-    let rk = operand_typed p l n b.value c.deref-in-Merge-2.result.now c.in_ok-walk-in-Merge-2.field-0.kind y.kind c.deref-in-Merge-2.ensures c.in_ok-walk-in-Merge-2.ensures.kind c.in_ok-y-in-Merge.ensures.kind in
-    let here = c.variable_place-in-Merge.ensures ∙ ap (variable_place p l n) name in
+    let args = c.args.branches.now in
+    let x = c.args.name.now in
+    let ps = c.args.patterns.now in
     let ck = clock_place n k in
-    let two = c.in_ok-branches-in-Merge.branches in
-    let root = ap root_view c.own-in-Merge.ensures.root ∙ ap (λ (q : Option Kind). own (flow_on ck q (Merge c.variable_place-in-Merge.result two))) c.agreed_kind.ensures
-    ∙ ap (λ i. own (flow_on ck (agreed x.kind y.kind) (Merge i two))) here
-    ∙ ap (λ xs. own (flow_on ck (agreed x.kind y.kind) (Merge (variable_place p l n v) xs))) c.in_ok-branches-in-Merge.ensures in
-    formed p l n (view c.args.e.now) (tree.merge v (view a.value) (view b.value)) k old last (root_view c.own-in-Merge.result.root) (own (flow_on ck (agreed x.kind y.kind) (Merge (variable_place p l n v) (x.place ∷ y.place ∷ []))))
-    (ap view c.in-Merge.is ∙ viewed-Merge v a b) root (merge_is p l n v (view a.value) (view b.value) k old first last x y m r mk rk)
+    let ops = c.loop-i.operands.items in
+    let full : take c.loop-i.i args ≡ args = take_all c.loop-i.i args (omega arith) in
+    let made = subst (λ es. BranchesAreMade p l n x ps (trees_of (views es)) old c.loop-i.flows.items (places_of ops)) full c.loop-i.invariant.made in
+    let kinds = c.loop-i.invariant.kinds ∙ ap (λ es. types_of p n (trees_of (views es))) full in
+    let kind = c.kind_of_branches.ensures ∙ ap (λ os. agreed_all (kinds_of os)) c.as_slice-2.ensures.value in
+    let places = c.in_ok-places.ensures ∙ ap places_of c.as_slice.ensures.value in
+    let root = ap root_view c.own.ensures.root
+    ∙ ap (λ (q : Option Kind). own (flow_on ck q (Merge c.variable_place.result c.in_ok-places.places))) kind
+    ∙ ap (λ i. own (flow_on ck (agreed_all (kinds_of ops)) (Merge i c.in_ok-places.places))) c.variable_place.ensures
+    ∙ ap (λ xs. own (flow_on ck (agreed_all (kinds_of ops)) (Merge (variable_place p l n x) xs))) places in
+    subst (λ r. IsWalked (walk p l n (tree.merge x ps (trees_of (views args))) k) old c.loop-i.flows.items r) (sym root)
+    (merge_is p l n x ps args k old c.loop-i.flows.items ops made kinds)
 
-pub walk-returns-in_ok-branches-in-Merge-clause-kind : goal.walk-returns-in_ok-branches-in-Merge-clause-kind
-walk-returns-in_ok-branches-in-Merge-clause-kind t c =
+pub merge-returns-clause-kind : goal.merge-returns-clause-kind
+merge-returns-clause-kind t c =
+    let p = program_view c.args.context.now.catalog.now in
+    let n = node_view c.args.context.now.scope.now in
+    let args = c.args.branches.now in
+    let full : take c.loop-i.i args ≡ args = take_all c.loop-i.i args (omega arith) in
+    c.own.ensures.kind ∙ c.kind_of_branches.ensures ∙ ap (λ os. agreed_all (kinds_of os)) c.as_slice-2.ensures.value
+    ∙ ap agreed_all (c.loop-i.invariant.kinds ∙ ap (λ es. types_of p n (trees_of (views es))) full)
+
+pub walk-returns-in-Merge-clause-walked : goal.walk-returns-in-Merge-clause-walked
+walk-returns-in-Merge-clause-walked t c =
     let p = program_view c.args.context.now.catalog.now in
     let l = plain c.args.context.now.lists.now in
     let n = node_view c.args.context.now.scope.now in
-    let mk = operand_typed p l n c.in-Merge.a.value c.deref-in-Merge.result.now c.in_ok-walk-in-Merge.field-0.kind c.in_ok-x-in-Merge.x.kind c.deref-in-Merge.ensures c.in_ok-walk-in-Merge.ensures.kind c.in_ok-x-in-Merge.ensures.kind in
-    let rk = operand_typed p l n c.in-Merge.b.value c.deref-in-Merge-2.result.now c.in_ok-walk-in-Merge-2.field-0.kind c.in_ok-y-in-Merge.y.kind c.deref-in-Merge-2.ensures c.in_ok-walk-in-Merge-2.ensures.kind c.in_ok-y-in-Merge.ensures.kind in
-    let a = c.in-Merge.a in
-    let b = c.in-Merge.b in
-    c.own-in-Merge.ensures.kind ∙ c.agreed_kind.ensures ∙ infix_typed p l n Starts (view a.value) (view b.value) c.in_ok-x-in-Merge.x.kind c.in_ok-y-in-Merge.y.kind mk rk
-    ∙ sym (ap (type_of p n) (ap view c.in-Merge.is ∙ viewed-Merge c.in-Merge.c a b))
+    let k = placed_view c.args.clock in
+    let old = c.args.flows.now.items in
+    let x = c.in-Merge.c in
+    let ps = c.in-Merge.patterns in
+    let all = λ (es : List Expr). trees_of (views es) in
+    let given : tree.merge c.as_str-in-Merge.result.now c.as_slice.result.now (all c.deref-in-Merge.result.now) ≡ tree.merge x ps (all c.in-Merge.branches.items) =
+    ap (λ g. tree.merge g c.as_slice.result.now (all c.deref-in-Merge.result.now)) c.as_str-in-Merge.ensures
+    ∙ ap (λ qs. tree.merge x qs (all c.deref-in-Merge.result.now)) c.as_slice.ensures
+    ∙ ap (λ es. tree.merge x ps (all es)) c.deref-in-Merge.ensures.value in
+    let same = ap view c.in-Merge.is ∙ viewed-Merge x ps c.in-Merge.branches ∙ sym given in
+    IfOk-weaker c.merge.result _ _ (λ w h.
+    formed p l n (view c.args.e.now) (tree.merge c.as_str-in-Merge.result.now c.as_slice.result.now (all c.deref-in-Merge.result.now)) k old c.merge.new.flows.items (root_view w.root) (root_view w.root) same refl h)
+    c.merge.ensures.walked
+
+pub walk-returns-in-Merge-clause-kind : goal.walk-returns-in-Merge-clause-kind
+walk-returns-in-Merge-clause-kind t c =
+    let p = program_view c.args.context.now.catalog.now in
+    let n = node_view c.args.context.now.scope.now in
+    let x = c.in-Merge.c in
+    let ps = c.in-Merge.patterns in
+    let all = λ (es : List Expr). trees_of (views es) in
+    let given : tree.merge c.as_str-in-Merge.result.now c.as_slice.result.now (all c.deref-in-Merge.result.now) ≡ tree.merge x ps (all c.in-Merge.branches.items) =
+    ap (λ g. tree.merge g c.as_slice.result.now (all c.deref-in-Merge.result.now)) c.as_str-in-Merge.ensures
+    ∙ ap (λ qs. tree.merge x qs (all c.deref-in-Merge.result.now)) c.as_slice.ensures
+    ∙ ap (λ es. tree.merge x ps (all es)) c.deref-in-Merge.ensures.value in
+    let same = ap view c.in-Merge.is ∙ viewed-Merge x ps c.in-Merge.branches ∙ sym given in
+    IfOk-weaker c.merge.result _ _ (λ w h. h ∙ sym (ap (type_of p n) same)) c.merge.ensures.kind
+
+pub walk-returns-in-Label-clause-walked : goal.walk-returns-in-Label-clause-walked
+walk-returns-in-Label-clause-walked t c =
+    let p = program_view c.args.context.now.catalog.now in
+    let l = plain c.args.context.now.lists.now in
+    let n = node_view c.args.context.now.scope.now in
+    let k = placed_view c.args.clock in
+    let old = c.args.flows.now.items in
+    let ck = clock_place n k in
+    let x = c.in-Label.x in
+    formed p l n (view c.args.e.now) (tree.label x) k old old (root_view c.own-in-Label.result.root) (own (flow_on ck (Some x.kind) (Constant (Name x.number))))
+    (ap view c.in-Label.is ∙ viewed-Label x) (ap root_view c.own-in-Label.ensures.root) (label_is p l n x k old)
+
+pub walk-returns-in-Label-clause-kind : goal.walk-returns-in-Label-clause-kind
+walk-returns-in-Label-clause-kind t c =
+    let p = program_view c.args.context.now.catalog.now in
+    let n = node_view c.args.context.now.scope.now in
+    c.own-in-Label.ensures.kind ∙ sym (ap (type_of p n) (ap view c.in-Label.is ∙ viewed-Label c.in-Label.x))
 
 pub call-loop-a-init : goal.call-loop-a-init
 call-loop-a-init t c =

@@ -45,6 +45,6 @@ lists = record { count = refl; each = each }
 
 pub returns : goal.returns
 returns c = record {
-  laid_out = record { lists = loop_flat.flows ∷ []; are_lists = lists; node = loop; is_main = refl; flows = refl; owners = refl; variables = refl };
+  laid_out = record { lists = loop_flat.flows ∷ []; are_lists = lists; node = loop; is_main = refl; flows = refl; owners = refl; variables = refl; types = refl };
   differ = differ;
 }

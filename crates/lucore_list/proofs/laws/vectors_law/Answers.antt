@@ -4,7 +4,7 @@ use Rattle.std.proofs.lemmas.Option.{same_Some}
 use Rattle.lutree.specs.Tree.{EquationTree, NodeTree, program_of}
 use Rattle.luflow.specs.declared.form.Flow.{Flow}
 use Rattle.luflow.specs.Vectors as flat
-use Rattle.lucore_list.specs.Vectors.{division, held_sample, delay, delayed_call, delay_list, delayed_flat, pair, two_calls, pair_list, two_calls_flat}
+use Rattle.lucore_list.specs.Vectors.{division, held_sample, delay, delayed_call, delay_list, delayed_flat, pair, two_calls, pair_list, two_calls_flat, turn, turning, turning_flat}
 use Rattle.lucore_list.specs.Layout.{AreLists, IsLaidOut, node_flows}
 use Rattle.lucore_list.specs.Sizes.{node_size}
 use Rattle.lucore_list.specs.Laws.{DefineSomething, HasColumns}
@@ -39,6 +39,13 @@ call_lists = record { count = refl; each = each }
     each (suc (suc zero)) n same = ap (λ n. Some (node_flows (program_of (two_calls ∷ delay ∷ pair ∷ [])) (two_calls_flat.flows ∷ delay_list ∷ pair_list ∷ []) n)) (same_Some pair n same)
     each (suc (suc (suc i))) n same = cc
 
+turn_lists : AreLists turning (turning_flat.flows ∷ [])
+turn_lists = record { count = refl; each = each }
+  where
+    each : (i : ℕ) (n : NodeTree) → slice_get (turn ∷ []) i ≡ Some n → slice_get (turning_flat.flows ∷ []) i ≡ Some (node_flows turning (turning_flat.flows ∷ []) n)
+    each zero n same = ap (λ n. Some (node_flows turning (turning_flat.flows ∷ []) n)) (same_Some turn n same)
+    each (suc i) n same = cc
+
 sums : IsLaidOut (program_of (sampler ∷ [])) (codes "main") flat.sampled_sum
 sums =
     record {
@@ -49,6 +56,7 @@ sums =
       flows = refl;
       owners = refl;
       variables = refl;
+      types = refl;
     }
 
 -- the premises of the agreement
@@ -74,10 +82,11 @@ sizes (suc (suc (suc i))) n same = cc
 pub returns : goal.returns
 returns c = record {
   sums = sums;
-  divisions = record { lists = flat.division.flows ∷ []; are_lists = one_list division flat.division.flows refl; node = division; is_main = refl; flows = refl; owners = refl; variables = refl };
-  samples = record { lists = flat.held_sample.flows ∷ []; are_lists = one_list held_sample flat.held_sample.flows refl; node = held_sample; is_main = refl; flows = refl; owners = refl; variables = refl };
-  delayed = record { lists = delay_list ∷ delayed_flat.flows ∷ []; are_lists = delayed_lists; node = delayed_call; is_main = refl; flows = refl; owners = refl; variables = refl };
-  calls = record { lists = two_calls_flat.flows ∷ delay_list ∷ pair_list ∷ []; are_lists = call_lists; node = two_calls; is_main = refl; flows = refl; owners = refl; variables = refl };
+  divisions = record { lists = flat.division.flows ∷ []; are_lists = one_list division flat.division.flows refl; node = division; is_main = refl; flows = refl; owners = refl; variables = refl; types = refl };
+  samples = record { lists = flat.held_sample.flows ∷ []; are_lists = one_list held_sample flat.held_sample.flows refl; node = held_sample; is_main = refl; flows = refl; owners = refl; variables = refl; types = refl };
+  delayed = record { lists = delay_list ∷ delayed_flat.flows ∷ []; are_lists = delayed_lists; node = delayed_call; is_main = refl; flows = refl; owners = refl; variables = refl; types = refl };
+  calls = record { lists = two_calls_flat.flows ∷ delay_list ∷ pair_list ∷ []; are_lists = call_lists; node = two_calls; is_main = refl; flows = refl; owners = refl; variables = refl; types = refl };
+  turns = record { lists = turning_flat.flows ∷ []; are_lists = turn_lists; node = turn; is_main = refl; flows = refl; owners = refl; variables = refl; types = refl };
   sizes = record { count = refl; each = sizes };
   sums_agree = agrees (program_of (sampler ∷ [])) (codes "main") flat.four_samples flat.sampled_sum accepted define sums sum_flat.ordered columns;
 }

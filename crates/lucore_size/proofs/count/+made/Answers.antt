@@ -5,7 +5,7 @@ use Rattle.lutree.specs.Tree as tree
 use Rattle.lucore_list.specs.Sizes.{made_size}
 use Rattle.lucore_size.specs.Counted.{capped, further}
 use Rattle.lucore_size.proofs.Capped.{capped_left, summed}
-use Rattle.lucore_size.proofs.Formed.{viewed-Binary, viewed-Merge, viewed-If, rooted, operand, inner_of, argument_counted}
+use Rattle.lucore_size.proofs.Formed.{viewed-Binary, viewed-If, rooted, operand, inner_of, argument_counted}
 use Rattle.lucore_size.proofs.count.+made.Goals as goal
 
 pub all_made-loop-a-preserved : goal.all_made-loop-a-preserved
@@ -31,19 +31,6 @@ inner-returns-in-Binary t c =
     let sum = summed c.with_root-left.result c.with_root-right.result c.capped_sum.result (made_size p s (view a.value)) (made_size p s (view b.value)) left right c.capped_sum.ensures in
     inner_of p s (view c.args.e.now) (tree.binary op (view a.value) (view b.value)) c.capped_sum-in-Binary.result (ap view c.in-Binary.is ∙ viewed-Binary op a b)
     (c.capped_sum-in-Binary.ensures ∙ ap (λ y. capped (c.capped_sum.result + y)) c.further.ensures ∙ ap (λ x. capped (x + further op)) sum ∙ capped_left both (further op))
-
-pub inner-returns-in-Merge : goal.inner-returns-in-Merge
-inner-returns-in-Merge t c =
-    let p = program_view c.args.catalog.now in
-    let s = c.args.counts.now in
-    let a = c.in-Merge.a in
-    let b = c.in-Merge.b in
-    let left = operand p s a.value c.deref-in-Merge.result.now c.deref-in-Merge-2.result.now c.inner-in-Merge.result c.with_root-left-in-Merge.result
-    c.deref-in-Merge.ensures c.deref-in-Merge-2.ensures c.inner-in-Merge.ensures c.with_root-left-in-Merge.ensures in
-    let right = operand p s b.value c.deref-in-Merge-3.result.now c.deref-in-Merge-4.result.now c.inner-in-Merge-2.result c.with_root-right-in-Merge.result
-    c.deref-in-Merge-3.ensures c.deref-in-Merge-4.ensures c.inner-in-Merge-2.ensures c.with_root-right-in-Merge.ensures in
-    inner_of p s (view c.args.e.now) (tree.merge c.in-Merge.field-0 (view a.value) (view b.value)) c.capped_sum-in-Merge.result (ap view c.in-Merge.is ∙ viewed-Merge c.in-Merge.field-0 a b)
-    (summed c.with_root-left-in-Merge.result c.with_root-right-in-Merge.result c.capped_sum-in-Merge.result (made_size p s (view a.value)) (made_size p s (view b.value)) left right c.capped_sum-in-Merge.ensures)
 
 pub inner-returns-in-If : goal.inner-returns-in-If
 inner-returns-in-If t c =

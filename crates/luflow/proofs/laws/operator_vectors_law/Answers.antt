@@ -9,6 +9,7 @@ returns c = record {
   rests = record { rest = refl; rest_of_minus = refl; rest_by_minus = refl; rest_of_minuses = refl; small = refl; none = refl; least_by_minus = refl; least_by_greatest = refl; greatest_by_least = refl; by_zero = refl; zero_by_zero = refl; least_by_zero = refl };
   comparisons_are = record { less = refl; equal = refl; greater = refl; minus_less = refl; minus_equal = refl; minus_greater = refl; minus_before_plus = refl; plus_after_minus = refl; zero = refl; below_zero = refl; ends = refl; ends_turned = refl };
   truths_are = record { conjunction = refl; disjunction = refl; exclusive = refl; implication = refl; equality = refl; inequality = refl; not_true = refl; not_false = refl };
-  nils = record { on_the_left = refl; on_the_right = refl; before_true = refl; after_true = refl; before_false = refl; after_false = refl; on_both = refl; minus = refl; negation = refl; where_true = refl; where_false = refl; nil_condition = refl; nil_taken = refl; nil_not_taken = refl; nil_taken_if_false = refl; nil_not_taken_if_false = refl };
+  nils = record { on_the_left = refl; on_the_right = refl; before_true = refl; after_true = refl; before_false = refl; after_false = refl; before_name = refl; after_name = refl; on_both = refl; minus = refl; negation = refl; where_true = refl; where_false = refl; nil_condition = refl; nil_taken = refl; nil_not_taken = refl; nil_taken_if_false = refl; nil_not_taken_if_false = refl };
+  names_are = record { same = refl; other = refl; other_turned = refl; unequal = refl; not_unequal = refl; others = refl; singles = refl; beside_number = refl; behind_number = refl; beside_truth = refl; behind_truth = refl; where_true = refl; where_false = refl; by_name = refl };
   types = record { takes_are = refl; makes_are = refl; single_are = refl };
 }

@@ -1,6 +1,6 @@
 use Rattle.std.proofs.Common.{refl}
 use Rattle.luflow.specs.Solution.{solution}
-use Rattle.luflow.proofs.Vectors.{counters_worked, counters_end, sum_worked, division_worked, division_fault, quotient_worked, held_worked, chained_worked}
+use Rattle.luflow.proofs.Vectors.{counters_worked, counters_end, sum_worked, division_worked, division_fault, quotient_worked, held_worked, chained_worked, ways_worked}
 use Rattle.luflow.proofs.laws.solution_vectors_law.Goals as goal
 
 pub returns : goal.returns
@@ -12,4 +12,5 @@ returns c = record {
   quotients = record { worked = quotient_worked; y = refl; z = refl };
   samples = record { worked = held_worked; c = refl; s = refl; y = refl; z = refl };
   chains = record { worked = chained_worked; c = refl; z = refl; s = refl; inner = refl };
+  ways = record { worked = ways_worked; m = refl; y = refl; b = refl; z = refl; halted = refl };
 }

@@ -6,8 +6,8 @@ use Rattle.luplace_report.proofs.laws.report_vectors_law.Goals as goal
 pub returns : goal.returns
 unfolding digits serde_json_on_literals
 returns c = record {
-  jsons = record { one_site = refl; two_sites = refl; opposite = refl };
-  causes = record { sampled_causes = refl; shared_causes = refl; handed_causes = refl; no_cause = refl };
-  tables = record { one_site = refl; two_sites = refl; three_sites = refl };
-  graphs = record { one_site = refl; two_sites = refl; three_sites = refl };
+  jsons = record { one_site = refl; two_sites = refl; opposite = refl; by_names = refl };
+  causes = record { sampled_causes = refl; shared_causes = refl; handed_causes = refl; moded_causes = refl; no_cause = refl };
+  tables = record { one_site = refl; two_sites = refl; three_sites = refl; by_names = refl };
+  graphs = record { one_site = refl; two_sites = refl; three_sites = refl; by_names = refl };
 }

@@ -6,11 +6,11 @@ use Rattle.lusite.specs.declared.program.Part.{Part}
 use Rattle.lusite.proofs.Posts.{post_part}
 use Rattle.lusite.proofs.projecting.post.Goals as goal
 
-pub returns : goal.returns
-returns c =
+pub returns-clause-post : goal.returns-clause-post
+returns-clause-post c =
     let plan = c.args.plan.now in
-    let line = c.line_of-line.result in
-    let is = subst (λ (f : FlatProgram). IsLine f c.args.rank line) c.flat.ensures.flat c.line_of-line.ensures in
+    let line = c.in_ok-line.line in
+    let is = subst (λ (f : FlatProgram). IsLine f c.line_of.new.branches.items c.args.rank line) c.flat.ensures.flat c.in_ok-line.ensures.line in
     let part = post_part plan c.args.site c.args.rank line.place c.args.parts.now c.requires.parts is.place (slice_get_within plan.flat.flows line.place is.flow is.there) in
     record {
       line = is;

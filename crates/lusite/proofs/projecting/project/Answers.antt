@@ -23,8 +23,9 @@ invariant_of-result c =
       parts_are = c.new-3.ensures ∙ c.in_ok-parts.ensures ∙ ap (λ (q : Distribution). parts_of q s) kept;
       ranks_are = c.new-4.ensures ∙ c.in_ok-ranks.ensures ∙ ap (λ (q : Distribution). ranks_of q s) kept;
       places_are = c.new-5.ensures ∙ c.in_ok-places.ensures ∙ ap (λ (q : Distribution). places_of q s) kept;
-      posts_are = subst (λ (q : Distribution). ArePosts q s c.new-6.result) kept (subst (ArePosts plan s) (sym c.new-6.ensures) c.in_ok-posts.ensures);
-      outputs_are = c.new-7.ensures ∙ outputs ∙ ap outputs_of kept;
+      posts_are = subst (λ (q : Distribution). ArePosts q s c.new-7.result c.new-6.result) kept
+          (subst (λ (xs : List ℕ). ArePosts plan s xs c.new-6.result) (sym c.new-7.ensures) (subst (ArePosts plan s _) (sym c.new-6.ensures) c.in_ok-posts.ensures));
+      outputs_are = c.new-8.ensures ∙ outputs ∙ ap outputs_of kept;
       sites_are = search rules;
-      names_are = c.new-8.ensures ∙ c.in_ok-names.ensures ∙ ap₂ (λ (f : FlatProgram) (xs : List ℕ). map (variable_name f) xs) c.flat-5.ensures.flat (c.as_slice-5.ensures.value ∙ outputs) ∙ ap output_names kept;
+      names_are = c.new-9.ensures ∙ c.in_ok-names.ensures ∙ ap₂ (λ (f : FlatProgram) (xs : List ℕ). map (variable_name f) xs) c.flat-5.ensures.flat (c.as_slice-5.ensures.value ∙ outputs) ∙ ap output_names kept;
     }

@@ -22,6 +22,6 @@ returns c =
     subst (IsJudged (EquationFault is_asked program main n c.args.place q) (EquationKept is_asked program main n c.args.place q)) (sym all)
     (equation_judged q.byte K a b e tt
     (judged_told clock_mismatch q.byte (K clock_mismatch) c.agrees-agrees.result (ClockMismatch q.byte) a c.told-mismatch.ensures refl refl c.agrees-agrees.ensures)
-    (judged_told not_a_clock q.byte (K not_a_clock) c.names_truths-names_truths.result (NotAClock q.byte) b c.told-clock.ensures refl refl c.names_truths-names_truths.ensures)
+    (judged_told not_a_clock q.byte (K not_a_clock) c.names_clocks-names_clocks.result (NotAClock q.byte) b c.told-clock.ensures refl refl c.names_clocks-names_clocks.ensures)
     (judged_told clocked_parameter q.byte (K clocked_parameter) c.calls_unclocked-calls_unclocked.result (ClockedParameter q.byte) e c.told-parameter.ensures refl refl
     (c.calls_unclocked-calls_unclocked.ensures (program_view program) c.requires)))

@@ -10,10 +10,10 @@ pub returns : goal.returns
 returns c = record {
   outputs = record {
     call = given_out _ refl (refl, tt, tt);
-    merged = given_out _ refl (refl, tt, refl, tt);
+    merged = given_out _ refl (refl, tt, (refl, tt, tt));
     held = given_out _ refl refl;
     delay_of_call = given_out _ refl (tt, (refl, (refl, tt, tt)));
-    delay_of_merged = given_out _ refl (tt, refl, (refl, tt, refl, tt));
+    delay_of_merged = given_out _ refl (tt, refl, (refl, tt, (refl, tt, tt)));
     choice = given_out _ refl (tt, (tt, (refl, tt)), tt);
     choice_after = given_out _ refl (tt, (tt, (refl, tt), tt));
     sum_of_late = not_given_out _ (λ a. refl);

@@ -50,7 +50,7 @@ returns c =
           let found = inside f.2 in
           let same : codes "c" ≡ found.0.variable = ap (λ (o : Option Clock). (unwrap_or (unwrap_or o None) by_c).variable) found.1 in
           base_is_on (f.1 0 [] zero_less ∙ sym (subst (λ x. clock_of chained x ≡ Some f.0) (sym same) found.2));
-      chain = record { truth = refl; ends = Ends.after by_c (on (codes "b") (patterns.Truth true)) refl (Ends.after by_b None refl Ends.at_base) };
+      chain = record { typed = refl; ends = Ends.after by_c (on (codes "b") (patterns.Truth true)) refl (Ends.after by_b None refl Ends.at_base) };
       loop = λ f. turns f.ends (inl refl);
       loop_of_local = λ f. turns f.ends (inr refl);
       clock_is_an_output = λ e o. inr (0, omega arith, refl);

@@ -11,13 +11,13 @@ use Rattle.lustat_rules.proofs.laws.declaration_vectors_law.Goals as goal
 
 pub returns : goal.returns
 returns c = record {
-  declared_twice = λ f. f (0, zero_less, refl);
-  unknown_clock = λ f. false_is_true f;
+  declared_twice = λ f. f.first (0, zero_less, refl);
+  unknown_clock = λ f. false_is_true f.clock.0;
   undefined = neither (not_in (names_of faulty.inputs) (codes "y") refl (refl, (refl, (refl, tt)))) (nothing_in (codes "y"));
   input_is_given = inl (0, omega arith, refl);
-  int_clock = λ f. true≢false (ap is_int f.truth);
+  int_clock = λ f. true≢false (ap is_int f.typed);
   clock_of_itself = λ f. loops f.ends refl;
-  clock = record { truth = refl; ends = Ends.after (record { variable = codes "c"; pattern = patterns.Truth true }) None refl Ends.at_base };
+  clock = record { typed = refl; ends = Ends.after (record { variable = codes "c"; pattern = patterns.Truth true }) None refl Ends.at_base };
   clocked_input = λ f. some_is_none (f.0 (2, omega arith, refl));
   clocked_output = λ f. some_is_none (f.1 (1, one_less, refl) (λ e. false_is_true (ap (λ l. bytes_eq l (codes "two")) e)));
   clocked_output_of_main = ((λ i. absurd (not_in (names_of sampler.inputs) (codes "z") refl (refl, (refl, tt)) i)), (λ o other. absurd (other refl)));

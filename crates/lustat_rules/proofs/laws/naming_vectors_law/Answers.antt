@@ -9,7 +9,7 @@ use Rattle.lustat_rules.proofs.laws.naming_vectors_law.Goals as goal
 
 pub returns : goal.returns
 returns c = record {
-  known = record { left = All-from_recursion (IsVariable sampler) (codes "y" ∷ []) (refl, tt); right = All-from_recursion (IsVariable sampler) (codes "x" ∷ codes "x" ∷ codes "c" ∷ []) (refl, (refl, (refl, tt))) };
+  known = record { left = All-from_recursion (IsVariable sampler) (codes "y" ∷ []) (refl, tt); right = All-from_recursion (IsVariable sampler) (codes "x" ∷ codes "x" ∷ codes "c" ∷ []) (refl, (refl, (refl, tt))); parts = (tt, (tt, tt)) };
   unknown_left = λ f. false_is_true (f.left 0 [] zero_less);
   unknown_right = λ f. false_is_true (f.right 1 [] one_less);
   unknown_clock = λ f. false_is_true (f.right 1 [] one_less);

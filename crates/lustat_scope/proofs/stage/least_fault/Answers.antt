@@ -1,32 +1,28 @@
-use Rattle.std.proofs.Common.{◌≤◌, ◌∙◌, refl, ap, length, arith}
-use Rattle.std.specs.Prelude.{slice_get}
-use Rattle.std.proofs.lemmas.Option.{slice_get_read}
-use Rattle.lustat_rules.proofs.Judging.{judged_step, judged_all}
-use Rattle.lustat_scope.specs.Stages.{BrokenInside, KeptInside}
+use Rattle.std.proofs.Common.{◌∙◌, List, refl, sym, ap, subst}
+use Rattle.lutree.specs.declared.program.TypeDeclaration.{TypeDeclaration}
+use Rattle.lutree.specs.declared.program.Node.{Node}
+use Rattle.lutree.specs.declared.program.Program.{Program}
+use Rattle.lustat_rules.specs.Faults.{IsJudged, FaultAmong, KeptAmong}
+use Rattle.lustat_rules.proofs.Judging.{judged_joined}
+use Rattle.lustat_scope.specs.Stages.{BrokenInType, KeptInType, BrokenInside, KeptInside}
 use Rattle.lustat_scope.proofs.stage.least_fault.Goals as goal
 
-pub node_fault-requires : goal.node_fault-requires
-node_fault-requires g c =
-    let nodes = c.args.scopes.now in
-    let i = c.loop-i.i in
-    let there = ap (λ l. slice_get l i) c.requires ∙ slice_get_read nodes (length nodes) i c.index-scopes-i.result refl c.loop-i-test.true c.index-scopes-i.is in
-    λ k. ((refl, tt), there)
+pub types_fault-of_types-requires : goal.types_fault-of_types-requires
+types_fault-of_types-requires g c = λ k. ((refl, tt), ap (λ (p : Program). p.types) c.requires ∙ sym (c.as_slice.ensures ∙ ap (λ (p : Program). p.types) c.program.ensures))
 
-pub loop-i-preserved : goal.loop-i-preserved
-loop-i-preserved g c =
-    let nodes = c.args.scopes.now in
-    let s = c.args.stage.now in
-    let i = c.loop-i.i in
-    let n = c.index-scopes-i.result in
-    let here = slice_get_read nodes (length nodes) i n refl c.loop-i-test.true c.index-scopes-i.is in
-    judged_step nodes (BrokenInside (g.S.Stage.breaks_node s) (g.S.Stage.breaks_declaration s) (g.S.Stage.breaks_equation s))
-    (KeptInside (g.S.Stage.keeps_node s) (g.S.Stage.keeps_declaration s) (g.S.Stage.keeps_equation s)) i n c.loop-i.best c.in_ok-found.found c.lesser-best.result
-    here c.lesser-best.ensures c.loop-i.invariant c.in_ok-found.ensures
+pub nodes_fault-requires : goal.nodes_fault-requires
+nodes_fault-requires g c = λ k. ((refl, tt), ap (λ (p : Program). p.nodes) c.requires ∙ sym c.scopes.ensures)
 
 pub returns : goal.returns
 returns g c =
-    let nodes = c.args.scopes.now in
     let s = c.args.stage.now in
-    let end : length nodes ≤ c.loop-i.i = (let e = c.loop-i-test.false in omega (arith, e)) in
-    judged_all nodes (BrokenInside (g.S.Stage.breaks_node s) (g.S.Stage.breaks_declaration s) (g.S.Stage.breaks_equation s))
-    (KeptInside (g.S.Stage.keeps_node s) (g.S.Stage.keeps_declaration s) (g.S.Stage.keeps_equation s)) c.loop-i.i c.loop-i.best end c.loop-i.invariant
+    let p = c.args.catalog.now in
+    let InType = BrokenInType (g.S.Stage.breaks_type s) (g.S.Stage.breaks_name s) in
+    let TypeKept = KeptInType (g.S.Stage.keeps_type s) (g.S.Stage.keeps_name s) in
+    let InNode = BrokenInside (g.S.Stage.breaks_node s) (g.S.Stage.breaks_declaration s) (g.S.Stage.breaks_equation s) in
+    let NodeKept = KeptInside (g.S.Stage.keeps_node s) (g.S.Stage.keeps_declaration s) (g.S.Stage.keeps_equation s) in
+    let of_types = subst (λ (ts : List TypeDeclaration). IsJudged (FaultAmong ts InType) (KeptAmong ts TypeKept) c.types_fault-of_types.result)
+    (c.as_slice.ensures ∙ ap (λ (p : Program). p.types) c.program.ensures) c.types_fault-of_types.ensures in
+    let of_nodes = subst (λ (ns : List Node). IsJudged (FaultAmong ns InNode) (KeptAmong ns NodeKept) c.in_ok-of_nodes.of_nodes) c.scopes.ensures c.in_ok-of_nodes.ensures in
+    judged_joined (FaultAmong p.types InType) (FaultAmong p.nodes InNode) (KeptAmong p.types TypeKept) (KeptAmong p.nodes NodeKept) c.types_fault-of_types.result c.in_ok-of_nodes.of_nodes c.lesser.result
+    c.lesser.ensures of_types of_nodes

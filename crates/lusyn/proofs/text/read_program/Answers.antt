@@ -1,68 +1,14 @@
-use Rattle.std.proofs.Common.{Vec, Global, sym, arith}
 use Rattle.std.proofs.lemmas.Result.{err_from_is_err_and}
-use Rattle.lusyn_tokens.specs.declared.token.Lexeme.{Lexeme}
-use Rattle.lusyn.proofs.Whole.{lexer-only, lexer-refuses, scanned, parser-only, parser-refuses, many-only, many-refused, found-refuses, few-spelled, few-only}
-use Rattle.lusyn.proofs.Places.{places_of}
+use Rattle.lusyn.proofs.Whole.{refused-only, resolved-only, resolved-spelled}
 use Rattle.lusyn.proofs.text.read_program.Goals as goal
 
-pub returns-in_err-tokens-clause-only : goal.returns-in_err-tokens-clause-only
-returns-in_err-tokens-clause-only c =
+pub returns-in_err-written-clause-only : goal.returns-in_err-written-clause-only
+returns-in_err-written-clause-only c =
     let p = err_from_is_err_and c.from_residual.result c.from_residual.ensures.1 in
-    rw (p.1, p.2) (λ tree s. lexer-only (λ (v : Vec Lexeme Global). v.items) c.args.text.now c.in_err-tokens.field-0.0 tree c.in_err-tokens.ensures.only s)
-
-pub returns-in_err-tokens-clause-refuses : goal.returns-in_err-tokens-clause-refuses
-returns-in_err-tokens-clause-refuses c =
-    let p = err_from_is_err_and c.from_residual.result c.from_residual.ensures.1 in
-    rw (p.1, p.2) (λ error h. lexer-refuses (λ (v : Vec Lexeme Global). v.items) c.args.text.now c.in_err-tokens.field-0.0 error c.in_err-tokens.ensures.only c.in_err-tokens.ensures.refuses h)
-
-pub returns-in_err-program-clause-only : goal.returns-in_err-program-clause-only
-returns-in_err-program-clause-only c =
-    let p = err_from_is_err_and c.from_residual-in_err-program.result c.from_residual-in_err-program.ensures.1 in
-    let s = scanned (λ (v : Vec Lexeme Global). v.items) c.in_ok-tokens.tokens c.args.text.now c.deref.result.now c.deref.ensures.value c.in_ok-tokens.ensures.tokens c.in_ok-tokens.ensures.only c.in_ok-tokens.ensures.refuses in
-    rw (p.1, p.2) (λ tree h. parser-only c.args.text.now c.deref.result.now c.in_err-program.field-0.0 tree s c.in_err-program.ensures.only h)
-
-pub returns-in_err-program-clause-refuses : goal.returns-in_err-program-clause-refuses
-returns-in_err-program-clause-refuses c =
-    let p = err_from_is_err_and c.from_residual-in_err-program.result c.from_residual-in_err-program.ensures.1 in
-    let s = scanned (λ (v : Vec Lexeme Global). v.items) c.in_ok-tokens.tokens c.args.text.now c.deref.result.now c.deref.ensures.value c.in_ok-tokens.ensures.tokens c.in_ok-tokens.ensures.only c.in_ok-tokens.ensures.refuses in
-    rw (p.1, p.2) (λ error h. parser-refuses c.args.text.now c.deref.result.now c.in_err-program.field-0.0 error s c.in_err-program.ensures.only c.in_err-program.ensures.refuses h)
-
-pub returns-then-as_slice-gt-MOST_NODES-clause-only : goal.returns-then-as_slice-gt-MOST_NODES-clause-only
-returns-then-as_slice-gt-MOST_NODES-clause-only c = λ tree h.
-    let s = scanned (λ (v : Vec Lexeme Global). v.items) c.in_ok-tokens.tokens c.args.text.now c.deref.result.now c.deref.ensures.value c.in_ok-tokens.ensures.tokens c.in_ok-tokens.ensures.only c.in_ok-tokens.ensures.refuses in
-    let many = rw c.as_slice.ensures at c.if-as_slice-gt-MOST_NODES.true in
-    many-only c.args.text.now c.deref.result.now c.in_ok-program.program tree s c.in_ok-program.ensures.only many h
-
-pub returns-then-as_slice-gt-MOST_NODES-clause-refused : goal.returns-then-as_slice-gt-MOST_NODES-clause-refused
-returns-then-as_slice-gt-MOST_NODES-clause-refused c =
-    let s = scanned (λ (v : Vec Lexeme Global). v.items) c.in_ok-tokens.tokens c.args.text.now c.deref.result.now c.deref.ensures.value c.in_ok-tokens.ensures.tokens c.in_ok-tokens.ensures.only c.in_ok-tokens.ensures.refuses in
-    let many = rw c.as_slice.ensures at c.if-as_slice-gt-MOST_NODES.true in
-    many-refused c.args.text.now c.deref.result.now c.in_ok-program.program s c.in_ok-program.ensures.spelled many
-
-pub returns-then-as_slice-gt-MOST_NODES-clause-refuses : goal.returns-then-as_slice-gt-MOST_NODES-clause-refuses
-returns-then-as_slice-gt-MOST_NODES-clause-refuses c = λ error h.
-    let s = scanned (λ (v : Vec Lexeme Global). v.items) c.in_ok-tokens.tokens c.args.text.now c.deref.result.now c.deref.ensures.value c.in_ok-tokens.ensures.tokens c.in_ok-tokens.ensures.only c.in_ok-tokens.ensures.refuses in
-    sym (found-refuses c.args.text.now c.deref.result.now c.in_ok-program.program error s c.in_ok-program.ensures.only c.in_ok-program.ensures.refuses h).0
+    rw (p.1, p.2) (λ tree s. refused-only c.args.text.now c.in_err-written.field-0.0 tree c.in_err-written.ensures.only s)
 
 pub returns-clause-spelled : goal.returns-clause-spelled
-returns-clause-spelled c =
-    let s = scanned (λ (v : Vec Lexeme Global). v.items) c.in_ok-tokens.tokens c.args.text.now c.deref.result.now c.deref.ensures.value c.in_ok-tokens.ensures.tokens c.in_ok-tokens.ensures.only c.in_ok-tokens.ensures.refuses in
-    let few = rw c.as_slice.ensures at c.if-as_slice-gt-MOST_NODES.false in
-    few-spelled c.args.text.now c.deref.result.now c.in_ok-program.program s c.in_ok-program.ensures.spelled few
+returns-clause-spelled c = resolved-spelled c.args.text.now c.in_ok-written.written c.in_ok-resolve.field-0 c.in_ok-written.ensures.spelled c.in_ok-written.ensures.small c.in_ok-resolve.ensures.program
 
 pub returns-clause-only : goal.returns-clause-only
-returns-clause-only c = λ tree h.
-    let s = scanned (λ (v : Vec Lexeme Global). v.items) c.in_ok-tokens.tokens c.args.text.now c.deref.result.now c.deref.ensures.value c.in_ok-tokens.ensures.tokens c.in_ok-tokens.ensures.only c.in_ok-tokens.ensures.refuses in
-    few-only c.args.text.now c.deref.result.now c.in_ok-program.program tree s c.in_ok-program.ensures.only h
-
-pub returns-clause-refuses : goal.returns-clause-refuses
-returns-clause-refuses c = λ error h.
-    let s = scanned (λ (v : Vec Lexeme Global). v.items) c.in_ok-tokens.tokens c.args.text.now c.deref.result.now c.deref.ensures.value c.in_ok-tokens.ensures.tokens c.in_ok-tokens.ensures.only c.in_ok-tokens.ensures.refuses in
-    let few = rw c.as_slice.ensures at c.if-as_slice-gt-MOST_NODES.false in
-    let many = (found-refuses c.args.text.now c.deref.result.now c.in_ok-program.program error s c.in_ok-program.ensures.only c.in_ok-program.ensures.refuses h).1 in
-    absurd (omega (arith, few, many))
-
-pub returns-clause-places : goal.returns-clause-places
-returns-clause-places c =
-    let s = scanned (λ (v : Vec Lexeme Global). v.items) c.in_ok-tokens.tokens c.args.text.now c.deref.result.now c.deref.ensures.value c.in_ok-tokens.ensures.tokens c.in_ok-tokens.ensures.only c.in_ok-tokens.ensures.refuses in
-    places_of c.args.text.now c.deref.result.now c.in_ok-program.program s c.in_ok-program.ensures.places
+returns-clause-only c = λ tree s. resolved-only c.args.text.now c.in_ok-written.written c.in_ok-resolve.field-0 tree c.in_ok-written.ensures.only c.in_ok-resolve.ensures.program s

@@ -8,13 +8,13 @@ use Rattle.lutab.proofs.reading.read_columns.Goals as goal
 pub read_rows-requires-clause-empty : goal.read_rows-requires-clause-empty
 read_rows-requires-clause-empty c =
     let kinds : c.deref.result.now ≡ kinds_of c.args.inputs.now = c.deref.ensures.value ∙ c.in_ok-kinds.ensures in
-    rw (kinds, c.deref_mut.ensures.value) c.in_ok-columns.ensures.1
+    rw (kinds, c.deref_mut.ensures.value) (c.in_ok-columns.ensures c.args.types.now).1
 
 pub returns : goal.returns
 returns c =
     let w = c.deref_mut.ensures in
     let kinds : c.deref.result.now ≡ kinds_of c.args.inputs.now = c.deref.ensures.value ∙ c.in_ok-kinds.ensures in
-    let names : map (λ c. c.name) (columns_view c.deref_mut.result.now) ≡ map (λ x. x.name) c.args.inputs.now = ap (λ xs. map (λ c. c.name) (columns_view xs)) w.value ∙ c.in_ok-columns.ensures.0 in
+    let names : map (λ c. c.name) (columns_view c.deref_mut.result.now) ≡ map (λ x. x.name) c.args.inputs.now = ap (λ xs. map (λ c. c.name) (columns_view xs)) w.value ∙ (c.in_ok-columns.ensures c.args.types.now).0 in
     let len : c.in_ok-columns.columns.len ≡ length c.in_ok-columns.columns.items = omega (arith, ap length w.value, w.len) in
     let same : length c.read_rows.new.columns ≡ length c.in_ok-columns.columns.items = omega (arith, ap length w.value, c.read_rows.auto.columns) in
     let e : take c.in_ok-columns.columns.len (c.read_rows.new.columns ++ drop (length c.read_rows.new.columns) c.in_ok-columns.columns.items) ≡ c.read_rows.new.columns = written c.in_ok-columns.columns.len c.read_rows.new.columns c.in_ok-columns.columns.items same len in

@@ -1,21 +1,25 @@
-use Rattle.std.proofs.Common.{subst}
+use Rattle.std.proofs.Common.{List, subst}
+use Rattle.luflow.specs.declared.variable.Enum.{Enum}
 use Rattle.luflow.specs.declared.variable.Variable.{Variable}
 use Rattle.luflow.specs.Variables.{inputs_of}
-use Rattle.std.proofs.Common.{List}
 use Rattle.lutab.specs.Filling.{ReadsText}
 use Rattle.lutab.proofs.Told.{spells, is_short, tells, only_table, only_refusal, fitting}
 use Rattle.lutab.proofs.reading.read_inputs.Goals as goal
 
 pub returns : goal.returns
 returns c =
+    let types = c.args.flat.now.types in
     let inputs = inputs_of c.args.flat.now.variables in
     let text = c.args.text.now in
-    let h : ReadsText inputs text c.read_text.result = subst (λ (xs : List Variable). ReadsText xs text c.read_text.result) c.inputs.ensures.inputs c.read_text.ensures in
+    let r = c.read_text.result in
+    let h : ReadsText types inputs text r =
+    subst (λ (ts : List Enum). ReadsText ts inputs text r) c.types.ensures
+    (subst (λ (xs : List Variable). ReadsText c.types.result.now xs text r) c.inputs.ensures.inputs c.read_text.ensures) in
     record {
-      spelled = spells inputs text c.read_text.result h;
-      short = is_short inputs text c.read_text.result h;
-      only = only_table inputs text c.read_text.result h;
-      refused = tells inputs text c.read_text.result h;
-      refuses = only_refusal inputs text c.read_text.result h;
-      fits = fitting c.args.flat.now text c.read_text.result h;
+      spelled = spells types inputs text r h;
+      short = is_short types inputs text r h;
+      only = only_table types inputs text r h;
+      refused = tells types inputs text r h;
+      refuses = only_refusal types inputs text r h;
+      fits = fitting c.args.flat.now text r h;
     }

@@ -9,7 +9,7 @@ table_of-requires c =
     let short : is_too_long c.args.text.now ≡ false = ap is_too_long (sym text) ∙ (sym c.is_too_long.ensures ∙ c.if-is_too_long.false) in
     let header = c.as_bytes.ensures.value ∙ c.in_ok-header.ensures in
     let is : c.args.text.now ≡ header_text c.args.inputs.now ++ c.in-Some.body.now = sym text ∙ (c.in-Some.ensures.found ∙ ap (λ (h : List ℕ). h ++ c.in-Some.body.now) header) in
-    table_read c.args.inputs.now c.args.text.now c.in-Some.body.now _ _ short is c.in_ok-instants.ensures
+    table_read c.args.types.now c.args.inputs.now c.args.text.now c.in-Some.body.now _ _ short is c.in_ok-instants.ensures
 
 pub returns : goal.returns
 returns c =
@@ -17,4 +17,4 @@ returns c =
     let short : is_too_long c.args.text.now ≡ false = ap is_too_long (sym text) ∙ (sym c.is_too_long.ensures ∙ c.if-is_too_long.false) in
     let header = c.as_bytes.ensures.value ∙ c.in_ok-header.ensures in
     let is : c.args.text.now ≡ header_text c.args.inputs.now ++ c.in-Some.body.now = sym text ∙ (c.in-Some.ensures.found ∙ ap (λ (h : List ℕ). h ++ c.in-Some.body.now) header) in
-    rw c.table_of.ensures (short, text_read c.args.inputs.now c.args.text.now c.in-Some.body.now _ _ short is c.in_ok-instants.ensures)
+    rw c.table_of.ensures (short, text_read c.args.types.now c.args.inputs.now c.args.text.now c.in-Some.body.now _ _ short is c.in_ok-instants.ensures)

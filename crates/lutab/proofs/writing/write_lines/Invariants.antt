@@ -5,4 +5,4 @@ use Rattle.lutab.specs.Outputs.{lines_text}
 use Rattle.lutab.proofs.writing.write_lines.Given as goal
 
 abbrev pub invariant-loop-instant : goal.invariant-loop-instant
-invariant-loop-instant l = string_bytes l.out ≡ lines_text (outputs_view l.outputs) l.instant
+invariant-loop-instant l = string_bytes l.out ≡ lines_text l.types l.kinds (outputs_view l.outputs) l.instant

@@ -9,5 +9,5 @@ use Rattle.lutype.proofs.faults.program_fault.Goals as goal
 pub returns : goal.returns
 returns c =
     let K = ProgramKeeps (program_view c.args.catalog.now) c.args.main.now in
-    program_judged 0 K c.told.result tt tt tt tt tt tt tt
+    program_judged 0 K c.told.result tt tt tt tt tt tt tt tt
     (judged_told no_main 0 (K no_main) c.has_main.result NoMain c.told.result c.told.ensures refl refl c.has_main.ensures)

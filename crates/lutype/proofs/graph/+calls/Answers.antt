@@ -29,21 +29,17 @@ push_calls-returns-in_ok-push_calls-in-Binary t c =
     (subst (λ e. two ≡ one ++ found_for look (calls_in (view e))) c.deref-in-Binary.ensures h))
     c.push_calls-in-Binary.ensures)
 
-pub push_calls-returns-in_ok-push_calls-in-Merge : goal.push_calls-returns-in_ok-push_calls-in-Merge
-push_calls-returns-in_ok-push_calls-in-Merge t c =
+pub push_calls-returns-in-Merge : goal.push_calls-returns-in-Merge
+push_calls-returns-in-Merge t c =
     let look = node_place (program_view c.args.catalog.now) in
     let row = c.args.row.now.items in
-    let one = c.push_calls-in-Merge.new.row.items in
-    let two = c.push_calls-in-Merge-2.new.row.items in
-    let a = c.in-Merge.a in
-    let b = c.in-Merge.b in
-    let seen = ap (λ e. calls_in (view e)) c.in-Merge.is ∙ calls-Merge c.in-Merge.field-0 a b in
-    subst (λ cs. OnOk c.push_calls-in-Merge-2.result (two ≡ row ++ found_for look cs)) (sym seen)
-    (on_ok_weaker c.push_calls-in-Merge-2.result
-    (λ h. pushed_both look row one two (calls_in (view a.value)) (calls_in (view b.value))
-    (subst (λ e. one ≡ row ++ found_for look (calls_in (view e))) c.deref-in-Merge.ensures c.in_ok-push_calls-in-Merge.ensures)
-    (subst (λ e. two ≡ one ++ found_for look (calls_in (view e))) c.deref-in-Merge-2.ensures h))
-    c.push_calls-in-Merge-2.ensures)
+    let two = c.push_all_calls.new.row.items in
+    let es = c.in-Merge.branches in
+    let seen = ap (λ e. calls_in (view e)) c.in-Merge.is ∙ calls-Merge c.in-Merge.field-0 c.in-Merge.field-1 es in
+    subst (λ cs. OnOk c.push_all_calls.result (two ≡ row ++ found_for look cs)) (sym seen)
+    (on_ok_weaker c.push_all_calls.result
+    (λ h. subst (λ xs. two ≡ row ++ found_for look (calls_in_all (trees_of (views xs)))) c.deref-in-Merge.ensures.value h)
+    c.push_all_calls.ensures)
 
 pub push_calls-returns-in_ok-push_calls-in-If-2 : goal.push_calls-returns-in_ok-push_calls-in-If-2
 push_calls-returns-in_ok-push_calls-in-If-2 t c =
@@ -69,7 +65,7 @@ pub push_calls-returns-in_ok-push_all_calls-in-Call : goal.push_calls-returns-in
 push_calls-returns-in_ok-push_all_calls-in-Call t c =
     let look = node_place (program_view c.args.catalog.now) in
     let row = c.args.row.now.items in
-    let one = c.push_all_calls.new.row.items in
+    let one = c.push_all_calls-in-Call.new.row.items in
     let two = c.push_call.new.row.items in
     let f = c.in-Call.f in
     let es = c.in-Call.arguments in

@@ -1,14 +1,16 @@
-use Rattle.std.proofs.Common.{subst}
-use Rattle.std.specs.Prelude.{All}
-use Rattle.lutree.specs.Tree.{node_view, view}
-use Rattle.lustat_rules.specs.Scope.{IsVariable}
-use Rattle.lutype.proofs.Forms.{each_name}
+use Rattle.std.proofs.Common.{◌∙◌, sym, true≢false}
 use Rattle.lutype.proofs.known.names_are_known.Goals as goal
 
-pub returns-then-left_is_known : goal.returns-then-left_is_known
-returns-then-left_is_known c =
-    let P = IsVariable (node_view c.args.scope.now) in
-    let law = each_name P (view c.args.equation.now.right) in (
-      λ h. record { left = subst (All P) c.as_slice.ensures (c.left_is_known.ensures.0 c.if-left_is_known.true); right = law.0 (c.expr_is_known.ensures.0 h) },
-      λ h. c.expr_is_known.ensures.1 (law.1 h.right),
-    )
+pub returns-then-variables_are_known : goal.returns-then-variables_are_known
+returns-then-variables_are_known c = (
+  λ h.
+      let known = c.variables_are_known.ensures.0 c.if-variables_are_known.true in
+      record { left = known.0; right = known.1; parts = c.labels_are_known.ensures.0 h },
+  λ k. c.labels_are_known.ensures.1 k.parts,
+)
+
+pub returns-else-variables_are_known : goal.returns-else-variables_are_known
+returns-else-variables_are_known c = (
+  λ h. absurd (true≢false (sym h ∙ c.if-variables_are_known.false)),
+  λ k. c.variables_are_known.ensures.1 (k.left, k.right),
+)

@@ -1,8 +1,10 @@
-use Rattle.std.proofs.Common.{◌≡◌, ◌∙◌, sym, ap, Some, map, true, arith}
+use Rattle.std.proofs.Common.{◌≡◌, ◌∙◌, ◌≤◌, length, sym, ap, Some, map, true, arith}
+use Rattle.std.proofs.lemmas.List.{take_all}
 use Rattle.lutree.specs.Tree.{DeclarationTree, views, trees_of, node_view, program_view, declarations_view}
 use Rattle.lutree.specs.declared.program.Node.{Node}
 use Rattle.lustat_rules.specs.Scope.{node_called}
-use Rattle.lustat_rules.specs.Typing.{types_of, arguments_fit, only}
+use Rattle.lustat_rules.specs.Typing.{types_of, agreed_all, arguments_fit, only}
+use Rattle.lutype.proofs.Branches.{branch_more}
 use Rattle.lutype.proofs.Fit.{fit_end}
 use Rattle.lutype.proofs.Lookups.{call_kinds_fit}
 use Rattle.lutype.proofs.typing.+types.Goals as goal
@@ -23,3 +25,13 @@ pub arguments_have_kinds-returns : goal.arguments_have_kinds-returns
 arguments_have_kinds-returns t c =
     fit_end (program_view c.args.catalog.now) (node_view c.args.scope.now) c.args.arguments.now c.args.inputs.now c.loop-i.i (omega arith) (omega arith)
     ∙ c.loop-i.invariant.so_far
+
+pub kind_of_branches-loop-i-preserved : goal.kind_of_branches-loop-i-preserved
+kind_of_branches-loop-i-preserved t c =
+    branch_more (program_view c.args.catalog.now) (node_view c.args.scope.now) c.args.branches.now c.loop-i.i c.index-branches-i.result c.loop-i.all c.kind_of_expr-kind.result c.kind_with-all.result
+    c.loop-i-test.true c.index-branches-i.is c.loop-i.invariant c.kind_of_expr-kind.ensures c.kind_with-all.ensures
+
+pub kind_of_branches-returns : goal.kind_of_branches-returns
+kind_of_branches-returns t c =
+    let le : length c.args.branches.now ≤ c.loop-i.i = omega (arith, c.loop-i-test.false) in
+    c.loop-i.invariant ∙ ap (λ es. agreed_all (types_of (program_view c.args.catalog.now) (node_view c.args.scope.now) (trees_of (views es)))) (take_all c.loop-i.i c.args.branches.now le)

@@ -3,4 +3,4 @@ use Rattle.luweave_text.specs.WorldText.{messages_text}
 use Rattle.luweave_text.proofs.text.put_messages.Given as goal
 
 abbrev pub invariant-loop-message : goal.invariant-loop-message
-invariant-loop-message l = string_bytes l.text ≡ string_bytes l.initial.text ++ messages_text (take l.message-index l.messages)
+invariant-loop-message l = string_bytes l.text ≡ string_bytes l.initial.text ++ messages_text l.names (take l.message-index l.messages)

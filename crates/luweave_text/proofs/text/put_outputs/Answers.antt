@@ -1,4 +1,4 @@
-use Rattle.std.proofs.Common.{◌≡◌, ◌++◌, ◌+◌, ◌<◌, ℕ, true, false, [], List, length, refl, sym, ap, ◌∙◌, subst, arith, append-nil, string_bytes}
+use Rattle.std.proofs.Common.{◌≡◌, ◌++◌, ◌+◌, ◌<◌, ℕ, true, false, [], List, length, refl, sym, ap, ap₂, ◌∙◌, subst, arith, append-nil, string_bytes}
 use Rattle.std.proofs.Common.{String, Global}
 use Rattle.luflow.specs.declared.variable.Variable.{Variable}
 use Rattle.luflow.specs.Program.{FlatProgram}
@@ -7,6 +7,7 @@ use Rattle.luweave_text.specs.WorldText.{AreOutputLines, NoVariables, output_lin
 use Rattle.luweave_text.proofs.Texts.{then_more, told_more, other_more, count_told, count_other}
 use Rattle.luweave_text.proofs.text.put_outputs.Goals as goal
 use Rattle.luweave_text.proofs.text.put_outputs.Goals.{then-is_output+in_ok-put_output, else-is_output}
+use Rattle.luflow.specs.Types.{variable_names}
 use Rattle.luflow.specs.Variables.{is_output_of, variable_name}
 
 pub loop-variable-init : goal.loop-variable-init
@@ -28,11 +29,12 @@ loop-variable-preserved c =
       | then-is_output+in_ok-put_output x ↦
           let told : is_output_of w.job.plan.flat v ≡ true = tells ∙ x.if-is_output.true in
           let statuses = x.outputs.result.now in
-          let line = output_line (variable_name w.job.plan.flat v) statuses in
+          let line = output_line (variable_name w.job.plan.flat v) (variable_names w.job.plan.flat v) statuses in
           let more = told_more w v k so_far.0 so_far.1 count inside told statuses x.outputs.ensures.collected in
-          let name : x.variable_name.result.now ≡ variable_name w.job.plan.flat v = x.variable_name.ensures ∙ ap (λ (f : FlatProgram). variable_name f v) (sym flat) in
+          let name : x.variable_name-name.result.now ≡ variable_name w.job.plan.flat v = x.variable_name-name.ensures ∙ ap (λ (f : FlatProgram). variable_name f v) (sym flat) in
+          let names : x.variable_names.result.now ≡ variable_names w.job.plan.flat v = x.variable_names.ensures ∙ ap (λ (f : FlatProgram). variable_names f v) (sym flat) in
           let new : string_bytes c.if-is_output.text ≡ string_bytes c.loop-variable.text ++ line =
-          ap (λ (s : String Global). string_bytes s) x.text-is ∙ x.in_ok-put_output.ensures ∙ ap (λ (n : List ℕ). string_bytes c.loop-variable.text ++ output_line n statuses) name in
+          ap (λ (s : String Global). string_bytes s) x.text-is ∙ x.in_ok-put_output.ensures ∙ ap₂ (λ (n : List ℕ) (ns : List (List ℕ)). string_bytes c.loop-variable.text ++ output_line n ns statuses) name names in
           record {
             lines = (so_far.0 ++ line, subst (λ (j : ℕ). AreOutputLines w (v + 1) j (so_far.0 ++ line)) (sym x.k-is) more, then_more (string_bytes c.args.text.now) (string_bytes c.loop-variable.text) (string_bytes c.if-is_output.text) so_far.0 line so_far.2 new);
             count = x.k-is ∙ count_told w v k so_far.0 so_far.1 count told;

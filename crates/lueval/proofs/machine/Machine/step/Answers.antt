@@ -25,7 +25,7 @@ returns-then-not-is_on-clause-ok c =
     let line = r.lines.each c.args.p c.line_at-line.result.now c.line_at-line.ensures in
     let off = sym c.if-not-is_on.true ∙ c.is_on.ensures ∙ ap (λ (xs : List Cell). unwrap_or (clock_in (statuses xs) (clock_of c.line_at-line.result.now.clock)) false) c.deref.ensures.value in
     let lp : c.args.p < length c.args.flat.now.order = let n = r.lines.len in let l = r.place in omega (arith, n, l) in
-    absent_next c.args.flat.now c.args.inputs.now c.args.self.now c.args.t c.args.p c.line_at-line.result.now r.flat r.fit r.stands lp r.instant line off
+    absent_next c.args.flat.now c.args.inputs.now c.args.self.now c.args.t c.args.branches.now c.args.p c.line_at-line.result.now r.flat r.fit r.stands lp r.instant line off
 
 pub index_mut-requires-in-Gives : goal.index_mut-requires-in-Gives
 index_mut-requires-in-Gives c =
@@ -45,8 +45,8 @@ unreachable-requires c =
     let line = r.lines.each c.args.p c.line_at-line.result.now c.line_at-line.ensures in
     let on = sym c.if-not-is_on.false ∙ c.is_on.ensures ∙ ap (λ (xs : List Cell). unwrap_or (clock_in (statuses xs) (clock_of c.line_at-line.result.now.clock)) false) c.deref.ensures.value in
     let lp : c.args.p < length c.args.flat.now.order = let n = r.lines.len in let l = r.place in omega (arith, n, l) in
-    let now = subst (λ (a : Answer). Computes c.args.inputs.now c.args.self.now c.args.t c.line_at-line.result.now a) c.in-Stuck.is c.compute.ensures in
-    never_stuck c.args.flat.now c.args.inputs.now c.args.self.now c.args.t c.args.p c.line_at-line.result.now r.flat r.fit r.stands lp r.instant line answer.Stuck refl on now
+    let now = subst (λ (a : Answer). Computes c.args.inputs.now c.args.self.now c.args.t c.args.branches.now c.line_at-line.result.now a) c.in-Stuck.is c.compute.ensures in
+    never_stuck c.args.flat.now c.args.inputs.now c.args.self.now c.args.t c.args.branches.now c.args.p c.line_at-line.result.now r.flat r.fit r.stands lp r.instant line answer.Stuck refl on now
 
 pub returns-in-Gives-clause-ok : goal.returns-in-Gives-clause-ok
 returns-in-Gives-clause-ok c =
@@ -54,8 +54,8 @@ returns-in-Gives-clause-ok c =
     let line = r.lines.each c.args.p c.line_at-line.result.now c.line_at-line.ensures in
     let on = sym c.if-not-is_on.false ∙ c.is_on.ensures ∙ ap (λ (xs : List Cell). unwrap_or (clock_in (statuses xs) (clock_of c.line_at-line.result.now.clock)) false) c.deref.ensures.value in
     let lp : c.args.p < length c.args.flat.now.order = let n = r.lines.len in let l = r.place in omega (arith, n, l) in
-    let now = subst (λ (a : Answer). Computes c.args.inputs.now c.args.self.now c.args.t c.line_at-line.result.now a) c.in-Gives.is c.compute.ensures in
-    gives_next c.args.flat.now c.args.inputs.now c.args.self.now c.args.t c.args.p c.line_at-line.result.now r.flat r.fit r.stands lp r.instant line c.in-Gives.cell on now
+    let now = subst (λ (a : Answer). Computes c.args.inputs.now c.args.self.now c.args.t c.args.branches.now c.line_at-line.result.now a) c.in-Gives.is c.compute.ensures in
+    gives_next c.args.flat.now c.args.inputs.now c.args.self.now c.args.t c.args.branches.now c.args.p c.line_at-line.result.now r.flat r.fit r.stands lp r.instant line c.in-Gives.cell on now
 
 pub returns-in-Faults-clause-err : goal.returns-in-Faults-clause-err
 returns-in-Faults-clause-err c σ sol =
@@ -63,6 +63,6 @@ returns-in-Faults-clause-err c σ sol =
     let line = r.lines.each c.args.p c.line_at-line.result.now c.line_at-line.ensures in
     let on = sym c.if-not-is_on.false ∙ c.is_on.ensures ∙ ap (λ (xs : List Cell). unwrap_or (clock_in (statuses xs) (clock_of c.line_at-line.result.now.clock)) false) c.deref.ensures.value in
     let lp : c.args.p < length c.args.flat.now.order = let n = r.lines.len in let l = r.place in omega (arith, n, l) in
-    let now = subst (λ (a : Answer). Computes c.args.inputs.now c.args.self.now c.args.t c.line_at-line.result.now a) c.in-Faults.is c.compute.ensures in
+    let now = subst (λ (a : Answer). Computes c.args.inputs.now c.args.self.now c.args.t c.args.branches.now c.line_at-line.result.now a) c.in-Faults.is c.compute.ensures in
     subst (λ (n : ℕ). IsFirstFault c.args.flat.now c.args.inputs.now σ n c.args.t c.in-Faults.kind) (sym c.variable_of.ensures)
-    (first_fault c.args.flat.now c.args.inputs.now c.args.self.now c.args.t c.args.p c.line_at-line.result.now r.flat r.fit r.stands lp r.instant line c.in-Faults.kind on now σ sol)
+    (first_fault c.args.flat.now c.args.inputs.now c.args.self.now c.args.t c.args.branches.now c.args.p c.line_at-line.result.now r.flat r.fit r.stands lp r.instant line c.in-Faults.kind on now σ sol)

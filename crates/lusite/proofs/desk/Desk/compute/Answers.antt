@@ -10,9 +10,10 @@ use Rattle.lusite.proofs.desk.Desk.compute.Goals as goal
 pub returns : goal.returns
 returns c =
     let a = c.args.self.now in
-    let post = c.post-post.result.now in
+    let post = c.here.result.0.now in
+    let branches = c.here.result.1.now in
     let d = held c.given.result in
-    computes_is a c.requires.set post c.post-post.ensures (place_within a c.requires.set c.requires.within) d _
+    computes_is a c.requires.set post branches c.here.ensures (place_within a c.requires.set c.requires.within) d _
     (c.value_with.ensures (λ n. d) (λ n e. refl)
-    ∙ ap₂ (λ (ys zs : List Cell). value_of (form_of post.line.operation) (view_of (λ n. d) (statuses ys) zs post.line.place)) c.deref.ensures.value c.deref-2.ensures.value)
-    c.given.ensures
+    ∙ ap₂ (λ (ys zs : List Cell). value_of (form_of branches post.line.operation) (view_of (λ n. d) (statuses ys) zs post.line.place)) c.deref.ensures.value c.deref-2.ensures.value)
+    (c.given.ensures branches)

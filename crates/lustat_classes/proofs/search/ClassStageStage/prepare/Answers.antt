@@ -17,12 +17,13 @@ returns c =
     let i = c.args.place in
     let rows : List (Vec Bool Global) = s.rows.now in
     let row = c.index-self-place.result in
-    let long : length (plain rows) ≡ length s.scopes.now = s.least.long in
-    let lt : i < length rows = (let t = slice_get_within s.scopes.now i n c.requires in let m = length-map rows (λ (r : Vec Bool Global). r.items) in omega (arith, t, long, m)) in
+    let nodes = s.catalog.now.nodes in
+    let long : length (plain rows) ≡ length nodes = s.least.long in
+    let lt : i < length rows = (let t = slice_get_within nodes i n c.requires in let m = length-map rows (λ (r : Vec Bool Global). r.items) in omega (arith, t, long, m)) in
     let there = slice_get_read rows (length rows) i row refl lt c.index-self-place.is in
     let own : row_at (plain rows) i ≡ c.as_slice-marks.result.now = row_in rows i row there ∙ ap (λ (r : Vec Bool Global). r.items) c.index-self-place.is ∙ sym c.as_slice-marks.ensures.value in
     record {
       named_by_clocks = c.in_ok-named.ensures;
-      own = c.in_ok-firsts.ensures ∙ c.node.ensures;
+      own = c.in_ok-firsts.ensures;
       least = subst (λ marks. IsLeast (assigned (node_view n) marks) (node_view n)) own (s.least.each i n c.requires);
     }

@@ -3,7 +3,7 @@ use Rattle.std.proofs.lemmas.Result.{err_from_is_err_and}
 use Rattle.lutree.specs.Tree.{view}
 use Rattle.lusyn_grammar.specs.Reading.{expr}
 use Rattle.lusyn_parser.specs.Gives.{ahead}
-use Rattle.lusyn_parser.proofs.Loops.{Gives-along, Fails-along, operands-continue, operands-stop, operands-fail, one-less, views-more}
+use Rattle.lusyn_parser.proofs.Loops.{Gives-along, Fails-along, operands-continue, operands-stop, operands-fail, branches-continue, branches-stop, branches-fail, one-less, views-more, branches-more}
 use Rattle.lusyn_parser.proofs.Atoms.{no-depth, operator-is-something, clock-is-something, operator-unfit, operator-taken, operator-fails, clock-taken, clock-fails}
 use Rattle.lusyn_parser.proofs.reader.Reader.+parser.Goals as goal
 
@@ -76,4 +76,24 @@ further_operands-loop-preserved t c = record {
       sym (operands-continue (expr c.args.depth) _ (c.args.turns - (c.loop.counter + 1)) _ _ _ _ _ _ (omega (arith, c.loop-test.true)) c.in-Some.ensures.after c.in_ok-operand.ensures.expr (views-more c.loop.found.items _ c.in_ok-operand.operand c.in_ok-push.ensures.items))
       ∙ c.loop.invariant.same;
   more = omega (arith, c.in_ok-operand.ensures.within, c.in-Some.ensures.within.0, c.loop.invariant.more);
+}
+
+pub further_branches-returns-in_default-clause-branches : goal.further_branches-returns-in_default-clause-branches
+further_branches-returns-in_default-clause-branches t c =
+    sym c.loop.invariant.same
+    ∙ branches-stop (expr c.args.depth) _ (c.args.turns - (c.loop.counter + 1)) _ _ _ (omega (arith, c.loop-test.true)) c.in_default.ensures.after
+
+pub further_branches-returns-in_err-branch-clause-branches : goal.further_branches-returns-in_err-branch-clause-branches
+further_branches-returns-in_err-branch-clause-branches t c =
+    let p = err_from_is_err_and c.from_residual.result c.from_residual.ensures.1 in
+    rw (p.1, p.2)
+    (Fails-along _ _ _ _ (sym c.loop.invariant.same)
+    (branches-fail (expr c.args.depth) _ (c.args.turns - (c.loop.counter + 1)) _ _ _ _ _ (omega (arith, c.loop-test.true)) c.in-Some.ensures.after c.in_err-branch.ensures.branch))
+
+pub further_branches-loop-preserved : goal.further_branches-loop-preserved
+further_branches-loop-preserved t c = record {
+  same =
+      sym (branches-continue (expr c.args.depth) _ (c.args.turns - (c.loop.counter + 1)) _ _ _ _ _ _ (omega (arith, c.loop-test.true)) c.in-Some.ensures.after c.in_ok-branch.ensures.branch (branches-more c.loop.found.items _ c.in_ok-branch.branch c.in_ok-push.ensures.items))
+      ∙ c.loop.invariant.same;
+  more = omega (arith, c.in_ok-branch.ensures.within, c.in-Some.ensures.within.0, c.loop.invariant.more);
 }

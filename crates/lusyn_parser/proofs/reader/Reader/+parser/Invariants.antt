@@ -3,8 +3,8 @@
 use Rattle.std.proofs.Common.{◌≡◌, ◌≤◌, ◌+◌, ◌-◌, ◌*◌, ◌^◌}
 use Rattle.lutree.specs.Tree.{view, views}
 use Rattle.lusyn_tokens.specs.declared.token.Fixed.TheVariants as f
-use Rattle.lusyn_grammar.specs.Reading.{expr, climb, many, begins, further_operand}
-use Rattle.lusyn_parser.specs.Gives.{ahead}
+use Rattle.lusyn_grammar.specs.Reading.{expr, climb, many, begins, further_operand, further_branch}
+use Rattle.lusyn_parser.specs.Gives.{ahead, branches_view}
 use Rattle.lusyn_parser.proofs.reader.Reader.+parser.Given as goal
 
 abbrev pub decreases-expr : goal.decreases-expr
@@ -16,8 +16,20 @@ decreases-choice l = 2 ^ 66 * l.depth + 1
 abbrev pub decreases-branch : goal.decreases-branch
 decreases-branch l = 2 ^ 66 * l.depth + 1
 
+abbrev pub decreases-labelled : goal.decreases-labelled
+decreases-labelled l = 2 ^ 66 * l.depth + 1
+
+abbrev pub decreases-by_truths : goal.decreases-by_truths
+decreases-by_truths l = 2 ^ 66 * l.depth + 2
+
+abbrev pub decreases-further_branches : goal.decreases-further_branches
+decreases-further_branches l = 2 ^ 66 * l.depth + 2
+
+abbrev pub decreases-by_labels : goal.decreases-by_labels
+decreases-by_labels l = 2 ^ 66 * l.depth + 3
+
 abbrev pub decreases-merge : goal.decreases-merge
-decreases-merge l = 2 ^ 66 * l.depth + 2
+decreases-merge l = 2 ^ 66 * l.depth + 4
 
 abbrev pub decreases-climb : goal.decreases-climb
 decreases-climb l = 2 ^ 66 * l.depth + 1
@@ -32,10 +44,10 @@ abbrev pub decreases-named : goal.decreases-named
 decreases-named l = 2 ^ 66 * l.depth + 3
 
 abbrev pub decreases-head : goal.decreases-head
-decreases-head l = 2 ^ 66 * l.depth + 4
+decreases-head l = 2 ^ 66 * l.depth + 5
 
 abbrev pub decreases-compound : goal.decreases-compound
-decreases-compound l = 2 ^ 66 * l.depth + 5
+decreases-compound l = 2 ^ 66 * l.depth + 6
 
 abbrev pub invariant-climb-loop : goal.invariant-climb-loop
 invariant-climb-loop l =
@@ -50,5 +62,13 @@ invariant-further_operands-loop l =
     record {
       same : many (begins f.Comma) (further_operand (expr l.depth)) (l.turns - l.counter) (views l.found.items) (ahead l.self.tokens.now l.at)
           ≡ many (begins f.Comma) (further_operand (expr l.depth)) l.turns (views l.fn.found.items) (ahead l.self.tokens.now l.fn.at);
+      more : l.fn.at ≤ l.at;
+    }
+
+abbrev pub invariant-further_branches-loop : goal.invariant-further_branches-loop
+invariant-further_branches-loop l =
+    record {
+      same : many (begins f.Open) (further_branch (expr l.depth)) (l.turns - l.counter) (branches_view l.found.items) (ahead l.self.tokens.now l.at)
+          ≡ many (begins f.Open) (further_branch (expr l.depth)) l.turns (branches_view l.fn.found.items) (ahead l.self.tokens.now l.fn.at);
       more : l.fn.at ≤ l.at;
     }

@@ -1,8 +1,8 @@
-use Rattle.std.proofs.Common.{ℕ, ◌≤◌, List, [], length, refl, sym, ap, subst, ◌∙◌, arith}
+use Rattle.std.proofs.Common.{ℕ, refl, sym, subst, arith}
 use Rattle.lusite.specs.declared.next.Next.{Next}
 use Rattle.lusite.specs.declared.next.Next.TheVariants.{Ended}
 use Rattle.lusite.specs.Machine.{IsNext}
-use Rattle.luworld.specs.World.{Item, done}
+use Rattle.luworld.specs.World.{done}
 use Rattle.luworld.specs.Progress.{Progress}
 use Rattle.luweave.specs.Worlds.{dones_of}
 use Rattle.luweave.proofs.Worlds.{along, none_beyond, offer, done_at}

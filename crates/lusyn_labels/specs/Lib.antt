@@ -1,0 +1,4 @@
+pub mod Resolved
+pub mod Laws
+pub mod Tables
+pub mod Known

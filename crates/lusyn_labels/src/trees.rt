@@ -1,0 +1,160 @@
+//! Expressions, declarations and equations, changed where they lie.
+
+ghost use Rattle.std.specs.Prelude.{◌≡◌, map};
+ghost use Rattle.lutree.specs.Tree.{view, views, trees_of, declaration_view, declarations_view, equation_view};
+ghost use Rattle.lutree.specs.Places.{declaration_places, equation_places};
+ghost use Rattle.lusyn_labels.specs.Resolved.{resolved_kind, resolved_pattern, resolved_condition, resolved_clock, resolved_tree, resolved_trees, resolved_declaration, resolved_equation};
+ghost use Rattle.lusyn_labels.specs.Known.{types_of};
+
+use crate::labels::Labels;
+use lulist::{Name, Row};
+use lutree::{Condition, Declaration, Equation, Expr, Label, Pattern};
+use std::alloc::Global;
+use std::mem;
+
+fn resolve_pattern(labels: &Labels<'_>, pattern: &mut Pattern)
+    ensures { pattern.new ≡ resolved_pattern (types_of labels.now) pattern.old }
+{
+    if let Pattern::Label(label) = pattern {
+        if let Some((kind, number)) = labels.find(label.name.as_str()) {
+            label.kind = kind;
+            label.number = number;
+        }
+    }
+}
+
+fn resolve_patterns(labels: &Labels<'_>, patterns: Row<Pattern>) -> Row<Pattern>
+    ensures { result ≡ map (resolved_pattern (types_of labels.now)) patterns }
+{
+    let mut items = patterns.into_items();
+    for pattern in items.iter_mut() {
+        resolve_pattern(labels, pattern);
+    }
+    Row::new(items)
+}
+
+fn resolve_condition(labels: &Labels<'_>, condition: &mut Condition)
+    ensures { condition.new ≡ resolved_condition (types_of labels.now) condition.old }
+{
+    resolve_pattern(labels, &mut condition.pattern);
+}
+
+fn resolve_clock(labels: &Labels<'_>, clock: &mut Option<Condition>)
+    ensures { clock.new ≡ resolved_clock (types_of labels.now) clock.old }
+{
+    if let Some(condition) = clock {
+        resolve_condition(labels, condition);
+    }
+}
+
+/// A name, and the empty one in its place.
+fn taken(alloc: Global, name: &mut Name) -> Name
+    ensures { result ≡ name.old }
+{
+    mem::replace(name, Name::new(String::new(alloc)))
+}
+
+/// An expression, where it lies. It is gone into by recursion, so the stack has to hold as many calls as it is nested.
+#[cycle(resolving)]
+pub(crate) fn resolve_expr(alloc: Global, labels: &Labels<'_>, e: &mut Expr)
+    ensures { view e.new ≡ resolved_tree (types_of labels.now) (view e.old) }
+{
+    match e {
+        Expr::Number(_) | Expr::Truth(_) | Expr::Label(_) | Expr::Current(_) => {}
+        Expr::Variable(name) => {
+            if let Some((kind, number)) = labels.find(name.as_str()) {
+                let name = taken(alloc, name);
+                *e = Expr::Label(Label { name, kind, number });
+            }
+        }
+        Expr::Unary(_, a) => resolve_operand(alloc, labels, a),
+        Expr::Binary(_, a, b) => {
+            resolve_operand(alloc, labels, a);
+            resolve_operand(alloc, labels, b);
+        }
+        Expr::If(a, b, c) => {
+            resolve_operand(alloc, labels, a);
+            resolve_operand(alloc, labels, b);
+            resolve_operand(alloc, labels, c);
+        }
+        Expr::When(a, condition) => {
+            resolve_operand(alloc, labels, a);
+            resolve_condition(labels, condition);
+        }
+        Expr::Merge(_, patterns, branches) => {
+            let found = mem::replace(patterns, Row::new(Vec::new(alloc)));
+            *patterns = resolve_patterns(labels, found);
+            resolve_all(alloc, labels, branches);
+        }
+        Expr::Call(_, arguments) => resolve_all(alloc, labels, arguments),
+    }
+}
+
+#[cycle(resolving)]
+fn resolve_operand(alloc: Global, labels: &Labels<'_>, e: &mut Box<Expr>)
+    ensures { view e.new.value ≡ resolved_tree (types_of labels.now) (view e.old.value) }
+{
+    resolve_expr(alloc, labels, e);
+}
+
+#[cycle(resolving)]
+fn resolve_all(alloc: Global, labels: &Labels<'_>, es: &mut Vec<Expr>)
+    ensures { trees_of (views es.new.items)
+        ≡ resolved_trees (types_of labels.now) (trees_of (views es.old.items)) }
+{
+    for i in 0..es.len() {
+        resolve_expr(alloc, labels, &mut es[i]);
+    }
+}
+
+fn resolve_declaration(labels: &Labels<'_>, declared: &mut Declaration)
+    ensures tree { declaration_view declared.new
+        ≡ resolved_declaration (types_of labels.now) (declaration_view declared.old) }
+    ensures place { declared.new.byte ≡ declared.old.byte }
+{
+    if let Some(name) = &declared.type_name {
+        if let Some(kind) = labels.kind_of(name.as_str()) {
+            declared.kind = kind;
+        }
+    }
+    resolve_clock(labels, &mut declared.clock);
+}
+
+pub(crate) fn resolve_declarations(
+    labels: &Labels<'_>,
+    declared: Row<Declaration>,
+) -> Row<Declaration>
+    ensures trees { declarations_view result
+        ≡ map (resolved_declaration (types_of labels.now)) (declarations_view declared) }
+    ensures places { declaration_places result ≡ declaration_places declared }
+{
+    let mut items = declared.into_items();
+    for one in items.iter_mut() {
+        resolve_declaration(labels, one);
+    }
+    Row::new(items)
+}
+
+fn resolve_equation(alloc: Global, labels: &Labels<'_>, defined: &mut Equation)
+    ensures tree { equation_view defined.new
+        ≡ resolved_equation (types_of labels.now) (equation_view defined.old) }
+    ensures place { defined.new.byte ≡ defined.old.byte }
+{
+    resolve_expr(alloc, labels, &mut defined.right);
+}
+
+pub(crate) fn resolve_equations(
+    alloc: Global,
+    labels: &Labels<'_>,
+    equations: Row<Equation>,
+) -> Row<Equation>
+    ensures trees { map equation_view result
+        ≡ map (resolved_equation (types_of labels.now)) (map equation_view equations) }
+    ensures places { equation_places result ≡ equation_places equations }
+{
+    let mut items = equations.into_items();
+    for one in items.iter_mut() {
+        resolve_equation(alloc, labels, one);
+    }
+    Row::new(items)
+}
