@@ -82,7 +82,8 @@ fn lists_before(
     requires calls { IsCallOrder (program_view catalog.now) order.now }
     requires closed { AreClosed (program_view catalog.now) marks.now }
     requires inside { end ≤ length order.now }
-    ensures long { IfOk result (λ lists. length lists.items ≡ length (program_view catalog.now).nodes) }
+    ensures long { IfOk result (λ lists. length lists.items
+        ≡ length (program_view catalog.now).nodes) }
     ensures built { IfOk result (λ lists. AreBuilt (program_view catalog.now) order.now marks.now
         end (plain lists.items)) }
 {

@@ -62,11 +62,8 @@ fn inner(catalog: &Catalog, counts: &[usize], e: &Expr) -> usize
         root_size (view e.now)) }
 {
     match e {
-        Expr::Number(_)
-        | Expr::Truth(_)
-        | Expr::Label(_)
-        | Expr::Variable(_)
-        | Expr::Current(_) => 0,
+        Expr::Number(_) | Expr::Truth(_) | Expr::Label(_) | Expr::Variable(_) | Expr::Current(_) =>
+            0,
         Expr::Unary(_, a) | Expr::When(a, _) => with_root(inner(catalog, counts, a), a),
         Expr::Binary(op, a, b) => {
             let left = with_root(inner(catalog, counts, a), a);

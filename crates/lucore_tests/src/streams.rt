@@ -69,7 +69,9 @@ fn is_answered(alloc: Global, text: &str, table: Table, want: Want) -> Result<bo
 }
 
 const FIRST: Status = Status::Present(Datum::Name(0));
+
 const SECOND: Status = Status::Present(Datum::Name(1));
+
 const ZERO: Status = Status::Present(Datum::Int(0));
 
 const ONE: Status = Status::Present(Datum::Int(1));
@@ -216,14 +218,25 @@ fn is_written(
 fn nil_is_written_too(rt: HostRuntime) -> Result<(), Fail> {
     let columns = [[NIL, Status::Absent, NO].as_slice(), &[ZERO, NIL, YES]];
     let text = "y,y\nnil,0\n-,nil\nfalse,true\n";
-    assert!(rt; is_written(rt.alloc(), "node main(x: int) returns (y: int; b: bool); let y = x; b = true; tel", &columns, text)?);
+    assert!(rt;
+        is_written(
+            rt.alloc(),
+            "node main(x: int) returns (y: int; b: bool); let y = x; b = true; tel",
+            &columns,
+            text
+        )?
+    );
     Ok(())
 }
 
 #[test]
 fn names_are_written_as_their_types_spell_them(rt: HostRuntime) -> Result<(), Fail> {
-    let program = "type t = enum { Up, Down }; type u = enum { Left, Right }; node main(m: t; n: u) returns (y: t; z: u); let y = m; z = n; tel";
-    let columns = [[FIRST, Status::Absent, SECOND].as_slice(), &[SECOND, NIL, FIRST]];
+    let program =
+        "type t = enum { Up, Down }; type u = enum { Left, Right }; node main(m: t; n: u) returns (y: t; z: u); let y = m; z = n; tel";
+    let columns = [
+        [FIRST, Status::Absent, SECOND].as_slice(),
+        &[SECOND, NIL, FIRST],
+    ];
     let text = "y,y\nUp,Right\n-,nil\nDown,Left\n";
     assert!(rt; is_written(rt.alloc(), program, &columns, text)?);
     Ok(())

@@ -58,7 +58,7 @@ module _ (program : ProgramTree) (main : List ℕ) (flat : FlatProgram) (is : Is
       let x = some_at flat.variables v lt in
       let named : variable_name flat v ≡ x.0.name = ap (λ o. unwrap_or (option_map (λ (y : Variable). y.name) o) []) x.1 in
       let kind : option_and_then (λ (n : NodeTree). kind_of n x.0.name) (rules.node_called program main) ≡ Some x.0.kind =
-          ap (option_and_then (λ (n : NodeTree). kind_of n x.0.name)) is.laid_out.is_main ∙ kind_is v x.0 x.1 in
+      ap (option_and_then (λ (n : NodeTree). kind_of n x.0.name)) is.laid_out.is_main ∙ kind_is v x.0 x.1 in
       ap (λ o. unwrap_or (option_map (λ (y : Variable). flat_types.names_of flat.types y.kind) o) []) x.1
       ∙ ap (λ ts. flat_types.names_of ts x.0.kind) is.laid_out.types
       ∙ same_names program.types x.0.kind

@@ -104,13 +104,14 @@ pub fn plan_of(alloc: Global, flat: Flat, bytes: &[u8]) -> Result<Plan, Stop>
 
 /// The table of a flat program's inputs that the bytes of a table's file are.
 pub fn inputs_in(alloc: Global, flat: &Flat, bytes: &[u8]) -> Result<Inputs, Stop>
-    ensures text { IfOk result (λ inputs. IsTextOf flat.now.types (inputs_of flat.now.variables) inputs
-        bytes.now) }
+    ensures text { IfOk result (λ inputs. IsTextOf flat.now.types (inputs_of flat.now.variables)
+        inputs bytes.now) }
     ensures short { IfOk result (λ _. is_too_long bytes.now ≡ false) }
     ensures utf8 { IfOk result (λ _. IsUtf8 bytes.now) }
     ensures fits { IfOk result (λ inputs. Fits flat.now inputs) }
     ensures fit { IfOk result (λ inputs. IsFit flat.now inputs) }
-    ensures refused { IfErr result (IsTableRefused flat.now.types (inputs_of flat.now.variables) bytes.now) }
+    ensures refused { IfErr result (IsTableRefused flat.now.types (inputs_of flat.now.variables)
+        bytes.now) }
 {
     let _flows = flat.flows();
     let Some(text) = text_of(bytes) else {
@@ -125,13 +126,14 @@ pub fn inputs_in(alloc: Global, flat: &Flat, bytes: &[u8]) -> Result<Inputs, Sto
 /// The job of a plan and the bytes of a table's file.
 pub fn job_of(alloc: Global, plan: Plan, bytes: &[u8]) -> Result<Job, Stop>
     ensures plan { IfOk result (λ job. job.plan ≡ plan) }
-    ensures text { IfOk result (λ job. IsTextOf plan.flat.types (inputs_of plan.flat.variables) job.inputs
-        bytes.now) }
+    ensures text { IfOk result (λ job. IsTextOf plan.flat.types (inputs_of plan.flat.variables)
+        job.inputs bytes.now) }
     ensures short { IfOk result (λ _. is_too_long bytes.now ≡ false) }
     ensures utf8 { IfOk result (λ _. IsUtf8 bytes.now) }
     ensures fits { IfOk result (λ job. Fits plan.flat job.inputs) }
     ensures run { IfOk result IsRun }
-    ensures refused { IfErr result (IsTableRefused plan.flat.types (inputs_of plan.flat.variables) bytes.now) }
+    ensures refused { IfErr result (IsTableRefused plan.flat.types (inputs_of plan.flat.variables)
+        bytes.now) }
 {
     let inputs = inputs_in(alloc, plan.flat(), bytes)?;
     let job = Job::new(plan, inputs);

@@ -148,7 +148,8 @@ fn whole_type_fault<'a, S: Stage<'a>>(
     requires { slice_get (S.program stage.now).types place ≡ Some declaration.now }
     ensures { IsJudged
         (BrokenInType (S.breaks_type stage.now) (S.breaks_name stage.now) place declaration.now)
-        (KeptInType (S.keeps_type stage.now) (S.keeps_name stage.now) place declaration.now) result }
+        (KeptInType (S.keeps_type stage.now) (S.keeps_name stage.now) place declaration.now)
+        result }
 {
     let of_type = stage.type_fault(place, declaration);
     let of_names = names_fault(stage, place, declaration);
@@ -160,7 +161,8 @@ fn types_fault<'a, S: Stage<'a>>(stage: &S, types: &[TypeDeclaration]) -> Option
     requires { (S.program stage.now).types ≡ types.now }
     ensures { IsJudged
         (FaultAmong types.now (BrokenInType (S.breaks_type stage.now) (S.breaks_name stage.now)))
-        (KeptAmong types.now (KeptInType (S.keeps_type stage.now) (S.keeps_name stage.now))) result }
+        (KeptAmong types.now (KeptInType (S.keeps_type stage.now) (S.keeps_name stage.now)))
+        result }
 {
     let mut best = None;
     for (i, declaration) in types.iter().enumerate() {

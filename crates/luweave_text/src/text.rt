@@ -26,11 +26,7 @@ fn put_datum(text: &mut String, names: &[Name], datum: Datum) -> Result<(), Allo
 }
 
 /// A space and what a message says.
-pub(crate) fn put_message(
-    text: &mut String,
-    names: &[Name],
-    message: Msg,
-) -> Result<(), AllocError>
+pub(crate) fn put_message(text: &mut String, names: &[Name], message: Msg) -> Result<(), AllocError>
     ensures { Adds result text.old text.new (body_text names.now message.body) }
 {
     match message.body {
@@ -186,11 +182,7 @@ fn put_output(
 }
 
 /// The statuses of an output.
-fn put_statuses(
-    text: &mut String,
-    names: &[Name],
-    statuses: &[Status],
-) -> Result<(), AllocError>
+fn put_statuses(text: &mut String, names: &[Name], statuses: &[Status]) -> Result<(), AllocError>
     ensures { Adds result text.old text.new (statuses_text names.now statuses.now) }
 {
     for status in statuses {

@@ -20,11 +20,7 @@ use luweave::{LinkNo, Next, Site, Turn, World};
 use std::alloc::{AllocError, Global};
 
 /// The number of a message, and what it says of a type with these names.
-fn put_numbered(
-    text: &mut String,
-    names: &[Name],
-    message: Option<Msg>,
-) -> Result<(), AllocError>
+fn put_numbered(text: &mut String, names: &[Name], message: Option<Msg>) -> Result<(), AllocError>
     ensures { Adds result text.old text.new (message_text names.now message) }
 {
     match message {
