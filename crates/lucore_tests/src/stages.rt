@@ -1,7 +1,7 @@
 //! What a stage alone tells of programs that an earlier stage refuses: texts, and programs that no text has, with an equation
 //! that has no variable on its left.
 
-use lulist::{Name, Number, Row};
+use lulist::{Name, Number, Row, SharedName};
 use lustat_classes::{Initialised, all_lefts_known, initialise};
 use lustat_clocks::clock_fault;
 use lustat_rules::StatError;
@@ -168,7 +168,7 @@ fn nameless(alloc: Global, right: Right) -> Result<Program, AllocError> {
         byte: 7,
     };
     let clock = Condition {
-        variable: Name::from_text(alloc, "c")?,
+        variable: SharedName::from_text(alloc, "c")?,
         pattern: Pattern::Truth(true),
     };
     let main = Node {

@@ -14,10 +14,10 @@ use lutree::{Node, Program};
 use std::alloc::{AllocError, Global};
 use std::mem;
 
-fn resolve_node(alloc: Global, labels: &Labels<'_>, node: &mut Node)
-    ensures tree { node_view node.new
-        ≡ resolved_node (types_of labels.now) (node_view node.old) }
-    ensures places { node_places node.new ≡ node_places node.old }
+fn resolve_node(alloc: Global, labels: &Labels<'_>, node: &mut Node) -> Result<(), AllocError>
+    ensures tree { IfOk result (λ _. node_view node.new
+        ≡ resolved_node (types_of labels.now) (node_view node.old)) }
+    ensures places { IfOk result (λ _. node_places node.new ≡ node_places node.old) }
 {
     let inputs = mem::replace(&mut node.inputs, Row::new(Vec::new(alloc)));
     node.inputs = resolve_declarations(labels, inputs);
@@ -26,23 +26,28 @@ fn resolve_node(alloc: Global, labels: &Labels<'_>, node: &mut Node)
     let locals = mem::replace(&mut node.locals, Row::new(Vec::new(alloc)));
     node.locals = resolve_declarations(labels, locals);
     let equations = mem::replace(&mut node.equations, Row::new(Vec::new(alloc)));
-    node.equations = resolve_equations(alloc, labels, equations);
+    node.equations = resolve_equations(alloc, labels, equations)?;
+    Ok(())
 }
 
-fn resolve_nodes(alloc: Global, labels: &Labels<'_>, nodes: Row<Node>) -> Row<Node>
-    ensures trees { map node_view result
-        ≡ map (resolved_node (types_of labels.now)) (map node_view nodes) }
-    ensures places { map node_places result ≡ map node_places nodes }
+fn resolve_nodes(
+    alloc: Global,
+    labels: &Labels<'_>,
+    nodes: Row<Node>,
+) -> Result<Row<Node>, AllocError>
+    ensures trees { IfOk result (λ found. map node_view found
+        ≡ map (resolved_node (types_of labels.now)) (map node_view nodes)) }
+    ensures places { IfOk result (λ found. map node_places found ≡ map node_places nodes) }
 {
     let mut items = nodes.into_items();
     for node in items.iter_mut() {
-        resolve_node(alloc, labels, node);
+        resolve_node(alloc, labels, node)?;
     }
-    Row::new(items)
+    Ok(Row::new(items))
 }
 
-/// The program with its names resolved by its types. It takes memory for a table of their names alone, and none where there are
-/// no types.
+/// The program with its names resolved by its types. It takes memory for a table of their names and for each name that is found to
+/// be one of an enumeration, and none where there are no types.
 pub fn resolve(alloc: Global, program: Program) -> Result<Program, AllocError>
     requires { AreFew (types_view program.types) }
     ensures program { IfOk result (λ found. program_view found
@@ -54,7 +59,7 @@ pub fn resolve(alloc: Global, program: Program) -> Result<Program, AllocError>
     }
     let Program { types, nodes } = program;
     let labels = Labels::new(alloc, types.as_slice())?;
-    let nodes = resolve_nodes(alloc, &labels, nodes);
+    let nodes = resolve_nodes(alloc, &labels, nodes)?;
     drop(labels);
     Ok(Program { types, nodes })
 }

@@ -1,15 +1,15 @@
 //! Expressions, declarations and equations, changed where they lie.
 
-ghost use Rattle.std.specs.Prelude.{◌≡◌, map};
+ghost use Rattle.std.specs.Prelude.{◌≡◌, map, IfOk};
 ghost use Rattle.lutree.specs.Tree.{view, views, trees_of, declaration_view, declarations_view, equation_view};
 ghost use Rattle.lutree.specs.Places.{declaration_places, equation_places};
 ghost use Rattle.lusyn_labels.specs.Resolved.{resolved_kind, resolved_pattern, resolved_condition, resolved_clock, resolved_tree, resolved_trees, resolved_declaration, resolved_equation};
 ghost use Rattle.lusyn_labels.specs.Known.{types_of};
 
 use crate::labels::Labels;
-use lulist::{Name, Row};
+use lulist::{Name, Row, SharedName};
 use lutree::{Condition, Declaration, Equation, Expr, Label, Pattern};
-use std::alloc::Global;
+use std::alloc::{AllocError, Global};
 use std::mem;
 
 fn resolve_pattern(labels: &Labels<'_>, pattern: &mut Pattern)
@@ -56,55 +56,62 @@ fn taken(alloc: Global, name: &mut Name) -> Name
 
 /// An expression, where it lies. It is gone into by recursion, so the stack has to hold as many calls as it is nested.
 #[cycle(resolving)]
-pub(crate) fn resolve_expr(alloc: Global, labels: &Labels<'_>, e: &mut Expr)
-    ensures { view e.new ≡ resolved_tree (types_of labels.now) (view e.old) }
+pub(crate) fn resolve_expr(
+    alloc: Global,
+    labels: &Labels<'_>,
+    e: &mut Expr,
+) -> Result<(), AllocError>
+    ensures { IfOk result (λ _. view e.new ≡ resolved_tree (types_of labels.now) (view e.old)) }
 {
     match e {
         Expr::Number(_) | Expr::Truth(_) | Expr::Label(_) | Expr::Current(_) => {}
         Expr::Variable(name) => {
             if let Some((kind, number)) = labels.find(name.as_str()) {
-                let name = taken(alloc, name);
+                let name = SharedName::new(alloc, taken(alloc, name))?;
                 *e = Expr::Label(Label { name, kind, number });
             }
         }
-        Expr::Unary(_, a) => resolve_operand(alloc, labels, a),
+        Expr::Unary(_, a) => resolve_operand(alloc, labels, a)?,
         Expr::Binary(_, a, b) => {
-            resolve_operand(alloc, labels, a);
-            resolve_operand(alloc, labels, b);
+            resolve_operand(alloc, labels, a)?;
+            resolve_operand(alloc, labels, b)?;
         }
         Expr::If(a, b, c) => {
-            resolve_operand(alloc, labels, a);
-            resolve_operand(alloc, labels, b);
-            resolve_operand(alloc, labels, c);
+            resolve_operand(alloc, labels, a)?;
+            resolve_operand(alloc, labels, b)?;
+            resolve_operand(alloc, labels, c)?;
         }
         Expr::When(a, condition) => {
-            resolve_operand(alloc, labels, a);
+            resolve_operand(alloc, labels, a)?;
             resolve_condition(labels, condition);
         }
         Expr::Merge(_, patterns, branches) => {
             let found = mem::replace(patterns, Row::new(Vec::new(alloc)));
             *patterns = resolve_patterns(labels, found);
-            resolve_all(alloc, labels, branches);
+            resolve_all(alloc, labels, branches)?;
         }
-        Expr::Call(_, arguments) => resolve_all(alloc, labels, arguments),
+        Expr::Call(_, arguments) => resolve_all(alloc, labels, arguments)?,
     }
+    Ok(())
 }
 
 #[cycle(resolving)]
-fn resolve_operand(alloc: Global, labels: &Labels<'_>, e: &mut Box<Expr>)
-    ensures { view e.new.value ≡ resolved_tree (types_of labels.now) (view e.old.value) }
+fn resolve_operand(alloc: Global, labels: &Labels<'_>, e: &mut Box<Expr>) -> Result<(), AllocError>
+    ensures { IfOk result (λ _. view e.new.value
+        ≡ resolved_tree (types_of labels.now) (view e.old.value)) }
 {
-    resolve_expr(alloc, labels, e);
+    resolve_expr(alloc, labels, e)
 }
 
 #[cycle(resolving)]
-fn resolve_all(alloc: Global, labels: &Labels<'_>, es: &mut Vec<Expr>)
-    ensures { trees_of (views es.new.items)
-        ≡ resolved_trees (types_of labels.now) (trees_of (views es.old.items)) }
+fn resolve_all(alloc: Global, labels: &Labels<'_>, es: &mut Vec<Expr>) -> Result<(), AllocError>
+    ensures { IfOk result (λ _. trees_of (views es.new.items)
+        ≡ resolved_trees (types_of labels.now) (trees_of (views es.old.items))) }
 {
     for i in 0..es.len() {
-        resolve_expr(alloc, labels, &mut es[i]);
+        resolve_expr(alloc, labels, &mut es[i])?;
     }
+    Ok(())
 }
 
 fn resolve_declaration(labels: &Labels<'_>, declared: &mut Declaration)
@@ -135,26 +142,30 @@ pub(crate) fn resolve_declarations(
     Row::new(items)
 }
 
-fn resolve_equation(alloc: Global, labels: &Labels<'_>, defined: &mut Equation)
-    ensures tree { equation_view defined.new
-        ≡ resolved_equation (types_of labels.now) (equation_view defined.old) }
-    ensures place { defined.new.byte ≡ defined.old.byte }
+fn resolve_equation(
+    alloc: Global,
+    labels: &Labels<'_>,
+    defined: &mut Equation,
+) -> Result<(), AllocError>
+    ensures tree { IfOk result (λ _. equation_view defined.new
+        ≡ resolved_equation (types_of labels.now) (equation_view defined.old)) }
+    ensures place { IfOk result (λ _. defined.new.byte ≡ defined.old.byte) }
 {
-    resolve_expr(alloc, labels, &mut defined.right);
+    resolve_expr(alloc, labels, &mut defined.right)
 }
 
 pub(crate) fn resolve_equations(
     alloc: Global,
     labels: &Labels<'_>,
     equations: Row<Equation>,
-) -> Row<Equation>
-    ensures trees { map equation_view result
-        ≡ map (resolved_equation (types_of labels.now)) (map equation_view equations) }
-    ensures places { equation_places result ≡ equation_places equations }
+) -> Result<Row<Equation>, AllocError>
+    ensures trees { IfOk result (λ found. map equation_view found
+        ≡ map (resolved_equation (types_of labels.now)) (map equation_view equations)) }
+    ensures places { IfOk result (λ found. equation_places found ≡ equation_places equations) }
 {
     let mut items = equations.into_items();
     for one in items.iter_mut() {
-        resolve_equation(alloc, labels, one);
+        resolve_equation(alloc, labels, one)?;
     }
-    Row::new(items)
+    Ok(Row::new(items))
 }

@@ -10,9 +10,9 @@ ghost use Rattle.lusyn_parser.specs.Places.{Lists, Declares, LocalsPlaces, Types
 ghost use Rattle.lusyn_parser.specs.Gives.{ahead, name_behind, names_view, type_view, types_view, Reads, ReadsInto};
 
 use crate::error::Stop;
-use crate::pieces::{WrittenType, copied, kind_of, type_name_of};
+use crate::pieces::{WrittenType, kind_of, shared, type_name_of};
 use crate::reader::Reader;
-use lulist::{Name, Row};
+use lulist::{Row, SharedName};
 use lusyn_tokens::{Fixed, Token};
 use lutree::{Condition, Declaration, DeclaredName, TypeDeclaration};
 
@@ -81,7 +81,7 @@ impl<'t> Reader<'t> {
             Some(Token::Fixed(Fixed::Int)) => Ok((WrittenType::Int, at + 1)),
             Some(Token::Fixed(Fixed::Bool)) => Ok((WrittenType::Bool, at + 1)),
             Some(Token::Name(name)) => {
-                let name = Name::from_text(self.alloc, name)?;
+                let name = SharedName::from_text(self.alloc, name)?;
                 Ok((WrittenType::Named(name), at + 1))
             }
             _ => Err(Stop::Refused(at)),
@@ -117,8 +117,8 @@ impl<'t> Reader<'t> {
     {
         for placed in names {
             let name = placed.name.copied(self.alloc)?;
-            let type_name = type_name_of(self.alloc, written)?;
-            let clock = copied(self.alloc, clock)?;
+            let type_name = type_name_of(written)?;
+            let clock = shared(clock)?;
             found.push(Declaration {
                 name,
                 kind: kind_of(written),

@@ -9,7 +9,7 @@ ghost use Rattle.lusyn_tokens.specs.Tokens.{located};
 ghost use Rattle.lusyn_parser.specs.Refused.{place};
 
 use crate::error::Stop;
-use lulist::{Name, Row};
+use lulist::{Name, Row, SharedName};
 use lusyn_tokens::Lexeme;
 use lutree::{Condition, Declaration, DeclaredName, Expr, Infix, Kind, Label, Pattern};
 use std::alloc::Global;
@@ -36,13 +36,13 @@ pub(crate) struct Operand {
 pub(crate) enum WrittenType {
     Int,
     Bool,
-    Named(Name),
+    Named(SharedName),
 }
 
 /// A branch of a merge, and the name that it begins with.
 #[derive(Drop)]
 pub(crate) struct Branch {
-    pub(crate) label: Name,
+    pub(crate) label: SharedName,
     pub(crate) value: Expr,
 }
 
@@ -88,7 +88,7 @@ pub(crate) fn plain(alloc: Global, names: &[DeclaredName]) -> Result<Row<Name>, 
 }
 
 /// A name of an enumeration, of which nothing is known but the name.
-pub(crate) fn bare_label(name: Name) -> Label
+pub(crate) fn bare_label(name: SharedName) -> Label
     ensures { result ≡ bare_label name }
 {
     Label {
@@ -98,36 +98,36 @@ pub(crate) fn bare_label(name: Name) -> Label
     }
 }
 
-fn label_copied(alloc: Global, label: &Label) -> Result<Label, Stop>
+fn label_shared(label: &Label) -> Result<Label, Stop>
     ensures ok { IfOk result (λ copy. copy ≡ label.now) }
     ensures err { IfErr result (λ e. e ≡ Stop.OutOfMemory) }
 {
     Ok(Label {
-        name: label.name.copied(alloc)?,
+        name: label.name.shared()?,
         kind: label.kind,
         number: label.number,
     })
 }
 
-fn pattern_copied(alloc: Global, pattern: &Pattern) -> Result<Pattern, Stop>
+fn pattern_shared(pattern: &Pattern) -> Result<Pattern, Stop>
     ensures ok { IfOk result (λ copy. copy ≡ pattern.now) }
     ensures err { IfErr result (λ e. e ≡ Stop.OutOfMemory) }
 {
     match pattern {
         Pattern::Truth(b) => Ok(Pattern::Truth(*b)),
-        Pattern::Label(label) => Ok(Pattern::Label(label_copied(alloc, label)?)),
+        Pattern::Label(label) => Ok(Pattern::Label(label_shared(label)?)),
     }
 }
 
-/// The same clock once more.
-pub(crate) fn copied(alloc: Global, clock: &Option<Condition>) -> Result<Option<Condition>, Stop>
+/// The same clock once more, with the same names in memory.
+pub(crate) fn shared(clock: &Option<Condition>) -> Result<Option<Condition>, Stop>
     ensures ok { IfOk result (λ copy. copy ≡ clock.now) }
     ensures err { IfErr result (λ e. e ≡ Stop.OutOfMemory) }
 {
     match clock {
         Some(condition) => Ok(Some(Condition {
-            variable: condition.variable.copied(alloc)?,
-            pattern: pattern_copied(alloc, &condition.pattern)?,
+            variable: condition.variable.shared()?,
+            pattern: pattern_shared(&condition.pattern)?,
         })),
         None => Ok(None),
     }
@@ -144,13 +144,13 @@ pub(crate) fn kind_of(written: &WrittenType) -> Kind
     }
 }
 
-/// The name that is written, where it is a name.
-pub(crate) fn type_name_of(alloc: Global, written: &WrittenType) -> Result<Option<Name>, Stop>
+/// The name that is written, where it is a name; it lies in memory once.
+pub(crate) fn type_name_of(written: &WrittenType) -> Result<Option<SharedName>, Stop>
     ensures ok { IfOk result (λ name. name ≡ grammar.type_name_of (type_view written.now)) }
     ensures err { IfErr result (λ e. e ≡ Stop.OutOfMemory) }
 {
     match written {
-        WrittenType::Named(name) => Ok(Some(name.copied(alloc)?)),
+        WrittenType::Named(name) => Ok(Some(name.shared()?)),
         WrittenType::Int | WrittenType::Bool => Ok(None),
     }
 }

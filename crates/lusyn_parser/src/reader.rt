@@ -14,7 +14,7 @@ ghost use Rattle.lusyn_parser.specs.Gives.{Gives, GivesPlace, EndsOperand, atom,
 
 use crate::error::Stop;
 use crate::pieces::{Branch, Next, Operand, bare_label, byte_of, operand_of, plain};
-use lulist::{Name, Number, Row};
+use lulist::{Name, Number, Row, SharedName};
 use lusyn_tokens::{Fixed, Lexeme, Token, binding_of, infix_of, prefix_of};
 use lutree::{Condition, DeclaredName, Equation, Expr, Infix, Pattern, Prefix};
 use std::alloc::Global;
@@ -115,20 +115,31 @@ impl<'t> Reader<'t> {
         }
     }
 
+    /// A name that may be shared.
+    fn shared_name(&self, at: usize) -> Result<(SharedName, usize), Stop>
+        ensures name { Reads self.now.tokens.now at (λ a. a) result reading.name }
+        ensures within { IfOk result (λ x. x.1 ≡ at + 1) }
+    {
+        match self.token(at) {
+            Some(Token::Name(name)) => Ok((SharedName::from_text(self.alloc, name)?, at + 1)),
+            _ => Err(Stop::Refused(at)),
+        }
+    }
+
     /// The variable of a clock with this label, after the parenthesis that opens it, up to the one that closes it.
-    fn labelled_clock(&self, label: Name, at: usize) -> Result<(Condition, usize), Stop>
+    fn labelled_clock(&self, label: SharedName, at: usize) -> Result<(Condition, usize), Stop>
         ensures condition { Reads self.now.tokens.now at (λ a. a) result
             (reading.labelled_clock label) }
         ensures within { IfOk result (λ x. at < x.1) }
     {
-        let (variable, next) = self.name(at)?;
+        let (variable, next) = self.shared_name(at)?;
         let next = self.after(Fixed::Close, next)?;
         let pattern = Pattern::Label(bare_label(label));
         Ok((Condition { variable, pattern }, next))
     }
 
     /// After a name: it is the variable, unless a parenthesis follows it.
-    fn clock_from(&self, name: Name, at: usize) -> Result<(Condition, usize), Stop>
+    fn clock_from(&self, name: SharedName, at: usize) -> Result<(Condition, usize), Stop>
         ensures condition { Reads self.now.tokens.now at (λ a. a) result
             (reading.clock_from name) }
         ensures within { IfOk result (λ x. at ≤ x.1) }
@@ -151,7 +162,7 @@ impl<'t> Reader<'t> {
         ensures condition { Reads self.now.tokens.now at (λ a. a) result reading.negated }
         ensures within { IfOk result (λ x. at < x.1) }
     {
-        let (variable, next) = self.name(at)?;
+        let (variable, next) = self.shared_name(at)?;
         let pattern = Pattern::Truth(false);
         Ok((Condition { variable, pattern }, next))
     }
@@ -164,7 +175,7 @@ impl<'t> Reader<'t> {
         match self.passed(Fixed::Not, at) {
             Some(next) => self.negated(next),
             None => {
-                let (name, next) = self.name(at)?;
+                let (name, next) = self.shared_name(at)?;
                 self.clock_from(name, next)
             }
         }
@@ -219,7 +230,7 @@ impl<'t> Reader<'t> {
     }
 
     /// The merge on this variable with a branch for each truth.
-    fn both(&self, variable: Name, a: Expr, b: Expr) -> Result<Expr, Stop>
+    fn both(&self, variable: SharedName, a: Expr, b: Expr) -> Result<Expr, Stop>
         ensures { Gives self.now.tokens.now view result
             (Ok (t.merge variable truths (t.more (view a) (t.more (view b) t.none)))) }
     {
@@ -231,7 +242,7 @@ impl<'t> Reader<'t> {
     }
 
     /// The merge on this variable with these branches.
-    fn merged(&self, variable: Name, found: Vec<Branch>) -> Result<Expr, Stop>
+    fn merged(&self, variable: SharedName, found: Vec<Branch>) -> Result<Expr, Stop>
         ensures { Gives self.now.tokens.now view result
             (Ok (reading.merged variable (branches_view found.items))) }
     {
@@ -425,7 +436,12 @@ impl<'t> Reader<'t> {
     /// After `merge v (true`, up to the end of the second branch.
     #[cycle(parser)]
     #[tactic(auto, unfolding(lusyn_grammar::specs::Reading::by_truths, lusyn_grammar::specs::Reading::inside))]
-    fn by_truths(&self, depth: usize, variable: Name, at: usize) -> Result<(Expr, usize), Stop>
+    fn by_truths(
+        &self,
+        depth: usize,
+        variable: SharedName,
+        at: usize,
+    ) -> Result<(Expr, usize), Stop>
         ensures merge { Reads self.now.tokens.now at view result
             (reading.by_truths (reading.expr depth) variable) }
         ensures within { IfOk result (λ x. at ≤ x.1) }
@@ -448,7 +464,7 @@ impl<'t> Reader<'t> {
             (reading.labelled (reading.expr depth) [] (ahead self.now.tokens.now at)) }
         ensures within { IfOk result (λ x. at ≤ x.1) }
     {
-        let (label, next) = self.name(at)?;
+        let (label, next) = self.shared_name(at)?;
         let next = self.after(Fixed::Arrow, next)?;
         let inner = self.expr(depth, 0, next)?;
         let (value, next) = self.closed(inner)?;
@@ -458,7 +474,12 @@ impl<'t> Reader<'t> {
     /// After `merge v (`, up to the end of the last branch.
     #[cycle(parser)]
     #[tactic(auto, unfolding(lusyn_grammar::specs::Reading::by_labels))]
-    fn by_labels(&self, depth: usize, variable: Name, at: usize) -> Result<(Expr, usize), Stop>
+    fn by_labels(
+        &self,
+        depth: usize,
+        variable: SharedName,
+        at: usize,
+    ) -> Result<(Expr, usize), Stop>
         ensures merge { Reads self.now.tokens.now at view result
             (reading.by_labels (reading.expr depth) depth variable) }
         ensures within { IfOk result (λ x. at ≤ x.1) }
@@ -505,7 +526,7 @@ impl<'t> Reader<'t> {
             (reading.merge (reading.expr depth) depth) }
         ensures within { IfOk result (λ x. at ≤ x.1) }
     {
-        let (variable, next) = self.name(at)?;
+        let (variable, next) = self.shared_name(at)?;
         let next = self.after(Fixed::Open, next)?;
         match self.passed(Fixed::True, next) {
             Some(next) => self.by_truths(depth, variable, next),

@@ -1,7 +1,7 @@
 //! Expressions.
 
 use crate::program::Kind;
-use lulist::{Name, Number, Row};
+use lulist::{Name, Number, Row, SharedName};
 
 /// An operator on data that stands before its one operand.
 #[derive(Clone, Copy, Debug, PartialEq, Eq)]
@@ -70,7 +70,7 @@ pub enum Infix {
 /// A name of an enumeration, and what it stands for in its program.
 #[derive(Debug, Drop)]
 pub struct Label {
-    pub name: Name,
+    pub name: SharedName,
     /// Its type: an enumeration, and one without names where no type of the program has this name.
     pub kind: Kind,
     /// Its number among the names of its type, counted from 0.
@@ -90,7 +90,7 @@ pub enum Pattern {
 /// of an enumeration `A(c)`.
 #[derive(Debug, Drop)]
 pub struct Condition {
-    pub variable: Name,
+    pub variable: SharedName,
     pub pattern: Pattern,
 }
 
@@ -117,7 +117,7 @@ pub enum Expr {
     Current(Name),
     /// `merge c (true -> a) (false -> b)` or `merge c (A -> a) (B -> b) (C -> d)`: the variable, the patterns of its branches and
     /// as many branches.
-    Merge(Name, Row<Pattern>, Vec<Expr>),
+    Merge(SharedName, Row<Pattern>, Vec<Expr>),
     /// `f(a, b)`
     Call(Name, Vec<Expr>),
 }

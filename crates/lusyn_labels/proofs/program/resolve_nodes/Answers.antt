@@ -14,8 +14,8 @@ loop-node-preserved c =
     let here : i < length old = omega (arith, c.loop-node-test.true, c.loop-node.auto.node-items) in
     let there : i < length new = omega (arith, c.loop-node-test.true, c.loop-node.auto.node-items) in
     record {
-      trees = changed-next node_view (resolved_node (types_of c.args.labels.now)) old new i c.node-item.result c.resolve_node.new.node c.loop-node.invariant.trees here there c.resolve_node.ensures.tree;
-      places = kept-next node_places old new i c.node-item.result c.resolve_node.new.node c.loop-node.invariant.places there c.resolve_node.ensures.places;
+      trees = changed-next node_view (resolved_node (types_of c.args.labels.now)) old new i c.node-item.result c.resolve_node.new.node c.loop-node.invariant.trees here there c.in_ok-resolve_node.ensures.tree;
+      places = kept-next node_places old new i c.node-item.result c.resolve_node.new.node c.loop-node.invariant.places there c.in_ok-resolve_node.ensures.places;
     }
 
 pub returns-clause-trees : goal.returns-clause-trees

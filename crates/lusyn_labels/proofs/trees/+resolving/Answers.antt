@@ -16,7 +16,7 @@ resolve_all-loop-i-preserved t c =
     let there : i < length new = search rules in
     record {
       trees = changed-next view (resolved_tree (types_of c.args.labels.now)) old new i c.index_mut.result.now c.resolve_expr.new.e c.loop-i.invariant.trees here there
-          (c.resolve_expr.ensures ∙ ap (λ (e : Expr). resolved_tree (types_of c.args.labels.now) (view e)) c.index_mut.ensures.value);
+          (c.in_ok-resolve_expr.ensures ∙ ap (λ (e : Expr). resolved_tree (types_of c.args.labels.now) (view e)) c.index_mut.ensures.value);
       unvisited = search rules;
     }
 

@@ -14,8 +14,8 @@ loop-one-preserved c =
     let here : i < length old = omega (arith, c.loop-one-test.true, c.loop-one.auto.one-items) in
     let there : i < length new = omega (arith, c.loop-one-test.true, c.loop-one.auto.one-items) in
     record {
-      trees = changed-next equation_view (resolved_equation (types_of c.args.labels.now)) old new i c.one-item.result c.resolve_equation.new.defined c.loop-one.invariant.trees here there c.resolve_equation.ensures.tree;
-      places = kept-next (λ (e : Equation). e.byte) old new i c.one-item.result c.resolve_equation.new.defined c.loop-one.invariant.places there c.resolve_equation.ensures.place;
+      trees = changed-next equation_view (resolved_equation (types_of c.args.labels.now)) old new i c.one-item.result c.resolve_equation.new.defined c.loop-one.invariant.trees here there c.in_ok-resolve_equation.ensures.tree;
+      places = kept-next (λ (e : Equation). e.byte) old new i c.one-item.result c.resolve_equation.new.defined c.loop-one.invariant.places there c.in_ok-resolve_equation.ensures.place;
     }
 
 pub returns-clause-trees : goal.returns-clause-trees
