@@ -3,6 +3,7 @@ pub mod Answering
 pub mod Keeping
 pub mod Lines
 pub mod Listing
+pub mod Named
 pub mod Noting
 pub mod Reading
 pub mod Seeing

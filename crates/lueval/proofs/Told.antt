@@ -36,7 +36,7 @@ from_past xs cs v c = ap (λ (ds : List Column). outputs_in (drop (v + 1) xs) (l
 pub more : (old new one rest whole : List OutputColumn) → new ≡ old ++ one → old ++ (one ++ rest) ≡ whole → new ++ rest ≡ whole
 more old new one rest whole is all = ap (λ xs. xs ++ rest) is ∙ append_assoc old one rest ∙ all
 
-abbrev AreLong : ℕ → List OutputColumn → Type 0
+abbrev pub AreLong : ℕ → List OutputColumn → Type 0
 AreLong n xs = All (λ c. length c.statuses ≡ n) xs
 
 long_one : (n : ℕ) (b : Bool) (x : Variable) (s : List Status) → length s ≡ n → AreLong n (cond b (record { name = x.name; statuses = s } ∷ []) [])
@@ -63,7 +63,7 @@ count [] ss e = refl
 count (x ∷ xs) [] e = absurd (let z : suc (length xs) ≡ 0 = e in omega (arith, z))
 count (x ∷ xs) (s ∷ ss) e = count_one (is_output x.role) x s (outputs_in xs ss) (outputs_of xs) (count xs ss (omega (arith, e)))
 
-even : (n : ℕ) (cs : List OutputColumn) → AreLong n cs → 0 < length cs → AreOutputs cs
+pub even : (n : ℕ) (cs : List OutputColumn) → AreLong n cs → 0 < length cs → AreOutputs cs
 even n [] long some = absurd (omega (arith, some))
 even n (c ∷ cs) long some =
     let first : length c.statuses ≡ n = All-head (λ c. length c.statuses ≡ n) c cs long in
@@ -99,7 +99,7 @@ pub record IsStreamOf (xs : List Variable) (ss : List (List Status)) (c : Output
   pub stream : slice_get ss number ≡ Some c.statuses
   pub named : c.name ≡ variable.name
 
-later : (x : Variable) (xs : List Variable) (s : List Status) (ss : List (List Status)) (c : OutputColumn) → IsStreamOf xs ss c → IsStreamOf (x ∷ xs) (s ∷ ss) c
+pub later : (x : Variable) (xs : List Variable) (s : List Status) (ss : List (List Status)) (c : OutputColumn) → IsStreamOf xs ss c → IsStreamOf (x ∷ xs) (s ∷ ss) c
 later x xs s ss c h = record { number = suc h.number; variable = h.variable; there = h.there; stream = h.stream; named = h.named }
 
 at_one : (b : Bool) (x : Variable) (xs : List Variable) (s : List Status) (ss : List (List Status)) (k : ℕ) (c : OutputColumn) → ((j : ℕ) → slice_get (outputs_in xs ss) j ≡ Some c → IsStreamOf xs ss c)

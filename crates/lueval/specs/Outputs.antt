@@ -1,4 +1,4 @@
--- The outputs among the main variables' streams.
+-- The main variables' streams by name: those of the outputs, and all.
 use Rattle.std.specs.Prelude.{List, [], ◌∷◌, ◌++◌, if◌then◌else◌}
 use Rattle.luflow.specs.declared.data.Status.{Status}
 use Rattle.luflow.specs.declared.variable.Variable.{Variable}
@@ -14,3 +14,9 @@ abbrev pub outputs_in : List Variable → List (List Status) → List OutputColu
 outputs_in [] streams = []
 outputs_in (x ∷ xs) [] = []
 outputs_in (x ∷ xs) (s ∷ ss) = output_in x s ++ outputs_in xs ss
+
+-- all main variables by name, in order of declaration, each with its stream
+abbrev pub columns_in : List Variable → List (List Status) → List OutputColumn
+columns_in [] streams = []
+columns_in (x ∷ xs) [] = []
+columns_in (x ∷ xs) (s ∷ ss) = record { name = x.name; statuses = s } ∷ columns_in xs ss

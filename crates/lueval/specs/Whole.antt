@@ -14,7 +14,7 @@ use Rattle.luflow.specs.Faults.{IsFault}
 use Rattle.luflow.specs.FlatLaws.{KeepsTypes}
 use Rattle.lusource.specs.Source.{SourceStreams, IsSourceSolution}
 use Rattle.lusource.specs.Agreement.{Agrees}
-use Rattle.lueval.specs.Outputs.{outputs_in}
+use Rattle.lueval.specs.Outputs.{outputs_in, columns_in}
 use Rattle.lueval.specs.declared.error.EvalError.{EvalError}
 use Rattle.lueval.specs.declared.error.EvalError.TheVariants.{Fault, OutOfMemory}
 
@@ -35,6 +35,13 @@ pub record AreWholeOutputs (flat : FlatProgram) (inputs : Table) (outputs : List
   pub solution : AreStreams flat inputs streams
   pub source : AreMeant flat inputs streams
   pub are : outputs ≡ outputs_in flat.variables streams
+
+-- the streams of all main variables, by name
+pub record AreWholeColumns (flat : FlatProgram) (inputs : Table) (columns : List OutputColumn) : Type 0 where
+  pub streams : List (List Status)
+  pub solution : AreStreams flat inputs streams
+  pub source : AreMeant flat inputs streams
+  pub are : columns ≡ columns_in flat.variables streams
 
 -- no operator is a fault at an instant of the table
 abbrev pub HasNoFault : FlatProgram → Table → Type 0

@@ -8,7 +8,7 @@
 //!   [`line_of`], [`value_with`], [`is_on`], [`newest`]: how a line is made, its value, its clock, and what is kept of it. The
 //!   branches of merges stand in one list beside the lines.
 //! - [`whole`], [`Streams`], [`EvalError`]: a program's only solution at a table, or its first fault; [`whole_outputs`]: its
-//!   outputs alone, in less memory.
+//!   outputs alone, in less memory; [`whole_columns`]: all its main variables by name.
 #![tactic(auto)]
 
 mod answers;
@@ -28,7 +28,7 @@ mod streams;
 pub use answers::value_with;
 pub use cell::{Answer, Cell, cell_at, cell_of, is_absent, is_datum, is_on, newest, status};
 pub use error::EvalError;
-pub use evaluator::{whole, whole_outputs};
+pub use evaluator::{whole, whole_columns, whole_outputs};
 pub use kernel::{Past, clock_now, datum_at, kept, value};
 pub use line::{Line, LineClock, column_of, line_of};
 pub use luflow::{Datum, Inputs, Outputs, Status};

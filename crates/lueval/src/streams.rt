@@ -2,10 +2,10 @@
 
 ghost use Rattle.std.specs.Prelude.{◌≡◌, ◌<◌, All, IfOk, length, slice_get, slice_index, Some};
 ghost use Rattle.luflow.specs.Variables.{outputs_of};
-ghost use Rattle.lueval.specs.Outputs.{outputs_in};
+ghost use Rattle.lueval.specs.Outputs.{outputs_in, columns_in};
 ghost use Rattle.lueval.specs.Steps.{lists_of};
 
-use crate::outputs::output_columns;
+use crate::outputs::{output_columns, taken_columns};
 use luflow::{Flat, Outputs, Status};
 use std::alloc::{AllocError, Global};
 use std::marker::Model;
@@ -62,6 +62,22 @@ impl Streams {
         let columns = output_columns(alloc, flat.variables(), self.columns.as_slice())?;
         match Outputs::new(columns) {
             Some(outputs) => Ok(outputs),
+            None => unreachable!(),
+        }
+    }
+    /// All main variables of the program, by name, in order of declaration, each with its stream, of which none is copied.
+    ///
+    /// # Errors
+    ///
+    /// `AllocError` where memory ran out.
+    pub fn into_columns(self, alloc: Global, flat: &Flat) -> Result<Outputs, AllocError>
+        requires count { length self ≡ length flat.now.variables }
+        requires some { 0 < length flat.now.variables }
+        ensures { IfOk result (λ columns. columns ≡ columns_in flat.now.variables self) }
+    {
+        let columns = taken_columns(alloc, flat.variables(), self.columns)?;
+        match Outputs::new(columns) {
+            Some(columns) => Ok(columns),
             None => unreachable!(),
         }
     }

@@ -1,5 +1,5 @@
--- The text of a table of outputs.
-use Rattle.std.specs.Prelude.{ℕ, zero, suc, ◌+◌, List, [], ◌∷◌, ◌++◌, length, map, slice_get, slice_index_or, unwrap_or}
+-- The text of a table of outputs, or of all main variables.
+use Rattle.std.specs.Prelude.{ℕ, zero, suc, ◌+◌, Bool, if◌then◌else◌, List, [], ◌∷◌, ◌++◌, length, map, slice_get, slice_index_or, unwrap_or}
 use Rattle.std.specs.Option.{option_map}
 use Rattle.lutree.specs.declared.program.Kind.{Kind}
 use Rattle.luflow.specs.declared.data.Status.TheVariants.{Absent}
@@ -11,9 +11,17 @@ use Rattle.luflow.specs.Types.{names_of}
 use Rattle.luflow.specs.Variables.{outputs_of}
 use Rattle.lutab.specs.Text.{status_text, line_text}
 
+-- the main variables that a text shows, in order of declaration: all of them, or the outputs alone
+abbrev pub shown_of : Bool → List Variable → List Variable
+shown_of all variables = if all then variables else outputs_of variables
+
+-- the types of variables, in order
+abbrev pub kinds_of : List Variable → List Kind
+kinds_of variables = map (λ (x : Variable). x.kind) variables
+
 -- the types of the outputs among these variables, in order
 abbrev pub output_kinds : List Variable → List Kind
-output_kinds variables = map (λ (x : Variable). x.kind) (outputs_of variables)
+output_kinds variables = kinds_of (outputs_of variables)
 
 -- the names of the type of this number among these; none where there is no such type, or it is no enumeration
 abbrev pub names_in : List Enum → List Kind → ℕ → List (List ℕ)
@@ -45,6 +53,10 @@ abbrev pub instants_of : List OutputColumn → ℕ
 instants_of [] = zero
 instants_of (c ∷ cs) = length c.statuses
 
--- the outputs of a program: a line of the names, and a line for each instant
+-- columns of these types: a line of the names, and a line for each instant
+abbrev pub column_text : List Enum → List Kind → List OutputColumn → List ℕ
+column_text types kinds columns = lines_text types kinds columns (instants_of columns)
+
+-- the outputs of a program
 abbrev pub output_text : FlatProgram → List OutputColumn → List ℕ
-output_text flat outputs = lines_text flat.types (output_kinds flat.variables) outputs (instants_of outputs)
+output_text flat outputs = column_text flat.types (output_kinds flat.variables) outputs

@@ -1,11 +1,11 @@
-//! The text of a table of outputs.
+//! The text of a table of outputs, or of all main variables.
 
 ghost use Rattle.std.specs.Prelude.{◌≡◌, ◌<◌, ◌++◌, All, IfOk, OnOk, string_bytes, vec_len};
 ghost use Rattle.luflow.specs.Tables.{outputs_view};
 ghost use Rattle.luflow.specs.Types.{names_of};
 ghost use Rattle.luflow.specs.Variables.{is_output, outputs_of};
 ghost use Rattle.lutab.specs.Text.{comma_before, datum_text, status_text, line_text};
-ghost use Rattle.lutab.specs.Outputs.{names_in, output_kinds, statuses_at, names_text, lines_text, output_text};
+ghost use Rattle.lutab.specs.Outputs.{names_in, output_kinds, kinds_of, shown_of, statuses_at, names_text, lines_text, column_text, output_text};
 
 use itoa::Buffer;
 use luflow::{Datum, Enum, Flat, Outputs, Role, Status, Variable, name_of, names_of};
@@ -26,7 +26,8 @@ pub fn put_comma(out: &mut String, i: usize) -> Result<(), AllocError>
     Ok(())
 }
 
-fn put_datum(out: &mut String, names: &[Name], datum: Datum) -> Result<(), AllocError>
+/// Adds a value, as a table has it: a name is spelled by the names of its type, and nil is `nil`.
+pub fn put_datum(out: &mut String, names: &[Name], datum: Datum) -> Result<(), AllocError>
     ensures { OnOk result (string_bytes out.new
         ≡ string_bytes out.old ++ datum_text names.now datum) }
 {
@@ -130,15 +131,46 @@ fn output_kinds(alloc: Global, variables: &[Variable]) -> Result<Vec<Kind>, Allo
         .collect(alloc)
 }
 
+/// The types of the main variables that are shown, in order of declaration: of all of them, or of the outputs alone. Memory is
+/// the only thing that it can lack.
+pub fn shown_kinds(
+    alloc: Global,
+    variables: &[Variable],
+    all: bool,
+) -> Result<Vec<Kind>, AllocError>
+    ensures { IfOk result (λ v. v.items ≡ kinds_of (shown_of all variables.now)) }
+{
+    if all {
+        variables.iter().map(|x| x.kind).collect(alloc)
+    } else {
+        output_kinds(alloc, variables)
+    }
+}
+
+/// Writes the text of a table of columns of these types, in a program with these enumerations: a line of the names, and a line
+/// for each instant. A name is spelled as the type of its column has it. Memory is the only thing that it can lack; the time
+/// grows with the text.
+pub fn write_columns(
+    alloc: Global,
+    types: &[Enum],
+    kinds: &[Kind],
+    columns: &Outputs,
+) -> Result<String, AllocError>
+    ensures exact { IfOk result (λ s. string_bytes s
+        ≡ column_text types.now kinds.now columns.now) }
+{
+    let columns = columns.columns();
+    match columns {
+        [] => unreachable!(),
+        [first, ..] => write_lines(alloc, types, kinds, columns, first.1.len()),
+    }
+}
+
 /// Writes the text of a table of a program's outputs: a line of the names, and a line for each instant. A name is spelled as the type
 /// of the program's output in its column has it. Memory is the only thing that it can lack; the time grows with the text.
 pub fn write_outputs(alloc: Global, flat: &Flat, outputs: &Outputs) -> Result<String, AllocError>
     ensures exact { IfOk result (λ s. string_bytes s ≡ output_text flat.now outputs.now) }
 {
     let kinds = output_kinds(alloc, flat.variables())?;
-    let columns = outputs.columns();
-    match columns {
-        [] => unreachable!(),
-        [first, ..] => write_lines(alloc, flat.types(), &kinds, columns, first.1.len()),
-    }
+    write_columns(alloc, flat.types(), &kinds, outputs)
 }

@@ -5,7 +5,7 @@ use Rattle.std.specs.declared.alloc.Global.{Global}
 use Rattle.luflow.specs.declared.data.Status.{Status}
 use Rattle.luflow.specs.Tables.{AreOutputs}
 use Rattle.lutab.proofs.Written.{all_long}
-use Rattle.lutab.proofs.writing.write_outputs.Goals as goal
+use Rattle.lutab.proofs.writing.write_columns.Goals as goal
 
 pub write_lines-requires : goal.write_lines-requires
 write_lines-requires c =

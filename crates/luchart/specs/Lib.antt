@@ -1,0 +1,5 @@
+pub mod Pieces
+pub mod Signals
+pub mod Chronogram
+pub mod Dump
+pub mod Cut

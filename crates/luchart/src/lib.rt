@@ -1,0 +1,25 @@
+//! What a program's flows have over time, for people and for viewers of waves: as a chart of text.
+//!
+//! - [`chronogram`] draws columns as a chart: a row for each flow, a cell for each instant.
+//! - [`dump`] writes them as a value change dump, which viewers of waves open.
+//! - [`cut`] cuts a table to its first instants, at which a program does what it does at the whole table.
+//!
+//! A text is a stated function of the columns and their types: `specs/Chronogram.antt` has the chart, `specs/Dump.antt` the dump.
+//!
+//! - `pieces`: pieces of which a text is put together.
+//! - `signal`: the flows, by their columns and types.
+//! - `cell`: the cells of a chart; `layout`: how wide its columns are; `chart`: its rows and strips.
+//! - `waves`: the dump; `cutting`: a table cut to its first instants.
+#![tactic(auto)]
+
+mod cell;
+mod chart;
+mod cutting;
+mod layout;
+mod pieces;
+mod signal;
+mod waves;
+
+pub use chart::chronogram;
+pub use cutting::cut;
+pub use waves::dump;
