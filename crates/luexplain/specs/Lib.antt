@@ -1,0 +1,6 @@
+pub mod Place
+pub mod Syntax
+pub mod Text
+pub mod Texts
+pub mod Told
+pub mod Vectors

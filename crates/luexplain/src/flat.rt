@@ -1,0 +1,293 @@
+//! Programs without a flat program, `E40` and `E50`, and faults of values, `R1`.
+
+ghost use Rattle.std.specs.Prelude.{IfOk};
+ghost use Rattle.luexplain.specs.Texts.{IsToldSomewhere};
+ghost use Rattle.luexplain.specs.Told.{IsTold, whole};
+
+use crate::circle::circle;
+use crate::place::where_in;
+use crate::said::{Said, in_words, mended_by, told, whole};
+use crate::words::{Circle, Quoted};
+use luflow::FaultKind;
+use lustat_scope::{Catalog, Scope};
+use lutree::{Declaration, Equation, Expr, Infix, Prefix, Program};
+use std::alloc::{AllocError, Global};
+
+/// The place of a variable, behind those before.
+fn push_place(scope: &Scope, name: &str, row: &mut Vec<usize>) -> Result<(), AllocError> {
+    if let Some(place) = scope.place(name) {
+        row.push(place)?;
+    }
+    Ok(())
+}
+
+/// The places of the variables that an expression reads at the same instant, behind those before. What a call is given is among
+/// them where `through` says so.
+#[cycle(reads)]
+fn push_reads(
+    scope: &Scope,
+    through: bool,
+    e: &Expr,
+    row: &mut Vec<usize>,
+) -> Result<(), AllocError> {
+    match e {
+        Expr::Number(_) | Expr::Truth(_) | Expr::Label(_) | Expr::Unary(Prefix::Pre, _) => Ok(()),
+        Expr::Variable(x) | Expr::Current(x) => push_place(scope, x.as_str(), row),
+        Expr::Unary(_, a) | Expr::Binary(Infix::FollowedBy, a, _) => {
+            push_reads(scope, through, a, row)
+        }
+        Expr::Binary(_, a, b) => {
+            push_reads(scope, through, a, row)?;
+            push_reads(scope, through, b, row)
+        }
+        Expr::If(c, a, b) => {
+            push_reads(scope, through, c, row)?;
+            push_reads(scope, through, a, row)?;
+            push_reads(scope, through, b, row)
+        }
+        Expr::When(a, clock) => {
+            push_reads(scope, through, a, row)?;
+            push_place(scope, clock.variable.as_str(), row)
+        }
+        Expr::Merge(x, _, branches) => {
+            push_place(scope, x.as_str(), row)?;
+            push_all_reads(scope, through, branches, row)
+        }
+        Expr::Call(_, arguments) => {
+            if !through {
+                return Ok(());
+            }
+            push_all_reads(scope, through, arguments, row)
+        }
+    }
+}
+
+/// The same of the arguments of a call or the branches of a merge.
+#[cycle(reads)]
+fn push_all_reads(
+    scope: &Scope,
+    through: bool,
+    all: &[Expr],
+    row: &mut Vec<usize>,
+) -> Result<(), AllocError> {
+    for e in all {
+        push_reads(scope, through, e, row)?;
+    }
+    Ok(())
+}
+
+/// What a declared variable reads by its clock alone.
+fn clock_reads(
+    alloc: Global,
+    scope: &Scope,
+    declared: &Declaration,
+) -> Result<Vec<usize>, AllocError> {
+    let mut row = Vec::new(alloc);
+    if let Some(clock) = &declared.clock {
+        push_place(scope, clock.variable.as_str(), &mut row)?;
+    }
+    Ok(row)
+}
+
+/// Each variable on the left of an equation leads to its vertex.
+fn lead_to(
+    scope: &Scope,
+    equation: &Equation,
+    vertex: usize,
+    graph: &mut Vec<Vec<usize>>,
+) -> Result<(), AllocError> {
+    for x in equation.left.as_slice() {
+        if let Some(place) = scope.place(x.as_str()) {
+            if place < graph.len() {
+                graph[place].push(vertex)?;
+            }
+        }
+    }
+    Ok(())
+}
+
+/// What the variables of a node read at one instant: a vertex for each variable, which leads to the vertex of its equation and to the variable
+/// of its clock, and behind them one for each equation, which leads to the variables that it reads.
+fn graph_of(alloc: Global, scope: &Scope, through: bool) -> Result<Vec<Vec<usize>>, AllocError> {
+    let mut graph = Vec::new(alloc);
+    let declarations = scope.declarations();
+    for declared in declarations {
+        graph.push(clock_reads(alloc, scope, *declared)?)?;
+    }
+    let equations = scope.node().equations.as_slice();
+    let variables = declarations.len();
+    for (i, equation) in equations.iter().enumerate() {
+        lead_to(scope, equation, variables + i, &mut graph)?;
+    }
+    for equation in equations {
+        let mut row = Vec::new(alloc);
+        push_reads(scope, through, &equation.right, &mut row)?;
+        graph.push(row)?;
+    }
+    Ok(graph)
+}
+
+/// The names of the variables at some places; places behind them are passed over.
+fn names_at<'a>(
+    alloc: Global,
+    scope: &Scope<'a>,
+    places: &[usize],
+) -> Result<Vec<&'a str>, AllocError> {
+    let mut names = Vec::new(alloc);
+    for place in places {
+        if let Some(declared) = scope.declarations().get(*place) {
+            names.push(declared.name.as_str())?;
+        }
+    }
+    Ok(names)
+}
+
+/// The variables of a node in a circle from one back to it, each reading the next at one instant; none where no equation shows it. A way that goes
+/// through no call is preferred.
+fn circle_of<'a>(
+    alloc: Global,
+    scope: &Scope<'a>,
+    variable: &str,
+) -> Result<Vec<&'a str>, AllocError> {
+    let Some(place) = scope.place(variable) else {
+        return Ok(Vec::new(alloc));
+    };
+    let direct = circle(alloc, &graph_of(alloc, scope, false)?, place)?;
+    if !direct.is_empty() {
+        return names_at(alloc, scope, &direct);
+    }
+    let way = circle(alloc, &graph_of(alloc, scope, true)?, place)?;
+    names_at(alloc, scope, &way)
+}
+
+/// What is said of a circle.
+fn said_of_cycle(
+    alloc: Global,
+    catalog: &Catalog,
+    main: &str,
+    variable: &str,
+) -> Result<Said, AllocError> {
+    let mend = "Put a `pre` into the circle, with a value for the first instant, as `0 -> pre x`.";
+    let names = match catalog.find(main) {
+        Some(scope) => circle_of(alloc, scope, variable)?,
+        None => Vec::new(alloc),
+    };
+    if names.is_empty() {
+        return in_words(
+            alloc,
+            "The value that this equation defines depends on itself at the same instant, by way of a call.",
+            mend,
+        );
+    }
+    let circle = Circle {
+        names: names.as_slice(),
+        does: "reads",
+    };
+    let what = format!(in alloc; "A value can't depend on itself at one instant: {circle}.")?;
+    mended_by(alloc, what, mend)
+}
+
+/// Where the equation of a variable of the main node begins; 0 where there is none.
+fn byte_of(catalog: &Catalog, main: &str, variable: &str) -> usize {
+    let Some(scope) = catalog.find(main) else {
+        return 0;
+    };
+    for equation in scope.node().equations.as_slice() {
+        if equation.left.as_slice().iter().any(|x| x.is(variable)) {
+            return equation.byte;
+        }
+    }
+    0
+}
+
+/// What a person is told where a main variable depends on itself: its place, what is wrong, and how to mend it. `text` is the text of the file
+/// of this path, `program` is what it spells, and `main` the name of the main node.
+///
+/// # Errors
+///
+/// An error means that memory ran out.
+pub fn of_cycle(
+    alloc: Global,
+    path: &str,
+    text: &[u8],
+    program: &Program,
+    main: &str,
+    variable: &str,
+) -> Result<String, AllocError>
+    ensures { IfOk result (IsToldSomewhere path.now text.now) }
+{
+    let catalog = Catalog::new(alloc, program)?;
+    let said = said_of_cycle(alloc, &catalog, main, variable)?;
+    let byte = byte_of(&catalog, main, variable);
+    told(where_in(alloc, path, text, byte)?, &said)
+}
+
+/// What a person is told of a program with too many flows: the path of its file, what is wrong, and how to mend it.
+///
+/// # Errors
+///
+/// An error means that memory ran out.
+pub fn of_size(alloc: Global, path: &str) -> Result<String, AllocError>
+    ensures { IfOk result (IsTold (whole path.now)) }
+{
+    let said = in_words(
+        alloc,
+        "With all calls put in place, the main node has more than 4,096 flows.",
+        "Call less often, or give a result to a local in place of a second call.",
+    )?;
+    told(whole(alloc, path)?, &said)
+}
+
+/// What is said of a fault of a value.
+fn said_of_fault(
+    alloc: Global,
+    variable: &str,
+    instant: u32,
+    kind: FaultKind,
+) -> Result<Said, AllocError> {
+    let line = u64::from(instant) + 2;
+    match kind {
+        FaultKind::Overflow => {
+            let what = format!(in alloc;
+                "The equation of {} has no value at instant {instant}, which is line {line} of the table: a result doesn't fit into 64 bits.",
+                Quoted(variable)
+            )?;
+            mended_by(alloc, what, "Bound the operands before the operator.")
+        }
+        FaultKind::DivZero => {
+            let what = format!(in alloc;
+                "The equation of {} has no value at instant {instant}, which is line {line} of the table: a divisor is 0.",
+                Quoted(variable)
+            )?;
+            mended_by(
+                alloc,
+                what,
+                "Divide by `if x = 0 then 1 else x`, or keep the division away by a clock; an `if` computes both branches.",
+            )
+        }
+    }
+}
+
+/// What a person is told of a fault in the equation of a main variable at an instant: its place, what is wrong, and how to mend it. `text` is the
+/// text of the program's file, of this path, `program` is what it spells, and `main` the name of the main node.
+///
+/// # Errors
+///
+/// An error means that memory ran out.
+pub fn of_fault(
+    alloc: Global,
+    path: &str,
+    text: &[u8],
+    program: &Program,
+    main: &str,
+    variable: &str,
+    instant: u32,
+    kind: FaultKind,
+) -> Result<String, AllocError>
+    ensures { IfOk result (IsToldSomewhere path.now text.now) }
+{
+    let catalog = Catalog::new(alloc, program)?;
+    let said = said_of_fault(alloc, variable, instant, kind)?;
+    let byte = byte_of(&catalog, main, variable);
+    told(where_in(alloc, path, text, byte)?, &said)
+}

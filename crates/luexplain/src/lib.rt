@@ -1,0 +1,41 @@
+//! What a person is told of a refusal: where it stands, what is wrong, and how to mend it.
+//!
+//! - [`where_in`]: a place of a text: `PATH:LINE:COLUMN`, the line, and a caret under the place.
+//! - [`of_syntax`]: what is told of a text that is no program; [`of_rule`]: of a broken rule; [`of_cycle`], [`of_size`]: of a program without a flat
+//!   program; [`of_place`], [`of_table`], [`of_schedule`]: of the other texts; [`of_fault`]: of an operator without a value.
+//! - [`laws`]: worked places.
+//!
+//! The parts: `place` (places), `said` (what is told, in lines), `words`, `spelling` and `side` (how names, expressions and things that don't agree
+//! are told), `find` (what stands at a byte, and the parts of an expression), `near` (names that differ by one letter), `circle` (the way from a
+//! vertex back to itself); `syntax`, `naming`, `typing`, `arity`, `clocks`, `classes`, `flat` (refusals of a program, which `rule` chooses among),
+//! `table`, `schedule`, `placement`.
+#![tactic(auto)]
+
+mod arity;
+mod circle;
+mod classes;
+mod clocks;
+mod find;
+mod flat;
+pub mod laws;
+mod naming;
+mod near;
+mod place;
+mod placement;
+mod rule;
+mod said;
+mod schedule;
+mod side;
+mod spelling;
+mod syntax;
+mod table;
+mod typing;
+mod words;
+
+pub use flat::{of_cycle, of_fault, of_size};
+pub use place::where_in;
+pub use placement::of_place;
+pub use rule::of_rule;
+pub use schedule::of_schedule;
+pub use syntax::of_syntax;
+pub use table::of_table;

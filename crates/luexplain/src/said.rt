@@ -1,0 +1,46 @@
+//! What is told: a place, what is wrong, and how to mend it.
+
+ghost use Rattle.std.specs.Prelude.{◌≡◌, ◌++◌, codes, IfOk, string_bytes};
+ghost use Rattle.luexplain.specs.Told.{IsTold};
+
+use std::alloc::{AllocError, Global};
+
+/// What is wrong, in a sentence, and how to mend it, in another.
+#[derive(Drop)]
+pub(crate) struct Said {
+    pub(crate) what: String,
+    pub(crate) mend: String,
+}
+
+/// What is wrong, and these words on how to mend it.
+pub(crate) fn mended_by(alloc: Global, what: String, mend: &str) -> Result<Said, AllocError> {
+    let mend = String::from_str(alloc, mend)?;
+    Ok(Said { what, mend })
+}
+
+/// These words on what is wrong, and on how to mend it.
+pub(crate) fn in_words(alloc: Global, what: &str, mend: &str) -> Result<Said, AllocError> {
+    let what = String::from_str(alloc, what)?;
+    mended_by(alloc, what, mend)
+}
+
+/// The line of a file's path, which stands for the whole of it.
+pub(crate) fn whole(alloc: Global, path: &str) -> Result<String, AllocError>
+    ensures { IfOk result (λ line. string_bytes line ≡ path.now ++ codes "\n") }
+{
+    let mut line = String::from_str(alloc, path)?;
+    line.push('\n')?;
+    Ok(line)
+}
+
+/// A place, and behind it what is said, a line each.
+pub(crate) fn told(place: String, said: &Said) -> Result<String, AllocError>
+    ensures { IfOk result (IsTold (string_bytes place)) }
+{
+    let mut text = place;
+    text.push_str(said.what.as_str())?;
+    text.push('\n')?;
+    text.push_str(said.mend.as_str())?;
+    text.push('\n')?;
+    Ok(text)
+}

@@ -1,0 +1,80 @@
+//! Schedules: `S01` and `S02`.
+
+ghost use Rattle.std.specs.Prelude.{◌≡◌, IfOk, string_bytes};
+ghost use Rattle.luexplain.specs.Told.{IsTold};
+ghost use Rattle.luexplain.specs.Texts as spec;
+
+use crate::place::where_in;
+use crate::rule::out_of_memory;
+use crate::said::{Said, in_words, mended_by, told, whole};
+use crate::words::Bytes;
+use lulimits::limits::LONGEST_SCHEDULE;
+use lusdist_shell::ScheduleError;
+use std::alloc::{AllocError, Global};
+
+/// What is said of a schedule that is refused.
+fn said_of_schedule(alloc: Global, text: &[u8], error: &ScheduleError) -> Result<Said, AllocError> {
+    match error {
+        ScheduleError::BadSchedule { byte } => {
+            let found = match text.get(*byte..) {
+                Some([first, ..]) => [*first],
+                _ => *b"?",
+            };
+            let what = format!(in alloc;
+                "{} is no turn, no blank and no line feed.",
+                Bytes(&found)
+            )?;
+            mended_by(
+                alloc,
+                what,
+                "Write a letter for each turn, `0` to `9` and `a` to `f` for the sites 0 to 15, and between them blanks and line feeds alone.",
+            )
+        }
+        ScheduleError::LongSchedule => {
+            let count = text.len();
+            let what = format!(in alloc;
+                "The schedule has {count} bytes, and may have {LONGEST_SCHEDULE}."
+            )?;
+            mended_by(
+                alloc,
+                what,
+                "Write the turns that matter, and let `--finish` take the others.",
+            )
+        }
+        ScheduleError::OutOfMemory => out_of_memory(alloc),
+    }
+}
+
+/// Where a schedule is refused.
+fn place_of_schedule(
+    alloc: Global,
+    path: &str,
+    text: &[u8],
+    error: &ScheduleError,
+) -> Result<String, AllocError>
+    ensures { IfOk result (λ told. string_bytes told
+        ≡ spec.place_of_schedule path.now text.now error.now) }
+{
+    match error {
+        ScheduleError::BadSchedule { byte } => where_in(alloc, path, text, *byte),
+        ScheduleError::LongSchedule | ScheduleError::OutOfMemory => whole(alloc, path),
+    }
+}
+
+/// What a person is told of a schedule that is refused: its place, what is wrong, and how to mend it. `text` is the text of the file of this
+/// path.
+///
+/// # Errors
+///
+/// An error means that memory ran out.
+pub fn of_schedule(
+    alloc: Global,
+    path: &str,
+    text: &[u8],
+    error: &ScheduleError,
+) -> Result<String, AllocError>
+    ensures { IfOk result (IsTold (spec.place_of_schedule path.now text.now error.now)) }
+{
+    let said = said_of_schedule(alloc, text, error)?;
+    told(place_of_schedule(alloc, path, text, error)?, &said)
+}

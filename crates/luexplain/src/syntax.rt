@@ -1,0 +1,168 @@
+//! Texts that are no programs: `E01` to `E05`.
+
+ghost use Rattle.std.specs.Prelude.{◌≡◌, IfOk, string_bytes};
+ghost use Rattle.std.specs.List.{prefix_len};
+ghost use Rattle.luexplain.specs.Told.{IsTold};
+ghost use Rattle.luexplain.specs.Syntax as spec;
+
+use crate::place::where_in;
+use crate::rule::out_of_memory;
+use crate::said::{Said, in_words, mended_by, told, whole};
+use crate::words::Bytes;
+use lulimits::limits::LONGEST_PROGRAM;
+use lusyn::SynError;
+use std::alloc::{AllocError, Global};
+
+fn is_ascii(byte: u8) -> bool
+    ensures { result ≡ spec.is_ascii byte }
+{
+    byte < 128
+}
+
+/// Where the first byte above 127 stands.
+fn first_wide(text: &[u8]) -> usize
+    ensures { result ≡ prefix_len spec.is_ascii text.now }
+{
+    text.iter().take_while(|byte| is_ascii(**byte)).count()
+}
+
+fn is_word(byte: u8) -> bool {
+    byte.is_ascii_alphanumeric() || byte == b'_'
+}
+
+/// Whether a byte begins a sign.
+fn is_sign(byte: u8) -> bool {
+    match byte {
+        b'(' | b')' | b'{' | b'}' | b',' | b';' | b':' => true,
+        b'=' | b'<' | b'>' | b'+' | b'-' | b'*' => true,
+        _ => false,
+    }
+}
+
+/// How many bytes the sign at the front has.
+fn sign_length(text: &[u8]) -> usize {
+    match text {
+        [b'<', b'>', ..] | [b'<', b'=', ..] | [b'>', b'=', ..] => 2,
+        [b'-', b'>', ..] | [b'=', b'>', ..] => 2,
+        _ => 1,
+    }
+}
+
+/// The word or the sign at the front; the first byte where there is none.
+fn token_of(text: &[u8]) -> &[u8] {
+    let word = text.iter().take_while(|byte| is_word(**byte)).count();
+    let length = if word > 0 { word } else { sign_length(text) };
+    text.get(..length).unwrap_or(text)
+}
+
+/// What stands from a byte on.
+fn from_byte(text: &[u8], byte: usize) -> &[u8] {
+    text.get(byte..).unwrap_or(&[])
+}
+
+/// What is said of a byte with which no program goes on.
+fn said_of_token(alloc: Global, rest: &[u8]) -> Result<Said, AllocError> {
+    let token = Bytes(token_of(rest));
+    match rest {
+        [] => in_words(
+            alloc,
+            "The text ends here, before the program does.",
+            "Each node ends with `tel`, and each equation and declaration with `;`.",
+        ),
+        [first, ..] if is_word(*first) || is_sign(*first) => {
+            let what = format!(in alloc; "{token} can't stand here.")?;
+            mended_by(
+                alloc,
+                what,
+                "What is missing often belongs before it, as the `;` of an equation; a keyword is no name.",
+            )
+        }
+        _ => {
+            let what = format!(in alloc; "{token} begins no name, number or sign.")?;
+            mended_by(alloc, what, "Leave it out; a comment begins with `--`.")
+        }
+    }
+}
+
+/// What is said of a text that is too long, or whose program is.
+fn said_of_length(alloc: Global, text: &[u8]) -> Result<Said, AllocError> {
+    let count = text.len();
+    if count > LONGEST_PROGRAM {
+        let what = format!(in alloc;
+            "The text has {count} bytes, and a program has at most {LONGEST_PROGRAM}."
+        )?;
+        return mended_by(
+            alloc,
+            what,
+            "Leave out what says nothing, and nodes that nothing calls.",
+        );
+    }
+    in_words(
+        alloc,
+        "The program has more than 256 nodes, more than 64 types, or a type of more than 64 names.",
+        "Leave out nodes that nothing calls, and split large types.",
+    )
+}
+
+/// What is said of a text that is no program.
+fn said_of_syntax(alloc: Global, text: &[u8], error: &SynError) -> Result<Said, AllocError> {
+    match error {
+        SynError::Syntax { byte } => said_of_token(alloc, from_byte(text, *byte)),
+        SynError::NumberTooLarge { byte } => {
+            let number = Bytes(token_of(from_byte(text, *byte)));
+            let what = format!(in alloc;
+                "The number {number} is above 9223372036854775807, the greatest `int`."
+            )?;
+            mended_by(alloc, what, "Choose a coarser unit, here and in the table.")
+        }
+        SynError::NotAscii => in_words(
+            alloc,
+            "The byte here is above 127, and a program has none, in comments too.",
+            "Write it in other letters.",
+        ),
+        SynError::TooLong => said_of_length(alloc, text),
+        SynError::LongRun { .. } => in_words(
+            alloc,
+            "1,000 names, numbers and signs stand before this one without a `;`.",
+            "Cut the expression, and give its parts to locals.",
+        ),
+        SynError::OutOfMemory => out_of_memory(alloc),
+    }
+}
+
+/// Where a text is no program: at the byte that is told, or at the first above 127; where it is too long, and where memory ran out, in
+/// the whole.
+fn place_of_syntax(
+    alloc: Global,
+    path: &str,
+    text: &[u8],
+    error: &SynError,
+) -> Result<String, AllocError>
+    ensures { IfOk result (λ told. string_bytes told
+        ≡ spec.place_of_syntax path.now text.now error.now) }
+{
+    match error {
+        SynError::Syntax { byte }
+        | SynError::NumberTooLarge { byte }
+        | SynError::LongRun { byte } => where_in(alloc, path, text, *byte),
+        SynError::NotAscii => where_in(alloc, path, text, first_wide(text)),
+        SynError::TooLong | SynError::OutOfMemory => whole(alloc, path),
+    }
+}
+
+/// What a person is told of a text that is no program: its place, what is wrong, and how to mend it. `text` is the text of the file of this path.
+///
+/// # Errors
+///
+/// An error means that memory ran out.
+pub fn of_syntax(
+    alloc: Global,
+    path: &str,
+    text: &[u8],
+    error: &SynError,
+) -> Result<String, AllocError>
+    ensures { IfOk result (IsTold (spec.place_of_syntax path.now text.now error.now)) }
+{
+    let said = said_of_syntax(alloc, text, error)?;
+    told(place_of_syntax(alloc, path, text, error)?, &said)
+}
