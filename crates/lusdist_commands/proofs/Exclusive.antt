@@ -57,11 +57,13 @@ use Rattle.lusdist_commands.specs.Refused.{IsToldOf, IsProgramRefused, IsTableRe
 use Rattle.lusdist_commands.specs.Refused.IsToldOf.{rule, flat}
 use Rattle.lusdist_commands.specs.Explained.{code_in, explanation, IsExplainStopped}
 use Rattle.lusdist_commands.specs.Explained.IsExplainStopped.{explain_unknown, explain_memory}
-use Rattle.lusdist_commands.specs.Stopped.{IsUnread, IsScheduleRefused, HasNoFlat, StopsAtProgram, StopsAtPlan, StopsAtJob, IsCheckStopped, IsEvalStopped, IsPlanStopped, IsReplayStopped, IsRunFault, IsRunStopped, IsRequestStopped}
+use Rattle.lusdist_commands.specs.Stopped.{IsUnread, IsScheduleRefused, HasNoFlat, StopsAtProgram, StopsAtPlan, StopsAtJob, IsCheckStopped, IsEvalRefused, IsEvalStopped, IsPlanStopped, IsReplayStopped, IsRunFault, IsRunStopped, IsRequestStopped}
 use Rattle.lusdist_commands.specs.Stopped.HasNoFlat.{unspelled, unruled}
 use Rattle.lusdist_commands.specs.Stopped.StopsAtProgram.{program_unread, program_refused}
 use Rattle.lusdist_commands.specs.Stopped.StopsAtPlan.{no_program, place_unread, place_refused}
 use Rattle.lusdist_commands.specs.Stopped.IsCheckStopped.{check_program, check_memory}
+use Rattle.lusdist_commands.specs.Mistakes.{mistake_in}
+use Rattle.lusdist_commands.specs.Stopped.IsEvalRefused.{eval_mistaken, eval_stopped}
 use Rattle.lusdist_commands.specs.Stopped.IsEvalStopped.{eval_program, eval_unread, eval_table, eval_fault, eval_memory}
 use Rattle.lusdist_commands.specs.Stopped.IsPlanStopped.{plan_files, plan_memory}
 use Rattle.lusdist_commands.specs.Stopped.StopsAtJob.{no_plan, table_unread, table_refused}
@@ -180,7 +182,7 @@ table_memory types inputs text table LinkLost is short utf8 h = absurd h
 table_memory types inputs text table NoThread is short utf8 h = absurd h
 table_memory types inputs text table (Mistaken mistake) is short utf8 h = absurd h
 
-none_some : {A : Type 0} (o : Option A) (x : A) → o ≡ None → o ≡ Some x → ⊥
+pub none_some : {A : Type 0} (o : Option A) (x : A) → o ≡ None → o ≡ Some x → ⊥
 none_some o x h k = absurd cc
 
 ok_err : {A E : Type 0} (r : Result A E) (x : A) (e : E) → r ≡ Ok x → r ≡ Err e → ⊥
@@ -297,7 +299,7 @@ module _ (gives : List ℕ → Option (List ℕ) → Type 0) (settled : HasOneTe
       let told = subst (λ (i : Table). IsFaultTold is.flat i name instant kind) inputs_eq (subst (λ (f : FlatProgram). IsFaultTold f fault.inputs name instant kind) flat_eq fault.told) in
       let solves = IsSolution-solution is.flat is.inputs ordered in
       let first = told.first (solution is.flat is.inputs) solves in
-      is.are_outputs.no_fault (solution is.flat is.inputs) solves first.place instant kind first.early first.fault
+      is.are_columns.no_fault (solution is.flat is.inputs) solves first.place instant kind first.early first.fault
 
   pub posed_flat : (request : EvalRequest) (own : FlatProgram) (inputs : Table) (asked : IsPosedBy gives request own inputs) → HasFlat asked.program request.main.now own
   posed_flat request own inputs asked = record { tree = asked.tree; spelled = asked.posed.spelled; flat_is = asked.posed.flat_is }
@@ -312,6 +314,10 @@ module _ (gives : List ℕ → Option (List ℕ) → Type 0) (settled : HasOneTe
       asked.table_given table_given asked.posed.table_is asked.posed.short asked.posed.utf8 refused
   eval_outcome request text stop is (eval_fault name instant kind e fault) = absurd (fault_never request text is name instant kind fault)
   eval_outcome request text stop is (eval_memory e) = memory_is stop OutOfMemory e tt
+
+  refused_outcome : (request : EvalRequest) (text : List ℕ) (stop : Stop) → IsEvaluated gives request text → IsEvalRefused gives request stop → SaysNothing stop
+  refused_outcome request text stop is (eval_mistaken mistake found e) = absurd (none_some (mistake_in request) mistake is.meant found)
+  refused_outcome request text stop is (eval_stopped meant at) = eval_outcome request text stop is at
 
   plan_outcome : (request : PlanRequest) (text : List ℕ) (stop : Stop) → IsPlanned gives request text → IsPlanStopped gives request stop → SaysNothing stop
   plan_outcome request text stop is (plan_files at) =
@@ -370,7 +376,7 @@ module _ (gives : List ℕ → Option (List ℕ) → Type 0) (settled : HasOneTe
 
   pub one_outcome_of : (request : Request) (text : List ℕ) (stop : Stop) → IsAnswer gives request text → IsRequestStopped gives request stop → SaysNothing stop
   one_outcome_of (Check request) text stop answer stopped = check_outcome request text stop answer stopped
-  one_outcome_of (Eval request) text stop answer stopped = eval_outcome request text stop answer stopped
+  one_outcome_of (Eval request) text stop answer stopped = refused_outcome request text stop answer stopped
   one_outcome_of (Plan request) text stop answer stopped = plan_outcome request text stop answer stopped
   one_outcome_of (Replay request) text stop answer stopped = replay_outcome request text stop answer stopped
   one_outcome_of (AsksRun request) text stop answer stopped = run_outcome request text stop answer stopped

@@ -1,4 +1,3 @@
-pub mod NewSites
 pub mod Worlds
 pub mod AskedFor
 pub mod HasOutputs

@@ -65,11 +65,14 @@ use Rattle.lusdist_commands.specs.declared.stop.Stop.TheVariants.{CannotRead, No
 use Rattle.lusdist_commands.specs.Evaluated.{IsFaultOf, IsFaultTold}
 use Rattle.lusdist_commands.specs.Refused.{IsToldOf, IsProgramRefused, IsPlaceRefused, IsTableRefused}
 use Rattle.lusdist_commands.specs.Refused.IsToldOf.{rule, flat}
-use Rattle.lusdist_commands.specs.Stopped.{IsUnread, IsScheduleRefused, HasNoFlat, StopsAtProgram, StopsAtPlan, StopsAtJob, IsEvalStopped, IsReplayStopped, IsRunStopped, IsRequestStopped}
+use Rattle.lusdist_commands.specs.Stopped.{IsUnread, IsScheduleRefused, HasNoFlat, StopsAtProgram, StopsAtPlan, StopsAtJob, IsEvalRefused, IsEvalStopped, IsReplayStopped, IsRunStopped, IsRequestStopped}
 use Rattle.lusdist_commands.specs.Stopped.HasNoFlat.{unspelled, unruled}
 use Rattle.lusdist_commands.specs.Stopped.StopsAtProgram.{program_unread, program_refused}
 use Rattle.lusdist_commands.specs.Stopped.StopsAtPlan.{no_program, place_unread, place_refused}
 use Rattle.lusdist_commands.specs.Stopped.IsCheckStopped.{check_program, check_memory}
+use Rattle.lusdist_commands.specs.declared.mistake.Mistake.{Mistake}
+use Rattle.lusdist_commands.specs.Mistakes.{mistake_in}
+use Rattle.lusdist_commands.specs.Stopped.IsEvalRefused.{eval_mistaken, eval_stopped}
 use Rattle.lusdist_commands.specs.Stopped.IsEvalStopped.{eval_program, eval_unread, eval_table, eval_fault, eval_memory}
 use Rattle.lusdist_commands.specs.Stopped.IsPlanStopped.{plan_files, plan_memory}
 use Rattle.lusdist_commands.specs.Stopped.StopsAtJob.{no_plan, table_unread, table_refused}
@@ -79,7 +82,7 @@ use Rattle.lusdist_commands.specs.Exact.{HasOneText, SaysNothing, IsFaultOfRun}
 use Rattle.lusdist_commands.specs.Explained.{code_in, IsExplainStopped}
 use Rattle.lusdist_commands.specs.Explained.IsExplainStopped.{explain_unknown, explain_memory}
 use Rattle.lusdist_commands.specs.declared.mistake.Mistake.TheVariants.{UnknownCode}
-use Rattle.lusdist_commands.proofs.Exclusive.{memory_is, text_memory, rules_memory, one_of, flats_one, flats_same}
+use Rattle.lusdist_commands.proofs.Exclusive.{memory_is, none_some, text_memory, rules_memory, one_of, flats_one, flats_same}
 use Rattle.lusdist_commands.proofs.OneStatus.{never, past_program, past_table, fault_past, past_plan, replay_past, run_past}
 
 -- ---- stops of one file, by what they say
@@ -491,11 +494,18 @@ module _ (gives : List ℕ → Option (List ℕ) → Type 0) (settled : HasOneTe
   explain_stop code a b (explain_unknown name is none e) (explain_unknown other also nothing m) na nb =
       e ∙ ap (λ (x : List ℕ). Mistaken (UnknownCode x)) (same_Some name other (sym is ∙ also)) ∙ sym m
 
+  refused_stop : (request : EvalRequest) (a b : Stop) → IsEvalRefused gives request a → IsEvalRefused gives request b → (¬ SaysNothing a) → (¬ SaysNothing b) → a ≡ b
+  refused_stop request a b (eval_mistaken mistake found e) (eval_mistaken other also d) na nb =
+      e ∙ ap (λ (m : Mistake). Mistaken m) (same_Some mistake other (sym found ∙ also)) ∙ sym d
+  refused_stop request a b (eval_mistaken mistake found e) (eval_stopped meant y) na nb = absurd (none_some (mistake_in request) mistake meant found)
+  refused_stop request a b (eval_stopped meant x) (eval_mistaken mistake found e) na nb = absurd (none_some (mistake_in request) mistake meant found)
+  refused_stop request a b (eval_stopped meant x) (eval_stopped same y) na nb = eval_stop request a b x y na nb
+
   pub one_refusal_of : (request : Request) (a b : Stop) → IsRequestStopped gives request a → IsRequestStopped gives request b → (¬ SaysNothing a) → (¬ SaysNothing b) → (¬ IsFaultOfRun request a) → a ≡ b
   one_refusal_of (Check request) a b (check_program x) (check_program y) na nb nf = program_stop request.program.now request.main.now a b x y na nb
   one_refusal_of (Check request) a b (check_memory e) y na nb nf = absurd (na (memory_is a OutOfMemory e tt))
   one_refusal_of (Check request) a b (check_program x) (check_memory e) na nb nf = absurd (nb (memory_is b OutOfMemory e tt))
-  one_refusal_of (Eval request) a b x y na nb nf = eval_stop request a b x y na nb
+  one_refusal_of (Eval request) a b x y na nb nf = refused_stop request a b x y na nb
   one_refusal_of (Plan request) a b (plan_files x) (plan_files y) na nb nf = plan_stop request.program.now request.place.now request.main.now a b x y na nb
   one_refusal_of (Plan request) a b (plan_memory e) y na nb nf = absurd (na (memory_is a OutOfMemory e tt))
   one_refusal_of (Plan request) a b (plan_files x) (plan_memory e) na nb nf = absurd (nb (memory_is b OutOfMemory e tt))

@@ -23,11 +23,13 @@ use Rattle.lusdist_commands.specs.Asked.{HasFlat, IsPlanFor, IsJobFor}
 use Rattle.lusdist_commands.specs.Evaluated.{IsFaultOf}
 use Rattle.lusdist_commands.specs.Refused.{IsToldOf, IsProgramRefused, IsPlaceRefused, IsTableRefused}
 use Rattle.lusdist_commands.specs.Refused.IsToldOf.{rule, flat}
-use Rattle.lusdist_commands.specs.Stopped.{IsUnread, IsScheduleRefused, HasNoFlat, StopsAtProgram, StopsAtPlan, StopsAtJob, IsEvalStopped, IsReplayStopped, IsRunStopped, IsRequestStopped}
+use Rattle.lusdist_commands.specs.Stopped.{IsUnread, IsScheduleRefused, HasNoFlat, StopsAtProgram, StopsAtPlan, StopsAtJob, IsEvalRefused, IsEvalStopped, IsReplayStopped, IsRunStopped, IsRequestStopped}
 use Rattle.lusdist_commands.specs.Stopped.HasNoFlat.{unspelled, unruled}
 use Rattle.lusdist_commands.specs.Stopped.StopsAtProgram.{program_unread, program_refused}
 use Rattle.lusdist_commands.specs.Stopped.StopsAtPlan.{no_program, place_unread, place_refused}
 use Rattle.lusdist_commands.specs.Stopped.IsCheckStopped.{check_program, check_memory}
+use Rattle.lusdist_commands.specs.Mistakes.{mistake_in}
+use Rattle.lusdist_commands.specs.Stopped.IsEvalRefused.{eval_mistaken, eval_stopped}
 use Rattle.lusdist_commands.specs.Stopped.IsEvalStopped.{eval_program, eval_unread, eval_table, eval_fault, eval_memory}
 use Rattle.lusdist_commands.specs.Stopped.IsPlanStopped.{plan_files, plan_memory}
 use Rattle.lusdist_commands.specs.Stopped.StopsAtJob.{no_plan, table_unread, table_refused}
@@ -36,7 +38,7 @@ use Rattle.lusdist_commands.specs.Stopped.IsRunStopped.{run_job, run_fault, run_
 use Rattle.lusdist_commands.specs.Exact.{HasOneText, SaysNothing}
 use Rattle.lusdist_commands.specs.Explained.{code_in, IsExplainStopped}
 use Rattle.lusdist_commands.specs.Explained.IsExplainStopped.{explain_unknown, explain_memory}
-use Rattle.lusdist_commands.proofs.Exclusive.{memory_is, unread_memory, program_memory, plan_memory_of, job_memory_of, refused_memory, posed_flat}
+use Rattle.lusdist_commands.proofs.Exclusive.{memory_is, none_some, unread_memory, program_memory, plan_memory_of, job_memory_of, refused_memory, posed_flat}
 
 -- ---- the status of a stop by what it is of
 
@@ -329,11 +331,17 @@ module _ (gives : List ℕ → Option (List ℕ) → Type 0) (settled : HasOneTe
   explain_status code a b (explain_unknown name is none e) (explain_memory m) na nb = absurd (nb (memory_is b OutOfMemory m tt))
   explain_status code a b (explain_unknown name is none e) (explain_unknown other also nothing m) na nb = ap status_of e ∙ sym (ap status_of m)
 
+  refused_status : (request : EvalRequest) (a b : Stop) → IsEvalRefused gives request a → IsEvalRefused gives request b → (¬ SaysNothing a) → (¬ SaysNothing b) → status_of a ≡ status_of b
+  refused_status request a b (eval_mistaken mistake found e) (eval_mistaken other also d) na nb = ap status_of e ∙ sym (ap status_of d)
+  refused_status request a b (eval_mistaken mistake found e) (eval_stopped meant y) na nb = absurd (none_some (mistake_in request) mistake meant found)
+  refused_status request a b (eval_stopped meant x) (eval_mistaken mistake found e) na nb = absurd (none_some (mistake_in request) mistake meant found)
+  refused_status request a b (eval_stopped meant x) (eval_stopped same y) na nb = eval_status request a b x y na nb
+
   pub one_status_of : (request : Request) (a b : Stop) → IsRequestStopped gives request a → IsRequestStopped gives request b → (¬ SaysNothing a) → (¬ SaysNothing b) → status_of a ≡ status_of b
   one_status_of (Check request) a b (check_program x) (check_program y) na nb = program_status request.program.now request.main.now a b x y na nb
   one_status_of (Check request) a b (check_memory e) y na nb = absurd (na (memory_is a OutOfMemory e tt))
   one_status_of (Check request) a b (check_program x) (check_memory e) na nb = absurd (nb (memory_is b OutOfMemory e tt))
-  one_status_of (Eval request) a b x y na nb = eval_status request a b x y na nb
+  one_status_of (Eval request) a b x y na nb = refused_status request a b x y na nb
   one_status_of (Plan request) a b (plan_files x) (plan_files y) na nb = plan_status request.program.now request.place.now request.main.now a b x y na nb
   one_status_of (Plan request) a b (plan_memory e) y na nb = absurd (na (memory_is a OutOfMemory e tt))
   one_status_of (Plan request) a b (plan_files x) (plan_memory e) na nb = absurd (nb (memory_is b OutOfMemory e tt))

@@ -1,6 +1,6 @@
 -- What an evaluation gives, in the words of the source.
-use Rattle.std.proofs.Common.{Option, ◌≡◌, ℕ, false, List, [], map, refl, sym, ap, ◌∙◌, subst}
-use Rattle.std.specs.Prelude.{slice_get, IsUtf8}
+use Rattle.std.proofs.Common.{Option, ◌≡◌, ◌<◌, ◌≤◌, ◌+◌, ℕ, zero, suc, Bool, true, false, cond, List, [], ◌∷◌, length, filter, map, refl, sym, ap, ◌∙◌, subst, arith}
+use Rattle.std.specs.Prelude.{Result, Ok, Err, IfOk, OnOk, slice_get, IsUtf8}
 use Rattle.lutree.specs.Tree.{ProgramTree}
 use Rattle.luflow.specs.declared.data.Status.{Status}
 use Rattle.luflow.specs.Program.{FlatProgram, Table}
@@ -11,22 +11,25 @@ use Rattle.luflow.proofs.Solutions.{IsSolution-solution}
 use Rattle.lusource.specs.Source.{SourceStreams, IsSourceSolution}
 use Rattle.lusource.specs.Faults.{IsSourceFault}
 use Rattle.luflow.specs.Tables.{OutputColumn, Fits}
-use Rattle.luflow.specs.Variables.{inputs_of}
+use Rattle.luflow.specs.declared.variable.Variable.{Variable}
+use Rattle.luflow.specs.Variables.{inputs_of, outputs_of, is_output}
 use Rattle.lusyn.specs.Texts.{SpellsText}
 use Rattle.lucore.specs.Result.{IsFlatOf}
-use Rattle.lueval.specs.Whole.{AreStreams, AreMeant, HasNoFault}
-use Rattle.lueval.specs.Outputs.{outputs_in}
+use Rattle.lueval.specs.Whole.{AreStreams, AreMeant, AreWholeColumns, AreWholeOutputs, HasNoFault}
+use Rattle.lueval.specs.declared.error.EvalError.{EvalError}
+use Rattle.lueval.specs.Outputs.{outputs_in, columns_in}
 use Rattle.lueval.proofs.Told.{Pairs, names, stream_at}
+use Rattle.lueval.proofs.Named.{names as all_names, stream_at as all_at}
 use Rattle.lutab.specs.Table.{IsTextOf, is_too_long}
 use Rattle.lusdist_shell.specs.declared.request.EvalRequest.{EvalRequest}
 use Rattle.lusdist_commands.specs.declared.stop.Stop.{Stop}
 use Rattle.lusdist_commands.specs.declared.stop.Stop.TheVariants.{CannotRead, NotAscii, Syntax, Rules, Flat, Place, Table as BadTable, Schedule, Fault, LinkLost, NoThread, OutOfMemory, Mistaken}
-use Rattle.lusdist_commands.specs.Evaluated.{AreEvaluated, AreOutputsOf, IsPosed, IsPosedBy, IsStopped, IsFaultTold}
+use Rattle.lusdist_commands.specs.Evaluated.{AreEvaluated, AreVariablesOf, IsPosed, IsPosedBy, IsStopped, IsFaultTold}
 use Rattle.lusdist_commands.specs.Stopped.{IsEvalStopped}
 use Rattle.lusdist_commands.specs.Stopped.IsEvalStopped.{eval_fault, eval_memory}
 
 -- the outputs among the streams of the main variables
-pub are_evaluated : (flat : FlatProgram) (inputs : Table) (streams : List (List Status)) (outputs : List OutputColumn) → AreStreams flat inputs streams → AreMeant flat inputs streams → HasNoFault flat inputs → outputs ≡ outputs_in flat.variables streams → AreEvaluated flat inputs outputs
+pub are_evaluated : (flat : FlatProgram) (inputs : Table) (streams : List (List Status)) (outputs : List OutputColumn) → AreStreams flat inputs streams → AreMeant flat inputs streams → HasNoFault flat inputs → outputs ≡ outputs_in flat.variables streams → AreEvaluated flat inputs (outputs_of flat.variables) outputs
 are_evaluated flat inputs streams outputs are meant fine is =
     let pairs : Pairs flat.variables streams = sym are.count in
     record {
@@ -37,9 +40,42 @@ are_evaluated flat inputs streams outputs are meant fine is =
       no_fault = fine;
     }
 
+-- all streams of the main variables
+pub all_evaluated : (flat : FlatProgram) (inputs : Table) (streams : List (List Status)) (columns : List OutputColumn) → AreStreams flat inputs streams → AreMeant flat inputs streams → HasNoFault flat inputs → columns ≡ columns_in flat.variables streams → AreEvaluated flat inputs flat.variables columns
+all_evaluated flat inputs streams columns are meant fine is =
+    let pairs : Pairs flat.variables streams = sym are.count in
+    record {
+      named = ap (map (λ (c : OutputColumn). c.name)) is ∙ all_names flat.variables streams pairs;
+      streams = λ tree main agrees σ solves k c there.
+          let w = all_at flat.variables streams k c (ap (λ xs. slice_get xs k) (sym is) ∙ there) in
+          meant tree main agrees σ solves w.number w.variable c.statuses w.there w.stream ∙ ap (λ name. marks (σ [] name) inputs.instants) (sym w.named);
+      no_fault = fine;
+    }
+
+-- so are those that an evaluation answers
+pub outputs_from : (r : Result (List OutputColumn) EvalError) (flat : FlatProgram) (inputs : Table) → IfOk r (AreWholeOutputs flat inputs) → OnOk r (HasNoFault flat inputs) → IfOk r (AreEvaluated flat inputs (outputs_of flat.variables))
+outputs_from (Ok outputs) flat inputs are fine = are_evaluated flat inputs are.streams outputs are.solution are.source fine are.are
+outputs_from (Err e) flat inputs are fine = tt
+
+pub columns_from : (r : Result (List OutputColumn) EvalError) (flat : FlatProgram) (inputs : Table) → IfOk r (AreWholeColumns flat inputs) → OnOk r (HasNoFault flat inputs) → IfOk r (AreEvaluated flat inputs flat.variables)
+columns_from (Ok columns) flat inputs are fine = all_evaluated flat inputs are.streams columns are.solution are.source fine are.are
+columns_from (Err e) flat inputs are fine = tt
+
+more_one : (b : Bool) (x : Variable) (os xs : List Variable) → length os ≤ length xs → length (cond b (x ∷ os) os) ≤ length (x ∷ xs)
+more_one true x os xs le = omega (arith, le)
+more_one false x os xs le = omega (arith, le)
+
+few : (xs : List Variable) → length (outputs_of xs) ≤ length xs
+few [] = omega arith
+few (x ∷ xs) = more_one (is_output x.role) x (outputs_of xs) xs (few xs)
+
+-- a program with an output has a main variable
+pub some_variable : (xs : List Variable) → 0 < length (outputs_of xs) → 0 < length xs
+some_variable xs some = let le = few xs in omega (arith, some, le)
+
 -- they are those of a source with which the flat program agrees
-pub of_source : (text main table : List ℕ) (tree : ProgramTree) (flat : FlatProgram) (inputs : Table) (outputs : List OutputColumn) → IsPosed text main table tree flat inputs → AreEvaluated flat inputs outputs → AreOutputsOf tree main flat inputs outputs
-of_source text main table tree flat inputs outputs posed are =
+pub of_source : (text main table : List ℕ) (tree : ProgramTree) (flat : FlatProgram) (inputs : Table) (variables : List Variable) (columns : List OutputColumn) → IsPosed text main table tree flat inputs → AreEvaluated flat inputs variables columns → AreVariablesOf tree main flat inputs variables columns
+of_source text main table tree flat inputs variables columns posed are =
     record {
       named = are.named;
       streams = are.streams tree main posed.agrees;

@@ -41,7 +41,7 @@ use Rattle.luweave.specs.Headline.{IsFaithful}
 use Rattle.luweave_text.specs.WorldText.{body_text, site_name, site_line, standing_text, line_of, AreSiteLines, NoSites, OneSiteMore, AreOutputLines, NoVariables, NoOutput, OneOutputMore, IsWorldText}
 use Rattle.lusdist_commands.specs.TellingText.{link_text, ending_text, site_text, output_text, telling_text, link_told, link_there, links_told, ending_of, IsSiteTold, IsOutputTold, IsToldBy}
 use Rattle.luweave_text.proofs.Texts.{count_told, count_other}
-use Rattle.lusdist_commands.proofs.NewSites.{pushed}
+use Rattle.luweave.proofs.NewSites.{pushed}
 use Rattle.lusdist_commands.proofs.Spelled.{names_are}
 
 -- the bodies of numbered messages

@@ -1,5 +1,5 @@
 -- What an evaluation prints, and what it says of a fault.
-use Rattle.std.specs.Prelude.{◌≡◌, ◌<◌, ℕ, false, List, [], map, Option, Some, slice_get, IsUtf8}
+use Rattle.std.specs.Prelude.{◌≡◌, ◌<◌, ℕ, false, List, [], map, Option, Some, None, slice_get, IsUtf8, if◌then◌else◌}
 use Rattle.lutree.specs.Tree.{ProgramTree}
 use Rattle.luflow.specs.declared.form.FaultKind.{FaultKind}
 use Rattle.luflow.specs.declared.variable.Variable.{Variable}
@@ -16,8 +16,10 @@ use Rattle.lusyn.specs.Texts.{SpellsText}
 use Rattle.lucore.specs.Result.{IsFlatOf}
 use Rattle.lueval.specs.Whole.{IsFirstFault, HasNoFault}
 use Rattle.lutab.specs.Table.{IsTextOf, is_too_long}
-use Rattle.lutab.specs.Outputs.{output_text}
+use Rattle.lutab.specs.Outputs.{shown_of, kinds_of, column_text}
+use Rattle.luchart.specs.Chronogram.{chart_text}
 use Rattle.lusdist_shell.specs.declared.request.EvalRequest.{EvalRequest}
+use Rattle.lusdist_commands.specs.Mistakes.{mistake_in}
 use Rattle.lusdist_commands.specs.declared.stop.Stop.{Stop}
 use Rattle.lusdist_commands.specs.declared.stop.Stop.TheVariants.{Fault, OutOfMemory}
 
@@ -32,25 +34,36 @@ pub record IsPosed (text main table : List ℕ) (tree : ProgramTree) (flat : Fla
   pub agrees : Agrees tree main inputs flat
   pub one_meaning : HasOneMeaning tree main inputs
 
--- The outputs of the main node by name, in order of declaration, each with what every solution of the program gives that
+-- These variables of the main node by name, in this order, each with what every solution of the program gives that
 -- variable at all instants of the table; and no operator is a fault, neither of the flat program nor of the source.
-pub record AreOutputsOf (tree : ProgramTree) (main : List ℕ) (flat : FlatProgram) (inputs : Table) (outputs : List OutputColumn) : Type 0 where
-  pub named : map (λ (c : OutputColumn). c.name) outputs ≡ map (λ (x : Variable). x.name) (outputs_of flat.variables)
-  pub streams : (σ : SourceStreams) → IsSourceSolution tree main inputs σ → (k : ℕ) (c : OutputColumn) → slice_get outputs k ≡ Some c → map Known c.statuses ≡ marks (σ [] c.name) inputs.instants
+pub record AreVariablesOf (tree : ProgramTree) (main : List ℕ) (flat : FlatProgram) (inputs : Table) (variables : List Variable) (columns : List OutputColumn) : Type 0 where
+  pub named : map (λ (c : OutputColumn). c.name) columns ≡ map (λ (x : Variable). x.name) variables
+  pub streams : (σ : SourceStreams) → IsSourceSolution tree main inputs σ → (k : ℕ) (c : OutputColumn) → slice_get columns k ≡ Some c → map Known c.statuses ≡ marks (σ [] c.name) inputs.instants
   pub no_fault : HasNoFault flat inputs
   pub no_source_fault : (σ : SourceStreams) → IsSourceSolution tree main inputs σ → (name : List ℕ) (t : ℕ) (kind : FaultKind) → t < inputs.instants → ¬ IsSourceFault tree main inputs σ name t kind
 
--- the outputs of a flat program in the words of each source with which it agrees
-pub record AreEvaluated (flat : FlatProgram) (inputs : Table) (outputs : List OutputColumn) : Type 0 where
-  pub named : map (λ (c : OutputColumn). c.name) outputs ≡ map (λ (x : Variable). x.name) (outputs_of flat.variables)
-  pub streams : (tree : ProgramTree) (main : List ℕ) → Agrees tree main inputs flat → (σ : SourceStreams) → IsSourceSolution tree main inputs σ → (k : ℕ) (c : OutputColumn) → slice_get outputs k ≡ Some c → map Known c.statuses ≡ marks (σ [] c.name) inputs.instants
+-- the outputs of the main node, in order of declaration
+abbrev pub AreOutputsOf : ProgramTree → List ℕ → FlatProgram → Table → List OutputColumn → Type 0
+AreOutputsOf tree main flat inputs outputs = AreVariablesOf tree main flat inputs (outputs_of flat.variables) outputs
+
+-- these main variables of a flat program in the words of each source with which it agrees
+pub record AreEvaluated (flat : FlatProgram) (inputs : Table) (variables : List Variable) (columns : List OutputColumn) : Type 0 where
+  pub named : map (λ (c : OutputColumn). c.name) columns ≡ map (λ (x : Variable). x.name) variables
+  pub streams : (tree : ProgramTree) (main : List ℕ) → Agrees tree main inputs flat → (σ : SourceStreams) → IsSourceSolution tree main inputs σ → (k : ℕ) (c : OutputColumn) → slice_get columns k ≡ Some c → map Known c.statuses ≡ marks (σ [] c.name) inputs.instants
   pub no_fault : HasNoFault flat inputs
 
--- their table, as a text
-pub record IsOutputTable (flat : FlatProgram) (inputs : Table) (text : List ℕ) : Type 0 where
-  pub outputs : List OutputColumn
-  pub are_outputs : AreEvaluated flat inputs outputs
-  pub text_is : text ≡ output_text flat outputs
+-- The variables that a request asks for, in the form that it asks for: as a table with a line for each instant, or as a chart of the instants from one to
+-- another.
+abbrev pub shown_text : EvalRequest → FlatProgram → List OutputColumn → List ℕ
+shown_text request flat columns =
+    if request.chronogram then chart_text flat.types (kinds_of (shown_of request.all flat.variables)) columns request.from request.to
+    else column_text flat.types (kinds_of (shown_of request.all flat.variables)) columns
+
+-- what a request asks for of a flat program and a table, as a text
+pub record IsShown (request : EvalRequest) (flat : FlatProgram) (inputs : Table) (text : List ℕ) : Type 0 where
+  pub columns : List OutputColumn
+  pub are_columns : AreEvaluated flat inputs (shown_of request.all flat.variables) columns
+  pub text_is : text ≡ shown_text request flat columns
 
 -- the program and the table that the files of a request gave
 pub record IsPosedBy (gives : List ℕ → Option (List ℕ) → Type 0) (request : EvalRequest) (flat : FlatProgram) (inputs : Table) : Type 0 where
@@ -61,14 +74,16 @@ pub record IsPosedBy (gives : List ℕ → Option (List ℕ) → Type 0) (reques
   pub tree : ProgramTree
   pub posed : IsPosed program request.main.now table tree flat inputs
 
--- the text of an evaluation: the table of the outputs of the program and the table that the files of a request gave
+-- The text of an evaluation: the outputs of the program that the files of a request gave, or all variables of its main node, in order of declaration, at the
+-- table that they gave; as a table or as a chart.
 pub record IsEvaluated (gives : List ℕ → Option (List ℕ) → Type 0) (request : EvalRequest) (text : List ℕ) : Type 0 where
+  pub meant : mistake_in request ≡ None
   pub flat : FlatProgram
   pub inputs : Table
   pub asked : IsPosedBy gives request flat inputs
-  pub outputs : List OutputColumn
-  pub are_outputs : AreOutputsOf asked.tree request.main.now flat inputs outputs
-  pub text_is : text ≡ output_text flat outputs
+  pub columns : List OutputColumn
+  pub are_columns : AreVariablesOf asked.tree request.main.now flat inputs (shown_of request.all flat.variables) columns
+  pub text_is : text ≡ shown_text request flat columns
 
 -- the fault of the least instant, and there of the least rank, by the name of the main variable in whose equation it stands
 pub record IsFaultTold (flat : FlatProgram) (inputs : Table) (name : List ℕ) (instant : ℕ) (kind : FaultKind) : Type 0 where

@@ -13,7 +13,7 @@ use Rattle.lusdist_commands.specs.declared.stop.Stop.{Stop}
 use Rattle.lusdist_commands.specs.Asked.{IsAnswer, AreNotes}
 use Rattle.lusdist_commands.specs.Stopped.{IsRequestStopped}
 use Rattle.lusdist_commands.specs.Statuses.{status_of}
-use Rattle.lusdist_commands.specs.Lines.{line_of}
+use Rattle.lusdist_commands.specs.Reasons.{HasRefusal}
 
 -- the two streams before and after a call, and what each of them holds, where that is known
 pub record Streams (W V : Type 0) : Type 0 where
@@ -31,6 +31,11 @@ pub record HasOutput {W V : Type 0} (streams : Streams W V) (bytes notes : List 
   pub noted : HasPut streams.held_err streams.err streams.err_after notes
   pub silent : notes ≡ [] → streams.err_after ≡ streams.err
 
+-- the error stream has the line of a stop more, with its reason behind it where that is asked for, and the output is as it was
+pub record HasStopped {W V : Type 0} (gives : List ℕ → Option (List ℕ) → Type 0) (request : Request) (stop : Stop) (streams : Streams W V) : Type 0 where
+  pub error : HasRefusal gives request stop streams.held_err streams.err streams.err_after
+  pub kept : streams.out_after ≡ streams.out
+
 -- the error stream has this line more, and the output is as it was
 pub record HasError {W V : Type 0} (streams : Streams W V) (line : List ℕ) : Type 0 where
   pub error : HasLine streams.held_err streams.err streams.err_after line
@@ -41,11 +46,11 @@ pub record HasNoOutput {W V : Type 0} (streams : Streams W V) : Type 0 where
   pub failed : streams.out_after.failed ≡ true
   pub error : HasLine streams.held_err streams.err streams.err_after (codes "F02 CannotWrite")
 
--- What is asked for ends with this status: with 0 where the answer is printed, with its notes on the error stream, with that of a refusal, whose line is told, or with
+-- What is asked for ends with this status: with 0 where the answer is printed, with its notes on the error stream, with that of a refusal, whose line is told, and its reason where that is asked for, or with
 -- 3 where the answer couldn't be written, of which the output has a beginning.
 pub data IsEnded {W V : Type 0} (gives : List ℕ → Option (List ℕ) → Type 0) (request : Request) (status : ℕ) (streams : Streams W V) : Type 0 where
   answered : (text notes : List ℕ) → status ≡ 0 → IsAnswer gives request text → AreNotes gives request notes → HasOutput streams text notes → IsEnded gives request status streams
-  refused : (stop : Stop) → status ≡ status_of stop → IsRequestStopped gives request stop → HasError streams (line_of stop) → IsEnded gives request status streams
+  refused : (stop : Stop) → status ≡ status_of stop → IsRequestStopped gives request stop → HasStopped gives request stop streams → IsEnded gives request status streams
   unwritten : (text : List ℕ) → status ≡ 3 → IsAnswer gives request text → HasNoOutput streams → HasBeginning streams.held_out streams.out streams.out_after text → IsEnded gives request status streams
 
 -- help, or the version

@@ -8,5 +8,6 @@ pub mod Evaluated
 pub mod TellingText
 pub mod Lines
 pub mod Left
+pub mod Reasons
 pub mod Exact
 pub mod Ran

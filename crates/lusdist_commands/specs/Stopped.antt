@@ -20,7 +20,9 @@ use Rattle.lusdist_shell.specs.declared.request.Request.{Request}
 use Rattle.lusdist_shell.specs.declared.request.Request.TheVariants.{Check, Eval, Plan, Replay, Run as AsksRun, Explain}
 use Rattle.lusdist_shell.specs.Request.{IsAskedBy}
 use Rattle.lusdist_commands.specs.declared.stop.Stop.{Stop}
-use Rattle.lusdist_commands.specs.declared.stop.Stop.TheVariants.{CannotRead, Schedule, Fault, LinkLost, NoThread, OutOfMemory}
+use Rattle.lusdist_commands.specs.declared.stop.Stop.TheVariants.{CannotRead, Schedule, Fault, LinkLost, NoThread, OutOfMemory, Mistaken}
+use Rattle.lusdist_commands.specs.declared.mistake.Mistake.{Mistake}
+use Rattle.lusdist_commands.specs.Mistakes.{mistake_in}
 use Rattle.lusdist_commands.specs.Statuses.{status_of}
 use Rattle.luflow.specs.Variables.{variable_name}
 use Rattle.lusource.specs.Source.{SourceStreams, IsSourceSolution}
@@ -72,6 +74,11 @@ pub data IsEvalStopped (gives : List ℕ → Option (List ℕ) → Type 0) (requ
   eval_fault : (name : List ℕ) (instant : ℕ) (kind : FaultKind) → stop ≡ Fault name instant kind → IsFaultOf gives request name instant kind → IsEvalStopped gives request stop
   eval_memory : stop ≡ OutOfMemory → IsEvalStopped gives request stop
 
+-- What a request asks of an evaluation stops so: at what can't be meant; or, where it can be, at its files and at a fault.
+pub data IsEvalRefused (gives : List ℕ → Option (List ℕ) → Type 0) (request : EvalRequest) (stop : Stop) : Type 0 where
+  eval_mistaken : (mistake : Mistake) → mistake_in request ≡ Some mistake → stop ≡ Mistaken mistake → IsEvalRefused gives request stop
+  eval_stopped : mistake_in request ≡ None → IsEvalStopped gives request stop → IsEvalRefused gives request stop
+
 -- a plan of what a request asks for stops so
 pub data IsPlanStopped (gives : List ℕ → Option (List ℕ) → Type 0) (request : PlanRequest) (stop : Stop) : Type 0 where
   plan_files : StopsAtPlan gives request.program.now request.place.now request.main.now stop → IsPlanStopped gives request stop
@@ -113,7 +120,7 @@ pub data IsRunStopped (gives : List ℕ → Option (List ℕ) → Type 0) (reque
 -- what a request asks for stops so
 abbrev pub IsRequestStopped : (List ℕ → Option (List ℕ) → Type 0) → Request → Stop → Type 0
 IsRequestStopped gives (Check request) stop = IsCheckStopped gives request stop
-IsRequestStopped gives (Eval request) stop = IsEvalStopped gives request stop
+IsRequestStopped gives (Eval request) stop = IsEvalRefused gives request stop
 IsRequestStopped gives (Plan request) stop = IsPlanStopped gives request stop
 IsRequestStopped gives (Replay request) stop = IsReplayStopped gives request stop
 IsRequestStopped gives (AsksRun request) stop = IsRunStopped gives request stop

@@ -4,9 +4,9 @@
 //! - [`sources`]: from the texts of the files to a program, its flat program, a plan, a job, its turns, a table.
 //! - [`jobs`]: the job of a program, a placement and a table.
 //! - [`planning`]: the plan of a program at a placement, and its texts.
-//! - [`evaluating`]: the table of a program's outputs; [`running`]: the same, made by its sites on threads.
-//! - [`sites`]: the new sites of a job.
-//! - [`explaining`]: a page of the manual.
+//! - [`evaluating`]: the main variables of a program at a table, as a table or as a chart; [`running`]: the table of its outputs, made by its sites on
+//!   threads.
+//! - [`explaining`]: a page of the manual. `reasons`: what is told of a refusal behind its line.
 //! - [`Stop`]: why a call stops, and with which status; [`Mistake`]: what is wrong with words that the command line takes.
 //! - [`laws`]: a call has one outcome, one refusal and one status.
 //!
@@ -19,9 +19,9 @@ pub mod jobs;
 pub mod laws;
 mod mistake;
 pub mod planning;
+mod reasons;
 pub mod running;
 mod serve;
-pub mod sites;
 pub mod sources;
 mod stop;
 

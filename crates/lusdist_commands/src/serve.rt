@@ -1,6 +1,6 @@
 //! A call of the program.
 
-ghost use Rattle.std.specs.Prelude.{◌≡◌, ◌<◌, ◌⊎◌, ℕ, [], length, true, List, map, IfOk, IfErr, string_bytes, codes};
+ghost use Rattle.std.specs.Prelude.{◌≡◌, ◌<◌, ◌⊎◌, ℕ, [], length, true, List, map, IfOk, IfErr, None, string_bytes, codes};
 ghost use Rattle.std.specs.Io.KnownBytes.{Appends};
 ghost use Rattle.clap.specs.Words.{takes};
 ghost use Rattle.lusdist_shell.specs.CommandLine.{lusdist};
@@ -12,17 +12,19 @@ ghost use Rattle.lusdist_commands.specs.Asked.{IsAskedFor, IsWorldOf, AreNotesOf
 ghost use Rattle.luflow.specs.Sound.{IsFit};
 ghost use Rattle.luflow.specs.Variables.{outputs_of};
 ghost use Rattle.lusdist_commands.specs.Evaluated.{IsPosedBy, IsEvaluated};
-ghost use Rattle.lusdist_commands.specs.Stopped.{IsCheckStopped, IsEvalStopped, IsPlanStopped, IsReplayStopped, IsRunStopped, IsRequestStopped, IsRefusal};
+ghost use Rattle.lusdist_commands.specs.Stopped.{IsCheckStopped, IsEvalRefused, IsEvalStopped, IsPlanStopped, IsReplayStopped, IsRunStopped, IsRequestStopped, IsRefusal};
+ghost use Rattle.lusdist_commands.specs.Mistakes.{mistake_in};
 ghost use Rattle.lusdist_commands.specs.Left.{IsEnded, IsCallEnded};
 ghost use Rattle.lusdist_commands.specs.declared.stop.Stop.{Stop};
 ghost use Rattle.lusdist_commands.specs.declared.stop.Stop.TheVariants.{OutOfMemory};
 
-use crate::evaluating::output_table;
+use crate::evaluating::evaluation;
 use crate::explaining::explained;
 use crate::jobs::job_for;
+use crate::mistake::mistake_in;
 use crate::planning::{plan_text, planned};
+use crate::reasons::put_refusal;
 use crate::running::run_table;
-use crate::sites::new_sites;
 use crate::sources::{flattened, inputs_in, program_of, read, turns_of};
 use crate::stop::Stop;
 use luflow::{Flat, Inputs};
@@ -32,7 +34,7 @@ use lusdist_shell::{
     Sink, parse, put_mistake, put_notes, put_out,
 };
 use lusyn::print_program;
-use luweave::{World, replay};
+use luweave::{World, new_sites, replay};
 use luweave_text::{text_of_world, trace};
 use std::alloc::Global;
 use std::io::Write;
@@ -191,14 +193,31 @@ fn posed<F: Files>(
     Ok((flat, inputs))
 }
 
-/// What an evaluation prints: the table of the outputs of the program at the input table.
-fn eval_text<F: Files>(alloc: Global, request: EvalRequest<'_>, files: &F) -> Result<String, Stop>
+/// What the program and the table of an evaluation give: its outputs, or all its main variables, as a table or as a chart.
+fn evaluated_text<F: Files>(
+    alloc: Global,
+    request: EvalRequest<'_>,
+    files: &F,
+) -> Result<String, Stop>
+    requires { mistake_in request ≡ None }
     ensures text { IfOk result (λ text. IsEvaluated (F.gives files.now) request.entry
         (string_bytes text)) }
     ensures stopped { IfErr result (IsEvalStopped (F.gives files.now) request.entry) }
 {
     let (flat, inputs) = posed(alloc, request, files)?;
-    output_table(alloc, &flat, &inputs)
+    evaluation(alloc, request, &flat, &inputs)
+}
+
+/// What an evaluation prints, where what it is asked for can be meant.
+fn eval_text<F: Files>(alloc: Global, request: EvalRequest<'_>, files: &F) -> Result<String, Stop>
+    ensures text { IfOk result (λ text. IsEvaluated (F.gives files.now) request.entry
+        (string_bytes text)) }
+    ensures stopped { IfErr result (IsEvalRefused (F.gives files.now) request.entry) }
+{
+    match mistake_in(request) {
+        Some(mistake) => Err(Stop::Mistaken(mistake)),
+        None => evaluated_text(alloc, request, files),
+    }
 }
 
 /// What a plan prints: where each variable stands, and all links, in the form that is asked for.
@@ -306,7 +325,7 @@ fn perform<R: Threads + Wait + Sync, F: Files, P: Progress, W: Write, V: Write>(
         Ok(found) => put_said(out, err, &found),
         Err(stop) => {
             let status = stop.status();
-            err.put_line(stop);
+            put_refusal(alloc, files, request, stop, err);
             status
         }
     }
@@ -315,7 +334,7 @@ fn perform<R: Threads + Wait + Sync, F: Files, P: Progress, W: Write, V: Write>(
 /// One call of the program, of which the first word is the program's name. Answers the exit status: 0 where it is done,
 /// also where a site of a replay faulted, and for help; 1 where a text is refused; 2 for a mistake in the words or a file that
 /// can't be read; 3 for a fault of an evaluation or a run, a run that was cut short, want of memory, or output that can't be
-/// written. A refusal is one line on the error stream; where a replay is asked to trace its turns, they are told there. A run waits for its threads; the other commands wait for nobody.
+/// written. A refusal is one line on the error stream, with its reason behind it where that is asked for; where a replay is asked to trace its turns, they are told there. A run waits for its threads; the other commands wait for nobody.
 ///
 /// Where a run is asked to tell how far it has come, the progress is told, by the threads that serve the sites. It is handed the number
 /// of a site and an instant and nothing of the values; what it does with them isn't in the contract.

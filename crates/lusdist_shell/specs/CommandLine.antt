@@ -17,24 +17,38 @@ main_rule = record (new_rule (codes "main")) { long = Some (codes "main"); value
 abbrev pub flag_rule : Text → Rule
 flag_rule name = record (new_rule name) { long = Some name; action = Some SetTrue }
 
--- `check PROGRAM [--main NAME]`
+-- a command that judges a program: `[--main NAME] [--explain]`
+abbrev pub judging : Text → App
+judging name = with_rule (with_rule (new_app name) main_rule) (flag_rule (codes "explain"))
+
+-- `check PROGRAM [--main NAME] [--explain]`
 abbrev pub check : App
-check = with_rule (with_rule (new_app (codes "check")) main_rule) (path_rule (codes "PROGRAM"))
+check = with_rule (judging (codes "check")) (path_rule (codes "PROGRAM"))
 
--- `eval PROGRAM TABLE [--main NAME]`
+-- the last instant that a table may have
+abbrev pub last_instant : ℕ
+last_instant = 999999
+
+-- `--from T` or `--to T`, an instant, counted from 0
+abbrev pub instant_rule : Text → Rule
+instant_rule name = record (new_rule name) { long = Some name; value_names = 1; parser = Some (Unsigned 0 last_instant) }
+
+-- `eval PROGRAM TABLE [--main NAME] [--explain] [--all] [--chronogram] [--from T] [--to T]`
 abbrev pub eval : App
-eval = with_rule (with_rule (with_rule (new_app (codes "eval")) main_rule) (path_rule (codes "PROGRAM"))) (path_rule (codes "TABLE"))
+eval =
+    with_rule (with_rule (with_rule (with_rule (with_rule (with_rule (judging (codes "eval"))
+    (flag_rule (codes "all"))) (flag_rule (codes "chronogram"))) (instant_rule (codes "from"))) (instant_rule (codes "to"))) (path_rule (codes "PROGRAM"))) (path_rule (codes "TABLE"))
 
--- `plan PROGRAM PLACE [--main NAME] [--text] [--dot]`
+-- `plan PROGRAM PLACE [--main NAME] [--explain] [--text] [--dot]`
 abbrev pub plan : App
 plan =
-    with_rule (with_rule (with_rule (with_rule (with_rule (new_app (codes "plan")) main_rule)
+    with_rule (with_rule (with_rule (with_rule (judging (codes "plan"))
     (flag_rule (codes "text"))) (flag_rule (codes "dot"))) (path_rule (codes "PROGRAM"))) (path_rule (codes "PLACE"))
 
--- `replay PROGRAM PLACE TABLE SCHEDULE [--main NAME] [--finish] [--trace]`
+-- `replay PROGRAM PLACE TABLE SCHEDULE [--main NAME] [--explain] [--finish] [--trace]`
 abbrev pub replay : App
 replay =
-    with_rule (with_rule (with_rule (with_rule (with_rule (with_rule (with_rule (new_app (codes "replay")) main_rule)
+    with_rule (with_rule (with_rule (with_rule (with_rule (with_rule (judging (codes "replay"))
     (flag_rule (codes "finish"))) (flag_rule (codes "trace"))) (path_rule (codes "PROGRAM"))) (path_rule (codes "PLACE"))) (path_rule (codes "TABLE"))) (path_rule (codes "SCHEDULE"))
 
 -- how many workers may serve the sites
@@ -48,10 +62,10 @@ most_workers = 16
 abbrev pub workers_rule : Rule
 workers_rule = record (new_rule (codes "workers")) { long = Some (codes "workers"); value_names = 1; parser = Some (Unsigned fewest_workers most_workers) }
 
--- `run PROGRAM PLACE TABLE [--main NAME] [--workers W] [--progress]`
+-- `run PROGRAM PLACE TABLE [--main NAME] [--explain] [--workers W] [--progress]`
 abbrev pub run : App
 run =
-    with_rule (with_rule (with_rule (with_rule (with_rule (with_rule (new_app (codes "run")) main_rule) workers_rule)
+    with_rule (with_rule (with_rule (with_rule (with_rule (judging (codes "run")) workers_rule)
     (flag_rule (codes "progress"))) (path_rule (codes "PROGRAM"))) (path_rule (codes "PLACE"))) (path_rule (codes "TABLE"))
 
 -- a code, which may be left out

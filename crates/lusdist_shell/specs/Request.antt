@@ -15,7 +15,7 @@ use Rattle.lusdist_shell.specs.declared.request.ReplayRequest.{ReplayRequest}
 use Rattle.lusdist_shell.specs.declared.request.RunRequest.{RunRequest}
 use Rattle.lusdist_shell.specs.declared.request.Request.{Request}
 use Rattle.lusdist_shell.specs.declared.request.Request.TheVariants.{Check, Eval, Plan, Replay, Run, Explain}
-use Rattle.lusdist_shell.specs.CommandLine.{fewest_workers, most_workers, lusdist}
+use Rattle.lusdist_shell.specs.CommandLine.{fewest_workers, most_workers, last_instant, lusdist}
 
 -- the text that the matches of a command hold for an argument
 abbrev pub text_in : List Row → Text → Text
@@ -39,6 +39,12 @@ AreWorkersIn (Some text) workers = IsUnsignedIn fewest_workers most_workers text
 abbrev pub AreFew : Option ℕ → Type 0
 AreFew workers = IfSome workers (λ n. (fewest_workers ≤ n) × (n ≤ most_workers))
 
+-- The instant that the text for it spells, in decimal; there is none where there is no text. The command line takes no other text than that of an
+-- instant that a table may have.
+abbrev pub IsInstantIn : Option Text → Option ℕ → Type 0
+IsInstantIn None instant = instant ≡ None
+IsInstantIn (Some text) instant = IsUnsignedIn 0 last_instant text → instant ≡ Some (digits_value 10 (without_leading_plus text))
+
 -- there is a command, and it is `check`, `eval`, `plan`, `replay`, `run` or `explain`
 pub record IsCommand (command : Option (Text × List Row)) : Type 0 where
   pub found : Text × List Row
@@ -50,6 +56,7 @@ pub record IsCheckIn (command : Option (Text × List Row)) (request : CheckReque
   pub matches : List Row
   pub named : command ≡ Some (codes "check", matches)
   pub main : request.main.now ≡ text_in matches (codes "main")
+  pub explain : request.explain ≡ is_given matches (codes "explain")
   pub program : request.program.now ≡ text_in matches (codes "PROGRAM")
 
 -- The command is `eval`, and the request is what its matches hold, argument by argument.
@@ -57,14 +64,20 @@ pub record IsEvalIn (command : Option (Text × List Row)) (request : EvalRequest
   pub matches : List Row
   pub named : command ≡ Some (codes "eval", matches)
   pub main : request.main.now ≡ text_in matches (codes "main")
+  pub explain : request.explain ≡ is_given matches (codes "explain")
   pub program : request.program.now ≡ text_in matches (codes "PROGRAM")
   pub table : request.table.now ≡ text_in matches (codes "TABLE")
+  pub all : request.all ≡ is_given matches (codes "all")
+  pub chronogram : request.chronogram ≡ is_given matches (codes "chronogram")
+  pub from : IsInstantIn (first_of (codes "from") matches) request.from
+  pub to : IsInstantIn (first_of (codes "to") matches) request.to
 
 -- The command is `plan`, and the request is what its matches hold, argument by argument.
 pub record IsPlanIn (command : Option (Text × List Row)) (request : PlanRequest) : Type 0 where
   pub matches : List Row
   pub named : command ≡ Some (codes "plan", matches)
   pub main : request.main.now ≡ text_in matches (codes "main")
+  pub explain : request.explain ≡ is_given matches (codes "explain")
   pub program : request.program.now ≡ text_in matches (codes "PROGRAM")
   pub place : request.place.now ≡ text_in matches (codes "PLACE")
   pub form : request.form ≡ form_in matches
@@ -74,6 +87,7 @@ pub record IsReplayIn (command : Option (Text × List Row)) (request : ReplayReq
   pub matches : List Row
   pub named : command ≡ Some (codes "replay", matches)
   pub main : request.main.now ≡ text_in matches (codes "main")
+  pub explain : request.explain ≡ is_given matches (codes "explain")
   pub program : request.program.now ≡ text_in matches (codes "PROGRAM")
   pub place : request.place.now ≡ text_in matches (codes "PLACE")
   pub table : request.table.now ≡ text_in matches (codes "TABLE")
@@ -86,6 +100,7 @@ pub record IsRunIn (command : Option (Text × List Row)) (request : RunRequest) 
   pub matches : List Row
   pub named : command ≡ Some (codes "run", matches)
   pub main : request.main.now ≡ text_in matches (codes "main")
+  pub explain : request.explain ≡ is_given matches (codes "explain")
   pub program : request.program.now ≡ text_in matches (codes "PROGRAM")
   pub place : request.place.now ≡ text_in matches (codes "PLACE")
   pub table : request.table.now ≡ text_in matches (codes "TABLE")

@@ -4,7 +4,7 @@ ghost use Rattle.std.specs.Prelude.{◌≡◌, IfOk, false, codes};
 ghost use Rattle.clap.specs.Words.{rule_of, app_of};
 ghost use Rattle.clap.specs.Simple.{new_app};
 ghost use Rattle.clap.specs.declared.builder.command.Command.TheViews.{out-Command};
-ghost use Rattle.lusdist_shell.specs.CommandLine.{path_rule, main_rule, flag_rule, workers_rule, code_rule, check, eval, plan, replay, run, explain, lusdist};
+ghost use Rattle.lusdist_shell.specs.CommandLine.{path_rule, main_rule, flag_rule, instant_rule, workers_rule, code_rule, judging, check, eval, plan, replay, run, explain, lusdist};
 
 use clap::builder::ValueParser;
 use clap::{Arg, ArgAction, Command};
@@ -18,6 +18,9 @@ const FEWEST_WORKERS: u64 = 1;
 
 /// The most workers that may serve the sites.
 const MOST_WORKERS: u64 = 16;
+
+/// The last instant that a table may have.
+const LAST_INSTANT: u64 = 999_999;
 
 /// What the exit statuses mean, which stands at the end of each help.
 const STATUSES: &str = "Exit status:
@@ -103,6 +106,78 @@ fn flag<'a>(alloc: Global, name: &'a str, help: &'a str) -> Arg<'a>
         .long(name)
         .action(ArgAction::SetTrue)
         .help(help)
+}
+
+/// Whether a refusal is explained.
+fn explain_flag<'a>(alloc: Global) -> Arg<'a>
+    ensures rule { rule_of result ≡ flag_rule (codes "explain") }
+    ensures local { result.global ≡ false }
+{
+    flag(
+        alloc,
+        "explain",
+        "Where a text is refused, shows its line and says what is wrong and how to mend it",
+    )
+}
+
+/// Whether an evaluation tells all main variables.
+fn all_flag<'a>(alloc: Global) -> Arg<'a>
+    ensures rule { rule_of result ≡ flag_rule (codes "all") }
+    ensures local { result.global ≡ false }
+{
+    flag(
+        alloc,
+        "all",
+        "Prints all variables of the main node in place of its outputs alone",
+    )
+}
+
+/// Whether an evaluation is told as a chart.
+fn chronogram_flag<'a>(alloc: Global) -> Arg<'a>
+    ensures rule { rule_of result ≡ flag_rule (codes "chronogram") }
+    ensures local { result.global ≡ false }
+{
+    flag(
+        alloc,
+        "chronogram",
+        "Prints a chart over time in place of the table: a row for each flow, a column for each instant",
+    )
+}
+
+/// An instant of a chart.
+fn instant<'a>(alloc: Global, name: &'a str, help: &'a str) -> Arg<'a>
+    ensures rule { rule_of result ≡ instant_rule name.entry.now }
+    ensures local { result.global ≡ false }
+{
+    Arg::new(alloc, name)
+        .long(name)
+        .value_name("T")
+        .value_parser(ValueParser::Unsigned(0, LAST_INSTANT))
+        .help(help)
+}
+
+/// The first instant of a chart.
+fn from<'a>(alloc: Global) -> Arg<'a>
+    ensures rule { rule_of result ≡ instant_rule (codes "from") }
+    ensures local { result.global ≡ false }
+{
+    instant(
+        alloc,
+        "from",
+        "The first instant of the chart, counted from 0 [default: 0]",
+    )
+}
+
+/// The last instant of a chart.
+fn to<'a>(alloc: Global) -> Arg<'a>
+    ensures rule { rule_of result ≡ instant_rule (codes "to") }
+    ensures local { result.global ≡ false }
+{
+    instant(
+        alloc,
+        "to",
+        "The last instant of the chart, counted from 0 [default: the table's last]",
+    )
 }
 
 /// Whether a plan is told as a table.
@@ -195,14 +270,22 @@ fn named<'a>(alloc: Global, name: &'a str, about: &'a str) -> Command<'a>
     Command::new(alloc, name).about(about).after_help(STATUSES)
 }
 
+/// A command that judges a program, with no files yet.
+fn judging<'a>(alloc: Global, name: &'a str, about: &'a str) -> Result<Command<'a>, AllocError>
+    ensures app { IfOk result (λ c. app_of c ≡ judging name.entry.now) }
+    ensures local { IfOk result (λ c. (out-Command c).has_globals ≡ false) }
+{
+    named(alloc, name, about)
+        .arg(main_name(alloc))?
+        .arg(explain_flag(alloc))
+}
+
 fn check<'a>(alloc: Global) -> Result<Command<'a>, AllocError>
     ensures app { IfOk result (λ c. app_of c ≡ check) }
     ensures local { IfOk result (λ c. (out-Command c).has_globals ≡ false) }
 {
     let about = "Judges a program by all rules and prints its canonical text";
-    named(alloc, "check", about)
-        .arg(main_name(alloc))?
-        .arg(program(alloc))
+    judging(alloc, "check", about)?.arg(program(alloc))
 }
 
 fn eval<'a>(alloc: Global) -> Result<Command<'a>, AllocError>
@@ -210,8 +293,11 @@ fn eval<'a>(alloc: Global) -> Result<Command<'a>, AllocError>
     ensures local { IfOk result (λ c. (out-Command c).has_globals ≡ false) }
 {
     let about = "Evaluates a program at a table of inputs and prints the table of its outputs";
-    named(alloc, "eval", about)
-        .arg(main_name(alloc))?
+    judging(alloc, "eval", about)?
+        .arg(all_flag(alloc))?
+        .arg(chronogram_flag(alloc))?
+        .arg(from(alloc))?
+        .arg(to(alloc))?
         .arg(program(alloc))?
         .arg(table(alloc))
 }
@@ -222,8 +308,7 @@ fn plan<'a>(alloc: Global) -> Result<Command<'a>, AllocError>
 {
     let about =
         "Plans a program at several sites and prints where each variable stands, and all links";
-    named(alloc, "plan", about)
-        .arg(main_name(alloc))?
+    judging(alloc, "plan", about)?
         .arg(text_flag(alloc))?
         .arg(dot_flag(alloc))?
         .arg(program(alloc))?
@@ -236,8 +321,7 @@ fn replay<'a>(alloc: Global) -> Result<Command<'a>, AllocError>
 {
     let about =
         "Runs a program at several sites, turn by turn, and prints links, sites and outputs";
-    named(alloc, "replay", about)
-        .arg(main_name(alloc))?
+    judging(alloc, "replay", about)?
         .arg(finish_flag(alloc))?
         .arg(trace_flag(alloc))?
         .arg(program(alloc))?
@@ -251,8 +335,7 @@ fn run<'a>(alloc: Global) -> Result<Command<'a>, AllocError>
     ensures local { IfOk result (λ c. (out-Command c).has_globals ≡ false) }
 {
     let about = "Runs a program at several sites, on threads, and prints the table of its outputs";
-    named(alloc, "run", about)
-        .arg(main_name(alloc))?
+    judging(alloc, "run", about)?
         .arg(workers(alloc))?
         .arg(progress_flag(alloc))?
         .arg(program(alloc))?

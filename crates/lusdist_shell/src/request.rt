@@ -4,7 +4,7 @@ ghost use Rattle.std.specs.Prelude.{◌≡◌, IfOk, IfErr, map, option_map, tru
 ghost use Rattle.clap.specs.Words.{kind_of, takes, found_of, first_of, rows_of, subcommand_of, subcommand_rows_of, FailsBy, fault_of};
 ghost use Rattle.clap.specs.declared.error.kind.ErrorKind.TheVariants.{OutOfMemory};
 ghost use Rattle.lusdist_shell.specs.CommandLine.{lusdist};
-ghost use Rattle.lusdist_shell.specs.Request.{text_in, is_given, form_in, IsCommand, IsCheckIn, IsEvalIn, IsPlanIn, IsReplayIn, IsRunIn, IsExplainIn, AreWorkersIn, AreFew, HasFewWorkers, IsFoundIn, IsAskedBy};
+ghost use Rattle.lusdist_shell.specs.Request.{text_in, is_given, form_in, IsCommand, IsCheckIn, IsEvalIn, IsPlanIn, IsReplayIn, IsRunIn, IsExplainIn, IsInstantIn, AreWorkersIn, AreFew, HasFewWorkers, IsFoundIn, IsAskedBy};
 
 use crate::command::lusdist;
 use clap::{ArgMatches, Error};
@@ -15,6 +15,8 @@ use std::alloc::Global;
 pub struct CheckRequest<'a> {
     /// The name of the main node.
     pub main: &'a str,
+    /// Whether a refusal is explained.
+    pub explain: bool,
     /// The path of the program.
     pub program: &'a str,
 }
@@ -24,10 +26,20 @@ pub struct CheckRequest<'a> {
 pub struct EvalRequest<'a> {
     /// The name of the main node.
     pub main: &'a str,
+    /// Whether a refusal is explained.
+    pub explain: bool,
     /// The path of the program.
     pub program: &'a str,
     /// The path of the input table.
     pub table: &'a str,
+    /// Whether all main variables are told, and not the outputs alone.
+    pub all: bool,
+    /// Whether they are told as a chart.
+    pub chronogram: bool,
+    /// The first instant of the chart, counted from 0, where it is given.
+    pub from: Option<u32>,
+    /// The last instant of the chart, counted from 0, where it is given.
+    pub to: Option<u32>,
 }
 
 /// How a plan is told.
@@ -46,6 +58,8 @@ pub enum PlanForm {
 pub struct PlanRequest<'a> {
     /// The name of the main node.
     pub main: &'a str,
+    /// Whether a refusal is explained.
+    pub explain: bool,
     /// The path of the program.
     pub program: &'a str,
     /// The path of the placement.
@@ -59,6 +73,8 @@ pub struct PlanRequest<'a> {
 pub struct ReplayRequest<'a> {
     /// The name of the main node.
     pub main: &'a str,
+    /// Whether a refusal is explained.
+    pub explain: bool,
     /// The path of the program.
     pub program: &'a str,
     /// The path of the placement.
@@ -78,6 +94,8 @@ pub struct ReplayRequest<'a> {
 pub struct RunRequest<'a> {
     /// The name of the main node.
     pub main: &'a str,
+    /// Whether a refusal is explained.
+    pub explain: bool,
     /// The path of the program.
     pub program: &'a str,
     /// The path of the placement.
@@ -130,18 +148,8 @@ fn check_in<'a>(matches: &ArgMatches<'a>) -> CheckRequest<'a>
 {
     CheckRequest {
         main: text(matches, "main"),
+        explain: is_given(matches, "explain"),
         program: text(matches, "PROGRAM"),
-    }
-}
-
-/// What the matches of `eval` ask for.
-fn eval_in<'a>(matches: &ArgMatches<'a>) -> EvalRequest<'a>
-    ensures { IsEvalIn (Some (codes "eval", rows_of (found_of matches.now))) result }
-{
-    EvalRequest {
-        main: text(matches, "main"),
-        program: text(matches, "PROGRAM"),
-        table: text(matches, "TABLE"),
     }
 }
 
@@ -150,6 +158,36 @@ fn is_given<'a>(matches: &ArgMatches<'a>, flag: &str) -> bool
     ensures { result ≡ is_given (rows_of (found_of matches.now)) flag.now }
 {
     text(matches, flag) == "true"
+}
+
+/// The instant that a text spells.
+fn instant_of(text: Option<&str>) -> Option<u32>
+    ensures { IsInstantIn (option_map (λ s. s.now) text.entry) result }
+{
+    text?.parse::<u32>().ok()
+}
+
+/// The instant of an argument, where it is given.
+fn instant_in<'a>(matches: &ArgMatches<'a>, argument: &str) -> Option<u32>
+    ensures { IsInstantIn (first_of argument.now (rows_of (found_of matches.now))) result }
+{
+    instant_of(matches.get_str(argument))
+}
+
+/// What the matches of `eval` ask for.
+fn eval_in<'a>(matches: &ArgMatches<'a>) -> EvalRequest<'a>
+    ensures { IsEvalIn (Some (codes "eval", rows_of (found_of matches.now))) result }
+{
+    EvalRequest {
+        main: text(matches, "main"),
+        explain: is_given(matches, "explain"),
+        program: text(matches, "PROGRAM"),
+        table: text(matches, "TABLE"),
+        all: is_given(matches, "all"),
+        chronogram: is_given(matches, "chronogram"),
+        from: instant_in(matches, "from"),
+        to: instant_in(matches, "to"),
+    }
 }
 
 /// How the plan is to be told: as a graph, even where a table is asked for too.
@@ -171,6 +209,7 @@ fn plan_in<'a>(matches: &ArgMatches<'a>) -> PlanRequest<'a>
 {
     PlanRequest {
         main: text(matches, "main"),
+        explain: is_given(matches, "explain"),
         program: text(matches, "PROGRAM"),
         place: text(matches, "PLACE"),
         form: form_in(matches),
@@ -183,6 +222,7 @@ fn replay_in<'a>(matches: &ArgMatches<'a>) -> ReplayRequest<'a>
 {
     ReplayRequest {
         main: text(matches, "main"),
+        explain: is_given(matches, "explain"),
         program: text(matches, "PROGRAM"),
         place: text(matches, "PLACE"),
         table: text(matches, "TABLE"),
@@ -222,6 +262,7 @@ fn run_in<'a>(matches: &ArgMatches<'a>) -> RunRequest<'a>
 {
     RunRequest {
         main: text(matches, "main"),
+        explain: is_given(matches, "explain"),
         program: text(matches, "PROGRAM"),
         place: text(matches, "PLACE"),
         table: text(matches, "TABLE"),

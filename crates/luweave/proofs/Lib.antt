@@ -3,3 +3,4 @@ pub mod Moving
 pub mod Endings
 pub mod Headlines
 pub mod Finishing
+pub mod NewSites

@@ -1,7 +1,7 @@
 //! The interleaving core: all sites of a job in one thread, by turns.
 //!
 //! - [`World`]: the sites and the links between them; [`Turn`]: what a turn does.
-//! - [`replay`]: a new world after the turns of a schedule.
+//! - [`new_sites`]: the sites of a job, before any turn; [`replay`]: a new world of them after the turns of a schedule.
 #![tactic(auto)]
 
 mod enabled;
@@ -10,8 +10,10 @@ mod lane;
 mod left;
 mod next;
 mod offers;
+mod sites;
 mod world;
 
 pub use lusite::{LinkNo, Next, Site};
 pub use luworld::Turn;
+pub use sites::new_sites;
 pub use world::{World, replay};

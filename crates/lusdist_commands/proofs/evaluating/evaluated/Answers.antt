@@ -1,8 +1,8 @@
 use Rattle.std.proofs.Common.{subst}
 use Rattle.luflow.specs.Solution.{solution}
+use Rattle.luflow.proofs.Solutions.{IsSolution-solution}
 use Rattle.lueval.specs.declared.error.EvalError.TheVariants.{Fault}
 use Rattle.lueval.specs.Whole.{IsAnswer}
-use Rattle.lusdist_commands.proofs.Outcomes.{are_evaluated}
 use Rattle.lusdist_commands.proofs.evaluating.evaluated.Goals as goal
 
 pub fault_stop-requires : goal.fault_stop-requires
@@ -10,9 +10,4 @@ fault_stop-requires c =
     let flat = c.args.flat.now in
     let inputs = c.args.inputs.now in
     let answer : IsAnswer flat inputs (Fault c.in-Err-Fault.variable c.in-Err-Fault.instant c.in-Err-Fault.kind) = subst (IsAnswer flat inputs) c.in-Err-Fault.field-0-is c.in-Err-Fault.ensures.fault in
-    (answer (solution flat inputs) c.in-Err-Fault.ensures.only.exists).inside
-
-pub returns-in-Ok-clause-outputs : goal.returns-in-Ok-clause-outputs
-returns-in-Ok-clause-outputs c =
-    let are = c.in-Ok.ensures.outputs in
-    are_evaluated c.args.flat.now c.args.inputs.now are.streams c.in-Ok.outputs are.solution are.source c.in-Ok.ensures.no_fault are.are
+    (answer (solution flat inputs) (IsSolution-solution flat inputs c.flows-flows.ensures.flat.ordered)).inside

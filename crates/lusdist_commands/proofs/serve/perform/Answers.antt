@@ -14,4 +14,4 @@ returns-in-Ok g c =
     ]
 
 pub returns-in-Err : goal.returns-in-Err
-returns-in-Err g c = refused c.in-Err.stop c.status-status.ensures c.in-Err.ensures.stopped (record { error = c.put_line.ensures; kept = refl })
+returns-in-Err g c = refused c.in-Err.stop c.status-status.ensures c.in-Err.ensures.stopped (record { error = c.put_refusal.ensures; kept = refl })

@@ -6,12 +6,20 @@ use Rattle.lusdist_shell.proofs.command.eval.Goals as goal
 
 pub returns-clause-app : goal.returns-clause-app
 returns-clause-app c =
-    let one = c.in_ok-arg.ensures.shape c.main_name.ensures.local ∙ ap₂ with_rule c.named.ensures.app c.main_name.ensures.rule in
-    let two = c.in_ok-arg-2.ensures.shape c.program.ensures.local ∙ ap₂ with_rule one c.program.ensures.rule in
-    IfOk-weaker c.arg-3.result _ _ (λ r added. added.shape c.table.ensures.local ∙ ap₂ with_rule two c.table.ensures.rule) c.arg-3.ensures
+    let one = c.in_ok-judging.ensures.app in
+    let two = c.in_ok-arg.ensures.shape c.all_flag.ensures.local ∙ ap₂ with_rule one c.all_flag.ensures.rule in
+    let three = c.in_ok-arg-2.ensures.shape c.chronogram_flag.ensures.local ∙ ap₂ with_rule two c.chronogram_flag.ensures.rule in
+    let four = c.in_ok-arg-3.ensures.shape c.from.ensures.local ∙ ap₂ with_rule three c.from.ensures.rule in
+    let five = c.in_ok-arg-4.ensures.shape c.to.ensures.local ∙ ap₂ with_rule four c.to.ensures.rule in
+    let six = c.in_ok-arg-5.ensures.shape c.program.ensures.local ∙ ap₂ with_rule five c.program.ensures.rule in
+    IfOk-weaker c.arg-6.result _ _ (λ r added. added.shape c.table.ensures.local ∙ ap₂ with_rule six c.table.ensures.rule) c.arg-6.ensures
 
 pub returns-clause-local : goal.returns-clause-local
 returns-clause-local c =
-    let one = c.in_ok-arg.ensures.globals ∙ or_from _ _ c.named.ensures.local c.main_name.ensures.local in
-    let two = c.in_ok-arg-2.ensures.globals ∙ or_from _ _ one c.program.ensures.local in
-    IfOk-weaker c.arg-3.result _ _ (λ r added. added.globals ∙ or_from _ _ two c.table.ensures.local) c.arg-3.ensures
+    let one = c.in_ok-judging.ensures.local in
+    let two = c.in_ok-arg.ensures.globals ∙ or_from _ _ one c.all_flag.ensures.local in
+    let three = c.in_ok-arg-2.ensures.globals ∙ or_from _ _ two c.chronogram_flag.ensures.local in
+    let four = c.in_ok-arg-3.ensures.globals ∙ or_from _ _ three c.from.ensures.local in
+    let five = c.in_ok-arg-4.ensures.globals ∙ or_from _ _ four c.to.ensures.local in
+    let six = c.in_ok-arg-5.ensures.globals ∙ or_from _ _ five c.program.ensures.local in
+    IfOk-weaker c.arg-6.result _ _ (λ r added. added.globals ∙ or_from _ _ six c.table.ensures.local) c.arg-6.ensures

@@ -1,6 +1,6 @@
-use Rattle.std.proofs.Common.{◌≡◌, ◌∙◌, ap, ap₂, true, codes}
+use Rattle.std.proofs.Common.{◌∙◌, ap, ap₂, true}
 use Rattle.std.proofs.lemmas.Result.{IfOk-weaker}
-use Rattle.clap.specs.Simple.{App, app_of_fields, new_app, on_top, with_subcommand}
+use Rattle.clap.specs.Simple.{App, app_of_fields, on_top, with_subcommand}
 use Rattle.lusdist_shell.proofs.command.lusdist.Goals as goal
 
 pub returns : goal.returns

@@ -1,6 +1,6 @@
 use Rattle.std.proofs.Common.{◌∷◌, [], ap, length, length-append, arith}
-use Rattle.lusdist_commands.proofs.NewSites.{one_more}
-use Rattle.lusdist_commands.proofs.sites.new_sites.Goals as goal
+use Rattle.luweave.proofs.NewSites.{one_more}
+use Rattle.luweave.proofs.sites.new_sites.Goals as goal
 
 pub loop-site-preserved : goal.loop-site-preserved
 loop-site-preserved c =

@@ -2,7 +2,7 @@ use Rattle.std.proofs.Common.{◌≡◌, ℕ, ◌≤◌, length, Some, slice_get
 use Rattle.std.specs.Prelude.{vec_capacity}
 use Rattle.lusite.specs.Sites.{SiteAt}
 use Rattle.luweave.specs.Worlds.{IsNewSite}
-use Rattle.lusdist_commands.proofs.sites.new_sites.Given as goal
+use Rattle.luweave.proofs.sites.new_sites.Given as goal
 
 -- the sites so far are new, and there is room for all
 abbrev pub invariant-loop-site : goal.invariant-loop-site

@@ -1,0 +1,29 @@
+use Rattle.std.proofs.lemmas.Result.{IfOk-weaker, IfErr-weaker}
+use Rattle.lutab.specs.Outputs.{shown_of}
+use Rattle.lusdist_commands.proofs.Outcomes.{of_source, eval_stop}
+use Rattle.lusdist_commands.proofs.serve.evaluated_text.Goals as goal
+
+pub returns-clause-text : goal.returns-clause-text
+returns-clause-text g c =
+    let request = c.args.request in
+    let flat = c.in_ok-flat.flat in
+    let inputs = c.in_ok-flat.inputs in
+    let asked = c.in_ok-flat.ensures.posed in
+    IfOk-weaker c.evaluation.result _ _
+    (λ text h.
+    record {
+      meant = c.requires;
+      flat = flat;
+      inputs = inputs;
+      asked = asked;
+      columns = h.columns;
+      are_columns = of_source asked.program request.main.now asked.table asked.tree flat inputs (shown_of request.all flat.variables) h.columns asked.posed h.are_columns;
+      text_is = h.text_is;
+    })
+    c.evaluation.ensures.text
+
+pub returns-clause-stopped : goal.returns-clause-stopped
+returns-clause-stopped g c =
+    let gives = g.F.Files.gives c.args.files.now in
+    IfErr-weaker c.evaluation.result _ _
+    (λ stop h. eval_stop gives c.args.request c.in_ok-flat.flat c.in_ok-flat.inputs c.in_ok-flat.ensures.posed stop h) c.evaluation.ensures.fault
