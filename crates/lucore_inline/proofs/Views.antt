@@ -20,7 +20,7 @@ viewed-Unary op a = ap view (sym (variant.rolls-Unary op a)) ∙ fold-roll-Expr 
 pub viewed-Binary : (op : Infix) (a b : Box Expr Global) → view (variant.Binary op a b) ≡ tree.binary op (view a.value) (view b.value)
 viewed-Binary op a b = ap view (sym (variant.rolls-Binary op a b)) ∙ fold-roll-Expr Tree view_step (Expr-F.Binary op a b)
 
-pub viewed-Merge : (c : List ℕ) (ps : List Pattern) (branches : Vec Expr Global) → view (variant.Merge c ps branches) ≡ tree.merge c ps (trees_of (views branches.items))
+pub viewed-Merge : (c : List ℕ) (ps : Box (List Pattern) Global) (branches : Vec Expr Global) → view (variant.Merge c ps branches) ≡ tree.merge c ps.value (trees_of (views branches.items))
 viewed-Merge c ps branches = ap view (sym (variant.rolls-Merge c ps branches)) ∙ fold-roll-Expr Tree view_step (Expr-F.Merge c ps branches)
 
 pub viewed-Label : (x : Label) → view (variant.Label x) ≡ tree.label x

@@ -33,6 +33,13 @@ fn resolve_patterns(labels: &Labels<'_>, patterns: Row<Pattern>) -> Row<Pattern>
     Row::new(items)
 }
 
+fn resolve_branches(alloc: Global, labels: &Labels<'_>, patterns: &mut Row<Pattern>)
+    ensures { patterns.new ≡ map (resolved_pattern (types_of labels.now)) patterns.old }
+{
+    let found = mem::replace(patterns, Row::new(Vec::new(alloc)));
+    *patterns = resolve_patterns(labels, found);
+}
+
 fn resolve_condition(labels: &Labels<'_>, condition: &mut Condition)
     ensures { condition.new ≡ resolved_condition (types_of labels.now) condition.old }
 {
@@ -86,8 +93,7 @@ pub(crate) fn resolve_expr(
             resolve_condition(labels, condition);
         }
         Expr::Merge(_, patterns, branches) => {
-            let found = mem::replace(patterns, Row::new(Vec::new(alloc)));
-            *patterns = resolve_patterns(labels, found);
+            resolve_branches(alloc, labels, patterns);
             resolve_all(alloc, labels, branches)?;
         }
         Expr::Call(_, arguments) => resolve_all(alloc, labels, arguments)?,

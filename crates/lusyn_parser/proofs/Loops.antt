@@ -4,7 +4,7 @@ use Rattle.std.specs.Result.{is_ok}
 use Rattle.lusyn_parser.specs.declared.error.Stop.{Stop}
 use Rattle.lusyn_parser.specs.declared.error.Stop.TheVariants as stops_by
 use Rattle.std.proofs.lemmas.List.{map-append}
-use Rattle.std.specs.Prelude.{Vec}
+use Rattle.std.specs.Prelude.{Vec, Box}
 use Rattle.std.specs.Global.{Global}
 use Rattle.lutree.specs.declared.expr.Expr.{Expr}
 use Rattle.lutree.specs.declared.expr.Expr.TheVariants as variant
@@ -243,11 +243,13 @@ read_as e = Ok e
 pub merged-all : (v : List ℕ) (found rest : List Branch) (ps : List Pattern) (es : Vec Expr Global)
     → ps ++ map (λ (b : Branch). patterns.Label (bare_label b.label)) rest ≡ map (λ (b : Branch). patterns.Label (bare_label b.label)) found
     → views es.items ++ map (λ (b : Branch). view b.value) rest ≡ map (λ (b : Branch). view b.value) found
-    → length rest ≡ 0 → read_as (merged v (branches_view found)) ≡ read_as (view (variant.Merge v ps es))
-merged-all v found [] ps es labels values none =
+    → length rest ≡ 0 → (boxed : Box (List Pattern) Global) → boxed.value ≡ ps
+    → read_as (merged v (branches_view found)) ≡ read_as (view (variant.Merge v boxed es))
+merged-all v found [] ps es labels values none boxed same =
     let all : ps ≡ map (λ (b : Branch). patterns.Label (bare_label b.label)) found = sym (append-nil ps) ∙ labels in
     let trees : views es.items ≡ map (λ (b : Branch). view b.value) found = sym (append-nil (views es.items)) ∙ values in
     ap (λ (qs : List Pattern). read_as (t.merge v qs (trees_of (map (λ b. b.1) (branches_view found))))) (map_of_map (λ (b : List ℕ × Tree). patterns.Label (bare_label b.0)) branch_view found ∙ sym all)
     ∙ ap (λ (values : List Tree). read_as (t.merge v ps (trees_of values))) (map_of_map (λ (b : List ℕ × Tree). b.1) branch_view found ∙ sym trees)
-    ∙ ap read_as (sym (ap view (sym (variant.rolls-Merge v ps es)) ∙ fold-roll-Expr Tree view_step (Expr-F.Merge v ps es)))
-merged-all v found (b ∷ rest) ps es labels values none = absurd (omega (arith, none))
+    ∙ ap (λ (qs : List Pattern). read_as (t.merge v qs (trees_of (views es.items)))) (sym same)
+    ∙ ap read_as (sym (ap view (sym (variant.rolls-Merge v boxed es)) ∙ fold-roll-Expr Tree view_step (Expr-F.Merge v boxed es)))
+merged-all v found (b ∷ rest) ps es labels values none boxed same = absurd (omega (arith, none))

@@ -235,10 +235,11 @@ impl<'t> Reader<'t> {
             (Ok (t.merge variable truths (t.more (view a) (t.more (view b) t.none)))) }
     {
         let patterns = vec![in self.alloc; Pattern::Truth(true), Pattern::Truth(false)]?;
+        let patterns = Box::new(self.alloc, Row::new(patterns))?;
         let mut branches = Vec::new(self.alloc);
         branches.push(a)?;
         branches.push(b)?;
-        Ok(Expr::Merge(variable, Row::new(patterns), branches))
+        Ok(Expr::Merge(variable, patterns, branches))
     }
 
     /// The merge on this variable with these branches.
@@ -252,7 +253,8 @@ impl<'t> Reader<'t> {
             patterns.push(Pattern::Label(bare_label(branch.label)))?;
             branches.push(branch.value)?;
         }
-        Ok(Expr::Merge(variable, Row::new(patterns), branches))
+        let patterns = Box::new(self.alloc, Row::new(patterns))?;
+        Ok(Expr::Merge(variable, patterns, branches))
     }
 
     /// What was read, and the closing parenthesis after it.

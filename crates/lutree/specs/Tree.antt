@@ -98,7 +98,7 @@ view_step (Expr-F.Binary op a b) = binary op a.value b.value
 view_step (Expr-F.If a b c) = choice a.value b.value c.value
 view_step (Expr-F.When a c) = when a.value c
 view_step (Expr-F.Current x) = current x
-view_step (Expr-F.Merge c patterns branches) = merge c patterns (trees_of branches.items)
+view_step (Expr-F.Merge c patterns branches) = merge c patterns.value (trees_of branches.items)
 view_step (Expr-F.Call f arguments) = call f (trees_of arguments.items)
 
 -- what an expression in memory is

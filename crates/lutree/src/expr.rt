@@ -116,8 +116,8 @@ pub enum Expr {
     /// `current v`
     Current(Name),
     /// `merge c (true -> a) (false -> b)` or `merge c (A -> a) (B -> b) (C -> d)`: the variable, the patterns of its branches and
-    /// as many branches.
-    Merge(SharedName, Row<Pattern>, Vec<Expr>),
+    /// as many branches. The patterns lie apart, so that no expression takes more memory for them.
+    Merge(SharedName, Box<Row<Pattern>>, Vec<Expr>),
     /// `f(a, b)`
     Call(Name, Vec<Expr>),
 }
