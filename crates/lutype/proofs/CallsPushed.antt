@@ -31,7 +31,7 @@ found_joined look cs ds =
 pub calls-Binary : (op : Infix) (a b : Box Expr Global) → calls_in (view (variant.Binary op a b)) ≡ calls_in (view a.value) ++ calls_in (view b.value)
 calls-Binary op a b = ap calls_in (ap view (sym (variant.rolls-Binary op a b)) ∙ fold-roll-Expr Tree view_step (Expr-F.Binary op a b))
 
-pub calls-Merge : (c : List ℕ) (ps : List Pattern) (es : Vec Expr Global) → calls_in (view (variant.Merge c ps es)) ≡ calls_in_all (trees_of (views es.items))
+pub calls-Merge : (c : List ℕ) (ps : Box (List Pattern) Global) (es : Vec Expr Global) → calls_in (view (variant.Merge c ps es)) ≡ calls_in_all (trees_of (views es.items))
 calls-Merge c ps es = ap calls_in (ap view (sym (variant.rolls-Merge c ps es)) ∙ fold-roll-Expr Tree view_step (Expr-F.Merge c ps es))
 
 pub calls-If : (c a b : Box Expr Global) → calls_in (view (variant.If c a b)) ≡ calls_in (view c.value) ++ (calls_in (view a.value) ++ calls_in (view b.value))
