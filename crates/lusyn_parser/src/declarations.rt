@@ -104,23 +104,22 @@ impl<'t> Reader<'t> {
     fn declare(
         &self,
         found: &mut Vec<Declaration>,
-        names: &[DeclaredName],
+        names: Vec<DeclaredName>,
         written: &WrittenType,
         clock: &Option<Condition>,
     ) -> Result<(), Stop>
         ensures ok { IfOk result (λ _. declarations_view found.new.items
             ≡ declarations_view found.old.items
-            ++ map (declared (type_view written.now) clock.now) (names_view names.now)) }
+            ++ map (declared (type_view written.now) clock.now) (names_view names.items)) }
         ensures places { IfOk result (λ _. declaration_places found.new.items
-            ≡ declaration_places found.old.items ++ name_places names.now) }
+            ≡ declaration_places found.old.items ++ name_places names.items) }
         ensures err { IfErr result (λ e. e ≡ Stop.OutOfMemory) }
     {
         for placed in names {
-            let name = placed.name.copied(self.alloc)?;
             let type_name = type_name_of(written)?;
             let clock = shared(clock)?;
             found.push(Declaration {
-                name,
+                name: placed.name,
                 kind: kind_of(written),
                 type_name,
                 clock,
@@ -144,7 +143,7 @@ impl<'t> Reader<'t> {
         let next = self.after(Fixed::Colon, next)?;
         let (written, next) = self.kind(next)?;
         let (clock, next) = self.clocked(next)?;
-        self.declare(found, names.as_slice(), &written, &clock)?;
+        self.declare(found, names, &written, &clock)?;
         Ok(next)
     }
 

@@ -235,13 +235,13 @@ walk-returns-in-Merge-clause-walked t c =
     let x = c.in-Merge.c in
     let ps = c.in-Merge.patterns in
     let all = λ (es : List Expr). trees_of (views es) in
-    let given : tree.merge c.as_str-in-Merge.result.now c.as_slice.result.now (all c.deref-in-Merge.result.now) ≡ tree.merge x ps (all c.in-Merge.branches.items) =
-    ap (λ g. tree.merge g c.as_slice.result.now (all c.deref-in-Merge.result.now)) c.as_str-in-Merge.ensures
-    ∙ ap (λ qs. tree.merge x qs (all c.deref-in-Merge.result.now)) c.as_slice.ensures
-    ∙ ap (λ es. tree.merge x ps (all es)) c.deref-in-Merge.ensures.value in
+    let given : tree.merge c.as_str-in-Merge.result.now c.as_slice.result.now (all c.deref-in-Merge-2.result.now) ≡ tree.merge x ps.value (all c.in-Merge.branches.items) =
+    ap (λ g. tree.merge g c.as_slice.result.now (all c.deref-in-Merge-2.result.now)) c.as_str-in-Merge.ensures
+    ∙ ap (λ qs. tree.merge x qs (all c.deref-in-Merge-2.result.now)) (c.as_slice.ensures ∙ c.deref-in-Merge.ensures)
+    ∙ ap (λ es. tree.merge x ps.value (all es)) c.deref-in-Merge-2.ensures.value in
     let same = ap view c.in-Merge.is ∙ viewed-Merge x ps c.in-Merge.branches ∙ sym given in
     IfOk-weaker c.merge.result _ _ (λ w h.
-    formed p l n (view c.args.e.now) (tree.merge c.as_str-in-Merge.result.now c.as_slice.result.now (all c.deref-in-Merge.result.now)) k old c.merge.new.flows.items (root_view w.root) (root_view w.root) same refl h)
+    formed p l n (view c.args.e.now) (tree.merge c.as_str-in-Merge.result.now c.as_slice.result.now (all c.deref-in-Merge-2.result.now)) k old c.merge.new.flows.items (root_view w.root) (root_view w.root) same refl h)
     c.merge.ensures.walked
 
 pub walk-returns-in-Merge-clause-kind : goal.walk-returns-in-Merge-clause-kind
@@ -251,10 +251,10 @@ walk-returns-in-Merge-clause-kind t c =
     let x = c.in-Merge.c in
     let ps = c.in-Merge.patterns in
     let all = λ (es : List Expr). trees_of (views es) in
-    let given : tree.merge c.as_str-in-Merge.result.now c.as_slice.result.now (all c.deref-in-Merge.result.now) ≡ tree.merge x ps (all c.in-Merge.branches.items) =
-    ap (λ g. tree.merge g c.as_slice.result.now (all c.deref-in-Merge.result.now)) c.as_str-in-Merge.ensures
-    ∙ ap (λ qs. tree.merge x qs (all c.deref-in-Merge.result.now)) c.as_slice.ensures
-    ∙ ap (λ es. tree.merge x ps (all es)) c.deref-in-Merge.ensures.value in
+    let given : tree.merge c.as_str-in-Merge.result.now c.as_slice.result.now (all c.deref-in-Merge-2.result.now) ≡ tree.merge x ps.value (all c.in-Merge.branches.items) =
+    ap (λ g. tree.merge g c.as_slice.result.now (all c.deref-in-Merge-2.result.now)) c.as_str-in-Merge.ensures
+    ∙ ap (λ qs. tree.merge x qs (all c.deref-in-Merge-2.result.now)) (c.as_slice.ensures ∙ c.deref-in-Merge.ensures)
+    ∙ ap (λ es. tree.merge x ps.value (all es)) c.deref-in-Merge-2.ensures.value in
     let same = ap view c.in-Merge.is ∙ viewed-Merge x ps c.in-Merge.branches ∙ sym given in
     IfOk-weaker c.merge.result _ _ (λ w h. h ∙ sym (ap (type_of p n) same)) c.merge.ensures.kind
 
