@@ -1,15 +1,16 @@
 //! The rules of numbers: `E14`, and `E19`.
 
-use crate::find::{equation_at, parts_of};
-use crate::said::{Said, in_words, mended_by};
-use crate::words::{Count, Names, Quoted};
+use crate::find::{Spot, inputs_of, outputs_of, type_at_place};
+use crate::said::{Said, mended_by, say};
+use crate::usual::usual;
+use crate::words::Part;
 use lulist::Name;
 use lustat_scope::{Catalog, Scope};
-use lutree::{DeclaredName, Equation, Expr, Kind, Pattern};
+use lutree::{DeclaredName, Expr, Kind, Pattern};
 use std::alloc::{AllocError, Global};
 
 /// What is wrong with how many there are.
-#[derive(Drop)]
+#[derive(Clone, Copy)]
 enum Number<'a> {
     /// A call of this node has so many arguments, and the node has so many inputs.
     Arguments(&'a str, usize, usize),
@@ -24,11 +25,22 @@ fn wrong_arguments<'a>(catalog: &Catalog, e: &'a Expr) -> Option<Number<'a>> {
     let Expr::Call(f, arguments) = e else {
         return None;
     };
-    let wanted = catalog.find(f.as_str())?.node().inputs.as_slice().len();
+    let wanted = inputs_of(catalog, f)?.len();
     if arguments.len() == wanted {
         return None;
     }
     Some(Number::Arguments(f.as_str(), arguments.len(), wanted))
+}
+
+/// The first such call of some parts.
+fn wrong_arguments_in<'a>(catalog: &Catalog, parts: &[&'a Expr]) -> Option<Number<'a>> {
+    for e in parts {
+        let found = wrong_arguments(catalog, *e);
+        if found.is_some() {
+            return found;
+        }
+    }
+    None
 }
 
 /// A call inside an expression that doesn't give one value.
@@ -36,25 +48,36 @@ fn wrong_inside<'a>(catalog: &Catalog, e: &'a Expr) -> Option<Number<'a>> {
     let Expr::Call(f, _) = e else {
         return None;
     };
-    let values = catalog.find(f.as_str())?.node().outputs.as_slice().len();
+    let values = outputs_of(catalog, f)?.len();
     if values == 1 {
         return None;
     }
     Some(Number::Inside(f.as_str(), values))
 }
 
+/// The first such call of some parts.
+fn wrong_inside_in<'a>(catalog: &Catalog, parts: &[&'a Expr]) -> Option<Number<'a>> {
+    for e in parts {
+        let found = wrong_inside(catalog, *e);
+        if found.is_some() {
+            return found;
+        }
+    }
+    None
+}
+
 /// How many values a right side has.
 fn value_count(catalog: &Catalog, e: &Expr) -> Option<usize> {
-    let Expr::Call(f, _) = e else {
-        return Some(1);
-    };
-    Some(catalog.find(f.as_str())?.node().outputs.as_slice().len())
+    match e {
+        Expr::Call(f, _) => Some(outputs_of(catalog, f)?.len()),
+        _ => Some(1),
+    }
 }
 
 /// The sides of an equation where one has more than the other.
-fn wrong_sides<'a>(catalog: &Catalog, equation: &'a Equation) -> Option<Number<'a>> {
-    let left = equation.left.as_slice().len();
-    let right = value_count(catalog, &equation.right)?;
+fn wrong_sides<'a>(spot: &Spot<'_, 'a>) -> Option<Number<'a>> {
+    let left = spot.equation.left.as_slice().len();
+    let right = value_count(spot.catalog, &spot.equation.right)?;
     if left == right {
         return None;
     }
@@ -62,75 +85,61 @@ fn wrong_sides<'a>(catalog: &Catalog, equation: &'a Equation) -> Option<Number<'
 }
 
 /// What is wrong in an equation with how many there are.
-fn wrong_in<'a>(
-    alloc: Global,
-    catalog: &Catalog,
-    equation: &'a Equation,
-) -> Result<Option<Number<'a>>, AllocError> {
-    let parts = parts_of(alloc, &equation.right)?;
-    for e in &parts {
-        if let Some(found) = wrong_arguments(catalog, *e) {
-            return Ok(Some(found));
+fn wrong_in<'a>(spot: &Spot<'_, 'a>) -> Option<Number<'a>> {
+    let found = wrong_arguments_in(spot.catalog, spot.parts);
+    if found.is_some() {
+        return found;
+    }
+    if let [_, inner @ ..] = spot.parts {
+        let found = wrong_inside_in(spot.catalog, inner);
+        if found.is_some() {
+            return found;
         }
     }
-    for e in parts.iter().skip(1) {
-        if let Some(found) = wrong_inside(catalog, *e) {
-            return Ok(Some(found));
-        }
+    wrong_sides(spot)
+}
+
+/// How a wrong number is told.
+fn said_of_number(alloc: Global, number: Number) -> Result<Said, AllocError> {
+    match number {
+        Number::Arguments(f, given, wanted) => mended_by(
+            alloc,
+            &[
+                Part::Around("The call of ", f, " has "),
+                Part::Count(given, "argument"),
+                Part::Words(", and the node has "),
+                Part::Count(wanted, "input"),
+                Part::Words("."),
+            ],
+            "Give each call as many arguments as its node has inputs.",
+        ),
+        Number::Inside(f, values) => mended_by(
+            alloc,
+            &[
+                Part::Around("The call of ", f, " stands inside an expression and gives "),
+                Part::Count(values, "value"),
+                Part::Words("."),
+            ],
+            "Give its values to variables in an equation of their own, and use these.",
+        ),
+        Number::Sides(left, right) => mended_by(
+            alloc,
+            &[
+                Part::Count(left, "variable"),
+                Part::Words(" on the left, and "),
+                Part::Count(right, "value"),
+                Part::Words(" on the right."),
+            ],
+            "Write as many variables on the left as the right side has values.",
+        ),
     }
-    Ok(wrong_sides(catalog, equation))
 }
 
 /// `E14`
-pub(crate) fn wrong_arity(
-    alloc: Global,
-    catalog: &Catalog,
-    byte: usize,
-) -> Result<Said, AllocError> {
-    let mend =
-        "Give each call as many arguments as its node has inputs, and each value a variable.";
-    let Some((_, equation)) = equation_at(catalog, byte) else {
-        return in_words(alloc, "There are too many or too few.", mend);
-    };
-    match wrong_in(alloc, catalog, equation)? {
-        None => in_words(alloc, "There are too many or too few.", mend),
-        Some(Number::Arguments(f, given, wanted)) => {
-            let what = format!(in alloc;
-                "The call of {} has {}, and the node has {}.",
-                Quoted(f),
-                Count(given, "argument"),
-                Count(wanted, "input")
-            )?;
-            mended_by(
-                alloc,
-                what,
-                "Give each call as many arguments as its node has inputs.",
-            )
-        }
-        Some(Number::Inside(f, values)) => {
-            let what = format!(in alloc;
-                "The call of {} stands inside an expression and gives {}.",
-                Quoted(f),
-                Count(values, "value")
-            )?;
-            mended_by(
-                alloc,
-                what,
-                "Give its values to variables in an equation of their own, and use these.",
-            )
-        }
-        Some(Number::Sides(left, right)) => {
-            let what = format!(in alloc;
-                "{} on the left, and {} on the right.",
-                Count(left, "variable"),
-                Count(right, "value")
-            )?;
-            mended_by(
-                alloc,
-                what,
-                "Write as many variables on the left as the right side has values.",
-            )
-        }
+pub(crate) fn wrong_arity(alloc: Global, spot: &Spot) -> Result<Said, AllocError> {
+    match wrong_in(spot) {
+        Some(number) => said_of_number(alloc, number),
+        None => usual(alloc, spot.error),
     }
 }
 
@@ -144,17 +153,31 @@ fn is_named(pattern: &Pattern, name: &Name) -> bool {
 
 /// Whether the patterns are the names of an enumeration, in order.
 fn are_names(patterns: &[Pattern], names: &[DeclaredName]) -> bool {
-    patterns.len() == names.len()
-        && patterns
-            .iter()
-            .zip(names)
-            .all(|pair| is_named(pair.0, &pair.1.name))
+    if patterns.len() != names.len() {
+        return false;
+    }
+    for (pattern, declared) in patterns.iter().zip(names) {
+        if !is_named(pattern, &declared.name) {
+            return false;
+        }
+    }
+    true
+}
+
+/// Whether a name of an enumeration is one of the patterns.
+fn is_among(patterns: &[Pattern], name: &Name) -> bool {
+    for pattern in patterns {
+        if is_named(pattern, name) {
+            return true;
+        }
+    }
+    false
 }
 
 /// The first name of an enumeration that is none of the patterns.
 fn missing<'a>(patterns: &[Pattern], names: &'a [DeclaredName]) -> Option<&'a str> {
     for declared in names {
-        if !patterns.iter().any(|p| is_named(p, &declared.name)) {
+        if !is_among(patterns, &declared.name) {
             return Some(declared.name.as_str());
         }
     }
@@ -163,17 +186,16 @@ fn missing<'a>(patterns: &[Pattern], names: &'a [DeclaredName]) -> Option<&'a st
 
 /// The names of the enumeration that a variable is of.
 fn names_for<'a>(catalog: &Catalog<'a>, scope: &Scope, x: &str) -> Option<&'a [DeclaredName]> {
-    match scope.kind(x)? {
-        Kind::Enum(place, _) => {
-            let declared = catalog.program().types.as_slice().get(usize::from(place))?;
-            Some(declared.names.as_slice())
+    match scope.kind(x) {
+        Some(Kind::Enum(place, _)) => {
+            Some(type_at_place(catalog.program(), place)?.names.as_slice())
         }
         _ => None,
     }
 }
 
 /// A merge on an enumeration whose branches aren't its names: its variable, its patterns, and these names.
-#[derive(Drop)]
+#[derive(Clone, Copy)]
 struct Merged<'a> {
     variable: &'a str,
     patterns: &'a [Pattern],
@@ -181,7 +203,7 @@ struct Merged<'a> {
 }
 
 /// The merge that a part of an expression is, where its branches aren't the names of an enumeration.
-fn bad_merge_at<'a>(catalog: &Catalog<'a>, scope: &Scope<'a>, e: &'a Expr) -> Option<Merged<'a>> {
+fn bad_merge_at<'a>(catalog: &Catalog<'a>, scope: &Scope, e: &'a Expr) -> Option<Merged<'a>> {
     let Expr::Merge(x, patterns, _) = e else {
         return None;
     };
@@ -197,53 +219,49 @@ fn bad_merge_at<'a>(catalog: &Catalog<'a>, scope: &Scope<'a>, e: &'a Expr) -> Op
 }
 
 /// The first such merge of an equation.
-fn bad_merge_in<'a>(
-    alloc: Global,
-    catalog: &Catalog<'a>,
-    scope: &Scope<'a>,
-    equation: &'a Equation,
-) -> Result<Option<Merged<'a>>, AllocError> {
-    for e in &parts_of(alloc, &equation.right)? {
-        if let Some(found) = bad_merge_at(catalog, scope, *e) {
-            return Ok(Some(found));
+fn bad_merge_in<'a>(spot: &Spot<'_, 'a>) -> Option<Merged<'a>> {
+    for e in spot.parts {
+        let found = bad_merge_at(spot.catalog, spot.scope, *e);
+        if found.is_some() {
+            return found;
         }
     }
-    Ok(None)
+    None
 }
 
 /// How a merge on an enumeration is told.
 fn said_of_merge(alloc: Global, merged: &Merged) -> Result<Said, AllocError> {
-    let variable = Quoted(merged.variable);
-    let what = match missing(merged.patterns, merged.names) {
-        Some(name) => format!(in alloc;
-            "The merge on {variable} has no branch for {}.",
-            Quoted(name)
-        )?,
-        None => format!(in alloc;
-            "The branches of the merge on {variable} aren't the names of its type, each once and in order."
-        )?,
-    };
-    let mut names = Vec::new(alloc);
-    for declared in merged.names {
-        names.push(declared.name.as_str())?;
+    let mend = [
+        Part::Words("Write a branch for each name of the type, in this order: "),
+        Part::Labels(merged.names),
+        Part::Words("."),
+    ];
+    match missing(merged.patterns, merged.names) {
+        Some(name) => say(
+            alloc,
+            &[
+                Part::Around("The merge on ", merged.variable, " has no branch for "),
+                Part::Name(name),
+                Part::Words("."),
+            ],
+            &mend,
+        ),
+        None => say(
+            alloc,
+            &[Part::Around(
+                "The branches of the merge on ",
+                merged.variable,
+                " aren't the names of its type, each once and in order.",
+            )],
+            &mend,
+        ),
     }
-    let mend = format!(in alloc;
-        "Write a branch for each name of the type, in this order: {}.",
-        Names(names.as_slice())
-    )?;
-    Ok(Said { what, mend })
 }
 
 /// `E19`
-pub(crate) fn bad_merge(alloc: Global, catalog: &Catalog, byte: usize) -> Result<Said, AllocError> {
-    if let Some((scope, equation)) = equation_at(catalog, byte) {
-        if let Some(merged) = bad_merge_in(alloc, catalog, scope, equation)? {
-            return said_of_merge(alloc, &merged);
-        }
+pub(crate) fn bad_merge(alloc: Global, spot: &Spot) -> Result<Said, AllocError> {
+    match bad_merge_in(spot) {
+        Some(merged) => said_of_merge(alloc, &merged),
+        None => usual(alloc, spot.error),
     }
-    in_words(
-        alloc,
-        "The branches of a merge on a `bool` are `true` and `false`, in this order.",
-        "Write a branch for each of the two.",
-    )
 }

@@ -1,12 +1,13 @@
 //! The rules of initialisation: `E30` and `E31`.
 
-use crate::find::{equation_at, parts_of};
-use crate::said::{Said, in_words, mended_by};
-use crate::spelling::spelled;
-use crate::words::{OnClock, Quoted, Sign};
+use crate::find::Spot;
+use crate::said::{Said, mended_by, say};
+use crate::usual::{mend_of, usual};
+use crate::words::Part;
+use lulist::Name;
 use lustat_classes::{is_one, least_classes, lefts_are_known, needs_met};
-use lustat_scope::{Catalog, ClockRef, PatternRef, Scope};
-use lutree::{Equation, Expr, Infix, Prefix};
+use lustat_scope::{ClockRef, PatternRef, Scope};
+use lutree::{Expr, Infix, Prefix};
 use std::alloc::{AllocError, Global};
 
 /// How many variables are followed from one to what it is computed from.
@@ -31,85 +32,97 @@ enum Need<'a> {
 }
 
 /// What needs a value, and the expression that may have none; of a `current` it is the whole.
-#[derive(Drop)]
+#[derive(Clone, Copy)]
 struct Gap<'a> {
     need: Need<'a>,
     part: &'a Expr,
 }
 
+/// An expression that something needs, where it may have no value at first.
+fn open_gap<'a>(scope: &Scope, marks: &[bool], need: Need<'a>, part: &'a Expr) -> Option<Gap<'a>> {
+    if is_one(scope, marks, part) {
+        return Some(Gap { need, part });
+    }
+    None
+}
+
 /// The first of some expressions that may have no value at first.
-fn first_open<'a>(scope: &Scope, marks: &[bool], all: &'a [Expr]) -> Option<&'a Expr> {
-    all.iter().find(|e| is_one(scope, marks, *e))
+fn first_gap<'a>(
+    scope: &Scope,
+    marks: &[bool],
+    need: Need<'a>,
+    all: &'a [Expr],
+) -> Option<Gap<'a>> {
+    for part in all {
+        let found = open_gap(scope, marks, need, part);
+        if found.is_some() {
+            return found;
+        }
+    }
+    None
 }
 
 /// What may have no value at first in a part of an expression, but for the parts inside it, and needs one.
 fn gap_at<'a>(scope: &Scope, marks: &[bool], e: &'a Expr) -> Option<Gap<'a>> {
     match e {
-        Expr::Unary(Prefix::Pre, part) if is_one(scope, marks, part) => Some(Gap {
-            need: Need::Before,
-            part,
-        }),
-        Expr::Binary(Infix::FollowedBy, _, part) if is_one(scope, marks, part) => Some(Gap {
-            need: Need::FollowedBy,
-            part,
-        }),
+        Expr::Unary(Prefix::Pre, part) => open_gap(scope, marks, Need::Before, part),
+        Expr::Binary(Infix::FollowedBy, _, part) => {
+            open_gap(scope, marks, Need::FollowedBy, part)
+        }
         Expr::Current(x) if !needs_met(scope, marks, e) => Some(Gap {
             need: Need::Held(x.as_str()),
             part: e,
         }),
         Expr::Merge(c, _, branches) => {
-            let part = first_open(scope, marks, branches)?;
-            let need = Need::Branch(c.as_str());
-            Some(Gap { need, part })
+            first_gap(scope, marks, Need::Branch(c.as_str()), branches)
         }
         Expr::Call(f, arguments) => {
-            let part = first_open(scope, marks, arguments)?;
-            let need = Need::Argument(f.as_str());
-            Some(Gap { need, part })
+            first_gap(scope, marks, Need::Argument(f.as_str()), arguments)
         }
         _ => None,
     }
 }
 
+/// The first of some variables that is an output.
+fn first_output<'a>(scope: &Scope, left: &'a [Name]) -> Option<&'a str> {
+    for x in left {
+        if scope.is_output(x.as_str()) {
+            return Some(x.as_str());
+        }
+    }
+    None
+}
+
+/// What needs the right side of an equation that defines these variables.
+fn need_of<'a>(scope: &Scope, left: &'a [Name]) -> Option<Need<'a>> {
+    match first_output(scope, left) {
+        Some(y) => Some(Need::Output(y)),
+        None => Some(Need::Clock(left.first()?.as_str())),
+    }
+}
+
 /// The right side of an equation, where what it defines needs a value at first, and it may have none.
-fn gap_of_sides<'a>(scope: &Scope, marks: &[bool], equation: &'a Equation) -> Option<Gap<'a>> {
-    if !is_one(scope, marks, &equation.right) {
-        return None;
-    }
-    let part = &equation.right;
-    let left = equation.left.as_slice();
-    if let Some(y) = left.iter().find(|x| scope.is_output(x.as_str())) {
-        let need = Need::Output(y.as_str());
-        return Some(Gap { need, part });
-    }
-    let need = Need::Clock(left.first()?.as_str());
-    Some(Gap { need, part })
+fn gap_of_sides<'a>(spot: &Spot<'_, 'a>, marks: &[bool]) -> Option<Gap<'a>> {
+    let need = need_of(spot.scope, spot.equation.left.as_slice())?;
+    open_gap(spot.scope, marks, need, &spot.equation.right)
 }
 
 /// What may have no value at first in an equation, and needs one.
-fn gap_in<'a>(
-    alloc: Global,
-    scope: &Scope,
-    marks: &[bool],
-    equation: &'a Equation,
-) -> Result<Option<Gap<'a>>, AllocError> {
-    for e in &parts_of(alloc, &equation.right)? {
-        if let Some(found) = gap_at(scope, marks, *e) {
-            return Ok(Some(found));
+fn gap_in<'a>(spot: &Spot<'_, 'a>, marks: &[bool]) -> Option<Gap<'a>> {
+    for e in spot.parts {
+        let found = gap_at(spot.scope, marks, *e);
+        if found.is_some() {
+            return found;
         }
     }
-    Ok(gap_of_sides(scope, marks, equation))
+    gap_of_sides(spot, marks)
 }
 
 /// The `pre` or the variable because of which an expression may have no value at first.
 fn cause_of<'a>(scope: &Scope, marks: &[bool], e: &'a Expr) -> Option<&'a Expr> {
     match e {
         Expr::Unary(Prefix::Pre, _) => Some(e),
-        Expr::Variable(_) => if is_one(scope, marks, e) {
-            Some(e)
-        } else {
-            None
-        },
+        Expr::Variable(_) if is_one(scope, marks, e) => Some(e),
         Expr::Unary(_, a) | Expr::When(a, _) => cause_of(scope, marks, a),
         Expr::Binary(Infix::Data(_), a, b) => match cause_of(scope, marks, a) {
             None => cause_of(scope, marks, b),
@@ -159,62 +172,64 @@ fn root_of<'a>(scope: &Scope<'a>, marks: &[bool], e: &'a Expr) -> &'a Expr {
 }
 
 /// How what needs a value is told in a sentence.
-fn need_text(alloc: Global, need: Need) -> Result<String, AllocError> {
+fn need_part(need: Need<'_>) -> Part<'_> {
     match need {
-        Need::Output(y) => format!(in alloc; "the output {}", Quoted(y)),
-        Need::Clock(c) => format!(in alloc; "{}, which is named as a clock,", Quoted(c)),
-        Need::Before => String::from_str(alloc, "what stands behind a `pre`"),
-        Need::FollowedBy => String::from_str(alloc, "what stands on the right of a `fby`"),
-        Need::Argument(f) => format!(in alloc; "an argument of {}", Quoted(f)),
-        Need::Branch(c) => format!(in alloc; "a branch of the merge on {}", Quoted(c)),
-        Need::Held(v) => format!(in alloc; "{}, which a `current` holds,", Quoted(v)),
+        Need::Output(y) => Part::Around("the output ", y, ""),
+        Need::Clock(c) => Part::Around("", c, ", which is named as a clock,"),
+        Need::Before => Part::Words("what stands behind a `pre`"),
+        Need::FollowedBy => Part::Words("what stands on the right of a `fby`"),
+        Need::Argument(f) => Part::Around("an argument of ", f, ""),
+        Need::Branch(c) => Part::Around("a branch of the merge on ", c, ""),
+        Need::Held(v) => Part::Around("", v, ", which a `current` holds,"),
+    }
+}
+
+/// The expression in which the cause of a gap is looked for.
+fn part_of<'a>(scope: &Scope<'a>, gap: &Gap<'a>) -> Option<&'a Expr> {
+    match gap.need {
+        Need::Held(v) => right_of(scope, v),
+        _ => Some(gap.part),
+    }
+}
+
+/// The cause of a gap; what has the gap, where none is seen.
+fn cause_in<'a>(scope: &Scope<'a>, marks: &[bool], gap: &Gap<'a>) -> &'a Expr {
+    match part_of(scope, gap) {
+        Some(e) => cause_of(scope, marks, e).unwrap_or(gap.part),
+        None => gap.part,
     }
 }
 
 /// How a gap is told.
 fn said_of_gap<'a>(
     alloc: Global,
-    scope: &Scope<'a>,
+    spot: &Spot<'_, 'a>,
     marks: &[bool],
     gap: &Gap<'a>,
 ) -> Result<Said, AllocError> {
-    let need = need_text(alloc, gap.need)?;
-    let part = match gap.need {
-        Need::Held(v) => right_of(scope, v),
-        _ => Some(gap.part),
-    };
-    let cause = match part {
-        Some(e) => cause_of(scope, marks, e),
-        None => None,
-    };
-    let root = root_of(scope, marks, cause.unwrap_or(gap.part));
-    let text = spelled(alloc, root)?;
-    let what = format!(in alloc;
-        "{} has no value at the first instant, and {need} needs one there.",
-        Quoted(text.as_str())
-    )?;
+    let root = root_of(spot.scope, marks, cause_in(spot.scope, marks, gap));
     mended_by(
         alloc,
-        what,
-        "Say what holds at the first instant: `0 -> pre x`, or `0 fby x`.",
+        &[
+            Part::Value(root),
+            Part::Words(" has no value at the first instant, and "),
+            need_part(gap.need),
+            Part::Words(" needs one there."),
+        ],
+        mend_of(spot.error),
     )
 }
 
 /// `E30`
-pub(crate) fn maybe_nil(alloc: Global, catalog: &Catalog, byte: usize) -> Result<Said, AllocError> {
-    if let Some((scope, equation)) = equation_at(catalog, byte) {
-        if lefts_are_known(scope) {
-            let marks = least_classes(alloc, scope)?;
-            if let Some(gap) = gap_in(alloc, scope, &marks, equation)? {
-                return said_of_gap(alloc, scope, &marks, &gap);
-            }
-        }
+pub(crate) fn maybe_nil(alloc: Global, spot: &Spot) -> Result<Said, AllocError> {
+    if !lefts_are_known(spot.scope) {
+        return usual(alloc, spot.error);
     }
-    in_words(
-        alloc,
-        "A value may be missing at the first instant, where it is needed.",
-        "Say what holds at the first instant: `0 -> pre x`, or `0 fby x`.",
-    )
+    let marks = least_classes(alloc, spot.scope)?;
+    match gap_in(spot, &marks) {
+        Some(gap) => said_of_gap(alloc, spot, &marks, &gap),
+        None => usual(alloc, spot.error),
+    }
 }
 
 /// Whether an expression is the constant that a pattern asks for.
@@ -237,11 +252,19 @@ fn begins_with(e: &Expr, pattern: PatternRef) -> bool {
 }
 
 /// A variable that a `current` holds, the variable of its clock, and the pattern.
-#[derive(Drop)]
+#[derive(Clone, Copy)]
 struct Held<'a> {
     variable: &'a str,
     clock: &'a str,
     pattern: PatternRef<'a>,
+}
+
+/// Whether the equation of a clock's variable begins with the constant that a pattern asks for.
+fn is_begun(scope: &Scope, clock: &str, pattern: PatternRef) -> bool {
+    match right_of(scope, clock) {
+        Some(right) => begins_with(right, pattern),
+        None => false,
+    }
 }
 
 /// The variable of a `current` whose clock may be false at first.
@@ -252,10 +275,8 @@ fn held_at<'a>(scope: &Scope<'a>, e: &'a Expr) -> Option<Held<'a>> {
     let ClockRef::On(clock, pattern) = scope.clock(x.as_str())? else {
         return None;
     };
-    if let Some(right) = right_of(scope, clock) {
-        if begins_with(right, pattern) {
-            return None;
-        }
+    if is_begun(scope, clock, pattern) {
+        return None;
     }
     Some(Held {
         variable: x.as_str(),
@@ -265,54 +286,54 @@ fn held_at<'a>(scope: &Scope<'a>, e: &'a Expr) -> Option<Held<'a>> {
 }
 
 /// The first such variable in an equation.
-fn held_in<'a>(
-    alloc: Global,
-    scope: &Scope<'a>,
-    equation: &'a Equation,
-) -> Result<Option<Held<'a>>, AllocError> {
-    for e in &parts_of(alloc, &equation.right)? {
-        if let Some(found) = held_at(scope, *e) {
-            return Ok(Some(found));
+fn held_in<'a>(spot: &Spot<'_, 'a>) -> Option<Held<'a>> {
+    for e in spot.parts {
+        let found = held_at(spot.scope, *e);
+        if found.is_some() {
+            return found;
         }
     }
-    Ok(None)
+    None
 }
 
 /// How such a `current` is told.
 fn said_of_held(alloc: Global, scope: &Scope, held: &Held) -> Result<Said, AllocError> {
-    let variable = Quoted(held.variable);
-    let name = Quoted(held.clock);
-    let clock = OnClock(ClockRef::On(held.clock, held.pattern));
-    let sign = Sign(held.pattern);
-    let what = if scope.is_input(held.clock) {
-        format!(in alloc;
-            "{variable} is on {clock}, which may be false at first: {name} is an input."
-        )?
-    } else {
-        format!(in alloc;
-            "{variable} is on {clock}, which may be false at first: the equation of {name} doesn't begin with `{sign} ->`."
-        )?
-    };
-    let mend = format!(in alloc;
-        "Put {variable} on a clock whose equation begins so, as `k = {sign} -> ..`."
-    )?;
-    Ok(Said { what, mend })
+    let mend = [
+        Part::Around(
+            "Put ",
+            held.variable,
+            " on a clock whose equation begins so, as `k = ",
+        ),
+        Part::Sign(held.pattern),
+        Part::Words(" -> ..`."),
+    ];
+    let variable = Part::Around("", held.variable, " is on ");
+    let clock = Part::Clock(ClockRef::On(held.clock, held.pattern));
+    if scope.is_input(held.clock) {
+        let why = Part::Around(
+            ", which may be false at first: ",
+            held.clock,
+            " is an input.",
+        );
+        return say(alloc, &[variable, clock, why], &mend);
+    }
+    let why = Part::Around(
+        ", which may be false at first: the equation of ",
+        held.clock,
+        " doesn't begin with `",
+    );
+    let begin = Part::Sign(held.pattern);
+    say(
+        alloc,
+        &[variable, clock, why, begin, Part::Words(" ->`.")],
+        &mend,
+    )
 }
 
 /// `E31`
-pub(crate) fn current_nil(
-    alloc: Global,
-    catalog: &Catalog,
-    byte: usize,
-) -> Result<Said, AllocError> {
-    if let Some((scope, equation)) = equation_at(catalog, byte) {
-        if let Some(held) = held_in(alloc, scope, equation)? {
-            return said_of_held(alloc, scope, &held);
-        }
+pub(crate) fn current_nil(alloc: Global, spot: &Spot) -> Result<Said, AllocError> {
+    match held_in(spot) {
+        Some(held) => said_of_held(alloc, spot.scope, &held),
+        None => usual(alloc, spot.error),
     }
-    in_words(
-        alloc,
-        "A `current` holds a variable whose clock may be false at first.",
-        "Put it on a clock whose equation begins with `true ->`.",
-    )
 }

@@ -1,20 +1,21 @@
 //! The rules of clocks: `E20` to `E23`.
 
-use crate::find::{declaration_at, equation_at, parts_of, role_at};
-use crate::said::{Said, in_words, mended_by};
-use crate::side::{Side, side_text};
-use crate::words::{Clock, Names, OnClock, Quoted, TypeName};
+use crate::find::{Spot, role_at};
+use crate::said::{Said, mended_by, say};
+use crate::usual::{mend_of, usual};
+use crate::words::Part;
 use lulist::Name;
+use lustat_rules::StatError;
 use lustat_scope::{Catalog, ClockRef, PatternRef, Scope};
-use lutree::{Condition, Declaration, Equation, Expr, Kind, Node, Pattern};
+use lutree::{Condition, Declaration, Expr, Kind, Node, Pattern, Program};
 use std::alloc::{AllocError, Global};
 
 /// Two things of one equation that stand on two clocks.
-#[derive(Drop)]
+#[derive(Clone, Copy)]
 struct Apart<'a> {
-    first: Side<'a>,
+    first: Part<'a>,
     on: ClockRef<'a>,
-    second: Side<'a>,
+    second: Part<'a>,
     other: ClockRef<'a>,
 }
 
@@ -55,8 +56,9 @@ fn clock_of<'a>(scope: &Scope<'a>, e: &'a Expr) -> Option<ClockRef<'a>> {
 #[cycle(clocks)]
 fn clock_of_arguments<'a>(scope: &Scope<'a>, arguments: &'a [Expr]) -> Option<ClockRef<'a>> {
     for e in arguments {
-        if let Some(clock) = clock_of(scope, e) {
-            return Some(clock);
+        let found = clock_of(scope, e);
+        if found.is_some() {
+            return found;
         }
     }
     None
@@ -64,9 +66,9 @@ fn clock_of_arguments<'a>(scope: &Scope<'a>, arguments: &'a [Expr]) -> Option<Cl
 
 /// Two things on clocks, where these are two.
 fn apart_between<'a>(
-    first: Side<'a>,
+    first: Part<'a>,
     on: ClockRef<'a>,
-    second: Side<'a>,
+    second: Part<'a>,
     other: ClockRef<'a>,
 ) -> Option<Apart<'a>> {
     if on.is(&other) {
@@ -84,7 +86,7 @@ fn apart_between<'a>(
 fn apart_of_two<'a>(scope: &Scope<'a>, a: &'a Expr, b: &'a Expr) -> Option<Apart<'a>> {
     let on = clock_of(scope, a)?;
     let other = clock_of(scope, b)?;
-    apart_between(Side::Part(a), on, Side::Part(b), other)
+    apart_between(Part::Value(a), on, Part::Value(b), other)
 }
 
 /// Three expressions, of which two stand on two clocks.
@@ -94,11 +96,13 @@ fn apart_of_three<'a>(
     a: &'a Expr,
     b: &'a Expr,
 ) -> Option<Apart<'a>> {
-    if let Some(found) = apart_of_two(scope, c, a) {
-        return Some(found);
+    let found = apart_of_two(scope, c, a);
+    if found.is_some() {
+        return found;
     }
-    if let Some(found) = apart_of_two(scope, c, b) {
-        return Some(found);
+    let found = apart_of_two(scope, c, b);
+    if found.is_some() {
+        return found;
     }
     apart_of_two(scope, a, b)
 }
@@ -108,14 +112,27 @@ fn apart_of_sample<'a>(scope: &Scope<'a>, a: &'a Expr, clock: &'a Condition) -> 
     let on = clock_of(scope, a)?;
     let other = scope.clock(clock.variable.as_str())?;
     apart_between(
-        Side::Part(a),
+        Part::Value(a),
         on,
-        Side::Variable(clock.variable.as_str()),
+        Part::Name(clock.variable.as_str()),
         other,
     )
 }
 
 /// A branch of a merge that isn't on the clock of its pattern.
+fn apart_of_branch<'a>(
+    scope: &Scope<'a>,
+    c: &'a str,
+    pattern: &'a Pattern,
+    e: &'a Expr,
+) -> Option<Apart<'a>> {
+    let on = clock_of(scope, e)?;
+    let sign = PatternRef::of(pattern);
+    let branch = Part::Branch(c, sign);
+    apart_between(Part::Value(e), on, branch, ClockRef::On(c, sign))
+}
+
+/// The first such branch.
 fn apart_of_branches<'a>(
     scope: &Scope<'a>,
     c: &'a str,
@@ -123,12 +140,9 @@ fn apart_of_branches<'a>(
     branches: &'a [Expr],
 ) -> Option<Apart<'a>> {
     for (pattern, e) in patterns.iter().zip(branches) {
-        if let Some(on) = clock_of(scope, e) {
-            let clock = ClockRef::On(c, PatternRef::of(pattern));
-            let side = Side::Branch(c, pattern);
-            if let Some(found) = apart_between(Side::Part(e), on, side, clock) {
-                return Some(found);
-            }
+        let found = apart_of_branch(scope, c, pattern, e);
+        if found.is_some() {
+            return found;
         }
     }
     None
@@ -148,8 +162,9 @@ fn first_clocked<'a>(scope: &Scope<'a>, arguments: &'a [Expr]) -> Option<&'a Exp
 fn apart_of_arguments<'a>(scope: &Scope<'a>, arguments: &'a [Expr]) -> Option<Apart<'a>> {
     let first = first_clocked(scope, arguments)?;
     for e in arguments {
-        if let Some(found) = apart_of_two(scope, first, e) {
-            return Some(found);
+        let found = apart_of_two(scope, first, e);
+        if found.is_some() {
+            return found;
         }
     }
     None
@@ -169,77 +184,111 @@ fn apart_at<'a>(scope: &Scope<'a>, e: &'a Expr) -> Option<Apart<'a>> {
     }
 }
 
+/// A variable on the left on another clock than the first.
+fn apart_of_left<'a>(
+    scope: &Scope<'a>,
+    first: &'a Name,
+    on: ClockRef<'a>,
+    x: &'a Name,
+) -> Option<Apart<'a>> {
+    let other = scope.clock(x.as_str())?;
+    apart_between(
+        Part::Name(first.as_str()),
+        on,
+        Part::Name(x.as_str()),
+        other,
+    )
+}
+
 /// A variable on the left and the right side, or two variables on the left, on two clocks.
-fn apart_of_sides<'a>(scope: &Scope<'a>, equation: &'a Equation) -> Option<Apart<'a>> {
-    let (first, others) = equation.left.as_slice().split_first()?;
+fn apart_of_sides<'a>(spot: &Spot<'_, 'a>) -> Option<Apart<'a>> {
+    let scope = spot.scope;
+    let (first, others) = spot.equation.left.as_slice().split_first()?;
     let on = scope.clock(first.as_str())?;
     for x in others {
-        let other = scope.clock(x.as_str())?;
-        let found = apart_between(
-            Side::Variable(first.as_str()),
-            on,
-            Side::Variable(x.as_str()),
-            other,
-        );
+        let found = apart_of_left(scope, first, on, x);
         if found.is_some() {
             return found;
         }
     }
-    let right = clock_of(scope, &equation.right)?;
-    apart_between(Side::Variable(first.as_str()), on, Side::Right, right)
+    let right = clock_of(scope, &spot.equation.right)?;
+    apart_between(
+        Part::Name(first.as_str()),
+        on,
+        Part::Words("the right side"),
+        right,
+    )
 }
 
 /// What stands on two clocks in an equation: first in its right side, then between its sides.
-fn apart_in<'a>(
-    scope: &Scope<'a>,
-    parts: &[&'a Expr],
-    equation: &'a Equation,
-) -> Option<Apart<'a>> {
-    for e in parts {
-        if let Some(found) = apart_at(scope, *e) {
-            return Some(found);
+fn apart_in<'a>(spot: &Spot<'_, 'a>) -> Option<Apart<'a>> {
+    for e in spot.parts {
+        let found = apart_at(spot.scope, *e);
+        if found.is_some() {
+            return found;
         }
     }
-    apart_of_sides(scope, equation)
+    apart_of_sides(spot)
 }
 
 /// The variable of a `current` that is on the base clock.
 fn held_for_nothing<'a>(scope: &Scope, e: &'a Expr) -> Option<&'a str> {
-    match e {
-        Expr::Current(x) => match scope.clock(x.as_str()) {
-            Some(ClockRef::Base) => Some(x.as_str()),
-            _ => None,
-        },
+    let Expr::Current(x) = e else {
+        return None;
+    };
+    match scope.clock(x.as_str()) {
+        Some(ClockRef::Base) => Some(x.as_str()),
         _ => None,
     }
 }
 
-/// `E20`
-pub(crate) fn mismatch(alloc: Global, catalog: &Catalog, byte: usize) -> Result<Said, AllocError> {
-    let mend =
-        "Bring both to one clock: sample the faster by `when`, hold the slower by `current`, or join them by `merge`.";
-    let Some((scope, equation)) = equation_at(catalog, byte) else {
-        return in_words(alloc, "Values of two clocks are joined.", mend);
-    };
-    let parts = parts_of(alloc, &equation.right)?;
-    if let Some(x) = parts.iter().find_map(|e| held_for_nothing(scope, *e)) {
-        let what = format!(in alloc;
-            "`current` holds a variable that is on a clock, and {} is on the base clock.",
-            Quoted(x)
-        )?;
-        return mended_by(alloc, what, "Leave out the `current`.");
+/// The first such variable of an equation.
+fn held_in<'a>(spot: &Spot<'_, 'a>) -> Option<&'a str> {
+    for e in spot.parts {
+        let found = held_for_nothing(spot.scope, *e);
+        if found.is_some() {
+            return found;
+        }
     }
-    let Some(found) = apart_in(scope, &parts, equation) else {
-        return in_words(alloc, "Values of two clocks are joined.", mend);
-    };
-    let first = side_text(alloc, found.first)?;
-    let second = side_text(alloc, found.second)?;
-    let on = OnClock(found.on);
-    let other = OnClock(found.other);
-    let what = format!(in alloc;
-        "Two clocks are joined: {first} is on {on}, {second} is on {other}."
-    )?;
-    mended_by(alloc, what, mend)
+    None
+}
+
+/// How two things on two clocks are told.
+fn said_of_apart(alloc: Global, error: &StatError, found: &Apart) -> Result<Said, AllocError> {
+    mended_by(
+        alloc,
+        &[
+            Part::Words("Two clocks are joined: "),
+            found.first,
+            Part::Words(" is on "),
+            Part::Clock(found.on),
+            Part::Words(", "),
+            found.second,
+            Part::Words(" is on "),
+            Part::Clock(found.other),
+            Part::Words("."),
+        ],
+        mend_of(error),
+    )
+}
+
+/// `E20`
+pub(crate) fn mismatch(alloc: Global, spot: &Spot) -> Result<Said, AllocError> {
+    if let Some(x) = held_in(spot) {
+        return mended_by(
+            alloc,
+            &[Part::Around(
+                "`current` holds a variable that is on a clock, and ",
+                x,
+                " is on the base clock.",
+            )],
+            "Leave out the `current`.",
+        );
+    }
+    match apart_in(spot) {
+        Some(found) => said_of_apart(alloc, spot.error, &found),
+        None => usual(alloc, spot.error),
+    }
 }
 
 /// The type of what a pattern may be.
@@ -251,7 +300,7 @@ fn asked_by(pattern: &Pattern) -> Kind {
 }
 
 /// A variable that stands as a clock, of what type it is, and of what type it would have to be; none is a type that no clock has.
-#[derive(Drop)]
+#[derive(Clone, Copy)]
 struct NoClock<'a> {
     variable: &'a str,
     found: Kind,
@@ -272,47 +321,83 @@ fn no_clock<'a>(scope: &Scope, x: &'a str, pattern: &Pattern) -> Option<NoClock<
     })
 }
 
+/// The first such pattern of a merge.
+fn no_clock_of<'a>(scope: &Scope, x: &'a str, patterns: &[Pattern]) -> Option<NoClock<'a>> {
+    for pattern in patterns {
+        let found = no_clock(scope, x, pattern);
+        if found.is_some() {
+            return found;
+        }
+    }
+    None
+}
+
 /// The variable that a part of an expression names as a clock, where it isn't one.
 fn no_clock_at<'a>(scope: &Scope, e: &'a Expr) -> Option<NoClock<'a>> {
     match e {
         Expr::When(_, clock) => no_clock(scope, clock.variable.as_str(), &clock.pattern),
-        Expr::Merge(x, patterns, _) => patterns
-            .as_slice()
-            .iter()
-            .find_map(|p| no_clock(scope, x.as_str(), p)),
+        Expr::Merge(x, patterns, _) => no_clock_of(scope, x.as_str(), patterns.as_slice()),
         _ => None,
     }
 }
 
-fn said_of_no_clock(alloc: Global, catalog: &Catalog, found: &NoClock) -> Result<Said, AllocError> {
-    let name = Quoted(found.variable);
-    let kind = TypeName(catalog.program(), found.found);
-    let wanted = TypeName(catalog.program(), found.wanted);
-    let what = format!(in alloc;
-        "{name} stands here as a clock of type {wanted}, and is of type {kind}."
-    )?;
+/// The first such variable of an equation.
+fn no_clock_in<'a>(spot: &Spot<'_, 'a>) -> Option<NoClock<'a>> {
+    for e in spot.parts {
+        let found = no_clock_at(spot.scope, *e);
+        if found.is_some() {
+            return found;
+        }
+    }
+    None
+}
+
+fn said_of_no_clock<'a>(
+    alloc: Global,
+    program: &'a Program,
+    found: &NoClock<'a>,
+) -> Result<Said, AllocError> {
     mended_by(
         alloc,
-        what,
+        &[
+            Part::Name(found.variable),
+            Part::Words(" stands here as a clock of type "),
+            Part::Type(program, found.wanted),
+            Part::Words(", and is of type "),
+            Part::Type(program, found.found),
+            Part::Words("."),
+        ],
         "Name a `bool`, or name a variable of an enumeration with one of its names, as `A(x)`.",
     )
 }
 
-/// The variables from one to its clock, and on to the clock of that; at most so many.
+/// The variable that a declaration names as a clock, where it isn't one.
+fn no_clock_declared<'a>(scope: &Scope, declared: &'a Declaration) -> Option<NoClock<'a>> {
+    match &declared.clock {
+        Some(clock) => no_clock(scope, clock.variable.as_str(), &clock.pattern),
+        None => None,
+    }
+}
+
+/// The variable that the clock of a declared one names.
+fn clock_of_declared<'a>(scope: &Scope<'a>, declared: &Declaration) -> Option<&'a Declaration> {
+    match &declared.clock {
+        Some(clock) => scope.find(clock.variable.as_str()),
+        None => None,
+    }
+}
+
+/// The variables from one to its clock, and on to the clock of that; at most eight, and the first once more where it comes again.
 fn chain_of<'a>(
     alloc: Global,
     scope: &Scope<'a>,
     declared: &'a Declaration,
-    most: usize,
 ) -> Result<Vec<&'a str>, AllocError> {
     let mut names = Vec::new(alloc);
     let mut at = declared;
-    for _ in 0..most {
+    for _ in 0..8 {
         names.push(at.name.as_str())?;
-        let Some(clock) = &at.clock else {
-            break;
-        };
-        match scope.find(clock.variable.as_str()) {
+        match clock_of_declared(scope, at) {
             Some(next) => at = next,
             None => break,
         }
@@ -324,46 +409,39 @@ fn chain_of<'a>(
     Ok(names)
 }
 
-/// How a declared clock is told that isn't one.
-fn said_of_declared<'a>(
+/// How a chain of clocks without an end is told.
+fn said_of_chain<'a>(alloc: Global, names: &'a [&'a str]) -> Result<Said, AllocError> {
+    mended_by(
+        alloc,
+        &[
+            Part::Words("Whoever goes from variable to clock never comes to the base clock: "),
+            Part::Names(names),
+            Part::Words(" .."),
+        ],
+        "Declare one of them without a clock.",
+    )
+}
+
+/// `E21` of a declared clock that isn't one.
+pub(crate) fn not_a_clock<'a>(
     alloc: Global,
-    catalog: &Catalog,
+    program: &'a Program,
     scope: &Scope<'a>,
     declared: &'a Declaration,
 ) -> Result<Said, AllocError> {
-    if let Some(clock) = &declared.clock {
-        if let Some(found) = no_clock(scope, clock.variable.as_str(), &clock.pattern) {
-            return said_of_no_clock(alloc, catalog, &found);
-        }
+    if let Some(found) = no_clock_declared(scope, declared) {
+        return said_of_no_clock(alloc, program, &found);
     }
-    let names = chain_of(alloc, scope, declared, 8)?;
-    let what = format!(in alloc;
-        "Whoever goes from variable to clock never comes to the base clock: {} ..",
-        Names(names.as_slice())
-    )?;
-    mended_by(alloc, what, "Declare one of them without a clock.")
+    let names = chain_of(alloc, scope, declared)?;
+    said_of_chain(alloc, names.as_slice())
 }
 
-/// `E21`
-pub(crate) fn not_a_clock(
-    alloc: Global,
-    catalog: &Catalog,
-    byte: usize,
-) -> Result<Said, AllocError> {
-    if let Some((scope, declared)) = declaration_at(catalog, byte) {
-        return said_of_declared(alloc, catalog, scope, declared);
+/// `E21` of an equation.
+pub(crate) fn no_clock_inside(alloc: Global, spot: &Spot) -> Result<Said, AllocError> {
+    match no_clock_in(spot) {
+        Some(found) => said_of_no_clock(alloc, spot.catalog.program(), &found),
+        None => usual(alloc, spot.error),
     }
-    if let Some((scope, equation)) = equation_at(catalog, byte) {
-        let parts = parts_of(alloc, &equation.right)?;
-        if let Some(found) = parts.iter().find_map(|e| no_clock_at(scope, *e)) {
-            return said_of_no_clock(alloc, catalog, &found);
-        }
-    }
-    in_words(
-        alloc,
-        "A variable stands as a clock, and is none.",
-        "Name a `bool`, or a variable of an enumeration with one of its names.",
-    )
 }
 
 /// The clock of a declaration.
@@ -376,73 +454,88 @@ fn declared_clock(declared: &Declaration) -> ClockRef<'_> {
 
 /// The first output of a node that is on a clock.
 fn clocked_output(node: &Node) -> Option<&Declaration> {
-    node.outputs.as_slice().iter().find(|d| d.clock.is_some())
+    for declared in node.outputs.as_slice() {
+        if declared.clock.is_some() {
+            return Some(declared);
+        }
+    }
+    None
 }
 
-/// How a call of the main node is told.
-fn said_of_call(alloc: Global, catalog: &Catalog, main: &str) -> Result<Said, AllocError> {
-    let mend = "Call a node whose outputs are all on the base clock.";
-    let called = match catalog.find(main) {
-        Some(scope) => clocked_output(scope.node()),
-        None => None,
-    };
-    let Some(output) = called else {
-        return in_words(
-            alloc,
-            "A main node with a clocked output isn't called.",
-            mend,
-        );
-    };
-    let clock = OnClock(declared_clock(output));
-    let name = Quoted(output.name.as_str());
-    let what = format!(in alloc;
-        "The main node {} is called here, and its output {name} is on {clock}.",
-        Quoted(main)
-    )?;
-    mended_by(alloc, what, mend)
+/// The first output of the main node that is on a clock.
+fn clocked_main<'a>(catalog: &Catalog<'a>, main: &str) -> Option<&'a Declaration> {
+    let scope = catalog.find(main)?;
+    clocked_output(scope.node())
 }
 
-/// `E22`
-pub(crate) fn clocked_parameter(
+/// How a call of a main node with this clocked output is told.
+fn said_of_call<'a>(
     alloc: Global,
-    catalog: &Catalog,
-    main: &str,
-    byte: usize,
+    error: &StatError,
+    main: &'a str,
+    output: &'a Declaration,
 ) -> Result<Said, AllocError> {
-    let Some((scope, declared)) = declaration_at(catalog, byte) else {
-        return said_of_call(alloc, catalog, main);
-    };
-    let node = Quoted(scope.node().name.as_str());
-    let name = Quoted(declared.name.as_str());
-    let role = role_at(scope.node(), byte);
-    let clock = OnClock(declared_clock(declared));
-    let what = format!(in alloc;
-        "The {role} {name} of node {node} is on {clock}; inputs, and outputs of all but the main node, are on the base clock."
-    )?;
     mended_by(
         alloc,
-        what,
+        &[
+            Part::Around("The main node ", main, " is called here, and its output "),
+            Part::Around("", output.name.as_str(), " is on "),
+            Part::Clock(declared_clock(output)),
+            Part::Words("."),
+        ],
+        mend_of(error),
+    )
+}
+
+/// `E22` of an equation that calls the main node.
+pub(crate) fn clocked_call(alloc: Global, spot: &Spot, main: &str) -> Result<Said, AllocError> {
+    match clocked_main(spot.catalog, main) {
+        Some(output) => said_of_call(alloc, spot.error, main, output),
+        None => usual(alloc, spot.error),
+    }
+}
+
+/// `E22` of a declaration.
+pub(crate) fn clocked_parameter<'a>(
+    alloc: Global,
+    node: &'a Node,
+    declared: &'a Declaration,
+) -> Result<Said, AllocError> {
+    mended_by(
+        alloc,
+        &[
+            Part::Words("The "),
+            Part::Words(role_at(node, declared.byte)),
+            Part::Of(" ", declared.name.as_str(), node.name.as_str()),
+            Part::Words(" is on "),
+            Part::Clock(declared_clock(declared)),
+            Part::Words("; inputs, and outputs of all but the main node, are on the base clock."),
+        ],
         "Declare it without a clock, and sample it inside by `when`; a node that is given samples lives on their clock as a whole.",
     )
 }
 
 /// `E23`
-pub(crate) fn hidden(alloc: Global, catalog: &Catalog, byte: usize) -> Result<Said, AllocError> {
-    if let Some((_, declared)) = declaration_at(catalog, byte) {
-        if let Some(clock) = &declared.clock {
-            let name = Quoted(declared.name.as_str());
-            let shown = Clock(ClockRef::of(clock));
-            let variable = Quoted(clock.variable.as_str());
-            let what = format!(in alloc;
-                "The output {name} is on the clock `{shown}`, and {variable} is a local, which nobody outside sees."
-            )?;
-            let mend = format!(in alloc; "Make {variable} an output too.")?;
-            return Ok(Said { what, mend });
-        }
-    }
-    in_words(
+pub(crate) fn hidden(
+    alloc: Global,
+    error: &StatError,
+    declared: &Declaration,
+) -> Result<Said, AllocError> {
+    let Some(clock) = &declared.clock else {
+        return usual(alloc, error);
+    };
+    let variable = clock.variable.as_str();
+    say(
         alloc,
-        "An output is on a clock that a local names.",
-        "Make the local an output too.",
+        &[
+            Part::Around("The output ", declared.name.as_str(), " is on the clock `"),
+            Part::Short(ClockRef::of(clock)),
+            Part::Around(
+                "`, and ",
+                variable,
+                " is a local, which nobody outside sees.",
+            ),
+        ],
+        &[Part::Around("Make ", variable, " an output too.")],
     )
 }

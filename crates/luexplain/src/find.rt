@@ -1,12 +1,61 @@
 //! What stands at a byte of a program, and the parts of an expression.
 
+use lulist::Name;
+use lustat_rules::StatError;
 use lustat_scope::{Catalog, Scope};
-use lutree::{Declaration, DeclaredName, Equation, Expr, Node, TypeDeclaration};
+use lutree::{Declaration, DeclaredName, Equation, Expr, Node, Program, TypeDeclaration};
 use std::alloc::{AllocError, Global};
+
+/// A refused equation, with why it is refused, the program, its node, and the parts of its right side.
+#[derive(Clone, Copy)]
+pub(crate) struct Spot<'s, 'a> {
+    pub(crate) error: &'s StatError,
+    pub(crate) catalog: &'s Catalog<'a>,
+    pub(crate) scope: &'s Scope<'a>,
+    pub(crate) equation: &'a Equation,
+    pub(crate) parts: &'s [&'a Expr],
+}
+
+/// The first node of a name.
+pub(crate) fn node_named<'a>(program: &'a Program, name: &str) -> Option<&'a Node> {
+    for node in program.nodes.as_slice() {
+        if node.name.is(name) {
+            return Some(node);
+        }
+    }
+    None
+}
+
+/// The inputs of a node.
+pub(crate) fn inputs_of<'a>(catalog: &Catalog<'a>, f: &Name) -> Option<&'a [Declaration]> {
+    let scope = catalog.find(f.as_str())?;
+    Some(scope.node().inputs.as_slice())
+}
+
+/// The outputs of a node.
+pub(crate) fn outputs_of<'a>(catalog: &Catalog<'a>, f: &Name) -> Option<&'a [Declaration]> {
+    let scope = catalog.find(f.as_str())?;
+    Some(scope.node().outputs.as_slice())
+}
+
+/// The type at a place.
+pub(crate) fn type_at_place(program: &Program, place: u8) -> Option<&TypeDeclaration> {
+    for (i, declared) in program.types.as_slice().iter().enumerate() {
+        if i == usize::from(place) {
+            return Some(declared);
+        }
+    }
+    None
+}
 
 /// The equation of a node that begins at a byte.
 fn equation_in(node: &Node, byte: usize) -> Option<&Equation> {
-    node.equations.as_slice().iter().find(|q| q.byte == byte)
+    for equation in node.equations.as_slice() {
+        if equation.byte == byte {
+            return Some(equation);
+        }
+    }
+    None
 }
 
 /// The equation that begins at a byte, with its node.
@@ -45,10 +94,31 @@ pub(crate) fn declaration_at<'c, 'a>(
     None
 }
 
+/// The name of an enumeration that stands at a byte, among those of one type.
+fn label_in(names: &[DeclaredName], byte: usize) -> Option<&DeclaredName> {
+    for label in names {
+        if label.byte == byte {
+            return Some(label);
+        }
+    }
+    None
+}
+
 /// The name of an enumeration that stands at a byte.
 pub(crate) fn label_at(types: &[TypeDeclaration], byte: usize) -> Option<&DeclaredName> {
     for declared in types {
-        if let Some(label) = declared.names.as_slice().iter().find(|x| x.byte == byte) {
+        let found = label_in(declared.names.as_slice(), byte);
+        if found.is_some() {
+            return found;
+        }
+    }
+    None
+}
+
+/// The first of these names of an enumeration that is spelled so.
+fn label_of<'a>(names: &'a [DeclaredName], name: &str) -> Option<&'a DeclaredName> {
+    for label in names {
+        if label.name.is(name) {
             return Some(label);
         }
     }
@@ -61,8 +131,9 @@ pub(crate) fn label_named<'a>(
     name: &str,
 ) -> Option<&'a DeclaredName> {
     for declared in types {
-        if let Some(label) = declared.names.as_slice().iter().find(|x| x.name.is(name)) {
-            return Some(label);
+        let found = label_of(declared.names.as_slice(), name);
+        if found.is_some() {
+            return found;
         }
     }
     None
@@ -70,7 +141,12 @@ pub(crate) fn label_named<'a>(
 
 /// Whether one of the declarations has its name at a byte.
 fn has_byte(declarations: &[Declaration], byte: usize) -> bool {
-    declarations.iter().any(|d| d.byte == byte)
+    for declared in declarations {
+        if declared.byte == byte {
+            return true;
+        }
+    }
+    false
 }
 
 /// Whether the variable whose name stands at a byte is an input, an output or a local of a node.

@@ -7,8 +7,9 @@ ghost use Rattle.luexplain.specs.Told.{IsTold, whole};
 use crate::circle::circle;
 use crate::place::where_in;
 use crate::said::{Said, in_words, mended_by, told, whole};
-use crate::words::{Circle, Quoted};
+use crate::words::Part;
 use luflow::FaultKind;
+use lulist::Name;
 use lustat_scope::{Catalog, Scope};
 use lutree::{Declaration, Equation, Expr, Infix, Prefix, Program};
 use std::alloc::{AllocError, Global};
@@ -89,6 +90,14 @@ fn clock_reads(
     Ok(row)
 }
 
+/// An edge from a vertex to another, where there is the first.
+fn push_edge(graph: &mut Vec<Vec<usize>>, from: usize, to: usize) -> Result<(), AllocError> {
+    if from < graph.len() {
+        graph[from].push(to)?;
+    }
+    Ok(())
+}
+
 /// Each variable on the left of an equation leads to its vertex.
 fn lead_to(
     scope: &Scope,
@@ -98,12 +107,22 @@ fn lead_to(
 ) -> Result<(), AllocError> {
     for x in equation.left.as_slice() {
         if let Some(place) = scope.place(x.as_str()) {
-            if place < graph.len() {
-                graph[place].push(vertex)?;
-            }
+            push_edge(graph, place, vertex)?;
         }
     }
     Ok(())
+}
+
+/// What an equation reads at the same instant.
+fn reads_of(
+    alloc: Global,
+    scope: &Scope,
+    through: bool,
+    equation: &Equation,
+) -> Result<Vec<usize>, AllocError> {
+    let mut row = Vec::new(alloc);
+    push_reads(scope, through, &equation.right, &mut row)?;
+    Ok(row)
 }
 
 /// What the variables of a node read at one instant: a vertex for each variable, which leads to the vertex of its equation and to the variable
@@ -120,9 +139,7 @@ fn graph_of(alloc: Global, scope: &Scope, through: bool) -> Result<Vec<Vec<usize
         lead_to(scope, equation, variables + i, &mut graph)?;
     }
     for equation in equations {
-        let mut row = Vec::new(alloc);
-        push_reads(scope, through, &equation.right, &mut row)?;
-        graph.push(row)?;
+        graph.push(reads_of(alloc, scope, through, equation)?)?;
     }
     Ok(graph)
 }
@@ -142,8 +159,18 @@ fn names_at<'a>(
     Ok(names)
 }
 
-/// The variables of a node in a circle from one back to it, each reading the next at one instant; none where no equation shows it. A way that goes
-/// through no call is preferred.
+/// The places on a way from a variable back to it, each reading the next at one instant; none where no equation shows it.
+fn way_of(
+    alloc: Global,
+    scope: &Scope,
+    through: bool,
+    place: usize,
+) -> Result<Vec<usize>, AllocError> {
+    let graph = graph_of(alloc, scope, through)?;
+    circle(alloc, &graph, place)
+}
+
+/// The variables of a node in a circle from one back to it. A way that goes through no call is preferred.
 fn circle_of<'a>(
     alloc: Global,
     scope: &Scope<'a>,
@@ -152,12 +179,46 @@ fn circle_of<'a>(
     let Some(place) = scope.place(variable) else {
         return Ok(Vec::new(alloc));
     };
-    let direct = circle(alloc, &graph_of(alloc, scope, false)?, place)?;
+    let direct = way_of(alloc, scope, false, place)?;
     if !direct.is_empty() {
         return names_at(alloc, scope, &direct);
     }
-    let way = circle(alloc, &graph_of(alloc, scope, true)?, place)?;
+    let way = way_of(alloc, scope, true, place)?;
     names_at(alloc, scope, &way)
+}
+
+/// The same in the main node.
+fn circle_in<'a>(
+    alloc: Global,
+    catalog: &Catalog<'a>,
+    main: &str,
+    variable: &str,
+) -> Result<Vec<&'a str>, AllocError> {
+    match catalog.find(main) {
+        Some(scope) => circle_of(alloc, scope, variable),
+        None => Ok(Vec::new(alloc)),
+    }
+}
+
+/// How a circle of these variables is told; none where no equation shows it.
+fn said_of_names<'a>(alloc: Global, names: &'a [&'a str]) -> Result<Said, AllocError> {
+    let mend = "Put a `pre` into the circle, with a value for the first instant, as `0 -> pre x`.";
+    if names.is_empty() {
+        return in_words(
+            alloc,
+            "The value that this equation defines depends on itself at the same instant, by way of a call.",
+            mend,
+        );
+    }
+    mended_by(
+        alloc,
+        &[
+            Part::Words("A value can't depend on itself at one instant: "),
+            Part::Circle(names, "reads"),
+            Part::Words("."),
+        ],
+        mend,
+    )
 }
 
 /// What is said of a circle.
@@ -167,24 +228,18 @@ fn said_of_cycle(
     main: &str,
     variable: &str,
 ) -> Result<Said, AllocError> {
-    let mend = "Put a `pre` into the circle, with a value for the first instant, as `0 -> pre x`.";
-    let names = match catalog.find(main) {
-        Some(scope) => circle_of(alloc, scope, variable)?,
-        None => Vec::new(alloc),
-    };
-    if names.is_empty() {
-        return in_words(
-            alloc,
-            "The value that this equation defines depends on itself at the same instant, by way of a call.",
-            mend,
-        );
+    let names = circle_in(alloc, catalog, main, variable)?;
+    said_of_names(alloc, names.as_slice())
+}
+
+/// Whether a variable is among some.
+fn is_among(left: &[Name], variable: &str) -> bool {
+    for x in left {
+        if x.is(variable) {
+            return true;
+        }
     }
-    let circle = Circle {
-        names: names.as_slice(),
-        does: "reads",
-    };
-    let what = format!(in alloc; "A value can't depend on itself at one instant: {circle}.")?;
-    mended_by(alloc, what, mend)
+    false
 }
 
 /// Where the equation of a variable of the main node begins; 0 where there is none.
@@ -193,7 +248,7 @@ fn byte_of(catalog: &Catalog, main: &str, variable: &str) -> usize {
         return 0;
     };
     for equation in scope.node().equations.as_slice() {
-        if equation.left.as_slice().iter().any(|x| x.is(variable)) {
+        if is_among(equation.left.as_slice(), variable) {
             return equation.byte;
         }
     }
@@ -238,6 +293,24 @@ pub fn of_size(alloc: Global, path: &str) -> Result<String, AllocError>
     told(whole(alloc, path)?, &said)
 }
 
+/// How a fault of this kind is told behind its place.
+fn fault_of(kind: FaultKind) -> &'static str {
+    match kind {
+        FaultKind::Overflow => " of the table: a result doesn't fit into 64 bits.",
+        FaultKind::DivZero => " of the table: a divisor is 0.",
+    }
+}
+
+/// How a fault of this kind is mended.
+fn mend_of(kind: FaultKind) -> &'static str {
+    match kind {
+        FaultKind::Overflow => "Bound the operands before the operator.",
+        FaultKind::DivZero => {
+            "Divide by `if x = 0 then 1 else x`, or keep the division away by a clock; an `if` computes both branches."
+        }
+    }
+}
+
 /// What is said of a fault of a value.
 fn said_of_fault(
     alloc: Global,
@@ -245,27 +318,18 @@ fn said_of_fault(
     instant: u32,
     kind: FaultKind,
 ) -> Result<Said, AllocError> {
-    let line = u64::from(instant) + 2;
-    match kind {
-        FaultKind::Overflow => {
-            let what = format!(in alloc;
-                "The equation of {} has no value at instant {instant}, which is line {line} of the table: a result doesn't fit into 64 bits.",
-                Quoted(variable)
-            )?;
-            mended_by(alloc, what, "Bound the operands before the operator.")
-        }
-        FaultKind::DivZero => {
-            let what = format!(in alloc;
-                "The equation of {} has no value at instant {instant}, which is line {line} of the table: a divisor is 0.",
-                Quoted(variable)
-            )?;
-            mended_by(
-                alloc,
-                what,
-                "Divide by `if x = 0 then 1 else x`, or keep the division away by a clock; an `if` computes both branches.",
-            )
-        }
-    }
+    let instant = instant as usize;
+    mended_by(
+        alloc,
+        &[
+            Part::Around("The equation of ", variable, " has no value at instant "),
+            Part::Number(instant),
+            Part::Words(", which is line "),
+            Part::Number(instant + 2),
+            Part::Words(fault_of(kind)),
+        ],
+        mend_of(kind),
+    )
 }
 
 /// What a person is told of a fault in the equation of a main variable at an instant: its place, what is wrong, and how to mend it. `text` is the

@@ -5,13 +5,15 @@
 //!   program; [`of_place`], [`of_table`], [`of_schedule`]: of the other texts; [`of_fault`]: of an operator without a value.
 //! - [`laws`]: worked places.
 //!
-//! The parts: `place` (places), `said` (what is told, in lines), `words`, `spelling` and `side` (how names, expressions and things that don't agree
-//! are told), `find` (what stands at a byte, and the parts of an expression), `near` (names that differ by one letter), `circle` (the way from a
-//! vertex back to itself); `syntax`, `naming`, `typing`, `arity`, `clocks`, `classes`, `flat` (refusals of a program, which `rule` chooses among),
-//! `table`, `schedule`, `placement`.
+//! The parts: `place` (places), `said` (what is told, in lines), `words` and `spelling` (the parts of a sentence: names, expressions, types, clocks),
+//! `usual` (what is said of a rule alone), `find` (what stands at a byte, and the parts of an expression), `near` (names that differ by one letter), `bytes` (parts of a text),
+//! `circle` (the way from a vertex back to itself); `naming`, `typing`, `arity`, `clocks`, `classes` (broken rules, which `rule` chooses among),
+//! `syntax`, `flat`, `table`, `schedule`, `placement` (what of one is refused, `blame`, and where it stands in the text, `sought`).
 #![tactic(auto)]
 
 mod arity;
+mod blame;
+mod bytes;
 mod circle;
 mod classes;
 mod clocks;
@@ -25,11 +27,12 @@ mod placement;
 mod rule;
 mod said;
 mod schedule;
-mod side;
+mod sought;
 mod spelling;
 mod syntax;
 mod table;
 mod typing;
+mod usual;
 mod words;
 
 pub use flat::{of_cycle, of_fault, of_size};

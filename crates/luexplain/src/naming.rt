@@ -1,20 +1,24 @@
 //! The rules of names: `E10` to `E12`, `E15` to `E18`.
 
 use crate::circle::circle;
-use crate::find::{declaration_at, equation_at, label_at, label_named, parts_of, role_at};
+use crate::find::{Spot, label_at, label_named, role_at};
 use crate::near::is_near;
 use crate::place::line_of;
-use crate::said::{Said, in_words, mended_by};
-use crate::words::{Circle, Names, Quoted};
+use crate::said::{Said, mended_by, say};
+use crate::usual::{mend_of, usual};
+use crate::words::Part;
 use lulist::Name;
 use lunames::Places;
+use lustat_rules::StatError;
 use lustat_scope::{Catalog, Scope};
-use lutree::{Condition, Declaration, Equation, Expr, Kind, Node, Pattern};
+use lutree::{
+    Condition, Declaration, DeclaredName, Equation, Expr, Node, Pattern, Program, TypeDeclaration,
+};
 use lutype::graph_of;
 use std::alloc::{AllocError, Global};
 
 /// A name that is declared twice: what bears it, and where it stands first.
-#[derive(Drop)]
+#[derive(Clone, Copy)]
 struct Twice<'a> {
     of: &'static str,
     name: &'a str,
@@ -22,95 +26,160 @@ struct Twice<'a> {
 }
 
 /// The type whose name stands at a byte.
-fn type_twice<'a>(catalog: &Catalog<'a>, byte: usize) -> Option<Twice<'a>> {
-    let types = catalog.program().types.as_slice();
-    let declared = types.iter().find(|t| t.byte == byte)?;
-    let name = declared.name.as_str();
-    let first = types.iter().find(|t| t.name.is(name))?;
+fn type_at(types: &[TypeDeclaration], byte: usize) -> Option<&TypeDeclaration> {
+    for declared in types {
+        if declared.byte == byte {
+            return Some(declared);
+        }
+    }
+    None
+}
+
+/// Where the first type of a name stands.
+fn first_type(types: &[TypeDeclaration], name: &str) -> usize {
+    for declared in types {
+        if declared.name.is(name) {
+            return declared.byte;
+        }
+    }
+    0
+}
+
+/// The type whose name stands at a byte, and the first of its name.
+fn type_twice(types: &[TypeDeclaration], byte: usize) -> Option<Twice<'_>> {
+    let name = type_at(types, byte)?.name.as_str();
+    let first = first_type(types, name);
     Some(Twice {
         of: "type",
-        name,
-        first: first.byte,
-    })
-}
-
-/// The name of an enumeration at a byte.
-fn label_twice<'a>(catalog: &Catalog<'a>, byte: usize) -> Option<Twice<'a>> {
-    let types = catalog.program().types.as_slice();
-    let label = label_at(types, byte)?;
-    let name = label.name.as_str();
-    let first = label_named(types, name)?;
-    Some(Twice {
-        of: "name of an enumeration",
-        name,
-        first: first.byte,
-    })
-}
-
-/// The node whose name stands at a byte.
-fn node_twice<'a>(catalog: &Catalog<'a>, byte: usize) -> Option<Twice<'a>> {
-    let nodes = catalog.program().nodes.as_slice();
-    let node = nodes.iter().find(|n| n.byte == byte)?;
-    let name = node.name.as_str();
-    let first = nodes.iter().find(|n| n.name.is(name))?;
-    Some(Twice {
-        of: "node",
-        name,
-        first: first.byte,
-    })
-}
-
-/// The variable whose name stands at a byte.
-fn variable_twice<'a>(catalog: &Catalog<'a>, byte: usize) -> Option<Twice<'a>> {
-    let (scope, declared) = declaration_at(catalog, byte)?;
-    let name = declared.name.as_str();
-    let mut first = scope.find(name)?.byte;
-    if first == byte {
-        first = label_named(catalog.program().types.as_slice(), name)?.byte;
-    }
-    Some(Twice {
-        of: "variable",
         name,
         first,
     })
 }
 
-/// What bears the name at a byte.
-fn twice_at<'a>(catalog: &Catalog<'a>, byte: usize) -> Option<Twice<'a>> {
-    if let Some(found) = variable_twice(catalog, byte) {
-        return Some(found);
+/// Where the first name of an enumeration stands that is spelled so.
+fn first_label(types: &[TypeDeclaration], name: &str) -> usize {
+    match label_named(types, name) {
+        Some(label) => label.byte,
+        None => 0,
     }
-    if let Some(found) = node_twice(catalog, byte) {
-        return Some(found);
-    }
-    if let Some(found) = label_twice(catalog, byte) {
-        return Some(found);
-    }
-    type_twice(catalog, byte)
 }
 
-/// `E10`
+/// The name of an enumeration at a byte, and the first that is spelled so.
+fn label_twice(types: &[TypeDeclaration], byte: usize) -> Option<Twice<'_>> {
+    let name = label_at(types, byte)?.name.as_str();
+    let first = first_label(types, name);
+    Some(Twice {
+        of: "name of an enumeration",
+        name,
+        first,
+    })
+}
+
+/// The node whose name stands at a byte.
+fn node_at(nodes: &[Node], byte: usize) -> Option<&Node> {
+    for node in nodes {
+        if node.byte == byte {
+            return Some(node);
+        }
+    }
+    None
+}
+
+/// Where the first node of a name stands.
+fn first_node(nodes: &[Node], name: &str) -> usize {
+    for node in nodes {
+        if node.name.is(name) {
+            return node.byte;
+        }
+    }
+    0
+}
+
+/// The node whose name stands at a byte, and the first of its name.
+fn node_twice(nodes: &[Node], byte: usize) -> Option<Twice<'_>> {
+    let name = node_at(nodes, byte)?.name.as_str();
+    let first = first_node(nodes, name);
+    Some(Twice {
+        of: "node",
+        name,
+        first,
+    })
+}
+
+/// What is declared outside of nodes and bears the name at a byte.
+fn twice_at(program: &Program, byte: usize) -> Option<Twice<'_>> {
+    let found = node_twice(program.nodes.as_slice(), byte);
+    if found.is_some() {
+        return found;
+    }
+    let found = label_twice(program.types.as_slice(), byte);
+    if found.is_some() {
+        return found;
+    }
+    type_twice(program.types.as_slice(), byte)
+}
+
+/// How a name is told that is declared twice.
+fn said_of_twice(
+    alloc: Global,
+    error: &StatError,
+    text: &[u8],
+    twice: Twice,
+) -> Result<Said, AllocError> {
+    mended_by(
+        alloc,
+        &[
+            Part::Words("The name of the "),
+            Part::Words(twice.of),
+            Part::Around(" ", twice.name, " is taken: line "),
+            Part::Number(line_of(text, twice.first)),
+            Part::Words(" declares it too."),
+        ],
+        mend_of(error),
+    )
+}
+
+/// `E10` of a type, of a name of an enumeration or of a node.
 pub(crate) fn duplicate(
     alloc: Global,
+    error: &StatError,
     text: &[u8],
-    catalog: &Catalog,
-    byte: usize,
+    program: &Program,
 ) -> Result<Said, AllocError> {
-    let mend = "Give each its own name.";
-    let Some(twice) = twice_at(catalog, byte) else {
-        return in_words(alloc, "One name is declared twice.", mend);
+    match twice_at(program, error.byte()) {
+        Some(twice) => said_of_twice(alloc, error, text, twice),
+        None => usual(alloc, error),
+    }
+}
+
+/// Where the name of a variable stands before: at another one of its node, or else as a name of an enumeration.
+fn declared_before(program: &Program, scope: &Scope, declared: &Declaration) -> usize {
+    let name = declared.name.as_str();
+    match scope.find(name) {
+        Some(first) if first.byte != declared.byte => first.byte,
+        _ => first_label(program.types.as_slice(), name),
+    }
+}
+
+/// `E10` of a variable.
+pub(crate) fn duplicate_variable(
+    alloc: Global,
+    error: &StatError,
+    text: &[u8],
+    program: &Program,
+    scope: &Scope,
+    declared: &Declaration,
+) -> Result<Said, AllocError> {
+    let twice = Twice {
+        of: "variable",
+        name: declared.name.as_str(),
+        first: declared_before(program, scope, declared),
     };
-    let of = twice.of;
-    let line = line_of(text, twice.first);
-    let what = format!(in alloc;
-        "The name of the {of} {} is taken: line {line} declares it too.",
-        Quoted(twice.name)
-    )?;
-    mended_by(alloc, what, mend)
+    said_of_twice(alloc, error, text, twice)
 }
 
 /// A name that isn't known, by what it would have to be.
-#[derive(Drop)]
+#[derive(Clone, Copy)]
 enum Unknown<'a> {
     Variable(&'a str),
     Label(&'a str),
@@ -118,18 +187,23 @@ enum Unknown<'a> {
 }
 
 fn unknown_variable<'a>(scope: &Scope, name: &'a str) -> Option<Unknown<'a>> {
-    match scope.place(name) {
-        None => Some(Unknown::Variable(name)),
-        Some(_) => None,
+    if scope.place(name).is_some() {
+        return None;
     }
+    Some(Unknown::Variable(name))
+}
+
+fn unknown_label<'a>(catalog: &Catalog, name: &'a str) -> Option<Unknown<'a>> {
+    if catalog.has_label(name) {
+        return None;
+    }
+    Some(Unknown::Label(name))
 }
 
 fn unknown_pattern<'a>(catalog: &Catalog, pattern: &'a Pattern) -> Option<Unknown<'a>> {
     match pattern {
-        Pattern::Label(label) if !catalog.has_label(label.name.as_str()) => {
-            Some(Unknown::Label(label.name.as_str()))
-        }
-        _ => None,
+        Pattern::Label(label) => unknown_label(catalog, label.name.as_str()),
+        Pattern::Truth(_) => None,
     }
 }
 
@@ -150,10 +224,17 @@ fn unknown_merge<'a>(
     name: &'a str,
     patterns: &'a [Pattern],
 ) -> Option<Unknown<'a>> {
-    match unknown_variable(scope, name) {
-        None => patterns.iter().find_map(|p| unknown_pattern(catalog, p)),
-        found => found,
+    let found = unknown_variable(scope, name);
+    if found.is_some() {
+        return found;
     }
+    for pattern in patterns {
+        let found = unknown_pattern(catalog, pattern);
+        if found.is_some() {
+            return found;
+        }
+    }
+    None
 }
 
 /// The first name of a part of an expression, but for the parts inside it, that isn't known.
@@ -167,31 +248,45 @@ fn unknown_part<'a>(catalog: &Catalog, scope: &Scope, e: &'a Expr) -> Option<Unk
             x.as_str(),
             patterns.as_slice(),
         ),
-        Expr::Label(label) if !catalog.has_label(label.name.as_str()) => {
-            Some(Unknown::Label(label.name.as_str()))
-        }
+        Expr::Label(label) => unknown_label(catalog, label.name.as_str()),
         _ => None,
     }
 }
 
+/// The first of some variables that isn't known.
+fn unknown_left<'a>(scope: &Scope, left: &'a [Name]) -> Option<Unknown<'a>> {
+    for x in left {
+        let found = unknown_variable(scope, x.as_str());
+        if found.is_some() {
+            return found;
+        }
+    }
+    None
+}
+
 /// The first name of an equation that isn't known.
-fn unknown_in<'a>(
-    alloc: Global,
-    catalog: &Catalog,
-    scope: &Scope,
-    equation: &'a Equation,
-) -> Result<Option<Unknown<'a>>, AllocError> {
-    for x in equation.left.as_slice() {
-        if let Some(found) = unknown_variable(scope, x.as_str()) {
-            return Ok(Some(found));
+fn unknown_in<'a>(spot: &Spot<'_, 'a>) -> Option<Unknown<'a>> {
+    let found = unknown_left(spot.scope, spot.equation.left.as_slice());
+    if found.is_some() {
+        return found;
+    }
+    for e in spot.parts {
+        let found = unknown_part(spot.catalog, spot.scope, *e);
+        if found.is_some() {
+            return found;
         }
     }
-    for e in &parts_of(alloc, &equation.right)? {
-        if let Some(found) = unknown_part(catalog, scope, *e) {
-            return Ok(Some(found));
+    None
+}
+
+/// The type of a declaration, where it isn't known.
+fn unknown_type<'a>(catalog: &Catalog, declared: &'a Declaration) -> Option<Unknown<'a>> {
+    match &declared.type_name {
+        Some(name) if catalog.type_place(name.as_str()).is_none() => {
+            Some(Unknown::Type(name.as_str()))
         }
+        _ => None,
     }
-    Ok(None)
 }
 
 /// The first name of a declaration that isn't known.
@@ -200,10 +295,9 @@ fn unknown_of<'a>(
     scope: &Scope,
     declared: &'a Declaration,
 ) -> Option<Unknown<'a>> {
-    if let Some(name) = &declared.type_name {
-        if catalog.type_place(name.as_str()).is_none() {
-            return Some(Unknown::Type(name.as_str()));
-        }
+    let found = unknown_type(catalog, declared);
+    if found.is_some() {
+        return found;
     }
     match &declared.clock {
         Some(clock) => unknown_condition(catalog, scope, clock),
@@ -212,7 +306,7 @@ fn unknown_of<'a>(
 }
 
 /// A variable of a node that is spelled nearly so.
-fn near_variable<'a>(scope: &Scope<'a>, name: &str) -> Option<&'a str> {
+pub(crate) fn near_variable<'a>(scope: &Scope<'a>, name: &str) -> Option<&'a str> {
     for declared in scope.declarations() {
         if is_near(declared.name.as_str(), name) {
             return Some(declared.name.as_str());
@@ -221,21 +315,30 @@ fn near_variable<'a>(scope: &Scope<'a>, name: &str) -> Option<&'a str> {
     None
 }
 
+/// One of these names of an enumeration that is spelled nearly so.
+fn near_name<'a>(names: &'a [DeclaredName], name: &str) -> Option<&'a str> {
+    for label in names {
+        if is_near(label.name.as_str(), name) {
+            return Some(label.name.as_str());
+        }
+    }
+    None
+}
+
 /// A name of an enumeration that is spelled nearly so.
-fn near_label<'a>(catalog: &Catalog<'a>, name: &str) -> Option<&'a str> {
-    for declared in catalog.program().types.as_slice() {
-        for label in declared.names.as_slice() {
-            if is_near(label.name.as_str(), name) {
-                return Some(label.name.as_str());
-            }
+fn near_label<'a>(types: &'a [TypeDeclaration], name: &str) -> Option<&'a str> {
+    for declared in types {
+        let found = near_name(declared.names.as_slice(), name);
+        if found.is_some() {
+            return found;
         }
     }
     None
 }
 
 /// A type that is spelled nearly so.
-fn near_type<'a>(catalog: &Catalog<'a>, name: &str) -> Option<&'a str> {
-    for declared in catalog.program().types.as_slice() {
+fn near_type<'a>(types: &'a [TypeDeclaration], name: &str) -> Option<&'a str> {
+    for declared in types {
         if is_near(declared.name.as_str(), name) {
             return Some(declared.name.as_str());
         }
@@ -244,8 +347,8 @@ fn near_type<'a>(catalog: &Catalog<'a>, name: &str) -> Option<&'a str> {
 }
 
 /// A node that is spelled nearly so.
-fn near_node<'a>(catalog: &Catalog<'a>, name: &str) -> Option<&'a str> {
-    for node in catalog.program().nodes.as_slice() {
+fn near_node<'a>(nodes: &'a [Node], name: &str) -> Option<&'a str> {
+    for node in nodes {
         if is_near(node.name.as_str(), name) {
             return Some(node.name.as_str());
         }
@@ -254,88 +357,96 @@ fn near_node<'a>(catalog: &Catalog<'a>, name: &str) -> Option<&'a str> {
 }
 
 /// How to mend a name that isn't known, where there may be one that is spelled nearly so.
-fn mend_name(
+pub(crate) fn mend_name(
     alloc: Global,
-    what: String,
+    what: &[Part],
     near: Option<&str>,
-    else_words: &str,
+    mend: &str,
 ) -> Result<Said, AllocError> {
     match near {
-        Some(name) => {
-            let mend = format!(in alloc; "Did you mean {}? {else_words}", Quoted(name))?;
-            Ok(Said { what, mend })
-        }
-        None => mended_by(alloc, what, else_words),
+        Some(name) => said_of_near(alloc, what, name, mend),
+        None => mended_by(alloc, what, mend),
     }
 }
 
-fn said_of_unknown(
+/// The same where there is one.
+fn said_of_near<'a>(
     alloc: Global,
-    catalog: &Catalog,
-    scope: &Scope,
-    unknown: &Unknown,
+    what: &[Part],
+    name: &'a str,
+    mend: &'a str,
 ) -> Result<Said, AllocError> {
-    let node = scope.node().name.as_str();
-    match unknown {
-        Unknown::Variable(name) => {
-            let what = format!(in alloc;
-                "{} is no variable of node {}, and no name of an enumeration.",
-                Quoted(*name),
-                Quoted(node)
-            )?;
-            let near = match near_variable(scope, *name) {
-                None => near_label(catalog, *name),
-                found => found,
-            };
-            mend_name(
-                alloc,
-                what,
-                near,
-                "Spell the name as it is declared, or declare it; what another node knows has to come as an argument.",
-            )
-        }
-        Unknown::Label(name) => {
-            let what = format!(in alloc; "{} is no name of an enumeration.", Quoted(*name))?;
-            mend_name(
-                alloc,
-                what,
-                near_label(catalog, *name),
-                "Spell it as in its type, or declare it there.",
-            )
-        }
-        Unknown::Type(name) => {
-            let what = format!(in alloc; "{} is no type of the program.", Quoted(*name))?;
-            mend_name(
-                alloc,
-                what,
-                near_type(catalog, *name),
-                "The types are `int`, `bool` and those that the program declares.",
-            )
-        }
-    }
-}
-
-/// `E11`
-pub(crate) fn unknown_name(
-    alloc: Global,
-    catalog: &Catalog,
-    byte: usize,
-) -> Result<Said, AllocError> {
-    if let Some((scope, equation)) = equation_at(catalog, byte) {
-        if let Some(unknown) = unknown_in(alloc, catalog, scope, equation)? {
-            return said_of_unknown(alloc, catalog, scope, &unknown);
-        }
-    }
-    if let Some((scope, declared)) = declaration_at(catalog, byte) {
-        if let Some(unknown) = unknown_of(catalog, scope, declared) {
-            return said_of_unknown(alloc, catalog, scope, &unknown);
-        }
-    }
-    in_words(
+    say(
         alloc,
-        "A name here isn't known.",
-        "Spell it as it is declared, or declare it.",
+        what,
+        &[Part::Around("Did you mean ", name, "? "), Part::Words(mend)],
     )
+}
+
+/// A variable of a node or a name of an enumeration that is spelled nearly so.
+fn near_value<'a>(program: &'a Program, scope: &Scope<'a>, name: &str) -> Option<&'a str> {
+    match near_variable(scope, name) {
+        None => near_label(program.types.as_slice(), name),
+        found => found,
+    }
+}
+
+fn said_of_unknown<'a>(
+    alloc: Global,
+    program: &'a Program,
+    scope: &Scope<'a>,
+    unknown: Unknown<'a>,
+) -> Result<Said, AllocError> {
+    let types = program.types.as_slice();
+    match unknown {
+        Unknown::Variable(name) => mend_name(
+            alloc,
+            &[
+                Part::Around("", name, " is no variable of node "),
+                Part::Around(
+                    "",
+                    scope.node().name.as_str(),
+                    ", and no name of an enumeration.",
+                ),
+            ],
+            near_value(program, scope, name),
+            "Spell the name as it is declared, or declare it; what another node knows has to come as an argument.",
+        ),
+        Unknown::Label(name) => mend_name(
+            alloc,
+            &[Part::Around("", name, " is no name of an enumeration.")],
+            near_label(types, name),
+            "Spell it as in its type, or declare it there.",
+        ),
+        Unknown::Type(name) => mend_name(
+            alloc,
+            &[Part::Around("", name, " is no type of the program.")],
+            near_type(types, name),
+            "The types are `int`, `bool` and those that the program declares.",
+        ),
+    }
+}
+
+/// `E11` of an equation.
+pub(crate) fn unknown_name(alloc: Global, spot: &Spot) -> Result<Said, AllocError> {
+    match unknown_in(spot) {
+        Some(unknown) => said_of_unknown(alloc, spot.catalog.program(), spot.scope, unknown),
+        None => usual(alloc, spot.error),
+    }
+}
+
+/// `E11` of a declaration.
+pub(crate) fn unknown_declared<'a>(
+    alloc: Global,
+    error: &StatError,
+    catalog: &Catalog<'a>,
+    scope: &Scope<'a>,
+    declared: &'a Declaration,
+) -> Result<Said, AllocError> {
+    match unknown_of(catalog, scope, declared) {
+        Some(unknown) => said_of_unknown(alloc, catalog.program(), scope, unknown),
+        None => usual(alloc, error),
+    }
 }
 
 /// The name of a call of no node.
@@ -347,53 +458,49 @@ fn unknown_call<'a>(catalog: &Catalog, e: &'a Expr) -> Option<&'a str> {
 }
 
 /// The first call of no node in an equation.
-fn unknown_call_in<'a>(
-    alloc: Global,
-    catalog: &Catalog,
-    equation: &'a Equation,
-) -> Result<Option<&'a str>, AllocError> {
-    for e in &parts_of(alloc, &equation.right)? {
-        if let Some(name) = unknown_call(catalog, *e) {
-            return Ok(Some(name));
+fn unknown_call_in<'a>(spot: &Spot<'_, 'a>) -> Option<&'a str> {
+    for e in spot.parts {
+        let found = unknown_call(spot.catalog, *e);
+        if found.is_some() {
+            return found;
         }
     }
-    Ok(None)
+    None
 }
 
 /// `E12`
-pub(crate) fn unknown_node(
-    alloc: Global,
-    catalog: &Catalog,
-    byte: usize,
-) -> Result<Said, AllocError> {
-    let mend = "Call a node of the program by its name, or write the node; none is built in.";
-    if let Some((_, equation)) = equation_at(catalog, byte) {
-        if let Some(name) = unknown_call_in(alloc, catalog, equation)? {
-            let what = format!(in alloc; "{} is no node of the program.", Quoted(name))?;
-            return mend_name(alloc, what, near_node(catalog, name), mend);
-        }
-    }
-    in_words(alloc, "A call here is of no node of the program.", mend)
+pub(crate) fn unknown_node(alloc: Global, spot: &Spot) -> Result<Said, AllocError> {
+    let Some(name) = unknown_call_in(spot) else {
+        return usual(alloc, spot.error);
+    };
+    mend_name(
+        alloc,
+        &[Part::Around("", name, " is no node of the program.")],
+        near_node(spot.catalog.program().nodes.as_slice(), name),
+        mend_of(spot.error),
+    )
 }
 
 /// `E15`
-pub(crate) fn undefined(alloc: Global, catalog: &Catalog, byte: usize) -> Result<Said, AllocError> {
-    let Some((scope, declared)) = declaration_at(catalog, byte) else {
-        return in_words(alloc, "A variable has no equation.", "Write its equation.");
-    };
-    let name = Quoted(declared.name.as_str());
-    let node = Quoted(scope.node().name.as_str());
-    let role = role_at(scope.node(), byte);
-    let what = format!(in alloc; "The {role} {name} of node {node} has no equation.")?;
+pub(crate) fn undefined<'a>(
+    alloc: Global,
+    node: &'a Node,
+    declared: &'a Declaration,
+) -> Result<Said, AllocError> {
     mended_by(
         alloc,
-        what,
+        &[
+            Part::Words("The "),
+            Part::Words(role_at(node, declared.byte)),
+            Part::Of(" ", declared.name.as_str(), node.name.as_str()),
+            Part::Words(" has no equation."),
+        ],
         "Write the equation, or take back the declaration; what comes from outside is an input.",
     )
 }
 
 /// A variable that an equation may not define, and why.
-#[derive(Drop)]
+#[derive(Clone, Copy)]
 enum Defined<'a> {
     /// It is an input.
     Input(&'a str),
@@ -438,97 +545,93 @@ fn lefts_of(alloc: Global, equation: &Equation) -> Result<Places<'_>, AllocError
     Places::new(alloc, names)
 }
 
-/// The first variable that an equation may not define.
-fn defined_in<'a>(
-    alloc: Global,
-    node: &'a Node,
-    scope: &Scope,
-    equation: &'a Equation,
-) -> Result<Option<Defined<'a>>, AllocError> {
-    let places = lefts_of(alloc, equation)?;
-    for (i, x) in equation.left.as_slice().iter().enumerate() {
-        if let Some(found) = defined_here(scope, &places, i, x) {
-            return Ok(Some(found));
+/// The first variable of an equation that it may not define by itself.
+fn defined_alone<'a>(scope: &Scope, places: &Places, left: &'a [Name]) -> Option<Defined<'a>> {
+    for (i, x) in left.iter().enumerate() {
+        let found = defined_here(scope, places, i, x);
+        if found.is_some() {
+            return found;
         }
     }
-    for other in node.equations.as_slice() {
-        if other.byte == equation.byte {
-            return Ok(None);
-        }
-        if let Some(found) = defined_before(&places, other) {
-            return Ok(Some(found));
-        }
-    }
-    Ok(None)
+    None
 }
 
-fn said_of_defined(
+/// The first variable in a table that an equation before the one at a byte defines.
+fn defined_earlier<'a>(places: &Places, node: &'a Node, byte: usize) -> Option<Defined<'a>> {
+    for other in node.equations.as_slice() {
+        if other.byte == byte {
+            return None;
+        }
+        let found = defined_before(places, other);
+        if found.is_some() {
+            return found;
+        }
+    }
+    None
+}
+
+/// The first variable that an equation may not define, by the table of those that it defines.
+fn defined_in<'a>(
+    scope: &Scope<'a>,
+    places: &Places,
+    equation: &'a Equation,
+) -> Option<Defined<'a>> {
+    match defined_alone(scope, places, equation.left.as_slice()) {
+        None => defined_earlier(places, scope.node(), equation.byte),
+        found => found,
+    }
+}
+
+fn said_of_defined<'a>(
     alloc: Global,
     text: &[u8],
-    node: &str,
-    defined: &Defined,
+    node: &'a Node,
+    defined: Defined<'a>,
 ) -> Result<Said, AllocError> {
     match defined {
-        Defined::Input(name) => {
-            let what = format!(in alloc;
-                "{} is an input of node {}, and an input has no equation.",
-                Quoted(*name),
-                Quoted(node)
-            )?;
-            mended_by(
-                alloc,
-                what,
-                "Take the equation back, or give its value another name.",
-            )
-        }
-        Defined::Here(name) => {
-            let what = format!(in alloc; "{} stands twice on the left side.", Quoted(*name))?;
-            mended_by(alloc, what, "Give each value a variable of its own.")
-        }
-        Defined::Before(name, byte) => {
-            let line = line_of(text, *byte);
-            let what = format!(in alloc;
-                "{} has an equation already, in line {line}.",
-                Quoted(*name)
-            )?;
-            mended_by(
-                alloc,
-                what,
-                "Say it all in one equation: it holds at every instant, and is no step that is done.",
-            )
-        }
+        Defined::Input(name) => mended_by(
+            alloc,
+            &[
+                Part::Around("", name, " is an input of node "),
+                Part::Around("", node.name.as_str(), ", and an input has no equation."),
+            ],
+            "Take the equation back, or give its value another name.",
+        ),
+        Defined::Here(name) => mended_by(
+            alloc,
+            &[Part::Around("", name, " stands twice on the left side.")],
+            "Give each value a variable of its own.",
+        ),
+        Defined::Before(name, byte) => mended_by(
+            alloc,
+            &[
+                Part::Around("", name, " has an equation already, in line "),
+                Part::Number(line_of(text, byte)),
+                Part::Words("."),
+            ],
+            "Say it all in one equation: it holds at every instant, and is no step that is done.",
+        ),
     }
 }
 
 /// `E16`
-pub(crate) fn defined_twice(
-    alloc: Global,
-    text: &[u8],
-    catalog: &Catalog,
-    byte: usize,
-) -> Result<Said, AllocError> {
-    if let Some((scope, equation)) = equation_at(catalog, byte) {
-        let node = scope.node();
-        if let Some(defined) = defined_in(alloc, node, scope, equation)? {
-            return said_of_defined(alloc, text, node.name.as_str(), &defined);
-        }
+pub(crate) fn defined_twice(alloc: Global, text: &[u8], spot: &Spot) -> Result<Said, AllocError> {
+    let places = lefts_of(alloc, spot.equation)?;
+    match defined_in(spot.scope, &places, spot.equation) {
+        Some(defined) => said_of_defined(alloc, text, spot.scope.node(), defined),
+        None => usual(alloc, spot.error),
     }
-    in_words(
-        alloc,
-        "A variable has a second equation, or an input has one.",
-        "Say it all in one equation.",
-    )
 }
 
 /// The names of nodes by their places.
 fn names_of<'a>(
     alloc: Global,
-    catalog: &Catalog<'a>,
+    nodes: &'a [Node],
     places: &[usize],
 ) -> Result<Vec<&'a str>, AllocError> {
     let mut names = Vec::new(alloc);
     for place in places {
-        if let Some(node) = catalog.program().nodes.as_slice().get(*place) {
+        if let Some(node) = nodes.get(*place) {
             names.push(node.name.as_str())?;
         }
     }
@@ -536,52 +639,70 @@ fn names_of<'a>(
 }
 
 /// The place of the node whose name stands at a byte.
-fn node_place(catalog: &Catalog, byte: usize) -> Option<usize> {
-    catalog
-        .program()
-        .nodes
-        .as_slice()
-        .iter()
-        .position(|n| n.byte == byte)
+fn node_place(nodes: &[Node], byte: usize) -> Option<usize> {
+    for (place, node) in nodes.iter().enumerate() {
+        if node.byte == byte {
+            return Some(place);
+        }
+    }
+    None
+}
+
+/// The nodes on a way from one back to itself, each calling the next.
+fn way_of<'a>(
+    alloc: Global,
+    catalog: &Catalog<'a>,
+    place: usize,
+) -> Result<Vec<&'a str>, AllocError> {
+    let graph = graph_of(alloc, catalog)?;
+    let way = circle(alloc, &graph, place)?;
+    names_of(alloc, catalog.program().nodes.as_slice(), &way)
+}
+
+/// How a circle of calls is told.
+fn said_of_calls<'a>(
+    alloc: Global,
+    error: &StatError,
+    names: &'a [&'a str],
+) -> Result<Said, AllocError> {
+    mended_by(
+        alloc,
+        &[
+            Part::Words("A node can't call itself: "),
+            Part::Circle(names, "calls"),
+            Part::Words("."),
+        ],
+        mend_of(error),
+    )
 }
 
 /// `E17`
-pub(crate) fn recursive(alloc: Global, catalog: &Catalog, byte: usize) -> Result<Said, AllocError> {
-    let mend =
-        "Go on from instant to instant with `pre`, or write a node for each step of the way.";
-    let Some(place) = node_place(catalog, byte) else {
-        return in_words(alloc, "A node calls itself.", mend);
+pub(crate) fn recursive(
+    alloc: Global,
+    error: &StatError,
+    catalog: &Catalog,
+) -> Result<Said, AllocError> {
+    let Some(place) = node_place(catalog.program().nodes.as_slice(), error.byte()) else {
+        return usual(alloc, error);
     };
-    let graph = graph_of(alloc, catalog)?;
-    let way = circle(alloc, &graph, place)?;
-    let names = names_of(alloc, catalog, &way)?;
-    let circle = Circle {
-        names: names.as_slice(),
-        does: "calls",
-    };
-    let what = format!(in alloc; "A node can't call itself: {circle}.")?;
-    mended_by(alloc, what, mend)
+    let names = way_of(alloc, catalog, place)?;
+    said_of_calls(alloc, error, names.as_slice())
 }
 
 /// `E18`
-pub(crate) fn no_main(alloc: Global, catalog: &Catalog, main: &str) -> Result<Said, AllocError> {
-    let mut names = Vec::new(alloc);
-    for node in catalog.program().nodes.as_slice() {
-        names.push(node.name.as_str())?;
+pub(crate) fn no_main<'a>(
+    alloc: Global,
+    program: &'a Program,
+    main: &'a str,
+) -> Result<Said, AllocError> {
+    let nodes = program.nodes.as_slice();
+    let near = near_node(nodes, main);
+    let mend = "Name the main node with `--main`, or call it so.";
+    let none = Part::Around("No node is called ", main, ": there is none.");
+    if nodes.is_empty() {
+        return mend_name(alloc, &[none], near, mend);
     }
-    let what = if names.is_empty() {
-        format!(in alloc; "No node is called {}: there is none.", Quoted(main))?
-    } else {
-        format!(in alloc;
-            "No node is called {}; there are {}.",
-            Quoted(main),
-            Names(names.as_slice())
-        )?
-    };
-    mend_name(
-        alloc,
-        what,
-        near_node(catalog, main),
-        "Name the main node with `--main`, or call it so.",
-    )
+    let before = Part::Around("No node is called ", main, "; there are ");
+    let what = [before, Part::Nodes(nodes), Part::Words(".")];
+    mend_name(alloc, &what, near, mend)
 }

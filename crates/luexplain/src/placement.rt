@@ -3,11 +3,19 @@
 ghost use Rattle.std.specs.Prelude.{IfOk};
 ghost use Rattle.luexplain.specs.Texts.{IsToldSomewhere};
 
+use crate::blame::{Blamed, Holder, blamed_in};
+use crate::naming::mend_name;
+use crate::near::is_near;
 use crate::place::where_in;
 use crate::said::{Said, in_words, mended_by, told, whole};
+use crate::sought::{entry_in, key_in, text_behind};
+use crate::words::Part;
+use lulimits::limits::LONGEST_PLACEMENT;
 use luplace_file::PlaceError;
+use lutree::Program;
 use std::alloc::{AllocError, Global};
 use std::str;
+use toml::Table;
 
 /// What is wrong with a placement, in words.
 fn rule_of(error: &PlaceError) -> &'static str {
@@ -55,22 +63,337 @@ fn mend_of(error: &PlaceError) -> &'static str {
     }
 }
 
-/// What is said of a text that is no TOML, and at which byte.
-fn said_of_text(alloc: Global, e: &toml::de::Error) -> Result<(usize, Said), AllocError> {
+/// What is said, and the byte at which it stands; none where it is of the whole.
+#[derive(Drop)]
+struct Found {
+    byte: Option<usize>,
+    said: Said,
+}
+
+/// What is said by the rule alone.
+fn by_rule(alloc: Global, error: &PlaceError) -> Result<Found, AllocError> {
+    let said = in_words(alloc, rule_of(error), mend_of(error))?;
+    Ok(Found { byte: None, said })
+}
+
+/// Where what names sites stands.
+fn holder_byte(text: &[u8], holder: Holder) -> Option<usize> {
+    match holder {
+        Holder::Sites => key_in(text, "sites"),
+        Holder::Default => key_in(text, "default"),
+        Holder::Entry(key) => entry_in(text, key),
+    }
+}
+
+/// Where a name stands in what names sites.
+fn name_byte(text: &[u8], holder: Holder, name: &str) -> Option<usize> {
+    Some(text_behind(text, holder_byte(text, holder)?, name))
+}
+
+/// Where what is refused stands, of two names.
+fn byte_of_two(text: &[u8], blamed: Blamed) -> Option<usize> {
+    match blamed {
+        Blamed::BadName(name) => name_byte(text, Holder::Sites, name),
+        Blamed::Foreign(holder, name, _) => name_byte(text, holder, name),
+        Blamed::Twice(holder, name) => {
+            Some(text_behind(text, name_byte(text, holder, name)?, name))
+        }
+        Blamed::Apart(first, second) => match entry_in(text, second) {
+            None => entry_in(text, first),
+            found => found,
+        },
+        _ => None,
+    }
+}
+
+/// Where what is refused stands.
+fn byte_of(text: &[u8], blamed: Blamed) -> Option<usize> {
+    match blamed {
+        Blamed::Unknown(key) | Blamed::Value(key) => key_in(text, key),
+        Blamed::Entry(key) | Blamed::Variable(key, _) => entry_in(text, key),
+        Blamed::Version => key_in(text, "version"),
+        Blamed::Capacity => key_in(text, "capacity"),
+        Blamed::Sites(_) => key_in(text, "sites"),
+        Blamed::Unplaced(_) => key_in(text, "place"),
+        blamed => byte_of_two(text, blamed),
+    }
+}
+
+/// A key of a placement that is spelled nearly so.
+fn near_key(key: &str) -> Option<&'static str> {
+    for known in ["version", "sites", "capacity", "default", "place"] {
+        if is_near(known, key) {
+            return Some(known);
+        }
+    }
+    None
+}
+
+/// What is wrong with the value of a key.
+fn fault_of_value(key: &str) -> &'static str {
+    match key {
+        "sites" => " is no array of names.",
+        "default" => " is no name in quotes; in version 2 it may be an array of such names.",
+        "place" => " is no table.",
+        _ => " is no whole number.",
+    }
+}
+
+/// How the value of a key is mended.
+fn mend_of_value(key: &str) -> &'static str {
+    match key {
+        "version" => "Write `version = 1` or `version = 2`.",
+        "sites" => {
+            "Write the names of the sites in quotes, with commas between them, in brackets."
+        }
+        "place" => {
+            "Write `[place]` in a line of its own, and below it an entry for each variable."
+        }
+        "capacity" => "Write how many messages each link holds, as `capacity = 8`.",
+        _ => "Write a name in quotes; several in brackets need `version = 2`.",
+    }
+}
+
+/// `P02`
+fn said_of_key(alloc: Global, blamed: Blamed) -> Result<Said, AllocError> {
+    match blamed {
+        Blamed::Unknown(key) => mend_name(
+            alloc,
+            &[Part::Around("", key, " is no key of a placement.")],
+            near_key(key),
+            "The keys are `version`, `sites`, `capacity`, `default` and the table `place`, in which the variables have their entries.",
+        ),
+        Blamed::Value(key) => mended_by(
+            alloc,
+            &[Part::Around("The value of ", key, fault_of_value(key))],
+            mend_of_value(key),
+        ),
+        Blamed::Entry(key) => mended_by(
+            alloc,
+            &[Part::Around("The entry of ", key, fault_of_value("default"))],
+            mend_of_value("default"),
+        ),
+        Blamed::BadName(name) => mended_by(
+            alloc,
+            &[Part::Around("", name, " is no name of a site.")],
+            "A name of a site has letters, digits and `_`, at most 32 in all, and doesn't begin with a digit.",
+        ),
+        _ => in_words(
+            alloc,
+            "The placement has no key `sites`.",
+            "Name the sites, as `sites = [\"tank\", \"panel\"]`.",
+        ),
+    }
+}
+
+/// `P06`
+fn said_of_twice<'a>(alloc: Global, holder: Holder<'a>, name: &'a str) -> Result<Said, AllocError> {
+    let mend = "Name each site once.";
+    match holder {
+        Holder::Sites => mended_by(
+            alloc,
+            &[Part::Around("", name, " stands twice in `sites`.")],
+            mend,
+        ),
+        Holder::Default => mended_by(
+            alloc,
+            &[Part::Around("", name, " stands twice in `default`.")],
+            mend,
+        ),
+        Holder::Entry(key) => mended_by(
+            alloc,
+            &[
+                Part::Around("", name, " stands twice in the entry of "),
+                Part::Around("", key, "."),
+            ],
+            mend,
+        ),
+    }
+}
+
+/// `P07` of a text that isn't too long.
+fn said_of_range(alloc: Global, blamed: Blamed) -> Result<Said, AllocError> {
+    match blamed {
+        Blamed::Version => in_words(
+            alloc,
+            "The version is neither 1 nor 2.",
+            mend_of_value("version"),
+        ),
+        Blamed::Capacity => in_words(
+            alloc,
+            "The capacity isn't from 1 to 1,024.",
+            mend_of(&PlaceError::OutOfRange),
+        ),
+        Blamed::Sites(count) => mended_by(
+            alloc,
+            &[
+                Part::Words("The placement has "),
+                Part::Count(count, "site"),
+                Part::Words(", and there may be from 1 to 16."),
+            ],
+            "Name each site that variables stand at, and no others.",
+        ),
+        _ => in_words(
+            alloc,
+            rule_of(&PlaceError::OutOfRange),
+            mend_of(&PlaceError::OutOfRange),
+        ),
+    }
+}
+
+/// `P04`, `P05` and `P08`
+fn said_of_variable<'a>(
+    alloc: Global,
+    main: &'a str,
+    mend: &str,
+    blamed: Blamed<'a>,
+) -> Result<Said, AllocError> {
+    match blamed {
+        Blamed::Variable(name, near) => mend_name(
+            alloc,
+            &[
+                Part::Around("", name, " is no input, output or local of the main node "),
+                Part::Around("", main, "."),
+            ],
+            near,
+            mend,
+        ),
+        Blamed::Unplaced(name) => mended_by(
+            alloc,
+            &[Part::Around(
+                "",
+                name,
+                ", a variable of the main node, has no entry in `place`, and there is no `default`.",
+            )],
+            mend,
+        ),
+        Blamed::Apart(first, second) => mended_by(
+            alloc,
+            &[
+                Part::Around("", first, " and "),
+                Part::Around(
+                    "",
+                    second,
+                    " come of one call, and stand at different sites.",
+                ),
+            ],
+            mend,
+        ),
+        _ => in_words(alloc, "A variable is refused.", mend),
+    }
+}
+
+/// What is said of what is refused.
+fn said_of_blamed<'a>(
+    alloc: Global,
+    main: &'a str,
+    error: &PlaceError,
+    blamed: Blamed<'a>,
+) -> Result<Said, AllocError> {
+    let mend = mend_of(error);
+    match blamed {
+        Blamed::Nothing => in_words(alloc, rule_of(error), mend),
+        Blamed::Version | Blamed::Capacity | Blamed::Sites(_) => said_of_range(alloc, blamed),
+        Blamed::Twice(holder, name) => said_of_twice(alloc, holder, name),
+        Blamed::Foreign(_, name, near) => mend_name(
+            alloc,
+            &[Part::Around("", name, " isn't one of `sites`.")],
+            near,
+            mend,
+        ),
+        Blamed::Variable(_, _) | Blamed::Unplaced(_) | Blamed::Apart(_, _) => {
+            said_of_variable(alloc, main, mend, blamed)
+        }
+        blamed => said_of_key(alloc, blamed),
+    }
+}
+
+/// What is said of a text that is too long.
+fn said_of_length(alloc: Global, count: usize) -> Result<Found, AllocError> {
+    let said = mended_by(
+        alloc,
+        &[
+            Part::Words("The text has "),
+            Part::Number(count),
+            Part::Words(" bytes, and a placement has at most "),
+            Part::Number(LONGEST_PLACEMENT),
+            Part::Words("."),
+        ],
+        "Leave out comments, and entries that say what `default` says.",
+    )?;
+    Ok(Found { byte: None, said })
+}
+
+/// What is said of a text that is no TOML.
+fn said_of_text(alloc: Global, e: &toml::de::Error) -> Result<Found, AllocError> {
     let byte = match e.span() {
         Some(span) => span.start,
         None => 0,
     };
-    let what = format!(in alloc;
-        "The placement is no TOML text from here on: {}.",
-        e.message()
+    let said = mended_by(
+        alloc,
+        &[
+            Part::Words("The placement is no TOML text from here on: "),
+            Part::Words(e.message()),
+            Part::Words("."),
+        ],
+        mend_of(&PlaceError::NotToml),
     )?;
-    let said = mended_by(alloc, what, mend_of(&PlaceError::NotToml))?;
-    Ok((byte, said))
+    Ok(Found {
+        byte: Some(byte),
+        said,
+    })
 }
 
-/// What a person is told of a placement that is refused: its place, what is wrong, and how to mend it. `text` is the text of the file of this path.
-/// A place in it is told where it is no TOML; else the whole.
+/// What is said of a placement by its table.
+fn said_of_table<'a>(
+    alloc: Global,
+    text: &[u8],
+    table: &'a Table,
+    program: &'a Program,
+    main: &'a str,
+    error: &PlaceError,
+) -> Result<Found, AllocError> {
+    let blamed = blamed_in(alloc, table, program, main, error)?;
+    let said = said_of_blamed(alloc, main, error, blamed)?;
+    Ok(Found {
+        byte: byte_of(text, blamed),
+        said,
+    })
+}
+
+/// What is said of a placement in UTF-8.
+fn found_in(
+    alloc: Global,
+    source: &str,
+    program: &Program,
+    main: &str,
+    error: &PlaceError,
+) -> Result<Found, AllocError> {
+    match (toml::table_from_str(alloc, source), error) {
+        (Ok(table), _) => said_of_table(alloc, source.as_bytes(), &table, program, main, error),
+        (Err(e), PlaceError::NotToml) => said_of_text(alloc, &e),
+        _ => by_rule(alloc, error),
+    }
+}
+
+/// What is said of a placement that is refused.
+fn found_at(
+    alloc: Global,
+    text: &[u8],
+    program: &Program,
+    main: &str,
+    error: &PlaceError,
+) -> Result<Found, AllocError> {
+    match str::from_utf8(text) {
+        Ok(source) if source.len() > LONGEST_PLACEMENT => said_of_length(alloc, source.len()),
+        Ok(source) => found_in(alloc, source, program, main, error),
+        Err(_) => by_rule(alloc, error),
+    }
+}
+
+/// What a person is told of a placement that is refused: its place, what is wrong, and how to mend it. `text` is the text of the file of this path,
+/// `program` is the program whose variables it places, and `main` the name of the main node.
 ///
 /// # Errors
 ///
@@ -79,16 +402,15 @@ pub fn of_place(
     alloc: Global,
     path: &str,
     text: &[u8],
+    program: &Program,
+    main: &str,
     error: &PlaceError,
 ) -> Result<String, AllocError>
     ensures { IfOk result (IsToldSomewhere path.now text.now) }
 {
-    if let (PlaceError::NotToml, Ok(source)) = (error, str::from_utf8(text)) {
-        if let Err(e) = toml::table_from_str(alloc, source) {
-            let (byte, said) = said_of_text(alloc, &e)?;
-            return told(where_in(alloc, path, text, byte)?, &said);
-        }
+    let found = found_at(alloc, text, program, main, error)?;
+    match found.byte {
+        Some(byte) => told(where_in(alloc, path, text, byte)?, &found.said),
+        None => told(whole(alloc, path)?, &found.said),
     }
-    let said = in_words(alloc, rule_of(error), mend_of(error))?;
-    told(whole(alloc, path)?, &said)
 }

@@ -5,38 +5,85 @@ ghost use Rattle.luexplain.specs.Told.{IsTold, place_of_rule};
 
 use crate::arity::{bad_merge, wrong_arity};
 use crate::classes::{current_nil, maybe_nil};
-use crate::clocks::{clocked_parameter, hidden, not_a_clock};
+use crate::clocks::{clocked_call, clocked_parameter, hidden, no_clock_inside, not_a_clock};
+use crate::find::{Spot, declaration_at, equation_at, parts_of};
 use crate::naming::{
-    defined_twice, duplicate, no_main, recursive, undefined, unknown_name, unknown_node,
+    defined_twice, duplicate, duplicate_variable, no_main, recursive, undefined, unknown_declared,
+    unknown_name, unknown_node,
 };
 use crate::place::where_in;
-use crate::said::{Said, in_words, told, whole};
+use crate::said::{Said, told, whole};
+use crate::usual::usual;
 use crate::{clocks, typing};
 use lustat_rules::StatError;
-use lustat_scope::Catalog;
-use lutree::Program;
+use lustat_scope::{Catalog, Scope};
+use lutree::{Declaration, Equation, Program};
 use std::alloc::{AllocError, Global};
 
-/// What is said of a rule of the first stage that is broken.
-fn said_of_names(
+/// What is said of a rule that an equation breaks.
+fn said_of_equation(
     alloc: Global,
     text: &[u8],
-    catalog: &Catalog,
+    main: &str,
+    spot: &Spot,
+) -> Result<Said, AllocError> {
+    match spot.error {
+        StatError::UnknownName { .. } => unknown_name(alloc, spot),
+        StatError::UnknownNode { .. } => unknown_node(alloc, spot),
+        StatError::TypeMismatch { .. } => typing::mismatch(alloc, spot),
+        StatError::WrongArity { .. } => wrong_arity(alloc, spot),
+        StatError::DefinedTwice { .. } => defined_twice(alloc, text, spot),
+        StatError::BadMerge { .. } => bad_merge(alloc, spot),
+        StatError::ClockMismatch { .. } => clocks::mismatch(alloc, spot),
+        StatError::NotAClock { .. } => no_clock_inside(alloc, spot),
+        StatError::ClockedParameter { .. } => clocked_call(alloc, spot, main),
+        StatError::MaybeNil { .. } => maybe_nil(alloc, spot),
+        StatError::CurrentMayBeNil { .. } => current_nil(alloc, spot),
+        error => usual(alloc, error),
+    }
+}
+
+/// The same of the equation at the place of a refusal.
+fn said_at_equation<'a>(
+    alloc: Global,
+    text: &[u8],
     main: &str,
     error: &StatError,
+    catalog: &Catalog<'a>,
+    scope: &Scope<'a>,
+    equation: &'a Equation,
 ) -> Result<Said, AllocError> {
-    let byte = error.byte();
+    let parts = parts_of(alloc, &equation.right)?;
+    let spot = Spot {
+        error,
+        catalog,
+        scope,
+        equation,
+        parts: parts.as_slice(),
+    };
+    said_of_equation(alloc, text, main, &spot)
+}
+
+/// What is said of a rule that a declaration breaks.
+fn said_of_declaration<'a>(
+    alloc: Global,
+    text: &[u8],
+    error: &StatError,
+    catalog: &Catalog<'a>,
+    scope: &Scope<'a>,
+    declared: &'a Declaration,
+) -> Result<Said, AllocError> {
+    let program = catalog.program();
     match error {
-        StatError::DuplicateName { .. } => duplicate(alloc, text, catalog, byte),
-        StatError::UnknownName { .. } => unknown_name(alloc, catalog, byte),
-        StatError::UnknownNode { .. } => unknown_node(alloc, catalog, byte),
-        StatError::TypeMismatch { .. } => typing::mismatch(alloc, catalog, byte),
-        StatError::WrongArity { .. } => wrong_arity(alloc, catalog, byte),
-        StatError::Undefined { .. } => undefined(alloc, catalog, byte),
-        StatError::DefinedTwice { .. } => defined_twice(alloc, text, catalog, byte),
-        StatError::RecursiveNode { .. } => recursive(alloc, catalog, byte),
-        StatError::BadMerge { .. } => bad_merge(alloc, catalog, byte),
-        _ => no_main(alloc, catalog, main),
+        StatError::DuplicateName { .. } => {
+            duplicate_variable(alloc, error, text, program, scope, declared)
+        }
+        StatError::UnknownName { .. } => unknown_declared(alloc, error, catalog, scope, declared),
+        StatError::Undefined { .. } => undefined(alloc, scope.node(), declared),
+        StatError::NotAClock { .. } => not_a_clock(alloc, program, scope, declared),
+        StatError::ClockedParameter { .. } => clocked_parameter(alloc, scope.node(), declared),
+        StatError::HiddenClock { .. } => hidden(alloc, error, declared),
+        _ => usual(alloc, error),
     }
 }
 
@@ -50,24 +97,18 @@ fn said_of_rule(
 ) -> Result<Said, AllocError> {
     let byte = error.byte();
     match error {
-        StatError::ClockMismatch { .. } => clocks::mismatch(alloc, catalog, byte),
-        StatError::NotAClock { .. } => not_a_clock(alloc, catalog, byte),
-        StatError::ClockedParameter { .. } => clocked_parameter(alloc, catalog, main, byte),
-        StatError::HiddenClock { .. } => hidden(alloc, catalog, byte),
-        StatError::MaybeNil { .. } => maybe_nil(alloc, catalog, byte),
-        StatError::CurrentMayBeNil { .. } => current_nil(alloc, catalog, byte),
-        StatError::OutOfMemory => out_of_memory(alloc),
-        _ => said_of_names(alloc, text, catalog, main, error),
+        StatError::NoMain => return no_main(alloc, catalog.program(), main),
+        StatError::OutOfMemory => return usual(alloc, error),
+        StatError::RecursiveNode { .. } => return recursive(alloc, error, catalog),
+        _ => {}
     }
-}
-
-/// What is said where memory ran out.
-pub(crate) fn out_of_memory(alloc: Global) -> Result<Said, AllocError> {
-    in_words(
-        alloc,
-        "Memory ran out, which says nothing of the text.",
-        "Take a machine with more memory, or a shorter text.",
-    )
+    if let Some((scope, declared)) = declaration_at(catalog, byte) {
+        return said_of_declaration(alloc, text, error, catalog, scope, declared);
+    }
+    if let Some((scope, equation)) = equation_at(catalog, byte) {
+        return said_at_equation(alloc, text, main, error, catalog, scope, equation);
+    }
+    duplicate(alloc, error, text, catalog.program())
 }
 
 /// Where a rule is broken: at its byte; of the rule that there is a main node, and where memory ran out, in the whole.

@@ -3,6 +3,7 @@
 ghost use Rattle.std.specs.Prelude.{◌≡◌, ◌++◌, codes, IfOk, string_bytes};
 ghost use Rattle.luexplain.specs.Told.{IsTold};
 
+use crate::words::{Part, sentence};
 use std::alloc::{AllocError, Global};
 
 /// What is wrong, in a sentence, and how to mend it, in another.
@@ -12,16 +13,21 @@ pub(crate) struct Said {
     pub(crate) mend: String,
 }
 
-/// What is wrong, and these words on how to mend it.
-pub(crate) fn mended_by(alloc: Global, what: String, mend: &str) -> Result<Said, AllocError> {
-    let mend = String::from_str(alloc, mend)?;
+/// A sentence on what is wrong and one on how to mend it, by their parts.
+pub(crate) fn say(alloc: Global, what: &[Part], mend: &[Part]) -> Result<Said, AllocError> {
+    let what = sentence(alloc, what)?;
+    let mend = sentence(alloc, mend)?;
     Ok(Said { what, mend })
+}
+
+/// What is wrong, by the parts of the sentence, and these words on how to mend it.
+pub(crate) fn mended_by(alloc: Global, what: &[Part], mend: &str) -> Result<Said, AllocError> {
+    say(alloc, what, &[Part::Words(mend)])
 }
 
 /// These words on what is wrong, and on how to mend it.
 pub(crate) fn in_words(alloc: Global, what: &str, mend: &str) -> Result<Said, AllocError> {
-    let what = String::from_str(alloc, what)?;
-    mended_by(alloc, what, mend)
+    mended_by(alloc, &[Part::Words(what)], mend)
 }
 
 /// The line of a file's path, which stands for the whole of it.

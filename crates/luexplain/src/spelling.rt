@@ -1,10 +1,44 @@
 //! How expressions are spelled.
 
-use crate::words::{Clock, Sign};
+use crate::words::put_cut;
 use lustat_scope::{ClockRef, PatternRef};
 use lusyn_tokens::{binding_of, infix_token, prefix_token};
 use lutree::{Expr, Pattern};
 use std::alloc::{AllocError, Global};
+
+/// `true`, `false` or a name of an enumeration.
+pub(crate) fn put_sign(text: &mut String, sign: PatternRef) -> Result<(), AllocError> {
+    match sign {
+        PatternRef::Truth(true) => text.push_str("true"),
+        PatternRef::Truth(false) => text.push_str("false"),
+        PatternRef::Label(label) => put_cut(text, label.name.as_str()),
+    }
+}
+
+/// `c`, `not c` or `A(c)`, by the variable and the pattern.
+fn put_on(text: &mut String, name: &str, sign: PatternRef) -> Result<(), AllocError> {
+    match sign {
+        PatternRef::Truth(true) => put_cut(text, name),
+        PatternRef::Truth(false) => {
+            text.push_str("not ")?;
+            put_cut(text, name)
+        }
+        PatternRef::Label(label) => {
+            put_cut(text, label.name.as_str())?;
+            text.push('(')?;
+            put_cut(text, name)?;
+            text.push(')')
+        }
+    }
+}
+
+/// `c`, `not c` or `A(c)`; `base` for the base clock.
+pub(crate) fn put_clock(text: &mut String, clock: ClockRef) -> Result<(), AllocError> {
+    match clock {
+        ClockRef::Base => text.push_str("base"),
+        ClockRef::On(name, sign) => put_on(text, name, sign),
+    }
+}
 
 /// How tightly an expression binds.
 fn level_of(e: &Expr) -> u8 {
@@ -33,7 +67,8 @@ fn put_operand(text: &mut String, e: &Expr, least: u8) -> Result<(), AllocError>
 fn put_expr(text: &mut String, e: &Expr) -> Result<(), AllocError> {
     match e {
         Expr::Number(n) => write!(text, "{}", n.value()),
-        Expr::Truth(truth) => write!(text, "{truth}"),
+        Expr::Truth(true) => text.push_str("true"),
+        Expr::Truth(false) => text.push_str("false"),
         Expr::Label(label) => text.push_str(label.name.as_str()),
         Expr::Variable(x) => text.push_str(x.as_str()),
         Expr::Current(x) => {
@@ -48,7 +83,9 @@ fn put_expr(text: &mut String, e: &Expr) -> Result<(), AllocError> {
         Expr::Binary(op, a, b) => {
             let binding = binding_of(*op);
             put_operand(text, a, binding.left)?;
-            write!(text, " {} ", infix_token(*op).text())?;
+            text.push(' ')?;
+            text.push_str(infix_token(*op).text())?;
+            text.push(' ')?;
             put_operand(text, b, binding.right)
         }
         Expr::If(c, a, b) => {
@@ -61,7 +98,8 @@ fn put_expr(text: &mut String, e: &Expr) -> Result<(), AllocError> {
         }
         Expr::When(a, condition) => {
             put_operand(text, a, 9)?;
-            write!(text, " when {}", Clock(ClockRef::of(condition)))
+            text.push_str(" when ")?;
+            put_clock(text, ClockRef::of(condition))
         }
         Expr::Merge(x, patterns, branches) => {
             text.push_str("merge ")?;
@@ -104,7 +142,9 @@ fn put_branches(
         let Some(pattern) = patterns.get(i) else {
             return Ok(());
         };
-        write!(text, " ({} -> ", Sign(PatternRef::of(pattern)))?;
+        text.push_str(" (")?;
+        put_sign(text, PatternRef::of(pattern))?;
+        text.push_str(" -> ")?;
         put_expr(text, value)?;
         text.push(')')?;
     }

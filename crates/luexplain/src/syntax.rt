@@ -5,10 +5,11 @@ ghost use Rattle.std.specs.List.{prefix_len};
 ghost use Rattle.luexplain.specs.Told.{IsTold};
 ghost use Rattle.luexplain.specs.Syntax as spec;
 
+use crate::bytes::from_byte;
 use crate::place::where_in;
-use crate::rule::out_of_memory;
 use crate::said::{Said, in_words, mended_by, told, whole};
-use crate::words::Bytes;
+use crate::usual::out_of_memory;
+use crate::words::Part;
 use lulimits::limits::LONGEST_PROGRAM;
 use lusyn::SynError;
 use std::alloc::{AllocError, Global};
@@ -28,6 +29,16 @@ fn first_wide(text: &[u8]) -> usize
 
 fn is_word(byte: u8) -> bool {
     byte.is_ascii_alphanumeric() || byte == b'_'
+}
+
+/// How many bytes of a name, a keyword or a number stand at the front.
+fn word_length(text: &[u8]) -> usize {
+    for (i, byte) in text.iter().enumerate() {
+        if !is_word(*byte) {
+            return i;
+        }
+    }
+    text.len()
 }
 
 /// Whether a byte begins a sign.
@@ -50,37 +61,30 @@ fn sign_length(text: &[u8]) -> usize {
 
 /// The word or the sign at the front; the first byte where there is none.
 fn token_of(text: &[u8]) -> &[u8] {
-    let word = text.iter().take_while(|byte| is_word(**byte)).count();
+    let word = word_length(text);
     let length = if word > 0 { word } else { sign_length(text) };
     text.get(..length).unwrap_or(text)
 }
 
-/// What stands from a byte on.
-fn from_byte(text: &[u8], byte: usize) -> &[u8] {
-    text.get(byte..).unwrap_or(&[])
-}
-
 /// What is said of a byte with which no program goes on.
 fn said_of_token(alloc: Global, rest: &[u8]) -> Result<Said, AllocError> {
-    let token = Bytes(token_of(rest));
+    let token = Part::Bytes(token_of(rest));
     match rest {
         [] => in_words(
             alloc,
             "The text ends here, before the program does.",
             "Each node ends with `tel`, and each equation and declaration with `;`.",
         ),
-        [first, ..] if is_word(*first) || is_sign(*first) => {
-            let what = format!(in alloc; "{token} can't stand here.")?;
-            mended_by(
-                alloc,
-                what,
-                "What is missing often belongs before it, as the `;` of an equation; a keyword is no name.",
-            )
-        }
-        _ => {
-            let what = format!(in alloc; "{token} begins no name, number or sign.")?;
-            mended_by(alloc, what, "Leave it out; a comment begins with `--`.")
-        }
+        [first, ..] if is_word(*first) || is_sign(*first) => mended_by(
+            alloc,
+            &[token, Part::Words(" can't stand here.")],
+            "What is missing often belongs before it, as the `;` of an equation; a keyword is no name.",
+        ),
+        _ => mended_by(
+            alloc,
+            &[token, Part::Words(" begins no name, number or sign.")],
+            "Leave it out; a comment begins with `--`.",
+        ),
     }
 }
 
@@ -88,12 +92,15 @@ fn said_of_token(alloc: Global, rest: &[u8]) -> Result<Said, AllocError> {
 fn said_of_length(alloc: Global, text: &[u8]) -> Result<Said, AllocError> {
     let count = text.len();
     if count > LONGEST_PROGRAM {
-        let what = format!(in alloc;
-            "The text has {count} bytes, and a program has at most {LONGEST_PROGRAM}."
-        )?;
         return mended_by(
             alloc,
-            what,
+            &[
+                Part::Words("The text has "),
+                Part::Number(count),
+                Part::Words(" bytes, and a program has at most "),
+                Part::Number(LONGEST_PROGRAM),
+                Part::Words("."),
+            ],
             "Leave out what says nothing, and nodes that nothing calls.",
         );
     }
@@ -104,17 +111,24 @@ fn said_of_length(alloc: Global, text: &[u8]) -> Result<Said, AllocError> {
     )
 }
 
+/// What is said of a number that is too large, at the front of a text.
+fn said_of_number(alloc: Global, rest: &[u8]) -> Result<Said, AllocError> {
+    mended_by(
+        alloc,
+        &[
+            Part::Words("The number "),
+            Part::Bytes(token_of(rest)),
+            Part::Words(" is above 9223372036854775807, the greatest `int`."),
+        ],
+        "Choose a coarser unit, here and in the table.",
+    )
+}
+
 /// What is said of a text that is no program.
 fn said_of_syntax(alloc: Global, text: &[u8], error: &SynError) -> Result<Said, AllocError> {
     match error {
         SynError::Syntax { byte } => said_of_token(alloc, from_byte(text, *byte)),
-        SynError::NumberTooLarge { byte } => {
-            let number = Bytes(token_of(from_byte(text, *byte)));
-            let what = format!(in alloc;
-                "The number {number} is above 9223372036854775807, the greatest `int`."
-            )?;
-            mended_by(alloc, what, "Choose a coarser unit, here and in the table.")
-        }
+        SynError::NumberTooLarge { byte } => said_of_number(alloc, from_byte(text, *byte)),
         SynError::NotAscii => in_words(
             alloc,
             "The byte here is above 127, and a program has none, in comments too.",

@@ -3,13 +3,16 @@
 ghost use Rattle.std.specs.Prelude.{IfOk};
 ghost use Rattle.luexplain.specs.Texts.{IsToldSomewhere};
 
+use crate::bytes::{from_byte, length_before};
+use crate::find::{node_named, type_at_place};
+use crate::near::shared_front;
 use crate::place::where_in;
-use crate::rule::out_of_memory;
-use crate::said::{Said, in_words, mended_by, told, whole};
-use crate::words::{Bytes, Count, Names, Quoted, TypeName};
+use crate::said::{Said, in_words, mended_by, say, told, whole};
+use crate::usual::out_of_memory;
+use crate::words::Part;
 use lulimits::limits::LONGEST_TABLE;
 use lutab::TabError;
-use lutree::{Declaration, Kind, Program};
+use lutree::{Declaration, DeclaredName, Kind, Program};
 use std::alloc::{AllocError, Global};
 use std::str;
 
@@ -34,28 +37,30 @@ fn behind(bytes: &[u8], separator: u8, count: usize) -> usize {
     bytes.len()
 }
 
-/// How many bytes stand before the first separator.
-fn length_before(bytes: &[u8], separator: u8) -> usize {
-    bytes.iter().take_while(|byte| **byte != separator).count()
-}
-
 /// The inputs of the main node.
 fn inputs_of<'a>(program: &'a Program, main: &str) -> &'a [Declaration] {
-    for node in program.nodes.as_slice() {
-        if node.name.is(main) {
-            return node.inputs.as_slice();
-        }
+    match node_named(program, main) {
+        Some(node) => node.inputs.as_slice(),
+        None => &[],
     }
-    &[]
 }
 
-/// The names of declarations.
-fn names_of<'a>(alloc: Global, declared: &'a [Declaration]) -> Result<Vec<&'a str>, AllocError> {
-    let mut names = Vec::new(alloc);
-    for d in declared {
-        names.push(d.name.as_str())?;
+/// How often a byte stands among some.
+fn count_of(bytes: &[u8], wanted: u8) -> usize {
+    let mut count = 0_usize;
+    for byte in bytes {
+        if *byte == wanted {
+            count = count.saturating_add(1);
+        }
     }
-    Ok(names)
+    count
+}
+
+/// What stands before the first separator.
+fn front_of(bytes: &[u8], separator: u8) -> &[u8] {
+    bytes
+        .get(..length_before(bytes, separator))
+        .unwrap_or(bytes)
 }
 
 /// The header that a table of these inputs has.
@@ -70,12 +75,17 @@ fn header_of(alloc: Global, inputs: &[Declaration]) -> Result<String, AllocError
     Ok(header)
 }
 
-/// How many bytes two texts share at the front.
-fn shared(a: &[u8], b: &[u8]) -> usize {
-    a.iter()
-        .zip(b)
-        .take_while(|pair| *pair.0 == *pair.1)
-        .count()
+/// What is said of a header that isn't that of these inputs.
+fn said_of_header(alloc: Global, header: &str) -> Result<Said, AllocError> {
+    mended_by(
+        alloc,
+        &[Part::Around(
+            "The first line isn't the header ",
+            header,
+            " with a line feed at its end; it differs from here on.",
+        )],
+        "Write the names of the inputs in order of declaration, with `,` between them and no blanks.",
+    )
 }
 
 /// `T01`
@@ -86,23 +96,30 @@ fn bad_header(alloc: Global, text: &[u8], inputs: &[Declaration]) -> Result<Foun
             "The table isn't UTF-8: this byte can't stand here.",
             "Write the table in ASCII.",
         )?;
-        return Ok(Found {
-            byte: e.valid_up_to(),
-            said,
-        });
+        let byte = e.valid_up_to();
+        return Ok(Found { byte, said });
     }
     let header = header_of(alloc, inputs)?;
-    let byte = shared(text, header.as_bytes());
-    let what = format!(in alloc;
-        "The first line isn't the header {} with a line feed at its end; it differs from here on.",
-        Quoted(header.as_str())
-    )?;
-    let said = mended_by(
-        alloc,
-        what,
-        "Write the names of the inputs in order of declaration, with `,` between them and no blanks.",
-    )?;
+    let byte = shared_front(text, header.as_bytes());
+    let said = said_of_header(alloc, header.as_str())?;
     Ok(Found { byte, said })
+}
+
+/// What is said of a line with so many fields.
+fn said_of_row(alloc: Global, fields: usize, inputs: &[Declaration]) -> Result<Said, AllocError> {
+    mended_by(
+        alloc,
+        &[
+            Part::Words("The line has "),
+            Part::Count(fields, "field"),
+            Part::Words(", and the table has "),
+            Part::Count(inputs.len(), "column"),
+            Part::Words(": "),
+            Part::Variables(inputs),
+            Part::Words("."),
+        ],
+        "Write a value for each input at every instant.",
+    )
 }
 
 /// `T02`
@@ -113,41 +130,38 @@ fn bad_row(
     line: usize,
 ) -> Result<Found, AllocError> {
     let start = behind(text, b'\n', line.saturating_sub(1));
-    let rest = text.get(start..).unwrap_or(&[]);
-    let row = rest.get(..length_before(rest, b'\n')).unwrap_or(rest);
+    let rest = from_byte(text, start);
+    let row = front_of(rest, b'\n');
     if row.len() == rest.len() {
         let said = in_words(
             alloc,
             "The last line has no line feed at its end.",
             "End each line with a line feed, the last one too.",
         )?;
-        return Ok(Found {
-            byte: text.len(),
-            said,
-        });
+        let byte = text.len();
+        return Ok(Found { byte, said });
     }
-    let names = names_of(alloc, inputs)?;
-    let commas = row.iter().filter(|byte| **byte == b',').count();
-    let fields = Count(commas.saturating_add(1), "field");
-    let columns = Count(inputs.len(), "column");
-    let what = format!(in alloc;
-        "The line has {fields}, and the table has {columns}: {}.",
-        Names(names.as_slice())
-    )?;
-    let said = mended_by(
-        alloc,
-        what,
-        "Write a value for each input at every instant.",
-    )?;
+    let fields = count_of(row, b',').saturating_add(1);
+    let said = said_of_row(alloc, fields, inputs)?;
     let byte = start.saturating_add(behind(row, b',', inputs.len()));
     Ok(Found { byte, said })
+}
+
+/// Whether all these bytes are digits.
+fn all_digits(bytes: &[u8]) -> bool {
+    for byte in bytes {
+        if !byte.is_ascii_digit() {
+            return false;
+        }
+    }
+    true
 }
 
 /// Whether digits are those of a whole number, with no zero before it.
 fn are_digits(digits: &[u8]) -> bool {
     match digits {
         [b'0'] => true,
-        [b'1'..=b'9', rest @ ..] => rest.iter().all(|byte| byte.is_ascii_digit()),
+        [b'1'..=b'9', rest @ ..] => all_digits(rest),
         _ => false,
     }
 }
@@ -165,16 +179,22 @@ fn is_int(field: &[u8]) -> bool {
     }
 }
 
-/// Whether a field is a name of the enumeration at a place.
-fn is_label(program: &Program, place: u8, field: &[u8]) -> bool {
-    match program.types.as_slice().get(usize::from(place)) {
-        Some(declared) => declared
-            .names
-            .as_slice()
-            .iter()
-            .any(|x| x.name.as_str().as_bytes() == field),
-        None => false,
+/// The names of the enumeration at a place; none where there is none.
+fn labels_at(program: &Program, place: u8) -> &[DeclaredName] {
+    match type_at_place(program, place) {
+        Some(declared) => declared.names.as_slice(),
+        None => &[],
     }
+}
+
+/// Whether a field is one of these names of an enumeration.
+fn is_among(labels: &[DeclaredName], field: &[u8]) -> bool {
+    for label in labels {
+        if label.name.as_str().as_bytes() == field {
+            return true;
+        }
+    }
+    false
 }
 
 /// Whether a field is a value of a type.
@@ -185,12 +205,12 @@ fn is_value(program: &Program, kind: Kind, field: &[u8]) -> bool {
             b"true" | b"false" => true,
             _ => false,
         },
-        Kind::Enum(place, _) => is_label(program, place, field),
+        Kind::Enum(place, _) => is_among(labels_at(program, place), field),
     }
 }
 
 /// A field that is no value: where it stands in its line, and the input of its column.
-#[derive(Drop)]
+#[derive(Clone, Copy)]
 struct Wrong<'a> {
     offset: usize,
     field: &'a [u8],
@@ -205,8 +225,7 @@ fn wrong_field<'a>(
 ) -> Option<Wrong<'a>> {
     let mut rest = row;
     for input in inputs {
-        let length = length_before(rest, b',');
-        let field = rest.get(..length).unwrap_or(rest);
+        let field = front_of(rest, b',');
         if !is_value(program, input.kind, field) {
             return Some(Wrong {
                 offset: row.len().saturating_sub(rest.len()),
@@ -214,28 +233,44 @@ fn wrong_field<'a>(
                 input,
             });
         }
-        rest = rest.get(length.saturating_add(1)..).unwrap_or(&[]);
+        rest = from_byte(rest, field.len().saturating_add(1));
     }
     None
 }
 
-/// How a field of a type is written.
-fn values_of(alloc: Global, program: &Program, kind: Kind) -> Result<String, AllocError> {
+/// How a field of a type is written: words, the names of an enumeration, and words behind them.
+fn said_of_value<'a>(
+    alloc: Global,
+    program: &'a Program,
+    wrong: &Wrong<'a>,
+) -> Result<Said, AllocError> {
+    let kind = wrong.input.kind;
+    let what = [
+        Part::Bytes(wrong.field),
+        Part::Around(
+            " in the column ",
+            wrong.input.name.as_str(),
+            " is no value of type ",
+        ),
+        Part::Type(program, kind),
+        Part::Words("."),
+    ];
     match kind {
-        Kind::Int => String::from_str(
+        Kind::Int => mended_by(
             alloc,
+            &what,
             "Write a whole number from -9223372036854775808 to 9223372036854775807, without blanks, `+` or zeros before it.",
         ),
-        Kind::Bool => String::from_str(alloc, "Write `true` or `false`, without blanks."),
-        Kind::Enum(place, _) => {
-            let mut names = Vec::new(alloc);
-            if let Some(declared) = program.types.as_slice().get(usize::from(place)) {
-                for x in declared.names.as_slice() {
-                    names.push(x.name.as_str())?;
-                }
-            }
-            format!(in alloc; "Write one of {}, without blanks.", Names(names.as_slice()))
-        }
+        Kind::Bool => mended_by(alloc, &what, "Write `true` or `false`, without blanks."),
+        Kind::Enum(place, _) => say(
+            alloc,
+            &what,
+            &[
+                Part::Words("Write one of "),
+                Part::Labels(labels_at(program, place)),
+                Part::Words(", without blanks."),
+            ],
+        ),
     }
 }
 
@@ -247,39 +282,36 @@ fn bad_value(
     inputs: &[Declaration],
     line: usize,
 ) -> Result<Found, AllocError> {
-    let start = behind(text, b'\n', line.saturating_sub(1));
-    let rest = text.get(start..).unwrap_or(&[]);
-    let row = rest.get(..length_before(rest, b'\n')).unwrap_or(rest);
+    let byte = behind(text, b'\n', line.saturating_sub(1));
+    let row = front_of(from_byte(text, byte), b'\n');
     let Some(wrong) = wrong_field(program, inputs, row) else {
         let said = in_words(
             alloc,
             "A field of this line is no value of its type.",
             "Write a value of the type of its input.",
         )?;
-        return Ok(Found { byte: start, said });
+        return Ok(Found { byte, said });
     };
-    let column = Quoted(wrong.input.name.as_str());
-    let kind = TypeName(program, wrong.input.kind);
-    let what = format!(in alloc;
-        "{} in the column {column} is no value of type {kind}.",
-        Bytes(wrong.field)
-    )?;
-    let mend = values_of(alloc, program, wrong.input.kind)?;
-    Ok(Found {
-        byte: start.saturating_add(wrong.offset),
-        said: Said { what, mend },
-    })
+    let said = said_of_value(alloc, program, &wrong)?;
+    let byte = byte.saturating_add(wrong.offset);
+    Ok(Found { byte, said })
 }
 
 /// `T04`
 fn too_long(alloc: Global, text: &[u8]) -> Result<Said, AllocError> {
-    let count = text.len();
-    let feeds = text.iter().filter(|byte| **byte == b'\n').count();
-    let what = format!(in alloc;
-        "The table has {count} bytes and {}; it may have {LONGEST_TABLE} bytes, and a header and 1000000 lines.",
-        Count(feeds, "line")
-    )?;
-    mended_by(alloc, what, "Try the program at a part of the table.")
+    mended_by(
+        alloc,
+        &[
+            Part::Words("The table has "),
+            Part::Number(text.len()),
+            Part::Words(" bytes and "),
+            Part::Count(count_of(text, b'\n'), "line"),
+            Part::Words("; it may have "),
+            Part::Number(LONGEST_TABLE),
+            Part::Words(" bytes, and a header and 1000000 lines."),
+        ],
+        "Try the program at a part of the table.",
+    )
 }
 
 /// What a person is told of a table that is refused: its place, what is wrong, and how to mend it. `text` is the text of the file of this path,

@@ -1,22 +1,27 @@
 //! The rule of types, `E13`.
 
-use crate::find::{equation_at, parts_of};
-use crate::said::{Said, in_words, mended_by};
-use crate::side::{Side, side_text};
-use crate::words::TypeName;
+use crate::find::{Spot, inputs_of, outputs_of};
+use crate::said::{Said, mended_by};
+use crate::usual::usual;
+use crate::words::Part;
 use lulist::Name;
 use lustat_scope::{Catalog, Scope};
 use lusyn_tokens::{infix_token, prefix_token};
-use lutree::{BinaryOperator, Declaration, Equation, Expr, Infix, Kind, Prefix, UnaryOperator};
+use lutree::{BinaryOperator, Declaration, Expr, Infix, Kind, Prefix, Program, UnaryOperator};
 use std::alloc::{AllocError, Global};
 
 /// Two things that have to be of one type and aren't, with their types.
-#[derive(Drop)]
+#[derive(Clone, Copy)]
 struct Clash<'a> {
-    first: Side<'a>,
+    first: Part<'a>,
     wanted: Kind,
-    second: Side<'a>,
+    second: Part<'a>,
     found: Kind,
+}
+
+/// What an operator of this spelling takes.
+fn taken_by(spelling: &str) -> Part<'_> {
+    Part::Around("what ", spelling, " takes")
 }
 
 /// What an operator's one operand has to be.
@@ -51,8 +56,10 @@ fn made_by(op: BinaryOperator) -> Kind {
 
 /// The type of a node's one output.
 fn output_kind(catalog: &Catalog, f: &Name) -> Option<Kind> {
-    let node = catalog.find(f.as_str())?.node();
-    Some(node.outputs.as_slice().first()?.kind)
+    match outputs_of(catalog, f) {
+        Some([output, ..]) => Some(output.kind),
+        _ => None,
+    }
 }
 
 /// The type that an expression has if it has one, by its form.
@@ -86,7 +93,7 @@ fn kind_of_first(catalog: &Catalog, scope: &Scope, branches: &[Expr]) -> Option<
 fn clash_with<'a>(
     catalog: &Catalog<'a>,
     scope: &Scope<'a>,
-    first: Side<'a>,
+    first: Part<'a>,
     wanted: Kind,
     e: &'a Expr,
 ) -> Option<Clash<'a>> {
@@ -97,7 +104,7 @@ fn clash_with<'a>(
     Some(Clash {
         first,
         wanted,
-        second: Side::Part(e),
+        second: Part::Value(e),
         found,
     })
 }
@@ -110,7 +117,7 @@ fn clash_of_two<'a>(
     b: &'a Expr,
 ) -> Option<Clash<'a>> {
     let kind = kind_of(catalog, scope, a)?;
-    clash_with(catalog, scope, Side::Part(a), kind, b)
+    clash_with(catalog, scope, Part::Value(a), kind, b)
 }
 
 /// An operand that isn't of the type that an operator takes.
@@ -124,9 +131,24 @@ fn clash_of_operands<'a>(
     let Some(asked) = asked_by(op) else {
         return clash_of_two(catalog, scope, a, b);
     };
-    let side = Side::Operands(infix_token(Infix::Data(op)).text());
+    let side = taken_by(infix_token(Infix::Data(op)).text());
     match clash_with(catalog, scope, side, asked, a) {
         None => clash_with(catalog, scope, side, asked, b),
+        found => found,
+    }
+}
+
+/// A condition that is no `bool`, or two branches of two types.
+fn clash_of_if<'a>(
+    catalog: &Catalog<'a>,
+    scope: &Scope<'a>,
+    c: &'a Expr,
+    a: &'a Expr,
+    b: &'a Expr,
+) -> Option<Clash<'a>> {
+    let condition = Part::Words("the condition of an `if`");
+    match clash_with(catalog, scope, condition, Kind::Bool, c) {
+        None => clash_of_two(catalog, scope, a, b),
         found => found,
     }
 }
@@ -139,8 +161,9 @@ fn clash_of_branches<'a>(
 ) -> Option<Clash<'a>> {
     let (first, others) = branches.split_first()?;
     for other in others {
-        if let Some(found) = clash_of_two(catalog, scope, first, other) {
-            return Some(found);
+        let found = clash_of_two(catalog, scope, first, other);
+        if found.is_some() {
+            return found;
         }
     }
     None
@@ -153,11 +176,12 @@ fn clash_of_arguments<'a>(
     f: &'a Name,
     arguments: &'a [Expr],
 ) -> Option<Clash<'a>> {
-    let inputs = catalog.find(f.as_str())?.node().inputs.as_slice();
+    let inputs = inputs_of(catalog, f)?;
     for (input, e) in inputs.iter().zip(arguments) {
-        let side = Side::Input(f.as_str(), input.name.as_str());
-        if let Some(found) = clash_with(catalog, scope, side, input.kind, e) {
-            return Some(found);
+        let side = Part::Of("the input ", input.name.as_str(), f.as_str());
+        let found = clash_with(catalog, scope, side, input.kind, e);
+        if found.is_some() {
+            return found;
         }
     }
     None
@@ -167,15 +191,12 @@ fn clash_of_arguments<'a>(
 fn clash_at<'a>(catalog: &Catalog<'a>, scope: &Scope<'a>, e: &'a Expr) -> Option<Clash<'a>> {
     match e {
         Expr::Unary(Prefix::Data(op), a) => {
-            let side = Side::Operands(prefix_token(Prefix::Data(*op)).text());
+            let side = taken_by(prefix_token(Prefix::Data(*op)).text());
             clash_with(catalog, scope, side, asked_by_unary(*op), a)
         }
         Expr::Binary(Infix::Data(op), a, b) => clash_of_operands(catalog, scope, *op, a, b),
         Expr::Binary(_, a, b) => clash_of_two(catalog, scope, a, b),
-        Expr::If(c, a, b) => match clash_with(catalog, scope, Side::Condition, Kind::Bool, c) {
-            None => clash_of_two(catalog, scope, a, b),
-            found => found,
-        },
+        Expr::If(c, a, b) => clash_of_if(catalog, scope, c, a, b),
         Expr::Merge(_, _, branches) => clash_of_branches(catalog, scope, branches),
         Expr::Call(f, arguments) => clash_of_arguments(catalog, scope, f, arguments),
         _ => None,
@@ -186,7 +207,7 @@ fn clash_at<'a>(catalog: &Catalog<'a>, scope: &Scope<'a>, e: &'a Expr) -> Option
 fn clash_of_variable<'a>(
     scope: &Scope<'a>,
     x: &'a Name,
-    second: Side<'a>,
+    second: Part<'a>,
     found: Kind,
 ) -> Option<Clash<'a>> {
     let wanted = scope.kind(x.as_str())?;
@@ -194,7 +215,7 @@ fn clash_of_variable<'a>(
         return None;
     }
     Some(Clash {
-        first: Side::Variable(x.as_str()),
+        first: Part::Name(x.as_str()),
         wanted,
         second,
         found,
@@ -209,42 +230,39 @@ fn clash_of_outputs<'a>(
     outputs: &'a [Declaration],
 ) -> Option<Clash<'a>> {
     for (x, output) in left.iter().zip(outputs) {
-        let side = Side::Output(f.as_str(), output.name.as_str());
-        if let Some(found) = clash_of_variable(scope, x, side, output.kind) {
-            return Some(found);
+        let side = Part::Of("the output ", output.name.as_str(), f.as_str());
+        let found = clash_of_variable(scope, x, side, output.kind);
+        if found.is_some() {
+            return found;
         }
     }
     None
 }
 
 /// What doesn't agree between the sides of an equation.
-fn clash_of_sides<'a>(
-    catalog: &Catalog<'a>,
-    scope: &Scope<'a>,
-    equation: &'a Equation,
-) -> Option<Clash<'a>> {
-    let left = equation.left.as_slice();
-    if let Expr::Call(f, _) = &equation.right {
-        let outputs = catalog.find(f.as_str())?.node().outputs.as_slice();
-        return clash_of_outputs(scope, left, f, outputs);
+fn clash_of_sides<'a>(spot: &Spot<'_, 'a>) -> Option<Clash<'a>> {
+    let left = spot.equation.left.as_slice();
+    if let Expr::Call(f, _) = &spot.equation.right {
+        return clash_of_outputs(spot.scope, left, f, outputs_of(spot.catalog, f)?);
     }
-    let kind = kind_of(catalog, scope, &equation.right)?;
-    clash_of_variable(scope, left.first()?, Side::Right, kind)
+    let kind = kind_of(spot.catalog, spot.scope, &spot.equation.right)?;
+    clash_of_variable(
+        spot.scope,
+        left.first()?,
+        Part::Words("the right side"),
+        kind,
+    )
 }
 
 /// What doesn't agree in an equation: first in its right side, then between its sides.
-fn clash_in<'a>(
-    alloc: Global,
-    catalog: &Catalog<'a>,
-    scope: &Scope<'a>,
-    equation: &'a Equation,
-) -> Result<Option<Clash<'a>>, AllocError> {
-    for e in &parts_of(alloc, &equation.right)? {
-        if let Some(found) = clash_at(catalog, scope, *e) {
-            return Ok(Some(found));
+fn clash_in<'a>(spot: &Spot<'_, 'a>) -> Option<Clash<'a>> {
+    for e in spot.parts {
+        let found = clash_at(spot.catalog, spot.scope, *e);
+        if found.is_some() {
+            return found;
         }
     }
-    Ok(clash_of_sides(catalog, scope, equation))
+    clash_of_sides(spot)
 }
 
 /// How an expression of one type is made one of another.
@@ -259,23 +277,32 @@ fn mend_of(wanted: Kind, found: Kind) -> &'static str {
 }
 
 /// How two things of two types are told.
-fn said_of_clash(alloc: Global, catalog: &Catalog, clash: &Clash) -> Result<Said, AllocError> {
-    let first = side_text(alloc, clash.first)?;
-    let second = side_text(alloc, clash.second)?;
-    let wanted = TypeName(catalog.program(), clash.wanted);
-    let found = TypeName(catalog.program(), clash.found);
-    let what = format!(in alloc;
-        "The types don't agree: {first} is of type {wanted}, {second} is of type {found}."
-    )?;
-    mended_by(alloc, what, mend_of(clash.wanted, clash.found))
+fn said_of_clash<'a>(
+    alloc: Global,
+    program: &'a Program,
+    clash: &Clash<'a>,
+) -> Result<Said, AllocError> {
+    mended_by(
+        alloc,
+        &[
+            Part::Words("The types don't agree: "),
+            clash.first,
+            Part::Words(" is of type "),
+            Part::Type(program, clash.wanted),
+            Part::Words(", "),
+            clash.second,
+            Part::Words(" is of type "),
+            Part::Type(program, clash.found),
+            Part::Words("."),
+        ],
+        mend_of(clash.wanted, clash.found),
+    )
 }
 
 /// `E13`
-pub(crate) fn mismatch(alloc: Global, catalog: &Catalog, byte: usize) -> Result<Said, AllocError> {
-    if let Some((scope, equation)) = equation_at(catalog, byte) {
-        if let Some(clash) = clash_in(alloc, catalog, scope, equation)? {
-            return said_of_clash(alloc, catalog, &clash);
-        }
+pub(crate) fn mismatch(alloc: Global, spot: &Spot) -> Result<Said, AllocError> {
+    match clash_in(spot) {
+        Some(clash) => said_of_clash(alloc, spot.catalog.program(), &clash),
+        None => usual(alloc, spot.error),
     }
-    in_words(alloc, "The types don't agree.", "Give both sides one type.")
 }

@@ -1,9 +1,11 @@
-//! How names, types and clocks are quoted in a sentence.
+//! What sentences are made of, and how each part of one is written.
 
-use crate::place::shown;
+use crate::find::type_at_place;
+use crate::place::put_shown;
+use crate::spelling::{put_clock, put_sign, spelled};
 use lustat_scope::{ClockRef, PatternRef};
-use lutree::{Kind, Program};
-use std::fmt;
+use lutree::{Declaration, DeclaredName, Expr, Kind, Node, Program};
+use std::alloc::{AllocError, Global};
 
 /// How many bytes of a text are quoted.
 const QUOTED: usize = 60;
@@ -11,173 +13,242 @@ const QUOTED: usize = 60;
 /// How many of several names are told.
 const TOLD: usize = 8;
 
-/// At most 60 of some bytes, as they are shown.
-fn put_bytes<W: fmt::Write>(f: &mut fmt::Formatter<W>, bytes: &[u8]) -> fmt::Result {
-    for byte in bytes.iter().take(QUOTED) {
-        f.write_char(shown(*byte))?;
-    }
-    if bytes.len() > QUOTED {
-        return f.write_str("..");
-    }
-    Ok(())
+/// A part of a sentence. What is quoted stands between backticks, and is cut where it is long.
+#[derive(Clone, Copy)]
+pub(crate) enum Part<'a> {
+    /// Words, as they stand.
+    Words(&'a str),
+    /// A quoted name.
+    Name(&'a str),
+    /// A quoted name, with words before it and behind it.
+    Around(&'a str, &'a str, &'a str),
+    /// Words, a quoted name, and the quoted name of its node.
+    Of(&'a str, &'a str, &'a str),
+    /// Quoted bytes.
+    Bytes(&'a [u8]),
+    /// A quoted expression in its canonical form.
+    Value(&'a Expr),
+    /// A number.
+    Number(usize),
+    /// A number of things, each called so.
+    Count(usize, &'a str),
+    /// The name of a type of a program.
+    Type(&'a Program, Kind),
+    /// The pattern of a clock.
+    Sign(PatternRef<'a>),
+    /// A clock in short: `c`, `not c` or `A(c)`.
+    Short(ClockRef<'a>),
+    /// The base clock, or the clock `c`.
+    Clock(ClockRef<'a>),
+    /// The branch of a merge on this variable that has this pattern.
+    Branch(&'a str, PatternRef<'a>),
+    /// Names with commas between them; of many the first alone, and how many more there are.
+    Names(&'a [&'a str]),
+    /// The same of the names of an enumeration.
+    Labels(&'a [DeclaredName]),
+    /// The same of the names of nodes.
+    Nodes(&'a [Node]),
+    /// The same of the names of variables.
+    Variables(&'a [Declaration]),
+    /// Names in a circle, and what each does to the next: `a` calls `b`, which calls `c`, which calls `a`. Of many the first alone.
+    Circle(&'a [&'a str], &'a str),
 }
 
-/// At most 60 bytes of a text, as they are shown.
-fn put_cut<W: fmt::Write>(f: &mut fmt::Formatter<W>, text: &str) -> fmt::Result {
-    put_bytes(f, text.as_bytes())
+/// At most 60 of some bytes, as they are shown.
+fn put_bytes(text: &mut String, bytes: &[u8]) -> Result<(), AllocError> {
+    match bytes.get(..QUOTED) {
+        Some(front) if QUOTED < bytes.len() => {
+            put_shown(text, front)?;
+            text.push_str("..")
+        }
+        _ => put_shown(text, bytes),
+    }
+}
+
+/// At most 60 bytes of a name, as they are shown.
+pub(crate) fn put_cut(text: &mut String, name: &str) -> Result<(), AllocError> {
+    put_bytes(text, name.as_bytes())
 }
 
 /// Bytes between backticks, cut where they are many.
-#[derive(Drop)]
-pub(crate) struct Bytes<'a>(pub(crate) &'a [u8]);
+fn put_quoted(text: &mut String, bytes: &[u8]) -> Result<(), AllocError> {
+    text.push('`')?;
+    put_bytes(text, bytes)?;
+    text.push('`')
+}
 
-impl fmt::Display for Bytes<'_> {
-    fn fmt<W: fmt::Write>(&self, f: &mut fmt::Formatter<W>) -> fmt::Result {
-        f.write_char('`')?;
-        put_bytes(f, self.0)?;
-        f.write_char('`')
+/// A name between backticks, with words before it and behind it.
+fn put_around(text: &mut String, before: &str, name: &str, behind: &str) -> Result<(), AllocError> {
+    text.push_str(before)?;
+    put_quoted(text, name.as_bytes())?;
+    text.push_str(behind)
+}
+
+/// The name at this place among others; nothing where enough are told.
+fn put_listed(text: &mut String, place: usize, name: &str) -> Result<(), AllocError> {
+    if place >= TOLD {
+        return Ok(());
+    }
+    if place > 0 {
+        text.push_str(", ")?;
+    }
+    put_quoted(text, name.as_bytes())
+}
+
+/// How many of so many names aren't told.
+fn put_more(text: &mut String, count: usize) -> Result<(), AllocError> {
+    if count <= TOLD {
+        return Ok(());
+    }
+    write!(text, " and {} more", count - TOLD)
+}
+
+fn put_names(text: &mut String, names: &[&str]) -> Result<(), AllocError> {
+    for (place, name) in names.iter().enumerate() {
+        put_listed(text, place, *name)?;
+    }
+    put_more(text, names.len())
+}
+
+fn put_labels(text: &mut String, labels: &[DeclaredName]) -> Result<(), AllocError> {
+    for (place, label) in labels.iter().enumerate() {
+        put_listed(text, place, label.name.as_str())?;
+    }
+    put_more(text, labels.len())
+}
+
+fn put_nodes(text: &mut String, nodes: &[Node]) -> Result<(), AllocError> {
+    for (place, node) in nodes.iter().enumerate() {
+        put_listed(text, place, node.name.as_str())?;
+    }
+    put_more(text, nodes.len())
+}
+
+fn put_variables(text: &mut String, declared: &[Declaration]) -> Result<(), AllocError> {
+    for (place, variable) in declared.iter().enumerate() {
+        put_listed(text, place, variable.name.as_str())?;
+    }
+    put_more(text, declared.len())
+}
+
+/// What the name at this place does to the next; nothing where enough are told.
+fn put_step(text: &mut String, place: usize, does: &str, next: &str) -> Result<(), AllocError> {
+    if place >= TOLD {
+        return Ok(());
+    }
+    if place > 0 {
+        text.push_str(", which")?;
+    }
+    text.push(' ')?;
+    text.push_str(does)?;
+    text.push(' ')?;
+    put_quoted(text, next.as_bytes())
+}
+
+/// What stands before the last step of a circle, by how many steps there are before it.
+fn before_last(steps: usize) -> &'static str {
+    if steps > TOLD {
+        ", and so on to one that"
+    } else if steps > 0 {
+        ", which"
+    } else {
+        ""
     }
 }
 
-/// A text between backticks, cut where it is long.
-#[derive(Drop)]
-pub(crate) struct Quoted<'a>(pub(crate) &'a str);
+fn put_circle(text: &mut String, names: &[&str], does: &str) -> Result<(), AllocError> {
+    let Some((first, others)) = names.split_first() else {
+        return Ok(());
+    };
+    put_quoted(text, first.as_bytes())?;
+    for (place, other) in others.iter().enumerate() {
+        put_step(text, place, does, *other)?;
+    }
+    text.push_str(before_last(others.len()))?;
+    put_step(text, 0, does, *first)
+}
 
-impl fmt::Display for Quoted<'_> {
-    fn fmt<W: fmt::Write>(&self, f: &mut fmt::Formatter<W>) -> fmt::Result {
-        f.write_char('`')?;
-        put_cut(f, self.0)?;
-        f.write_char('`')
+fn put_count(text: &mut String, count: usize, thing: &str) -> Result<(), AllocError> {
+    write!(text, "{count} {thing}")?;
+    if count == 1 {
+        return Ok(());
+    }
+    text.push('s')
+}
+
+fn put_type(text: &mut String, program: &Program, kind: Kind) -> Result<(), AllocError> {
+    match kind {
+        Kind::Int => text.push_str("`int`"),
+        Kind::Bool => text.push_str("`bool`"),
+        Kind::Enum(place, _) => match type_at_place(program, place) {
+            Some(declared) => put_quoted(text, declared.name.as_str().as_bytes()),
+            None => text.push_str("a type that isn't declared"),
+        },
     }
 }
 
-/// A number of things.
-#[derive(Drop)]
-pub(crate) struct Count<'a>(pub(crate) usize, pub(crate) &'a str);
-
-impl fmt::Display for Count<'_> {
-    fn fmt<W: fmt::Write>(&self, f: &mut fmt::Formatter<W>) -> fmt::Result {
-        let Count(count, thing) = self;
-        if *count == 1 {
-            return write!(f, "1 {thing}");
-        }
-        write!(f, "{count} {thing}s")
-    }
-}
-
-/// Names with commas between them; of many the first alone, and how many more there are.
-#[derive(Drop)]
-pub(crate) struct Names<'a>(pub(crate) &'a [&'a str]);
-
-impl fmt::Display for Names<'_> {
-    fn fmt<W: fmt::Write>(&self, f: &mut fmt::Formatter<W>) -> fmt::Result {
-        for (i, name) in self.0.iter().take(TOLD).enumerate() {
-            if i > 0 {
-                f.write_str(", ")?;
-            }
-            write!(f, "{}", Quoted(*name))?;
-        }
-        let more = self.0.len().saturating_sub(TOLD);
-        if more > 0 {
-            return write!(f, " and {more} more");
-        }
-        Ok(())
-    }
-}
-
-/// `a` calls `b`, which calls `c`, which calls `a`: names in a circle, and what each does to the next. Of many the first alone are told.
-#[derive(Drop)]
-pub(crate) struct Circle<'a> {
-    pub(crate) names: &'a [&'a str],
-    pub(crate) does: &'a str,
-}
-
-impl fmt::Display for Circle<'_> {
-    fn fmt<W: fmt::Write>(&self, f: &mut fmt::Formatter<W>) -> fmt::Result {
-        let Some((first, others)) = self.names.split_first() else {
-            return Ok(());
-        };
-        write!(f, "{}", Quoted(*first))?;
-        for (i, other) in others.iter().take(TOLD).enumerate() {
-            if i > 0 {
-                f.write_str(", which")?;
-            }
-            let does = self.does;
-            write!(f, " {does} {}", Quoted(*other))?;
-        }
-        if others.len() > TOLD {
-            f.write_str(", and so on to one that")?;
-        } else if !others.is_empty() {
-            f.write_str(", which")?;
-        }
-        let does = self.does;
-        write!(f, " {does} {}", Quoted(*first))
-    }
-}
-
-/// The name of a type of a program.
-#[derive(Drop)]
-pub(crate) struct TypeName<'a>(pub(crate) &'a Program, pub(crate) Kind);
-
-impl fmt::Display for TypeName<'_> {
-    fn fmt<W: fmt::Write>(&self, f: &mut fmt::Formatter<W>) -> fmt::Result {
-        match self.1 {
-            Kind::Int => f.write_str("`int`"),
-            Kind::Bool => f.write_str("`bool`"),
-            Kind::Enum(place, _) => match self.0.types.as_slice().get(usize::from(place)) {
-                Some(declared) => write!(f, "{}", Quoted(declared.name.as_str())),
-                None => f.write_str("a type that isn't declared"),
-            },
-        }
-    }
-}
-
-/// `true`, `false` or a name of an enumeration.
-#[derive(Drop)]
-pub(crate) struct Sign<'a>(pub(crate) PatternRef<'a>);
-
-impl fmt::Display for Sign<'_> {
-    fn fmt<W: fmt::Write>(&self, f: &mut fmt::Formatter<W>) -> fmt::Result {
-        match self.0 {
-            PatternRef::Truth(true) => f.write_str("true"),
-            PatternRef::Truth(false) => f.write_str("false"),
-            PatternRef::Label(label) => put_cut(f, label.name.as_str()),
-        }
-    }
-}
-
-/// `c`, `not c` or `A(c)`; `base` for the base clock.
-#[derive(Drop)]
-pub(crate) struct Clock<'a>(pub(crate) ClockRef<'a>);
-
-impl fmt::Display for Clock<'_> {
-    fn fmt<W: fmt::Write>(&self, f: &mut fmt::Formatter<W>) -> fmt::Result {
-        match self.0 {
-            ClockRef::Base => f.write_str("base"),
-            ClockRef::On(name, PatternRef::Truth(true)) => put_cut(f, name),
-            ClockRef::On(name, PatternRef::Truth(false)) => {
-                f.write_str("not ")?;
-                put_cut(f, name)
-            }
-            ClockRef::On(name, PatternRef::Label(label)) => {
-                put_cut(f, label.name.as_str())?;
-                f.write_char('(')?;
-                put_cut(f, name)?;
-                f.write_char(')')
-            }
+fn put_on_clock(text: &mut String, clock: ClockRef) -> Result<(), AllocError> {
+    match clock {
+        ClockRef::Base => text.push_str("the base clock"),
+        clock => {
+            text.push_str("the clock `")?;
+            put_clock(text, clock)?;
+            text.push('`')
         }
     }
 }
 
-/// The base clock, or the clock `c`.
-#[derive(Drop)]
-pub(crate) struct OnClock<'a>(pub(crate) ClockRef<'a>);
+fn put_branch(text: &mut String, variable: &str, sign: PatternRef) -> Result<(), AllocError> {
+    text.push_str("the branch `")?;
+    put_sign(text, sign)?;
+    put_around(text, "` of the merge on ", variable, "")
+}
 
-impl fmt::Display for OnClock<'_> {
-    fn fmt<W: fmt::Write>(&self, f: &mut fmt::Formatter<W>) -> fmt::Result {
-        match self.0 {
-            ClockRef::Base => f.write_str("the base clock"),
-            clock => write!(f, "the clock `{}`", Clock(clock)),
+fn put_value(text: &mut String, alloc: Global, e: &Expr) -> Result<(), AllocError> {
+    let value = spelled(alloc, e)?;
+    put_quoted(text, value.as_bytes())
+}
+
+/// A part of a sentence that tells of one thing or two.
+fn put_one(text: &mut String, alloc: Global, part: Part) -> Result<(), AllocError> {
+    match part {
+        Part::Words(words) => text.push_str(words),
+        Part::Name(name) => put_quoted(text, name.as_bytes()),
+        Part::Around(before, name, behind) => put_around(text, before, name, behind),
+        Part::Of(before, name, node) => {
+            put_around(text, before, name, " of node ")?;
+            put_quoted(text, node.as_bytes())
         }
+        Part::Bytes(bytes) => put_quoted(text, bytes),
+        Part::Value(e) => put_value(text, alloc, e),
+        Part::Type(program, kind) => put_type(text, program, kind),
+        Part::Sign(sign) => put_sign(text, sign),
+        Part::Short(clock) => put_clock(text, clock),
+        Part::Clock(clock) => put_on_clock(text, clock),
+        Part::Branch(variable, sign) => put_branch(text, variable, sign),
+        _ => Ok(()),
     }
+}
+
+/// A part of a sentence.
+fn put_part(text: &mut String, alloc: Global, part: Part) -> Result<(), AllocError> {
+    match part {
+        Part::Number(number) => write!(text, "{number}"),
+        Part::Count(count, thing) => put_count(text, count, thing),
+        Part::Names(names) => put_names(text, names),
+        Part::Labels(labels) => put_labels(text, labels),
+        Part::Nodes(nodes) => put_nodes(text, nodes),
+        Part::Variables(declared) => put_variables(text, declared),
+        Part::Circle(names, does) => put_circle(text, names, does),
+        part => put_one(text, alloc, part),
+    }
+}
+
+/// A sentence of these parts.
+pub(crate) fn sentence(alloc: Global, parts: &[Part]) -> Result<String, AllocError> {
+    let mut text = String::new(alloc);
+    for part in parts {
+        put_part(&mut text, alloc, *part)?;
+    }
+    Ok(text)
 }

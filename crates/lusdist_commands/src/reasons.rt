@@ -147,14 +147,15 @@ fn program_at<F: Files>(alloc: Global, files: &F, path: &str) -> Result<Program,
 fn of_placement<F: Files>(
     alloc: Global,
     files: &F,
-    path: &str,
+    asked: Asked<'_>,
     error: &PlaceError,
 ) -> Result<String, Stop>
-    ensures { IfOk result (λ told. IsReason (F.gives files.now) path.now
+    ensures { IfOk result (λ told. IsReason (F.gives files.now) asked.entry.place.now
         (stops.Place error.now) (string_bytes told)) }
 {
-    let text = read(alloc, files, path)?;
-    Ok(of_place(alloc, path, &text, error)?)
+    let program = program_at(alloc, files, asked.program)?;
+    let text = read(alloc, files, asked.place)?;
+    Ok(of_place(alloc, asked.place, &text, &program, asked.main, error)?)
 }
 
 /// Why a table is refused.
@@ -202,7 +203,7 @@ fn reason<F: Files>(
         Stop::Syntax(e) => of_text(alloc, files, asked.program, e),
         Stop::Rules(e) => of_rules(alloc, files, asked.program, asked.main, e),
         Stop::Flat(e) => of_flat(alloc, files, asked.program, asked.main, e),
-        Stop::Place(e) => of_placement(alloc, files, asked.place, e),
+        Stop::Place(e) => of_placement(alloc, files, asked, e),
         Stop::Table(e) => of_inputs(alloc, files, asked, e),
         Stop::Schedule(e) => of_turns(alloc, files, asked.schedule, e),
         Stop::Fault {
