@@ -1,4 +1,4 @@
-//! A job of two sites, of which the first sends its input to the second.
+//! A job of two sites, of which the first sends its input to the second: its link carries 0, 1, 2 and so on.
 
 use luplace::Job;
 use lusdist_commands::Stop;
@@ -9,17 +9,18 @@ const PROGRAM: &[u8] = b"node main(x: int) returns (y: int); let y = x + 1; tel"
 
 const TWO_SITES: &[u8] = b"sites = [\"A\", \"B\"]\n[place]\nx = \"A\"\ny = \"B\"\n";
 
-/// A table of so many rows, all alike.
+/// A table of so many numbers, from 0 on.
 fn table_of(alloc: Global, instants: u32) -> Result<String, AllocError> {
     let mut table = String::from_str(alloc, "x\n")?;
-    for _ in 0..instants {
-        table.push_str("7\n")?;
+    for instant in 0..instants {
+        let row = format!(in alloc; "{instant}\n")?;
+        table.push_str(row.as_str())?;
     }
     Ok(table)
 }
 
 /// The job over so many instants.
-pub(crate) fn job_of_samples(alloc: Global, instants: u32) -> Result<Job, Stop> {
+pub fn job_of_numbers(alloc: Global, instants: u32) -> Result<Job, Stop> {
     let flat = flat_of(alloc, PROGRAM, "main")?;
     let plan = plan_of(alloc, flat, TWO_SITES)?;
     let table = table_of(alloc, instants)?;

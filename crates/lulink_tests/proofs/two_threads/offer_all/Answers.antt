@@ -1,9 +1,0 @@
-use Rattle.std.proofs.Common.{sym, ◌∙◌}
-use Rattle.lulink.specs.Lists.{list_of}
-use Rattle.lulink_tests.proofs.Passing.{next_one}
-use Rattle.lulink_tests.proofs.two_threads.offer_all.Goals as goal
-
-pub offer_one-requires : goal.offer_one-requires
-offer_one-requires g c =
-    let i = c.loop-k.invariant in
-    next_one _ _ _ _ _ (c.requires.list ∙ (λ j. list_of (sym i.0 j) (sym i.1 j))) i.2 c.loop-k-test.true
