@@ -115,6 +115,10 @@ impl<'t> Reader<'t> {
             ≡ declaration_places found.old.items ++ name_places names.items) }
         ensures err { IfErr result (λ e. e ≡ Stop.OutOfMemory) }
     {
+        if found.is_empty() {
+            // Most lists have one declaration, and so no room that is never used.
+            found.reserve_exact(names.len())?;
+        }
         for placed in names {
             let type_name = type_name_of(written)?;
             let clock = shared(clock)?;

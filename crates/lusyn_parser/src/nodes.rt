@@ -20,15 +20,6 @@ use lusyn_tokens::{Fixed, Lexeme};
 use lutree::{Equation, Node, Program};
 use std::alloc::Global;
 
-/// The row of these items, without the room that they had to grow: most lists of a node have few items.
-fn fitted<T>(items: Vec<T>) -> Row<T>
-    ensures { result ≡ items.items }
-{
-    let mut items = items;
-    items.shrink_to_fit();
-    Row::new(items)
-}
-
 /// Nodes.
 impl<'t> Reader<'t> {
     /// `"node" ident "(" [ decls ] ")" "returns" "(" decls ")" [ ";" ]`
@@ -86,10 +77,10 @@ impl<'t> Reader<'t> {
         let node = Node {
             name: heading.name,
             byte: heading.byte,
-            inputs: fitted(heading.inputs),
-            outputs: fitted(heading.outputs),
-            locals: fitted(locals),
-            equations: fitted(equations),
+            inputs: Row::new(heading.inputs),
+            outputs: Row::new(heading.outputs),
+            locals: Row::new(locals),
+            equations: Row::new(equations),
         };
         Ok((node, next))
     }
