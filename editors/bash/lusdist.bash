@@ -17,12 +17,13 @@ _lusdist() {
             esac
             ;;
         eval)
-            flags='--main --explain --all --chronogram --from --to --help'
+            flags='--main --explain --all --chronogram --from --to --vcd --help'
             endings=(lus csv)
             case $before in
                 --main) COMPREPLY=(); return ;;
                 --from) COMPREPLY=(); return ;;
                 --to) COMPREPLY=(); return ;;
+                --vcd) COMPREPLY=($(compgen -f -- "$word")); return ;;
             esac
             ;;
         plan)
@@ -65,7 +66,7 @@ _lusdist() {
     fi
     for ((i = 2; i < COMP_CWORD; i++)); do
         case ${COMP_WORDS[i]} in
-            --from|--main|--to|--workers) i=$((i + 1)) ;;
+            --from|--main|--to|--vcd|--workers) i=$((i + 1)) ;;
             -*) ;;
             *) place=$((place + 1)) ;;
         esac

@@ -9,7 +9,7 @@ use Rattle.std.specs.declared.vec.Vec.{Vec}
 use Rattle.std.specs.declared.string.String.{String}
 use Rattle.std.specs.declared.alloc.Global.{Global}
 use Rattle.luflow.specs.declared.data.Datum.{Datum}
-use Rattle.luflow.specs.declared.variable.Variable.{Variable}
+use Rattle.lutree.specs.declared.program.Kind.{Kind}
 use Rattle.luflow.specs.declared.form.Clock.{Clock}
 use Rattle.luflow.specs.declared.form.Clock.TheVariants.{Base, On}
 use Rattle.luflow.specs.declared.form.Form.{Form}
@@ -20,19 +20,14 @@ use Rattle.luflow.specs.Program.{FlatProgram, Table, Column, flow_at, flows_of, 
 use Rattle.luflow.specs.Streams.{Streams, datum_of, clock_at, truth_in}
 use Rattle.luflow.specs.Values.{gives, on_two, arrow_of, value_at, under}
 use Rattle.luflow.specs.Solution.{says, IsSolution}
-use Rattle.luflow.specs.Sound.{IsConstantOf}
-use Rattle.luflow.specs.Tables.{IsTable, AreColumnsOf, Fits, column_view, columns_view}
+use Rattle.luflow.specs.Sound.{IsFitFor, IsFit}
+use Rattle.luflow.specs.Tables.{IsTable, column_view, columns_view}
 use Rattle.luflow.specs.Faults.{IsFault, IsFaultOn}
 use Rattle.luflow.specs.Faults.IsFaultOn.{OnBinary, OnUnary}
 use Rattle.luflow.proofs.Solutions.{Agree, SameTo, says-same, ticked-same, flow_there, rank_of, rows_apart, rows_below, place_of, all_left, all_right}
 use Rattle.luchart.specs.Cut.{cut, cut_column}
 
 -- TABLES
-
-take_all : {X : Type 0} (P : X → Type 0) (n : ℕ) (xs : List X) → All P xs → All P (take n xs)
-take_all P zero xs all = All-nil P
-take_all P (suc n) [] all = All-nil P
-take_all P (suc n) (x ∷ xs) all = All-cons P x (take n xs) (All-head P x xs all) (take_all P n xs (All-tail P x xs all))
 
 long : (n m : ℕ) (columns : List Column) → n ≤ m → All (λ column. length column.values ≡ m) columns → All (λ column. length column.values ≡ n) (map (cut_column n) columns)
 long n m [] le all = All-nil (λ column. length column.values ≡ n)
@@ -49,15 +44,6 @@ long_enough n inputs xs e le is = λ k d lt.
     let h = subst (λ (cs : List Column). All (λ column. length column.values ≡ inputs.instants) cs) (sym e) is.long k (column_view d) (omega (arith, lt, length-map xs column_view)) in
     let same = ap (λ (column : Column). length column.values) (get_or-map column_view xs k d) in
     omega (arith, h, same, le)
-
-columns_fit : (n : ℕ) (xs : List Variable) (columns : List Column) → AreColumnsOf xs columns → AreColumnsOf xs (map (cut_column n) columns)
-columns_fit n [] [] are = are
-columns_fit n [] (c ∷ cs) are = absurd are
-columns_fit n (x ∷ xs) [] are = absurd are
-columns_fit n (x ∷ xs) (c ∷ cs) are = (are.0, take_all (IsConstantOf x.kind) n c.values are.1, columns_fit n xs cs are.2)
-
-pub fits : (n : ℕ) (flat : FlatProgram) (inputs : Table) → Fits flat inputs → Fits flat (cut n inputs)
-fits n flat inputs are = columns_fit n _ inputs.columns are
 
 -- VALUES
 
@@ -101,6 +87,23 @@ module _ (flat : FlatProgram) (ordered : IsOrdered flat) where
       }
 
 module _ (n : ℕ) (inputs : Table) (le : n ≤ inputs.instants) where
+  fit_for : (s : Kind) (form : Form) → IsFitFor inputs s form → IsFitFor (cut n inputs) s form
+  fit_for s (Input c) h = λ t lt. let w = h t (omega (arith, lt, le)) in (w.0, column_cut n c inputs.columns t lt ∙ w.1, w.2)
+  fit_for s (Constant d) h = h
+  fit_for s (Copied a) h = h
+  fit_for s (Unary op a) h = h
+  fit_for s (Binary op a b) h = h
+  fit_for s (If c a b) h = h
+  fit_for s (Pre a) h = h
+  fit_for s (Arrow a b) h = h
+  fit_for s (When a) h = h
+  fit_for s (Current a) h = h
+  fit_for s (Merge c xs) h = h
+
+  -- what fits a program fits it when it is cut
+  pub fit : (flat : FlatProgram) → IsFit flat inputs → IsFit flat (cut n inputs)
+  fit flat is = record { columns = λ i flow there. fit_for flow.kind flow.form (is.columns i flow there) }
+
   clock_cut : (σ : Streams) (clock : Clock) (t : ℕ) → t < n → clock_at (cut n inputs) σ clock t ≡ clock_at inputs σ clock t
   clock_cut σ Base t lt = ap Some (lt_true t n lt ∙ sym (lt_true t inputs.instants (omega (arith, lt, le))))
   clock_cut σ (On c d) t lt = refl

@@ -14,7 +14,7 @@ use Rattle.lusdist_shell.specs.declared.request.Request.TheVariants.{Check, Eval
 use Rattle.lusdist_shell.specs.declared.request.ReplayRequest.{ReplayRequest}
 use Rattle.lusdist_shell.specs.Request.{IsAskedBy}
 use Rattle.lusdist_commands.specs.declared.stop.Stop.{Stop}
-use Rattle.lusdist_commands.specs.declared.stop.Stop.TheVariants.{CannotRead, NotAscii, Syntax, Rules, Flat, Place, Table, Schedule, Fault, LinkLost, NoThread, OutOfMemory, Mistaken}
+use Rattle.lusdist_commands.specs.declared.stop.Stop.TheVariants.{CannotRead, CannotWrite, NotAscii, Syntax, Rules, Flat, Place, Table, Schedule, Fault, LinkLost, NoThread, OutOfMemory, Mistaken}
 use Rattle.lusdist_commands.specs.Asked.{IsDone, AreNotes, AreNotesOf, AskForNoTrace}
 use Rattle.lusdist_commands.specs.Statuses.{status_of}
 use Rattle.lusdist_commands.specs.Stopped.{IsRefusal}
@@ -58,6 +58,7 @@ no_notes gives (Replay request) notes quiet are = subst (λ (t : Bool). AreNotes
 -- a refusal has one of three statuses
 pub status_some : (stop : Stop) → (status_of stop ≡ 1) ⊎ ((status_of stop ≡ 2) ⊎ (status_of stop ≡ 3))
 status_some (CannotRead path) = inr (inl refl)
+status_some (CannotWrite path) = inr (inr refl)
 status_some NotAscii = inl refl
 status_some (Syntax (syn.Syntax byte)) = inl refl
 status_some (Syntax (syn.NumberTooLarge byte)) = inl refl
@@ -114,22 +115,22 @@ never_done stop e = elim (status_some stop) [
   | inr more ↦ elim more [ inl two ↦ absurd (omega (arith, e, two)) | inr three ↦ absurd (omega (arith, e, three)) ]
 ]
 
-module _ {W V : Type 0} (gives : List ℕ → Option (List ℕ) → Type 0) (words : List (List ℕ)) (request : Request) (asked : IsAskedBy words request) (status : ℕ) (streams : Streams W V) where
+module _ {W V : Type 0} (gives : List ℕ → Option (List ℕ) → Type 0) (takes : List ℕ → List ℕ → Type 0) (words : List (List ℕ)) (request : Request) (asked : IsAskedBy words request) (status : ℕ) (streams : Streams W V) where
   -- where what is asked for is done, the answer is on the output
-  pub done : IsEnded gives request status streams → status ≡ 0 → (text : List ℕ) × IsDone gives words text × Appends (streams.held_out streams.out.writer) (streams.held_out streams.out_after.writer) text
-  done (answered text notes e answer noted out) zero = (text, record { request = request; asked = asked; answer = answer }, out.output)
-  done (refused stop e stops err) zero = absurd (never_done stop (sym e ∙ zero))
-  done (unwritten text e answer none begun) zero = absurd (omega (arith, e, zero))
+  pub done : IsEnded gives takes request status streams → status ≡ 0 → (text : List ℕ) × IsDone gives words text × Appends (streams.held_out streams.out.writer) (streams.held_out streams.out_after.writer) text
+  done (answered text notes e answer noted filed out) zero = (text, record { request = request; asked = asked; answer = answer }, out.output)
+  done (refused stop e stops filed err) zero = absurd (never_done stop (sym e ∙ zero))
+  done (unwritten text e answer filed none begun) zero = absurd (omega (arith, e, zero))
 
   -- where it is done and no trace is asked for, nothing goes to the error stream
-  pub quiet : AskForNoTrace words → IsEnded gives request status streams → status ≡ 0 → streams.err_after ≡ streams.err
-  quiet none (answered text notes e answer noted out) zero =
+  pub quiet : AskForNoTrace words → IsEnded gives takes request status streams → status ≡ 0 → streams.err_after ≡ streams.err
+  quiet none (answered text notes e answer noted filed out) zero =
       out.silent (no_notes gives request notes (λ replay is. none replay (subst (IsAskedBy words) is asked)) noted)
-  quiet none (refused stop e stops err) zero = absurd (never_done stop (sym e ∙ zero))
-  quiet none (unwritten text e answer out begun) zero = absurd (omega (arith, e, zero))
+  quiet none (refused stop e stops filed err) zero = absurd (never_done stop (sym e ∙ zero))
+  quiet none (unwritten text e answer filed out begun) zero = absurd (omega (arith, e, zero))
 
   -- where it ends with status 1 or 2, it is refused
-  pub told : (n : ℕ) → (n ≡ 1) ⊎ (n ≡ 2) → IsEnded gives request status streams → status ≡ n → IsRefusal gives words n
-  told n small (answered text notes e answer noted out) is = elim small [ inl one ↦ absurd (omega (arith, e, is, one)) | inr two ↦ absurd (omega (arith, e, is, two)) ]
-  told n small (refused stop e stops err) is = record { request = request; asked = asked; stop = stop; stops = stops; status_is = sym is ∙ e }
-  told n small (unwritten text e answer none begun) is = elim small [ inl one ↦ absurd (omega (arith, e, is, one)) | inr two ↦ absurd (omega (arith, e, is, two)) ]
+  pub told : (n : ℕ) → (n ≡ 1) ⊎ (n ≡ 2) → IsEnded gives takes request status streams → status ≡ n → IsRefusal gives words n
+  told n small (answered text notes e answer noted filed out) is = elim small [ inl one ↦ absurd (omega (arith, e, is, one)) | inr two ↦ absurd (omega (arith, e, is, two)) ]
+  told n small (refused stop e stops filed err) is = record { request = request; asked = asked; stop = stop; stops = stops; status_is = sym is ∙ e }
+  told n small (unwritten text e answer filed none begun) is = elim small [ inl one ↦ absurd (omega (arith, e, is, one)) | inr two ↦ absurd (omega (arith, e, is, two)) ]

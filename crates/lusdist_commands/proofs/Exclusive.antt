@@ -50,7 +50,7 @@ use Rattle.lusdist_shell.specs.declared.request.Request.{Request}
 use Rattle.lusdist_shell.specs.declared.request.RunRequest.{RunRequest}
 use Rattle.lusdist_shell.specs.declared.request.Request.TheVariants.{Check, Eval, Plan, Replay, Run as AsksRun, Explain}
 use Rattle.lusdist_commands.specs.declared.stop.Stop.{Stop}
-use Rattle.lusdist_commands.specs.declared.stop.Stop.TheVariants.{CannotRead, NotAscii, Syntax, Rules, Flat, Place as BadPlace, Table as BadTable, Schedule, Fault, LinkLost, NoThread, OutOfMemory, Mistaken}
+use Rattle.lusdist_commands.specs.declared.stop.Stop.TheVariants.{CannotRead, CannotWrite, NotAscii, Syntax, Rules, Flat, Place as BadPlace, Table as BadTable, Schedule, Fault, LinkLost, NoThread, OutOfMemory, Mistaken}
 use Rattle.lusdist_commands.specs.Asked.{HasFlat, IsPlanOfText, IsJobFor, IsChecked, IsPlanned, IsReplayed, IsRan, IsAnswer}
 use Rattle.lusdist_commands.specs.Evaluated.{IsPosedBy, IsEvaluated, IsFaultOf, IsFaultTold}
 use Rattle.lusdist_commands.specs.Refused.{IsToldOf, IsProgramRefused, IsTableRefused, IsPlaceRefused}
@@ -64,7 +64,7 @@ use Rattle.lusdist_commands.specs.Stopped.StopsAtPlan.{no_program, place_unread,
 use Rattle.lusdist_commands.specs.Stopped.IsCheckStopped.{check_program, check_memory}
 use Rattle.lusdist_commands.specs.Mistakes.{mistake_in}
 use Rattle.lusdist_commands.specs.Stopped.IsEvalRefused.{eval_mistaken, eval_stopped}
-use Rattle.lusdist_commands.specs.Stopped.IsEvalStopped.{eval_program, eval_unread, eval_table, eval_fault, eval_memory}
+use Rattle.lusdist_commands.specs.Stopped.IsEvalStopped.{eval_program, eval_unread, eval_table, eval_fault, eval_unwritten, eval_memory}
 use Rattle.lusdist_commands.specs.Stopped.IsPlanStopped.{plan_files, plan_memory}
 use Rattle.lusdist_commands.specs.Stopped.StopsAtJob.{no_plan, table_unread, table_refused}
 use Rattle.lusdist_commands.specs.Stopped.IsReplayStopped.{replay_job, replay_unread, replay_schedule, replay_memory}
@@ -140,6 +140,7 @@ text_memory text tree NotAscii spelled h = absurd (h (IsUtf8-from_ascii text spe
 text_memory text tree (Syntax told) spelled (inl memory) = memory_is (Syntax told) (Syntax syntax.OutOfMemory) (ap (λ (x : SynError). Syntax x) memory) tt
 text_memory text tree (Syntax told) spelled (inr (utf8, refused)) = absurd (not_refused text tree told spelled refused)
 text_memory text tree (CannotRead path) spelled h = absurd h
+text_memory text tree (CannotWrite written) spelled h = absurd h
 text_memory text tree (Rules told) spelled h = absurd h
 text_memory text tree (Flat told) spelled h = absurd h
 text_memory text tree (BadPlace told) spelled h = absurd h
@@ -170,6 +171,7 @@ table_memory types inputs text table (BadTable told) is short utf8 (inr (same, r
       | inr other ↦ absurd (table_fine types inputs text table told is short (refused other))
     ]
 table_memory types inputs text table (CannotRead path) is short utf8 h = absurd h
+table_memory types inputs text table (CannotWrite written) is short utf8 h = absurd h
 table_memory types inputs text table NotAscii is short utf8 h = absurd h
 table_memory types inputs text table (Syntax told) is short utf8 h = absurd h
 table_memory types inputs text table (Rules told) is short utf8 h = absurd h
@@ -199,6 +201,7 @@ place_memory text plan (BadPlace told) is (inr (utf8, inr (inr (other, says, ref
     let same = ok_same (placement_of text) other is.place says is.says in
     absurd (none_some (refusal plan.flat is.place) told is.plan_is.accepted (ap (refusal plan.flat) (sym same) ∙ refused))
 place_memory text plan (CannotRead path) is h = absurd h
+place_memory text plan (CannotWrite written) is h = absurd h
 place_memory text plan NotAscii is h = absurd h
 place_memory text plan (Syntax told) is h = absurd h
 place_memory text plan (Rules told) is h = absurd h
@@ -215,6 +218,7 @@ schedule_memory : (text turns : List ℕ) (stop : Stop) → schedule_of text ≡
 schedule_memory text turns (Schedule told) is (inl memory) = memory_is (Schedule told) (Schedule schedule.OutOfMemory) (ap (λ (x : ScheduleError). Schedule x) memory) tt
 schedule_memory text turns (Schedule told) is (inr refused) = absurd (ok_err (schedule_of text) turns told is refused)
 schedule_memory text turns (CannotRead path) is h = absurd h
+schedule_memory text turns (CannotWrite written) is h = absurd h
 schedule_memory text turns NotAscii is h = absurd h
 schedule_memory text turns (Syntax told) is h = absurd h
 schedule_memory text turns (Rules told) is h = absurd h
@@ -238,6 +242,7 @@ module _ (gives : List ℕ → Option (List ℕ) → Type 0) (settled : HasOneTe
 
   pub unread_memory : (path one : List ℕ) (stop : Stop) → gives path (Some one) → IsUnread gives path stop → SaysNothing stop
   unread_memory path one (CannotRead name) given h = absurd (never_both path one given h.1)
+  unread_memory path one (CannotWrite written) given h = absurd h
   unread_memory path one OutOfMemory given h = tt
   unread_memory path one NotAscii given h = absurd h
   unread_memory path one (Syntax told) given h = absurd h
@@ -313,6 +318,7 @@ module _ (gives : List ℕ → Option (List ℕ) → Type 0) (settled : HasOneTe
       refused_memory request.program.now request.table.now request.main.now asked.program asked.table bytes table is.flat own is.inputs stop asked.program_given given (posed_flat request is.flat is.inputs asked) has
       asked.table_given table_given asked.posed.table_is asked.posed.short asked.posed.utf8 refused
   eval_outcome request text stop is (eval_fault name instant kind e fault) = absurd (fault_never request text is name instant kind fault)
+  eval_outcome request text stop is (eval_unwritten path asks its_flat its_inputs posed e) = memory_is stop (CannotWrite path) e tt
   eval_outcome request text stop is (eval_memory e) = memory_is stop OutOfMemory e tt
 
   refused_outcome : (request : EvalRequest) (text : List ℕ) (stop : Stop) → IsEvaluated gives request text → IsEvalRefused gives request stop → SaysNothing stop

@@ -61,7 +61,7 @@ use Rattle.lusdist_shell.specs.declared.request.Request.{Request}
 use Rattle.lusdist_shell.specs.declared.request.RunRequest.{RunRequest}
 use Rattle.lusdist_shell.specs.declared.request.Request.TheVariants.{Check, Eval, Plan, Replay, Run as AsksRun, Explain}
 use Rattle.lusdist_commands.specs.declared.stop.Stop.{Stop}
-use Rattle.lusdist_commands.specs.declared.stop.Stop.TheVariants.{CannotRead, NotAscii, Syntax, Rules, Flat, Place as BadPlace, Table as BadTable, Schedule, Fault, LinkLost, NoThread, OutOfMemory, Mistaken}
+use Rattle.lusdist_commands.specs.declared.stop.Stop.TheVariants.{CannotRead, CannotWrite, NotAscii, Syntax, Rules, Flat, Place as BadPlace, Table as BadTable, Schedule, Fault, LinkLost, NoThread, OutOfMemory, Mistaken}
 use Rattle.lusdist_commands.specs.Evaluated.{IsFaultOf, IsFaultTold}
 use Rattle.lusdist_commands.specs.Refused.{IsToldOf, IsProgramRefused, IsPlaceRefused, IsTableRefused}
 use Rattle.lusdist_commands.specs.Refused.IsToldOf.{rule, flat}
@@ -73,7 +73,7 @@ use Rattle.lusdist_commands.specs.Stopped.IsCheckStopped.{check_program, check_m
 use Rattle.lusdist_commands.specs.declared.mistake.Mistake.{Mistake}
 use Rattle.lusdist_commands.specs.Mistakes.{mistake_in}
 use Rattle.lusdist_commands.specs.Stopped.IsEvalRefused.{eval_mistaken, eval_stopped}
-use Rattle.lusdist_commands.specs.Stopped.IsEvalStopped.{eval_program, eval_unread, eval_table, eval_fault, eval_memory}
+use Rattle.lusdist_commands.specs.Stopped.IsEvalStopped.{eval_program, eval_unread, eval_table, eval_fault, eval_unwritten, eval_memory}
 use Rattle.lusdist_commands.specs.Stopped.IsPlanStopped.{plan_files, plan_memory}
 use Rattle.lusdist_commands.specs.Stopped.StopsAtJob.{no_plan, table_unread, table_refused}
 use Rattle.lusdist_commands.specs.Stopped.IsReplayStopped.{replay_job, replay_unread, replay_schedule, replay_memory}
@@ -129,6 +129,7 @@ text_told bytes NotAscii h = speaks None h refl
 text_told bytes (Syntax e) (inl memory) = silent (memory_is (Syntax e) (Syntax syn.OutOfMemory) (ap (λ (x : SynError). Syntax x) memory) tt)
 text_told bytes (Syntax e) (inr h) = speaks (Some e) h refl
 text_told bytes (CannotRead path) h = absurd h
+text_told bytes (CannotWrite written) h = absurd h
 text_told bytes (Fault variable instant kind) h = absurd h
 text_told bytes (Rules e) h = absurd h
 text_told bytes (Flat e) h = absurd h
@@ -159,6 +160,7 @@ place_told own bytes (BadPlace e) (inr (utf8, inl memory)) = silent (memory_is (
 place_told own bytes (BadPlace e) (inr (utf8, inr (inl h))) = speaks e (inr (utf8, ap (place_by own) h)) refl
 place_told own bytes (BadPlace e) (inr (utf8, inr (inr (place, h, k)))) = speaks e (inr (utf8, ap (place_by own) h ∙ k)) refl
 place_told own bytes (CannotRead path) h = absurd h
+place_told own bytes (CannotWrite written) h = absurd h
 place_told own bytes (Fault variable instant kind) h = absurd h
 place_told own bytes NotAscii h = absurd h
 place_told own bytes (Syntax e) h = absurd h
@@ -186,6 +188,7 @@ table_told types inputs bytes (BadTable e) (inr (utf8, h)) = elim (memory_or e) 
   | inr other ↦ speaks e (inr (utf8, h other)) refl
 ]
 table_told types inputs bytes (CannotRead path) h = absurd h
+table_told types inputs bytes (CannotWrite written) h = absurd h
 table_told types inputs bytes (Fault variable instant kind) h = absurd h
 table_told types inputs bytes NotAscii h = absurd h
 table_told types inputs bytes (Syntax e) h = absurd h
@@ -207,6 +210,7 @@ schedule_told : (bytes : List ℕ) (stop : Stop) → IsScheduleRefused bytes sto
 schedule_told bytes (Schedule e) (inl memory) = silent (memory_is (Schedule e) (Schedule schedule.OutOfMemory) (ap (λ (x : ScheduleError). Schedule x) memory) tt)
 schedule_told bytes (Schedule e) (inr h) = speaks e h refl
 schedule_told bytes (CannotRead path) h = absurd h
+schedule_told bytes (CannotWrite written) h = absurd h
 schedule_told bytes (Fault variable instant kind) h = absurd h
 schedule_told bytes NotAscii h = absurd h
 schedule_told bytes (Syntax e) h = absurd h
@@ -223,6 +227,7 @@ schedule_told bytes (Mistaken mistake) h = absurd h
 
 unread_told : (gives : List ℕ → Option (List ℕ) → Type 0) (path : List ℕ) (stop : Stop) → IsUnread gives path stop → Tells_of (λ name. CannotRead name) (λ name. name ≡ path) stop
 unread_told gives path (CannotRead name) h = speaks name h.0 refl
+unread_told gives path (CannotWrite written) h = absurd h
 unread_told gives path OutOfMemory h = silent tt
 unread_told gives path (Fault variable instant kind) h = absurd h
 unread_told gives path NotAscii h = absurd h
@@ -417,6 +422,11 @@ module _ (gives : List ℕ → Option (List ℕ) → Type 0) (settled : HasOneTe
 
     eval_stop : (a b : Stop) → IsEvalStopped gives request a → IsEvalStopped gives request b → (¬ SaysNothing a) → (¬ SaysNothing b) → a ≡ b
     eval_stop a b (eval_memory e) y na nb = absurd (na (memory_is a OutOfMemory e tt))
+    eval_stop a b (eval_unwritten path asks its_flat its_inputs posed e) y na nb = absurd (na (memory_is a (CannotWrite path) e tt))
+    eval_stop a b (eval_program x) (eval_unwritten path asks its_flat its_inputs posed d) na nb = absurd (nb (memory_is b (CannotWrite path) d tt))
+    eval_stop a b (eval_unread program own given has x) (eval_unwritten path asks its_flat its_inputs posed d) na nb = absurd (nb (memory_is b (CannotWrite path) d tt))
+    eval_stop a b (eval_table program table own given table_given has x) (eval_unwritten path asks its_flat its_inputs posed d) na nb = absurd (nb (memory_is b (CannotWrite path) d tt))
+    eval_stop a b (eval_fault name instant kind e fault) (eval_unwritten path asks its_flat its_inputs posed d) na nb = absurd (nb (memory_is b (CannotWrite path) d tt))
     eval_stop a b (eval_program x) (eval_memory e) na nb = absurd (nb (memory_is b OutOfMemory e tt))
     eval_stop a b (eval_program x) (eval_program y) na nb = program_stop request.program.now request.main.now a b x y na nb
     eval_stop a b (eval_program x) (eval_unread program own given has y) na nb = past_program gives settled request.program.now request.main.now program own a given has x na

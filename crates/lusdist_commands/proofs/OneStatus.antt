@@ -17,7 +17,7 @@ use Rattle.lusdist_shell.specs.declared.request.Request.{Request}
 use Rattle.lusdist_shell.specs.declared.request.RunRequest.{RunRequest}
 use Rattle.lusdist_shell.specs.declared.request.Request.TheVariants.{Check, Eval, Plan, Replay, Run as AsksRun, Explain}
 use Rattle.lusdist_commands.specs.declared.stop.Stop.{Stop}
-use Rattle.lusdist_commands.specs.declared.stop.Stop.TheVariants.{CannotRead, NotAscii, Syntax, Rules, Flat, Place, Table, Schedule, Fault, LinkLost, NoThread, OutOfMemory, Mistaken}
+use Rattle.lusdist_commands.specs.declared.stop.Stop.TheVariants.{CannotRead, CannotWrite, NotAscii, Syntax, Rules, Flat, Place, Table, Schedule, Fault, LinkLost, NoThread, OutOfMemory, Mistaken}
 use Rattle.lusdist_commands.specs.Statuses.{status_of}
 use Rattle.lusdist_commands.specs.Asked.{HasFlat, IsPlanFor, IsJobFor}
 use Rattle.lusdist_commands.specs.Evaluated.{IsFaultOf}
@@ -30,7 +30,7 @@ use Rattle.lusdist_commands.specs.Stopped.StopsAtPlan.{no_program, place_unread,
 use Rattle.lusdist_commands.specs.Stopped.IsCheckStopped.{check_program, check_memory}
 use Rattle.lusdist_commands.specs.Mistakes.{mistake_in}
 use Rattle.lusdist_commands.specs.Stopped.IsEvalRefused.{eval_mistaken, eval_stopped}
-use Rattle.lusdist_commands.specs.Stopped.IsEvalStopped.{eval_program, eval_unread, eval_table, eval_fault, eval_memory}
+use Rattle.lusdist_commands.specs.Stopped.IsEvalStopped.{eval_program, eval_unread, eval_table, eval_fault, eval_unwritten, eval_memory}
 use Rattle.lusdist_commands.specs.Stopped.IsPlanStopped.{plan_files, plan_memory}
 use Rattle.lusdist_commands.specs.Stopped.StopsAtJob.{no_plan, table_unread, table_refused}
 use Rattle.lusdist_commands.specs.Stopped.IsReplayStopped.{replay_job, replay_unread, replay_schedule, replay_memory}
@@ -45,12 +45,14 @@ use Rattle.lusdist_commands.proofs.Exclusive.{memory_is, none_some, unread_memor
 -- a stop of a text, and no want of memory
 abbrev pub IsOfText : Stop → Type 0
 IsOfText (CannotRead path) = ⊥
+IsOfText (CannotWrite written) = ⊥
 IsOfText (Mistaken mistake) = ⊥
 IsOfText (Fault variable instant kind) = ⊥
 IsOfText _ = Unit {0}
 
 one_of_text : (stop : Stop) → IsOfText stop → (¬ SaysNothing stop) → status_of stop ≡ 1
 one_of_text (CannotRead path) is not = absurd is
+one_of_text (CannotWrite written) is not = absurd is
 one_of_text NotAscii is not = refl
 one_of_text (Syntax (syn.Syntax byte)) is not = refl
 one_of_text (Syntax (syn.NumberTooLarge byte)) is not = refl
@@ -110,6 +112,7 @@ told_text tree places main stop (flat told e keeps refuses) = of_text_is stop (F
 
 program_text : (bytes : List ℕ) (stop : Stop) → IsProgramRefused bytes stop → IsOfText stop
 program_text bytes (CannotRead path) h = absurd h
+program_text bytes (CannotWrite written) h = absurd h
 program_text bytes (Fault variable instant kind) h = absurd h
 program_text bytes NotAscii h = tt
 program_text bytes (Syntax e) h = tt
@@ -129,6 +132,7 @@ no_flat_text bytes main stop (unruled tree places spelled there told) = told_tex
 
 place_text : (list : FlatProgram) (bytes : List ℕ) (stop : Stop) → IsPlaceRefused list bytes stop → IsOfText stop
 place_text list bytes (CannotRead path) h = absurd h
+place_text list bytes (CannotWrite written) h = absurd h
 place_text list bytes (Fault variable instant kind) h = absurd h
 place_text list bytes NotAscii h = tt
 place_text list bytes (Syntax e) h = tt
@@ -144,6 +148,7 @@ place_text list bytes (Mistaken mistake) h = absurd h
 
 table_text : (types inputs : _) (bytes : List ℕ) (stop : Stop) → IsTableRefused types inputs bytes stop → IsOfText stop
 table_text types inputs bytes (CannotRead path) h = absurd h
+table_text types inputs bytes (CannotWrite written) h = absurd h
 table_text types inputs bytes (Fault variable instant kind) h = absurd h
 table_text types inputs bytes NotAscii h = tt
 table_text types inputs bytes (Syntax e) h = tt
@@ -159,6 +164,7 @@ table_text types inputs bytes (Mistaken mistake) h = absurd h
 
 schedule_text : (bytes : List ℕ) (stop : Stop) → IsScheduleRefused bytes stop → IsOfText stop
 schedule_text bytes (CannotRead path) h = absurd h
+schedule_text bytes (CannotWrite written) h = absurd h
 schedule_text bytes (Fault variable instant kind) h = absurd h
 schedule_text bytes NotAscii h = tt
 schedule_text bytes (Syntax e) h = tt
@@ -174,6 +180,7 @@ schedule_text bytes (Mistaken mistake) h = absurd h
 
 unread_two : (gives : List ℕ → Option (List ℕ) → Type 0) (path : List ℕ) (stop : Stop) → IsUnread gives path stop → (¬ SaysNothing stop) → (status_of stop ≡ 2) × gives path None
 unread_two gives path (CannotRead name) h not = (refl, h.1)
+unread_two gives path (CannotWrite written) h not = absurd h
 unread_two gives path (Fault variable instant kind) h not = absurd h
 unread_two gives path NotAscii h not = absurd h
 unread_two gives path (Syntax e) h not = absurd h
@@ -241,6 +248,11 @@ module _ (gives : List ℕ → Option (List ℕ) → Type 0) (settled : HasOneTe
 
     eval_status : (a b : Stop) → IsEvalStopped gives request a → IsEvalStopped gives request b → (¬ SaysNothing a) → (¬ SaysNothing b) → status_of a ≡ status_of b
     eval_status a b (eval_memory e) y na nb = absurd (na (memory_is a OutOfMemory e tt))
+    eval_status a b (eval_unwritten path asks its_flat its_inputs posed e) y na nb = absurd (na (memory_is a (CannotWrite path) e tt))
+    eval_status a b (eval_program x) (eval_unwritten path asks its_flat its_inputs posed d) na nb = absurd (nb (memory_is b (CannotWrite path) d tt))
+    eval_status a b (eval_unread program own given has x) (eval_unwritten path asks its_flat its_inputs posed d) na nb = absurd (nb (memory_is b (CannotWrite path) d tt))
+    eval_status a b (eval_table program table own given table_given has x) (eval_unwritten path asks its_flat its_inputs posed d) na nb = absurd (nb (memory_is b (CannotWrite path) d tt))
+    eval_status a b (eval_fault name instant kind e fault) (eval_unwritten path asks its_flat its_inputs posed d) na nb = absurd (nb (memory_is b (CannotWrite path) d tt))
     eval_status a b (eval_program x) (eval_memory e) na nb = absurd (nb (memory_is b OutOfMemory e tt))
     eval_status a b (eval_program x) (eval_program y) na nb = program_status request.program.now request.main.now a b x y na nb
     eval_status a b (eval_program x) (eval_unread program own given has y) na nb = past_program request.program.now request.main.now program own a given has x na

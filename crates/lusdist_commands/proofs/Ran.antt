@@ -29,7 +29,7 @@ use Rattle.lurun.specs.Reports.{AreComplete, AreOutputsOf as AreRunOutputs, HasO
 use Rattle.lurun.specs.Stations.{StationAt, sites_at}
 use Rattle.lusdist_shell.specs.declared.request.RunRequest.{RunRequest}
 use Rattle.lusdist_commands.specs.declared.stop.Stop.{Stop}
-use Rattle.lusdist_commands.specs.declared.stop.Stop.TheVariants.{CannotRead, NotAscii, Syntax, Rules, Flat, Place, Table, Schedule, Fault, LinkLost, NoThread, OutOfMemory, Mistaken}
+use Rattle.lusdist_commands.specs.declared.stop.Stop.TheVariants.{CannotRead, CannotWrite, NotAscii, Syntax, Rules, Flat, Place, Table, Schedule, Fault, LinkLost, NoThread, OutOfMemory, Mistaken}
 use Rattle.lusdist_commands.specs.Asked.{IsJobFor, IsRan}
 use Rattle.lusdist_commands.specs.Evaluated.{AreOutputsOf}
 use Rattle.lusdist_commands.specs.Ran.{IsRunError, IsStopOfRun, IsRunTable}
@@ -116,6 +116,7 @@ module _ (gives : List ℕ → Option (List ℕ) → Type 0) (request : RunReque
 
   pub run_stop : (stop : Stop) → IsStopOfRun job stop → IsRunStopped gives request stop
   run_stop (CannotRead path) h = absurd h
+  run_stop (CannotWrite path) h = absurd h
   run_stop NotAscii h = absurd h
   run_stop (Syntax e) h = absurd h
   run_stop (Rules e) h = absurd h

@@ -9,7 +9,7 @@ use Rattle.lusdist_shell.specs.declared.schedule.ScheduleError.TheVariants as sc
 use Rattle.lusdist_shell.specs.declared.request.Request.{Request}
 use Rattle.lusdist_shell.specs.declared.request.Request.TheVariants.{Run as AsksRun}
 use Rattle.lusdist_commands.specs.declared.stop.Stop.{Stop}
-use Rattle.lusdist_commands.specs.declared.stop.Stop.TheVariants.{Syntax, Rules, Flat, Place, Table, Schedule, Fault, LinkLost, NoThread, OutOfMemory}
+use Rattle.lusdist_commands.specs.declared.stop.Stop.TheVariants.{CannotWrite, Syntax, Rules, Flat, Place, Table, Schedule, Fault, LinkLost, NoThread, OutOfMemory}
 use Rattle.lusdist_commands.specs.Asked.{IsAnswer}
 use Rattle.lusdist_commands.specs.Stopped.{IsRequestStopped}
 use Rattle.lusdist_commands.specs.Statuses.{status_of}
@@ -18,7 +18,7 @@ use Rattle.lusdist_commands.specs.Statuses.{status_of}
 abbrev pub HasOneText : (List ℕ → Option (List ℕ) → Type 0) → Type 0
 HasOneText gives = (path : List ℕ) (one other : Option (List ℕ)) → gives path one → gives path other → one ≡ other
 
--- a stop that says nothing of the files: memory ran out, or a run was cut short, since a thread was refused or a site was left
+-- a stop that says nothing of the files that are read: memory ran out, a dump couldn't be written, or a run was cut short, since a thread was refused or a site was left
 abbrev pub SaysNothing : Stop → Type 0
 SaysNothing (Syntax syn.OutOfMemory) = Unit {0}
 SaysNothing (Rules rules.OutOfMemory) = Unit {0}
@@ -26,6 +26,7 @@ SaysNothing (Flat core.OutOfMemory) = Unit {0}
 SaysNothing (Place place.OutOfMemory) = Unit {0}
 SaysNothing (Table tab.OutOfMemory) = Unit {0}
 SaysNothing (Schedule schedule.OutOfMemory) = Unit {0}
+SaysNothing (CannotWrite path) = Unit {0}
 SaysNothing LinkLost = Unit {0}
 SaysNothing NoThread = Unit {0}
 SaysNothing OutOfMemory = Unit {0}

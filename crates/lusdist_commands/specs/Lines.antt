@@ -10,11 +10,12 @@ use Rattle.lutab.specs.Lines.{line_of as table_line}
 use Rattle.lusdist_shell.specs.Lines.{line_of as schedule_line}
 use Rattle.lusdist_commands.specs.Mistakes.{line_of as mistake_line}
 use Rattle.lusdist_commands.specs.declared.stop.Stop.{Stop}
-use Rattle.lusdist_commands.specs.declared.stop.Stop.TheVariants.{CannotRead, NotAscii, Syntax, Rules, Flat, Place, Table, Schedule, Fault, LinkLost, NoThread, OutOfMemory, Mistaken}
+use Rattle.lusdist_commands.specs.declared.stop.Stop.TheVariants.{CannotRead, CannotWrite, NotAscii, Syntax, Rules, Flat, Place, Table, Schedule, Fault, LinkLost, NoThread, OutOfMemory, Mistaken}
 
 -- a code and a name, and what there is to tell; without the line feed that ends the line
 abbrev pub line_of : Stop → List ℕ
 line_of (CannotRead path) = codes "F01 CannotRead " ++ path
+line_of (CannotWrite path) = codes "F02 CannotWrite " ++ path
 line_of NotAscii = codes "E03 NotAscii"
 line_of (Syntax refusal) = syntax_line refusal
 line_of (Rules refusal) = rule_line refusal

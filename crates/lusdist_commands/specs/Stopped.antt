@@ -2,7 +2,7 @@
 use Rattle.std.specs.Prelude.{◌≡◌, ◌⊎◌, ℕ, List, Option, Some, None, Err}
 use Rattle.lutree.specs.Places.{ProgramPlaces}
 use Rattle.lutree.specs.Tree.{ProgramTree}
-use Rattle.luflow.specs.Program.{FlatProgram}
+use Rattle.luflow.specs.Program.{FlatProgram, Table}
 use Rattle.luflow.specs.Variables.{inputs_of}
 use Rattle.luflow.specs.declared.form.FaultKind.{FaultKind}
 use Rattle.luworld.specs.Needs.{Distribution}
@@ -20,7 +20,7 @@ use Rattle.lusdist_shell.specs.declared.request.Request.{Request}
 use Rattle.lusdist_shell.specs.declared.request.Request.TheVariants.{Check, Eval, Plan, Replay, Run as AsksRun, Explain}
 use Rattle.lusdist_shell.specs.Request.{IsAskedBy}
 use Rattle.lusdist_commands.specs.declared.stop.Stop.{Stop}
-use Rattle.lusdist_commands.specs.declared.stop.Stop.TheVariants.{CannotRead, Schedule, Fault, LinkLost, NoThread, OutOfMemory, Mistaken}
+use Rattle.lusdist_commands.specs.declared.stop.Stop.TheVariants.{CannotRead, CannotWrite, Schedule, Fault, LinkLost, NoThread, OutOfMemory, Mistaken}
 use Rattle.lusdist_commands.specs.declared.mistake.Mistake.{Mistake}
 use Rattle.lusdist_commands.specs.Mistakes.{mistake_in}
 use Rattle.lusdist_commands.specs.Statuses.{status_of}
@@ -29,7 +29,7 @@ use Rattle.lusource.specs.Source.{SourceStreams, IsSourceSolution}
 use Rattle.lusource.specs.Faults.{IsSourceFault}
 use Rattle.lusite.specs.Machine.{IsFaultAt}
 use Rattle.lusdist_commands.specs.Asked.{HasFlat, IsPlanFor, IsJobFor}
-use Rattle.lusdist_commands.specs.Evaluated.{IsFaultOf}
+use Rattle.lusdist_commands.specs.Evaluated.{IsFaultOf, IsPosedBy, wave_path}
 use Rattle.lusdist_commands.specs.Explained.{code_in, IsExplainStopped}
 use Rattle.lusdist_commands.specs.Refused.{IsToldOf, IsProgramRefused, IsPlaceRefused, IsTableRefused}
 
@@ -65,13 +65,14 @@ pub data IsCheckStopped (gives : List ℕ → Option (List ℕ) → Type 0) (req
   check_program : StopsAtProgram gives request.program.now request.main.now stop → IsCheckStopped gives request stop
   check_memory : stop ≡ OutOfMemory → IsCheckStopped gives request stop
 
--- An evaluation of what a request asks for stops so: at its program; where that has a flat program, at its table; or at the
--- first fault.
+-- An evaluation of what a request asks for stops so: at its program; where that has a flat program, at its table; at the
+-- first fault; or, where both are as they should be, at the file of its dump, which can't be written.
 pub data IsEvalStopped (gives : List ℕ → Option (List ℕ) → Type 0) (request : EvalRequest) (stop : Stop) : Type 0 where
   eval_program : StopsAtProgram gives request.program.now request.main.now stop → IsEvalStopped gives request stop
   eval_unread : (program : List ℕ) (flat : FlatProgram) → gives request.program.now (Some program) → HasFlat program request.main.now flat → IsUnread gives request.table.now stop → IsEvalStopped gives request stop
   eval_table : (program table : List ℕ) (flat : FlatProgram) → gives request.program.now (Some program) → gives request.table.now (Some table) → HasFlat program request.main.now flat → IsTableRefused flat.types (inputs_of flat.variables) table stop → IsEvalStopped gives request stop
   eval_fault : (name : List ℕ) (instant : ℕ) (kind : FaultKind) → stop ≡ Fault name instant kind → IsFaultOf gives request name instant kind → IsEvalStopped gives request stop
+  eval_unwritten : (path : List ℕ) → wave_path request ≡ Some path → (flat : FlatProgram) (inputs : Table) → IsPosedBy gives request flat inputs → stop ≡ CannotWrite path → IsEvalStopped gives request stop
   eval_memory : stop ≡ OutOfMemory → IsEvalStopped gives request stop
 
 -- What a request asks of an evaluation stops so: at what can't be meant; or, where it can be, at its files and at a fault.

@@ -1,6 +1,6 @@
 //! A call of the program.
 
-ghost use Rattle.std.specs.Prelude.{◌≡◌, ◌<◌, ◌⊎◌, ℕ, [], length, true, List, map, IfOk, IfErr, None, string_bytes, codes};
+ghost use Rattle.std.specs.Prelude.{◌≡◌, ◌<◌, ◌⊎◌, ℕ, [], length, true, List, map, IfOk, IfErr, None, OnOk, string_bytes, codes};
 ghost use Rattle.std.specs.Io.KnownBytes.{Appends};
 ghost use Rattle.clap.specs.Words.{takes};
 ghost use Rattle.lusdist_shell.specs.CommandLine.{lusdist};
@@ -11,10 +11,10 @@ ghost use Rattle.luweave_text.specs.Traced.{IsTraced};
 ghost use Rattle.lusdist_commands.specs.Asked.{IsAskedFor, IsWorldOf, AreNotesOf, IsPrinted, IsReplayed, IsRan, IsChecked, IsPlanned, IsAnswer, IsNotedReplay, AreNotes, AskForNoTrace, IsDone};
 ghost use Rattle.luflow.specs.Sound.{IsFit};
 ghost use Rattle.luflow.specs.Variables.{outputs_of};
-ghost use Rattle.lusdist_commands.specs.Evaluated.{IsPosedBy, IsEvaluated};
+ghost use Rattle.lusdist_commands.specs.Evaluated.{IsDumped, IsDumpedTo, IsEvaluated, IsNoFault, IsPosedBy};
 ghost use Rattle.lusdist_commands.specs.Stopped.{IsCheckStopped, IsEvalRefused, IsEvalStopped, IsPlanStopped, IsReplayStopped, IsRunStopped, IsRequestStopped, IsRefusal};
 ghost use Rattle.lusdist_commands.specs.Mistakes.{mistake_in};
-ghost use Rattle.lusdist_commands.specs.Left.{IsEnded, IsCallEnded};
+ghost use Rattle.lusdist_commands.specs.Left.{AreFiled, AreFiledTo, IsEnded, IsCallEnded};
 ghost use Rattle.lusdist_commands.specs.declared.stop.Stop.{Stop};
 ghost use Rattle.lusdist_commands.specs.declared.stop.Stop.TheVariants.{OutOfMemory};
 
@@ -184,6 +184,7 @@ fn posed<F: Files>(
     ensures fit { IfOk result (λ found. IsFit found.0 found.1) }
     ensures some { IfOk result (λ found. 0 < length (outputs_of found.0.variables)) }
     ensures stopped { IfErr result (IsEvalStopped (F.gives files.now) request.entry) }
+    ensures no_fault { IfErr result IsNoFault }
 {
     let bytes = read(alloc, files, request.program)?;
     let program = program_of(alloc, &bytes)?;
@@ -202,17 +203,23 @@ fn evaluated_text<F: Files>(
     requires { mistake_in request ≡ None }
     ensures text { IfOk result (λ text. IsEvaluated (F.gives files.now) request.entry
         (string_bytes text)) }
+    ensures filed { OnOk result (IsDumped (F.gives files.now) (F.takes files.now) request.entry) }
     ensures stopped { IfErr result (IsEvalStopped (F.gives files.now) request.entry) }
+    ensures before { IfErr result (IsDumpedTo (F.gives files.now) (F.takes files.now)
+        request.entry) }
 {
     let (flat, inputs) = posed(alloc, request, files)?;
-    evaluation(alloc, request, &flat, &inputs)
+    evaluation(alloc, request, files, &flat, &inputs)
 }
 
 /// What an evaluation prints, where what it is asked for can be meant.
 fn eval_text<F: Files>(alloc: Global, request: EvalRequest<'_>, files: &F) -> Result<String, Stop>
     ensures text { IfOk result (λ text. IsEvaluated (F.gives files.now) request.entry
         (string_bytes text)) }
+    ensures filed { OnOk result (IsDumped (F.gives files.now) (F.takes files.now) request.entry) }
     ensures stopped { IfErr result (IsEvalRefused (F.gives files.now) request.entry) }
+    ensures before { IfErr result (IsDumpedTo (F.gives files.now) (F.takes files.now)
+        request.entry) }
 {
     match mistake_in(request) {
         Some(mistake) => Err(Stop::Mistaken(mistake)),
@@ -270,7 +277,10 @@ fn answer<R: Threads + Wait + Sync, F: Files, P: Progress>(
         (string_bytes a.text)) }
     ensures notes { IfOk result (λ a. AreNotes (F.gives files.now) request.entry
         (string_bytes a.notes)) }
+    ensures filed { OnOk result (AreFiled (F.gives files.now) (F.takes files.now) request.entry) }
     ensures stopped { IfErr result (IsRequestStopped (F.gives files.now) request.entry) }
+    ensures before { IfErr result (AreFiledTo (F.gives files.now) (F.takes files.now)
+        request.entry) }
 {
     match request {
         Request::Check(request) => Ok(plain(alloc, check_text(alloc, request, files)?)),
@@ -312,7 +322,7 @@ fn perform<R: Threads + Wait + Sync, F: Files, P: Progress, W: Write, V: Write>(
     err: &mut Sink<V>,
 ) -> u8
     requires { HasFewWorkers request }
-    ensures { IsEnded (F.gives files.now) request.entry result (record {
+    ensures { IsEnded (F.gives files.now) (F.takes files.now) request.entry result (record {
       out = out.old;
       out_after = out.new;
       err = err.old;
@@ -333,8 +343,11 @@ fn perform<R: Threads + Wait + Sync, F: Files, P: Progress, W: Write, V: Write>(
 
 /// One call of the program, of which the first word is the program's name. Answers the exit status: 0 where it is done,
 /// also where a site of a replay faulted, and for help; 1 where a text is refused; 2 for a mistake in the words or a file that
-/// can't be read; 3 for a fault of an evaluation or a run, a run that was cut short, want of memory, or output that can't be
+/// can't be read; 3 for a fault of an evaluation or a run, a run that was cut short, want of memory, or output or a dump that can't be
 /// written. A refusal is one line on the error stream, with its reason behind it where that is asked for; where a replay is asked to trace its turns, they are told there. A run waits for its threads; the other commands wait for nobody.
+///
+/// Where an evaluation is asked for a dump, its file is written before the answer: of the whole table, or, where the evaluation stops at a
+/// fault, of all instants before it. Where it can't be written, that is told in place of the answer or the fault.
 ///
 /// Where a run is asked to tell how far it has come, the progress is told, by the threads that serve the sites. It is handed the number
 /// of a site and an instant and nothing of the values; what it does with them isn't in the contract.
@@ -348,8 +361,8 @@ pub fn serve_words<R: Threads + Wait + Sync, F: Files, P: Progress, W: Write, V:
     err: &mut Sink<V>,
 ) -> u8
     // With which status a call ends, and what it leaves in the two streams.
-    ensures ended { IsCallEnded (F.gives files.now) (map string_bytes words.entry.now) result
-        (record {
+    ensures ended { IsCallEnded (F.gives files.now) (F.takes files.now)
+        (map string_bytes words.entry.now) result (record {
           out = out.old;
           out_after = out.new;
           err = err.old;

@@ -24,6 +24,10 @@ pub enum Stop {
     CannotRead {
         path: Name,
     },
+    /// The file of this path can't be written.
+    CannotWrite {
+        path: Name,
+    },
     /// The program isn't even UTF-8.
     NotAscii,
     /// The text of the program spells none.
@@ -63,6 +67,7 @@ impl fmt::Display for Stop {
     fn fmt<W: fmt::Write>(&self, f: &mut fmt::Formatter<W>) -> fmt::Result {
         match self {
             Stop::CannotRead { path } => write!(f, "F01 CannotRead {}", path.as_str()),
+            Stop::CannotWrite { path } => write!(f, "F02 CannotWrite {}", path.as_str()),
             Stop::NotAscii => f.write_str("E03 NotAscii"),
             Stop::Syntax(refusal) => write!(f, "{refusal}"),
             Stop::Rules(refusal) => write!(f, "{refusal}"),
@@ -95,8 +100,8 @@ impl From<AllocError> for Stop {
 }
 
 impl Stop {
-    /// The exit status: 1 where a text is refused, 2 where the words are wrong or a file can't be read, 3 where an evaluation or a run is a fault, a run
-    /// was cut short or memory ran out.
+    /// The exit status: 1 where a text is refused, 2 where the words are wrong or a file can't be read, 3 where an evaluation or a run is a fault, a dump can't
+    /// be written, a run was cut short or memory ran out.
     pub fn status(&self) -> u8
         ensures { result ≡ status_of self.now }
     {
@@ -108,6 +113,7 @@ impl Stop {
             | Stop::Place(PlaceError::OutOfMemory)
             | Stop::Table(TabError::OutOfMemory)
             | Stop::Schedule(ScheduleError::OutOfMemory)
+            | Stop::CannotWrite { .. }
             | Stop::Fault { .. }
             | Stop::OutOfMemory
             | Stop::LinkLost

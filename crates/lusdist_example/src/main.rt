@@ -47,6 +47,7 @@ const OUTPUTS: EvalRequest<'static> = EvalRequest {
     chronogram: false,
     from: None,
     to: None,
+    vcd: None,
 };
 
 /// The texts above, as files of these names.
@@ -72,7 +73,7 @@ impl Files for Texts {
 /// The table of the design's outputs, and how its sites stand after the turns.
 fn told(alloc: Global) -> Result<(String, String), Stop> {
     let job = job_for(alloc, &Texts, "design", "placement", "table", "main")?;
-    let table = evaluation(alloc, OUTPUTS, job.plan().flat(), job.inputs())?;
+    let table = evaluation(alloc, OUTPUTS, &Texts, job.plan().flat(), job.inputs())?;
     let world = replayed(alloc, &job, &TURNS, true)?;
     let text = text_of_world(alloc, job.plan(), &world)?;
     Ok((table, text))

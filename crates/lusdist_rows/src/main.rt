@@ -6,8 +6,9 @@ mod driver;
 
 use crate::driver::{put_tried, words_of};
 use lusdist_commands::serve_words;
-use lusdist_shell::{Files, ReadError, RealFiles, Silent, Sink};
+use lusdist_shell::{Files, ReadError, RealFiles, Silent, Sink, WriteError, text_of};
 use std::alloc::{AllocError, Global};
+use std::cell::Cell;
 use std::io;
 use std::io::Write;
 use std::sync::Wait;
@@ -21,15 +22,49 @@ const LONGEST: usize = 65_536;
 struct Case<'a> {
     texts: Vec<(String, Vec<u8>)>,
     real: RealFiles<'a, HostRuntime>,
+    alloc: Global,
+    /// What the newest command wrote.
+    written: Cell<Vec<(String, Vec<u8>)>>,
+}
+
+/// A file of this path and text more.
+fn with_file(
+    alloc: Global,
+    mut files: Vec<(String, Vec<u8>)>,
+    path: &str,
+    bytes: &[u8],
+) -> Result<Vec<(String, Vec<u8>)>, AllocError> {
+    let file = (
+        String::from_str(alloc, path)?,
+        Vec::from_slice(alloc, bytes)?,
+    );
+    files.push(file)?;
+    Ok(files)
 }
 
 impl Files for Case<'_> {
     ghost gives = { λ _ _ _. Unit {0} };
 
+    ghost takes = { λ _ _ _. Unit {0} };
+
     fn read(&self, alloc: Global, path: &str) -> Result<Vec<u8>, ReadError> {
         match self.texts.iter().rev().find(|file| file.0.as_str() == path) {
             Some(file) => Vec::from_slice(alloc, &file.1).map_err(|_| ReadError::OutOfMemory),
             None => self.real.read(alloc, path),
+        }
+    }
+
+    fn write(&self, path: &str, bytes: &[u8]) -> Result<(), WriteError> {
+        if path.contains('/') {
+            return self.real.write(path, bytes);
+        }
+        let files = self.written.replace(Vec::new(self.alloc));
+        match with_file(self.alloc, files, path, bytes) {
+            Ok(files) => {
+                self.written.set(files);
+                Ok(())
+            }
+            Err(_) => Err(WriteError),
         }
     }
 }
@@ -91,6 +126,18 @@ fn put_output(rt: &HostRuntime, out: &[u8]) -> io::Result<()> {
     rt.stdout().write_all(&out[out.len() - 10..])
 }
 
+/// Writes the files that the newest command wrote, a line behind each `> `, the path first.
+fn put_written(rt: &HostRuntime, case: &Case<'_>) -> io::Result<()> {
+    let files = case.written.replace(Vec::new(rt.alloc()));
+    for file in &files {
+        println!(rt; "> {}", file.0.as_str())?;
+        for line in text_of(&file.1).unwrap_or("").lines() {
+            println!(rt; "> {line}")?;
+        }
+    }
+    Ok(())
+}
+
 /// Writes what a command answers: its output, behind `! ` what went to the error stream, and behind `= ` its status.
 fn put_answer<R: Threads + Wait + Sync>(
     threads: &R,
@@ -111,6 +158,7 @@ fn put_answer<R: Threads + Wait + Sync>(
         &mut err,
     );
     put_output(rt, out.writer())?;
+    put_written(rt, case)?;
     if !err.writer().is_empty() {
         print!(rt; "! ")?;
         rt.stdout().write_all(err.writer())?;
@@ -142,6 +190,8 @@ fn main(rt: HostRuntime) -> io::Result<()> {
     let mut case = Case {
         texts: Vec::new(rt.alloc()),
         real: RealFiles::new(&rt),
+        alloc: rt.alloc(),
+        written: Cell::new(Vec::new(rt.alloc())),
     };
     for line in rt.lines(rt.alloc()) {
         let line = line?;

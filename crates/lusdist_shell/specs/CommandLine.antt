@@ -33,11 +33,15 @@ last_instant = 999999
 abbrev pub instant_rule : Text → Rule
 instant_rule name = record (new_rule name) { long = Some name; value_names = 1; parser = Some (Unsigned 0 last_instant) }
 
--- `eval PROGRAM TABLE [--main NAME] [--explain] [--all] [--chronogram] [--from T] [--to T]`
+-- `--vcd FILE`
+abbrev pub vcd_rule : Rule
+vcd_rule = record (new_rule (codes "vcd")) { long = Some (codes "vcd"); value_names = 1 }
+
+-- `eval PROGRAM TABLE [--main NAME] [--explain] [--all] [--chronogram] [--from T] [--to T] [--vcd FILE]`
 abbrev pub eval : App
 eval =
-    with_rule (with_rule (with_rule (with_rule (with_rule (with_rule (judging (codes "eval"))
-    (flag_rule (codes "all"))) (flag_rule (codes "chronogram"))) (instant_rule (codes "from"))) (instant_rule (codes "to"))) (path_rule (codes "PROGRAM"))) (path_rule (codes "TABLE"))
+    with_rule (with_rule (with_rule (with_rule (with_rule (with_rule (with_rule (judging (codes "eval"))
+    (flag_rule (codes "all"))) (flag_rule (codes "chronogram"))) (instant_rule (codes "from"))) (instant_rule (codes "to"))) vcd_rule) (path_rule (codes "PROGRAM"))) (path_rule (codes "TABLE"))
 
 -- `plan PROGRAM PLACE [--main NAME] [--explain] [--text] [--dot]`
 abbrev pub plan : App

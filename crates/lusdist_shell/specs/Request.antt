@@ -71,6 +71,7 @@ pub record IsEvalIn (command : Option (Text × List Row)) (request : EvalRequest
   pub chronogram : request.chronogram ≡ is_given matches (codes "chronogram")
   pub from : IsInstantIn (first_of (codes "from") matches) request.from
   pub to : IsInstantIn (first_of (codes "to") matches) request.to
+  pub vcd : option_map (λ s. s.now) request.vcd ≡ first_of (codes "vcd") matches
 
 -- The command is `plan`, and the request is what its matches hold, argument by argument.
 pub record IsPlanIn (command : Option (Text × List Row)) (request : PlanRequest) : Type 0 where

@@ -4,7 +4,7 @@ ghost use Rattle.std.specs.Prelude.{◌≡◌, IfOk, false, codes};
 ghost use Rattle.clap.specs.Words.{rule_of, app_of};
 ghost use Rattle.clap.specs.Simple.{new_app};
 ghost use Rattle.clap.specs.declared.builder.command.Command.TheViews.{out-Command};
-ghost use Rattle.lusdist_shell.specs.CommandLine.{path_rule, main_rule, flag_rule, instant_rule, workers_rule, code_rule, judging, check, eval, plan, replay, run, explain, lusdist};
+ghost use Rattle.lusdist_shell.specs.CommandLine.{path_rule, main_rule, flag_rule, instant_rule, vcd_rule, workers_rule, code_rule, judging, check, eval, plan, replay, run, explain, lusdist};
 
 use clap::builder::ValueParser;
 use clap::{Arg, ArgAction, Command};
@@ -180,6 +180,16 @@ fn to<'a>(alloc: Global) -> Arg<'a>
     )
 }
 
+/// The file that a dump goes into.
+fn vcd<'a>(alloc: Global) -> Arg<'a>
+    ensures rule { rule_of result ≡ vcd_rule }
+    ensures local { result.global ≡ false }
+{
+    Arg::new(alloc, "vcd").long("vcd").value_name("FILE").help(
+        "Writes the same variables over time into FILE too, as a value change dump for viewers of waves",
+    )
+}
+
 /// Whether a plan is told as a table.
 fn text_flag<'a>(alloc: Global) -> Arg<'a>
     ensures rule { rule_of result ≡ flag_rule (codes "text") }
@@ -298,6 +308,7 @@ fn eval<'a>(alloc: Global) -> Result<Command<'a>, AllocError>
         .arg(chronogram_flag(alloc))?
         .arg(from(alloc))?
         .arg(to(alloc))?
+        .arg(vcd(alloc))?
         .arg(program(alloc))?
         .arg(table(alloc))
 }

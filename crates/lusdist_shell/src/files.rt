@@ -1,6 +1,6 @@
-//! Where the program's texts come from.
+//! Where the program's texts come from, and where a dump goes.
 
-ghost use Rattle.std.specs.Prelude.{List, ℕ, Option, Some, IfOk, IfErr};
+ghost use Rattle.std.specs.Prelude.{List, ℕ, Option, Some, IfOk, IfErr, OnOk};
 ghost use Rattle.lusdist_shell.specs.Files.{IsMissed};
 
 use std::alloc::Global;
@@ -16,6 +16,10 @@ pub enum ReadError {
     OutOfMemory,
 }
 
+/// A file can't be written: it has no such place, or the disk is full, for instance.
+#[derive(Clone, Copy, Debug, PartialEq, Eq)]
+pub struct WriteError;
+
 /// Files by their paths.
 pub trait Files {
     /// A read of the path may give these bytes, or none, where there is no file that can be read. Files in memory say which;
@@ -26,6 +30,19 @@ pub trait Files {
     fn read(&self, alloc: Global, path: &str) -> Result<Vec<u8>, ReadError>
         ensures given { IfOk result (λ bytes. gives self.now path.now (Some bytes.items)) }
         ensures missed { IfErr result (IsMissed (gives self.now path.now)) };
+
+    /// That these bytes, and no others, were written into the file at the path, in place of what it had. It is known by writing alone. Files
+    /// that are only read have no such fact.
+    ghost takes: { Self → List ℕ → List ℕ → Type 0 } = { λ _ _ _. ⊥ };
+
+    /// Writes the bytes into the file at the path, in place of what it had. After an error it has what it had, or a beginning of the bytes.
+    fn write(&self, path: &str, bytes: &[u8]) -> Result<(), WriteError>
+        ensures { OnOk result (takes self.now path.now bytes.now) }
+    {
+        let _path = path;
+        let _bytes = bytes;
+        Err(WriteError)
+    }
 }
 
 /// The files of the system.
@@ -44,6 +61,8 @@ impl<'a, R: rt::Files + AllocGlobal> RealFiles<'a, R> {
 impl<R: rt::Files + AllocGlobal> Files for RealFiles<'_, R> {
     ghost gives = { λ _ _ _. Unit {0} };
 
+    ghost takes = { λ _ _ _. Unit {0} };
+
     fn read(&self, _alloc: Global, path: &str) -> Result<Vec<u8>, ReadError> {
         match fs::read(self.runtime, path) {
             Ok(bytes) => Ok(bytes),
@@ -54,6 +73,13 @@ impl<R: rt::Files + AllocGlobal> Files for RealFiles<'_, R> {
                     Err(ReadError::CannotRead)
                 }
             }
+        }
+    }
+
+    fn write(&self, path: &str, bytes: &[u8]) -> Result<(), WriteError> {
+        match fs::write(self.runtime, path, bytes) {
+            Ok(()) => Ok(()),
+            Err(_) => Err(WriteError),
         }
     }
 }

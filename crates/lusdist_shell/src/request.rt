@@ -40,6 +40,8 @@ pub struct EvalRequest<'a> {
     pub from: Option<u32>,
     /// The last instant of the chart, counted from 0, where it is given.
     pub to: Option<u32>,
+    /// The path of the file that a dump goes into, where one is asked for.
+    pub vcd: Option<&'a str>,
 }
 
 /// How a plan is told.
@@ -174,6 +176,14 @@ fn instant_in<'a>(matches: &ArgMatches<'a>, argument: &str) -> Option<u32>
     instant_of(matches.get_str(argument))
 }
 
+/// The path of the file that a dump goes into, where it is given.
+fn vcd_in<'a>(matches: &ArgMatches<'a>) -> Option<&'a str>
+    ensures { option_map (λ s. s.now) result
+        ≡ first_of (codes "vcd") (rows_of (found_of matches.now)) }
+{
+    matches.get_str("vcd")
+}
+
 /// What the matches of `eval` ask for.
 fn eval_in<'a>(matches: &ArgMatches<'a>) -> EvalRequest<'a>
     ensures { IsEvalIn (Some (codes "eval", rows_of (found_of matches.now))) result }
@@ -187,6 +197,7 @@ fn eval_in<'a>(matches: &ArgMatches<'a>) -> EvalRequest<'a>
         chronogram: is_given(matches, "chronogram"),
         from: instant_in(matches, "from"),
         to: instant_in(matches, "to"),
+        vcd: vcd_in(matches),
     }
 }
 

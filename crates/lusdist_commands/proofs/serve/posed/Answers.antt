@@ -1,8 +1,9 @@
 use Rattle.std.proofs.Common.{Some, List, ℕ, sym, subst}
 use Rattle.lutree.specs.Places.{places_view}
 use Rattle.lutree.specs.Tree.{program_view}
+use Rattle.luflow.specs.Variables.{inputs_of}
 use Rattle.lusdist_commands.proofs.HasOutputs.{some_output}
-use Rattle.lusdist_commands.proofs.Outcomes.{posed}
+use Rattle.lusdist_commands.proofs.Outcomes.{posed, unread_none, program_none, told_none, table_none}
 use Rattle.std.proofs.lemmas.Result.{err_from_is_err_and}
 use Rattle.lusdist_commands.specs.Stopped.HasNoFlat.{unspelled, unruled}
 use Rattle.lusdist_commands.specs.Stopped.StopsAtProgram.{program_unread, program_refused}
@@ -54,3 +55,28 @@ returns-in_err-inputs-clause-stopped g c =
     let p = err_from_is_err_and c.from_residual-in_err-inputs.result c.from_residual-in_err-inputs.ensures.1 in
     let gives = g.F.Files.gives c.args.files.now in
     rw (p.1, p.2) (eval_table c.deref.result.now c.deref-2.result.now c.in_ok-flat.flat (subst (λ (b : List ℕ). gives c.args.request.program.now (Some b)) (sym c.deref.ensures.value) c.in_ok-bytes.ensures.given) (subst (λ (b : List ℕ). gives c.args.request.table.now (Some b)) (sym c.deref-2.ensures.value) c.in_ok-table.ensures.given) (record { tree = program_view c.in_ok-program.program; spelled = c.in_ok-program.ensures.spelled; flat_is = c.in_ok-flat.ensures.flat }) c.in_err-inputs.ensures.refused)
+
+pub returns-in_err-bytes-clause-no_fault : goal.returns-in_err-bytes-clause-no_fault
+returns-in_err-bytes-clause-no_fault g c =
+    let p = err_from_is_err_and c.from_residual.result c.from_residual.ensures.1 in
+    rw (p.1, p.2) (unread_none (g.F.Files.gives c.args.files.now) c.args.request.program.now c.in_err-bytes.field-0 c.in_err-bytes.ensures.unread)
+
+pub returns-in_err-program-clause-no_fault : goal.returns-in_err-program-clause-no_fault
+returns-in_err-program-clause-no_fault g c =
+    let p = err_from_is_err_and c.from_residual-in_err-program.result c.from_residual-in_err-program.ensures.1 in
+    rw (p.1, p.2) (program_none c.deref.result.now c.in_err-program.field-0 c.in_err-program.ensures.refused)
+
+pub returns-in_err-flat-clause-no_fault : goal.returns-in_err-flat-clause-no_fault
+returns-in_err-flat-clause-no_fault g c =
+    let p = err_from_is_err_and c.from_residual-in_err-flat.result c.from_residual-in_err-flat.ensures.1 in
+    rw (p.1, p.2) (told_none (program_view c.in_ok-program.program) (places_view c.in_ok-program.program) c.args.request.main.now c.in_err-flat.field-0 c.in_err-flat.ensures.told)
+
+pub returns-in_err-table-clause-no_fault : goal.returns-in_err-table-clause-no_fault
+returns-in_err-table-clause-no_fault g c =
+    let p = err_from_is_err_and c.from_residual-in_err-table.result c.from_residual-in_err-table.ensures.1 in
+    rw (p.1, p.2) (unread_none (g.F.Files.gives c.args.files.now) c.args.request.table.now c.in_err-table.field-0 c.in_err-table.ensures.unread)
+
+pub returns-in_err-inputs-clause-no_fault : goal.returns-in_err-inputs-clause-no_fault
+returns-in_err-inputs-clause-no_fault g c =
+    let p = err_from_is_err_and c.from_residual-in_err-inputs.result c.from_residual-in_err-inputs.ensures.1 in
+    rw (p.1, p.2) (table_none c.in_ok-flat.flat.types (inputs_of c.in_ok-flat.flat.variables) c.deref-2.result.now c.in_err-inputs.field-0 c.in_err-inputs.ensures.refused)

@@ -10,19 +10,19 @@ returns-in-Ok-clause-ended g c = asked c.in-Ok.request c.in-Ok.ensures.asked c.p
 
 pub returns-in-Ok-clause-done : goal.returns-in-Ok-clause-done
 returns-in-Ok-clause-done g c = λ taken zero.
-    done (g.F.Files.gives c.args.files.now) (map string_bytes c.args.words.now) c.in-Ok.request c.in-Ok.ensures.asked c.perform.result _ c.perform.ensures zero
+    done (g.F.Files.gives c.args.files.now) (g.F.Files.takes c.args.files.now) (map string_bytes c.args.words.now) c.in-Ok.request c.in-Ok.ensures.asked c.perform.result _ c.perform.ensures zero
 
 pub returns-in-Ok-clause-silent : goal.returns-in-Ok-clause-silent
 returns-in-Ok-clause-silent g c = λ zero none.
-    quiet (g.F.Files.gives c.args.files.now) (map string_bytes c.args.words.now) c.in-Ok.request c.in-Ok.ensures.asked c.perform.result _ none c.perform.ensures zero
+    quiet (g.F.Files.gives c.args.files.now) (g.F.Files.takes c.args.files.now) (map string_bytes c.args.words.now) c.in-Ok.request c.in-Ok.ensures.asked c.perform.result _ none c.perform.ensures zero
 
 pub returns-in-Ok-clause-text : goal.returns-in-Ok-clause-text
 returns-in-Ok-clause-text g c = λ one.
-    told (g.F.Files.gives c.args.files.now) (map string_bytes c.args.words.now) c.in-Ok.request c.in-Ok.ensures.asked c.perform.result _ 1 (inl refl) c.perform.ensures one
+    told (g.F.Files.gives c.args.files.now) (g.F.Files.takes c.args.files.now) (map string_bytes c.args.words.now) c.in-Ok.request c.in-Ok.ensures.asked c.perform.result _ 1 (inl refl) c.perform.ensures one
 
 pub returns-in-Ok-clause-file : goal.returns-in-Ok-clause-file
 returns-in-Ok-clause-file g c = λ taken two.
-    told (g.F.Files.gives c.args.files.now) (map string_bytes c.args.words.now) c.in-Ok.request c.in-Ok.ensures.asked c.perform.result _ 2 (inr refl) c.perform.ensures two
+    told (g.F.Files.gives c.args.files.now) (g.F.Files.takes c.args.files.now) (map string_bytes c.args.words.now) c.in-Ok.request c.in-Ok.ensures.asked c.perform.result _ 2 (inr refl) c.perform.ensures two
 
 pub returns-in-Err-clause-ended : goal.returns-in-Err-clause-ended
 returns-in-Err-clause-ended g c =
