@@ -40,4 +40,4 @@ returns-clause-before g c =
 pub returns-in_err-flat-clause-before : goal.returns-in_err-flat-clause-before
 returns-in_err-flat-clause-before g c =
     let p = err_from_is_err_and c.from_residual.result c.from_residual.ensures.1 in
-    rw (p.1, p.2) (none_dumped (g.F.Files.gives c.args.files.now) (g.F.Files.takes c.args.files.now) c.args.request c.in_err-flat.field-0 c.in_err-flat.ensures.no_fault)
+    rw (p.1, p.2) (none_dumped (g.F.Files.gives c.args.files.now) (g.F.Files.takes c.args.files.now) c.args.request _ c.in_err-flat.ensures.no_fault)

@@ -59,24 +59,24 @@ returns-in_err-inputs-clause-stopped g c =
 pub returns-in_err-bytes-clause-no_fault : goal.returns-in_err-bytes-clause-no_fault
 returns-in_err-bytes-clause-no_fault g c =
     let p = err_from_is_err_and c.from_residual.result c.from_residual.ensures.1 in
-    rw (p.1, p.2) (unread_none (g.F.Files.gives c.args.files.now) c.args.request.program.now c.in_err-bytes.field-0 c.in_err-bytes.ensures.unread)
+    rw (p.1, p.2) (unread_none (g.F.Files.gives c.args.files.now) c.args.request.program.now _ c.in_err-bytes.ensures.unread)
 
 pub returns-in_err-program-clause-no_fault : goal.returns-in_err-program-clause-no_fault
 returns-in_err-program-clause-no_fault g c =
     let p = err_from_is_err_and c.from_residual-in_err-program.result c.from_residual-in_err-program.ensures.1 in
-    rw (p.1, p.2) (program_none c.deref.result.now c.in_err-program.field-0 c.in_err-program.ensures.refused)
+    rw (p.1, p.2) (program_none c.deref.result.now _ c.in_err-program.ensures.refused)
 
 pub returns-in_err-flat-clause-no_fault : goal.returns-in_err-flat-clause-no_fault
 returns-in_err-flat-clause-no_fault g c =
     let p = err_from_is_err_and c.from_residual-in_err-flat.result c.from_residual-in_err-flat.ensures.1 in
-    rw (p.1, p.2) (told_none (program_view c.in_ok-program.program) (places_view c.in_ok-program.program) c.args.request.main.now c.in_err-flat.field-0 c.in_err-flat.ensures.told)
+    rw (p.1, p.2) (told_none (program_view c.in_ok-program.program) (places_view c.in_ok-program.program) c.args.request.main.now _ c.in_err-flat.ensures.told)
 
 pub returns-in_err-table-clause-no_fault : goal.returns-in_err-table-clause-no_fault
 returns-in_err-table-clause-no_fault g c =
     let p = err_from_is_err_and c.from_residual-in_err-table.result c.from_residual-in_err-table.ensures.1 in
-    rw (p.1, p.2) (unread_none (g.F.Files.gives c.args.files.now) c.args.request.table.now c.in_err-table.field-0 c.in_err-table.ensures.unread)
+    rw (p.1, p.2) (unread_none (g.F.Files.gives c.args.files.now) c.args.request.table.now _ c.in_err-table.ensures.unread)
 
 pub returns-in_err-inputs-clause-no_fault : goal.returns-in_err-inputs-clause-no_fault
 returns-in_err-inputs-clause-no_fault g c =
     let p = err_from_is_err_and c.from_residual-in_err-inputs.result c.from_residual-in_err-inputs.ensures.1 in
-    rw (p.1, p.2) (table_none c.in_ok-flat.flat.types (inputs_of c.in_ok-flat.flat.variables) c.deref-2.result.now c.in_err-inputs.field-0 c.in_err-inputs.ensures.refused)
+    rw (p.1, p.2) (table_none c.in_ok-flat.flat.types (inputs_of c.in_ok-flat.flat.variables) c.deref-2.result.now _ c.in_err-inputs.ensures.refused)
