@@ -23,6 +23,10 @@ at_right width text = blanks (width - length text) ++ text
 abbrev pub at_left : ℕ → List ℕ → List ℕ
 at_left width text = text ++ blanks (width - length text)
 
+-- a text at the left of such a cell, and this piece in the rest of it
+abbrev pub filled : ℕ → List ℕ → List ℕ → List ℕ
+filled width piece text = text ++ repeated piece (width - length text)
+
 -- the largest of these numbers, and 0 where there is none
 abbrev pub largest : List ℕ → ℕ
 largest [] = 0

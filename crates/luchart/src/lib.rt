@@ -16,7 +16,7 @@ mod cell;
 mod chart;
 mod cutting;
 mod layout;
-mod pieces;
+pub mod pieces;
 mod signal;
 mod waves;
 

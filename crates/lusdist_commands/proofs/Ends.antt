@@ -12,6 +12,8 @@ use Rattle.lusdist_shell.specs.declared.schedule.ScheduleError.TheVariants as sc
 use Rattle.lusdist_shell.specs.declared.request.Request.{Request}
 use Rattle.lusdist_shell.specs.declared.request.Request.TheVariants.{Check, Eval, Plan, Replay, Run, Explain}
 use Rattle.lusdist_shell.specs.declared.request.ReplayRequest.{ReplayRequest}
+use Rattle.lusdist_shell.specs.declared.request.TurnsForm.{TurnsForm}
+use Rattle.lusdist_shell.specs.declared.request.TurnsForm.TheVariants.{Nothing}
 use Rattle.lusdist_shell.specs.Request.{IsAskedBy}
 use Rattle.lusdist_commands.specs.declared.stop.Stop.{Stop}
 use Rattle.lusdist_commands.specs.declared.stop.Stop.TheVariants.{CannotRead, CannotWrite, NotAscii, Syntax, Rules, Flat, Place, Table, Schedule, Fault, LinkLost, NoThread, OutOfMemory, Mistaken}
@@ -46,14 +48,14 @@ which clap.Io = mistake (λ h. cc) (λ h. cc) (λ h. cc)
 which clap.Format = mistake (λ h. cc) (λ h. cc) (λ h. cc)
 which clap.OutOfMemory = memory refl
 
--- where no trace is asked for there are no notes
-no_notes : (gives : List ℕ → Option (List ℕ) → Type 0) (request : Request) (notes : List ℕ) → ((replay : ReplayRequest) → request ≡ Replay replay → replay.trace ≡ false) → AreNotes gives request notes → notes ≡ []
+-- where no turns are to be told there are no notes
+no_notes : (gives : List ℕ → Option (List ℕ) → Type 0) (request : Request) (notes : List ℕ) → ((replay : ReplayRequest) → request ≡ Replay replay → replay.turns ≡ Nothing) → AreNotes gives request notes → notes ≡ []
 no_notes gives (Check request) notes quiet are = are
 no_notes gives (Eval request) notes quiet are = are
 no_notes gives (Plan request) notes quiet are = are
 no_notes gives (Run request) notes quiet are = are
 no_notes gives (Explain request) notes quiet are = are
-no_notes gives (Replay request) notes quiet are = subst (λ (t : Bool). AreNotesOf are.job are.turns request.finish t are.dones notes) (quiet request refl) are.notes_are
+no_notes gives (Replay request) notes quiet are = subst (λ (form : TurnsForm). AreNotesOf are.job are.turns request.finish form are.dones notes) (quiet request refl) are.notes_are
 
 -- a refusal has one of three statuses
 pub status_some : (stop : Stop) → (status_of stop ≡ 1) ⊎ ((status_of stop ≡ 2) ⊎ (status_of stop ≡ 3))
@@ -115,14 +117,14 @@ never_done stop e = elim (status_some stop) [
   | inr more ↦ elim more [ inl two ↦ absurd (omega (arith, e, two)) | inr three ↦ absurd (omega (arith, e, three)) ]
 ]
 
-module _ {W V : Type 0} (gives : List ℕ → Option (List ℕ) → Type 0) (takes : List ℕ → List ℕ → Type 0) (words : List (List ℕ)) (request : Request) (asked : IsAskedBy words request) (status : ℕ) (streams : Streams W V) where
+module _ {W V : Type 0} (gives : List ℕ → Option (List ℕ) → Type 0) (takes : List ℕ → Option (List ℕ) → Type 0) (words : List (List ℕ)) (request : Request) (asked : IsAskedBy words request) (status : ℕ) (streams : Streams W V) where
   -- where what is asked for is done, the answer is on the output
   pub done : IsEnded gives takes request status streams → status ≡ 0 → (text : List ℕ) × IsDone gives words text × Appends (streams.held_out streams.out.writer) (streams.held_out streams.out_after.writer) text
   done (answered text notes e answer noted filed out) zero = (text, record { request = request; asked = asked; answer = answer }, out.output)
   done (refused stop e stops filed err) zero = absurd (never_done stop (sym e ∙ zero))
   done (unwritten text e answer filed none begun) zero = absurd (omega (arith, e, zero))
 
-  -- where it is done and no trace is asked for, nothing goes to the error stream
+  -- where it is done and no turns are to be told, nothing goes to the error stream
   pub quiet : AskForNoTrace words → IsEnded gives takes request status streams → status ≡ 0 → streams.err_after ≡ streams.err
   quiet none (answered text notes e answer noted filed out) zero =
       out.silent (no_notes gives request notes (λ replay is. none replay (subst (IsAskedBy words) is asked)) noted)

@@ -33,7 +33,7 @@ use Rattle.lutab.specs.Table.{IsTextOf, is_too_long}
 use Rattle.lusdist_shell.specs.declared.request.EvalRequest.{EvalRequest}
 use Rattle.lusdist_commands.specs.declared.stop.Stop.{Stop}
 use Rattle.lusdist_commands.specs.declared.stop.Stop.TheVariants.{CannotRead, CannotWrite, NotAscii, Syntax, Rules, Flat, Place, Table as BadTable, Schedule, Fault, LinkLost, NoThread, OutOfMemory, Mistaken}
-use Rattle.lusdist_commands.specs.Evaluated.{AreEvaluated, AreVariablesAt, AreVariablesOf, HasNoFaultBefore, IsColumnOf, IsDumped, IsDumpedTo, IsFiled, IsNoFault, IsShown, AreShownBefore, IsStopFor, shown_text, wave_text, IsPosed, IsPosedBy, IsShownTo, IsStopped, IsFaultTold, IsUnfiled}
+use Rattle.lusdist_commands.specs.Evaluated.{AreEvaluated, AreVariablesAt, AreVariablesOf, HasNoFaultBefore, IsColumnOf, IsDumped, IsDumpedBefore, IsDumpedTo, IsFiled, IsNoFault, IsShown, AreShownBefore, IsStopFor, shown_text, wave_text, IsPosed, IsPosedBy, IsShownTo, IsStopped, IsFaultTold, IsUnfiled, wave_path}
 use Rattle.lutree.specs.Places.{ProgramPlaces}
 use Rattle.luflow.specs.declared.variable.Enum.{Enum}
 use Rattle.lutab.specs.Outputs.{shown_of}
@@ -187,52 +187,51 @@ eval_stop gives request flat inputs asked OutOfMemory told = eval_memory refl
 -- STOPS THAT TELL NO FAULT
 
 pub unread_none : (gives : List ℕ → Option (List ℕ) → Type 0) (path : List ℕ) (stop : Stop) → IsUnread gives path stop → IsNoFault stop
-unread_none gives path stop h = λ name instant kind e. subst (IsUnread gives path) e h
+unread_none gives path stop h = (λ name instant kind e. subst (IsUnread gives path) e h, λ there e. subst (IsUnread gives path) e h)
 
 pub program_none : (bytes : List ℕ) (stop : Stop) → IsProgramRefused bytes stop → IsNoFault stop
-program_none bytes stop h = λ name instant kind e. subst (IsProgramRefused bytes) e h
+program_none bytes stop h = (λ name instant kind e. subst (IsProgramRefused bytes) e h, λ there e. subst (IsProgramRefused bytes) e h)
 
 pub table_none : (types : List Enum) (inputs : List Variable) (bytes : List ℕ) (stop : Stop) → IsTableRefused types inputs bytes stop → IsNoFault stop
-table_none types inputs bytes stop h = λ name instant kind e. subst (IsTableRefused types inputs bytes) e h
+table_none types inputs bytes stop h = (λ name instant kind e. subst (IsTableRefused types inputs bytes) e h, λ there e. subst (IsTableRefused types inputs bytes) e h)
 
 pub told_none : (tree : ProgramTree) (places : ProgramPlaces) (main : List ℕ) (stop : Stop) → IsToldOf tree places main stop → IsNoFault stop
-told_none tree places main stop (rule refusal read is tells same there first) = λ name instant kind e. let clash : Rules refusal ≡ Fault name instant kind = sym is ∙ e in cc
-told_none tree places main stop (told_flat refusal is accepted refuses) = λ name instant kind e. let clash : Flat refusal ≡ Fault name instant kind = sym is ∙ e in cc
+told_none tree places main stop (rule refusal read is tells same there first) =
+    (λ name instant kind e. let clash : Rules refusal ≡ Fault name instant kind = sym is ∙ e in cc, λ path e. let clash : Rules refusal ≡ CannotWrite path = sym is ∙ e in cc)
+told_none tree places main stop (told_flat refusal is accepted refuses) =
+    (λ name instant kind e. let clash : Flat refusal ≡ Fault name instant kind = sym is ∙ e in cc, λ path e. let clash : Flat refusal ≡ CannotWrite path = sym is ∙ e in cc)
 
 -- a stop that tells no fault needs no dump
-pub none_dumped : (gives : List ℕ → Option (List ℕ) → Type 0) (takes : List ℕ → List ℕ → Type 0) (request : EvalRequest) (stop : Stop) → IsNoFault stop → IsDumpedTo gives takes request stop
-none_dumped gives takes request stop none = λ name instant kind e. absurd (none name instant kind e)
-
-pub none_shown : (takes : List ℕ → List ℕ → Type 0) (request : EvalRequest) (flat : FlatProgram) (inputs : Table) (stop : Stop) → IsNoFault stop → IsShownTo takes request flat inputs stop
-none_shown takes request flat inputs stop none = λ name instant kind e. absurd (none name instant kind e)
-
-unfiled_none : (request : EvalRequest) (stop : Stop) → IsUnfiled request stop → IsNoFault stop
-unfiled_none request stop h = λ name instant kind e. subst (IsUnfiled request) e h
+pub none_dumped : (gives : List ℕ → Option (List ℕ) → Type 0) (takes : List ℕ → Option (List ℕ) → Type 0) (request : EvalRequest) (stop : Stop) → IsNoFault stop → IsDumpedTo gives takes request stop
+none_dumped gives takes request stop none = (λ name instant kind e. absurd (none.0 name instant kind e), λ path e. absurd (none.1 path e))
 
 -- where a dump can't be made, the evaluation stops so
-pub unfiled_stop : (request : EvalRequest) (flat : FlatProgram) (inputs : Table) (stop : Stop) → IsUnfiled request stop → IsStopped request flat inputs stop
-unfiled_stop request flat inputs (CannotRead path) h = absurd h
-unfiled_stop request flat inputs (CannotWrite path) h = h
-unfiled_stop request flat inputs NotAscii h = absurd h
-unfiled_stop request flat inputs (Syntax e) h = absurd h
-unfiled_stop request flat inputs (Rules e) h = absurd h
-unfiled_stop request flat inputs (Flat e) h = absurd h
-unfiled_stop request flat inputs (Place e) h = absurd h
-unfiled_stop request flat inputs (BadTable e) h = absurd h
-unfiled_stop request flat inputs (Schedule e) h = absurd h
-unfiled_stop request flat inputs (Fault name instant kind) h = absurd h
-unfiled_stop request flat inputs LinkLost h = absurd h
-unfiled_stop request flat inputs NoThread h = absurd h
-unfiled_stop request flat inputs (Mistaken mistake) h = absurd h
-unfiled_stop request flat inputs OutOfMemory h = tt
+pub unfiled_stop : (takes : List ℕ → Option (List ℕ) → Type 0) (request : EvalRequest) (flat : FlatProgram) (inputs : Table) (stop : Stop) → IsUnfiled takes request stop → IsStopped request flat inputs stop
+unfiled_stop takes request flat inputs (CannotRead path) h = absurd h
+unfiled_stop takes request flat inputs (CannotWrite path) h = h.0
+unfiled_stop takes request flat inputs NotAscii h = absurd h
+unfiled_stop takes request flat inputs (Syntax e) h = absurd h
+unfiled_stop takes request flat inputs (Rules e) h = absurd h
+unfiled_stop takes request flat inputs (Flat e) h = absurd h
+unfiled_stop takes request flat inputs (Place e) h = absurd h
+unfiled_stop takes request flat inputs (BadTable e) h = absurd h
+unfiled_stop takes request flat inputs (Schedule e) h = absurd h
+unfiled_stop takes request flat inputs (Fault name instant kind) h = absurd h
+unfiled_stop takes request flat inputs LinkLost h = absurd h
+unfiled_stop takes request flat inputs NoThread h = absurd h
+unfiled_stop takes request flat inputs (Mistaken mistake) h = absurd h
+unfiled_stop takes request flat inputs OutOfMemory h = tt
 
-pub unfiled_shown : (takes : List ℕ → List ℕ → Type 0) (request : EvalRequest) (flat : FlatProgram) (inputs : Table) (stop : Stop) → IsUnfiled request stop → IsShownTo takes request flat inputs stop
-unfiled_shown takes request flat inputs stop h = none_shown takes request flat inputs stop (unfiled_none request stop h)
+pub unfiled_shown : (takes : List ℕ → Option (List ℕ) → Type 0) (request : EvalRequest) (flat : FlatProgram) (inputs : Table) (stop : Stop) → IsUnfiled takes request stop → IsShownTo takes request flat inputs stop
+unfiled_shown takes request flat inputs stop h =
+    (λ name instant kind e. absurd (subst (IsUnfiled takes request) e h), λ path e. let there : IsUnfiled takes request (CannotWrite path) = subst (IsUnfiled takes request) e h in there.1)
 
 -- what was shown before a fault is a dump of the program's variables
-pub dumped_to : (gives : List ℕ → Option (List ℕ) → Type 0) (takes : List ℕ → List ℕ → Type 0) (request : EvalRequest) (flat : FlatProgram) (inputs : Table) → IsPosedBy gives request flat inputs → (stop : Stop) → IsShownTo takes request flat inputs stop → IsDumpedTo gives takes request stop
-dumped_to gives takes request flat inputs asked stop shown = λ name instant kind e path wanted.
-    let h = shown name instant kind e path wanted in
+pub dumped_to : (gives : List ℕ → Option (List ℕ) → Type 0) (takes : List ℕ → Option (List ℕ) → Type 0) (request : EvalRequest) (flat : FlatProgram) (inputs : Table) → IsPosedBy gives request flat inputs → (stop : Stop) → IsShownTo takes request flat inputs stop → IsDumpedTo gives takes request stop
+dumped_to gives takes request flat inputs asked stop shown =
+    let before = λ (name : List ℕ) (instant : ℕ) (kind : FaultKind) (e : stop ≡ Fault name instant kind) (path : List ℕ) (wanted : wave_path request ≡ Some path).
+    let h = shown.0 name instant kind e path wanted in
+    let dumped : IsDumpedBefore gives takes request instant path =
     record {
       flat = flat;
       inputs = inputs;
@@ -240,10 +239,12 @@ dumped_to gives takes request flat inputs asked stop shown = λ name instant kin
       columns = h.columns;
       are_columns = at_source asked.program request.main.now asked.table asked.tree flat inputs (shown_of request.all flat.variables) instant h.columns asked.posed h.are_columns;
       filed = h.filed;
-    }
+    } in
+    dumped in
+    (before, shown.1)
 
 -- and what was shown is one
-pub dumped_of : (gives : List ℕ → Option (List ℕ) → Type 0) (takes : List ℕ → List ℕ → Type 0) (request : EvalRequest) (flat : FlatProgram) (inputs : Table) → IsPosedBy gives request flat inputs → (r : Result (String Global) Stop) → IfOk r (λ text. IsShown takes request flat inputs (string_bytes text)) → OnOk r (IsDumped gives takes request)
+pub dumped_of : (gives : List ℕ → Option (List ℕ) → Type 0) (takes : List ℕ → Option (List ℕ) → Type 0) (request : EvalRequest) (flat : FlatProgram) (inputs : Table) → IsPosedBy gives request flat inputs → (r : Result (String Global) Stop) → IfOk r (λ text. IsShown takes request flat inputs (string_bytes text)) → OnOk r (IsDumped gives takes request)
 dumped_of gives takes request flat inputs asked (Ok text) h = record {
   flat = flat;
   inputs = inputs;
@@ -255,13 +256,13 @@ dumped_of gives takes request flat inputs asked (Ok text) h = record {
 dumped_of gives takes request flat inputs asked (Err stop) h = tt
 
 -- columns that were shown and dumped
-pub shown_whole : (takes : List ℕ → List ℕ → Type 0) (request : EvalRequest) (flat : FlatProgram) (inputs : Table) (columns : List OutputColumn) → AreEvaluated flat inputs (shown_of request.all flat.variables) inputs.instants columns → HasNoFault flat inputs → (r : Result (String Global) Stop)
+pub shown_whole : (takes : List ℕ → Option (List ℕ) → Type 0) (request : EvalRequest) (flat : FlatProgram) (inputs : Table) (columns : List OutputColumn) → AreEvaluated flat inputs (shown_of request.all flat.variables) inputs.instants columns → HasNoFault flat inputs → (r : Result (String Global) Stop)
     → IfOk r (λ text. string_bytes text ≡ shown_text request flat columns) → OnOk r (IsFiled takes request (wave_text request flat columns)) → IfOk r (λ text. IsShown takes request flat inputs (string_bytes text))
 shown_whole takes request flat inputs columns are fine (Ok text) is filed = record { columns = columns; are_columns = are; no_fault = fine; text_is = is; filed = filed }
 shown_whole takes request flat inputs columns are fine (Err stop) is filed = tt
 
 -- columns of the first instants that were dumped
-pub shown_before : {X : Type 0} (takes : List ℕ → List ℕ → Type 0) (request : EvalRequest) (flat : FlatProgram) (inputs : Table) (n : ℕ) (columns : List OutputColumn) → AreEvaluated flat inputs (shown_of request.all flat.variables) n columns → (r : Result X Stop)
+pub shown_before : {X : Type 0} (takes : List ℕ → Option (List ℕ) → Type 0) (request : EvalRequest) (flat : FlatProgram) (inputs : Table) (n : ℕ) (columns : List OutputColumn) → AreEvaluated flat inputs (shown_of request.all flat.variables) n columns → (r : Result X Stop)
     → OnOk r (IsFiled takes request (wave_text request flat columns)) → OnOk r (AreShownBefore takes request flat inputs n)
 shown_before takes request flat inputs n columns are (Ok x) filed = λ path wanted. record { columns = columns; are_columns = are; filed = filed path wanted }
 shown_before takes request flat inputs n columns are (Err stop) filed = tt
@@ -284,7 +285,9 @@ told_stop request flat inputs variable instant kind told NoThread h = absurd h
 told_stop request flat inputs variable instant kind told (Mistaken mistake) h = absurd h
 told_stop request flat inputs variable instant kind told OutOfMemory h = tt
 
-pub told_shown : (takes : List ℕ → List ℕ → Type 0) (request : EvalRequest) (flat : FlatProgram) (inputs : Table) (variable instant : ℕ) (kind : FaultKind) → AreShownBefore takes request flat inputs instant → (stop : Stop) → IsStopFor flat variable instant kind stop → IsShownTo takes request flat inputs stop
-told_shown takes request flat inputs variable instant kind before stop h = λ name t k e.
+pub told_shown : (takes : List ℕ → Option (List ℕ) → Type 0) (request : EvalRequest) (flat : FlatProgram) (inputs : Table) (variable instant : ℕ) (kind : FaultKind) → AreShownBefore takes request flat inputs instant → (stop : Stop) → IsStopFor flat variable instant kind stop → IsShownTo takes request flat inputs stop
+told_shown takes request flat inputs variable instant kind before stop h =
+    let shown = λ (name : List ℕ) (t : ℕ) (k : FaultKind) (e : stop ≡ Fault name t k).
     let there : IsStopFor flat variable instant kind (Fault name t k) = subst (IsStopFor flat variable instant kind) e h in
-    subst (λ u. AreShownBefore takes request flat inputs u) (sym there.3) before
+    subst (λ u. AreShownBefore takes request flat inputs u) (sym there.3) before in
+    (shown, λ path e. absurd (subst (IsStopFor flat variable instant kind) e h))

@@ -25,6 +25,8 @@ use Rattle.lusdist_shell.specs.declared.request.PlanForm.{PlanForm}
 use Rattle.lusdist_shell.specs.declared.request.PlanForm.TheVariants.{Report, Table, Graph}
 use Rattle.lusdist_shell.specs.declared.request.PlanRequest.{PlanRequest}
 use Rattle.lusdist_shell.specs.declared.request.ReplayRequest.{ReplayRequest}
+use Rattle.lusdist_shell.specs.declared.request.TurnsForm.{TurnsForm}
+use Rattle.lusdist_shell.specs.declared.request.TurnsForm.TheVariants as forms
 use Rattle.lusdist_shell.specs.declared.request.RunRequest.{RunRequest}
 use Rattle.lusdist_shell.specs.declared.request.Request.{Request}
 use Rattle.lusdist_shell.specs.declared.request.Request.TheVariants.{Check, Eval, Plan, Replay, Run as AsksRun, Explain}
@@ -34,6 +36,7 @@ use Rattle.luweave.specs.Headline.{IsFaithful}
 use Rattle.lumeaning.specs.Telling.{Telling, IsTrueOf}
 use Rattle.luweave_text.specs.WorldText.{IsWorldText}
 use Rattle.luweave_text.specs.Traced.{IsTraced}
+use Rattle.luweave_text.specs.declared.form.TraceForm.TheVariants as traces
 use Rattle.lusdist_commands.specs.TellingText.{telling_text, IsToldBy}
 use Rattle.luflow.specs.Tables.{OutputColumn}
 use Rattle.lutab.specs.Outputs.{output_text}
@@ -91,10 +94,11 @@ pub record IsWorldOf (job : Run) (turns : List ℕ) (finish : Bool) (world : Pro
   pub no_more : finish ≡ false → more ≡ []
   pub quiet : finish ≡ true → NoTurnMoves (system_of job) world.dones
 
--- What a replay notes of its turns beside its answer: where it is asked to trace them, a line for each that moved; else nothing.
-abbrev pub AreNotesOf : Run → List ℕ → Bool → Bool → List ℕ → List ℕ → Type 0
-AreNotesOf job turns finish true dones notes = IsTraced job turns finish dones notes
-AreNotesOf job turns finish false dones notes = notes ≡ []
+-- What a replay notes of its turns beside its answer: a line for each that moved, or a chart of them, where that is asked for; else nothing.
+abbrev pub AreNotesOf : Run → List ℕ → Bool → TurnsForm → List ℕ → List ℕ → Type 0
+AreNotesOf job turns finish forms.Lines dones notes = IsTraced job turns finish traces.Lines dones notes
+AreNotesOf job turns finish forms.Chart dones notes = IsTraced job turns finish traces.Chart dones notes
+AreNotesOf job turns finish forms.Nothing dones notes = notes ≡ []
 
 -- the text of the world of a job after its turns, which keeps what the source says
 pub record IsPrinted (job : Run) (turns : List ℕ) (finish : Bool) (text : List ℕ) : Type 0 where
@@ -174,16 +178,16 @@ pub record IsNotedReplay (gives : List ℕ → Option (List ℕ) → Type 0) (re
   pub turns : List ℕ
   pub asked_for : IsAskedFor gives request job turns
   pub dones : List ℕ
-  pub notes_are : AreNotesOf job turns request.finish request.trace dones notes
+  pub notes_are : AreNotesOf job turns request.finish request.turns dones notes
 
 -- what is noted on the error stream beside an answer: the turns of a replay, where that is asked for
 abbrev pub AreNotes : (List ℕ → Option (List ℕ) → Type 0) → Request → List ℕ → Type 0
 AreNotes gives (Replay request) notes = IsNotedReplay gives request notes
 AreNotes gives _ notes = notes ≡ []
 
--- the words ask for no trace
+-- the words ask for no turns to be told
 abbrev pub AskForNoTrace : List (List ℕ) → Type 0
-AskForNoTrace words = (request : ReplayRequest) → IsAskedBy words (Replay request) → request.trace ≡ false
+AskForNoTrace words = (request : ReplayRequest) → IsAskedBy words (Replay request) → request.turns ≡ forms.Nothing
 
 -- the text of what the words ask for
 pub record IsDone (gives : List ℕ → Option (List ℕ) → Type 0) (words : List (List ℕ)) (text : List ℕ) : Type 0 where

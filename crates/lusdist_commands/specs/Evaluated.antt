@@ -82,11 +82,11 @@ abbrev pub wave_text : EvalRequest → FlatProgram → List OutputColumn → Lis
 wave_text request flat columns = dump_text request.main.now flat.types (kinds_of (shown_of request.all flat.variables)) columns
 
 -- where a dump is asked for, this one was written into its file
-abbrev pub IsFiled : (List ℕ → List ℕ → Type 0) → EvalRequest → List ℕ → Type 0
-IsFiled takes request text = (path : List ℕ) → wave_path request ≡ Some path → takes path text
+abbrev pub IsFiled : (List ℕ → Option (List ℕ) → Type 0) → EvalRequest → List ℕ → Type 0
+IsFiled takes request text = (path : List ℕ) → wave_path request ≡ Some path → takes path (Some text)
 
 -- what a request asks for of a flat program and a table, as a text, and a dump of it in its file
-pub record IsShown (takes : List ℕ → List ℕ → Type 0) (request : EvalRequest) (flat : FlatProgram) (inputs : Table) (text : List ℕ) : Type 0 where
+pub record IsShown (takes : List ℕ → Option (List ℕ) → Type 0) (request : EvalRequest) (flat : FlatProgram) (inputs : Table) (text : List ℕ) : Type 0 where
   pub columns : List OutputColumn
   pub are_columns : AreEvaluated flat inputs (shown_of request.all flat.variables) inputs.instants columns
   pub no_fault : HasNoFault flat inputs
@@ -94,13 +94,13 @@ pub record IsShown (takes : List ℕ → List ℕ → Type 0) (request : EvalReq
   pub filed : IsFiled takes request (wave_text request flat columns)
 
 -- the dump of what a request asks for of the first n instants, in the file of this path
-pub record IsShownBefore (takes : List ℕ → List ℕ → Type 0) (request : EvalRequest) (flat : FlatProgram) (inputs : Table) (n : ℕ) (path : List ℕ) : Type 0 where
+pub record IsShownBefore (takes : List ℕ → Option (List ℕ) → Type 0) (request : EvalRequest) (flat : FlatProgram) (inputs : Table) (n : ℕ) (path : List ℕ) : Type 0 where
   pub columns : List OutputColumn
   pub are_columns : AreEvaluated flat inputs (shown_of request.all flat.variables) n columns
-  pub filed : takes path (wave_text request flat columns)
+  pub filed : takes path (Some (wave_text request flat columns))
 
 -- where a dump is asked for, that of the first n instants is in its file
-abbrev pub AreShownBefore : (List ℕ → List ℕ → Type 0) → EvalRequest → FlatProgram → Table → ℕ → Type 0
+abbrev pub AreShownBefore : (List ℕ → Option (List ℕ) → Type 0) → EvalRequest → FlatProgram → Table → ℕ → Type 0
 AreShownBefore takes request flat inputs n = (path : List ℕ) → wave_path request ≡ Some path → IsShownBefore takes request flat inputs n path
 
 -- no operator is a fault before an instant
@@ -148,22 +148,27 @@ IsStopped request flat inputs (CannotWrite path) = wave_path request ≡ Some pa
 IsStopped request flat inputs OutOfMemory = Unit {0}
 IsStopped request flat inputs _ = ⊥
 
--- where it stops at a fault, the dump has all instants before it
-abbrev pub IsShownTo : (List ℕ → List ℕ → Type 0) → EvalRequest → FlatProgram → Table → Stop → Type 0
-IsShownTo takes request flat inputs stop = (name : List ℕ) (instant : ℕ) (kind : FaultKind) → stop ≡ Fault name instant kind → AreShownBefore takes request flat inputs instant
+-- where a stop tells that a file can't be written, a write to it failed
+abbrev pub IsUnwritten : (List ℕ → Option (List ℕ) → Type 0) → Stop → Type 0
+IsUnwritten takes stop = (path : List ℕ) → stop ≡ CannotWrite path → takes path None
 
--- a dump can't be made, or not be written into its file
-abbrev pub IsUnfiled : EvalRequest → Stop → Type 0
-IsUnfiled request (CannotWrite path) = wave_path request ≡ Some path
-IsUnfiled request OutOfMemory = Unit {0}
-IsUnfiled request _ = ⊥
+-- where it stops at a fault, the dump has all instants before it; and where the dump can't be written, a write failed
+abbrev pub IsShownTo : (List ℕ → Option (List ℕ) → Type 0) → EvalRequest → FlatProgram → Table → Stop → Type 0
+IsShownTo takes request flat inputs stop =
+    ((name : List ℕ) (instant : ℕ) (kind : FaultKind) → stop ≡ Fault name instant kind → AreShownBefore takes request flat inputs instant) × IsUnwritten takes stop
 
--- a stop that tells no fault of an evaluation
+-- a dump can't be made, or not be written into its file, to which a write failed
+abbrev pub IsUnfiled : (List ℕ → Option (List ℕ) → Type 0) → EvalRequest → Stop → Type 0
+IsUnfiled takes request (CannotWrite path) = (wave_path request ≡ Some path) × takes path None
+IsUnfiled takes request OutOfMemory = Unit {0}
+IsUnfiled takes request _ = ⊥
+
+-- a stop that tells no fault of an evaluation, and no file that can't be written
 abbrev pub IsNoFault : Stop → Type 0
-IsNoFault stop = (name : List ℕ) (instant : ℕ) (kind : FaultKind) → stop ≡ Fault name instant kind → ⊥
+IsNoFault stop = ((name : List ℕ) (instant : ℕ) (kind : FaultKind) → stop ≡ Fault name instant kind → ⊥) × ((path : List ℕ) → stop ≡ CannotWrite path → ⊥)
 
 -- The dump of an evaluation: the variables that the request asks for, of the program and at the table that its files gave, in the file that is asked for.
-pub record IsDumped (gives : List ℕ → Option (List ℕ) → Type 0) (takes : List ℕ → List ℕ → Type 0) (request : EvalRequest) : Type 0 where
+pub record IsDumped (gives : List ℕ → Option (List ℕ) → Type 0) (takes : List ℕ → Option (List ℕ) → Type 0) (request : EvalRequest) : Type 0 where
   pub flat : FlatProgram
   pub inputs : Table
   pub asked : IsPosedBy gives request flat inputs
@@ -172,17 +177,19 @@ pub record IsDumped (gives : List ℕ → Option (List ℕ) → Type 0) (takes :
   pub filed : IsFiled takes request (wave_text request flat columns)
 
 -- the same of the instants before one, in the file of this path
-pub record IsDumpedBefore (gives : List ℕ → Option (List ℕ) → Type 0) (takes : List ℕ → List ℕ → Type 0) (request : EvalRequest) (instant : ℕ) (path : List ℕ) : Type 0 where
+pub record IsDumpedBefore (gives : List ℕ → Option (List ℕ) → Type 0) (takes : List ℕ → Option (List ℕ) → Type 0) (request : EvalRequest) (instant : ℕ) (path : List ℕ) : Type 0 where
   pub flat : FlatProgram
   pub inputs : Table
   pub asked : IsPosedBy gives request flat inputs
   pub columns : List OutputColumn
   pub are_columns : AreVariablesAt asked.tree request.main.now inputs (shown_of request.all flat.variables) instant columns
-  pub filed : takes path (wave_text request flat columns)
+  pub filed : takes path (Some (wave_text request flat columns))
 
--- an evaluation that stops at a fault has dumped all instants before it, where a dump is asked for
-abbrev pub IsDumpedTo : (List ℕ → Option (List ℕ) → Type 0) → (List ℕ → List ℕ → Type 0) → EvalRequest → Stop → Type 0
-IsDumpedTo gives takes request stop = (name : List ℕ) (instant : ℕ) (kind : FaultKind) → stop ≡ Fault name instant kind → (path : List ℕ) → wave_path request ≡ Some path → IsDumpedBefore gives takes request instant path
+-- An evaluation that stops at a fault has dumped all instants before it, where a dump is asked for; and one that stops since its dump can't be written has tried a write,
+-- which failed.
+abbrev pub IsDumpedTo : (List ℕ → Option (List ℕ) → Type 0) → (List ℕ → Option (List ℕ) → Type 0) → EvalRequest → Stop → Type 0
+IsDumpedTo gives takes request stop =
+    ((name : List ℕ) (instant : ℕ) (kind : FaultKind) → stop ≡ Fault name instant kind → (path : List ℕ) → wave_path request ≡ Some path → IsDumpedBefore gives takes request instant path) × IsUnwritten takes stop
 
 -- The first fault of the program and the table that the files of a request gave. It is a fault of the source: in each solution of the
 -- program an operator in the equation of that variable, or in an instance of a call there, has no result at that instant.

@@ -49,18 +49,18 @@ pub record HasNoOutput {W V : Type 0} (streams : Streams W V) : Type 0 where
   pub error : HasLine streams.held_err streams.err streams.err_after (codes "F02 CannotWrite")
 
 -- where an evaluation asks for a dump, its file has that of the whole table
-abbrev pub AreFiled : (List ℕ → Option (List ℕ) → Type 0) → (List ℕ → List ℕ → Type 0) → Request → Type 0
+abbrev pub AreFiled : (List ℕ → Option (List ℕ) → Type 0) → (List ℕ → Option (List ℕ) → Type 0) → Request → Type 0
 AreFiled gives takes (Eval request) = IsDumped gives takes request
 AreFiled gives takes _ = Unit {0}
 
 -- and where it stops at a fault, that of all instants before it
-abbrev pub AreFiledTo : (List ℕ → Option (List ℕ) → Type 0) → (List ℕ → List ℕ → Type 0) → Request → Stop → Type 0
+abbrev pub AreFiledTo : (List ℕ → Option (List ℕ) → Type 0) → (List ℕ → Option (List ℕ) → Type 0) → Request → Stop → Type 0
 AreFiledTo gives takes (Eval request) stop = IsDumpedTo gives takes request stop
 AreFiledTo gives takes _ stop = Unit {0}
 
 -- What is asked for ends with this status: with 0 where the answer is printed, with its notes on the error stream, with that of a refusal, whose line is told, and its reason where that is asked for, or with
 -- 3 where the answer couldn't be written, of which the output has a beginning.
-pub data IsEnded {W V : Type 0} (gives : List ℕ → Option (List ℕ) → Type 0) (takes : List ℕ → List ℕ → Type 0) (request : Request) (status : ℕ) (streams : Streams W V) : Type 0 where
+pub data IsEnded {W V : Type 0} (gives : List ℕ → Option (List ℕ) → Type 0) (takes : List ℕ → Option (List ℕ) → Type 0) (request : Request) (status : ℕ) (streams : Streams W V) : Type 0 where
   answered : (text notes : List ℕ) → status ≡ 0 → IsAnswer gives request text → AreNotes gives request notes → AreFiled gives takes request → HasOutput streams text notes → IsEnded gives takes request status streams
   refused : (stop : Stop) → status ≡ status_of stop → IsRequestStopped gives request stop → AreFiledTo gives takes request stop → HasStopped gives request stop streams → IsEnded gives takes request status streams
   unwritten : (text : List ℕ) → status ≡ 3 → IsAnswer gives request text → AreFiled gives takes request → HasNoOutput streams → HasBeginning streams.held_out streams.out streams.out_after text → IsEnded gives takes request status streams
@@ -71,7 +71,7 @@ IsHelp kind = (kind ≡ DisplayHelp) ⊎ (kind ≡ DisplayVersion)
 
 -- A call with these words ends with this status: as what they ask for does; with 0 for help, which goes to the output; with 2 for a
 -- mistake in the words; and with 3 where memory ran out before they were read, or help couldn't be written.
-pub data IsCallEnded {W V : Type 0} (gives : List ℕ → Option (List ℕ) → Type 0) (takes : List ℕ → List ℕ → Type 0) (words : List (List ℕ)) (status : ℕ) (streams : Streams W V) : Type 0 where
+pub data IsCallEnded {W V : Type 0} (gives : List ℕ → Option (List ℕ) → Type 0) (takes : List ℕ → Option (List ℕ) → Type 0) (words : List (List ℕ)) (status : ℕ) (streams : Streams W V) : Type 0 where
   asked : (request : Request) → IsAskedBy words request → IsEnded gives takes request status streams → IsCallEnded gives takes words status streams
   helped : (kind : ErrorKind) → IsAmong kind (fault_of lusdist words) → IsHelp kind → status ≡ 0 → streams.err_after ≡ streams.err → IsCallEnded gives takes words status streams
   mistaken : (kind : ErrorKind) → IsAmong kind (fault_of lusdist words) → ¬ IsHelp kind → status ≡ 2 → streams.out_after ≡ streams.out → IsCallEnded gives takes words status streams

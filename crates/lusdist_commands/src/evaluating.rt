@@ -167,7 +167,7 @@ fn file_wave<F: Files>(
 ) -> Result<(), Stop>
     ensures filed { OnOk result (IsFiled (F.takes files.now) request.entry
         (wave_text request.entry flat.now columns.now)) }
-    ensures stopped { IfErr result (IsUnfiled request.entry) }
+    ensures stopped { IfErr result (IsUnfiled (F.takes files.now) request.entry) }
 {
     let Some(path) = request.vcd else {
         return Ok(());
@@ -194,7 +194,7 @@ fn file_part<F: Files>(
     requires no_fault { HasNoFaultBefore flat.now inputs.now instant }
     ensures filed { OnOk result (AreShownBefore (F.takes files.now) request.entry flat.now
         inputs.now instant) }
-    ensures stopped { IfErr result (IsUnfiled request.entry) }
+    ensures stopped { IfErr result (IsUnfiled (F.takes files.now) request.entry) }
 {
     let columns = columns_before(alloc, flat, inputs, instant, request.all)?;
     file_wave(alloc, request, files, flat, &columns)
@@ -215,7 +215,7 @@ fn file_before<F: Files>(
     requires no_fault { HasNoFaultBefore flat.now inputs.now instant }
     ensures filed { OnOk result (AreShownBefore (F.takes files.now) request.entry flat.now
         inputs.now instant) }
-    ensures stopped { IfErr result (IsUnfiled request.entry) }
+    ensures stopped { IfErr result (IsUnfiled (F.takes files.now) request.entry) }
 {
     match request.vcd {
         Some(_) => file_part(alloc, request, files, flat, inputs, instant),
@@ -235,7 +235,7 @@ fn shown<F: Files>(
         ≡ shown_text request.entry flat.now columns.now) }
     ensures filed { OnOk result (IsFiled (F.takes files.now) request.entry
         (wave_text request.entry flat.now columns.now)) }
-    ensures stopped { IfErr result (IsUnfiled request.entry) }
+    ensures stopped { IfErr result (IsUnfiled (F.takes files.now) request.entry) }
 {
     let text = shown_text(alloc, request, flat, columns)?;
     file_wave(alloc, request, files, flat, columns)?;

@@ -31,11 +31,11 @@ use luflow::{Flat, Inputs};
 use luplace::Job;
 use lusdist_shell::{
     CheckRequest, EvalRequest, Files, PlanRequest, Progress, ReplayRequest, Request, RunRequest,
-    Sink, parse, put_mistake, put_notes, put_out,
+    Sink, TurnsForm, parse, put_mistake, put_notes, put_out,
 };
 use lusyn::print_program;
 use luweave::{World, new_sites, replay};
-use luweave_text::{text_of_world, trace};
+use luweave_text::{TraceForm, text_of_world, trace};
 use std::alloc::Global;
 use std::io::Write;
 use std::sync::Wait;
@@ -79,16 +79,22 @@ pub fn replayed(alloc: Global, job: &Job, turns: &[u8], finish: bool) -> Result<
     Ok(world)
 }
 
-/// The same world, and a line for each turn that moved.
-fn traced(alloc: Global, job: &Job, turns: &[u8], finish: bool) -> Result<(World, String), Stop>
+/// The same world, and what each turn that moved did.
+fn traced(
+    alloc: Global,
+    job: &Job,
+    turns: &[u8],
+    finish: bool,
+    form: TraceForm,
+) -> Result<(World, String), Stop>
     ensures world { IfOk result (λ x. IsWorldOf job.now turns.now finish x.0) }
     ensures faithful { IfOk result (λ x. IsFaithful x.0.job x.0.dones) }
-    ensures notes { IfOk result (λ x. IsTraced job.now turns.now finish x.0.dones
+    ensures notes { IfOk result (λ x. IsTraced job.now turns.now finish form x.0.dones
         (string_bytes x.1)) }
     ensures memory { IfErr result (λ stop. stop ≡ OutOfMemory) }
 {
     let sites = new_sites(alloc, job)?;
-    let (world, notes) = trace(alloc, job.plan(), sites, turns, finish)?;
+    let (world, notes) = trace(alloc, job.plan(), sites, turns, finish, form)?;
     Ok((world, notes))
 }
 
@@ -98,19 +104,22 @@ fn noted(
     job: &Job,
     turns: &[u8],
     finish: bool,
-    trace: bool,
+    form: TurnsForm,
 ) -> Result<(World, String), Stop>
     ensures world { IfOk result (λ x. IsWorldOf job.now turns.now finish x.0) }
     ensures faithful { IfOk result (λ x. IsFaithful x.0.job x.0.dones) }
-    ensures notes { IfOk result (λ x. AreNotesOf job.now turns.now finish trace x.0.dones
+    ensures notes { IfOk result (λ x. AreNotesOf job.now turns.now finish form x.0.dones
         (string_bytes x.1)) }
     ensures memory { IfErr result (λ stop. stop ≡ OutOfMemory) }
 {
-    if trace {
-        return traced(alloc, job, turns, finish);
+    match form {
+        TurnsForm::Lines => traced(alloc, job, turns, finish, TraceForm::Lines),
+        TurnsForm::Chart => traced(alloc, job, turns, finish, TraceForm::Chart),
+        TurnsForm::Nothing => {
+            let world = replayed(alloc, job, turns, finish)?;
+            Ok((world, String::new(alloc)))
+        }
     }
-    let world = replayed(alloc, job, turns, finish)?;
-    Ok((world, String::new(alloc)))
 }
 
 /// What a call prints: its answer, and the notes beside it.
@@ -130,13 +139,19 @@ fn plain(alloc: Global, text: String) -> Said
 }
 
 /// What a replay of a job prints.
-fn printed(alloc: Global, job: &Job, turns: &[u8], finish: bool, trace: bool) -> Result<Said, Stop>
+fn printed(
+    alloc: Global,
+    job: &Job,
+    turns: &[u8],
+    finish: bool,
+    form: TurnsForm,
+) -> Result<Said, Stop>
     ensures text { IfOk result (λ a. IsPrinted job.now turns.now finish (string_bytes a.text)) }
-    ensures notes { IfOk result (λ a. (dones : List ℕ) × AreNotesOf job.now turns.now finish trace
+    ensures notes { IfOk result (λ a. (dones : List ℕ) × AreNotesOf job.now turns.now finish form
         dones (string_bytes a.notes)) }
     ensures memory { IfErr result (λ stop. stop ≡ OutOfMemory) }
 {
-    let (world, notes) = noted(alloc, job, turns, finish, trace)?;
+    let (world, notes) = noted(alloc, job, turns, finish, form)?;
     let text = text_of_world(alloc, job.plan(), &world)?;
     Ok(Said { text, notes })
 }
@@ -154,9 +169,9 @@ fn replay_answer<F: Files>(
     ensures stopped { IfErr result (IsReplayStopped (F.gives files.now) request.entry) }
 {
     let finish = request.finish;
-    let trace = request.trace;
+    let form = request.turns;
     let (job, turns) = job_and_turns(alloc, request, files)?;
-    printed(alloc, &job, &turns, finish, trace)
+    printed(alloc, &job, &turns, finish, form)
 }
 
 /// What a check prints: the canonical text of the program, which keeps all rules and has a flat program.
@@ -344,7 +359,7 @@ fn perform<R: Threads + Wait + Sync, F: Files, P: Progress, W: Write, V: Write>(
 /// One call of the program, of which the first word is the program's name. Answers the exit status: 0 where it is done,
 /// also where a site of a replay faulted, and for help; 1 where a text is refused; 2 for a mistake in the words or a file that
 /// can't be read; 3 for a fault of an evaluation or a run, a run that was cut short, want of memory, or output or a dump that can't be
-/// written. A refusal is one line on the error stream, with its reason behind it where that is asked for; where a replay is asked to trace its turns, they are told there. A run waits for its threads; the other commands wait for nobody.
+/// written. A refusal is one line on the error stream, with its reason behind it where that is asked for; where a replay is asked to tell its turns, they are told there. A run waits for its threads; the other commands wait for nobody.
 ///
 /// Where an evaluation is asked for a dump, its file is written before the answer: of the whole table, or, where the evaluation stops at a
 /// fault, of all instants before it. Where it can't be written, that is told in place of the answer or the fault.
@@ -385,7 +400,7 @@ pub fn serve_words<R: Threads + Wait + Sync, F: Files, P: Progress, W: Write, V:
     ensures file { takes lusdist (map string_bytes words.entry.now) ≡ true → result ≡ 2
         → IsRefusal (F.gives files.now) (map string_bytes words.entry.now) 2 }
 
-    // Where the call is done and no trace is asked for, nothing goes to the error stream.
+    // Where the call is done and no turns are to be told, nothing goes to the error stream.
     ensures silent { result ≡ 0 → AskForNoTrace (map string_bytes words.entry.now)
         → err.new ≡ err.old }
 {

@@ -5,7 +5,7 @@
 use lusdist_commands::evaluating::evaluation;
 use lusdist_commands::jobs::job_for;
 use lusdist_commands::{Stop, replayed};
-use lusdist_shell::{EvalRequest, Files, ReadError};
+use lusdist_shell::{EvalRequest, Files, ReadError, WriteError};
 use luweave_text::text_of_world;
 use std::alloc::Global;
 use std::io;
@@ -56,6 +56,8 @@ struct Texts;
 impl Files for Texts {
     ghost gives = { λ _ _ _. Unit {0} };
 
+    ghost takes = { λ _ _ _. Unit {0} };
+
     fn read(&self, alloc: Global, path: &str) -> Result<Vec<u8>, ReadError> {
         let text = match path {
             "design" => DESIGN,
@@ -67,6 +69,10 @@ impl Files for Texts {
             Ok(text) => Ok(text.into_bytes()),
             Err(_) => Err(ReadError::OutOfMemory),
         }
+    }
+
+    fn write(&self, _path: &str, _bytes: &[u8]) -> Result<(), WriteError> {
+        Err(WriteError)
     }
 }
 

@@ -1,7 +1,7 @@
 //! An example by many schedules at several capacities, and by several crews: each has to end as its evaluation does.
 
 use lusdist_commands::serve_words;
-use lusdist_shell::{Files, ReadError, Silent, Sink, text_of};
+use lusdist_shell::{Files, ReadError, Silent, Sink, WriteError, text_of};
 use std::alloc::{AllocError, Global};
 use std::io;
 use std::io::Write;
@@ -34,6 +34,8 @@ struct Tried<'a, F> {
 impl<F: Files> Files for Tried<'_, F> {
     ghost gives = { λ _ _ _. Unit {0} };
 
+    ghost takes = { λ _ _ _. Unit {0} };
+
     fn read(&self, alloc: Global, path: &str) -> Result<Vec<u8>, ReadError> {
         let text = match path {
             "place" => &self.place,
@@ -41,6 +43,10 @@ impl<F: Files> Files for Tried<'_, F> {
             _ => return self.files.read(alloc, path),
         };
         Vec::from_slice(alloc, text.as_bytes()).map_err(|_| ReadError::OutOfMemory)
+    }
+
+    fn write(&self, _path: &str, _bytes: &[u8]) -> Result<(), WriteError> {
+        Err(WriteError)
     }
 }
 

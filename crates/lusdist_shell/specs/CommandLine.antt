@@ -49,11 +49,11 @@ plan =
     with_rule (with_rule (with_rule (with_rule (judging (codes "plan"))
     (flag_rule (codes "text"))) (flag_rule (codes "dot"))) (path_rule (codes "PROGRAM"))) (path_rule (codes "PLACE"))
 
--- `replay PROGRAM PLACE TABLE SCHEDULE [--main NAME] [--explain] [--finish] [--trace]`
+-- `replay PROGRAM PLACE TABLE SCHEDULE [--main NAME] [--explain] [--finish] [--trace] [--chart]`
 abbrev pub replay : App
 replay =
-    with_rule (with_rule (with_rule (with_rule (with_rule (with_rule (judging (codes "replay"))
-    (flag_rule (codes "finish"))) (flag_rule (codes "trace"))) (path_rule (codes "PROGRAM"))) (path_rule (codes "PLACE"))) (path_rule (codes "TABLE"))) (path_rule (codes "SCHEDULE"))
+    with_rule (with_rule (with_rule (with_rule (with_rule (with_rule (with_rule (judging (codes "replay"))
+    (flag_rule (codes "finish"))) (flag_rule (codes "trace"))) (flag_rule (codes "chart"))) (path_rule (codes "PROGRAM"))) (path_rule (codes "PLACE"))) (path_rule (codes "TABLE"))) (path_rule (codes "SCHEDULE"))
 
 -- how many workers may serve the sites
 abbrev pub fewest_workers : ℕ
@@ -80,8 +80,11 @@ code_rule = record (new_rule (codes "CODE")) { action = Some Set }
 abbrev pub explain : App
 explain = with_rule (new_app (codes "explain")) code_rule
 
+-- `lusdist --version`, and that there has to be a command
+abbrev pub bare : App
+bare = on_top (λ top. record top { has_version = true; subcommand_required = true }) (new_app (codes "lusdist"))
+
 -- `lusdist` and one of its commands, or `lusdist --version`
 abbrev pub lusdist : App
 lusdist =
-    let top = on_top (λ top. record top { has_version = true; subcommand_required = true }) (new_app (codes "lusdist")) in
-    with_subcommand (with_subcommand (with_subcommand (with_subcommand (with_subcommand (with_subcommand top check.top) eval.top) plan.top) replay.top) run.top) explain.top
+    with_subcommand (with_subcommand (with_subcommand (with_subcommand (with_subcommand (with_subcommand bare check.top) eval.top) plan.top) replay.top) run.top) explain.top

@@ -12,6 +12,8 @@ use Rattle.lusdist_shell.specs.declared.request.PlanForm.{PlanForm}
 use Rattle.lusdist_shell.specs.declared.request.PlanForm.TheVariants.{Report, Table, Graph}
 use Rattle.lusdist_shell.specs.declared.request.PlanRequest.{PlanRequest}
 use Rattle.lusdist_shell.specs.declared.request.ReplayRequest.{ReplayRequest}
+use Rattle.lusdist_shell.specs.declared.request.TurnsForm.{TurnsForm}
+use Rattle.lusdist_shell.specs.declared.request.TurnsForm.TheVariants.{Nothing, Lines, Chart}
 use Rattle.lusdist_shell.specs.declared.request.RunRequest.{RunRequest}
 use Rattle.lusdist_shell.specs.declared.request.Request.{Request}
 use Rattle.lusdist_shell.specs.declared.request.Request.TheVariants.{Check, Eval, Plan, Replay, Run, Explain}
@@ -28,6 +30,10 @@ is_given matches flag = bytes_eq (text_in matches flag) (codes "true")
 -- a graph where `--dot` is given, else a table where `--text` is, else the report
 abbrev pub form_in : List Row → PlanForm
 form_in matches = if is_given matches (codes "dot") then Graph else (if is_given matches (codes "text") then Table else Report)
+
+-- a chart where `--chart` is given, else lines where `--trace` is, else nothing
+abbrev pub turns_in : List Row → TurnsForm
+turns_in matches = if is_given matches (codes "chart") then Chart else (if is_given matches (codes "trace") then Lines else Nothing)
 
 -- The number of workers that the text for them spells, in decimal; there is none where there is no text. The command line takes
 -- no other text than that of a number from 1 to 16.
@@ -94,7 +100,7 @@ pub record IsReplayIn (command : Option (Text × List Row)) (request : ReplayReq
   pub table : request.table.now ≡ text_in matches (codes "TABLE")
   pub schedule : request.schedule.now ≡ text_in matches (codes "SCHEDULE")
   pub finish : request.finish ≡ is_given matches (codes "finish")
-  pub trace : request.trace ≡ is_given matches (codes "trace")
+  pub turns : request.turns ≡ turns_in matches
 
 -- The command is `run`, and the request is what its matches hold, argument by argument.
 pub record IsRunIn (command : Option (Text × List Row)) (request : RunRequest) : Type 0 where

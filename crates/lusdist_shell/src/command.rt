@@ -2,9 +2,9 @@
 
 ghost use Rattle.std.specs.Prelude.{◌≡◌, IfOk, false, codes};
 ghost use Rattle.clap.specs.Words.{rule_of, app_of};
-ghost use Rattle.clap.specs.Simple.{new_app};
+ghost use Rattle.clap.specs.Simple.{new_app, with_subcommand};
 ghost use Rattle.clap.specs.declared.builder.command.Command.TheViews.{out-Command};
-ghost use Rattle.lusdist_shell.specs.CommandLine.{path_rule, main_rule, flag_rule, instant_rule, vcd_rule, workers_rule, code_rule, judging, check, eval, plan, replay, run, explain, lusdist};
+ghost use Rattle.lusdist_shell.specs.CommandLine.{path_rule, main_rule, flag_rule, instant_rule, vcd_rule, workers_rule, code_rule, judging, check, eval, plan, replay, run, explain, bare, lusdist};
 
 use clap::builder::ValueParser;
 use clap::{Arg, ArgAction, Command};
@@ -238,6 +238,18 @@ fn trace_flag<'a>(alloc: Global) -> Arg<'a>
     )
 }
 
+/// Whether a replay draws what each turn did.
+fn chart_flag<'a>(alloc: Global) -> Arg<'a>
+    ensures rule { rule_of result ≡ flag_rule (codes "chart") }
+    ensures local { result.global ≡ false }
+{
+    flag(
+        alloc,
+        "chart",
+        "Draws the same there: a column for each site, a row for each turn, also beside --trace",
+    )
+}
+
 /// Whether a run tells how far it has come.
 fn progress_flag<'a>(alloc: Global) -> Arg<'a>
     ensures rule { rule_of result ≡ flag_rule (codes "progress") }
@@ -335,6 +347,7 @@ fn replay<'a>(alloc: Global) -> Result<Command<'a>, AllocError>
     judging(alloc, "replay", about)?
         .arg(finish_flag(alloc))?
         .arg(trace_flag(alloc))?
+        .arg(chart_flag(alloc))?
         .arg(program(alloc))?
         .arg(place(alloc))?
         .arg(table(alloc))?
@@ -363,28 +376,33 @@ fn explain<'a>(alloc: Global) -> Result<Command<'a>, AllocError>
     named(alloc, "explain", about).arg(code(alloc))
 }
 
+/// The command line without its commands.
+fn bare<'a>(alloc: Global) -> Result<Command<'a>, AllocError>
+    ensures { IfOk result (λ c. app_of c ≡ bare) }
+{
+    let about = "Spreads one Lustre program over several sites";
+    let top = named(alloc, "lusdist", about).bin_name("lusdist")?;
+    Ok(top.version(VERSION).subcommand_required(true))
+}
+
+/// A command line with one more command.
+fn with_command<'a>(top: Command<'a>, command: Command<'a>) -> Result<Command<'a>, AllocError>
+    requires { (out-Command command).has_globals ≡ false }
+    ensures { IfOk result
+        (λ c. app_of c ≡ with_subcommand (app_of top.entry)
+        (app_of command.entry).top) }
+{
+    top.subcommand(command)
+}
+
 /// The whole command line. Help calls the program `lusdist`, whatever its file is called.
 pub fn lusdist<'a>(alloc: Global) -> Result<Command<'a>, AllocError>
     ensures { IfOk result (λ c. app_of c ≡ lusdist) }
 {
-    let check = check(alloc)?;
-    let eval = eval(alloc)?;
-    let plan = plan(alloc)?;
-    let replay = replay(alloc)?;
-    let run = run(alloc)?;
-    let explain = explain(alloc)?;
-    named(
-        alloc,
-        "lusdist",
-        "Spreads one Lustre program over several sites",
-    )
-    .bin_name("lusdist")?
-    .version(VERSION)
-    .subcommand_required(true)
-    .subcommand(check)?
-    .subcommand(eval)?
-    .subcommand(plan)?
-    .subcommand(replay)?
-    .subcommand(run)?
-    .subcommand(explain)
+    let top = with_command(bare(alloc)?, check(alloc)?)?;
+    let top = with_command(top, eval(alloc)?)?;
+    let top = with_command(top, plan(alloc)?)?;
+    let top = with_command(top, replay(alloc)?)?;
+    let top = with_command(top, run(alloc)?)?;
+    with_command(top, explain(alloc)?)
 }

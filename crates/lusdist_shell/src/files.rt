@@ -1,6 +1,6 @@
 //! Where the program's texts come from, and where a dump goes.
 
-ghost use Rattle.std.specs.Prelude.{List, ℕ, Option, Some, IfOk, IfErr, OnOk};
+ghost use Rattle.std.specs.Prelude.{List, ℕ, Option, Some, None, IfOk, IfErr, OnOk};
 ghost use Rattle.lusdist_shell.specs.Files.{IsMissed};
 
 use std::alloc::Global;
@@ -31,18 +31,15 @@ pub trait Files {
         ensures given { IfOk result (λ bytes. gives self.now path.now (Some bytes.items)) }
         ensures missed { IfErr result (IsMissed (gives self.now path.now)) };
 
-    /// That these bytes, and no others, were written into the file at the path, in place of what it had. It is known by writing alone. Files
-    /// that are only read have no such fact.
-    ghost takes: { Self → List ℕ → List ℕ → Type 0 } = { λ _ _ _. ⊥ };
+    /// That these bytes, and no others, were written into the file at the path, in place of what it had; or, with none, that a write to the path
+    /// failed. It is known by writing alone.
+    ghost takes: { Self → List ℕ → Option (List ℕ) → Type 0 };
 
-    /// Writes the bytes into the file at the path, in place of what it had. After an error it has what it had, or a beginning of the bytes.
+    /// Writes the bytes into the file at the path, in place of what it had. After an error it has what it had, or a beginning of the bytes. To
+    /// files that are only read each write fails.
     fn write(&self, path: &str, bytes: &[u8]) -> Result<(), WriteError>
-        ensures { OnOk result (takes self.now path.now bytes.now) }
-    {
-        let _path = path;
-        let _bytes = bytes;
-        Err(WriteError)
-    }
+        ensures taken { OnOk result (takes self.now path.now (Some bytes.now)) }
+        ensures failed { IfErr result (λ _. takes self.now path.now None) };
 }
 
 /// The files of the system.

@@ -23,7 +23,7 @@ pub use progress::{Meter, Progress, Silent};
 pub use put::{put_mistake, put_notes, put_out, put_unread};
 pub use request::{
     CheckRequest, EvalRequest, ExplainRequest, PlanForm, PlanRequest, ReplayRequest, Request,
-    RunRequest, parse,
+    RunRequest, TurnsForm, parse,
 };
 pub use schedule::{ScheduleError, read_schedule};
 pub use sink::Sink;

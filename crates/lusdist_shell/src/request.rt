@@ -4,7 +4,7 @@ ghost use Rattle.std.specs.Prelude.{◌≡◌, IfOk, IfErr, map, option_map, tru
 ghost use Rattle.clap.specs.Words.{kind_of, takes, found_of, first_of, rows_of, subcommand_of, subcommand_rows_of, FailsBy, fault_of};
 ghost use Rattle.clap.specs.declared.error.kind.ErrorKind.TheVariants.{OutOfMemory};
 ghost use Rattle.lusdist_shell.specs.CommandLine.{lusdist};
-ghost use Rattle.lusdist_shell.specs.Request.{text_in, is_given, form_in, IsCommand, IsCheckIn, IsEvalIn, IsPlanIn, IsReplayIn, IsRunIn, IsExplainIn, IsInstantIn, AreWorkersIn, AreFew, HasFewWorkers, IsFoundIn, IsAskedBy};
+ghost use Rattle.lusdist_shell.specs.Request.{text_in, is_given, form_in, turns_in, IsCommand, IsCheckIn, IsEvalIn, IsPlanIn, IsReplayIn, IsRunIn, IsExplainIn, IsInstantIn, AreWorkersIn, AreFew, HasFewWorkers, IsFoundIn, IsAskedBy};
 
 use crate::command::lusdist;
 use clap::{ArgMatches, Error};
@@ -70,6 +70,17 @@ pub struct PlanRequest<'a> {
     pub form: PlanForm,
 }
 
+/// What a replay tells of its turns on the error stream.
+#[derive(Clone, Copy)]
+pub enum TurnsForm {
+    /// Nothing.
+    Nothing,
+    /// A line for each turn that moves.
+    Lines,
+    /// A chart: a column for each site, a row for each turn that moves.
+    Chart,
+}
+
 /// What a replay is asked of.
 #[derive(Clone, Copy)]
 pub struct ReplayRequest<'a> {
@@ -87,8 +98,8 @@ pub struct ReplayRequest<'a> {
     pub schedule: &'a str,
     /// Whether it goes on after the schedule until no turn moves.
     pub finish: bool,
-    /// Whether each turn that moves is told on the error stream.
-    pub trace: bool,
+    /// What is told of its turns on the error stream.
+    pub turns: TurnsForm,
 }
 
 /// What a run is asked of.
@@ -227,6 +238,19 @@ fn plan_in<'a>(matches: &ArgMatches<'a>) -> PlanRequest<'a>
     }
 }
 
+/// How the turns are to be told: as a chart, even where lines are asked for too.
+fn turns_in<'a>(matches: &ArgMatches<'a>) -> TurnsForm
+    ensures { result ≡ turns_in (rows_of (found_of matches.now)) }
+{
+    if is_given(matches, "chart") {
+        TurnsForm::Chart
+    } else if is_given(matches, "trace") {
+        TurnsForm::Lines
+    } else {
+        TurnsForm::Nothing
+    }
+}
+
 /// What the matches of `replay` ask for.
 fn replay_in<'a>(matches: &ArgMatches<'a>) -> ReplayRequest<'a>
     ensures { IsReplayIn (Some (codes "replay", rows_of (found_of matches.now))) result }
@@ -239,7 +263,7 @@ fn replay_in<'a>(matches: &ArgMatches<'a>) -> ReplayRequest<'a>
         table: text(matches, "TABLE"),
         schedule: text(matches, "SCHEDULE"),
         finish: is_given(matches, "finish"),
-        trace: is_given(matches, "trace"),
+        turns: turns_in(matches),
     }
 }
 

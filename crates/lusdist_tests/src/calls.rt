@@ -3,7 +3,7 @@
 use luplace::PlaceError;
 use lusdist_commands::serve_words;
 use lusdist_shell::{
-    Files, ReadError, RealFiles, ScheduleError, Silent, Sink, put_out, put_unread,
+    Files, ReadError, RealFiles, ScheduleError, Silent, Sink, WriteError, put_out, put_unread,
 };
 use lustat_rules::StatError;
 use lusyn_lexer::LexError;
@@ -49,11 +49,17 @@ fn text_at(path: &str) -> Option<&'static [u8]> {
 impl Files for Counters {
     ghost gives = { λ _ _ _. Unit {0} };
 
+    ghost takes = { λ _ _ _. Unit {0} };
+
     fn read(&self, alloc: Global, path: &str) -> Result<Vec<u8>, ReadError> {
         match text_at(path) {
             Some(text) => Vec::from_slice(alloc, text).map_err(|_| ReadError::OutOfMemory),
             None => Err(ReadError::OutOfMemory),
         }
+    }
+
+    fn write(&self, _path: &str, _bytes: &[u8]) -> Result<(), WriteError> {
+        Err(WriteError)
     }
 }
 

@@ -1,7 +1,9 @@
 //! The machine of one site.
 
-ghost use Rattle.std.specs.Prelude.{◌≡◌, ◌↔◌, ℕ, ◌+◌, ◌<◌, ◌≤◌, IfOk, IfSome, IsSome, List, length, Some, slice_get};
+ghost use Rattle.std.specs.Prelude.{◌≡◌, ◌↔◌, ℕ, ◌+◌, ◌<◌, ◌≤◌, IfOk, IfSome, IsSome, List, length, replicate, Some, slice_get};
 ghost use Rattle.std.specs.Option.{ForSome};
+ghost use Rattle.lueval.specs.declared.cell.Cell.TheVariants.{Absent};
+ghost use Rattle.luflow.specs.Program.{flows_of};
 ghost use Rattle.luworld.specs.Needs.{sites_of};
 ghost use Rattle.luworld.specs.Outline.{left_after};
 ghost use Rattle.luworld.specs.Runs.{IsJob, IsRun, outline, outputs_of, streams_of};
@@ -63,6 +65,39 @@ fn new_logs(
     Ok(logs)
 }
 
+/// What a site holds for each flow.
+struct Held {
+    shown: Vec<Cell>,
+    lasts: Vec<Cell>,
+    counts: Vec<u32>,
+    logs: Vec<Vec<Status>>,
+}
+
+/// What a new site holds: nothing is shown, no flow was present, and there is room for what is told.
+fn new_held(alloc: Global, program: &SiteProgram, instants: u32) -> Result<Held, AllocError>
+    ensures shown { IfOk result (λ x. x.shown.items
+        ≡ replicate (flows_of program.now.plan.flat) Absent) }
+    ensures lasts { IfOk result (λ x. x.lasts.items
+        ≡ replicate (flows_of program.now.plan.flat) Absent) }
+    ensures counts { IfOk result (λ x. x.counts.items
+        ≡ replicate (flows_of program.now.plan.flat) 0) }
+    ensures len { IfOk result (λ x. length x.logs.items ≡ flows_of program.now.plan.flat) }
+    ensures each { IfOk result (λ x. (i : ℕ) → ForSome (slice_get x.logs.items i)
+        (λ y. IsNewRow (part_at program.now i).told instants y)) }
+{
+    let flows = program.flows();
+    let shown = Vec::from_elem(alloc, Cell::Absent, flows)?;
+    let lasts = Vec::from_elem(alloc, Cell::Absent, flows)?;
+    let counts = Vec::from_elem(alloc, 0, flows)?;
+    let logs = new_logs(alloc, program, flows, instants)?;
+    Ok(Held {
+        shown,
+        lasts,
+        counts,
+        logs,
+    })
+}
+
 impl Site {
     /// The site's machine at the start of its script, from the site's program and its own columns alone. It makes all
     /// growths of the run.
@@ -73,11 +108,12 @@ impl Site {
         ensures site { IfOk result (λ x. x.site ≡ inputs.site) }
         ensures done { IfOk result (λ x. x.done ≡ 0) }
     {
-        let flows = program.flows();
-        let shown = Vec::from_elem(alloc, Cell::Absent, flows)?;
-        let lasts = Vec::from_elem(alloc, Cell::Absent, flows)?;
-        let counts = Vec::from_elem(alloc, 0, flows)?;
-        let logs = new_logs(alloc, &program, flows, inputs.instants())?;
+        let Held {
+            shown,
+            lasts,
+            counts,
+            logs,
+        } = new_held(alloc, &program, inputs.instants())?;
         let place = program.rank(0);
         let mut desk = Desk {
             program,

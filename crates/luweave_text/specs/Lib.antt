@@ -1,2 +1,4 @@
 pub mod WorldText
+pub mod Items
+pub mod Charted
 pub mod Traced

@@ -1,87 +1,78 @@
--- What the turns of a replay did, told line by line.
-use Rattle.std.specs.Prelude.{◌≡◌, ℕ, ◌+◌, Bool, true, false, List, [], ◌∷◌, ◌++◌, codes, Option, Some, None, slice_get}
+-- What the turns of a replay did, told turn by turn.
+use Rattle.std.specs.Prelude.{◌≡◌, ℕ, ◌+◌, Bool, true, false, List, [], ◌∷◌, ◌++◌, codes, Option, Some, None}
 use Rattle.std.specs.Fmt.{decimal}
-use Rattle.luflow.specs.declared.message.Msg.{Msg}
-use Rattle.luflow.specs.Types.{variable_names}
-use Rattle.luflow.specs.Variables.{variable_name}
 use Rattle.luworld.specs.declared.turn.Turn.{Turn}
 use Rattle.luworld.specs.declared.turn.Turn.TheVariants.{Moved, Blocked, Over}
-use Rattle.luworld.specs.World.{Item, Compute, Puts, Takes, done, next_item, new_world, puts_before, reached, run, turn, step, NoTurnMoves}
-use Rattle.luworld.specs.Runs.{Run, carried, system_of}
-use Rattle.luworld.specs.Progress.{Progress, list_of_link, queued_of}
-use Rattle.luweave_text.specs.WorldText.{body_text, site_name}
+use Rattle.luworld.specs.Needs.{Distribution}
+use Rattle.luworld.specs.World.{Item, next_item, new_world, reached, run, turn, step, NoTurnMoves}
+use Rattle.luworld.specs.Runs.{Run, system_of}
+use Rattle.luworld.specs.Progress.{Progress}
+use Rattle.luweave_text.specs.declared.form.TraceForm.{TraceForm}
+use Rattle.luweave_text.specs.declared.form.TraceForm.TheVariants.{Lines, Chart}
+use Rattle.luweave_text.specs.WorldText.{site_name}
+use Rattle.luweave_text.specs.Items.{item_text}
+use Rattle.luweave_text.specs.Charted.{chart_line, heading}
 
--- a space, the number of a message, and what it says of a type with these names
-abbrev pub message_text : List (List ℕ) → Option Msg → List ℕ
-message_text names None = []
-message_text names (Some m) = codes " " ++ (decimal m.no ++ body_text names m.body)
-
--- the name of the flow that a link carries, and the names of its type
-abbrev pub flow_text : Progress → ℕ → List ℕ
-flow_text w l = variable_name w.job.plan.flat (carried w.job.plan l)
-
-abbrev pub flow_names : Progress → ℕ → List (List ℕ)
-flow_names w l = variable_names w.job.plan.flat (carried w.job.plan l)
-
--- What the site does next: it computes, puts its next message into a link, or takes the first that waits in one.
-abbrev pub item_text : Progress → ℕ → Item → List ℕ
-item_text w s (Compute flow instant) = codes "compute"
-item_text w s (Puts l) = codes "put " ++ (flow_text w l ++ message_text (flow_names w l) (slice_get (list_of_link w l) (puts_before (system_of w.job) l s (done w.dones s))))
-item_text w s (Takes l) = codes "take " ++ (flow_text w l ++ message_text (flow_names w l) (slice_get (queued_of w l) 0))
-
--- a line: how many turns have moved before, the site, and what it does next
+-- a line: how many turns are told before, the site, and what it does next
 abbrev pub item_line : Progress → ℕ → ℕ → Item → List ℕ
 item_line w n s item = decimal n ++ (codes " " ++ (site_name w.job.plan.names s ++ (codes " " ++ (item_text w s item ++ 10 ∷ []))))
 
-abbrev pub next_line : Progress → ℕ → ℕ → Option Item → List ℕ
-next_line w n s None = []
-next_line w n s (Some item) = item_line w n s item
+-- what the site does next, as a line or as a row of a chart; nothing where it does nothing more
+abbrev pub next_line : TraceForm → Progress → ℕ → ℕ → Option Item → List ℕ
+next_line form w n s None = []
+next_line Lines w n s (Some item) = item_line w n s item
+next_line Chart w n s (Some item) = chart_line w n s item
 
--- a turn that moves has its line, and the others have none
+-- a turn that moves is told, and the others aren't
 abbrev pub line_if : Turn → List ℕ → List ℕ
 line_if Moved line = line
 line_if Blocked line = []
 line_if Over line = []
 
-abbrev pub one_if : Turn → ℕ
-one_if Moved = 1
-one_if Blocked = 0
-one_if Over = 0
-
 abbrev pub turn_of : Progress → ℕ → Turn
 turn_of w s = turn (system_of w.job) w.dones s
 
-abbrev pub turn_text : Progress → ℕ → ℕ → List ℕ
-turn_text w n s = line_if (turn_of w s) (next_line w n s (next_item (system_of w.job) w.dones s))
+abbrev pub turn_text : TraceForm → Progress → ℕ → ℕ → List ℕ
+turn_text form w n s = line_if (turn_of w s) (next_line form w n s (next_item (system_of w.job) w.dones s))
+
+-- how many turns are told then
+abbrev pub one_more : ℕ → List ℕ → ℕ
+one_more n [] = n
+one_more n (b ∷ text) = n + 1
 
 -- the world after a turn
 abbrev pub after : Progress → ℕ → Progress
 after w s = record w { dones = step (system_of w.job) w.dones s }
 
--- The lines of turns in order, where so many have moved before: one for each that moves.
-unfoldable pub trace_text : Progress → ℕ → List ℕ → List ℕ
-trace_text w n [] = []
-trace_text w n (s ∷ turns) = turn_text w n s ++ trace_text (after w s) (n + one_if (turn_of w s)) turns
+-- what is told of turns in order, where so many are told before
+unfoldable pub trace_text : TraceForm → Progress → ℕ → List ℕ → List ℕ
+trace_text form w n [] = []
+trace_text form w n (s ∷ turns) = turn_text form w n s ++ trace_text form (after w s) (one_more n (turn_text form w n s)) turns
 
--- how many of the turns move
-unfoldable pub moves_of : Progress → List ℕ → ℕ
-moves_of w [] = 0
-moves_of w (s ∷ turns) = one_if (turn_of w s) + moves_of (after w s) turns
+-- how many turns are told then
+unfoldable pub told_of : TraceForm → Progress → ℕ → List ℕ → ℕ
+told_of form w n [] = n
+told_of form w n (s ∷ turns) = told_of form (after w s) (one_more n (turn_text form w n s)) turns
 
--- more turns were given, each with its line where it moved
-pub record HasMore (w : Progress) (moves : ℕ) (text dones text' : List ℕ) : Type 0 where
+-- more turns were given, each told where it moved
+pub record HasMore (form : TraceForm) (w : Progress) (told : ℕ) (text dones text' : List ℕ) : Type 0 where
   pub more : List ℕ
   pub dones_are : dones ≡ run (system_of w.job) w.dones more
-  pub text_is : text' ≡ text ++ trace_text w moves more
+  pub text_is : text' ≡ text ++ trace_text form w told more
 
 -- a run before any turn
 abbrev pub beginning : Run → Progress
 beginning job = record { job = job; dones = new_world (system_of job) }
 
--- The world after turns, and, where it is to be finished, after more until none moves, and no others; and the lines of all these turns.
-pub record IsTraced (job : Run) (turns : List ℕ) (finish : Bool) (dones : List ℕ) (text : List ℕ) : Type 0 where
+-- what stands before the first turn
+abbrev pub opening : TraceForm → Distribution → List ℕ
+opening Lines plan = []
+opening Chart plan = heading plan.names
+
+-- The world after turns, and, where it is to be finished, after more until none moves, and no others; and what is told of all these turns.
+pub record IsTraced (job : Run) (turns : List ℕ) (finish : Bool) (form : TraceForm) (dones : List ℕ) (text : List ℕ) : Type 0 where
   pub more : List ℕ
   pub dones_are : dones ≡ reached (system_of job) (turns ++ more)
   pub no_more : finish ≡ false → more ≡ []
   pub quiet : finish ≡ true → NoTurnMoves (system_of job) dones
-  pub text_is : text ≡ trace_text (beginning job) 0 (turns ++ more)
+  pub text_is : text ≡ opening form job.plan ++ trace_text form (beginning job) 0 (turns ++ more)

@@ -10,8 +10,11 @@ ghost use Rattle.lusite.specs.Machine.{IsNext};
 ghost use Rattle.luweave.specs.Worlds.{IsNewWorld};
 ghost use Rattle.luweave.specs.Headline.{IsFaithful};
 ghost use Rattle.luweave_text.specs.WorldText.{Adds};
-ghost use Rattle.luweave_text.specs.Traced.{message_text, item_text, item_line, next_line, turn_text, turn_of, one_if, trace_text, moves_of, HasMore, IsTraced};
+ghost use Rattle.luweave_text.specs.Items.{message_text, item_text};
+ghost use Rattle.luweave_text.specs.Traced.{item_line, next_line, one_more, opening, turn_text, trace_text, told_of, HasMore, IsTraced};
 
+use crate::charting::{put_chart_line, put_heading};
+use crate::form::TraceForm;
 use crate::text::{put_message, site_name, variable_name};
 use luflow::Msg;
 use lulist::Name;
@@ -57,7 +60,7 @@ fn flow_names(plan: &Plan, link: LinkNo) -> &[Name]
 }
 
 /// What a site does next, where it does anything.
-fn put_item(
+pub(crate) fn put_item(
     text: &mut String,
     plan: &Plan,
     world: &World,
@@ -118,126 +121,151 @@ fn put_line(
     text.push('\n')
 }
 
-/// The line of a turn of the site, if it moves; nothing where the site does nothing more.
+/// What a turn of the site is told as, if it moves; nothing where the site does nothing more.
 fn next_line(
     alloc: Global,
     plan: &Plan,
     world: &World,
-    moves: usize,
+    form: TraceForm,
+    told: usize,
     site: u8,
 ) -> Result<String, AllocError>
     requires { world.now.job.plan ≡ plan.now }
-    ensures { IfOk result (λ line. string_bytes line ≡ next_line world.now moves site
+    ensures { IfOk result (λ line. string_bytes line ≡ next_line form world.now told site
         (next_item (system_of world.now.job) world.now.dones site)) }
 {
     let mut line = String::new(alloc);
     let next = world.next(site);
     if goes_on(next) {
-        put_line(&mut line, plan, world, moves, site, next)?;
+        match form {
+            TraceForm::Lines => put_line(&mut line, plan, world, told, site, next)?,
+            TraceForm::Chart => {
+                put_chart_line(alloc, &mut line, plan, world, told, site, next)?;
+            }
+        }
     }
     Ok(line)
 }
 
-/// A turn, with its line where it moves. Answers how many turns have moved then.
+/// A turn, told where it moves. Answers how many are told then.
 fn traced_turn(
     alloc: Global,
     text: &mut String,
     plan: &Plan,
     world: &mut World,
-    moves: usize,
+    form: TraceForm,
+    told: usize,
     site: u8,
 ) -> Result<usize, AllocError>
     requires plan_is { world.old.job.plan ≡ plan.now }
-    requires few { moves ≤ length (string_bytes text.old) }
+    requires few { told ≤ length (string_bytes text.old) }
     ensures job { world.new.job ≡ world.old.job }
     ensures dones { IfOk result
         (λ _. world.new.dones ≡ step (system_of world.old.job) world.old.dones site) }
-    ensures text { Adds result text.old text.new (turn_text world.old moves site) }
-    ensures moves { IfOk result (λ n. n ≡ moves + one_if (turn_of world.old site)) }
+    ensures text { Adds result text.old text.new (turn_text form world.old told site) }
+    ensures told { IfOk result (λ n. n ≡ one_more told (turn_text form world.old told site)) }
     ensures few { IfOk result (λ n. n ≤ length (string_bytes text.new)) }
 {
-    let line = next_line(alloc, plan, world, moves, site)?;
+    let line = next_line(alloc, plan, world, form, told, site)?;
     match world.turn(site) {
         Turn::Moved => {
             text.push_str(line.as_str())?;
-            Ok(moves + 1)
+            if line.is_empty() {
+                return Ok(told);
+            }
+            Ok(told + 1)
         }
-        Turn::Blocked => Ok(moves),
-        Turn::Over => Ok(moves),
+        Turn::Blocked => Ok(told),
+        Turn::Over => Ok(told),
     }
 }
 
-/// Turns in order, each with its line where it moves. Answers how many have moved.
+/// Turns in order, each told where it moves. Answers how many are told.
 fn traced_turns(
     alloc: Global,
     text: &mut String,
     plan: &Plan,
     world: &mut World,
+    form: TraceForm,
     turns: &[u8],
 ) -> Result<usize, AllocError>
     requires { world.old.job.plan ≡ plan.now }
     ensures job { world.new.job ≡ world.old.job }
     ensures dones { IfOk result
         (λ _. world.new.dones ≡ run (system_of world.old.job) world.old.dones turns.now) }
-    ensures text { Adds result text.old text.new (trace_text world.old 0 turns.now) }
-    ensures moves { IfOk result (λ n. n ≡ moves_of world.old turns.now) }
+    ensures text { Adds result text.old text.new (trace_text form world.old 0 turns.now) }
+    ensures told { IfOk result (λ n. n ≡ told_of form world.old 0 turns.now) }
     ensures few { IfOk result (λ n. n ≤ length (string_bytes text.new)) }
 {
-    let mut moves = 0;
+    let mut told = 0;
     for site in turns {
-        moves = traced_turn(alloc, text, plan, world, moves, *site)?;
+        told = traced_turn(alloc, text, plan, world, form, told, *site)?;
     }
-    Ok(moves)
+    Ok(told)
 }
 
-/// Gives the turn of the least site that can move until none can, each with its line.
+/// Gives the turn of the least site that can move until none can, each told.
 fn traced_finish(
     alloc: Global,
     text: &mut String,
     plan: &Plan,
     world: &mut World,
+    form: TraceForm,
     before: usize,
 ) -> Result<(), AllocError>
     requires plan_is { world.old.job.plan ≡ plan.now }
     requires few { before ≤ length (string_bytes text.old) }
     ensures job { world.new.job ≡ world.old.job }
     ensures more { IfOk result
-        (λ _. HasMore world.old before (string_bytes text.old) world.new.dones
+        (λ _. HasMore form world.old before (string_bytes text.old) world.new.dones
         (string_bytes text.new)) }
     ensures quiet { IfOk result (λ _. NoTurnMoves (system_of world.new.job) world.new.dones) }
 {
-    let mut moves = before;
+    let mut told = before;
     while let Some(site) = world.enabled() {
         let _ = world.left();
-        moves = traced_turn(alloc, text, plan, world, moves, site)?;
+        told = traced_turn(alloc, text, plan, world, form, told, site)?;
     }
     Ok(())
 }
 
+/// What stands before the first turn.
+fn opening(alloc: Global, plan: &Plan, form: TraceForm) -> Result<String, AllocError>
+    ensures { IfOk result (λ text. string_bytes text ≡ opening form plan.now) }
+{
+    let mut text = String::new(alloc);
+    match form {
+        TraceForm::Lines => {}
+        TraceForm::Chart => put_heading(&mut text, plan.sites())?,
+    }
+    Ok(text)
+}
+
 /// The world of new sites after the turns of a schedule, in order; and, where it is to be finished, after more, each of the
-/// least site that can move, until none can. With it a line for each turn that moved: how many had moved before, the site,
-/// and what it did. The sites are gone where memory ran out.
+/// least site that can move, until none can. With it, for each turn that moved, how many had moved before, the site,
+/// and what it did: a line each, or a row each of a chart of at most 1,000 rows, which has a column for each site. The sites are gone where memory ran out.
 pub fn trace(
     alloc: Global,
     plan: &Plan,
     sites: Vec<Site>,
     turns: &[u8],
     finish: bool,
+    form: TraceForm,
 ) -> Result<(World, String), AllocError>
     requires { IsNewWorld plan.now sites.items }
     ensures job { IfOk result (λ x. ForSome (slice_get sites.items 0) (λ v. x.0.job ≡ v.job)) }
-    ensures traced { IfOk result (λ x. IsTraced x.0.job turns.now finish x.0.dones
+    ensures traced { IfOk result (λ x. IsTraced x.0.job turns.now finish form x.0.dones
         (string_bytes x.1)) }
     ensures faithful { IfOk result (λ x. IsFaithful x.0.job x.0.dones) }
 {
     let mut world = World::new(alloc, plan, sites)?;
-    let mut text = String::new(alloc);
-    let moves = traced_turns(alloc, &mut text, plan, &mut world, turns)?;
+    let mut text = opening(alloc, plan, form)?;
+    let told = traced_turns(alloc, &mut text, plan, &mut world, form, turns)?;
     if !finish {
         world.faithful();
         return Ok((world, text));
     }
-    traced_finish(alloc, &mut text, plan, &mut world, moves)?;
+    traced_finish(alloc, &mut text, plan, &mut world, form, told)?;
     world.faithful();
     Ok((world, text))
 }

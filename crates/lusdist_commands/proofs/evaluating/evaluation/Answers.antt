@@ -11,7 +11,7 @@ returns-in-Ok-clause-text g c =
     shown_whole (g.F.Files.takes c.args.files.now) c.args.request c.args.flat.now c.args.inputs.now c.in-Ok.columns c.in-Ok.ensures.columns c.in-Ok.ensures.no_fault c.shown.result c.shown.ensures.text c.shown.ensures.filed
 
 pub returns-in-Ok-clause-stopped : goal.returns-in-Ok-clause-stopped
-returns-in-Ok-clause-stopped g c = IfErr-weaker c.shown.result _ _ (λ stop h. unfiled_stop c.args.request c.args.flat.now c.args.inputs.now stop h) c.shown.ensures.stopped
+returns-in-Ok-clause-stopped g c = IfErr-weaker c.shown.result _ _ (λ stop h. unfiled_stop (g.F.Files.takes c.args.files.now) c.args.request c.args.flat.now c.args.inputs.now stop h) c.shown.ensures.stopped
 
 pub returns-in-Ok-clause-before : goal.returns-in-Ok-clause-before
 returns-in-Ok-clause-before g c = IfErr-weaker c.shown.result _ _ (λ stop h. unfiled_shown (g.F.Files.takes c.args.files.now) c.args.request c.args.flat.now c.args.inputs.now stop h) c.shown.ensures.stopped

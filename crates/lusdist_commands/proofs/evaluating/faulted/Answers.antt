@@ -28,7 +28,7 @@ pub returns-in-Ok-clause-before : goal.returns-in-Ok-clause-before
 returns-in-Ok-clause-before g c = told_shown (g.F.Files.takes c.args.files.now) c.args.request c.args.flat.now c.args.inputs.now c.args.fault.0 c.args.fault.1 c.args.fault.2 c.in-Ok.ensures.filed c.fault_stop.result c.fault_stop.ensures
 
 pub returns-in-Err-clause-stopped : goal.returns-in-Err-clause-stopped
-returns-in-Err-clause-stopped g c = unfiled_stop c.args.request c.args.flat.now c.args.inputs.now c.in-Err.stop c.in-Err.ensures.stopped
+returns-in-Err-clause-stopped g c = unfiled_stop (g.F.Files.takes c.args.files.now) c.args.request c.args.flat.now c.args.inputs.now c.in-Err.stop c.in-Err.ensures.stopped
 
 pub returns-in-Err-clause-before : goal.returns-in-Err-clause-before
 returns-in-Err-clause-before g c = unfiled_shown (g.F.Files.takes c.args.files.now) c.args.request c.args.flat.now c.args.inputs.now c.in-Err.stop c.in-Err.ensures.stopped

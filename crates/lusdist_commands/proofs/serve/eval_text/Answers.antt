@@ -7,7 +7,7 @@ pub returns-in-Some-clause-stopped : goal.returns-in-Some-clause-stopped
 returns-in-Some-clause-stopped g c = eval_mistaken c.in-Some.mistake (sym c.in-Some.ensures) refl
 
 pub returns-in-Some-clause-before : goal.returns-in-Some-clause-before
-returns-in-Some-clause-before g c = λ name instant kind e. absurd cc
+returns-in-Some-clause-before g c = (λ name instant kind e. absurd cc, λ path e. absurd cc)
 
 pub evaluated_text-requires : goal.evaluated_text-requires
 evaluated_text-requires g c = sym c.in-None.ensures

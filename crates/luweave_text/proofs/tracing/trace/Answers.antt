@@ -15,17 +15,21 @@ pub returns-then-not-finish-clause-traced : goal.returns-then-not-finish-clause-
 returns-then-not-finish-clause-traced c =
     let new = c.in_ok-world.world in
     let w = c.traced_turns.new.world in
+    let form = c.args.form in
     let text = string_bytes c.traced_turns.new.text in
-    let made = c.in_ok-moves.ensures in
-    let none : HasMore w c.in_ok-moves.moves text w.dones text = record { more = []; dones_are = refl; text_is = no_lines w c.in_ok-moves.moves text } in
-    traced_whole c.args.turns.now c.args.finish new w w c.in_ok-moves.moves (string_bytes c.new-text.result) text text c.in_ok-world.ensures.dones c.new-text.ensures.bytes
-    made.job made.dones made.moves made.text refl none (λ e. refl) (λ e. absurd cc)
+    let made = c.in_ok-told.ensures in
+    let plan = world_plan c.args.plan.now c.args.sites.items new.job c.requires c.in_ok-world.ensures.job in
+    let none : HasMore form w c.in_ok-told.told text w.dones text = record { more = []; dones_are = refl; text_is = no_lines form w c.in_ok-told.told text } in
+    traced_whole form c.args.plan.now c.args.turns.now c.args.finish new w w c.in_ok-told.told (string_bytes c.in_ok-text.text) text text c.in_ok-world.ensures.dones plan c.in_ok-text.ensures
+    made.job made.dones made.told made.text refl none (λ e. refl) (λ e. absurd cc)
 
 pub returns-clause-traced : goal.returns-clause-traced
 returns-clause-traced c =
     let new = c.in_ok-world.world in
     let w = c.traced_turns.new.world in
-    let made = c.in_ok-moves.ensures in
+    let form = c.args.form in
+    let made = c.in_ok-told.ensures in
     let done = c.in_ok-traced_finish.ensures in
-    traced_whole c.args.turns.now c.args.finish new w c.traced_finish.new.world c.in_ok-moves.moves (string_bytes c.new-text.result) (string_bytes c.traced_turns.new.text) (string_bytes c.traced_finish.new.text) c.in_ok-world.ensures.dones c.new-text.ensures.bytes
-    made.job made.dones made.moves made.text done.job done.more (λ e. absurd cc) (λ e. done.quiet)
+    let plan = world_plan c.args.plan.now c.args.sites.items new.job c.requires c.in_ok-world.ensures.job in
+    traced_whole form c.args.plan.now c.args.turns.now c.args.finish new w c.traced_finish.new.world c.in_ok-told.told (string_bytes c.in_ok-text.text) (string_bytes c.traced_turns.new.text) (string_bytes c.traced_finish.new.text) c.in_ok-world.ensures.dones plan c.in_ok-text.ensures
+    made.job made.dones made.told made.text done.job done.more (λ e. absurd cc) (λ e. done.quiet)

@@ -2,12 +2,13 @@ use Rattle.std.proofs.Common.{◌≡◌, ◌+◌, ◌∷◌, drop, get_or, ◌�
 use Rattle.std.proofs.lemmas.List.{drop_more, drop_all}
 use Rattle.luworld.specs.World.{step}
 use Rattle.luworld.specs.Runs.{system_of}
-use Rattle.luweave_text.proofs.Lines.{progress_is, run_next, moves_next, text_next, text_whole, moves_whole}
+use Rattle.luweave_text.proofs.Lines.{progress_is, run_next, told_next, text_next, text_whole, told_whole}
 use Rattle.luweave_text.proofs.tracing.traced_turns.Goals as goal
 
 pub loop-site-preserved : goal.loop-site-preserved
 loop-site-preserved c =
     let h = c.loop-site.invariant in
+    let form = c.args.form in
     let turns = c.args.turns.now in
     let i = c.loop-site.site-index in
     let now = c.loop-site.world in
@@ -15,21 +16,21 @@ loop-site-preserved c =
     let s = get_or turns i 0 in
     let rest = drop (i + 1) turns in
     let first : drop i turns ≡ s ∷ rest = drop_more turns i 0 c.loop-site-test.true in
-    let is = progress_is next now.job (step (system_of now.job) now.dones s) c.traced_turn.ensures.job c.in_ok-moves.ensures.dones in
+    let is = progress_is next now.job (step (system_of now.job) now.dones s) c.traced_turn.ensures.job c.in_ok-told.ensures.dones in
     record {
       job = c.traced_turn.ensures.job ∙ h.job;
-      dones = run_next now next s (drop i turns) rest first is ∙ h.dones;
-      text = text_next now next s (drop i turns) rest first is c.loop-site.moves c.in_ok-moves.moves (string_bytes c.loop-site.text) (string_bytes c.traced_turn.new.text) _ c.in_ok-moves.ensures.moves c.in_ok-moves.ensures.text h.text;
-      moves = moves_next now next s (drop i turns) rest first is c.loop-site.moves c.in_ok-moves.moves _ c.in_ok-moves.ensures.moves h.moves;
-      few = c.in_ok-moves.ensures.few;
+      dones = run_next form now next s (drop i turns) rest first is ∙ h.dones;
+      text = text_next form now next s (drop i turns) rest first is c.loop-site.told c.in_ok-told.told (string_bytes c.loop-site.text) (string_bytes c.traced_turn.new.text) _ c.in_ok-told.ensures.told c.in_ok-told.ensures.text h.text;
+      told = told_next form now next s (drop i turns) rest first is c.loop-site.told c.in_ok-told.told _ c.in_ok-told.ensures.told h.told;
+      few = c.in_ok-told.ensures.few;
     }
 
 pub returns-clause-text : goal.returns-clause-text
 returns-clause-text c =
     let left = drop c.loop-site.site-index c.args.turns.now in
-    text_whole c.loop-site.world c.loop-site.moves left (string_bytes c.loop-site.text) _ (drop_all c.loop-site.site-index c.args.turns.now (omega (arith, c.loop-site-test.false))) c.loop-site.invariant.text
+    text_whole c.args.form c.loop-site.world c.loop-site.told left (string_bytes c.loop-site.text) _ (drop_all c.loop-site.site-index c.args.turns.now (omega (arith, c.loop-site-test.false))) c.loop-site.invariant.text
 
-pub returns-clause-moves : goal.returns-clause-moves
-returns-clause-moves c =
+pub returns-clause-told : goal.returns-clause-told
+returns-clause-told c =
     let left = drop c.loop-site.site-index c.args.turns.now in
-    moves_whole c.loop-site.world c.loop-site.moves left _ (drop_all c.loop-site.site-index c.args.turns.now (omega (arith, c.loop-site-test.false))) c.loop-site.invariant.moves
+    told_whole c.args.form c.loop-site.world c.loop-site.told left _ (drop_all c.loop-site.site-index c.args.turns.now (omega (arith, c.loop-site-test.false))) c.loop-site.invariant.told

@@ -32,23 +32,24 @@ settle-requires-clause-set c = record {
   site_is = c.requires.site_is;
   rank_is = c.rank-place.ensures;
   pasts_fit =
-      let m = c.flows-flows.result in
-      let el : c.in_ok-lasts.lasts.items ≡ replicate m Absent = c.in_ok-lasts.ensures.items_if_clones_equal (λ y k. search rules) in
-      let en : c.in_ok-counts.counts.items ≡ replicate m 0 = c.in_ok-counts.ensures.items_if_clones_equal (λ y k. search rules) in
+      let m = flows_of c.args.program.plan.flat in
+      let el : c.in_ok-shown.field-0.lasts.items ≡ replicate m Absent = c.in_ok-shown.ensures.lasts in
+      let en : c.in_ok-shown.field-0.counts.items ≡ replicate m 0 = c.in_ok-shown.ensures.counts in
       ap length el ∙ length-replicate m Absent ∙ sym (ap length en ∙ length-replicate m 0);
 }
 
 pub settle-requires-clause-stands : goal.settle-requires-clause-stands
 settle-requires-clause-stands c =
     let job = c.args.inputs.job in
-    let n : c.flows-flows.result ≡ flows_of job.plan.flat = c.flows-flows.ensures ∙ ap (λ (q : Distribution). flows_of q.flat) c.requires.plan_is in
+    let n : flows_of c.args.program.plan.flat ≡ flows_of job.plan.flat = ap (λ (q : Distribution). flows_of q.flat) c.requires.plan_is in
     let m = flows_of job.plan.flat in
-    let es : c.in_ok-shown.shown.items ≡ replicate m Absent = c.in_ok-shown.ensures.items_if_clones_equal (λ y k. search rules) ∙ ap (λ m. replicate m Absent) n in
-    let el : c.in_ok-lasts.lasts.items ≡ replicate m Absent = c.in_ok-lasts.ensures.items_if_clones_equal (λ y k. search rules) ∙ ap (λ m. replicate m Absent) n in
-    let en : c.in_ok-counts.counts.items ≡ replicate m 0 = c.in_ok-counts.ensures.items_if_clones_equal (λ y k. search rules) ∙ ap (λ m. replicate m 0) n in
+    let held = c.in_ok-shown.field-0 in
+    let es : held.shown.items ≡ replicate m Absent = c.in_ok-shown.ensures.shown ∙ ap (λ m. replicate m Absent) n in
+    let el : held.lasts.items ≡ replicate m Absent = c.in_ok-shown.ensures.lasts ∙ ap (λ m. replicate m Absent) n in
+    let en : held.counts.items ≡ replicate m 0 = c.in_ok-shown.ensures.counts ∙ ap (λ m. replicate m 0) n in
     let s = c.args.inputs.site in
-    let shown = statuses c.in_ok-shown.shown.items in
-    let pasts = pasts_in c.in_ok-lasts.lasts.items c.in_ok-counts.counts.items in
+    let shown = statuses held.shown.items in
+    let pasts = pasts_in held.lasts.items held.counts.items in
     let st = stands_start job s shown pasts (ap statuses es ∙ new_statuses m) (ap₂ pasts_in el en ∙ new_pasts m) in
     let at = start_next c.args.program job s c.requires.plan_is c.requires.site_is in
     let ok = run_ok c.args.inputs c.inputs.inside.job.value c.inputs.inside.site c.inputs.view_is c.inputs.invariant.is_run in
@@ -71,9 +72,9 @@ settle-requires-clause-logged c =
     let job = c.args.inputs.job in
     let s = c.args.inputs.site in
     let p = c.args.program in
-    let n : c.flows-flows.result ≡ flows_of job.plan.flat = c.flows-flows.ensures ∙ ap (λ (q : Distribution). flows_of q.flat) c.requires.plan_is in
-    let logs = c.in_ok-logs.logs.items in
-    let e = c.in_ok-logs.ensures in
+    let n : flows_of c.args.program.plan.flat ≡ flows_of job.plan.flat = ap (λ (q : Distribution). flows_of q.flat) c.requires.plan_is in
+    let logs = c.in_ok-shown.field-0.logs.items in
+    let e = c.in_ok-shown.ensures in
     let len : length logs ≡ flows_of job.plan.flat = e.len ∙ n in
     let at = start_next p job s c.requires.plan_is c.requires.site_is in
     let ok = run_ok c.args.inputs c.inputs.inside.job.value c.inputs.inside.site c.inputs.view_is c.inputs.invariant.is_run in

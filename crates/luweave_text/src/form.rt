@@ -1,0 +1,10 @@
+//! How the turns of a replay are told.
+
+/// How the turns of a replay are told.
+#[derive(Clone, Copy)]
+pub enum TraceForm {
+    /// A line for each turn that moves.
+    Lines,
+    /// A chart: a column for each site, a row for each turn that moves.
+    Chart,
+}
