@@ -1,6 +1,6 @@
 //! The rules of numbers: `E14`, and `E19`.
 
-use crate::find::{Spot, inputs_of, outputs_of, type_at_place};
+use crate::find::{Spot, called, type_at_place};
 use crate::said::{Said, mended_by, say};
 use crate::usual::usual;
 use crate::words::Part;
@@ -20,89 +20,45 @@ enum Number<'a> {
     Sides(usize, usize),
 }
 
-/// A call with too few or too many arguments.
-fn wrong_arguments<'a>(catalog: &Catalog, e: &'a Expr) -> Option<Number<'a>> {
-    let Expr::Call(f, arguments) = e else {
-        return None;
-    };
-    let wanted = inputs_of(catalog, f)?.len();
-    if arguments.len() == wanted {
-        return None;
-    }
-    Some(Number::Arguments(f.as_str(), arguments.len(), wanted))
-}
-
-/// The first such call of some parts.
-fn wrong_arguments_in<'a>(catalog: &Catalog, parts: &[&'a Expr]) -> Option<Number<'a>> {
-    for e in parts {
-        let found = wrong_arguments(catalog, *e);
-        if found.is_some() {
-            return found;
+/// What is wrong in an equation with how many there are: first in its calls, then in those inside an expression, then between its sides.
+fn wrong_in<'a>(spot: &Spot<'_, 'a>) -> Option<Number<'a>> {
+    for e in spot.parts {
+        if let Expr::Call(f, arguments) = *e {
+            if let Some(node) = called(spot.catalog, f) {
+                let wanted = node.inputs.as_slice().len();
+                if arguments.len() != wanted {
+                    return Some(Number::Arguments(f.as_str(), arguments.len(), wanted));
+                }
+            }
         }
     }
-    None
-}
-
-/// A call inside an expression that doesn't give one value.
-fn wrong_inside<'a>(catalog: &Catalog, e: &'a Expr) -> Option<Number<'a>> {
-    let Expr::Call(f, _) = e else {
-        return None;
-    };
-    let values = outputs_of(catalog, f)?.len();
-    if values == 1 {
-        return None;
-    }
-    Some(Number::Inside(f.as_str(), values))
-}
-
-/// The first such call of some parts.
-fn wrong_inside_in<'a>(catalog: &Catalog, parts: &[&'a Expr]) -> Option<Number<'a>> {
-    for e in parts {
-        let found = wrong_inside(catalog, *e);
-        if found.is_some() {
-            return found;
+    if let [_, inner @ ..] = spot.parts {
+        for e in inner {
+            if let Expr::Call(f, _) = *e {
+                if let Some(node) = called(spot.catalog, f) {
+                    let values = node.outputs.as_slice().len();
+                    if values != 1 {
+                        return Some(Number::Inside(f.as_str(), values));
+                    }
+                }
+            }
         }
     }
-    None
-}
-
-/// How many values a right side has.
-fn value_count(catalog: &Catalog, e: &Expr) -> Option<usize> {
-    match e {
-        Expr::Call(f, _) => Some(outputs_of(catalog, f)?.len()),
-        _ => Some(1),
-    }
-}
-
-/// The sides of an equation where one has more than the other.
-fn wrong_sides<'a>(spot: &Spot<'_, 'a>) -> Option<Number<'a>> {
     let left = spot.equation.left.as_slice().len();
-    let right = value_count(spot.catalog, &spot.equation.right)?;
+    let right = match &spot.equation.right {
+        Expr::Call(f, _) => called(spot.catalog, f)?.outputs.as_slice().len(),
+        _ => 1,
+    };
     if left == right {
         return None;
     }
     Some(Number::Sides(left, right))
 }
 
-/// What is wrong in an equation with how many there are.
-fn wrong_in<'a>(spot: &Spot<'_, 'a>) -> Option<Number<'a>> {
-    let found = wrong_arguments_in(spot.catalog, spot.parts);
-    if found.is_some() {
-        return found;
-    }
-    if let [_, inner @ ..] = spot.parts {
-        let found = wrong_inside_in(spot.catalog, inner);
-        if found.is_some() {
-            return found;
-        }
-    }
-    wrong_sides(spot)
-}
-
-/// How a wrong number is told.
-fn said_of_number(alloc: Global, number: Number) -> Result<Said, AllocError> {
-    match number {
-        Number::Arguments(f, given, wanted) => mended_by(
+/// `E14`
+pub(crate) fn wrong_arity(alloc: Global, spot: &Spot) -> Result<Said, AllocError> {
+    match wrong_in(spot) {
+        Some(Number::Arguments(f, given, wanted)) => mended_by(
             alloc,
             &[
                 Part::Around("The call of ", f, " has "),
@@ -113,7 +69,7 @@ fn said_of_number(alloc: Global, number: Number) -> Result<Said, AllocError> {
             ],
             "Give each call as many arguments as its node has inputs.",
         ),
-        Number::Inside(f, values) => mended_by(
+        Some(Number::Inside(f, values)) => mended_by(
             alloc,
             &[
                 Part::Around("The call of ", f, " stands inside an expression and gives "),
@@ -122,7 +78,7 @@ fn said_of_number(alloc: Global, number: Number) -> Result<Said, AllocError> {
             ],
             "Give its values to variables in an equation of their own, and use these.",
         ),
-        Number::Sides(left, right) => mended_by(
+        Some(Number::Sides(left, right)) => mended_by(
             alloc,
             &[
                 Part::Count(left, "variable"),
@@ -132,13 +88,6 @@ fn said_of_number(alloc: Global, number: Number) -> Result<Said, AllocError> {
             ],
             "Write as many variables on the left as the right side has values.",
         ),
-    }
-}
-
-/// `E14`
-pub(crate) fn wrong_arity(alloc: Global, spot: &Spot) -> Result<Said, AllocError> {
-    match wrong_in(spot) {
-        Some(number) => said_of_number(alloc, number),
         None => usual(alloc, spot.error),
     }
 }
@@ -164,34 +113,20 @@ fn are_names(patterns: &[Pattern], names: &[DeclaredName]) -> bool {
     true
 }
 
-/// Whether a name of an enumeration is one of the patterns.
-fn is_among(patterns: &[Pattern], name: &Name) -> bool {
-    for pattern in patterns {
-        if is_named(pattern, name) {
-            return true;
-        }
-    }
-    false
-}
-
 /// The first name of an enumeration that is none of the patterns.
 fn missing<'a>(patterns: &[Pattern], names: &'a [DeclaredName]) -> Option<&'a str> {
     for declared in names {
-        if !is_among(patterns, &declared.name) {
+        let mut is_among = false;
+        for pattern in patterns {
+            if is_named(pattern, &declared.name) {
+                is_among = true;
+            }
+        }
+        if !is_among {
             return Some(declared.name.as_str());
         }
     }
     None
-}
-
-/// The names of the enumeration that a variable is of.
-fn names_for<'a>(catalog: &Catalog<'a>, scope: &Scope, x: &str) -> Option<&'a [DeclaredName]> {
-    match scope.kind(x) {
-        Some(Kind::Enum(place, _)) => {
-            Some(type_at_place(catalog.program(), place)?.names.as_slice())
-        }
-        _ => None,
-    }
 }
 
 /// A merge on an enumeration whose branches aren't its names: its variable, its patterns, and these names.
@@ -202,35 +137,33 @@ struct Merged<'a> {
     names: &'a [DeclaredName],
 }
 
-/// The merge that a part of an expression is, where its branches aren't the names of an enumeration.
-fn bad_merge_at<'a>(catalog: &Catalog<'a>, scope: &Scope, e: &'a Expr) -> Option<Merged<'a>> {
-    let Expr::Merge(x, patterns, _) = e else {
-        return None;
-    };
-    let names = names_for(catalog, scope, x.as_str())?;
-    if are_names(patterns.as_slice(), names) {
-        return None;
-    }
-    Some(Merged {
-        variable: x.as_str(),
-        patterns: patterns.as_slice(),
-        names,
-    })
-}
-
-/// The first such merge of an equation.
+/// The first merge of an equation whose branches aren't the names of the enumeration that its variable is of.
 fn bad_merge_in<'a>(spot: &Spot<'_, 'a>) -> Option<Merged<'a>> {
     for e in spot.parts {
-        let found = bad_merge_at(spot.catalog, spot.scope, *e);
-        if found.is_some() {
-            return found;
+        if let Expr::Merge(x, patterns, _) = *e {
+            if let Some(Kind::Enum(place, _)) = spot.scope.kind(x.as_str()) {
+                if let Some(declared) = type_at_place(spot.catalog.program(), place) {
+                    let (variable, patterns) = (x.as_str(), patterns.as_slice());
+                    let names = declared.names.as_slice();
+                    if !are_names(patterns, names) {
+                        return Some(Merged {
+                            variable,
+                            patterns,
+                            names,
+                        });
+                    }
+                }
+            }
         }
     }
     None
 }
 
-/// How a merge on an enumeration is told.
-fn said_of_merge(alloc: Global, merged: &Merged) -> Result<Said, AllocError> {
+/// `E19`
+pub(crate) fn bad_merge(alloc: Global, spot: &Spot) -> Result<Said, AllocError> {
+    let Some(merged) = bad_merge_in(spot) else {
+        return usual(alloc, spot.error);
+    };
     let mend = [
         Part::Words("Write a branch for each name of the type, in this order: "),
         Part::Labels(merged.names),
@@ -255,13 +188,5 @@ fn said_of_merge(alloc: Global, merged: &Merged) -> Result<Said, AllocError> {
             )],
             &mend,
         ),
-    }
-}
-
-/// `E19`
-pub(crate) fn bad_merge(alloc: Global, spot: &Spot) -> Result<Said, AllocError> {
-    match bad_merge_in(spot) {
-        Some(merged) => said_of_merge(alloc, &merged),
-        None => usual(alloc, spot.error),
     }
 }

@@ -4,11 +4,10 @@ use crate::find::node_named;
 use crate::naming::near_variable;
 use crate::near::is_near;
 use lulimits::limits::{LONGEST_SITE_NAME, MOST_CAPACITY};
-use lulist::Name;
 use lunames::Places;
 use luplace_file::PlaceError;
 use lustat_scope::Scope;
-use lutree::{Equation, Node, Program};
+use lutree::{Node, Program};
 use std::alloc::{AllocError, Global};
 use toml::{Table, Value};
 
@@ -53,19 +52,14 @@ pub(crate) enum Blamed<'a> {
     Nothing,
 }
 
-/// What a key has.
-fn value_at<'a>(table: &'a Table, key: &str) -> Option<&'a Value> {
-    table.get(key)
-}
-
 /// The whole number that a key has.
 fn number_at(table: &Table, key: &str) -> Option<i64> {
-    value_at(table, key)?.as_integer()
+    table.get(key)?.as_integer()
 }
 
 /// Whether a key has a whole number, or nothing.
 fn is_number(table: &Table, key: &str) -> bool {
-    match value_at(table, key) {
+    match table.get(key) {
         Some(value) => value.as_integer().is_some(),
         None => true,
     }
@@ -73,73 +67,43 @@ fn is_number(table: &Table, key: &str) -> bool {
 
 /// The entries of `place`.
 fn entries_of(table: &Table) -> Option<&Table> {
-    value_at(table, "place")?.as_table()
+    table.get("place")?.as_table()
 }
 
 fn is_key(key: &str) -> bool {
     key == "version" || key == "sites" || key == "default" || key == "capacity" || key == "place"
 }
 
-/// The first key that a placement hasn't.
-fn unknown_key(table: &Table) -> Option<&str> {
-    for (key, _) in table {
-        if !is_key(key.as_str()) {
-            return Some(key.as_str());
-        }
-    }
-    None
-}
-
-fn are_name_bytes(bytes: &[u8]) -> bool {
-    for byte in bytes {
+/// Whether a site may have the name.
+fn is_site_name(name: &[u8]) -> bool {
+    for byte in name {
         if !byte.is_ascii_alphanumeric() && *byte != b'_' {
             return false;
         }
     }
-    true
-}
-
-/// Whether a site may have the name.
-fn is_site_name(name: &[u8]) -> bool {
     match name {
+        [first, ..] => !first.is_ascii_digit() && name.len() <= LONGEST_SITE_NAME,
         [] => false,
-        [first, ..] => {
-            !first.is_ascii_digit() && name.len() <= LONGEST_SITE_NAME && are_name_bytes(name)
-        }
     }
-}
-
-/// What is wrong in the array `sites`.
-fn bad_name(values: &[Value]) -> Option<Blamed<'_>> {
-    for value in values {
-        match value.as_str() {
-            None => return Some(Blamed::Value("sites")),
-            Some(name) => if !is_site_name(name.as_bytes()) {
-                return Some(Blamed::BadName(name));
-            },
-        }
-    }
-    None
 }
 
 /// What is wrong with `sites`.
 fn bad_sites(table: &Table) -> Option<Blamed<'_>> {
-    let Some(value) = value_at(table, "sites") else {
+    let Some(value) = table.get("sites") else {
         return Some(Blamed::NoSites);
     };
-    match value.as_array() {
-        Some(values) => bad_name(values),
-        None => Some(Blamed::Value("sites")),
-    }
-}
-
-fn are_texts(values: &[Value]) -> bool {
+    let Some(values) = value.as_array() else {
+        return Some(Blamed::Value("sites"));
+    };
     for value in values {
-        if value.as_str().is_none() {
-            return false;
+        let Some(name) = value.as_str() else {
+            return Some(Blamed::Value("sites"));
+        };
+        if !is_site_name(name.as_bytes()) {
+            return Some(Blamed::BadName(name));
         }
     }
-    true
+    None
 }
 
 /// Whether a value names sites.
@@ -147,30 +111,22 @@ fn is_choice(value: &Value, with_arrays: bool) -> bool {
     if value.as_str().is_some() {
         return true;
     }
-    match value.as_array() {
-        Some(values) => with_arrays && !values.is_empty() && are_texts(values),
-        None => false,
+    let Some(values) = value.as_array() else {
+        return false;
+    };
+    for value in values {
+        if value.as_str().is_none() {
+            return false;
+        }
     }
+    with_arrays && !values.is_empty()
 }
 
-/// Whether several sites may be named at once.
-fn has_arrays(table: &Table) -> bool {
-    match number_at(table, "version") {
-        Some(number) => number != 1,
-        None => false,
-    }
-}
-
-/// The default, where it names no sites.
-fn bad_default(table: &Table) -> Option<Blamed<'_>> {
-    match value_at(table, "default") {
-        Some(value) if !is_choice(value, has_arrays(table)) => Some(Blamed::Value("default")),
-        _ => None,
-    }
-}
-
-/// The first entry that names no sites.
-fn bad_entry(entries: &Table, with_arrays: bool) -> Option<Blamed<'_>> {
+/// What is wrong with `place`.
+fn bad_place(table: &Table, with_arrays: bool) -> Option<Blamed<'_>> {
+    let Some(entries) = table.get("place")?.as_table() else {
+        return Some(Blamed::Value("place"));
+    };
     for (key, value) in entries {
         if !is_choice(value, with_arrays) {
             return Some(Blamed::Entry(key.as_str()));
@@ -179,51 +135,29 @@ fn bad_entry(entries: &Table, with_arrays: bool) -> Option<Blamed<'_>> {
     None
 }
 
-/// What is wrong with `place`.
-fn bad_place(table: &Table) -> Option<Blamed<'_>> {
-    match entries_of(table) {
-        Some(entries) => bad_entry(entries, has_arrays(table)),
-        None if value_at(table, "place").is_some() => Some(Blamed::Value("place")),
-        None => None,
-    }
-}
-
-/// What is wrong with what names sites.
-fn bad_choice(table: &Table) -> Option<Blamed<'_>> {
-    let found = bad_sites(table);
-    if found.is_some() {
-        return found;
-    }
-    let found = bad_default(table);
-    if found.is_some() {
-        return found;
-    }
-    if !is_number(table, "capacity") {
-        return Some(Blamed::Value("capacity"));
-    }
-    bad_place(table)
-}
-
 /// `P02`
 fn bad_key(table: &Table) -> Blamed<'_> {
-    if let Some(key) = unknown_key(table) {
-        return Blamed::Unknown(key);
+    for (key, _) in table {
+        if !is_key(key.as_str()) {
+            return Blamed::Unknown(key.as_str());
+        }
     }
     if !is_number(table, "version") {
         return Blamed::Value("version");
     }
-    bad_choice(table).unwrap_or(Blamed::Nothing)
-}
-
-/// How many sites there are.
-fn site_count(table: &Table) -> usize {
-    match value_at(table, "sites") {
-        Some(value) => match value.as_array() {
-            Some(values) => values.len(),
-            None => 0,
-        },
-        None => 0,
+    if let Some(found) = bad_sites(table) {
+        return found;
     }
+    let with_arrays = number_at(table, "version").unwrap_or(1) != 1;
+    if let Some(value) = table.get("default") {
+        if !is_choice(value, with_arrays) {
+            return Blamed::Value("default");
+        }
+    }
+    if !is_number(table, "capacity") {
+        return Blamed::Value("capacity");
+    }
+    bad_place(table, with_arrays).unwrap_or(Blamed::Nothing)
 }
 
 /// `P07` of a text that isn't too long.
@@ -236,16 +170,13 @@ fn out_of_range(table: &Table) -> Blamed<'_> {
     if capacity < 1 || capacity > i64::from(MOST_CAPACITY) {
         return Blamed::Capacity;
     }
-    Blamed::Sites(site_count(table))
-}
-
-/// The texts of an array.
-fn texts_of(alloc: Global, values: &[Value]) -> Result<Vec<&str>, AllocError> {
-    let mut texts = Vec::new(alloc);
-    for value in values {
-        texts.push(value.as_str().unwrap_or(""))?;
+    match table.get("sites") {
+        Some(value) => match value.as_array() {
+            Some(values) => Blamed::Sites(values.len()),
+            None => Blamed::Sites(0),
+        },
+        None => Blamed::Sites(0),
     }
-    Ok(texts)
 }
 
 /// The first of some texts that stands before too, by the table of them.
@@ -264,40 +195,34 @@ fn twice_in(alloc: Global, value: &Value) -> Result<Option<&str>, AllocError> {
     let Some(values) = value.as_array() else {
         return Ok(None);
     };
-    let places = Places::new(alloc, texts_of(alloc, values)?)?;
+    let mut texts = Vec::new(alloc);
+    for value in values {
+        texts.push(value.as_str().unwrap_or(""))?;
+    }
+    let places = Places::new(alloc, texts)?;
     Ok(second_text(&places, values))
-}
-
-/// The first name that stands twice in what a key has.
-fn twice_at<'a>(alloc: Global, table: &'a Table, key: &str) -> Result<Option<&'a str>, AllocError> {
-    match value_at(table, key) {
-        Some(value) => twice_in(alloc, value),
-        None => Ok(None),
-    }
-}
-
-/// The first entry that names a site twice.
-fn twice_placed(alloc: Global, table: &Table) -> Result<Blamed<'_>, AllocError> {
-    let Some(entries) = entries_of(table) else {
-        return Ok(Blamed::Nothing);
-    };
-    for (key, value) in entries {
-        if let Some(name) = twice_in(alloc, value)? {
-            return Ok(Blamed::Twice(Holder::Entry(key.as_str()), name));
-        }
-    }
-    Ok(Blamed::Nothing)
 }
 
 /// `P06`
 fn twice(alloc: Global, table: &Table) -> Result<Blamed<'_>, AllocError> {
-    if let Some(name) = twice_at(alloc, table, "sites")? {
-        return Ok(Blamed::Twice(Holder::Sites, name));
+    if let Some(value) = table.get("sites") {
+        if let Some(name) = twice_in(alloc, value)? {
+            return Ok(Blamed::Twice(Holder::Sites, name));
+        }
     }
-    if let Some(name) = twice_at(alloc, table, "default")? {
-        return Ok(Blamed::Twice(Holder::Default, name));
+    if let Some(value) = table.get("default") {
+        if let Some(name) = twice_in(alloc, value)? {
+            return Ok(Blamed::Twice(Holder::Default, name));
+        }
     }
-    twice_placed(alloc, table)
+    if let Some(entries) = entries_of(table) {
+        for (key, value) in entries {
+            if let Some(name) = twice_in(alloc, value)? {
+                return Ok(Blamed::Twice(Holder::Entry(key.as_str()), name));
+            }
+        }
+    }
+    Ok(Blamed::Nothing)
 }
 
 /// The texts of a value as a slice of values: of an array its own, of another the value alone.
@@ -329,26 +254,28 @@ fn foreign_among<'a>(sites: &[Value], values: &'a [Value]) -> Option<&'a str> {
     None
 }
 
-/// One of `sites` that is spelled nearly so.
-fn near_site<'a>(sites: &'a [Value], name: &str) -> Option<&'a str> {
+/// The name in a value that isn't one of `sites`, and one of these that is spelled nearly so.
+fn foreign_in<'a>(sites: &'a [Value], holder: Holder<'a>, value: &'a Value) -> Option<Blamed<'a>> {
+    let name = foreign_among(sites, values_of(value))?;
     for value in sites {
         let site = value.as_str().unwrap_or("");
         if is_near(site, name) {
-            return Some(site);
+            return Some(Blamed::Foreign(holder, name, Some(site)));
         }
     }
-    None
+    Some(Blamed::Foreign(holder, name, None))
 }
 
-/// The name in a value that isn't one of `sites`.
-fn foreign_in<'a>(sites: &'a [Value], holder: Holder<'a>, value: &'a Value) -> Option<Blamed<'a>> {
-    let name = foreign_among(sites, values_of(value))?;
-    Some(Blamed::Foreign(holder, name, near_site(sites, name)))
-}
-
-/// The first entry of a name that isn't one of `sites`.
-fn foreign_placed<'a>(sites: &'a [Value], entries: &'a Table) -> Option<Blamed<'a>> {
-    for (key, value) in entries {
+/// `P03`: a name in `default` or in `place` that isn't one of `sites`.
+fn foreign(table: &Table) -> Option<Blamed<'_>> {
+    let sites = values_of(table.get("sites")?);
+    if let Some(value) = table.get("default") {
+        let found = foreign_in(sites, Holder::Default, value);
+        if found.is_some() {
+            return found;
+        }
+    }
+    for (key, value) in entries_of(table)? {
         let found = foreign_in(sites, Holder::Entry(key.as_str()), value);
         if found.is_some() {
             return found;
@@ -357,67 +284,39 @@ fn foreign_placed<'a>(sites: &'a [Value], entries: &'a Table) -> Option<Blamed<'
     None
 }
 
-/// A name in `default` that isn't one of `sites`.
-fn foreign_default<'a>(sites: &'a [Value], table: &'a Table) -> Option<Blamed<'a>> {
-    foreign_in(sites, Holder::Default, value_at(table, "default")?)
-}
-
-/// A name in `default` or in `place` that isn't one of `sites`.
-fn foreign_of(table: &Table) -> Option<Blamed<'_>> {
-    let sites = values_of(value_at(table, "sites")?);
-    let found = foreign_default(sites, table);
-    if found.is_some() {
-        return found;
-    }
-    foreign_placed(sites, entries_of(table)?)
-}
-
-/// `P03`
-fn foreign(table: &Table) -> Blamed<'_> {
-    foreign_of(table).unwrap_or(Blamed::Nothing)
-}
-
 /// `P04`
-fn unknown_variable<'a>(table: &'a Table, scope: &Scope<'a>) -> Blamed<'a> {
-    let Some(entries) = entries_of(table) else {
-        return Blamed::Nothing;
-    };
-    for (key, _) in entries {
+fn unknown_variable<'a>(table: &'a Table, scope: &Scope<'a>) -> Option<Blamed<'a>> {
+    for (key, _) in entries_of(table)? {
         let name = key.as_str();
         if scope.place(name).is_none() {
-            return Blamed::Variable(name, near_variable(scope, name));
+            return Some(Blamed::Variable(name, near_variable(scope, name)));
         }
     }
-    Blamed::Nothing
+    None
 }
 
 /// What a variable's entry has.
 fn entry_of<'a>(table: &'a Table, name: &str) -> Option<&'a Value> {
-    value_at(entries_of(table)?, name)
+    entries_of(table)?.get(name)
 }
 
 /// `P05`
-fn unplaced<'a>(table: &'a Table, scope: &Scope<'a>) -> Blamed<'a> {
+fn unplaced<'a>(table: &Table, scope: &Scope<'a>) -> Option<Blamed<'a>> {
     for declared in scope.declarations() {
         let name = declared.name.as_str();
         if entry_of(table, name).is_none() {
-            return Blamed::Unplaced(name);
+            return Some(Blamed::Unplaced(name));
         }
     }
-    Blamed::Nothing
+    None
 }
 
-/// What says where a variable stands.
-fn sites_of<'a>(table: &'a Table, name: &str) -> Option<&'a Value> {
+/// What says where a variable stands: one value, or several in an array.
+fn sites_of<'a>(table: &'a Table, name: &str) -> Option<&'a [Value]> {
     match entry_of(table, name) {
-        None => value_at(table, "default"),
-        found => found,
+        Some(value) => Some(values_of(value)),
+        None => Some(values_of(table.get("default")?)),
     }
-}
-
-/// Whether each of some texts is one of others.
-fn are_among(values: &[Value], others: &[Value]) -> bool {
-    foreign_among(others, values).is_none()
 }
 
 /// Whether two variables stand at the same sites.
@@ -425,35 +324,21 @@ fn are_together(table: &Table, first: &str, second: &str) -> bool {
     let (Some(a), Some(b)) = (sites_of(table, first), sites_of(table, second)) else {
         return true;
     };
-    are_among(values_of(a), values_of(b)) && are_among(values_of(b), values_of(a))
+    foreign_among(b, a).is_none() && foreign_among(a, b).is_none()
 }
 
-/// A variable that stands elsewhere than the first of its equation.
-fn apart_in<'a>(table: &Table, first: &'a Name, others: &'a [Name]) -> Option<Blamed<'a>> {
-    for x in others {
-        if !are_together(table, first.as_str(), x.as_str()) {
-            return Some(Blamed::Apart(first.as_str(), x.as_str()));
+/// `P08`: a variable that stands elsewhere than the first of its equation.
+fn apart<'a>(table: &Table, node: &'a Node) -> Option<Blamed<'a>> {
+    for equation in node.equations.as_slice() {
+        if let [first, others @ ..] = equation.left.as_slice() {
+            for x in others {
+                if !are_together(table, first.as_str(), x.as_str()) {
+                    return Some(Blamed::Apart(first.as_str(), x.as_str()));
+                }
+            }
         }
     }
     None
-}
-
-/// The same of an equation.
-fn apart_of<'a>(table: &Table, equation: &'a Equation) -> Option<Blamed<'a>> {
-    match equation.left.as_slice() {
-        [first, others @ ..] => apart_in(table, first, others),
-        [] => None,
-    }
-}
-
-/// `P08`
-fn apart<'a>(table: &'a Table, node: &'a Node) -> Blamed<'a> {
-    for equation in node.equations.as_slice() {
-        if let Some(found) = apart_of(table, equation) {
-            return found;
-        }
-    }
-    Blamed::Nothing
 }
 
 /// `P04`, `P05` and `P08`, by the main node.
@@ -464,11 +349,12 @@ fn blamed_in_node<'a>(
     error: &PlaceError,
 ) -> Result<Blamed<'a>, AllocError> {
     let scope = Scope::new(alloc, node)?;
-    match error {
-        PlaceError::UnknownVariable => Ok(unknown_variable(table, &scope)),
-        PlaceError::Unplaced => Ok(unplaced(table, &scope)),
-        _ => Ok(apart(table, node)),
-    }
+    let found = match error {
+        PlaceError::UnknownVariable => unknown_variable(table, &scope),
+        PlaceError::Unplaced => unplaced(table, &scope),
+        _ => apart(table, node),
+    };
+    Ok(found.unwrap_or(Blamed::Nothing))
 }
 
 /// What of a placement is refused, by its table and the main node.
@@ -483,7 +369,7 @@ pub(crate) fn blamed_in<'a>(
         PlaceError::BadKey => Ok(bad_key(table)),
         PlaceError::OutOfRange => Ok(out_of_range(table)),
         PlaceError::DuplicateSite => twice(alloc, table),
-        PlaceError::UnknownSite => Ok(foreign(table)),
+        PlaceError::UnknownSite => Ok(foreign(table).unwrap_or(Blamed::Nothing)),
         PlaceError::UnknownVariable | PlaceError::Unplaced | PlaceError::SplitCall => {
             match node_named(program, main) {
                 Some(node) => blamed_in_node(alloc, table, node, error),

@@ -9,6 +9,7 @@ use lustat_classes::{is_one, least_classes, lefts_are_known, needs_met};
 use lustat_scope::{ClockRef, PatternRef, Scope};
 use lutree::{Expr, Infix, Prefix};
 use std::alloc::{AllocError, Global};
+use std::slice;
 
 /// How many variables are followed from one to what it is computed from.
 const FOLLOWED: usize = 8;
@@ -38,76 +39,38 @@ struct Gap<'a> {
     part: &'a Expr,
 }
 
-/// An expression that something needs, where it may have no value at first.
-fn open_gap<'a>(scope: &Scope, marks: &[bool], need: Need<'a>, part: &'a Expr) -> Option<Gap<'a>> {
-    if is_one(scope, marks, part) {
-        return Some(Gap { need, part });
-    }
-    None
-}
-
-/// The first of some expressions that may have no value at first.
-fn first_gap<'a>(
-    scope: &Scope,
-    marks: &[bool],
-    need: Need<'a>,
-    all: &'a [Expr],
-) -> Option<Gap<'a>> {
-    for part in all {
-        let found = open_gap(scope, marks, need, part);
-        if found.is_some() {
-            return found;
-        }
-    }
-    None
-}
-
 /// What may have no value at first in a part of an expression, but for the parts inside it, and needs one.
 fn gap_at<'a>(scope: &Scope, marks: &[bool], e: &'a Expr) -> Option<Gap<'a>> {
-    match e {
-        Expr::Unary(Prefix::Pre, part) => open_gap(scope, marks, Need::Before, part),
-        Expr::Binary(Infix::FollowedBy, _, part) => {
-            open_gap(scope, marks, Need::FollowedBy, part)
+    let (need, all) = match e {
+        Expr::Unary(Prefix::Pre, part) => (Need::Before, slice::from_ref(&**part)),
+        Expr::Binary(Infix::FollowedBy, _, part) => (Need::FollowedBy, slice::from_ref(&**part)),
+        Expr::Merge(c, _, branches) => (Need::Branch(c.as_str()), branches.as_slice()),
+        Expr::Call(f, arguments) => (Need::Argument(f.as_str()), arguments.as_slice()),
+        Expr::Current(x) if !needs_met(scope, marks, e) => {
+            let need = Need::Held(x.as_str());
+            return Some(Gap { need, part: e });
         }
-        Expr::Current(x) if !needs_met(scope, marks, e) => Some(Gap {
-            need: Need::Held(x.as_str()),
-            part: e,
-        }),
-        Expr::Merge(c, _, branches) => {
-            first_gap(scope, marks, Need::Branch(c.as_str()), branches)
-        }
-        Expr::Call(f, arguments) => {
-            first_gap(scope, marks, Need::Argument(f.as_str()), arguments)
-        }
-        _ => None,
-    }
-}
-
-/// The first of some variables that is an output.
-fn first_output<'a>(scope: &Scope, left: &'a [Name]) -> Option<&'a str> {
-    for x in left {
-        if scope.is_output(x.as_str()) {
-            return Some(x.as_str());
+        _ => return None,
+    };
+    for part in all {
+        if is_one(scope, marks, part) {
+            return Some(Gap { need, part });
         }
     }
     None
 }
 
-/// What needs the right side of an equation that defines these variables.
+/// What needs the right side of an equation that defines these variables: an output, or else a clock.
 fn need_of<'a>(scope: &Scope, left: &'a [Name]) -> Option<Need<'a>> {
-    match first_output(scope, left) {
-        Some(y) => Some(Need::Output(y)),
-        None => Some(Need::Clock(left.first()?.as_str())),
+    for x in left {
+        if scope.is_output(x.as_str()) {
+            return Some(Need::Output(x.as_str()));
+        }
     }
+    Some(Need::Clock(left.first()?.as_str()))
 }
 
-/// The right side of an equation, where what it defines needs a value at first, and it may have none.
-fn gap_of_sides<'a>(spot: &Spot<'_, 'a>, marks: &[bool]) -> Option<Gap<'a>> {
-    let need = need_of(spot.scope, spot.equation.left.as_slice())?;
-    open_gap(spot.scope, marks, need, &spot.equation.right)
-}
-
-/// What may have no value at first in an equation, and needs one.
+/// What may have no value at first in an equation, and needs one: first in its right side, then what it defines.
 fn gap_in<'a>(spot: &Spot<'_, 'a>, marks: &[bool]) -> Option<Gap<'a>> {
     for e in spot.parts {
         let found = gap_at(spot.scope, marks, *e);
@@ -115,7 +78,12 @@ fn gap_in<'a>(spot: &Spot<'_, 'a>, marks: &[bool]) -> Option<Gap<'a>> {
             return found;
         }
     }
-    gap_of_sides(spot, marks)
+    let need = need_of(spot.scope, spot.equation.left.as_slice())?;
+    let part = &spot.equation.right;
+    if is_one(spot.scope, marks, part) {
+        return Some(Gap { need, part });
+    }
+    None
 }
 
 /// The `pre` or the variable because of which an expression may have no value at first.
@@ -151,19 +119,17 @@ fn right_of<'a>(scope: &Scope<'a>, name: &str) -> Option<&'a Expr> {
     None
 }
 
-/// What a variable's right side may have no value for; an expression that is no variable stands for itself.
-fn cause_behind<'a>(scope: &Scope<'a>, marks: &[bool], e: &'a Expr) -> Option<&'a Expr> {
-    match e {
-        Expr::Variable(x) => cause_of(scope, marks, right_of(scope, x.as_str())?),
-        _ => Some(e),
-    }
-}
-
 /// The `pre` that is at the bottom of it, through the variables in between; of many the first alone are followed.
 fn root_of<'a>(scope: &Scope<'a>, marks: &[bool], e: &'a Expr) -> &'a Expr {
     let mut at = e;
     for _ in 0..FOLLOWED {
-        match cause_behind(scope, marks, at) {
+        let Expr::Variable(x) = at else {
+            return at;
+        };
+        let Some(right) = right_of(scope, x.as_str()) else {
+            return at;
+        };
+        match cause_of(scope, marks, right) {
             Some(next) => at = next,
             None => return at,
         }
@@ -184,34 +150,23 @@ fn need_part(need: Need<'_>) -> Part<'_> {
     }
 }
 
-/// The expression in which the cause of a gap is looked for.
-fn part_of<'a>(scope: &Scope<'a>, gap: &Gap<'a>) -> Option<&'a Expr> {
-    match gap.need {
-        Need::Held(v) => right_of(scope, v),
-        _ => Some(gap.part),
-    }
-}
-
-/// The cause of a gap; what has the gap, where none is seen.
-fn cause_in<'a>(scope: &Scope<'a>, marks: &[bool], gap: &Gap<'a>) -> &'a Expr {
-    match part_of(scope, gap) {
-        Some(e) => cause_of(scope, marks, e).unwrap_or(gap.part),
-        None => gap.part,
-    }
-}
-
-/// How a gap is told.
+/// How a gap is told, with its cause; with what has it, where no cause is seen.
 fn said_of_gap<'a>(
     alloc: Global,
     spot: &Spot<'_, 'a>,
     marks: &[bool],
     gap: &Gap<'a>,
 ) -> Result<Said, AllocError> {
-    let root = root_of(spot.scope, marks, cause_in(spot.scope, marks, gap));
+    let scope = spot.scope;
+    let part = match gap.need {
+        Need::Held(v) => right_of(scope, v).unwrap_or(gap.part),
+        _ => gap.part,
+    };
+    let cause = cause_of(scope, marks, part).unwrap_or(gap.part);
     mended_by(
         alloc,
         &[
-            Part::Value(root),
+            Part::Value(root_of(scope, marks, cause)),
             Part::Words(" has no value at the first instant, and "),
             need_part(gap.need),
             Part::Words(" needs one there."),
@@ -243,10 +198,12 @@ fn is_constant(e: &Expr, pattern: PatternRef) -> bool {
     }
 }
 
-/// Whether an expression begins with the constant that a pattern asks for.
-fn begins_with(e: &Expr, pattern: PatternRef) -> bool {
-    match e {
-        Expr::Binary(Infix::Arrow | Infix::FollowedBy, a, _) => is_constant(a, pattern),
+/// Whether the equation of a clock's variable begins with the constant that a pattern asks for.
+fn is_begun(scope: &Scope, clock: &str, pattern: PatternRef) -> bool {
+    match right_of(scope, clock) {
+        Some(Expr::Binary(Infix::Arrow | Infix::FollowedBy, first, _)) => {
+            is_constant(first, pattern)
+        }
         _ => false,
     }
 }
@@ -259,57 +216,43 @@ struct Held<'a> {
     pattern: PatternRef<'a>,
 }
 
-/// Whether the equation of a clock's variable begins with the constant that a pattern asks for.
-fn is_begun(scope: &Scope, clock: &str, pattern: PatternRef) -> bool {
-    match right_of(scope, clock) {
-        Some(right) => begins_with(right, pattern),
-        None => false,
-    }
-}
-
-/// The variable of a `current` whose clock may be false at first.
-fn held_at<'a>(scope: &Scope<'a>, e: &'a Expr) -> Option<Held<'a>> {
-    let Expr::Current(x) = e else {
-        return None;
-    };
-    let ClockRef::On(clock, pattern) = scope.clock(x.as_str())? else {
-        return None;
-    };
-    if is_begun(scope, clock, pattern) {
-        return None;
-    }
-    Some(Held {
-        variable: x.as_str(),
-        clock,
-        pattern,
-    })
-}
-
-/// The first such variable in an equation.
+/// The first variable of a `current` in an equation whose clock may be false at first.
 fn held_in<'a>(spot: &Spot<'_, 'a>) -> Option<Held<'a>> {
     for e in spot.parts {
-        let found = held_at(spot.scope, *e);
-        if found.is_some() {
-            return found;
+        if let Expr::Current(x) = *e {
+            let variable = x.as_str();
+            if let Some(ClockRef::On(clock, pattern)) = spot.scope.clock(variable) {
+                if !is_begun(spot.scope, clock, pattern) {
+                    return Some(Held {
+                        variable,
+                        clock,
+                        pattern,
+                    });
+                }
+            }
         }
     }
     None
 }
 
-/// How such a `current` is told.
-fn said_of_held(alloc: Global, scope: &Scope, held: &Held) -> Result<Said, AllocError> {
+/// `E31`
+pub(crate) fn current_nil(alloc: Global, spot: &Spot) -> Result<Said, AllocError> {
+    let Some(held) = held_in(spot) else {
+        return usual(alloc, spot.error);
+    };
+    let sign = Part::Sign(held.pattern);
     let mend = [
         Part::Around(
             "Put ",
             held.variable,
             " on a clock whose equation begins so, as `k = ",
         ),
-        Part::Sign(held.pattern),
+        sign,
         Part::Words(" -> ..`."),
     ];
     let variable = Part::Around("", held.variable, " is on ");
     let clock = Part::Clock(ClockRef::On(held.clock, held.pattern));
-    if scope.is_input(held.clock) {
+    if spot.scope.is_input(held.clock) {
         let why = Part::Around(
             ", which may be false at first: ",
             held.clock,
@@ -322,18 +265,6 @@ fn said_of_held(alloc: Global, scope: &Scope, held: &Held) -> Result<Said, Alloc
         held.clock,
         " doesn't begin with `",
     );
-    let begin = Part::Sign(held.pattern);
-    say(
-        alloc,
-        &[variable, clock, why, begin, Part::Words(" ->`.")],
-        &mend,
-    )
-}
-
-/// `E31`
-pub(crate) fn current_nil(alloc: Global, spot: &Spot) -> Result<Said, AllocError> {
-    match held_in(spot) {
-        Some(held) => said_of_held(alloc, spot.scope, &held),
-        None => usual(alloc, spot.error),
-    }
+    let end = Part::Words(" ->`.");
+    say(alloc, &[variable, clock, why, sign, end], &mend)
 }

@@ -4,11 +4,11 @@ use crate::find::{Spot, role_at};
 use crate::said::{Said, mended_by, say};
 use crate::usual::{mend_of, usual};
 use crate::words::Part;
-use lulist::Name;
 use lustat_rules::StatError;
-use lustat_scope::{Catalog, ClockRef, PatternRef, Scope};
-use lutree::{Condition, Declaration, Expr, Kind, Node, Pattern, Program};
+use lustat_scope::{ClockRef, PatternRef, Scope};
+use lutree::{Declaration, Expr, Kind, Node, Pattern, Program};
 use std::alloc::{AllocError, Global};
+use std::slice;
 
 /// Two things of one equation that stand on two clocks.
 #[derive(Clone, Copy)]
@@ -19,16 +19,7 @@ struct Apart<'a> {
     other: ClockRef<'a>,
 }
 
-/// The clock of the variable that the clock of a variable names.
-fn clock_under<'a>(scope: &Scope<'a>, x: &Name) -> Option<ClockRef<'a>> {
-    match scope.clock(x.as_str())? {
-        ClockRef::On(c, _) => scope.clock(c),
-        ClockRef::Base => None,
-    }
-}
-
 /// The clock that an expression stands on, if it fits one; none where it may stand on any, or names no variable.
-#[cycle(clocks)]
 fn clock_of<'a>(scope: &Scope<'a>, e: &'a Expr) -> Option<ClockRef<'a>> {
     match e {
         Expr::Number(_) | Expr::Truth(_) | Expr::Label(_) => None,
@@ -47,33 +38,34 @@ fn clock_of<'a>(scope: &Scope<'a>, e: &'a Expr) -> Option<ClockRef<'a>> {
             found => found,
         },
         Expr::When(_, clock) => Some(ClockRef::of(clock)),
-        Expr::Current(x) => clock_under(scope, x),
-        Expr::Call(_, arguments) => clock_of_arguments(scope, arguments),
-    }
-}
-
-/// The clock of the first argument with one.
-#[cycle(clocks)]
-fn clock_of_arguments<'a>(scope: &Scope<'a>, arguments: &'a [Expr]) -> Option<ClockRef<'a>> {
-    for e in arguments {
-        let found = clock_of(scope, e);
-        if found.is_some() {
-            return found;
+        Expr::Current(x) => match scope.clock(x.as_str())? {
+            ClockRef::On(c, _) => scope.clock(c),
+            ClockRef::Base => None,
+        },
+        Expr::Call(_, arguments) => {
+            for argument in arguments {
+                let found = clock_of(scope, argument);
+                if found.is_some() {
+                    return found;
+                }
+            }
+            None
         }
     }
-    None
 }
 
-/// Two things on clocks, where these are two.
-fn apart_between<'a>(
-    first: Part<'a>,
-    on: ClockRef<'a>,
+/// An expression that stands on another clock than something before it.
+fn apart_with<'a>(
+    scope: &Scope<'a>,
+    first: &'a Expr,
     second: Part<'a>,
     other: ClockRef<'a>,
 ) -> Option<Apart<'a>> {
+    let on = clock_of(scope, first)?;
     if on.is(&other) {
         return None;
     }
+    let first = Part::Value(first);
     Some(Apart {
         first,
         on,
@@ -84,87 +76,21 @@ fn apart_between<'a>(
 
 /// Two expressions on two clocks.
 fn apart_of_two<'a>(scope: &Scope<'a>, a: &'a Expr, b: &'a Expr) -> Option<Apart<'a>> {
-    let on = clock_of(scope, a)?;
     let other = clock_of(scope, b)?;
-    apart_between(Part::Value(a), on, Part::Value(b), other)
+    apart_with(scope, a, Part::Value(b), other)
 }
 
-/// Three expressions, of which two stand on two clocks.
-fn apart_of_three<'a>(
-    scope: &Scope<'a>,
-    c: &'a Expr,
-    a: &'a Expr,
-    b: &'a Expr,
-) -> Option<Apart<'a>> {
-    let found = apart_of_two(scope, c, a);
-    if found.is_some() {
-        return found;
-    }
-    let found = apart_of_two(scope, c, b);
-    if found.is_some() {
-        return found;
-    }
-    apart_of_two(scope, a, b)
-}
-
-/// What is sampled, on another clock than the variable behind the `when`.
-fn apart_of_sample<'a>(scope: &Scope<'a>, a: &'a Expr, clock: &'a Condition) -> Option<Apart<'a>> {
-    let on = clock_of(scope, a)?;
-    let other = scope.clock(clock.variable.as_str())?;
-    apart_between(
-        Part::Value(a),
-        on,
-        Part::Name(clock.variable.as_str()),
-        other,
-    )
-}
-
-/// A branch of a merge that isn't on the clock of its pattern.
-fn apart_of_branch<'a>(
-    scope: &Scope<'a>,
-    c: &'a str,
-    pattern: &'a Pattern,
-    e: &'a Expr,
-) -> Option<Apart<'a>> {
-    let on = clock_of(scope, e)?;
-    let sign = PatternRef::of(pattern);
-    let branch = Part::Branch(c, sign);
-    apart_between(Part::Value(e), on, branch, ClockRef::On(c, sign))
-}
-
-/// The first such branch.
-fn apart_of_branches<'a>(
-    scope: &Scope<'a>,
-    c: &'a str,
-    patterns: &'a [Pattern],
-    branches: &'a [Expr],
-) -> Option<Apart<'a>> {
-    for (pattern, e) in patterns.iter().zip(branches) {
-        let found = apart_of_branch(scope, c, pattern, e);
-        if found.is_some() {
-            return found;
-        }
-    }
-    None
-}
-
-/// The first argument with a clock.
-fn first_clocked<'a>(scope: &Scope<'a>, arguments: &'a [Expr]) -> Option<&'a Expr> {
-    for e in arguments {
-        if clock_of(scope, e).is_some() {
-            return Some(e);
-        }
-    }
-    None
-}
-
-/// An argument that isn't on the clock of the first one with a clock.
-fn apart_of_arguments<'a>(scope: &Scope<'a>, arguments: &'a [Expr]) -> Option<Apart<'a>> {
-    let first = first_clocked(scope, arguments)?;
-    for e in arguments {
-        let found = apart_of_two(scope, first, e);
-        if found.is_some() {
-            return found;
+/// The first of some expressions with a clock and another on another clock.
+fn apart_among<'a>(scope: &Scope<'a>, all: &'a [Expr]) -> Option<Apart<'a>> {
+    for first in all {
+        if clock_of(scope, first).is_some() {
+            for other in all {
+                let found = apart_of_two(scope, first, other);
+                if found.is_some() {
+                    return found;
+                }
+            }
+            return None;
         }
     }
     None
@@ -174,50 +100,64 @@ fn apart_of_arguments<'a>(scope: &Scope<'a>, arguments: &'a [Expr]) -> Option<Ap
 fn apart_at<'a>(scope: &Scope<'a>, e: &'a Expr) -> Option<Apart<'a>> {
     match e {
         Expr::Binary(_, a, b) => apart_of_two(scope, a, b),
-        Expr::If(c, a, b) => apart_of_three(scope, c, a, b),
-        Expr::When(a, clock) => apart_of_sample(scope, a, clock),
-        Expr::Merge(c, patterns, branches) => {
-            apart_of_branches(scope, c.as_str(), patterns.as_slice(), branches)
+        Expr::If(c, a, b) => match apart_of_two(scope, c, a) {
+            None => match apart_of_two(scope, c, b) {
+                None => apart_of_two(scope, a, b),
+                found => found,
+            },
+            found => found,
+        },
+        Expr::When(a, clock) => {
+            let name = clock.variable.as_str();
+            apart_with(scope, a, Part::Name(name), scope.clock(name)?)
         }
-        Expr::Call(_, arguments) => apart_of_arguments(scope, arguments),
+        Expr::Merge(c, patterns, branches) => {
+            let name = c.as_str();
+            for (pattern, branch) in patterns.as_slice().iter().zip(branches) {
+                let sign = PatternRef::of(pattern);
+                let side = Part::Branch(name, sign);
+                let found = apart_with(scope, branch, side, ClockRef::On(name, sign));
+                if found.is_some() {
+                    return found;
+                }
+            }
+            None
+        }
+        Expr::Call(_, arguments) => apart_among(scope, arguments),
         _ => None,
     }
-}
-
-/// A variable on the left on another clock than the first.
-fn apart_of_left<'a>(
-    scope: &Scope<'a>,
-    first: &'a Name,
-    on: ClockRef<'a>,
-    x: &'a Name,
-) -> Option<Apart<'a>> {
-    let other = scope.clock(x.as_str())?;
-    apart_between(
-        Part::Name(first.as_str()),
-        on,
-        Part::Name(x.as_str()),
-        other,
-    )
 }
 
 /// A variable on the left and the right side, or two variables on the left, on two clocks.
 fn apart_of_sides<'a>(spot: &Spot<'_, 'a>) -> Option<Apart<'a>> {
     let scope = spot.scope;
-    let (first, others) = spot.equation.left.as_slice().split_first()?;
-    let on = scope.clock(first.as_str())?;
-    for x in others {
-        let found = apart_of_left(scope, first, on, x);
-        if found.is_some() {
-            return found;
+    let (x, others) = spot.equation.left.as_slice().split_first()?;
+    let first = Part::Name(x.as_str());
+    let on = scope.clock(x.as_str())?;
+    for y in others {
+        if let Some(other) = scope.clock(y.as_str()) {
+            if !on.is(&other) {
+                let second = Part::Name(y.as_str());
+                return Some(Apart {
+                    first,
+                    on,
+                    second,
+                    other,
+                });
+            }
         }
     }
-    let right = clock_of(scope, &spot.equation.right)?;
-    apart_between(
-        Part::Name(first.as_str()),
+    let other = clock_of(scope, &spot.equation.right)?;
+    if on.is(&other) {
+        return None;
+    }
+    let second = Part::Words("the right side");
+    Some(Apart {
+        first,
         on,
-        Part::Words("the right side"),
-        right,
-    )
+        second,
+        other,
+    })
 }
 
 /// What stands on two clocks in an equation: first in its right side, then between its sides.
@@ -231,45 +171,16 @@ fn apart_in<'a>(spot: &Spot<'_, 'a>) -> Option<Apart<'a>> {
     apart_of_sides(spot)
 }
 
-/// The variable of a `current` that is on the base clock.
-fn held_for_nothing<'a>(scope: &Scope, e: &'a Expr) -> Option<&'a str> {
-    let Expr::Current(x) = e else {
-        return None;
-    };
-    match scope.clock(x.as_str()) {
-        Some(ClockRef::Base) => Some(x.as_str()),
-        _ => None,
-    }
-}
-
-/// The first such variable of an equation.
+/// The first variable of a `current` in an equation that is on the base clock.
 fn held_in<'a>(spot: &Spot<'_, 'a>) -> Option<&'a str> {
     for e in spot.parts {
-        let found = held_for_nothing(spot.scope, *e);
-        if found.is_some() {
-            return found;
+        if let Expr::Current(x) = *e {
+            if let Some(ClockRef::Base) = spot.scope.clock(x.as_str()) {
+                return Some(x.as_str());
+            }
         }
     }
     None
-}
-
-/// How two things on two clocks are told.
-fn said_of_apart(alloc: Global, error: &StatError, found: &Apart) -> Result<Said, AllocError> {
-    mended_by(
-        alloc,
-        &[
-            Part::Words("Two clocks are joined: "),
-            found.first,
-            Part::Words(" is on "),
-            Part::Clock(found.on),
-            Part::Words(", "),
-            found.second,
-            Part::Words(" is on "),
-            Part::Clock(found.other),
-            Part::Words("."),
-        ],
-        mend_of(error),
-    )
 }
 
 /// `E20`
@@ -286,16 +197,22 @@ pub(crate) fn mismatch(alloc: Global, spot: &Spot) -> Result<Said, AllocError> {
         );
     }
     match apart_in(spot) {
-        Some(found) => said_of_apart(alloc, spot.error, &found),
+        Some(found) => mended_by(
+            alloc,
+            &[
+                Part::Words("Two clocks are joined: "),
+                found.first,
+                Part::Words(" is on "),
+                Part::Clock(found.on),
+                Part::Words(", "),
+                found.second,
+                Part::Words(" is on "),
+                Part::Clock(found.other),
+                Part::Words("."),
+            ],
+            mend_of(spot.error),
+        ),
         None => usual(alloc, spot.error),
-    }
-}
-
-/// The type of what a pattern may be.
-fn asked_by(pattern: &Pattern) -> Kind {
-    match pattern {
-        Pattern::Truth(_) => Kind::Bool,
-        Pattern::Label(label) => label.kind,
     }
 }
 
@@ -307,44 +224,36 @@ struct NoClock<'a> {
     wanted: Kind,
 }
 
-/// A variable that isn't of the type that a pattern asks for.
-fn no_clock<'a>(scope: &Scope, x: &'a str, pattern: &Pattern) -> Option<NoClock<'a>> {
-    let found = scope.kind(x)?;
-    let wanted = asked_by(pattern);
-    if found == wanted {
-        return None;
-    }
-    Some(NoClock {
-        variable: x,
-        found,
-        wanted,
-    })
-}
-
-/// The first such pattern of a merge.
-fn no_clock_of<'a>(scope: &Scope, x: &'a str, patterns: &[Pattern]) -> Option<NoClock<'a>> {
+/// A variable that isn't of the type that one of some patterns asks for.
+fn no_clock<'a>(scope: &Scope, variable: &'a str, patterns: &[Pattern]) -> Option<NoClock<'a>> {
+    let found = scope.kind(variable)?;
     for pattern in patterns {
-        let found = no_clock(scope, x, pattern);
-        if found.is_some() {
-            return found;
+        let wanted = match pattern {
+            Pattern::Truth(_) => Kind::Bool,
+            Pattern::Label(label) => label.kind,
+        };
+        if found != wanted {
+            return Some(NoClock {
+                variable,
+                found,
+                wanted,
+            });
         }
     }
     None
 }
 
-/// The variable that a part of an expression names as a clock, where it isn't one.
-fn no_clock_at<'a>(scope: &Scope, e: &'a Expr) -> Option<NoClock<'a>> {
-    match e {
-        Expr::When(_, clock) => no_clock(scope, clock.variable.as_str(), &clock.pattern),
-        Expr::Merge(x, patterns, _) => no_clock_of(scope, x.as_str(), patterns.as_slice()),
-        _ => None,
-    }
-}
-
-/// The first such variable of an equation.
+/// The first variable that an equation names as a clock and that isn't one.
 fn no_clock_in<'a>(spot: &Spot<'_, 'a>) -> Option<NoClock<'a>> {
     for e in spot.parts {
-        let found = no_clock_at(spot.scope, *e);
+        let found = match *e {
+            Expr::When(_, clock) => {
+                let asked = slice::from_ref(&clock.pattern);
+                no_clock(spot.scope, clock.variable.as_str(), asked)
+            }
+            Expr::Merge(x, patterns, _) => no_clock(spot.scope, x.as_str(), patterns.as_slice()),
+            _ => None,
+        };
         if found.is_some() {
             return found;
         }
@@ -371,22 +280,6 @@ fn said_of_no_clock<'a>(
     )
 }
 
-/// The variable that a declaration names as a clock, where it isn't one.
-fn no_clock_declared<'a>(scope: &Scope, declared: &'a Declaration) -> Option<NoClock<'a>> {
-    match &declared.clock {
-        Some(clock) => no_clock(scope, clock.variable.as_str(), &clock.pattern),
-        None => None,
-    }
-}
-
-/// The variable that the clock of a declared one names.
-fn clock_of_declared<'a>(scope: &Scope<'a>, declared: &Declaration) -> Option<&'a Declaration> {
-    match &declared.clock {
-        Some(clock) => scope.find(clock.variable.as_str()),
-        None => None,
-    }
-}
-
 /// The variables from one to its clock, and on to the clock of that; at most eight, and the first once more where it comes again.
 fn chain_of<'a>(
     alloc: Global,
@@ -397,7 +290,10 @@ fn chain_of<'a>(
     let mut at = declared;
     for _ in 0..8 {
         names.push(at.name.as_str())?;
-        match clock_of_declared(scope, at) {
+        let Some(clock) = &at.clock else {
+            break;
+        };
+        match scope.find(clock.variable.as_str()) {
             Some(next) => at = next,
             None => break,
         }
@@ -429,8 +325,11 @@ pub(crate) fn not_a_clock<'a>(
     scope: &Scope<'a>,
     declared: &'a Declaration,
 ) -> Result<Said, AllocError> {
-    if let Some(found) = no_clock_declared(scope, declared) {
-        return said_of_no_clock(alloc, program, &found);
+    if let Some(clock) = &declared.clock {
+        let asked = slice::from_ref(&clock.pattern);
+        if let Some(found) = no_clock(scope, clock.variable.as_str(), asked) {
+            return said_of_no_clock(alloc, program, &found);
+        }
     }
     let names = chain_of(alloc, scope, declared)?;
     said_of_chain(alloc, names.as_slice())
@@ -452,22 +351,6 @@ fn declared_clock(declared: &Declaration) -> ClockRef<'_> {
     }
 }
 
-/// The first output of a node that is on a clock.
-fn clocked_output(node: &Node) -> Option<&Declaration> {
-    for declared in node.outputs.as_slice() {
-        if declared.clock.is_some() {
-            return Some(declared);
-        }
-    }
-    None
-}
-
-/// The first output of the main node that is on a clock.
-fn clocked_main<'a>(catalog: &Catalog<'a>, main: &str) -> Option<&'a Declaration> {
-    let scope = catalog.find(main)?;
-    clocked_output(scope.node())
-}
-
 /// How a call of a main node with this clocked output is told.
 fn said_of_call<'a>(
     alloc: Global,
@@ -487,12 +370,16 @@ fn said_of_call<'a>(
     )
 }
 
-/// `E22` of an equation that calls the main node.
+/// `E22` of an equation that calls the main node, of which an output is on a clock.
 pub(crate) fn clocked_call(alloc: Global, spot: &Spot, main: &str) -> Result<Said, AllocError> {
-    match clocked_main(spot.catalog, main) {
-        Some(output) => said_of_call(alloc, spot.error, main, output),
-        None => usual(alloc, spot.error),
+    if let Some(scope) = spot.catalog.find(main) {
+        for output in scope.node().outputs.as_slice() {
+            if output.clock.is_some() {
+                return said_of_call(alloc, spot.error, main, output);
+            }
+        }
     }
+    usual(alloc, spot.error)
 }
 
 /// `E22` of a declaration.

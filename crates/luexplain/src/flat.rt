@@ -9,9 +9,8 @@ use crate::place::where_in;
 use crate::said::{Said, in_words, mended_by, told, whole};
 use crate::words::Part;
 use luflow::FaultKind;
-use lulist::Name;
 use lustat_scope::{Catalog, Scope};
-use lutree::{Declaration, Equation, Expr, Infix, Prefix, Program};
+use lutree::{Equation, Expr, Infix, Prefix, Program};
 use std::alloc::{AllocError, Global};
 
 /// The place of a variable, behind those before.
@@ -24,7 +23,6 @@ fn push_place(scope: &Scope, name: &str, row: &mut Vec<usize>) -> Result<(), All
 
 /// The places of the variables that an expression reads at the same instant, behind those before. What a call is given is among
 /// them where `through` says so.
-#[cycle(reads)]
 fn push_reads(
     scope: &Scope,
     through: bool,
@@ -52,50 +50,20 @@ fn push_reads(
         }
         Expr::Merge(x, _, branches) => {
             push_place(scope, x.as_str(), row)?;
-            push_all_reads(scope, through, branches, row)
+            for branch in branches {
+                push_reads(scope, through, branch, row)?;
+            }
+            Ok(())
         }
         Expr::Call(_, arguments) => {
-            if !through {
-                return Ok(());
+            if through {
+                for argument in arguments {
+                    push_reads(scope, through, argument, row)?;
+                }
             }
-            push_all_reads(scope, through, arguments, row)
+            Ok(())
         }
     }
-}
-
-/// The same of the arguments of a call or the branches of a merge.
-#[cycle(reads)]
-fn push_all_reads(
-    scope: &Scope,
-    through: bool,
-    all: &[Expr],
-    row: &mut Vec<usize>,
-) -> Result<(), AllocError> {
-    for e in all {
-        push_reads(scope, through, e, row)?;
-    }
-    Ok(())
-}
-
-/// What a declared variable reads by its clock alone.
-fn clock_reads(
-    alloc: Global,
-    scope: &Scope,
-    declared: &Declaration,
-) -> Result<Vec<usize>, AllocError> {
-    let mut row = Vec::new(alloc);
-    if let Some(clock) = &declared.clock {
-        push_place(scope, clock.variable.as_str(), &mut row)?;
-    }
-    Ok(row)
-}
-
-/// An edge from a vertex to another, where there is the first.
-fn push_edge(graph: &mut Vec<Vec<usize>>, from: usize, to: usize) -> Result<(), AllocError> {
-    if from < graph.len() {
-        graph[from].push(to)?;
-    }
-    Ok(())
 }
 
 /// Each variable on the left of an equation leads to its vertex.
@@ -107,22 +75,12 @@ fn lead_to(
 ) -> Result<(), AllocError> {
     for x in equation.left.as_slice() {
         if let Some(place) = scope.place(x.as_str()) {
-            push_edge(graph, place, vertex)?;
+            if place < graph.len() {
+                graph[place].push(vertex)?;
+            }
         }
     }
     Ok(())
-}
-
-/// What an equation reads at the same instant.
-fn reads_of(
-    alloc: Global,
-    scope: &Scope,
-    through: bool,
-    equation: &Equation,
-) -> Result<Vec<usize>, AllocError> {
-    let mut row = Vec::new(alloc);
-    push_reads(scope, through, &equation.right, &mut row)?;
-    Ok(row)
 }
 
 /// What the variables of a node read at one instant: a vertex for each variable, which leads to the vertex of its equation and to the variable
@@ -131,7 +89,11 @@ fn graph_of(alloc: Global, scope: &Scope, through: bool) -> Result<Vec<Vec<usize
     let mut graph = Vec::new(alloc);
     let declarations = scope.declarations();
     for declared in declarations {
-        graph.push(clock_reads(alloc, scope, *declared)?)?;
+        let mut row = Vec::new(alloc);
+        if let Some(clock) = &declared.clock {
+            push_place(scope, clock.variable.as_str(), &mut row)?;
+        }
+        graph.push(row)?;
     }
     let equations = scope.node().equations.as_slice();
     let variables = declarations.len();
@@ -139,65 +101,34 @@ fn graph_of(alloc: Global, scope: &Scope, through: bool) -> Result<Vec<Vec<usize
         lead_to(scope, equation, variables + i, &mut graph)?;
     }
     for equation in equations {
-        graph.push(reads_of(alloc, scope, through, equation)?)?;
+        let mut row = Vec::new(alloc);
+        push_reads(scope, through, &equation.right, &mut row)?;
+        graph.push(row)?;
     }
     Ok(graph)
 }
 
-/// The names of the variables at some places; places behind them are passed over.
-fn names_at<'a>(
-    alloc: Global,
-    scope: &Scope<'a>,
-    places: &[usize],
-) -> Result<Vec<&'a str>, AllocError> {
-    let mut names = Vec::new(alloc);
-    for place in places {
-        if let Some(declared) = scope.declarations().get(*place) {
-            names.push(declared.name.as_str())?;
-        }
-    }
-    Ok(names)
-}
-
-/// The places on a way from a variable back to it, each reading the next at one instant; none where no equation shows it.
-fn way_of(
-    alloc: Global,
-    scope: &Scope,
-    through: bool,
-    place: usize,
-) -> Result<Vec<usize>, AllocError> {
-    let graph = graph_of(alloc, scope, through)?;
-    circle(alloc, &graph, place)
-}
-
-/// The variables of a node in a circle from one back to it. A way that goes through no call is preferred.
+/// The variables of a node in a circle from one back to it, each reading the next at one instant; none where no equation shows it. A way that
+/// goes through no call is preferred.
 fn circle_of<'a>(
     alloc: Global,
     scope: &Scope<'a>,
     variable: &str,
 ) -> Result<Vec<&'a str>, AllocError> {
+    let mut names = Vec::new(alloc);
     let Some(place) = scope.place(variable) else {
-        return Ok(Vec::new(alloc));
+        return Ok(names);
     };
-    let direct = way_of(alloc, scope, false, place)?;
-    if !direct.is_empty() {
-        return names_at(alloc, scope, &direct);
+    let mut way = circle(alloc, &graph_of(alloc, scope, false)?, place)?;
+    if way.is_empty() {
+        way = circle(alloc, &graph_of(alloc, scope, true)?, place)?;
     }
-    let way = way_of(alloc, scope, true, place)?;
-    names_at(alloc, scope, &way)
-}
-
-/// The same in the main node.
-fn circle_in<'a>(
-    alloc: Global,
-    catalog: &Catalog<'a>,
-    main: &str,
-    variable: &str,
-) -> Result<Vec<&'a str>, AllocError> {
-    match catalog.find(main) {
-        Some(scope) => circle_of(alloc, scope, variable),
-        None => Ok(Vec::new(alloc)),
+    for place in &way {
+        if let Some(declared) = scope.declarations().get(*place) {
+            names.push(declared.name.as_str())?;
+        }
     }
+    Ok(names)
 }
 
 /// How a circle of these variables is told; none where no equation shows it.
@@ -221,25 +152,20 @@ fn said_of_names<'a>(alloc: Global, names: &'a [&'a str]) -> Result<Said, AllocE
     )
 }
 
-/// What is said of a circle.
+/// What is said of a circle in the main node.
 fn said_of_cycle(
     alloc: Global,
     catalog: &Catalog,
     main: &str,
     variable: &str,
 ) -> Result<Said, AllocError> {
-    let names = circle_in(alloc, catalog, main, variable)?;
-    said_of_names(alloc, names.as_slice())
-}
-
-/// Whether a variable is among some.
-fn is_among(left: &[Name], variable: &str) -> bool {
-    for x in left {
-        if x.is(variable) {
-            return true;
+    match catalog.find(main) {
+        Some(scope) => {
+            let names = circle_of(alloc, scope, variable)?;
+            said_of_names(alloc, names.as_slice())
         }
+        None => said_of_names(alloc, &[]),
     }
-    false
 }
 
 /// Where the equation of a variable of the main node begins; 0 where there is none.
@@ -248,8 +174,10 @@ fn byte_of(catalog: &Catalog, main: &str, variable: &str) -> usize {
         return 0;
     };
     for equation in scope.node().equations.as_slice() {
-        if is_among(equation.left.as_slice(), variable) {
-            return equation.byte;
+        for x in equation.left.as_slice() {
+            if x.is(variable) {
+                return equation.byte;
+            }
         }
     }
     0
@@ -293,24 +221,6 @@ pub fn of_size(alloc: Global, path: &str) -> Result<String, AllocError>
     told(whole(alloc, path)?, &said)
 }
 
-/// How a fault of this kind is told behind its place.
-fn fault_of(kind: FaultKind) -> &'static str {
-    match kind {
-        FaultKind::Overflow => " of the table: a result doesn't fit into 64 bits.",
-        FaultKind::DivZero => " of the table: a divisor is 0.",
-    }
-}
-
-/// How a fault of this kind is mended.
-fn mend_of(kind: FaultKind) -> &'static str {
-    match kind {
-        FaultKind::Overflow => "Bound the operands before the operator.",
-        FaultKind::DivZero => {
-            "Divide by `if x = 0 then 1 else x`, or keep the division away by a clock; an `if` computes both branches."
-        }
-    }
-}
-
 /// What is said of a fault of a value.
 fn said_of_fault(
     alloc: Global,
@@ -319,6 +229,16 @@ fn said_of_fault(
     kind: FaultKind,
 ) -> Result<Said, AllocError> {
     let instant = instant as usize;
+    let (fault, mend) = match kind {
+        FaultKind::Overflow => (
+            " of the table: a result doesn't fit into 64 bits.",
+            "Bound the operands before the operator.",
+        ),
+        FaultKind::DivZero => (
+            " of the table: a divisor is 0.",
+            "Divide by `if x = 0 then 1 else x`, or keep the division away by a clock; an `if` computes both branches.",
+        ),
+    };
     mended_by(
         alloc,
         &[
@@ -326,9 +246,9 @@ fn said_of_fault(
             Part::Number(instant),
             Part::Words(", which is line "),
             Part::Number(instant + 2),
-            Part::Words(fault_of(kind)),
+            Part::Words(fault),
         ],
-        mend_of(kind),
+        mend,
     )
 }
 

@@ -70,39 +70,12 @@ struct Found {
     said: Said,
 }
 
-/// What is said by the rule alone.
-fn by_rule(alloc: Global, error: &PlaceError) -> Result<Found, AllocError> {
-    let said = in_words(alloc, rule_of(error), mend_of(error))?;
-    Ok(Found { byte: None, said })
-}
-
 /// Where what names sites stands.
 fn holder_byte(text: &[u8], holder: Holder) -> Option<usize> {
     match holder {
         Holder::Sites => key_in(text, "sites"),
         Holder::Default => key_in(text, "default"),
         Holder::Entry(key) => entry_in(text, key),
-    }
-}
-
-/// Where a name stands in what names sites.
-fn name_byte(text: &[u8], holder: Holder, name: &str) -> Option<usize> {
-    Some(text_behind(text, holder_byte(text, holder)?, name))
-}
-
-/// Where what is refused stands, of two names.
-fn byte_of_two(text: &[u8], blamed: Blamed) -> Option<usize> {
-    match blamed {
-        Blamed::BadName(name) => name_byte(text, Holder::Sites, name),
-        Blamed::Foreign(holder, name, _) => name_byte(text, holder, name),
-        Blamed::Twice(holder, name) => {
-            Some(text_behind(text, name_byte(text, holder, name)?, name))
-        }
-        Blamed::Apart(first, second) => match entry_in(text, second) {
-            None => entry_in(text, first),
-            found => found,
-        },
-        _ => None,
     }
 }
 
@@ -115,7 +88,19 @@ fn byte_of(text: &[u8], blamed: Blamed) -> Option<usize> {
         Blamed::Capacity => key_in(text, "capacity"),
         Blamed::Sites(_) => key_in(text, "sites"),
         Blamed::Unplaced(_) => key_in(text, "place"),
-        blamed => byte_of_two(text, blamed),
+        Blamed::BadName(name) => Some(text_behind(text, key_in(text, "sites")?, name)),
+        Blamed::Foreign(holder, name, _) => {
+            Some(text_behind(text, holder_byte(text, holder)?, name))
+        }
+        Blamed::Twice(holder, name) => {
+            let first = text_behind(text, holder_byte(text, holder)?, name);
+            Some(text_behind(text, first, name))
+        }
+        Blamed::Apart(first, second) => match entry_in(text, second) {
+            None => entry_in(text, first),
+            found => found,
+        },
+        Blamed::NoSites | Blamed::Nothing => None,
     }
 }
 
@@ -186,33 +171,8 @@ fn said_of_key(alloc: Global, blamed: Blamed) -> Result<Said, AllocError> {
     }
 }
 
-/// `P06`
-fn said_of_twice<'a>(alloc: Global, holder: Holder<'a>, name: &'a str) -> Result<Said, AllocError> {
-    let mend = "Name each site once.";
-    match holder {
-        Holder::Sites => mended_by(
-            alloc,
-            &[Part::Around("", name, " stands twice in `sites`.")],
-            mend,
-        ),
-        Holder::Default => mended_by(
-            alloc,
-            &[Part::Around("", name, " stands twice in `default`.")],
-            mend,
-        ),
-        Holder::Entry(key) => mended_by(
-            alloc,
-            &[
-                Part::Around("", name, " stands twice in the entry of "),
-                Part::Around("", key, "."),
-            ],
-            mend,
-        ),
-    }
-}
-
-/// `P07` of a text that isn't too long.
-fn said_of_range(alloc: Global, blamed: Blamed) -> Result<Said, AllocError> {
+/// `P06`, and `P07` of a text that isn't too long.
+fn said_of_sites(alloc: Global, blamed: Blamed) -> Result<Said, AllocError> {
     match blamed {
         Blamed::Version => in_words(
             alloc,
@@ -232,6 +192,24 @@ fn said_of_range(alloc: Global, blamed: Blamed) -> Result<Said, AllocError> {
                 Part::Words(", and there may be from 1 to 16."),
             ],
             "Name each site that variables stand at, and no others.",
+        ),
+        Blamed::Twice(Holder::Entry(key), name) => mended_by(
+            alloc,
+            &[
+                Part::Around("", name, " stands twice in the entry of "),
+                Part::Around("", key, "."),
+            ],
+            mend_of(&PlaceError::DuplicateSite),
+        ),
+        Blamed::Twice(Holder::Default, name) => mended_by(
+            alloc,
+            &[Part::Around("", name, " stands twice in `default`.")],
+            mend_of(&PlaceError::DuplicateSite),
+        ),
+        Blamed::Twice(Holder::Sites, name) => mended_by(
+            alloc,
+            &[Part::Around("", name, " stands twice in `sites`.")],
+            mend_of(&PlaceError::DuplicateSite),
         ),
         _ => in_words(
             alloc,
@@ -293,8 +271,9 @@ fn said_of_blamed<'a>(
     let mend = mend_of(error);
     match blamed {
         Blamed::Nothing => in_words(alloc, rule_of(error), mend),
-        Blamed::Version | Blamed::Capacity | Blamed::Sites(_) => said_of_range(alloc, blamed),
-        Blamed::Twice(holder, name) => said_of_twice(alloc, holder, name),
+        Blamed::Version | Blamed::Capacity | Blamed::Sites(_) | Blamed::Twice(_, _) => {
+            said_of_sites(alloc, blamed)
+        }
         Blamed::Foreign(_, name, near) => mend_name(
             alloc,
             &[Part::Around("", name, " isn't one of `sites`.")],
@@ -306,22 +285,6 @@ fn said_of_blamed<'a>(
         }
         blamed => said_of_key(alloc, blamed),
     }
-}
-
-/// What is said of a text that is too long.
-fn said_of_length(alloc: Global, count: usize) -> Result<Found, AllocError> {
-    let said = mended_by(
-        alloc,
-        &[
-            Part::Words("The text has "),
-            Part::Number(count),
-            Part::Words(" bytes, and a placement has at most "),
-            Part::Number(LONGEST_PLACEMENT),
-            Part::Words("."),
-        ],
-        "Leave out comments, and entries that say what `default` says.",
-    )?;
-    Ok(Found { byte: None, said })
 }
 
 /// What is said of a text that is no TOML.
@@ -373,7 +336,10 @@ fn found_in(
     match (toml::table_from_str(alloc, source), error) {
         (Ok(table), _) => said_of_table(alloc, source.as_bytes(), &table, program, main, error),
         (Err(e), PlaceError::NotToml) => said_of_text(alloc, &e),
-        _ => by_rule(alloc, error),
+        _ => Ok(Found {
+            byte: None,
+            said: in_words(alloc, rule_of(error), mend_of(error))?,
+        }),
     }
 }
 
@@ -385,11 +351,22 @@ fn found_at(
     main: &str,
     error: &PlaceError,
 ) -> Result<Found, AllocError> {
-    match str::from_utf8(text) {
-        Ok(source) if source.len() > LONGEST_PLACEMENT => said_of_length(alloc, source.len()),
-        Ok(source) => found_in(alloc, source, program, main, error),
-        Err(_) => by_rule(alloc, error),
-    }
+    let said = match str::from_utf8(text) {
+        Ok(source) if source.len() > LONGEST_PLACEMENT => mended_by(
+            alloc,
+            &[
+                Part::Words("The text has "),
+                Part::Number(source.len()),
+                Part::Words(" bytes, and a placement has at most "),
+                Part::Number(LONGEST_PLACEMENT),
+                Part::Words("."),
+            ],
+            "Leave out comments, and entries that say what `default` says.",
+        )?,
+        Ok(source) => return found_in(alloc, source, program, main, error),
+        Err(_) => in_words(alloc, rule_of(error), mend_of(error))?,
+    };
+    Ok(Found { byte: None, said })
 }
 
 /// What a person is told of a placement that is refused: its place, what is wrong, and how to mend it. `text` is the text of the file of this path,

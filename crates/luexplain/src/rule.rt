@@ -6,7 +6,7 @@ ghost use Rattle.luexplain.specs.Told.{IsTold, place_of_rule};
 use crate::arity::{bad_merge, wrong_arity};
 use crate::classes::{current_nil, maybe_nil};
 use crate::clocks::{clocked_call, clocked_parameter, hidden, no_clock_inside, not_a_clock};
-use crate::find::{Spot, declaration_at, equation_at, parts_of};
+use crate::find::{Spot, declaration_at, equation_at, push_parts};
 use crate::naming::{
     defined_twice, duplicate, duplicate_variable, no_main, recursive, undefined, unknown_declared,
     unknown_name, unknown_node,
@@ -21,30 +21,7 @@ use lutree::{Declaration, Equation, Program};
 use std::alloc::{AllocError, Global};
 
 /// What is said of a rule that an equation breaks.
-fn said_of_equation(
-    alloc: Global,
-    text: &[u8],
-    main: &str,
-    spot: &Spot,
-) -> Result<Said, AllocError> {
-    match spot.error {
-        StatError::UnknownName { .. } => unknown_name(alloc, spot),
-        StatError::UnknownNode { .. } => unknown_node(alloc, spot),
-        StatError::TypeMismatch { .. } => typing::mismatch(alloc, spot),
-        StatError::WrongArity { .. } => wrong_arity(alloc, spot),
-        StatError::DefinedTwice { .. } => defined_twice(alloc, text, spot),
-        StatError::BadMerge { .. } => bad_merge(alloc, spot),
-        StatError::ClockMismatch { .. } => clocks::mismatch(alloc, spot),
-        StatError::NotAClock { .. } => no_clock_inside(alloc, spot),
-        StatError::ClockedParameter { .. } => clocked_call(alloc, spot, main),
-        StatError::MaybeNil { .. } => maybe_nil(alloc, spot),
-        StatError::CurrentMayBeNil { .. } => current_nil(alloc, spot),
-        error => usual(alloc, error),
-    }
-}
-
-/// The same of the equation at the place of a refusal.
-fn said_at_equation<'a>(
+fn said_of_equation<'a>(
     alloc: Global,
     text: &[u8],
     main: &str,
@@ -53,7 +30,8 @@ fn said_at_equation<'a>(
     scope: &Scope<'a>,
     equation: &'a Equation,
 ) -> Result<Said, AllocError> {
-    let parts = parts_of(alloc, &equation.right)?;
+    let mut parts = Vec::new(alloc);
+    push_parts(&equation.right, &mut parts)?;
     let spot = Spot {
         error,
         catalog,
@@ -61,7 +39,20 @@ fn said_at_equation<'a>(
         equation,
         parts: parts.as_slice(),
     };
-    said_of_equation(alloc, text, main, &spot)
+    match error {
+        StatError::UnknownName { .. } => unknown_name(alloc, &spot),
+        StatError::UnknownNode { .. } => unknown_node(alloc, &spot),
+        StatError::TypeMismatch { .. } => typing::mismatch(alloc, &spot),
+        StatError::WrongArity { .. } => wrong_arity(alloc, &spot),
+        StatError::DefinedTwice { .. } => defined_twice(alloc, text, &spot),
+        StatError::BadMerge { .. } => bad_merge(alloc, &spot),
+        StatError::ClockMismatch { .. } => clocks::mismatch(alloc, &spot),
+        StatError::NotAClock { .. } => no_clock_inside(alloc, &spot),
+        StatError::ClockedParameter { .. } => clocked_call(alloc, &spot, main),
+        StatError::MaybeNil { .. } => maybe_nil(alloc, &spot),
+        StatError::CurrentMayBeNil { .. } => current_nil(alloc, &spot),
+        _ => usual(alloc, error),
+    }
 }
 
 /// What is said of a rule that a declaration breaks.
@@ -106,7 +97,7 @@ fn said_of_rule(
         return said_of_declaration(alloc, text, error, catalog, scope, declared);
     }
     if let Some((scope, equation)) = equation_at(catalog, byte) {
-        return said_at_equation(alloc, text, main, error, catalog, scope, equation);
+        return said_of_equation(alloc, text, main, error, catalog, scope, equation);
     }
     duplicate(alloc, error, text, catalog.program())
 }

@@ -4,50 +4,46 @@ ghost use Rattle.std.specs.Prelude.{◌≡◌, IfOk, string_bytes};
 ghost use Rattle.luexplain.specs.Told.{IsTold};
 ghost use Rattle.luexplain.specs.Texts as spec;
 
+use crate::bytes::from_byte;
 use crate::place::where_in;
 use crate::said::{Said, mended_by, told, whole};
-use crate::usual::out_of_memory;
+use crate::usual::usual;
 use crate::words::Part;
 use lulimits::limits::LONGEST_SCHEDULE;
 use lusdist_shell::ScheduleError;
+use lustat_rules::StatError;
 use std::alloc::{AllocError, Global};
-
-/// What is said of a byte that is no turn.
-fn said_of_byte(alloc: Global, found: &[u8]) -> Result<Said, AllocError> {
-    mended_by(
-        alloc,
-        &[
-            Part::Bytes(found),
-            Part::Words(" is no turn, no blank and no line feed."),
-        ],
-        "Write a letter for each turn, `0` to `9` and `a` to `f` for the sites 0 to 15, and between them blanks and line feeds alone.",
-    )
-}
-
-/// What is said of a schedule that is too long.
-fn said_of_length(alloc: Global, count: usize) -> Result<Said, AllocError> {
-    mended_by(
-        alloc,
-        &[
-            Part::Words("The schedule has "),
-            Part::Number(count),
-            Part::Words(" bytes, and may have "),
-            Part::Number(LONGEST_SCHEDULE),
-            Part::Words("."),
-        ],
-        "Write the turns that matter, and let `--finish` take the others.",
-    )
-}
+use std::slice;
 
 /// What is said of a schedule that is refused.
 fn said_of_schedule(alloc: Global, text: &[u8], error: &ScheduleError) -> Result<Said, AllocError> {
     match error {
-        ScheduleError::BadSchedule { byte } => match text.get(*byte..) {
-            Some([first, ..]) => said_of_byte(alloc, &[*first]),
-            _ => said_of_byte(alloc, b"?"),
-        },
-        ScheduleError::LongSchedule => said_of_length(alloc, text.len()),
-        ScheduleError::OutOfMemory => out_of_memory(alloc),
+        ScheduleError::BadSchedule { byte } => {
+            let found = match from_byte(text, *byte) {
+                [first, ..] => slice::from_ref(first),
+                [] => b"?",
+            };
+            mended_by(
+                alloc,
+                &[
+                    Part::Bytes(found),
+                    Part::Words(" is no turn, no blank and no line feed."),
+                ],
+                "Write a letter for each turn, `0` to `9` and `a` to `f` for the sites 0 to 15, and between them blanks and line feeds alone.",
+            )
+        }
+        ScheduleError::LongSchedule => mended_by(
+            alloc,
+            &[
+                Part::Words("The schedule has "),
+                Part::Number(text.len()),
+                Part::Words(" bytes, and may have "),
+                Part::Number(LONGEST_SCHEDULE),
+                Part::Words("."),
+            ],
+            "Write the turns that matter, and let `--finish` take the others.",
+        ),
+        ScheduleError::OutOfMemory => usual(alloc, &StatError::OutOfMemory),
     }
 }
 

@@ -71,27 +71,18 @@ fn first_sign(text: &[u8]) -> u8 {
     0
 }
 
-/// Whether a piece is a key that is spelled so, by what stands behind it.
-fn is_key(piece: &[u8], rest: &[u8], name: &[u8]) -> bool {
-    match unquoted(piece) {
-        Some(inner) => inner == name && (first_sign(rest) == b'=' || first_sign(rest) == b'.'),
-        None => {
-            piece == name
-                && (first_sign(rest) == b'='
-                    || first_sign(rest) == b'.'
-                    || first_sign(rest) == b']')
-        }
-    }
-}
-
 /// Whether a piece is what is looked for, by what stands behind it.
 fn is_found(piece: &[u8], rest: &[u8], name: &[u8], sought: Sought) -> bool {
-    match sought {
-        Sought::Key => is_key(piece, rest, name),
-        Sought::Text => match unquoted(piece) {
-            Some(inner) => inner == name,
-            None => false,
+    match (unquoted(piece), sought) {
+        (Some(inner), Sought::Text) => inner == name,
+        (Some(inner), Sought::Key) => {
+            inner == name && (first_sign(rest) == b'=' || first_sign(rest) == b'.')
+        }
+        (None, Sought::Key) => match first_sign(rest) {
+            b'=' | b'.' | b']' => piece == name,
+            _ => false,
         },
+        (None, Sought::Text) => false,
     }
 }
 

@@ -8,9 +8,10 @@ ghost use Rattle.luexplain.specs.Syntax as spec;
 use crate::bytes::from_byte;
 use crate::place::where_in;
 use crate::said::{Said, in_words, mended_by, told, whole};
-use crate::usual::out_of_memory;
+use crate::usual::usual;
 use crate::words::Part;
 use lulimits::limits::LONGEST_PROGRAM;
+use lustat_rules::StatError;
 use lusyn::SynError;
 use std::alloc::{AllocError, Global};
 
@@ -31,16 +32,6 @@ fn is_word(byte: u8) -> bool {
     byte.is_ascii_alphanumeric() || byte == b'_'
 }
 
-/// How many bytes of a name, a keyword or a number stand at the front.
-fn word_length(text: &[u8]) -> usize {
-    for (i, byte) in text.iter().enumerate() {
-        if !is_word(*byte) {
-            return i;
-        }
-    }
-    text.len()
-}
-
 /// Whether a byte begins a sign.
 fn is_sign(byte: u8) -> bool {
     match byte {
@@ -50,19 +41,22 @@ fn is_sign(byte: u8) -> bool {
     }
 }
 
-/// How many bytes the sign at the front has.
-fn sign_length(text: &[u8]) -> usize {
-    match text {
-        [b'<', b'>', ..] | [b'<', b'=', ..] | [b'>', b'=', ..] => 2,
-        [b'-', b'>', ..] | [b'=', b'>', ..] => 2,
-        _ => 1,
-    }
-}
-
-/// The word or the sign at the front; the first byte where there is none.
+/// The name, the keyword, the number or the sign at the front; the first byte where there is none.
 fn token_of(text: &[u8]) -> &[u8] {
-    let word = word_length(text);
-    let length = if word > 0 { word } else { sign_length(text) };
+    let mut length = text.len();
+    for (i, byte) in text.iter().enumerate() {
+        if !is_word(*byte) {
+            length = i;
+            break;
+        }
+    }
+    if length == 0 {
+        length = match text {
+            [b'<', b'>', ..] | [b'<', b'=', ..] | [b'>', b'=', ..] => 2,
+            [b'-', b'>', ..] | [b'=', b'>', ..] => 2,
+            _ => 1,
+        };
+    }
     text.get(..length).unwrap_or(text)
 }
 
@@ -88,59 +82,46 @@ fn said_of_token(alloc: Global, rest: &[u8]) -> Result<Said, AllocError> {
     }
 }
 
-/// What is said of a text that is too long, or whose program is.
-fn said_of_length(alloc: Global, text: &[u8]) -> Result<Said, AllocError> {
-    let count = text.len();
-    if count > LONGEST_PROGRAM {
-        return mended_by(
-            alloc,
-            &[
-                Part::Words("The text has "),
-                Part::Number(count),
-                Part::Words(" bytes, and a program has at most "),
-                Part::Number(LONGEST_PROGRAM),
-                Part::Words("."),
-            ],
-            "Leave out what says nothing, and nodes that nothing calls.",
-        );
-    }
-    in_words(
-        alloc,
-        "The program has more than 256 nodes, more than 64 types, or a type of more than 64 names.",
-        "Leave out nodes that nothing calls, and split large types.",
-    )
-}
-
-/// What is said of a number that is too large, at the front of a text.
-fn said_of_number(alloc: Global, rest: &[u8]) -> Result<Said, AllocError> {
-    mended_by(
-        alloc,
-        &[
-            Part::Words("The number "),
-            Part::Bytes(token_of(rest)),
-            Part::Words(" is above 9223372036854775807, the greatest `int`."),
-        ],
-        "Choose a coarser unit, here and in the table.",
-    )
-}
-
 /// What is said of a text that is no program.
 fn said_of_syntax(alloc: Global, text: &[u8], error: &SynError) -> Result<Said, AllocError> {
     match error {
         SynError::Syntax { byte } => said_of_token(alloc, from_byte(text, *byte)),
-        SynError::NumberTooLarge { byte } => said_of_number(alloc, from_byte(text, *byte)),
+        SynError::NumberTooLarge { byte } => mended_by(
+            alloc,
+            &[
+                Part::Words("The number "),
+                Part::Bytes(token_of(from_byte(text, *byte))),
+                Part::Words(" is above 9223372036854775807, the greatest `int`."),
+            ],
+            "Choose a coarser unit, here and in the table.",
+        ),
         SynError::NotAscii => in_words(
             alloc,
             "The byte here is above 127, and a program has none, in comments too.",
             "Write it in other letters.",
         ),
-        SynError::TooLong => said_of_length(alloc, text),
+        SynError::TooLong if text.len() > LONGEST_PROGRAM => mended_by(
+            alloc,
+            &[
+                Part::Words("The text has "),
+                Part::Number(text.len()),
+                Part::Words(" bytes, and a program has at most "),
+                Part::Number(LONGEST_PROGRAM),
+                Part::Words("."),
+            ],
+            "Leave out what says nothing, and nodes that nothing calls.",
+        ),
+        SynError::TooLong => in_words(
+            alloc,
+            "The program has more than 256 nodes, more than 64 types, or a type of more than 64 names.",
+            "Leave out nodes that nothing calls, and split large types.",
+        ),
         SynError::LongRun { .. } => in_words(
             alloc,
             "1,000 names, numbers and signs stand before this one without a `;`.",
             "Cut the expression, and give its parts to locals.",
         ),
-        SynError::OutOfMemory => out_of_memory(alloc),
+        SynError::OutOfMemory => usual(alloc, &StatError::OutOfMemory),
     }
 }
 

@@ -8,9 +8,10 @@ use crate::find::{node_named, type_at_place};
 use crate::near::shared_front;
 use crate::place::where_in;
 use crate::said::{Said, in_words, mended_by, say, told, whole};
-use crate::usual::out_of_memory;
+use crate::usual::usual;
 use crate::words::Part;
 use lulimits::limits::LONGEST_TABLE;
+use lustat_rules::StatError;
 use lutab::TabError;
 use lutree::{Declaration, DeclaredName, Kind, Program};
 use std::alloc::{AllocError, Global};
@@ -35,14 +36,6 @@ fn behind(bytes: &[u8], separator: u8, count: usize) -> usize {
         }
     }
     bytes.len()
-}
-
-/// The inputs of the main node.
-fn inputs_of<'a>(program: &'a Program, main: &str) -> &'a [Declaration] {
-    match node_named(program, main) {
-        Some(node) => node.inputs.as_slice(),
-        None => &[],
-    }
 }
 
 /// How often a byte stands among some.
@@ -75,19 +68,6 @@ fn header_of(alloc: Global, inputs: &[Declaration]) -> Result<String, AllocError
     Ok(header)
 }
 
-/// What is said of a header that isn't that of these inputs.
-fn said_of_header(alloc: Global, header: &str) -> Result<Said, AllocError> {
-    mended_by(
-        alloc,
-        &[Part::Around(
-            "The first line isn't the header ",
-            header,
-            " with a line feed at its end; it differs from here on.",
-        )],
-        "Write the names of the inputs in order of declaration, with `,` between them and no blanks.",
-    )
-}
-
 /// `T01`
 fn bad_header(alloc: Global, text: &[u8], inputs: &[Declaration]) -> Result<Found, AllocError> {
     if let Err(e) = str::from_utf8(text) {
@@ -101,25 +81,16 @@ fn bad_header(alloc: Global, text: &[u8], inputs: &[Declaration]) -> Result<Foun
     }
     let header = header_of(alloc, inputs)?;
     let byte = shared_front(text, header.as_bytes());
-    let said = said_of_header(alloc, header.as_str())?;
-    Ok(Found { byte, said })
-}
-
-/// What is said of a line with so many fields.
-fn said_of_row(alloc: Global, fields: usize, inputs: &[Declaration]) -> Result<Said, AllocError> {
-    mended_by(
+    let said = mended_by(
         alloc,
-        &[
-            Part::Words("The line has "),
-            Part::Count(fields, "field"),
-            Part::Words(", and the table has "),
-            Part::Count(inputs.len(), "column"),
-            Part::Words(": "),
-            Part::Variables(inputs),
-            Part::Words("."),
-        ],
-        "Write a value for each input at every instant.",
-    )
+        &[Part::Around(
+            "The first line isn't the header ",
+            header.as_str(),
+            " with a line feed at its end; it differs from here on.",
+        )],
+        "Write the names of the inputs in order of declaration, with `,` between them and no blanks.",
+    )?;
+    Ok(Found { byte, said })
 }
 
 /// `T02`
@@ -141,40 +112,42 @@ fn bad_row(
         let byte = text.len();
         return Ok(Found { byte, said });
     }
-    let fields = count_of(row, b',').saturating_add(1);
-    let said = said_of_row(alloc, fields, inputs)?;
+    let said = mended_by(
+        alloc,
+        &[
+            Part::Words("The line has "),
+            Part::Count(count_of(row, b',').saturating_add(1), "field"),
+            Part::Words(", and the table has "),
+            Part::Count(inputs.len(), "column"),
+            Part::Words(": "),
+            Part::Variables(inputs),
+            Part::Words("."),
+        ],
+        "Write a value for each input at every instant.",
+    )?;
     let byte = start.saturating_add(behind(row, b',', inputs.len()));
     Ok(Found { byte, said })
 }
 
-/// Whether all these bytes are digits.
-fn all_digits(bytes: &[u8]) -> bool {
-    for byte in bytes {
-        if !byte.is_ascii_digit() {
-            return false;
-        }
-    }
-    true
-}
-
-/// Whether digits are those of a whole number, with no zero before it.
-fn are_digits(digits: &[u8]) -> bool {
-    match digits {
-        [b'0'] => true,
-        [b'1'..=b'9', rest @ ..] => all_digits(rest),
-        _ => false,
-    }
-}
-
-/// Whether a field is an `int`.
+/// Whether a field is an `int`: digits with no zero before them, and perhaps a `-`.
 fn is_int(field: &[u8]) -> bool {
     let digits = match field {
         [b'-', b'0'] => return false,
         [b'-', rest @ ..] => rest,
         _ => field,
     };
+    match digits {
+        [b'0'] => return true,
+        [b'1'..=b'9', ..] => {}
+        _ => return false,
+    }
+    for byte in digits {
+        if !byte.is_ascii_digit() {
+            return false;
+        }
+    }
     match str::from_utf8(field) {
-        Ok(text) => are_digits(digits) && text.parse::<i64>().is_ok(),
+        Ok(text) => text.parse::<i64>().is_ok(),
         Err(_) => false,
     }
 }
@@ -187,16 +160,6 @@ fn labels_at(program: &Program, place: u8) -> &[DeclaredName] {
     }
 }
 
-/// Whether a field is one of these names of an enumeration.
-fn is_among(labels: &[DeclaredName], field: &[u8]) -> bool {
-    for label in labels {
-        if label.name.as_str().as_bytes() == field {
-            return true;
-        }
-    }
-    false
-}
-
 /// Whether a field is a value of a type.
 fn is_value(program: &Program, kind: Kind, field: &[u8]) -> bool {
     match kind {
@@ -205,7 +168,14 @@ fn is_value(program: &Program, kind: Kind, field: &[u8]) -> bool {
             b"true" | b"false" => true,
             _ => false,
         },
-        Kind::Enum(place, _) => is_among(labels_at(program, place), field),
+        Kind::Enum(place, _) => {
+            for label in labels_at(program, place) {
+                if label.name.as_str().as_bytes() == field {
+                    return true;
+                }
+            }
+            false
+        }
     }
 }
 
@@ -330,13 +300,19 @@ pub fn of_table(
 ) -> Result<String, AllocError>
     ensures { IfOk result (IsToldSomewhere path.now text.now) }
 {
-    let inputs = inputs_of(program, main);
+    let inputs = match node_named(program, main) {
+        Some(node) => node.inputs.as_slice(),
+        None => &[],
+    };
     let found = match error {
         TabError::BadHeader => bad_header(alloc, text, inputs)?,
         TabError::BadRow { line } => bad_row(alloc, text, inputs, *line)?,
         TabError::BadValue { line } => bad_value(alloc, text, program, inputs, *line)?,
         TabError::TooLong => return told(whole(alloc, path)?, &too_long(alloc, text)?),
-        TabError::OutOfMemory => return told(whole(alloc, path)?, &out_of_memory(alloc)?),
+        TabError::OutOfMemory => return told(
+            whole(alloc, path)?,
+            &usual(alloc, &StatError::OutOfMemory)?,
+        ),
     };
     told(where_in(alloc, path, text, found.byte)?, &found.said)
 }

@@ -1,13 +1,13 @@
 //! The rule of types, `E13`.
 
-use crate::find::{Spot, inputs_of, outputs_of};
+use crate::find::{Spot, called};
 use crate::said::{Said, mended_by};
 use crate::usual::usual;
 use crate::words::Part;
 use lulist::Name;
 use lustat_scope::{Catalog, Scope};
 use lusyn_tokens::{infix_token, prefix_token};
-use lutree::{BinaryOperator, Declaration, Expr, Infix, Kind, Prefix, Program, UnaryOperator};
+use lutree::{BinaryOperator, Expr, Infix, Kind, Prefix, UnaryOperator};
 use std::alloc::{AllocError, Global};
 
 /// Two things that have to be of one type and aren't, with their types.
@@ -17,11 +17,6 @@ struct Clash<'a> {
     wanted: Kind,
     second: Part<'a>,
     found: Kind,
-}
-
-/// What an operator of this spelling takes.
-fn taken_by(spelling: &str) -> Part<'_> {
-    Part::Around("what ", spelling, " takes")
 }
 
 /// What an operator's one operand has to be.
@@ -54,16 +49,7 @@ fn made_by(op: BinaryOperator) -> Kind {
     }
 }
 
-/// The type of a node's one output.
-fn output_kind(catalog: &Catalog, f: &Name) -> Option<Kind> {
-    match outputs_of(catalog, f) {
-        Some([output, ..]) => Some(output.kind),
-        _ => None,
-    }
-}
-
 /// The type that an expression has if it has one, by its form.
-#[cycle(kinds)]
 fn kind_of(catalog: &Catalog, scope: &Scope, e: &Expr) -> Option<Kind> {
     match e {
         Expr::Number(_) => Some(Kind::Int),
@@ -75,111 +61,57 @@ fn kind_of(catalog: &Catalog, scope: &Scope, e: &Expr) -> Option<Kind> {
         Expr::Unary(Prefix::Pre, a) | Expr::When(a, _) => kind_of(catalog, scope, a),
         Expr::Binary(Infix::Arrow | Infix::FollowedBy, a, _) => kind_of(catalog, scope, a),
         Expr::If(_, a, _) => kind_of(catalog, scope, a),
-        Expr::Merge(_, _, branches) => kind_of_first(catalog, scope, branches),
-        Expr::Call(f, _) => output_kind(catalog, f),
-    }
-}
-
-/// The same of the first branch of a merge.
-#[cycle(kinds)]
-fn kind_of_first(catalog: &Catalog, scope: &Scope, branches: &[Expr]) -> Option<Kind> {
-    match branches {
-        [] => None,
-        [first, ..] => kind_of(catalog, scope, first),
+        Expr::Merge(_, _, branches) => match branches.as_slice() {
+            [first, ..] => kind_of(catalog, scope, first),
+            [] => None,
+        },
+        Expr::Call(f, _) => match called(catalog, f)?.outputs.as_slice() {
+            [output, ..] => Some(output.kind),
+            [] => None,
+        },
     }
 }
 
 /// An expression that isn't of the type that something else has.
 fn clash_with<'a>(
-    catalog: &Catalog<'a>,
-    scope: &Scope<'a>,
+    spot: &Spot<'_, 'a>,
     first: Part<'a>,
     wanted: Kind,
     e: &'a Expr,
 ) -> Option<Clash<'a>> {
-    let found = kind_of(catalog, scope, e)?;
+    let found = kind_of(spot.catalog, spot.scope, e)?;
     if found == wanted {
         return None;
     }
+    let second = Part::Value(e);
     Some(Clash {
         first,
         wanted,
-        second: Part::Value(e),
+        second,
         found,
     })
 }
 
 /// Two expressions of two types.
-fn clash_of_two<'a>(
-    catalog: &Catalog<'a>,
-    scope: &Scope<'a>,
-    a: &'a Expr,
-    b: &'a Expr,
-) -> Option<Clash<'a>> {
-    let kind = kind_of(catalog, scope, a)?;
-    clash_with(catalog, scope, Part::Value(a), kind, b)
-}
-
-/// An operand that isn't of the type that an operator takes.
-fn clash_of_operands<'a>(
-    catalog: &Catalog<'a>,
-    scope: &Scope<'a>,
-    op: BinaryOperator,
-    a: &'a Expr,
-    b: &'a Expr,
-) -> Option<Clash<'a>> {
-    let Some(asked) = asked_by(op) else {
-        return clash_of_two(catalog, scope, a, b);
-    };
-    let side = taken_by(infix_token(Infix::Data(op)).text());
-    match clash_with(catalog, scope, side, asked, a) {
-        None => clash_with(catalog, scope, side, asked, b),
-        found => found,
-    }
-}
-
-/// A condition that is no `bool`, or two branches of two types.
-fn clash_of_if<'a>(
-    catalog: &Catalog<'a>,
-    scope: &Scope<'a>,
-    c: &'a Expr,
-    a: &'a Expr,
-    b: &'a Expr,
-) -> Option<Clash<'a>> {
-    let condition = Part::Words("the condition of an `if`");
-    match clash_with(catalog, scope, condition, Kind::Bool, c) {
-        None => clash_of_two(catalog, scope, a, b),
-        found => found,
-    }
-}
-
-/// A branch that isn't of the type of the first.
-fn clash_of_branches<'a>(
-    catalog: &Catalog<'a>,
-    scope: &Scope<'a>,
-    branches: &'a [Expr],
-) -> Option<Clash<'a>> {
-    let (first, others) = branches.split_first()?;
-    for other in others {
-        let found = clash_of_two(catalog, scope, first, other);
-        if found.is_some() {
-            return found;
-        }
-    }
-    None
+fn clash_of_two<'a>(spot: &Spot<'_, 'a>, a: &'a Expr, b: &'a Expr) -> Option<Clash<'a>> {
+    let kind = kind_of(spot.catalog, spot.scope, a)?;
+    clash_with(spot, Part::Value(a), kind, b)
 }
 
 /// An argument that isn't of the type of its input.
 fn clash_of_arguments<'a>(
-    catalog: &Catalog<'a>,
-    scope: &Scope<'a>,
+    spot: &Spot<'_, 'a>,
     f: &'a Name,
     arguments: &'a [Expr],
 ) -> Option<Clash<'a>> {
-    let inputs = inputs_of(catalog, f)?;
-    for (input, e) in inputs.iter().zip(arguments) {
+    for (input, e) in called(spot.catalog, f)?
+        .inputs
+        .as_slice()
+        .iter()
+        .zip(arguments)
+    {
         let side = Part::Of("the input ", input.name.as_str(), f.as_str());
-        let found = clash_with(catalog, scope, side, input.kind, e);
+        let found = clash_with(spot, side, input.kind, e);
         if found.is_some() {
             return found;
         }
@@ -188,22 +120,48 @@ fn clash_of_arguments<'a>(
 }
 
 /// What doesn't agree in a part of an expression, but for the parts inside it.
-fn clash_at<'a>(catalog: &Catalog<'a>, scope: &Scope<'a>, e: &'a Expr) -> Option<Clash<'a>> {
+fn clash_at<'a>(spot: &Spot<'_, 'a>, e: &'a Expr) -> Option<Clash<'a>> {
     match e {
         Expr::Unary(Prefix::Data(op), a) => {
-            let side = taken_by(prefix_token(Prefix::Data(*op)).text());
-            clash_with(catalog, scope, side, asked_by_unary(*op), a)
+            let sign = prefix_token(Prefix::Data(*op)).text();
+            let side = Part::Around("what ", sign, " takes");
+            clash_with(spot, side, asked_by_unary(*op), a)
         }
-        Expr::Binary(Infix::Data(op), a, b) => clash_of_operands(catalog, scope, *op, a, b),
-        Expr::Binary(_, a, b) => clash_of_two(catalog, scope, a, b),
-        Expr::If(c, a, b) => clash_of_if(catalog, scope, c, a, b),
-        Expr::Merge(_, _, branches) => clash_of_branches(catalog, scope, branches),
-        Expr::Call(f, arguments) => clash_of_arguments(catalog, scope, f, arguments),
+        Expr::Binary(Infix::Data(op), a, b) => match asked_by(*op) {
+            Some(asked) => {
+                let sign = infix_token(Infix::Data(*op)).text();
+                let side = Part::Around("what ", sign, " takes");
+                match clash_with(spot, side, asked, a) {
+                    None => clash_with(spot, side, asked, b),
+                    found => found,
+                }
+            }
+            None => clash_of_two(spot, a, b),
+        },
+        Expr::Binary(_, a, b) => clash_of_two(spot, a, b),
+        Expr::If(c, a, b) => {
+            let side = Part::Words("the condition of an `if`");
+            match clash_with(spot, side, Kind::Bool, c) {
+                None => clash_of_two(spot, a, b),
+                found => found,
+            }
+        }
+        Expr::Merge(_, _, branches) => {
+            let (first, others) = branches.as_slice().split_first()?;
+            for other in others {
+                let found = clash_of_two(spot, first, other);
+                if found.is_some() {
+                    return found;
+                }
+            }
+            None
+        }
+        Expr::Call(f, arguments) => clash_of_arguments(spot, f, arguments),
         _ => None,
     }
 }
 
-/// A variable on the left that isn't of a type that is on the right.
+/// A variable on the left that isn't of the type of something on the right.
 fn clash_of_variable<'a>(
     scope: &Scope<'a>,
     x: &'a Name,
@@ -214,36 +172,27 @@ fn clash_of_variable<'a>(
     if wanted == found {
         return None;
     }
+    let first = Part::Name(x.as_str());
     Some(Clash {
-        first: Part::Name(x.as_str()),
+        first,
         wanted,
         second,
         found,
     })
 }
 
-/// A variable on the left that isn't of the type of its output of the called node.
-fn clash_of_outputs<'a>(
-    scope: &Scope<'a>,
-    left: &'a [Name],
-    f: &'a Name,
-    outputs: &'a [Declaration],
-) -> Option<Clash<'a>> {
-    for (x, output) in left.iter().zip(outputs) {
-        let side = Part::Of("the output ", output.name.as_str(), f.as_str());
-        let found = clash_of_variable(scope, x, side, output.kind);
-        if found.is_some() {
-            return found;
-        }
-    }
-    None
-}
-
 /// What doesn't agree between the sides of an equation.
 fn clash_of_sides<'a>(spot: &Spot<'_, 'a>) -> Option<Clash<'a>> {
     let left = spot.equation.left.as_slice();
     if let Expr::Call(f, _) = &spot.equation.right {
-        return clash_of_outputs(spot.scope, left, f, outputs_of(spot.catalog, f)?);
+        for (x, output) in left.iter().zip(called(spot.catalog, f)?.outputs.as_slice()) {
+            let side = Part::Of("the output ", output.name.as_str(), f.as_str());
+            let found = clash_of_variable(spot.scope, x, side, output.kind);
+            if found.is_some() {
+                return found;
+            }
+        }
+        return None;
     }
     let kind = kind_of(spot.catalog, spot.scope, &spot.equation.right)?;
     clash_of_variable(
@@ -257,7 +206,7 @@ fn clash_of_sides<'a>(spot: &Spot<'_, 'a>) -> Option<Clash<'a>> {
 /// What doesn't agree in an equation: first in its right side, then between its sides.
 fn clash_in<'a>(spot: &Spot<'_, 'a>) -> Option<Clash<'a>> {
     for e in spot.parts {
-        let found = clash_at(spot.catalog, spot.scope, *e);
+        let found = clash_at(spot, *e);
         if found.is_some() {
             return found;
         }
@@ -265,23 +214,19 @@ fn clash_in<'a>(spot: &Spot<'_, 'a>) -> Option<Clash<'a>> {
     clash_of_sides(spot)
 }
 
-/// How an expression of one type is made one of another.
-fn mend_of(wanted: Kind, found: Kind) -> &'static str {
-    match (wanted, found) {
+/// `E13`
+pub(crate) fn mismatch(alloc: Global, spot: &Spot) -> Result<Said, AllocError> {
+    let Some(clash) = clash_in(spot) else {
+        return usual(alloc, spot.error);
+    };
+    let mend = match (clash.wanted, clash.found) {
         (Kind::Int, Kind::Bool) => {
             "Give both one type; `if c then 1 else 0` makes an `int` of a `bool`."
         }
         (Kind::Bool, Kind::Int) => "Give both one type; `x <> 0` makes a `bool` of an `int`.",
         _ => "Give both one type.",
-    }
-}
-
-/// How two things of two types are told.
-fn said_of_clash<'a>(
-    alloc: Global,
-    program: &'a Program,
-    clash: &Clash<'a>,
-) -> Result<Said, AllocError> {
+    };
+    let program = spot.catalog.program();
     mended_by(
         alloc,
         &[
@@ -295,14 +240,6 @@ fn said_of_clash<'a>(
             Part::Type(program, clash.found),
             Part::Words("."),
         ],
-        mend_of(clash.wanted, clash.found),
+        mend,
     )
-}
-
-/// `E13`
-pub(crate) fn mismatch(alloc: Global, spot: &Spot) -> Result<Said, AllocError> {
-    match clash_in(spot) {
-        Some(clash) => said_of_clash(alloc, spot.catalog.program(), &clash),
-        None => usual(alloc, spot.error),
-    }
 }

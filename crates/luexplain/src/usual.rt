@@ -4,23 +4,6 @@ use crate::said::{Said, in_words};
 use lustat_rules::StatError;
 use std::alloc::{AllocError, Global};
 
-/// What is wrong where a rule on clocks or on values at the first instant is broken, or where memory ran out.
-fn rule_of_stages(error: &StatError) -> &'static str {
-    match error {
-        StatError::ClockMismatch { .. } => "Values of two clocks are joined.",
-        StatError::NotAClock { .. } => "A variable stands as a clock, and is none.",
-        StatError::ClockedParameter { .. } => "A main node with a clocked output isn't called.",
-        StatError::HiddenClock { .. } => "An output is on a clock that a local names.",
-        StatError::MaybeNil { .. } => {
-            "A value may be missing at the first instant, where it is needed."
-        }
-        StatError::CurrentMayBeNil { .. } => {
-            "A `current` holds a variable whose clock may be false at first."
-        }
-        _ => "Memory ran out, which says nothing of the text.",
-    }
-}
-
 /// What is wrong.
 fn rule_of(error: &StatError) -> &'static str {
     match error {
@@ -37,30 +20,17 @@ fn rule_of(error: &StatError) -> &'static str {
         StatError::BadMerge { .. } => {
             "The branches of a merge on a `bool` are `true` and `false`, in this order."
         }
-        _ => rule_of_stages(error),
-    }
-}
-
-/// How to mend it, of the later rules.
-fn mend_of_stages(error: &StatError) -> &'static str {
-    match error {
-        StatError::ClockMismatch { .. } => {
-            "Bring both to one clock: sample the faster by `when`, hold the slower by `current`, or join them by `merge`."
-        }
-        StatError::NotAClock { .. } => {
-            "Name a `bool`, or a variable of an enumeration with one of its names."
-        }
-        StatError::ClockedParameter { .. } => {
-            "Call a node whose outputs are all on the base clock."
-        }
-        StatError::HiddenClock { .. } => "Make the local an output too.",
+        StatError::ClockMismatch { .. } => "Values of two clocks are joined.",
+        StatError::NotAClock { .. } => "A variable stands as a clock, and is none.",
+        StatError::ClockedParameter { .. } => "A main node with a clocked output isn't called.",
+        StatError::HiddenClock { .. } => "An output is on a clock that a local names.",
         StatError::MaybeNil { .. } => {
-            "Say what holds at the first instant: `0 -> pre x`, or `0 fby x`."
+            "A value may be missing at the first instant, where it is needed."
         }
         StatError::CurrentMayBeNil { .. } => {
-            "Put it on a clock whose equation begins with `true ->`."
+            "A `current` holds a variable whose clock may be false at first."
         }
-        _ => "Take a machine with more memory, or a shorter text.",
+        _ => "Memory ran out, which says nothing of the text.",
     }
 }
 
@@ -82,16 +52,27 @@ pub(crate) fn mend_of(error: &StatError) -> &'static str {
             "Go on from instant to instant with `pre`, or write a node for each step of the way."
         }
         StatError::BadMerge { .. } => "Write a branch for each of the two.",
-        _ => mend_of_stages(error),
+        StatError::ClockMismatch { .. } => {
+            "Bring both to one clock: sample the faster by `when`, hold the slower by `current`, or join them by `merge`."
+        }
+        StatError::NotAClock { .. } => {
+            "Name a `bool`, or a variable of an enumeration with one of its names."
+        }
+        StatError::ClockedParameter { .. } => {
+            "Call a node whose outputs are all on the base clock."
+        }
+        StatError::HiddenClock { .. } => "Make the local an output too.",
+        StatError::MaybeNil { .. } => {
+            "Say what holds at the first instant: `0 -> pre x`, or `0 fby x`."
+        }
+        StatError::CurrentMayBeNil { .. } => {
+            "Put it on a clock whose equation begins with `true ->`."
+        }
+        _ => "Take a machine with more memory, or a shorter text.",
     }
 }
 
 /// What is said of a broken rule by the rule alone.
 pub(crate) fn usual(alloc: Global, error: &StatError) -> Result<Said, AllocError> {
     in_words(alloc, rule_of(error), mend_of(error))
-}
-
-/// What is said where memory ran out.
-pub(crate) fn out_of_memory(alloc: Global) -> Result<Said, AllocError> {
-    usual(alloc, &StatError::OutOfMemory)
 }
