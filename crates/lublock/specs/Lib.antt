@@ -1,1 +1,3 @@
 pub mod Blocks
+pub mod Machine
+pub mod Shown

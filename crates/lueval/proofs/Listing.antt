@@ -116,33 +116,43 @@ wanted_output Input e = e
 wanted_output Output e = refl
 wanted_output Local e = e
 
--- what was kept of a whole run are its outputs
-module _ (flat : FlatProgram) (inputs : Table) (notes : Notes) (is_flat : IsFlat flat) (are : AreWhole Outputs flat inputs notes) where
-  kept_there : (v : ℕ) (x : Variable) (s : List Status) → slice_get flat.variables v ≡ Some x → is_output x.role ≡ true → slice_get (lists_of notes.columns.items) v ≡ Some s → slice_get (whole_streams_of flat inputs is_flat are.sound) v ≡ Some s
+-- columns that have the streams of the outputs
+module _ (flat : FlatProgram) (inputs : Table) (columns : List Column) (is_flat : IsFlat flat) (sound : (r u : ℕ) → r < flows_of flat → u < inputs.instants → solution flat inputs r u ≢ Broken) (len : length columns ≡ length flat.variables) (known : (v : ℕ) (x : Variable) (column : Column) → slice_get flat.variables v ≡ Some x → is_output x.role ≡ true → slice_get columns v ≡ Some column → map Known column.items ≡ marks (solution flat inputs v) inputs.instants) where
+  kept_there : (v : ℕ) (x : Variable) (s : List Status) → slice_get flat.variables v ≡ Some x → is_output x.role ≡ true → slice_get (lists_of columns) v ≡ Some s → slice_get (whole_streams_of flat inputs is_flat sound) v ≡ Some s
   kept_there v x s there so at =
-      let w = from_map notes.columns.items (slice_get notes.columns.items v) v s refl at in
+      let w = from_map columns (slice_get columns v) v s refl at in
       let lv = slice_get_within flat.variables v x there in
-      let column = column_at inputs (solution flat inputs) notes.kept.items notes.columns.items inputs.instants v w.0 are.columns (are.all v x there (wanted_output x.role so)) w.1 in
       let same : whole_stream inputs.instants (solution flat inputs v) ≡ s =
-      same_statuses (whole_stream inputs.instants (solution flat inputs v)) s (marks_of flat inputs is_flat are.sound v lv ∙ sym column.known ∙ ap (map Known) w.2) in
+      same_statuses (whole_stream inputs.instants (solution flat inputs v)) s (marks_of flat inputs is_flat sound v lv ∙ sym (known v x w.0 there so w.1) ∙ ap (map Known) w.2) in
       let zero_more : 0 + v ≡ v = omega arith in
       place_there (λ k. whole_stream inputs.instants (solution flat inputs k)) 0 (length flat.variables) v lv ∙ ap (λ k. Some (whole_stream inputs.instants (solution flat inputs k))) zero_more ∙ ap (λ (z : List Status). Some z) same
 
-  lists_same : outputs_in flat.variables (lists_of notes.columns.items) ≡ outputs_in flat.variables (whole_streams_of flat inputs is_flat are.sound)
+  lists_same : outputs_in flat.variables (lists_of columns) ≡ outputs_in flat.variables (whole_streams_of flat inputs is_flat sound)
   lists_same =
-      outputs_same flat.variables (lists_of notes.columns.items) (whole_streams_of flat inputs is_flat are.sound)
-      (length-map notes.columns.items (λ (c : Column). c.items) ∙ are.len ∙ sym (are_streams flat inputs is_flat are.sound).count) kept_there
+      outputs_same flat.variables (lists_of columns) (whole_streams_of flat inputs is_flat sound)
+      (length-map columns (λ (c : Column). c.items) ∙ len ∙ sym (are_streams flat inputs is_flat sound).count) kept_there
 
-  pub whole_outputs : (outputs : List OutputColumn) → outputs ≡ outputs_in flat.variables (lists_of notes.columns.items) → AreWholeOutputs flat inputs outputs
-  whole_outputs outputs e = record {
-    streams = whole_streams_of flat inputs is_flat are.sound;
-    solution = are_streams flat inputs is_flat are.sound;
-    source = meant flat inputs (whole_streams_of flat inputs is_flat are.sound) (are_streams flat inputs is_flat are.sound);
+  pub outputs_of_columns : (outputs : List OutputColumn) → outputs ≡ outputs_in flat.variables (lists_of columns) → AreWholeOutputs flat inputs outputs
+  outputs_of_columns outputs e = record {
+    streams = whole_streams_of flat inputs is_flat sound;
+    solution = are_streams flat inputs is_flat sound;
+    source = meant flat inputs (whole_streams_of flat inputs is_flat sound) (are_streams flat inputs is_flat sound);
     are = e ∙ lists_same;
   }
 
-  pub sound_outputs : 0 < length (outputs_of flat.variables) → AreOutputs (outputs_in flat.variables (lists_of notes.columns.items))
-  sound_outputs some =
-      let streams = whole_streams_of flat inputs is_flat are.sound in
+  pub sound_columns : 0 < length (outputs_of flat.variables) → AreOutputs (outputs_in flat.variables (lists_of columns))
+  sound_columns some =
+      let streams = whole_streams_of flat inputs is_flat sound in
       subst AreOutputs (sym lists_same)
-      (are_outputs inputs.instants flat.variables streams (sym (are_streams flat inputs is_flat are.sound).count) (long_streams (solution flat inputs) inputs.instants 0 (length flat.variables)) some)
+      (are_outputs inputs.instants flat.variables streams (sym (are_streams flat inputs is_flat sound).count) (long_streams (solution flat inputs) inputs.instants 0 (length flat.variables)) some)
+
+-- what was kept of a whole run are its outputs
+module _ (flat : FlatProgram) (inputs : Table) (notes : Notes) (is_flat : IsFlat flat) (are : AreWhole Outputs flat inputs notes) where
+  known_there : (v : ℕ) (x : Variable) (column : Column) → slice_get flat.variables v ≡ Some x → is_output x.role ≡ true → slice_get notes.columns.items v ≡ Some column → map Known column.items ≡ marks (solution flat inputs v) inputs.instants
+  known_there v x column there so at = (column_at inputs (solution flat inputs) notes.kept.items notes.columns.items inputs.instants v column are.columns (are.all v x there (wanted_output x.role so)) at).known
+
+  pub whole_outputs : (outputs : List OutputColumn) → outputs ≡ outputs_in flat.variables (lists_of notes.columns.items) → AreWholeOutputs flat inputs outputs
+  whole_outputs outputs e = outputs_of_columns flat inputs notes.columns.items is_flat are.sound are.len known_there outputs e
+
+  pub sound_outputs : 0 < length (outputs_of flat.variables) → AreOutputs (outputs_in flat.variables (lists_of notes.columns.items))
+  sound_outputs some = sound_columns flat inputs notes.columns.items is_flat are.sound are.len known_there some

@@ -33,4 +33,5 @@ pub use kernel::{Past, clock_now, datum_at, kept, value};
 pub use line::{Line, LineClock, column_of, line_of};
 pub use luflow::{Datum, Inputs, Outputs, Status};
 pub use operators::{choice, double, single};
+pub use outputs::taken_outputs;
 pub use streams::Streams;

@@ -10,8 +10,9 @@ ghost use Rattle.lueval.specs.declared.error.EvalError.TheVariants.{Fault};
 ghost use Rattle.lusdist_commands.specs.declared.stop.Stop.TheVariants.{CannotWrite, OutOfMemory};
 
 use crate::stop::Stop;
+use lublock::block_outputs;
 use luchart::{chronogram, cut, dump};
-use lueval::{EvalError, whole_columns, whole_outputs};
+use lueval::{EvalError, whole_columns};
 use luflow::{FaultKind, Flat, Inputs, Outputs};
 use lulist::Name;
 use lusdist_shell::{EvalRequest, Files};
@@ -60,7 +61,7 @@ fn output_columns(alloc: Global, flat: &Flat, inputs: &Inputs) -> Result<Outputs
     ensures no_fault { OnOk result (HasNoFault flat.now inputs.now) }
     ensures fault { IfErr result (IsAnswer flat.now inputs.now) }
 {
-    whole_outputs(alloc, flat, inputs)
+    block_outputs(alloc, flat, inputs)
 }
 
 /// The main variables of a flat program at a table that fits it, all of them or the outputs alone, or its first fault.

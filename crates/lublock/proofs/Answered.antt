@@ -1,0 +1,76 @@
+-- The outputs of a whole run.
+use Rattle.std.proofs.Common.{◌≡◌, ℕ, suc, ◌+◌, ◌<◌, true, List, [], ◌∷◌, length, map, Some, refl, sym, ◌∙◌, ap, ap₂, arith}
+use Rattle.std.specs.Prelude.{slice_get, OnOk, Ok, Err}
+use Rattle.std.specs.declared.result.Result.{Result}
+use Rattle.std.specs.List.{range_with_len}
+use Rattle.std.proofs.lemmas.Option.{slice_get_within}
+use Rattle.luflow.specs.declared.data.Status.{Status}
+use Rattle.luflow.specs.declared.variable.Variable.{Variable}
+use Rattle.luflow.specs.declared.variable.Role.{Role}
+use Rattle.luflow.specs.declared.variable.Role.TheVariants.{Input, Output, Local}
+use Rattle.luflow.specs.Program.{FlatProgram, Table, flows_of}
+use Rattle.luflow.specs.Streams.{Mark, Known, clock_at, ticked}
+use Rattle.luflow.specs.Messages.{marks}
+use Rattle.luflow.specs.Solution.{IsSolution, solution}
+use Rattle.luflow.specs.Sound.{IsFit}
+use Rattle.luflow.specs.Flats.{IsFlat}
+use Rattle.luflow.specs.Tables.{OutputColumn, AreOutputs}
+use Rattle.luflow.specs.Variables.{is_output, outputs_of}
+use Rattle.luflow.proofs.Solutions.{IsSolution-solution, some_at}
+use Rattle.luflow.proofs.TidyStreams.{tidy}
+use Rattle.lueval.specs.Outputs.{outputs_in}
+use Rattle.lueval.specs.Steps.{lists_of}
+use Rattle.lueval.specs.Whole.{AreWholeOutputs, HasNoFault}
+use Rattle.lueval.proofs.Listing.{outputs_of_columns, sound_columns}
+use Rattle.lueval.proofs.Steps.{fault_broken}
+use Rattle.lublock.specs.Shown.{Column, IsRun}
+use Rattle.lublock.proofs.Showing.{exact_near}
+
+listed : (xs : List Status) (f : ℕ → Mark) (a : ℕ) → ((m : ℕ) (s : Status) → slice_get xs m ≡ Some s → f (a + m) ≡ Known s) → map Known xs ≡ map f (range_with_len a (length xs))
+listed [] f a h = refl
+listed (x ∷ xs) f a h =
+    let e : a + 0 ≡ a = omega arith in
+    ap₂ (λ (m : Mark) (ms : List Mark). m ∷ ms) (sym (h 0 x refl) ∙ ap f e)
+    (listed xs f (a + 1) (λ m s at. (let g : (a + 1) + m ≡ a + suc m = omega arith in ap f g ∙ h (suc m) s at)))
+
+is_role : (r : Role) → is_output r ≡ true → r ≡ Output
+is_role Input e = absurd cc
+is_role Output e = refl
+is_role Local e = absurd cc
+
+abbrev pub AreLong : FlatProgram → Table → List Column → Type 0
+AreLong flat inputs columns = (v : ℕ) (x : Variable) (column : Column) → slice_get flat.variables v ≡ Some x → is_output x.role ≡ true → slice_get columns v ≡ Some column → length column.items ≡ inputs.instants
+
+pub on_ok : {X E : Type 0} (P : Type 0) (r : Result X E) → P → OnOk r P
+on_ok P (Ok x) p = p
+on_ok P (Err e) p = tt
+
+module _ (flat : FlatProgram) (inputs : Table) (columns : List Column) (is_flat : IsFlat flat) (fit : IsFit flat inputs) (run : IsRun flat inputs columns) where
+  one : IsSolution flat inputs (solution flat inputs)
+  one = IsSolution-solution flat inputs is_flat.ordered
+
+  pub no_fault : HasNoFault flat inputs
+  no_fault σ sol i t kind l fault =
+      run.sound σ sol i t (slice_get_within flat.flows i fault.flow fault.there) l (fault_broken flat inputs σ is_flat fit sol i t kind fault)
+
+  known_at : (v : ℕ) (x : Variable) (column : Column) → slice_get flat.variables v ≡ Some x → is_output x.role ≡ true → slice_get columns v ≡ Some column → length column.items ≡ inputs.instants → (m : ℕ) (s : Status) → slice_get column.items m ≡ Some s → solution flat inputs v m ≡ Known s
+  known_at v x column there output at long m s is =
+      let σ = solution flat inputs in
+      let lv : v < flows_of flat = (let l = slice_get_within flat.variables v x there in let k = is_flat.variables_first in omega (arith, l, k)) in
+      let lm : m < inputs.instants = (let l = slice_get_within column.items m s is in omega (arith, l, long)) in
+      let f = some_at flat.flows v lv in
+      exact_near f.0.kind (is_flat.sound.class v) (ticked (clock_at inputs σ f.0.clock) m) (clock_at inputs σ f.0.clock m) (σ v m) s
+      (tidy flat inputs σ is_flat.ordered is_flat.sound fit one v m lv lm f.0 f.1) (is_flat.sound.outputs v x there (is_role x.role output))
+      ((run.near σ one).near v column at m s is)
+
+  pub known : AreLong flat inputs columns → (v : ℕ) (x : Variable) (column : Column) → slice_get flat.variables v ≡ Some x → is_output x.role ≡ true → slice_get columns v ≡ Some column → map Known column.items ≡ marks (solution flat inputs v) inputs.instants
+  known whole v x column there output at =
+      let long = whole v x column there output at in
+      listed column.items (solution flat inputs v) 0 (λ m s is. (let e : 0 + m ≡ m = omega arith in ap (solution flat inputs v) e ∙ known_at v x column there output at long m s is))
+      ∙ ap (λ (n : ℕ). map (solution flat inputs v) (range_with_len 0 n)) long
+
+  pub told_outputs : AreLong flat inputs columns → (outputs : List OutputColumn) → outputs ≡ outputs_in flat.variables (lists_of columns) → AreWholeOutputs flat inputs outputs
+  told_outputs whole outputs e = outputs_of_columns flat inputs columns is_flat (run.sound (solution flat inputs) one) run.len (known whole) outputs e
+
+  pub told_sound : AreLong flat inputs columns → 0 < length (outputs_of flat.variables) → AreOutputs (outputs_in flat.variables (lists_of columns))
+  told_sound whole some = sound_columns flat inputs columns is_flat (run.sound (solution flat inputs) one) run.len (known whole) some

@@ -1,0 +1,93 @@
+-- A run from block to block.
+use Rattle.std.proofs.Common.{◌≡◌, ◌≢◌, ℕ, zero, suc, ◌+◌, ◌-◌, inl, inr, Bool, true, false, List, [], length, replicate, Some, ℤ, refl, sym, subst, ◌∙◌, ap, arith}
+use Rattle.std.specs.Prelude.{All, slice_get}
+use Rattle.std.proofs.lemmas.Bool.{cases_lt}
+use Rattle.luflow.specs.declared.data.Datum.TheVariants.{Nil}
+use Rattle.luflow.specs.Program.{FlatProgram, Table}
+use Rattle.luflow.specs.Streams.{Streams, Broken}
+use Rattle.luflow.proofs.Solutions.{some_at, all_at}
+use Rattle.lublock.specs.declared.span.Span.{Span}
+use Rattle.lublock.specs.declared.board.Board.{Board}
+use Rattle.lublock.specs.Blocks.{Holds, IsRight}
+use Rattle.lublock.specs.Machine.{block_of, upto_of, known_of, was_of, StandsOn, IsAfter}
+use Rattle.lublock.specs.Shown.{Column, AllNear, IsReady, IsRightBlock, StandsAt}
+
+-- a board that is ready stands, whatever the block's length
+pub ready_stands : (flat : FlatProgram) (inputs : Table) (σ : Streams) (t len : ℕ) (board : Board) → IsReady flat inputs σ t board → StandsOn flat inputs σ t len board
+ready_stands flat inputs σ t len board ready = record {
+  begins = ready.begins;
+  done = λ i n flow there l. absurd (let e = ready.upto i in omega (arith, e, l));
+  counts = λ i flow there on. absurd (let e : true ≡ false = sym on ∙ ready.known i in cc);
+}
+
+pub after_ready : (flat : FlatProgram) (inputs : Table) (σ : Streams) (t len : ℕ) (old new : Board) → IsRight flat inputs σ t len (block_of old.rows.items old.spans.items) → IsAfter old new → IsReady flat inputs σ (t + len) new
+after_ready flat inputs σ t len old new right after = record {
+  begins = λ r flow there.
+      let e = right.ends r flow there in
+      record {
+        datum = e.datum;
+        last = e.last;
+        holds = subst (λ (z : ℤ). Holds flow.kind z e.datum) (sym (after.first r)) e.holds;
+        ticks = e.ticks ∙ ap (λ (w : Bool). Some w) (sym (after.was r));
+      };
+  upto = after.upto;
+  known = after.known;
+}
+
+-- one block more
+pub stands_on : (flat : FlatProgram) (inputs : Table) (t len : ℕ) (before old new : Board) (columns columns' : List Column) → StandsAt flat inputs t before columns → IsRightBlock flat inputs t len old → IsAfter old new → AllNear flat inputs columns' → StandsAt flat inputs (t + len) new columns'
+stands_on flat inputs t len before old new columns columns' stands right after near = record {
+  ready = λ σ sol. after_ready flat inputs σ t len old new (right σ sol) after;
+  near = near;
+  sound = λ σ sol r u lr lu. elim (cases_lt u t) [
+    | inl h ↦ stands.sound σ sol r u lr h
+    | inr h ↦
+        let f = some_at flat.flows r lr in
+        let e : t + (u - t) ≡ u = omega arith in
+        subst (λ (k : ℕ). σ r k ≢ Broken) e ((right σ sol).at r (u - t) f.0 f.1 (omega arith)).sound
+  ];
+}
+
+abbrev fresh : Span
+fresh = record { ticks = 0; upto = 0; was = false; known = false }
+
+fresh_upto : (n r : ℕ) → upto_of (replicate n fresh) r ≡ 0
+fresh_upto zero r = refl
+fresh_upto (suc n) zero = refl
+fresh_upto (suc n) (suc r) = fresh_upto n r
+
+fresh_known : (n r : ℕ) → known_of (replicate n fresh) r ≡ false
+fresh_known zero r = refl
+fresh_known (suc n) zero = refl
+fresh_known (suc n) (suc r) = fresh_known n r
+
+fresh_was : (n r : ℕ) → was_of (replicate n fresh) r ≡ false
+fresh_was zero r = refl
+fresh_was (suc n) zero = refl
+fresh_was (suc n) (suc r) = fresh_was n r
+
+fresh_len : (n : ℕ) → length (replicate n fresh) ≡ n
+fresh_len zero = refl
+fresh_len (suc n) = ap suc (fresh_len n)
+
+pub board_len : (board : Board) (n : ℕ) → board.spans.items ≡ replicate n fresh → length board.spans.items ≡ n
+board_len board n is = ap length is ∙ fresh_len n
+
+-- before the first block
+pub stands_first : (flat : FlatProgram) (inputs : Table) (n : ℕ) (board : Board) (columns : List Column) → board.spans.items ≡ replicate n fresh → All (λ (column : Column). column.items ≡ []) columns → StandsAt flat inputs 0 board columns
+stands_first flat inputs n board columns is empty = record {
+  ready = λ σ sol. record {
+    begins = λ r flow there. record {
+      datum = Nil;
+      last = refl;
+      holds = λ ne. absurd (ne refl);
+      ticks = ap (λ (w : Bool). Some w) (sym (ap (λ (spans : List Span). was_of spans r) is ∙ fresh_was n r));
+    };
+    upto = λ r. ap (λ (spans : List Span). upto_of spans r) is ∙ fresh_upto n r;
+    known = λ r. ap (λ (spans : List Span). known_of spans r) is ∙ fresh_known n r;
+  };
+  near = λ σ sol. record {
+    near = λ v x there m s at. absurd (let none : List _ = [] in let f : slice_get none m ≡ Some s = ap (λ xs. slice_get xs m) (sym (all_at (λ (column : Column). column.items ≡ []) columns v x empty there)) ∙ at in cc);
+  };
+  sound = λ σ sol r u lr lu. absurd (omega (arith, lu));
+}

@@ -1,0 +1,150 @@
+-- What columns say of a solution.
+use Rattle.std.proofs.Common.{◌≡◌, ◌≢◌, ℕ, zero, suc, ◌+◌, ◌-◌, ◌<◌, ◌≤◌, inl, inr, Bool, true, false, cond, List, [], length, set, Option, Some, ℤ, refl, sym, subst, ◌∙◌, ap, ap₂, arith}
+use Rattle.std.specs.Prelude.{slice_get, IfOk, Ok, Err, Vec}
+use Rattle.std.specs.declared.result.Result.{Result}
+use Rattle.std.proofs.lemmas.Bool.{cases_lt, lt-ltb}
+use Rattle.std.proofs.lemmas.Option.{slice_get_within, slice_get-get_or, same_Some}
+use Rattle.lutree.specs.declared.program.Kind.{Kind}
+use Rattle.luflow.specs.declared.data.Datum.{Datum}
+use Rattle.luflow.specs.declared.data.Datum.TheVariants.{Nil}
+use Rattle.luflow.specs.declared.data.Status.{Status}
+use Rattle.luflow.specs.declared.data.Status.TheVariants.{Absent, Present}
+use Rattle.luflow.specs.declared.form.Clock.{Clock}
+use Rattle.luflow.specs.declared.form.Clock.TheVariants.{Base, On}
+use Rattle.luflow.specs.declared.form.Flow.{Flow}
+use Rattle.luflow.specs.Program.{FlatProgram, Table, flow_at}
+use Rattle.luflow.specs.Streams.{Mark, Known, Broken, Streams, is_value, truth_in, clock_at, ticked}
+use Rattle.luflow.specs.Solution.{IsSolution}
+use Rattle.luflow.specs.Sound.{IsFit, IsTidyMark, ClockFits}
+use Rattle.luflow.specs.Flats.{IsFlat}
+use Rattle.luflow.proofs.TidyStreams.{tidy}
+use Rattle.lueval.specs.Frames.{has_value}
+use Rattle.lublock.specs.Blocks.{datum_at, Holds, once_true, since, IsRight}
+use Rattle.lublock_rows.specs.Rows.{word_in}
+use Rattle.lublock.specs.Machine.{block_of, row_of}
+use Rattle.lublock.specs.Shown.{Column, IsAdded, present_at, status_in, seen_in, slow_at, IsShown, IsNear, AreNear}
+use Rattle.lublock.proofs.Steps.{get_other, get_same, len_set, same_place}
+use Rattle.lublock.specs.declared.span.Span.{Span}
+
+pub ok_weaker : {X E : Type 0} (P Q : X → Type 0) (r : Result X E) → ((x : X) → P x → Q x) → IfOk r P → IfOk r Q
+ok_weaker P Q (Ok x) f h = f x h
+ok_weaker P Q (Err e) f h = tt
+
+-- near a mark that isn't nil is what it is
+truth_near : (e : Bool) (u : Kind) (w q : Option Bool) (d : Datum) (m : Mark) (s : Status) → IsTidyMark u e w q m → e ≡ false → IsNear m s → truth_in d m ≡ Some (has_value d s)
+truth_near e u w q d m Absent tidy none near = ap (truth_in d) near
+truth_near e u w q d m (Present y) tidy none near =
+    let x = near.0 in
+    let of = subst (λ (n : Mark). IsTidyMark u e w q n) near.1 tidy in
+    let sure : x ≢ Nil = λ nil. (let one : e ≡ true = (of.2 nil).0 in let clash : false ≡ true = sym none ∙ one in cc) in
+    ap (truth_in d) near.1 ∙ ap (λ (z : Datum). Some (is_value d z)) (near.2 sure)
+
+-- what a flow of class false has
+pub exact_near : (u : Kind) (e : Bool) (w q : Option Bool) (m : Mark) (s : Status) → IsTidyMark u e w q m → e ≡ false → IsNear m s → m ≡ Known s
+exact_near u e w q m Absent tidy none near = near
+exact_near u e w q m (Present y) tidy none near =
+    let x = near.0 in
+    let of = subst (λ (n : Mark). IsTidyMark u e w q n) near.1 tidy in
+    let sure : x ≢ Nil = λ nil. (let one : e ≡ true = (of.2 nil).0 in let clash : false ≡ true = sym none ∙ one in cc) in
+    near.1 ∙ ap (λ (z : Datum). Known (Present z)) (near.2 sure)
+
+-- a flow that isn't broken, where its clock is true, and where it is false
+near_on : (u : Kind) (e : Bool) (w q : Option Bool) (m : Mark) (z : ℤ) → IsTidyMark u e w q m → m ≢ Broken → q ≡ Some true → ((d : Datum) → m ≡ Known (Present d) → Holds u z d) → IsNear m (Present (datum_at u z))
+near_on u e w q Broken z tidy sound on held = absurd (sound refl)
+near_on u e w q (Known Absent) z tidy sound on held = let f : Some true ≡ Some false = sym on ∙ tidy in absurd cc
+near_on u e w q (Known (Present d)) z tidy sound on held = (d, refl, held d refl)
+
+near_off : (u : Kind) (e : Bool) (w q : Option Bool) (m : Mark) → IsTidyMark u e w q m → m ≢ Broken → q ≡ Some false → IsNear m Absent
+near_off u e w q Broken tidy sound off = absurd (sound refl)
+near_off u e w q (Known Absent) tidy sound off = refl
+near_off u e w q (Known (Present d)) tidy sound off = let f : Some false ≡ Some true = sym off ∙ tidy.0 in absurd cc
+
+near_slow : (p : Bool) (q : Option Bool) (m : Mark) (s : Status) → q ≡ Some p → (q ≡ Some true → IsNear m s) → (q ≡ Some false → IsNear m Absent) → IsNear m (cond p s Absent)
+near_slow true q m s e on off = on e
+near_slow false q m s e on off = off e
+
+module _ (flat : FlatProgram) (inputs : Table) (σ : Streams) (t len : ℕ) (rows : List (Vec ℤ Rattle.std.specs.declared.alloc.Global.Global)) (spans : List Span) (is_flat : IsFlat flat) (fit : IsFit flat inputs) (sol : IsSolution flat inputs σ) (within : t + len ≤ inputs.instants) (right : IsRight flat inputs σ t len (block_of rows spans)) where
+  mark : (r n : ℕ) (flow : Flow) → flow_at flat r ≡ Some flow → n < len → IsTidyMark flow.kind (is_flat.sound.class r) (ticked (clock_at inputs σ flow.clock) (t + n)) (clock_at inputs σ flow.clock (t + n)) (σ r (t + n))
+  mark r n flow is l = tidy flat inputs σ is_flat.ordered is_flat.sound fit sol r (t + n) (slice_get_within flat.flows r flow is) (omega (arith, within)) flow is
+
+  on_at : (v n : ℕ) (flow : Flow) → flow_at flat v ≡ Some flow → n < len → clock_at inputs σ flow.clock (t + n) ≡ Some true → IsNear (σ v (t + n)) (present_at flow.kind (row_of rows v) (since (clock_at inputs σ flow.clock) t n))
+  on_at v n flow there l on =
+      near_on flow.kind (is_flat.sound.class v) (ticked (clock_at inputs σ flow.clock) (t + n)) (clock_at inputs σ flow.clock (t + n)) (σ v (t + n)) (word_in (row_of rows v) (suc (since (clock_at inputs σ flow.clock) t n)))
+      (mark v n flow there l) (right.at v n flow there l).sound on (right.at v n flow there l).holds
+
+  off_at : (v n : ℕ) (flow : Flow) → flow_at flat v ≡ Some flow → n < len → clock_at inputs σ flow.clock (t + n) ≡ Some false → IsNear (σ v (t + n)) Absent
+  off_at v n flow there l off =
+      near_off flow.kind (is_flat.sound.class v) (ticked (clock_at inputs σ flow.clock) (t + n)) (clock_at inputs σ flow.clock (t + n)) (σ v (t + n)) (mark v n flow there l) (right.at v n flow there l).sound off
+
+  base_on : (n : ℕ) → n < len → clock_at inputs σ Base (t + n) ≡ Some true
+  base_on n l = ap (λ (b : Bool). Some b) (lt-ltb (t + n) inputs.instants (omega (arith, within)))
+
+  base_count : (n : ℕ) → n ≤ len → since (clock_at inputs σ Base) t n ≡ n
+  base_count zero l = refl
+  base_count (suc n) l =
+      let one : once_true (clock_at inputs σ Base (t + n)) ≡ 1 = ap once_true (base_on n (omega arith)) in
+      let e : n + 1 ≡ suc n = omega arith in
+      ap₂ (λ (x y : ℕ). x + y) (base_count n (omega arith)) one ∙ e
+
+  show_base : (v n : ℕ) (flow : Flow) → flow_at flat v ≡ Some flow → flow.clock ≡ Base → n < len → IsNear (σ v (t + n)) (present_at flow.kind (row_of rows v) n)
+  show_base v n flow there clock l =
+      let count : since (clock_at inputs σ flow.clock) t n ≡ n = ap (λ (k : Clock). since (clock_at inputs σ k) t n) clock ∙ base_count n (omega arith) in
+      subst (λ (m : ℕ). IsNear (σ v (t + n)) (present_at flow.kind (row_of rows v) m)) count (on_at v n flow there l (ap (λ (k : Clock). clock_at inputs σ k (t + n)) clock ∙ base_on n l))
+
+  module _ (v c : ℕ) (d : Datum) (flow : Flow) (there : flow_at flat v ≡ Some flow) (clock : flow.clock ≡ On c d) (of : List Status) (near : (m : ℕ) (s : Status) → slice_get of m ≡ Some s → IsNear (σ c m) s) (long : length of ≡ t + len) where
+    tick_at : (n : ℕ) → n < len → clock_at inputs σ (On c d) (t + n) ≡ Some (has_value d (status_in of (t + n)))
+    tick_at n l =
+        let fits : ClockFits flat is_flat.sound.class (On c d) = subst (ClockFits flat is_flat.sound.class) clock (is_flat.sound.clocks v flow there) in
+        let flow_c : Flow = record { form = fits.3.form; clock = fits.0; kind = fits.1 } in
+        truth_near (is_flat.sound.class c) fits.1 (ticked (clock_at inputs σ fits.0) (t + n)) (clock_at inputs σ fits.0 (t + n)) d (σ c (t + n)) (status_in of (t + n)) (mark c n flow_c fits.3.there l) fits.4
+        (near (t + n) (status_in of (t + n)) (slice_get-get_or of (t + n) Absent (omega (arith, long))))
+
+    count_at : (n : ℕ) → n ≤ len → since (clock_at inputs σ (On c d)) t n ≡ seen_in of d t n
+    count_at zero l = refl
+    count_at (suc n) l = ap₂ (λ (x y : ℕ). x + y) (count_at n (omega arith)) (ap once_true (tick_at n (omega arith)))
+
+    show_slow : (n : ℕ) → n < len → IsNear (σ v (t + n)) (slow_at flow.kind (row_of rows v) of d t n)
+    show_slow n l =
+        let own : clock_at inputs σ flow.clock (t + n) ≡ clock_at inputs σ (On c d) (t + n) = ap (λ (k : Clock). clock_at inputs σ k (t + n)) clock in
+        let count : since (clock_at inputs σ flow.clock) t n ≡ seen_in of d t n = ap (λ (k : Clock). since (clock_at inputs σ k) t n) clock ∙ count_at n (omega arith) in
+        near_slow (has_value d (status_in of (t + n))) (clock_at inputs σ (On c d) (t + n)) (σ v (t + n)) (present_at flow.kind (row_of rows v) (seen_in of d t n)) (tick_at n l)
+        (λ on. subst (λ (m : ℕ). IsNear (σ v (t + n)) (present_at flow.kind (row_of rows v) m)) count (on_at v n flow there l (own ∙ on)))
+        (λ off. off_at v n flow there l (own ∙ off))
+
+  -- statuses at a column's end
+  added_near : (v : ℕ) (old new : List Status) (f : ℕ → Status) → length old ≡ t → IsAdded old new len f → ((m : ℕ) (s : Status) → slice_get old m ≡ Some s → IsNear (σ v m) s) → ((n : ℕ) → n < len → IsNear (σ v (t + n)) (f n)) → (m : ℕ) (s : Status) → slice_get new m ≡ Some s → IsNear (σ v m) s
+  added_near v old new f at added before now m s is = elim (cases_lt m t) [
+    | inl h ↦ before m s (sym (added.kept m (omega (arith, at, h))) ∙ is)
+    | inr h ↦
+        let l : m < length new = slice_get_within new m s is in
+        let n = m - t in
+        let e : t + n ≡ m = omega arith in
+        let f' : length old + n ≡ m = omega (arith, at) in
+        let ln : n < len = let g = added.long in omega (arith, g, l, at) in
+        let same : f n ≡ s = same_Some (f n) s (sym (added.added n ln) ∙ ap (slice_get new) f' ∙ is) in
+        subst (λ (k : ℕ). IsNear (σ v k) s) e (subst (λ (x : Status). IsNear (σ v (t + n)) x) same (now n ln))
+  ]
+
+  shown_by : (columns : List Column) (v : ℕ) (flow : Flow) (k : Clock) (old new : List Status) → AreNear σ columns → flow_at flat v ≡ Some flow → flow.clock ≡ k → ((m : ℕ) (s : Status) → slice_get old m ≡ Some s → IsNear (σ v m) s) → IsShown columns flow.kind (row_of rows v) k t len old new → (m : ℕ) (s : Status) → slice_get new m ≡ Some s → IsNear (σ v m) s
+  shown_by columns v flow Base old new near there clock before shown = added_near v old new (present_at flow.kind (row_of rows v)) shown.0 shown.1 before (λ n l. show_base v n flow there clock l)
+  shown_by columns v flow (On c d) old new near there clock before shown =
+      added_near v old new (slow_at flow.kind (row_of rows v) shown.1.items d t) shown.0 shown.4 before
+      (show_slow v c d flow there clock shown.1.items (λ m s. near.near c shown.1 shown.2 m s) shown.3)
+
+  -- a column that was taken out and put back with what its flow has in the block
+  pub shown_more : (columns : List Column) (v : ℕ) (flow : Flow) (old dest new : Column) → v < length columns → slice_get columns v ≡ Some old → dest.items ≡ [] → flow_at flat v ≡ Some flow → AreNear σ columns → IsShown (set columns v dest) flow.kind (row_of rows v) flow.clock t len old.items new.items → AreNear σ (set (set columns v dest) v new)
+  shown_more columns v flow old dest new inside was empty there near shown =
+      let taken : AreNear σ (set columns v dest) = record {
+        near = λ r x is m s at.
+            same_place (λ (r : ℕ). (x : Column) → slice_get (set columns v dest) r ≡ Some x → slice_get x.items m ≡ Some s → IsNear (σ r m) s) v r
+            (λ x is at. absurd (let e : x ≡ dest = same_Some x dest (sym is ∙ get_same columns v dest inside) in let none : List Status = [] in let f : slice_get none m ≡ Some s = ap (λ (xs : List Status). slice_get xs m) (sym empty ∙ ap (λ (y : Column). y.items) (sym e)) ∙ at in cc))
+            (λ ne x is at. near.near r x (sym (get_other columns v r dest ne) ∙ is) m s at) x is at;
+      } in
+      record {
+        near = λ r x is m s at.
+            same_place (λ (r : ℕ). (x : Column) → slice_get (set (set columns v dest) v new) r ≡ Some x → slice_get x.items m ≡ Some s → IsNear (σ r m) s) v r
+            (λ x is at.
+            let e : new ≡ x = same_Some new x (sym (get_same (set columns v dest) v new (let k = len_set columns v dest in omega (arith, k, inside))) ∙ is) in
+            shown_by (set columns v dest) v flow flow.clock old.items new.items taken there refl (λ m s at. near.near v old was m s at) shown m s (ap (λ (y : Column). slice_get y.items m) e ∙ at))
+            (λ ne x is at. taken.near r x (sym (get_other (set columns v dest) v r new ne) ∙ is) m s at) x is at;
+      }

@@ -1,0 +1,322 @@
+//! The rows of all flows, and how far each has come in the block.
+
+ghost use Rattle.std.specs.Prelude.{◌≡◌, ◌<◌, ◌+◌, ◌^◌, ◌||◌, ℕ, length, true, false, IfOk, IfSome, Some, nat_lt, replicate};
+ghost use Rattle.luflow.specs.Program.{Table};
+ghost use Rattle.luflow.specs.declared.form.Flow.{Flow};
+ghost use Rattle.lublock_rows.specs.Rows.{IsPut, Keeps, word_in};
+ghost use Rattle.lublock.specs.Machine.{IsAfter, IsCount, StandsStill, WritesForm, row_of, ticks_of, upto_of, was_of, known_of};
+
+use crate::clocked::ticks_at;
+use crate::forms::{clock_at, flow_of, kind_at, read};
+use crate::solve::solve_form;
+use crate::span::Span;
+use crate::ticks::tick_form;
+use lublock_rows::clocks::count;
+use lublock_rows::rows::put;
+use luflow::{Clock, Datum, Flat, Flow, Inputs};
+use std::alloc::{AllocError, Global};
+use std::mem;
+
+/// More ticks than any block has.
+const MOST_TICKS: usize = 65536;
+
+/// A row of words for each flow, and how far it has come.
+#[derive(Drop)]
+pub struct Board {
+    pub rows: Vec<Vec<i64>>,
+    pub spans: Vec<Span>,
+}
+
+/// How many ticks the clock of this variable and value has, if the variable has all its words.
+fn hits_on(flat: &Flat, rows: &[Vec<i64>], spans: &[Span], c: usize, datum: Datum) -> Option<usize>
+    ensures { IfSome result (λ n. (len : ℕ)
+        → IsCount flat.now len rows.now spans.now (Clock.On c datum) n) }
+{
+    let Some(kind) = kind_at(flat, c) else {
+        return None;
+    };
+    let Some(ticks) = ticks_at(spans, c) else {
+        return None;
+    };
+    match read(rows, spans, c, ticks) {
+        Some(z) => Some(count(z, kind, datum, ticks)),
+        None => None,
+    }
+}
+
+/// How many ticks a clock has in a block of `len` instants, if its variable has all its words.
+fn ticks_on(
+    flat: &Flat,
+    rows: &[Vec<i64>],
+    spans: &[Span],
+    len: usize,
+    clock: Clock,
+) -> Option<usize>
+    ensures { IfSome result (λ n. IsCount flat.now len rows.now spans.now clock n) }
+{
+    match clock {
+        Clock::Base => Some(len),
+        Clock::On(c, datum) => hits_on(flat, rows, spans, c, datum),
+    }
+}
+
+/// Writes the words of flow i into its row, as `solve_form` does.
+fn solve_into(
+    flat: &Flat,
+    inputs: &Inputs,
+    rows: &[Vec<i64>],
+    spans: &[Span],
+    t: usize,
+    i: usize,
+    flow: &Flow,
+    row: &mut Vec<i64>,
+    from: usize,
+    to: usize,
+) -> bool
+    requires { to < length row.old.items }
+    ensures kept { Keeps from row.old.items row.new.items }
+    ensures words { result ≡ false → WritesForm flat.now inputs.now t rows.now spans.now i flow.now
+        flow.now.form from to row.new.items }
+{
+    solve_form(
+        flat,
+        inputs,
+        rows,
+        spans,
+        t,
+        i,
+        flow,
+        row.as_mut_slice(),
+        from,
+        to,
+    )
+}
+
+/// Where no block was yet.
+fn fresh() -> Span
+    ensures { result ≡ record { ticks = 0; upto = 0; was = false; known = false } }
+{
+    Span {
+        ticks: 0,
+        upto: 0,
+        was: false,
+        known: false,
+    }
+}
+
+impl Board {
+    /// A board before the first block, with room for blocks of so many instants.
+    pub fn new(alloc: Global, flows: usize, instants: usize) -> Result<Board, AllocError>
+        ensures { IfOk result (λ board. board.spans.items
+            ≡ replicate flows (record { ticks = 0; upto = 0; was = false; known = false })) }
+    {
+        let mut rows = Vec::with_capacity(alloc, flows)?;
+        for _r in 0..flows {
+            rows.push(vec![in alloc; 0i64; instants.saturating_add(1)]?)?;
+        }
+        let spans = vec![in alloc; fresh(); flows]?;
+        Ok(Board { rows, spans })
+    }
+
+    /// Counts the ticks of flow i in a block of `len` instants, where they aren't counted yet; whether they can't be.
+    pub fn count(&mut self, flat: &Flat, len: usize, i: usize) -> bool
+        ensures stands { (inputs : Table) (t : ℕ)
+            → StandsStill flat.now inputs t len self.old self.new }
+        ensures flows { length self.new.spans.items ≡ length self.old.spans.items }
+    {
+        if self.spans.len() <= i {
+            return true;
+        }
+        let span = self.spans[i];
+        if span.known {
+            return false;
+        }
+        let Some(clock) = clock_at(flat, i) else {
+            return true;
+        };
+        match ticks_on(
+            flat,
+            self.rows.as_slice(),
+            self.spans.as_slice(),
+            len,
+            clock,
+        ) {
+            Some(ticks) => {
+                self.spans[i] = Span {
+                    ticks,
+                    upto: span.upto,
+                    was: span.was,
+                    known: true,
+                };
+                false
+            }
+            None => true,
+        }
+    }
+
+    /// Finds the words of flow i up to its tick `to`, where the block begins at instant `t`; whether some tick has none, or what is read
+    /// isn't there.
+    pub fn solve(
+        &mut self,
+        alloc: Global,
+        flat: &Flat,
+        inputs: &Inputs,
+        t: usize,
+        i: usize,
+        to: usize,
+    ) -> bool
+        ensures stands { (len : ℕ) → StandsStill flat.now inputs.now t len self.old self.new }
+        ensures flows { length self.new.spans.items ≡ length self.old.spans.items }
+    {
+        let Some(flow) = flow_of(flat, i) else {
+            return true;
+        };
+        if self.spans.len() <= i || self.rows.len() <= i {
+            return true;
+        }
+        let span = self.spans[i];
+        let mut row = mem::replace(&mut self.rows[i], Vec::new(alloc));
+        if row.len() <= to {
+            self.rows[i] = row;
+            return true;
+        }
+        let rows = self.rows.as_slice();
+        let spans = self.spans.as_slice();
+        let fault = solve_into(
+            flat, inputs, rows, spans, t, i, flow, &mut row, span.upto, to,
+        );
+        self.rows[i] = row;
+        if fault || to <= span.upto {
+            return fault;
+        }
+        self.spans[i] = Span {
+            ticks: span.ticks,
+            upto: to,
+            was: span.was,
+            known: span.known,
+        };
+        false
+    }
+}
+
+/// Puts the word of a row's tick.
+fn put_word(row: &mut Vec<i64>, tick: usize, word: i64)
+    requires { tick + 1 < length row.old.items }
+    ensures { IsPut row.old.items tick word row.new.items }
+{
+    put(row.as_mut_slice(), tick, word);
+}
+
+/// The span of a flow that has one word more.
+fn longer(span: Span) -> Span
+    requires { span.upto < 2 ^ 32 }
+    ensures { result ≡ record {
+      ticks = span.ticks;
+      upto = span.upto + 1;
+      was = span.was;
+      known = span.known;
+    } }
+{
+    Span {
+        ticks: span.ticks,
+        upto: span.upto + 1,
+        was: span.was,
+        known: span.known,
+    }
+}
+
+impl Board {
+    /// Finds the next word of flow i; whether it has none, or what is read isn't there.
+    pub fn next(&mut self, flat: &Flat, i: usize) -> bool
+        ensures stands { (inputs : Table) (t len : ℕ)
+            → StandsStill flat.now inputs t len self.old self.new }
+        ensures flows { length self.new.spans.items ≡ length self.old.spans.items }
+    {
+        let Some(flow) = flow_of(flat, i) else {
+            return true;
+        };
+        if self.spans.len() <= i || self.rows.len() <= i {
+            return true;
+        }
+        let span = self.spans[i];
+        if MOST_TICKS <= span.upto || self.rows[i].len() <= span.upto + 1 {
+            return true;
+        }
+        let rows = self.rows.as_slice();
+        let spans = self.spans.as_slice();
+        let (word, none) = tick_form(flat, rows, spans, i, flow, span.upto);
+        if none {
+            return true;
+        }
+        put_word(&mut self.rows[i], span.upto, word);
+        self.spans[i] = longer(span);
+        false
+    }
+}
+
+/// Puts the word of a row's last tick first.
+fn renew_row(row: &mut Vec<i64>, ticks: usize)
+    ensures { word_in row.new.items 0 ≡ word_in row.old.items ticks }
+{
+    let last = match row.get(ticks) {
+        Some(word) => *word,
+        None => 0,
+    };
+    if 0 < row.len() {
+        row[0] = last;
+    }
+}
+
+/// Puts the word of each row's last tick first.
+fn renew_rows(rows: &mut Vec<Vec<i64>>, spans: &[Span])
+    ensures { (r : ℕ) → word_in (row_of rows.new.items r) 0
+        ≡ word_in (row_of rows.old.items r) (ticks_of spans.now r) }
+{
+    for i in 0..rows.len() {
+        let ticks = match spans.get(i) {
+            Some(span) => span.ticks,
+            None => 0,
+        };
+        renew_row(&mut rows[i], ticks);
+    }
+}
+
+/// How far a flow is when the next block begins.
+fn renewed(span: Span) -> Span
+    ensures { result ≡ record {
+      ticks = 0;
+      upto = 0;
+      was = span.was || nat_lt 0 span.ticks;
+      known = false;
+    } }
+{
+    Span {
+        ticks: 0,
+        upto: 0,
+        was: span.was || 0 < span.ticks,
+        known: false,
+    }
+}
+
+/// How far each flow is when the next block begins.
+fn renew_spans(spans: &mut Vec<Span>)
+    ensures was { (r : ℕ) → was_of spans.new.items r
+        ≡ was_of spans.old.items r || nat_lt 0 (ticks_of spans.old.items r) }
+    ensures upto { (r : ℕ) → upto_of spans.new.items r ≡ 0 }
+    ensures known { (r : ℕ) → known_of spans.new.items r ≡ false }
+    ensures len { length spans.new.items ≡ length spans.old.items }
+{
+    for i in 0..spans.len() {
+        spans[i] = renewed(spans[i]);
+    }
+}
+
+impl Board {
+    /// Makes the board ready for the next block.
+    pub fn renew(&mut self)
+        ensures { IsAfter self.old self.new }
+    {
+        renew_rows(&mut self.rows, self.spans.as_slice());
+        renew_spans(&mut self.spans);
+    }
+}

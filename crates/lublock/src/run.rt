@@ -1,0 +1,207 @@
+//! A whole run, block after block.
+
+ghost use Rattle.std.specs.Prelude.{◌≡◌, ◌≤◌, ◌<◌, ◌+◌, [], All, ℕ, length, false, true, IfErr, IfOk, IfSome, OnOk, Some, slice_get};
+ghost use Rattle.luflow.specs.Variables.{is_output, outputs_of};
+ghost use Rattle.luflow.specs.Program.{flows_of};
+ghost use Rattle.luflow.specs.Sound.{IsFit};
+ghost use Rattle.luflow.specs.FlatLaws.{HasOneSolution};
+ghost use Rattle.luflow.specs.declared.variable.Variable.{Variable};
+ghost use Rattle.lueval.specs.Whole.{AreWholeOutputs, HasNoFault, IsAnswer, KeepsAllTypes};
+ghost use Rattle.lublock.specs.Shown.{AllNear, Column, IsRightBlock, IsRun, StandsAt};
+
+use crate::board::Board;
+use crate::plan::{Plan, needed};
+use crate::show::show;
+use lueval::{EvalError, taken_outputs, whole_outputs};
+use luflow::{Flat, Inputs, Outputs, Role, Status, Variable};
+use std::alloc::{AllocError, Global};
+
+/// The instants of a block.
+const INSTANTS: usize = 128;
+
+/// Puts the statuses of these main variables at a block's instants at their columns' ends; whether some isn't there.
+fn show_all(
+    alloc: Global,
+    flat: &Flat,
+    inputs: &Inputs,
+    board: &Board,
+    columns: &mut Vec<Vec<Status>>,
+    needs: &[usize],
+    t: usize,
+    len: usize,
+) -> Result<bool, AllocError>
+    requires fit { IsFit flat.now inputs.now }
+    requires within { t + len ≤ inputs.now.instants }
+    ensures len { IfOk result (λ none. none ≡ false
+        → length columns.new.items ≡ length columns.old.items) }
+    ensures near { IfOk result (λ none. none ≡ false
+        → IsRightBlock flat.now inputs.now t len board.now
+        → AllNear flat.now inputs.now columns.old.items
+        → AllNear flat.now inputs.now columns.new.items) }
+{
+    for v in needs {
+        if show(alloc, flat, inputs, board, columns, t, len, *v)? {
+            return Ok(true);
+        }
+    }
+    Ok(false)
+}
+
+/// Works out a block, puts out what it has, and makes the board ready for the next; whether something isn't there.
+fn go(
+    alloc: Global,
+    flat: &Flat,
+    inputs: &Inputs,
+    plan: &Plan,
+    needs: &[usize],
+    board: &mut Board,
+    columns: &mut Vec<Vec<Status>>,
+    t: usize,
+    len: usize,
+) -> Result<bool, AllocError>
+    requires fit { IsFit flat.now inputs.now }
+    requires flows { length board.old.spans.items ≡ flows_of flat.now }
+    requires within { t + len ≤ inputs.now.instants }
+    ensures flows { IfOk result (λ none. none ≡ false
+        → length board.new.spans.items ≡ length board.old.spans.items) }
+    ensures len { IfOk result (λ none. none ≡ false
+        → length columns.new.items ≡ length columns.old.items) }
+    ensures stands { IfOk result (λ none. none ≡ false
+        → StandsAt flat.now inputs.now t board.old columns.old.items
+        → StandsAt flat.now inputs.now (t + len) board.new columns.new.items) }
+{
+    if board.work(alloc, flat, inputs, plan, t, len) {
+        return Ok(true);
+    }
+    if show_all(alloc, flat, inputs, board, columns, needs, t, len)? {
+        return Ok(true);
+    }
+    board.renew();
+    Ok(false)
+}
+
+/// As many empty columns.
+fn empty_columns(alloc: Global, count: usize) -> Result<Vec<Vec<Status>>, AllocError>
+    ensures len { IfOk result (λ x. length x.items ≡ count) }
+    ensures empty { IfOk result (λ x. All (λ column. column.items ≡ []) x.items) }
+{
+    let mut columns = Vec::with_capacity(alloc, count)?;
+    for _v in 0..count {
+        columns.push_reserved(Vec::new(alloc));
+    }
+    Ok(columns)
+}
+
+/// The columns of a whole run, if it could be worked out in blocks; not tried where more than half of the flows would go tick by tick,
+/// which takes longer than `lueval` does.
+fn run(alloc: Global, flat: &Flat, inputs: &Inputs) -> Result<Option<Vec<Vec<Status>>>, AllocError>
+    requires { IsFit flat.now inputs.now }
+    ensures { IfOk result (λ columns. IfSome columns (λ x. IsRun flat.now inputs.now x.items)) }
+{
+    let plan = Plan::new(alloc, flat)?;
+    let all = flat.flows();
+    if all.len() / 2 < plan.members.len() {
+        return Ok(None);
+    }
+    let needs = needed(alloc, flat)?;
+    let mut board = Board::new(alloc, all.len(), INSTANTS)?;
+    let mut columns = empty_columns(alloc, flat.variables().len())?;
+    let instants = inputs.instants() as usize;
+    let mut t = 0;
+    while t < instants {
+        let left = instants - t;
+        let len = if left < INSTANTS { left } else { INSTANTS };
+        let members = needs.as_slice();
+        if go(
+            alloc,
+            flat,
+            inputs,
+            &plan,
+            members,
+            &mut board,
+            &mut columns,
+            t,
+            len,
+        )? {
+            return Ok(None);
+        }
+        t += len;
+    }
+    Ok(Some(columns))
+}
+
+/// Whether this is the role of an output.
+fn is_output(role: Role) -> bool
+    ensures { result ≡ is_output role }
+{
+    match role {
+        Role::Output => true,
+        Role::Input | Role::Local => false,
+    }
+}
+
+/// Whether the columns of all outputs have so many statuses.
+fn are_whole(variables: &[Variable], columns: &[Vec<Status>], instants: usize) -> bool
+    requires { length variables.now ≡ length columns.now }
+    ensures { result ≡ true → (v : ℕ) (x : Variable) (column : Column)
+        → slice_get variables.now v ≡ Some x → is_output x.role ≡ true
+        → slice_get columns.now v ≡ Some column → length column.items ≡ instants }
+{
+    for v in 0..variables.len() {
+        if is_output(variables[v].role) && columns[v].len() != instants {
+            return false;
+        }
+    }
+    true
+}
+
+/// The outputs among the columns of a whole run.
+fn told(
+    alloc: Global,
+    flat: &Flat,
+    inputs: &Inputs,
+    columns: Vec<Vec<Status>>,
+) -> Result<Outputs, EvalError>
+    requires fit { IsFit flat.now inputs.now }
+    requires some { 0 < length (outputs_of flat.now.variables) }
+    requires run { IsRun flat.now inputs.now columns.items }
+    requires whole { (v : ℕ) (x : Variable) (column : Column)
+        → slice_get flat.now.variables v ≡ Some x → is_output x.role ≡ true
+        → slice_get columns.items v ≡ Some column
+        → length column.items ≡ inputs.now.instants }
+    ensures outputs { IfOk result (AreWholeOutputs flat.now inputs.now) }
+    ensures memory { IfErr result (λ e. e ≡ EvalError.OutOfMemory) }
+{
+    let _flows = flat.flows();
+    let outputs = taken_outputs(alloc, flat.variables(), columns)?;
+    match Outputs::new(outputs) {
+        Some(outputs) => Ok(outputs),
+        None => unreachable!(),
+    }
+}
+
+/// Evaluates the whole program at a table, as [`whole_outputs`] does, in blocks of instants where it can: its outputs by name, in order of
+/// declaration, each with its stream in the only solution; or the first fault. The memory is a status for each output, and each variable
+/// of an output's clock, and instant, and a fixed amount for each flow.
+///
+/// # Errors
+///
+/// Those of [`whole_outputs`].
+pub fn block_outputs(alloc: Global, flat: &Flat, inputs: &Inputs) -> Result<Outputs, EvalError>
+    requires fit { IsFit flat.now inputs.now }
+    requires some { 0 < length (outputs_of flat.now.variables) }
+    ensures only { HasOneSolution flat.now inputs.now }
+    ensures outputs { IfOk result (AreWholeOutputs flat.now inputs.now) }
+    ensures no_fault { OnOk result (HasNoFault flat.now inputs.now) }
+    ensures fault { IfErr result (IsAnswer flat.now inputs.now) }
+    ensures tidy { KeepsAllTypes flat.now inputs.now }
+{
+    let _flows = flat.flows();
+    let instants = inputs.instants() as usize;
+    match run(alloc, flat, inputs)? {
+        Some(columns) if are_whole(flat.variables(), columns.as_slice(), instants) => {
+            told(alloc, flat, inputs, columns)
+        }
+        _ => whole_outputs(alloc, flat, inputs),
+    }
+}

@@ -1,0 +1,54 @@
+//! Runs on threads and by crews, with gates that hold items back, with stations that are missing or whose links lead nowhere, and
+//! sites that stop before an item: lines of standard input, with what each comes to. README.md has the form of the lines.
+#![tactic(auto)]
+
+mod driver;
+mod gates;
+mod parties;
+mod runs;
+
+use crate::parties::put_driven;
+use crate::runs::{put_outputs, put_run};
+use lurun::collect;
+use lusdist_commands::jobs::job_for;
+use lusdist_shell::RealFiles;
+use std::io;
+use std::sync::Wait;
+use std::thread::Threads;
+
+/// Word k of a line; an empty one behind the last.
+pub fn word(line: &str, k: usize) -> &str {
+    line.split_whitespace().nth(k).unwrap_or("")
+}
+
+/// The number that word k spells; 0 for any other word.
+pub fn number(line: &str, k: usize) -> u32 {
+    word(line, k).parse().unwrap_or(0)
+}
+
+/// Writes what a line comes to.
+fn take_line<R: Threads + Wait + Sync>(
+    threads: &R,
+    rt: &HostRuntime,
+    line: &str,
+) -> io::Result<()> {
+    let files = RealFiles::new(rt);
+    let (program, place, table) = (word(line, 1), word(line, 2), word(line, 3));
+    let Ok(job) = job_for(rt.alloc(), &files, program, place, table, "main") else {
+        return println!(rt; "! no job");
+    };
+    match word(line, 0) {
+        "collect" => put_outputs(rt, &job, collect(rt.alloc(), Vec::new(rt.alloc()))),
+        "drive" => put_driven(threads, rt, &job, line),
+        _ => put_run(threads, rt, &job, line),
+    }
+}
+
+fn main(rt: HostRuntime) -> io::Result<()> {
+    for line in rt.lines(rt.alloc()) {
+        let line = line?;
+        println!(rt; "{line}")?;
+        take_line(&rt, &rt, line.as_str())?;
+    }
+    Ok(())
+}

@@ -1,0 +1,141 @@
+//! Two sites that are driven item by item.
+
+ghost use Rattle.std.specs.Prelude.{◌≡◌, ◌<◌, IfOk};
+ghost use Rattle.luworld.specs.Needs.{sites_of};
+ghost use Rattle.lulink.specs.Lists.{list_of};
+ghost use Rattle.lurun_rows.specs.Driven.{IsPlain};
+
+use crate::driver::{Feeder, Left, Plain, driven, takes_in};
+use crate::number;
+use crate::runs::put_outputs;
+use lulink::{Body, Msg, Rx, open_link};
+use luplace::Job;
+use lurun::collect;
+use lusdist_plain::{list_of_link, script_of};
+use lusite::{Site, SiteReport, Standing, Status, project};
+use std::alloc::{AllocError, Global};
+use std::io;
+use std::sync::Wait;
+use std::thread::Threads;
+
+fn site_of(alloc: Global, job: &Job, site: u8) -> Result<Site, AllocError>
+    requires { site < sites_of job.now.plan }
+    ensures job { IfOk result (λ x. x.job ≡ job.now) }
+    ensures site { IfOk result (λ x. x.site ≡ site) }
+    ensures done { IfOk result (λ x. x.done ≡ 0) }
+{
+    let program = project(alloc, job.plan(), site)?;
+    let inputs = job.inputs_at(alloc, site)?;
+    Site::new(alloc, program, inputs)
+}
+
+/// The unused ends of a link of a job, whose list this is.
+fn ends_of<'l>(
+    alloc: Global,
+    job: &Job,
+    link: usize,
+    list: &'l [Msg],
+) -> Result<(Feeder<'l>, Rx), AllocError>
+    requires { list.now ≡ list_of job.now link }
+{
+    let capacity = job.plan().capacity();
+    if capacity == 0 {
+        return Err(AllocError);
+    }
+    let Ok((tx, rx)) = open_link(alloc, job, link, capacity) else {
+        return Err(AllocError);
+    };
+    Ok((Feeder { tx, list, at: 0 }, rx))
+}
+
+/// Writes the first messages of a list.
+fn put_taken(rt: &HostRuntime, list: &[Msg], count: usize) -> io::Result<()> {
+    print!(rt; "= taken")?;
+    for msg in list.iter().take(count) {
+        match msg.body {
+            Body::Value(datum) => print!(rt; " {datum:?}")?,
+            Body::Close => print!(rt; " close")?,
+        }
+    }
+    println!(rt; "")
+}
+
+/// Writes what a site leaves: how it stands, how many items it did, and its outputs, `-` where they are absent.
+fn put_report(rt: &HostRuntime, report: &SiteReport, count: usize) -> io::Result<()> {
+    match report.standing() {
+        Standing::Ended => print!(rt; "= ended")?,
+        Standing::Cut => print!(rt; "= cut")?,
+        Standing::Faulted(fault) => {
+            let (variable, instant, kind) = (fault.variable, fault.instant, fault.kind);
+            print!(rt; "= fault {variable} {instant} {kind}")?;
+        }
+    }
+    println!(rt; " after {count} items")?;
+    for k in 0..report.names().len() {
+        print!(rt; "= output {k}")?;
+        for status in report.outputs(k) {
+            match status {
+                Status::Present(datum) => print!(rt; " {datum:?}")?,
+                Status::Absent => print!(rt; " -")?,
+            }
+        }
+        println!(rt; "")?;
+    }
+    Ok(())
+}
+
+/// Drives the two sites of a job up to these numbers of items.
+fn drive<R: Threads + Wait + Sync>(
+    threads: &R,
+    alloc: Global,
+    job: &Job,
+    plain: Plain<'_>,
+    most: (usize, usize),
+) -> Result<(Left, Left), AllocError>
+    requires two { 1 < sites_of job.now.plan }
+    requires plain { IsPlain job.now 1 plain.script.now plain.first.now plain.second.now }
+{
+    let one = site_of(alloc, job, 0)?;
+    let two = site_of(alloc, job, 1)?;
+    let (tx, rx) = ends_of(alloc, job, 0, plain.first)?;
+    let (other_tx, other_rx) = ends_of(alloc, job, 1, plain.second)?;
+    let (feeders, takers) = ((tx, other_tx), (rx, other_rx));
+    Ok(driven(threads, (one, two), feeders, takers, plain, most))
+}
+
+/// Writes what both sites leave, and what the second took from each link.
+fn put_left(rt: &HostRuntime, one: &Left, two: &Left, plain: Plain<'_>) -> io::Result<()> {
+    put_report(rt, &one.0, one.1)?;
+    put_report(rt, &two.0, two.1)?;
+    put_taken(rt, plain.first, takes_in(plain.script, two.1, 0))?;
+    put_taken(rt, plain.second, takes_in(plain.script, two.1, 1))
+}
+
+/// Drives the two sites of a job up to the numbers of items that a line tells, and writes what both leave, what was taken from the
+/// first two links, and what both reports tell together.
+pub fn put_driven<R: Threads + Wait + Sync>(
+    threads: &R,
+    rt: &HostRuntime,
+    job: &Job,
+    line: &str,
+) -> io::Result<()> {
+    let alloc = rt.alloc();
+    if job.plan().sites().len() < 2 {
+        return println!(rt; "! too few sites");
+    }
+    let script = script_of(alloc, job, 1)?;
+    let first = list_of_link(alloc, job, 0)?;
+    let second = list_of_link(alloc, job, 1)?;
+    let plain = Plain {
+        script: &script,
+        first: &first,
+        second: &second,
+    };
+    let most = (number(line, 4) as usize, number(line, 5) as usize);
+    let (one, two) = drive(threads, alloc, job, plain, most)?;
+    put_left(rt, &one, &two, plain)?;
+    let mut reports = Vec::with_capacity(alloc, 2)?;
+    reports.push_reserved(one.0);
+    reports.push_reserved(two.0);
+    put_outputs(rt, job, collect(alloc, reports))
+}
