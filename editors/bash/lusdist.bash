@@ -34,18 +34,20 @@ _lusdist() {
             esac
             ;;
         replay)
-            flags='--main --explain --finish --trace --help'
+            flags='--main --explain --finish --trace --chart --vcd --help'
             endings=(lus toml csv '')
             case $before in
                 --main) COMPREPLY=(); return ;;
+                --vcd) COMPREPLY=($(compgen -f -- "$word")); return ;;
             esac
             ;;
         run)
-            flags='--main --explain --workers --progress --help'
+            flags='--main --explain --workers --progress --vcd --help'
             endings=(lus toml csv)
             case $before in
                 --main) COMPREPLY=(); return ;;
                 --workers) COMPREPLY=($(compgen -W "$(seq 1 16)" -- "$word")); return ;;
+                --vcd) COMPREPLY=($(compgen -f -- "$word")); return ;;
             esac
             ;;
         explain)

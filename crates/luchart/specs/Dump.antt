@@ -113,8 +113,12 @@ declarations signals = of_flows declaration signals
 abbrev pub opening : List ℕ → List ℕ
 opening main = codes "$timescale 1 us $end\n$scope module " ++ (main ++ codes " $end\n")
 
+-- the end of that scope, and of the header
+abbrev pub closing : List ℕ
+closing = codes "$upscope $end\n$enddefinitions $end\n"
+
 abbrev pub header : List ℕ → List Signal → List ℕ
-header main signals = opening main ++ (declarations signals ++ codes "$upscope $end\n$enddefinitions $end\n")
+header main signals = opening main ++ (declarations signals ++ closing)
 
 -- INSTANTS
 
@@ -138,10 +142,14 @@ timed t (b ∷ bs) = time t ++ (b ∷ bs)
 abbrev pub moment : List Signal → ℕ → List ℕ
 moment signals t = timed t (all_changes signals t)
 
+-- so many instants, and the time behind the last
+abbrev pub times : List Signal → ℕ → List ℕ
+times signals instants = flat_map (moment signals) (range_with_len 0 instants) ++ time instants
+
 -- THE DUMP
 
 abbrev pub dump : List ℕ → List Signal → ℕ → List ℕ
-dump main signals instants = header main signals ++ (flat_map (moment signals) (range_with_len 0 instants) ++ time instants)
+dump main signals instants = header main signals ++ times signals instants
 
 -- columns of these types, of a main node of this name
 abbrev pub dump_text : List ℕ → List Enum → List Kind → List OutputColumn → List ℕ

@@ -5,10 +5,12 @@ use Rattle.std.specs.Option.{option_map}
 use Rattle.lutree.specs.declared.program.Kind.{Kind}
 use Rattle.lutree.specs.declared.program.Kind.TheVariants.{Int}
 use Rattle.luflow.specs.declared.data.Status.{Status}
-use Rattle.luflow.specs.declared.data.Status.TheVariants.{Absent}
+use Rattle.luflow.specs.declared.data.Datum.TheVariants.{Nil}
+use Rattle.luflow.specs.declared.data.Status.TheVariants.{Present}
 use Rattle.luflow.specs.declared.variable.Enum.{Enum}
 use Rattle.luflow.specs.Tables.{OutputColumn}
 use Rattle.luflow.specs.Types.{names_of}
+use Rattle.luchart.specs.Pieces.{largest}
 use Rattle.luchart.specs.declared.signal.Signal.{Signal as Borrowed}
 
 -- a flow: its name, its type, the names of its type where that is an enumeration, and what it has at each instant
@@ -33,9 +35,9 @@ signal_at types kinds columns i =
 abbrev pub signal_view : Borrowed → Signal
 signal_view s = record { name = s.name.now; kind = s.kind; names = s.names.now; statuses = s.statuses.now }
 
--- what a flow has at an instant
+-- what a flow has at an instant; nil where that isn't known
 abbrev pub status_at : Signal → ℕ → Status
-status_at signal t = slice_index_or signal.statuses t Absent
+status_at signal t = slice_index_or signal.statuses t (Present Nil)
 
 -- the flows of columns of these types, in order
 abbrev pub signals_of : List Enum → List Kind → List OutputColumn → List Signal
@@ -44,3 +46,7 @@ signals_of types kinds columns = map (signal_at types kinds columns) (range_with
 -- flows as the code has them
 abbrev pub signals_view : List Borrowed → List Signal
 signals_view signals = map signal_view signals
+
+-- how many instants are known of the flow of which most are
+abbrev pub longest : List Signal → ℕ
+longest signals = largest (map (λ (s : Signal). length s.statuses) signals)

@@ -7,9 +7,9 @@
 //! A text is a stated function of the columns and their types: `specs/Chronogram.antt` has the chart, `specs/Dump.antt` the dump.
 //!
 //! - `pieces`: pieces of which a text is put together.
-//! - `signal`: the flows, by their columns and types.
+//! - `signal`: the flows, by their columns and types, and how much is known of them.
 //! - `cell`: the cells of a chart; `layout`: how wide its columns are; `chart`: its rows and strips.
-//! - `waves`: the dump; `cutting`: a table cut to its first instants.
+//! - `waves`: the dump, and the parts of which one with other scopes is put together; `cutting`: a table cut to its first instants.
 #![tactic(auto)]
 
 mod cell;
@@ -17,8 +17,8 @@ mod chart;
 mod cutting;
 mod layout;
 pub mod pieces;
-mod signal;
-mod waves;
+pub mod signal;
+pub mod waves;
 
 pub use chart::chronogram;
 pub use cutting::cut;

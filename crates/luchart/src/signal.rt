@@ -4,9 +4,10 @@ ghost use Rattle.std.specs.Prelude.{◌≡◌, IfOk, slice_get, unwrap_or};
 ghost use Rattle.lutree.specs.declared.program.Kind.TheVariants.{Int};
 ghost use Rattle.luflow.specs.Tables.{outputs_view};
 ghost use Rattle.lutab.specs.Outputs.{instants_of};
-ghost use Rattle.luchart.specs.Signals.{signal_at, signal_view, signals_of, signals_view, status_at};
+ghost use Rattle.luchart.specs.Signals.{longest, signal_at, signal_view, signals_of, signals_view, status_at};
 
-use luflow::{Enum, Status, names_of};
+use crate::pieces::larger;
+use luflow::{Datum, Enum, Status, names_of};
 use lulist::Name;
 use lutree::Kind;
 use std::alloc::{AllocError, Global};
@@ -57,17 +58,21 @@ pub fn signal_at<'a>(
     }
 }
 
-/// What a flow has at an instant.
+/// What a flow has at an instant; nil where that isn't known.
 pub fn status_at(signal: &Signal<'_>, instant: usize) -> Status
     ensures { result ≡ status_at (signal_view signal.now) instant }
 {
     match signal.statuses.get(instant) {
         Some(status) => *status,
-        None => Status::Absent,
+        None => Status::Present(Datum::Nil),
     }
 }
 
 /// The flows of columns of these types, in order.
+///
+/// # Errors
+///
+/// `AllocError` where memory ran out.
 pub fn signals_of<'a>(
     alloc: Global,
     types: &'a [Enum],
@@ -92,4 +97,15 @@ pub fn instants_of(columns: &[(String, Vec<Status>)]) -> usize
         [first, ..] => first.1.len(),
         [] => 0,
     }
+}
+
+/// How many instants are known of the flow of which most are.
+pub fn longest(signals: &[Signal<'_>]) -> usize
+    ensures { result ≡ longest (signals_view signals.now) }
+{
+    let mut most = 0;
+    for signal in signals {
+        most = larger(most, signal.statuses.len());
+    }
+    most
 }

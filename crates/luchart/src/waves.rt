@@ -4,7 +4,7 @@ ghost use Rattle.std.specs.Prelude.{◌≡◌, IfOk, flat_map, string_bytes};
 ghost use Rattle.std.specs.List.{range_with_len};
 ghost use Rattle.luchart.specs.Pieces.{Adds};
 ghost use Rattle.luchart.specs.Signals.{signal_view, signals_view};
-ghost use Rattle.luchart.specs.Dump.{all_changes, binary, change, changes, code, declaration, declarations, dump, dump_text, header, moment, number, opening, same_datum, same_status, time, timed, truth, value, variable_type, word};
+ghost use Rattle.luchart.specs.Dump.{all_changes, binary, change, changes, closing, code, declaration, declarations, dump, dump_text, header, moment, number, opening, same_datum, same_status, time, timed, times, truth, value, variable_type, word};
 
 use crate::signal::{Signal, instants_of, signals_of, status_at};
 use luflow::{Datum, Enum, Outputs, Status};
@@ -132,7 +132,7 @@ fn variable_type(kind: Kind) -> &'static str
 }
 
 /// Adds the declaration of flow k.
-fn put_declaration(text: &mut String, k: usize, signal: &Signal<'_>) -> Result<(), AllocError>
+pub fn put_declaration(text: &mut String, k: usize, signal: &Signal<'_>) -> Result<(), AllocError>
     ensures { Adds result text.old text.new (declaration k (signal_view signal.now)) }
 {
     let kind = variable_type(signal.kind);
@@ -151,10 +151,17 @@ fn put_declarations(text: &mut String, signals: &[Signal<'_>]) -> Result<(), All
 }
 
 /// Adds a scope of the main node's name.
-fn put_opening(text: &mut String, main: &str) -> Result<(), AllocError>
+pub fn put_opening(text: &mut String, main: &str) -> Result<(), AllocError>
     ensures { Adds result text.old text.new (opening main.now) }
 {
     writeln!(text, "$timescale 1 us $end\n$scope module {main} $end")
+}
+
+/// Adds the end of that scope, and of all declarations.
+pub fn put_closing(text: &mut String) -> Result<(), AllocError>
+    ensures { Adds result text.old text.new closing }
+{
+    text.push_str("$upscope $end\n$enddefinitions $end\n")
 }
 
 /// Adds what stands before the first time.
@@ -163,7 +170,7 @@ fn put_header(text: &mut String, main: &str, signals: &[Signal<'_>]) -> Result<(
 {
     put_opening(text, main)?;
     put_declarations(text, signals)?;
-    text.push_str("$upscope $end\n$enddefinitions $end\n")
+    put_closing(text)
 }
 
 /// Adds the new value of flow k, where it changes.
@@ -241,6 +248,20 @@ fn put_instants(
     Ok(())
 }
 
+/// Adds so many instants of flows, and the time behind the last.
+pub fn put_times(
+    alloc: Global,
+    text: &mut String,
+    signals: &[Signal<'_>],
+    count: usize,
+) -> Result<(), AllocError>
+    ensures { Adds result text.old text.new (times (signals_view signals.now) count) }
+{
+    let mut scratch = String::new(alloc);
+    put_instants(text, &mut scratch, signals, count)?;
+    put_time(text, count)
+}
+
 /// So many instants of flows of a main node of this name.
 fn dumped(
     alloc: Global,
@@ -252,10 +273,8 @@ fn dumped(
         ≡ dump main.now (signals_view signals.now) count) }
 {
     let mut text = String::new(alloc);
-    let mut scratch = String::new(alloc);
     put_header(&mut text, main, signals)?;
-    put_instants(&mut text, &mut scratch, signals, count)?;
-    put_time(&mut text, count)?;
+    put_times(alloc, &mut text, signals, count)?;
     Ok(text)
 }
 

@@ -67,8 +67,8 @@ use Rattle.lusdist_commands.specs.Stopped.IsEvalRefused.{eval_mistaken, eval_sto
 use Rattle.lusdist_commands.specs.Stopped.IsEvalStopped.{eval_program, eval_unread, eval_table, eval_fault, eval_unwritten, eval_memory}
 use Rattle.lusdist_commands.specs.Stopped.IsPlanStopped.{plan_files, plan_memory}
 use Rattle.lusdist_commands.specs.Stopped.StopsAtJob.{no_plan, table_unread, table_refused}
-use Rattle.lusdist_commands.specs.Stopped.IsReplayStopped.{replay_job, replay_unread, replay_schedule, replay_memory}
-use Rattle.lusdist_commands.specs.Stopped.IsRunStopped.{run_job, run_fault, run_lost, run_thread, run_memory}
+use Rattle.lusdist_commands.specs.Stopped.IsReplayStopped.{replay_job, replay_unread, replay_schedule, replay_unwritten, replay_memory}
+use Rattle.lusdist_commands.specs.Stopped.IsRunStopped.{run_job, run_fault, run_lost, run_thread, run_unwritten, run_memory}
 use Rattle.lusdist_commands.specs.Exact.{HasOneText, SaysNothing}
 use Rattle.std.proofs.lemmas.Option.{same_Some}
 
@@ -356,6 +356,7 @@ module _ (gives : List ℕ → Option (List ℕ) → Type 0) (settled : HasOneTe
         let asked = is.asked_for in
         let same = one_of request.schedule.now turns asked.schedule schedule_given asked.schedule_given in
         schedule_memory asked.schedule is.turns stop asked.turns_are (subst (λ b. IsScheduleRefused b stop) same refused)
+    replay_outcome (replay_unwritten path asks job turns asked e) = memory_is stop (CannotWrite path) e tt
     replay_outcome (replay_memory e) = memory_is stop OutOfMemory e tt
 
   module _ (request : RunRequest) (text : List ℕ) (stop : Stop) (is : IsRan gives request text) where
@@ -374,6 +375,7 @@ module _ (gives : List ℕ → Option (List ℕ) → Type 0) (settled : HasOneTe
     run_outcome (run_fault name instant kind e fault) = absurd (run_never name instant kind fault)
     run_outcome (run_lost job job_is e) = memory_is stop LinkLost e tt
     run_outcome (run_thread job job_is e) = memory_is stop NoThread e tt
+    run_outcome (run_unwritten path asks job asked e) = memory_is stop (CannotWrite path) e tt
     run_outcome (run_memory e) = memory_is stop OutOfMemory e tt
 
   explain_outcome : (code : Option (List ℕ)) (text : List ℕ) (stop : Stop) → explanation code ≡ Some text → IsExplainStopped code stop → SaysNothing stop

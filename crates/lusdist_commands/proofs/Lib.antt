@@ -10,3 +10,4 @@ pub mod Ends
 pub mod OneStatus
 pub mod Ran
 pub mod OneRefusal
+pub mod Dumps

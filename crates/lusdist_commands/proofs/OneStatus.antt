@@ -33,8 +33,8 @@ use Rattle.lusdist_commands.specs.Stopped.IsEvalRefused.{eval_mistaken, eval_sto
 use Rattle.lusdist_commands.specs.Stopped.IsEvalStopped.{eval_program, eval_unread, eval_table, eval_fault, eval_unwritten, eval_memory}
 use Rattle.lusdist_commands.specs.Stopped.IsPlanStopped.{plan_files, plan_memory}
 use Rattle.lusdist_commands.specs.Stopped.StopsAtJob.{no_plan, table_unread, table_refused}
-use Rattle.lusdist_commands.specs.Stopped.IsReplayStopped.{replay_job, replay_unread, replay_schedule, replay_memory}
-use Rattle.lusdist_commands.specs.Stopped.IsRunStopped.{run_job, run_fault, run_lost, run_thread, run_memory}
+use Rattle.lusdist_commands.specs.Stopped.IsReplayStopped.{replay_job, replay_unread, replay_schedule, replay_unwritten, replay_memory}
+use Rattle.lusdist_commands.specs.Stopped.IsRunStopped.{run_job, run_fault, run_lost, run_thread, run_unwritten, run_memory}
 use Rattle.lusdist_commands.specs.Exact.{HasOneText, SaysNothing}
 use Rattle.lusdist_commands.specs.Explained.{code_in, IsExplainStopped}
 use Rattle.lusdist_commands.specs.Explained.IsExplainStopped.{explain_unknown, explain_memory}
@@ -302,6 +302,10 @@ module _ (gives : List ℕ → Option (List ℕ) → Type 0) (settled : HasOneTe
 
     replay_status : (a b : Stop) → IsReplayStopped gives request a → IsReplayStopped gives request b → (¬ SaysNothing a) → (¬ SaysNothing b) → status_of a ≡ status_of b
     replay_status a b (replay_memory e) y na nb = absurd (na (memory_is a OutOfMemory e tt))
+    replay_status a b (replay_unwritten path asks job turns asked e) y na nb = absurd (na (memory_is a (CannotWrite path) e tt))
+    replay_status a b (replay_job x) (replay_unwritten path asks job turns asked e) na nb = absurd (nb (memory_is b (CannotWrite path) e tt))
+    replay_status a b (replay_unread job is x) (replay_unwritten path asks other turns asked e) na nb = absurd (nb (memory_is b (CannotWrite path) e tt))
+    replay_status a b (replay_schedule job turns is given x) (replay_unwritten path asks other others asked e) na nb = absurd (nb (memory_is b (CannotWrite path) e tt))
     replay_status a b (replay_job x) (replay_memory e) na nb = absurd (nb (memory_is b OutOfMemory e tt))
     replay_status a b (replay_job x) (replay_job y) na nb = job_status request.program.now request.place.now request.table.now request.main.now a b x y na nb
     replay_status a b (replay_job x) (replay_unread job is y) na nb = replay_past job a is x na
@@ -326,6 +330,9 @@ module _ (gives : List ℕ → Option (List ℕ) → Type 0) (settled : HasOneTe
     run_status : (a b : Stop) → IsRunStopped gives request a → IsRunStopped gives request b → (¬ SaysNothing a) → (¬ SaysNothing b) → status_of a ≡ status_of b
     run_status a b (run_memory e) y na nb = absurd (na (memory_is a OutOfMemory e tt))
     run_status a b (run_lost job is e) y na nb = absurd (na (memory_is a LinkLost e tt))
+    run_status a b (run_unwritten path asks job asked e) y na nb = absurd (na (memory_is a (CannotWrite path) e tt))
+    run_status a b (run_job x) (run_unwritten path asks job asked e) na nb = absurd (nb (memory_is b (CannotWrite path) e tt))
+    run_status a b (run_fault name t k e fault) (run_unwritten path asks job asked m) na nb = absurd (nb (memory_is b (CannotWrite path) m tt))
     run_status a b (run_thread job is e) y na nb = absurd (na (memory_is a NoThread e tt))
     run_status a b (run_job x) (run_memory e) na nb = absurd (nb (memory_is b OutOfMemory e tt))
     run_status a b (run_job x) (run_lost job is e) na nb = absurd (nb (memory_is b LinkLost e tt))

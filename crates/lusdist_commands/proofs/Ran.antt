@@ -80,7 +80,7 @@ no_fault_of job is fit none σ solves i t kind early fault =
     absurd cc
 
 module _ (gives : List ℕ → Option (List ℕ) → Type 0) (request : RunRequest) (job : Run) (asked : IsJobFor gives request.program.now request.place.now request.table.now request.main.now job) where
-  outputs_are : (outputs : List OutputColumn) → AreRunOutputs job outputs → AreOutputsOf asked.job_is.flat.tree request.main.now job.plan.flat job.inputs outputs
+  pub outputs_are : (outputs : List OutputColumn) → AreRunOutputs job outputs → AreOutputsOf asked.job_is.flat.tree request.main.now job.plan.flat job.inputs outputs
   outputs_are outputs are =
       let source = asked.job_is.flat.flat_is in
       let fine = no_fault_of job source.is_flat asked.job_is.is_run.fit are.no_fault in

@@ -235,7 +235,7 @@ module _ (w : Progress) where
         let lt = slice_get_within w.job.plan.links l link at in
         ap (map (λ (m : Msg). m.body)) ((faithful.taken σ l meant lt).ended all) ∙ list_is l link at
 
-    output_true : (k : ℕ) (output : OutputTold) → IsOutputTold w k output → IsOutputTrue w.job.inputs σ output
+    pub output_true : (k : ℕ) (output : OutputTold) → IsOutputTold w k output → IsOutputTrue w.job.inputs σ output
     output_true k output told =
         let begun = (faithful.outputs σ k output.statuses meant told.collected told.variable told.there).0 in
         let s = σ [] output.name in

@@ -21,6 +21,7 @@ use Rattle.luchart.specs.Chronogram.{chart_text}
 use Rattle.luchart.specs.Dump.{dump_text}
 use Rattle.luflow.specs.Faults.{IsFault}
 use Rattle.lusdist_shell.specs.declared.request.EvalRequest.{EvalRequest}
+use Rattle.lusdist_commands.specs.Filed.{IsFiledAt, IsUnfiledAt, IsUnwritten}
 use Rattle.lusdist_commands.specs.Mistakes.{mistake_in}
 use Rattle.lusdist_commands.specs.declared.stop.Stop.{Stop}
 use Rattle.lusdist_commands.specs.declared.stop.Stop.TheVariants.{CannotWrite, Fault, OutOfMemory}
@@ -83,7 +84,7 @@ wave_text request flat columns = dump_text request.main.now flat.types (kinds_of
 
 -- where a dump is asked for, this one was written into its file
 abbrev pub IsFiled : (List ℕ → Option (List ℕ) → Type 0) → EvalRequest → List ℕ → Type 0
-IsFiled takes request text = (path : List ℕ) → wave_path request ≡ Some path → takes path (Some text)
+IsFiled takes request text = IsFiledAt takes (wave_path request) text
 
 -- what a request asks for of a flat program and a table, as a text, and a dump of it in its file
 pub record IsShown (takes : List ℕ → Option (List ℕ) → Type 0) (request : EvalRequest) (flat : FlatProgram) (inputs : Table) (text : List ℕ) : Type 0 where
@@ -148,10 +149,6 @@ IsStopped request flat inputs (CannotWrite path) = wave_path request ≡ Some pa
 IsStopped request flat inputs OutOfMemory = Unit {0}
 IsStopped request flat inputs _ = ⊥
 
--- where a stop tells that a file can't be written, a write to it failed
-abbrev pub IsUnwritten : (List ℕ → Option (List ℕ) → Type 0) → Stop → Type 0
-IsUnwritten takes stop = (path : List ℕ) → stop ≡ CannotWrite path → takes path None
-
 -- where it stops at a fault, the dump has all instants before it; and where the dump can't be written, a write failed
 abbrev pub IsShownTo : (List ℕ → Option (List ℕ) → Type 0) → EvalRequest → FlatProgram → Table → Stop → Type 0
 IsShownTo takes request flat inputs stop =
@@ -159,9 +156,7 @@ IsShownTo takes request flat inputs stop =
 
 -- a dump can't be made, or not be written into its file, to which a write failed
 abbrev pub IsUnfiled : (List ℕ → Option (List ℕ) → Type 0) → EvalRequest → Stop → Type 0
-IsUnfiled takes request (CannotWrite path) = (wave_path request ≡ Some path) × takes path None
-IsUnfiled takes request OutOfMemory = Unit {0}
-IsUnfiled takes request _ = ⊥
+IsUnfiled takes request stop = IsUnfiledAt takes (wave_path request) stop
 
 -- a stop that tells no fault of an evaluation, and no file that can't be written
 abbrev pub IsNoFault : Stop → Type 0

@@ -5,8 +5,10 @@ use Rattle.clap.specs.Words.{fault_of, IsAmong}
 use Rattle.clap.specs.declared.error.kind.ErrorKind.{ErrorKind}
 use Rattle.clap.specs.declared.error.kind.ErrorKind.TheVariants.{DisplayHelp, DisplayVersion}
 use Rattle.lusdist_shell.specs.declared.request.Request.{Request}
-use Rattle.lusdist_shell.specs.declared.request.Request.TheVariants.{Eval}
+use Rattle.lusdist_shell.specs.declared.request.Request.TheVariants.{Eval, Replay, Run as AsksRun}
 use Rattle.lusdist_commands.specs.Evaluated.{IsDumped, IsDumpedTo}
+use Rattle.lusdist_commands.specs.Filed.{IsUnwritten}
+use Rattle.lusdist_commands.specs.Waved.{IsReplayDumped, IsRunDumped}
 use Rattle.lusdist_shell.specs.declared.sink.Sink.{Sink}
 use Rattle.lusdist_shell.specs.Sinks.{HasPut, HasLine, HasBeginning}
 use Rattle.lusdist_shell.specs.CommandLine.{lusdist}
@@ -48,14 +50,18 @@ pub record HasNoOutput {W V : Type 0} (streams : Streams W V) : Type 0 where
   pub failed : streams.out_after.failed ≡ true
   pub error : HasLine streams.held_err streams.err streams.err_after (codes "F02 CannotWrite")
 
--- where an evaluation asks for a dump, its file has that of the whole table
+-- where a dump is asked for, it is in its file: of an evaluation that of the whole table, of a run that of the whole outputs, of a replay that of its end
 abbrev pub AreFiled : (List ℕ → Option (List ℕ) → Type 0) → (List ℕ → Option (List ℕ) → Type 0) → Request → Type 0
 AreFiled gives takes (Eval request) = IsDumped gives takes request
+AreFiled gives takes (Replay request) = IsReplayDumped gives takes request
+AreFiled gives takes (AsksRun request) = IsRunDumped gives takes request
 AreFiled gives takes _ = Unit {0}
 
--- and where it stops at a fault, that of all instants before it
+-- where an evaluation stops at a fault, that of all instants before it; and where any stops since its dump can't be written, a write failed
 abbrev pub AreFiledTo : (List ℕ → Option (List ℕ) → Type 0) → (List ℕ → Option (List ℕ) → Type 0) → Request → Stop → Type 0
 AreFiledTo gives takes (Eval request) stop = IsDumpedTo gives takes request stop
+AreFiledTo gives takes (Replay request) stop = IsUnwritten takes stop
+AreFiledTo gives takes (AsksRun request) stop = IsUnwritten takes stop
 AreFiledTo gives takes _ stop = Unit {0}
 
 -- What is asked for ends with this status: with 0 where the answer is printed, with its notes on the error stream, with that of a refusal, whose line is told, and its reason where that is asked for, or with

@@ -28,8 +28,9 @@ use Rattle.luflow.specs.Variables.{variable_name}
 use Rattle.lusource.specs.Source.{SourceStreams, IsSourceSolution}
 use Rattle.lusource.specs.Faults.{IsSourceFault}
 use Rattle.lusite.specs.Machine.{IsFaultAt}
-use Rattle.lusdist_commands.specs.Asked.{HasFlat, IsPlanFor, IsJobFor}
+use Rattle.lusdist_commands.specs.Asked.{HasFlat, IsPlanFor, IsJobFor, IsAskedFor}
 use Rattle.lusdist_commands.specs.Evaluated.{IsFaultOf, IsPosedBy, wave_path}
+use Rattle.lusdist_commands.specs.Waved.{replay_path, run_path}
 use Rattle.lusdist_commands.specs.Explained.{code_in, IsExplainStopped}
 use Rattle.lusdist_commands.specs.Refused.{IsToldOf, IsProgramRefused, IsPlaceRefused, IsTableRefused}
 
@@ -91,11 +92,13 @@ pub data StopsAtJob (gives : List ℕ → Option (List ℕ) → Type 0) (path pl
   table_unread : (plan : Distribution) → IsPlanFor gives path place_path main plan → IsUnread gives table_path stop → StopsAtJob gives path place_path table_path main stop
   table_refused : (plan : Distribution) (table : List ℕ) → IsPlanFor gives path place_path main plan → gives table_path (Some table) → IsTableRefused plan.flat.types (inputs_of plan.flat.variables) table stop → StopsAtJob gives path place_path table_path main stop
 
--- A replay of what a request asks for stops so: at its job, or, where there is one, at its schedule.
+-- A replay of what a request asks for stops so: at its job; where there is one, at its schedule; or, where all are as they should be, at the file of its
+-- dump, which can't be written.
 pub data IsReplayStopped (gives : List ℕ → Option (List ℕ) → Type 0) (request : ReplayRequest) (stop : Stop) : Type 0 where
   replay_job : StopsAtJob gives request.program.now request.place.now request.table.now request.main.now stop → IsReplayStopped gives request stop
   replay_unread : (job : Run) → IsJobFor gives request.program.now request.place.now request.table.now request.main.now job → IsUnread gives request.schedule.now stop → IsReplayStopped gives request stop
   replay_schedule : (job : Run) (turns : List ℕ) → IsJobFor gives request.program.now request.place.now request.table.now request.main.now job → gives request.schedule.now (Some turns) → IsScheduleRefused turns stop → IsReplayStopped gives request stop
+  replay_unwritten : (path : List ℕ) → replay_path request ≡ Some path → (job : Run) (turns : List ℕ) → IsAskedFor gives request job turns → stop ≡ CannotWrite path → IsReplayStopped gives request stop
   replay_memory : stop ≡ OutOfMemory → IsReplayStopped gives request stop
 
 -- A fault of the run that a request asks for, told by the name of the main variable in whose equation it stands: it is the one at which a
@@ -109,13 +112,14 @@ pub record IsRunFault (gives : List ℕ → Option (List ℕ) → Type 0) (reque
   pub named : name ≡ variable_name job.plan.flat variable
   pub source : (σ : SourceStreams) → IsSourceSolution asked_for.job_is.flat.tree request.main.now job.inputs σ → IsSourceFault asked_for.job_is.flat.tree request.main.now job.inputs σ name instant kind
 
--- A run of what a request asks for stops so: at its job; or, where there is one, at a fault, or because a site was left by another or a
--- thread was refused.
+-- A run of what a request asks for stops so: at its job; or, where there is one, at a fault, because a site was left by another or a
+-- thread was refused, or at the file of its dump, which can't be written.
 pub data IsRunStopped (gives : List ℕ → Option (List ℕ) → Type 0) (request : RunRequest) (stop : Stop) : Type 0 where
   run_job : StopsAtJob gives request.program.now request.place.now request.table.now request.main.now stop → IsRunStopped gives request stop
   run_fault : (name : List ℕ) (instant : ℕ) (kind : FaultKind) → stop ≡ Fault name instant kind → IsRunFault gives request name instant kind → IsRunStopped gives request stop
   run_lost : (job : Run) → IsJobFor gives request.program.now request.place.now request.table.now request.main.now job → stop ≡ LinkLost → IsRunStopped gives request stop
   run_thread : (job : Run) → IsJobFor gives request.program.now request.place.now request.table.now request.main.now job → stop ≡ NoThread → IsRunStopped gives request stop
+  run_unwritten : (path : List ℕ) → run_path request ≡ Some path → (job : Run) → IsJobFor gives request.program.now request.place.now request.table.now request.main.now job → stop ≡ CannotWrite path → IsRunStopped gives request stop
   run_memory : stop ≡ OutOfMemory → IsRunStopped gives request stop
 
 -- what a request asks for stops so

@@ -7,14 +7,13 @@ ghost use Rattle.lueval.specs.Whole.{HasNoFault, IsAnswer};
 ghost use Rattle.lutab.specs.Outputs.{shown_of};
 ghost use Rattle.lusdist_commands.specs.Evaluated.{AreEvaluated, HasNoFaultBefore, IsFiled, IsShown, AreShownBefore, IsShownTo, IsStopped, IsStopFor, IsUnfiled, shown_text, wave_text};
 ghost use Rattle.lueval.specs.declared.error.EvalError.TheVariants.{Fault};
-ghost use Rattle.lusdist_commands.specs.declared.stop.Stop.TheVariants.{CannotWrite, OutOfMemory};
 
+use crate::filing::file_text;
 use crate::stop::Stop;
 use lublock::block_outputs;
 use luchart::{chronogram, cut, dump};
 use lueval::{EvalError, whole_columns};
 use luflow::{FaultKind, Flat, Inputs, Outputs};
-use lulist::Name;
 use lusdist_shell::{EvalRequest, Files};
 use lutab::{shown_kinds, write_columns};
 use std::alloc::{AllocError, Global};
@@ -148,16 +147,6 @@ fn wave_text(
     dump(alloc, request.main, flat.types(), &kinds, columns)
 }
 
-/// The stop for a file that can't be written.
-fn unwritten(alloc: Global, path: &str) -> Stop
-    ensures { (result ≡ OutOfMemory) ⊎ (result ≡ CannotWrite path.now) }
-{
-    match Name::from_text(alloc, path) {
-        Ok(path) => Stop::CannotWrite { path },
-        Err(_) => Stop::OutOfMemory,
-    }
-}
-
 /// Writes the dump of the variables that a request asks for into its file; nothing where it asks for none.
 fn file_wave<F: Files>(
     alloc: Global,
@@ -174,10 +163,7 @@ fn file_wave<F: Files>(
         return Ok(());
     };
     let text = wave_text(alloc, request, flat, columns)?;
-    match files.write(path, text.as_bytes()) {
-        Ok(()) => Ok(()),
-        Err(_) => Err(unwritten(alloc, path)),
-    }
+    file_text(alloc, files, path, &text)
 }
 
 /// Writes the dump of the instants before a fault into its file.

@@ -6,6 +6,7 @@
 //! - [`planning`]: the plan of a program at a placement, and its texts.
 //! - [`evaluating`]: the main variables of a program at a table, as a table or as a chart; [`running`]: the table of its outputs, made by its sites on
 //!   threads.
+//! - `filing`: dumps, each into the file that a request names.
 //! - [`explaining`]: a page of the manual. `reasons`: what is told of a refusal behind its line.
 //! - [`Stop`]: why a call stops, and with which status; [`Mistake`]: what is wrong with words that the command line takes.
 //! - [`laws`]: a call has one outcome, one refusal and one status.
@@ -15,6 +16,7 @@
 
 pub mod evaluating;
 pub mod explaining;
+mod filing;
 pub mod jobs;
 pub mod laws;
 mod mistake;

@@ -1,17 +1,21 @@
 //! A run of a job on threads.
 
-ghost use Rattle.std.specs.Prelude.{◌≡◌, ◌<◌, length, IfOk, IfErr, MatchResult, string_bytes};
+ghost use Rattle.std.specs.Prelude.{◌≡◌, ◌<◌, ◌⊎◌, length, IfOk, IfErr, OnOk, MatchResult, string_bytes};
 ghost use Rattle.luflow.specs.Variables.{outputs_of};
 ghost use Rattle.lurun.specs.Reports.{AreOutputsOf};
 ghost use Rattle.lusdist_shell.specs.Request.{AreFew};
-ghost use Rattle.lusdist_commands.specs.Ran.{IsRunError, IsStopOfRun, IsRunTable};
+ghost use Rattle.lutab.specs.Outputs.{output_text};
+ghost use Rattle.lusdist_commands.specs.Ran.{IsRunError, IsRunTable, IsStopOfRun};
+ghost use Rattle.lusdist_commands.specs.Filed.{IsFiledAt, IsUnfiledAt};
+ghost use Rattle.lusdist_commands.specs.Waved.{AreRunWaves, run_dump, run_path};
 
 use crate::evaluating::fault_stop;
+use crate::filing::file_run;
 use crate::stop::Stop;
 use luflow::Outputs;
-use luplace::Job;
+use luplace::{Job, Plan};
 use lurun::{Gate, RunError, run_crew, run_threads, stations};
-use lusdist_shell::Progress;
+use lusdist_shell::{Files, Progress, RunRequest};
 use lutab::write_outputs;
 use std::alloc::Global;
 use std::sync::Wait;
@@ -80,25 +84,63 @@ fn stop_of(alloc: Global, job: &Job, error: RunError) -> Stop
     }
 }
 
-/// The table of the outputs of a job that is run by so many workers, 1 to 16, or with a thread for each site; or why there is
+/// The outputs of a job that is run by so many workers, 1 to 16, or with a thread for each site; or why there are
 /// none. All its threads have ended when it returns. Where a progress is given, it is told how far the sites have come.
-pub fn run_table<R: Threads + Wait + Sync, P: Progress>(
+fn run_outputs<R: Threads + Wait + Sync, P: Progress>(
     rt: &R,
     alloc: Global,
     job: &Job,
     workers: Option<u8>,
     progress: Option<&P>,
-) -> Result<String, Stop>
+) -> Result<Outputs, Stop>
     requires few { AreFew workers }
     requires some { 0 < length (outputs_of job.now.plan.flat.variables) }
-    ensures text { IfOk result (λ text. IsRunTable job.now (string_bytes text)) }
+    ensures outputs { IfOk result (AreOutputsOf job.now) }
     ensures stopped { IfErr result (IsStopOfRun job.now) }
 {
     match outputs_of_run(rt, alloc, job, workers, progress) {
-        Ok(outputs) => {
-            let text = write_outputs(alloc, job.plan().flat(), &outputs)?;
-            Ok(text)
-        }
+        Ok(outputs) => Ok(outputs),
         Err(error) => Err(stop_of(alloc, job, error)),
     }
+}
+
+/// The table of a run's outputs. The file of their dump is written first, where the request asks for one.
+fn told_outputs<F: Files>(
+    alloc: Global,
+    request: RunRequest<'_>,
+    files: &F,
+    plan: &Plan,
+    outputs: &Outputs,
+) -> Result<String, Stop>
+    ensures text { IfOk result (λ text. string_bytes text
+        ≡ output_text plan.now.flat outputs.now) }
+    ensures filed { OnOk result (IsFiledAt (F.takes files.now) (run_path request.entry)
+        (run_dump request.entry.main.now plan.now outputs.now)) }
+    ensures stopped { IfErr result (IsUnfiledAt (F.takes files.now) (run_path request.entry)) }
+{
+    let text = write_outputs(alloc, plan.flat(), outputs)?;
+    file_run(alloc, request, files, plan, outputs)?;
+    Ok(text)
+}
+
+/// The table of the outputs of a job that is run as a request asks for, or why there is none. The file of their dump is written first, where
+/// the request asks for one. All threads of the run have ended when it returns.
+pub fn run_table<R: Threads + Wait + Sync, F: Files, P: Progress>(
+    rt: &R,
+    alloc: Global,
+    request: RunRequest<'_>,
+    files: &F,
+    progress: &P,
+    job: &Job,
+) -> Result<String, Stop>
+    requires few { AreFew request.workers }
+    requires some { 0 < length (outputs_of job.now.plan.flat.variables) }
+    ensures text { IfOk result (λ text. IsRunTable job.now (string_bytes text)) }
+    ensures filed { OnOk result (AreRunWaves (F.takes files.now) request.entry job.now) }
+    ensures stopped { IfErr result (λ stop. IsStopOfRun job.now stop
+        ⊎ IsUnfiledAt (F.takes files.now) (run_path request.entry) stop) }
+{
+    let asked = request.progress.then_some(progress);
+    let outputs = run_outputs(rt, alloc, job, request.workers, asked)?;
+    told_outputs(alloc, request, files, job.plan(), &outputs)
 }

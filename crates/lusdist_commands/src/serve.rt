@@ -12,6 +12,8 @@ ghost use Rattle.lusdist_commands.specs.Asked.{IsAskedFor, IsWorldOf, AreNotesOf
 ghost use Rattle.luflow.specs.Sound.{IsFit};
 ghost use Rattle.luflow.specs.Variables.{outputs_of};
 ghost use Rattle.lusdist_commands.specs.Evaluated.{IsDumped, IsDumpedTo, IsEvaluated, IsNoFault, IsPosedBy};
+ghost use Rattle.lusdist_commands.specs.Filed.{IsUnfiledAt, IsUnwritten};
+ghost use Rattle.lusdist_commands.specs.Waved.{AreWaved, IsReplayDumped, IsRunDumped, replay_path};
 ghost use Rattle.lusdist_commands.specs.Stopped.{IsCheckStopped, IsEvalRefused, IsEvalStopped, IsPlanStopped, IsReplayStopped, IsRunStopped, IsRequestStopped, IsRefusal};
 ghost use Rattle.lusdist_commands.specs.Mistakes.{mistake_in};
 ghost use Rattle.lusdist_commands.specs.Left.{AreFiled, AreFiledTo, IsEnded, IsCallEnded};
@@ -20,6 +22,7 @@ ghost use Rattle.lusdist_commands.specs.declared.stop.Stop.TheVariants.{OutOfMem
 
 use crate::evaluating::evaluation;
 use crate::explaining::explained;
+use crate::filing::file_world;
 use crate::jobs::job_for;
 use crate::mistake::mistake_in;
 use crate::planning::{plan_text, planned};
@@ -50,6 +53,7 @@ fn job_and_turns<F: Files>(
     ensures asked { IfOk result (λ found. IsAskedFor (F.gives files.now) request.entry found.0
         found.1.items) }
     ensures stopped { IfErr result (IsReplayStopped (F.gives files.now) request.entry) }
+    ensures no_write { IfErr result IsNoFault }
 {
     let job = job_for(
         alloc,
@@ -138,21 +142,24 @@ fn plain(alloc: Global, text: String) -> Said
     Said { text, notes }
 }
 
-/// What a replay of a job prints.
-fn printed(
+/// What a replay of a job prints. The file of its dump is written first, where the request asks for one.
+fn printed<F: Files>(
     alloc: Global,
+    request: ReplayRequest<'_>,
+    files: &F,
     job: &Job,
     turns: &[u8],
-    finish: bool,
-    form: TurnsForm,
 ) -> Result<Said, Stop>
-    ensures text { IfOk result (λ a. IsPrinted job.now turns.now finish (string_bytes a.text)) }
-    ensures notes { IfOk result (λ a. (dones : List ℕ) × AreNotesOf job.now turns.now finish form
-        dones (string_bytes a.notes)) }
-    ensures memory { IfErr result (λ stop. stop ≡ OutOfMemory) }
+    ensures text { IfOk result (λ a. IsPrinted job.now turns.now request.entry.finish
+        (string_bytes a.text)) }
+    ensures notes { IfOk result (λ a. (dones : List ℕ) × AreNotesOf job.now turns.now
+        request.entry.finish request.entry.turns dones (string_bytes a.notes)) }
+    ensures filed { OnOk result (AreWaved (F.takes files.now) request.entry job.now turns.now) }
+    ensures stopped { IfErr result (IsUnfiledAt (F.takes files.now) (replay_path request.entry)) }
 {
-    let (world, notes) = noted(alloc, job, turns, finish, form)?;
+    let (world, notes) = noted(alloc, job, turns, request.finish, request.turns)?;
     let text = text_of_world(alloc, job.plan(), &world)?;
+    file_world(alloc, request, files, job.plan(), &world)?;
     Ok(Said { text, notes })
 }
 
@@ -166,12 +173,13 @@ fn replay_answer<F: Files>(
         (string_bytes a.text)) }
     ensures notes { IfOk result (λ a. IsNotedReplay (F.gives files.now) request.entry
         (string_bytes a.notes)) }
+    ensures filed { OnOk result (IsReplayDumped (F.gives files.now) (F.takes files.now)
+        request.entry) }
     ensures stopped { IfErr result (IsReplayStopped (F.gives files.now) request.entry) }
+    ensures before { IfErr result (IsUnwritten (F.takes files.now)) }
 {
-    let finish = request.finish;
-    let form = request.turns;
     let (job, turns) = job_and_turns(alloc, request, files)?;
-    printed(alloc, &job, &turns, finish, form)
+    printed(alloc, request, files, &job, &turns)
 }
 
 /// What a check prints: the canonical text of the program, which keeps all rules and has a flat program.
@@ -264,10 +272,11 @@ fn run_text<R: Threads + Wait + Sync, F: Files, P: Progress>(
     requires { AreFew request.workers }
     ensures text { IfOk result (λ text. IsRan (F.gives files.now) request.entry
         (string_bytes text)) }
+    ensures filed { OnOk result (IsRunDumped (F.gives files.now) (F.takes files.now)
+        request.entry) }
     ensures stopped { IfErr result (IsRunStopped (F.gives files.now) request.entry) }
+    ensures before { IfErr result (IsUnwritten (F.takes files.now)) }
 {
-    let workers = request.workers;
-    let asked = request.progress;
     let job = job_for(
         alloc,
         files,
@@ -276,7 +285,7 @@ fn run_text<R: Threads + Wait + Sync, F: Files, P: Progress>(
         request.table,
         request.main,
     )?;
-    run_table(rt, alloc, &job, workers, asked.then_some(progress))
+    run_table(rt, alloc, request, files, progress, &job)
 }
 
 /// What the command that is asked for prints.
@@ -361,8 +370,9 @@ fn perform<R: Threads + Wait + Sync, F: Files, P: Progress, W: Write, V: Write>(
 /// can't be read; 3 for a fault of an evaluation or a run, a run that was cut short, want of memory, or output or a dump that can't be
 /// written. A refusal is one line on the error stream, with its reason behind it where that is asked for; where a replay is asked to tell its turns, they are told there. A run waits for its threads; the other commands wait for nobody.
 ///
-/// Where an evaluation is asked for a dump, its file is written before the answer: of the whole table, or, where the evaluation stops at a
-/// fault, of all instants before it. Where it can't be written, that is told in place of the answer or the fault.
+/// Where a dump is asked for, its file is written before the answer: of an evaluation that of the whole table, or, where it stops at a
+/// fault, of all instants before it; of a run that of the whole outputs, and none where it stops; of a replay that of the outputs as far as
+/// they were passed. Where it can't be written, that is told in place of the answer or the fault.
 ///
 /// Where a run is asked to tell how far it has come, the progress is told, by the threads that serve the sites. It is handed the number
 /// of a site and an instant and nothing of the values; what it does with them isn't in the contract.

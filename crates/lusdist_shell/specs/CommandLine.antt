@@ -49,11 +49,11 @@ plan =
     with_rule (with_rule (with_rule (with_rule (judging (codes "plan"))
     (flag_rule (codes "text"))) (flag_rule (codes "dot"))) (path_rule (codes "PROGRAM"))) (path_rule (codes "PLACE"))
 
--- `replay PROGRAM PLACE TABLE SCHEDULE [--main NAME] [--explain] [--finish] [--trace] [--chart]`
+-- `replay PROGRAM PLACE TABLE SCHEDULE [--main NAME] [--explain] [--finish] [--trace] [--chart] [--vcd FILE]`
 abbrev pub replay : App
 replay =
-    with_rule (with_rule (with_rule (with_rule (with_rule (with_rule (with_rule (judging (codes "replay"))
-    (flag_rule (codes "finish"))) (flag_rule (codes "trace"))) (flag_rule (codes "chart"))) (path_rule (codes "PROGRAM"))) (path_rule (codes "PLACE"))) (path_rule (codes "TABLE"))) (path_rule (codes "SCHEDULE"))
+    with_rule (with_rule (with_rule (with_rule (with_rule (with_rule (with_rule (with_rule (judging (codes "replay"))
+    (flag_rule (codes "finish"))) (flag_rule (codes "trace"))) (flag_rule (codes "chart"))) vcd_rule) (path_rule (codes "PROGRAM"))) (path_rule (codes "PLACE"))) (path_rule (codes "TABLE"))) (path_rule (codes "SCHEDULE"))
 
 -- how many workers may serve the sites
 abbrev pub fewest_workers : ℕ
@@ -66,11 +66,11 @@ most_workers = 16
 abbrev pub workers_rule : Rule
 workers_rule = record (new_rule (codes "workers")) { long = Some (codes "workers"); value_names = 1; parser = Some (Unsigned fewest_workers most_workers) }
 
--- `run PROGRAM PLACE TABLE [--main NAME] [--explain] [--workers W] [--progress]`
+-- `run PROGRAM PLACE TABLE [--main NAME] [--explain] [--workers W] [--progress] [--vcd FILE]`
 abbrev pub run : App
 run =
-    with_rule (with_rule (with_rule (with_rule (with_rule (judging (codes "run")) workers_rule)
-    (flag_rule (codes "progress"))) (path_rule (codes "PROGRAM"))) (path_rule (codes "PLACE"))) (path_rule (codes "TABLE"))
+    with_rule (with_rule (with_rule (with_rule (with_rule (with_rule (judging (codes "run")) workers_rule)
+    (flag_rule (codes "progress"))) vcd_rule) (path_rule (codes "PROGRAM"))) (path_rule (codes "PLACE"))) (path_rule (codes "TABLE"))
 
 -- a code, which may be left out
 abbrev pub code_rule : Rule

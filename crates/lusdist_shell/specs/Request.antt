@@ -101,6 +101,7 @@ pub record IsReplayIn (command : Option (Text × List Row)) (request : ReplayReq
   pub schedule : request.schedule.now ≡ text_in matches (codes "SCHEDULE")
   pub finish : request.finish ≡ is_given matches (codes "finish")
   pub turns : request.turns ≡ turns_in matches
+  pub vcd : option_map (λ s. s.now) request.vcd ≡ first_of (codes "vcd") matches
 
 -- The command is `run`, and the request is what its matches hold, argument by argument.
 pub record IsRunIn (command : Option (Text × List Row)) (request : RunRequest) : Type 0 where
@@ -113,6 +114,7 @@ pub record IsRunIn (command : Option (Text × List Row)) (request : RunRequest) 
   pub table : request.table.now ≡ text_in matches (codes "TABLE")
   pub workers : AreWorkersIn (first_of (codes "workers") matches) request.workers
   pub progress : request.progress ≡ is_given matches (codes "progress")
+  pub vcd : option_map (λ s. s.now) request.vcd ≡ first_of (codes "vcd") matches
   pub few : AreFew request.workers
 
 -- The command is `explain`, and the request has the code that its matches hold, where they hold one.

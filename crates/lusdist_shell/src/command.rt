@@ -181,12 +181,35 @@ fn to<'a>(alloc: Global) -> Arg<'a>
 }
 
 /// The file that a dump goes into.
-fn vcd<'a>(alloc: Global) -> Arg<'a>
+fn vcd<'a>(alloc: Global, help: &'a str) -> Arg<'a>
     ensures rule { rule_of result ≡ vcd_rule }
     ensures local { result.global ≡ false }
 {
-    Arg::new(alloc, "vcd").long("vcd").value_name("FILE").help(
+    Arg::new(alloc, "vcd")
+        .long("vcd")
+        .value_name("FILE")
+        .help(help)
+}
+
+/// The file that a dump of what an evaluation shows goes into.
+fn shown_vcd<'a>(alloc: Global) -> Arg<'a>
+    ensures rule { rule_of result ≡ vcd_rule }
+    ensures local { result.global ≡ false }
+{
+    vcd(
+        alloc,
         "Writes the same variables over time into FILE too, as a value change dump for viewers of waves",
+    )
+}
+
+/// The file that a dump of outputs by site goes into.
+fn site_vcd<'a>(alloc: Global) -> Arg<'a>
+    ensures rule { rule_of result ≡ vcd_rule }
+    ensures local { result.global ≡ false }
+{
+    vcd(
+        alloc,
+        "Writes the outputs over time into FILE too, as a value change dump with the sites as scopes",
     )
 }
 
@@ -320,7 +343,7 @@ fn eval<'a>(alloc: Global) -> Result<Command<'a>, AllocError>
         .arg(chronogram_flag(alloc))?
         .arg(from(alloc))?
         .arg(to(alloc))?
-        .arg(vcd(alloc))?
+        .arg(shown_vcd(alloc))?
         .arg(program(alloc))?
         .arg(table(alloc))
 }
@@ -348,6 +371,7 @@ fn replay<'a>(alloc: Global) -> Result<Command<'a>, AllocError>
         .arg(finish_flag(alloc))?
         .arg(trace_flag(alloc))?
         .arg(chart_flag(alloc))?
+        .arg(site_vcd(alloc))?
         .arg(program(alloc))?
         .arg(place(alloc))?
         .arg(table(alloc))?
@@ -362,6 +386,7 @@ fn run<'a>(alloc: Global) -> Result<Command<'a>, AllocError>
     judging(alloc, "run", about)?
         .arg(workers(alloc))?
         .arg(progress_flag(alloc))?
+        .arg(site_vcd(alloc))?
         .arg(program(alloc))?
         .arg(place(alloc))?
         .arg(table(alloc))

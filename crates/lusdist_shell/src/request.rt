@@ -100,6 +100,8 @@ pub struct ReplayRequest<'a> {
     pub finish: bool,
     /// What is told of its turns on the error stream.
     pub turns: TurnsForm,
+    /// The path of the file that a dump of its outputs goes into, where one is asked for.
+    pub vcd: Option<&'a str>,
 }
 
 /// What a run is asked of.
@@ -119,6 +121,8 @@ pub struct RunRequest<'a> {
     pub workers: Option<u8>,
     /// Whether it is told on the error stream how far the sites have come.
     pub progress: bool,
+    /// The path of the file that a dump of its outputs goes into, where one is asked for.
+    pub vcd: Option<&'a str>,
 }
 
 /// What is to be explained.
@@ -264,6 +268,7 @@ fn replay_in<'a>(matches: &ArgMatches<'a>) -> ReplayRequest<'a>
         schedule: text(matches, "SCHEDULE"),
         finish: is_given(matches, "finish"),
         turns: turns_in(matches),
+        vcd: vcd_in(matches),
     }
 }
 
@@ -303,6 +308,7 @@ fn run_in<'a>(matches: &ArgMatches<'a>) -> RunRequest<'a>
         table: text(matches, "TABLE"),
         workers: workers_in(matches),
         progress: is_given(matches, "progress"),
+        vcd: vcd_in(matches),
     }
 }
 

@@ -2,3 +2,4 @@ pub mod WorldText
 pub mod Items
 pub mod Charted
 pub mod Traced
+pub mod Waves

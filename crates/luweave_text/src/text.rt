@@ -192,7 +192,7 @@ fn put_statuses(text: &mut String, names: &[Name], statuses: &[Status]) -> Resul
 }
 
 /// Whether a main variable is an output.
-fn is_output(flat: &Flat, variable: usize) -> bool
+pub(crate) fn is_output(flat: &Flat, variable: usize) -> bool
     ensures { result ≡ is_output_of flat.now variable }
 {
     match flat.variables().get(variable) {

@@ -11,7 +11,7 @@ returns-clause-app c =
     let three = c.in_ok-arg-2.ensures.shape c.chronogram_flag.ensures.local ∙ ap₂ with_rule two c.chronogram_flag.ensures.rule in
     let four = c.in_ok-arg-3.ensures.shape c.from.ensures.local ∙ ap₂ with_rule three c.from.ensures.rule in
     let five = c.in_ok-arg-4.ensures.shape c.to.ensures.local ∙ ap₂ with_rule four c.to.ensures.rule in
-    let six = c.in_ok-arg-5.ensures.shape c.vcd.ensures.local ∙ ap₂ with_rule five c.vcd.ensures.rule in
+    let six = c.in_ok-arg-5.ensures.shape c.shown_vcd.ensures.local ∙ ap₂ with_rule five c.shown_vcd.ensures.rule in
     let seven = c.in_ok-arg-6.ensures.shape c.program.ensures.local ∙ ap₂ with_rule six c.program.ensures.rule in
     IfOk-weaker c.arg-7.result _ _ (λ r added. added.shape c.table.ensures.local ∙ ap₂ with_rule seven c.table.ensures.rule) c.arg-7.ensures
 
@@ -22,6 +22,6 @@ returns-clause-local c =
     let three = c.in_ok-arg-2.ensures.globals ∙ or_from _ _ two c.chronogram_flag.ensures.local in
     let four = c.in_ok-arg-3.ensures.globals ∙ or_from _ _ three c.from.ensures.local in
     let five = c.in_ok-arg-4.ensures.globals ∙ or_from _ _ four c.to.ensures.local in
-    let six = c.in_ok-arg-5.ensures.globals ∙ or_from _ _ five c.vcd.ensures.local in
+    let six = c.in_ok-arg-5.ensures.globals ∙ or_from _ _ five c.shown_vcd.ensures.local in
     let seven = c.in_ok-arg-6.ensures.globals ∙ or_from _ _ six c.program.ensures.local in
     IfOk-weaker c.arg-7.result _ _ (λ r added. added.globals ∙ or_from _ _ seven c.table.ensures.local) c.arg-7.ensures

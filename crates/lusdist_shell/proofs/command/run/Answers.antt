@@ -9,15 +9,17 @@ returns-clause-app c =
     let one = c.in_ok-judging.ensures.app in
     let two = c.in_ok-arg.ensures.shape c.workers.ensures.local ∙ ap₂ with_rule one c.workers.ensures.rule in
     let three = c.in_ok-arg-2.ensures.shape c.progress_flag.ensures.local ∙ ap₂ with_rule two c.progress_flag.ensures.rule in
-    let four = c.in_ok-arg-3.ensures.shape c.program.ensures.local ∙ ap₂ with_rule three c.program.ensures.rule in
-    let five = c.in_ok-arg-4.ensures.shape c.place.ensures.local ∙ ap₂ with_rule four c.place.ensures.rule in
-    IfOk-weaker c.arg-5.result _ _ (λ r added. added.shape c.table.ensures.local ∙ ap₂ with_rule five c.table.ensures.rule) c.arg-5.ensures
+    let four = c.in_ok-arg-3.ensures.shape c.site_vcd.ensures.local ∙ ap₂ with_rule three c.site_vcd.ensures.rule in
+    let five = c.in_ok-arg-4.ensures.shape c.program.ensures.local ∙ ap₂ with_rule four c.program.ensures.rule in
+    let six = c.in_ok-arg-5.ensures.shape c.place.ensures.local ∙ ap₂ with_rule five c.place.ensures.rule in
+    IfOk-weaker c.arg-6.result _ _ (λ r added. added.shape c.table.ensures.local ∙ ap₂ with_rule six c.table.ensures.rule) c.arg-6.ensures
 
 pub returns-clause-local : goal.returns-clause-local
 returns-clause-local c =
     let one = c.in_ok-judging.ensures.local in
     let two = c.in_ok-arg.ensures.globals ∙ or_from _ _ one c.workers.ensures.local in
     let three = c.in_ok-arg-2.ensures.globals ∙ or_from _ _ two c.progress_flag.ensures.local in
-    let four = c.in_ok-arg-3.ensures.globals ∙ or_from _ _ three c.program.ensures.local in
-    let five = c.in_ok-arg-4.ensures.globals ∙ or_from _ _ four c.place.ensures.local in
-    IfOk-weaker c.arg-5.result _ _ (λ r added. added.globals ∙ or_from _ _ five c.table.ensures.local) c.arg-5.ensures
+    let four = c.in_ok-arg-3.ensures.globals ∙ or_from _ _ three c.site_vcd.ensures.local in
+    let five = c.in_ok-arg-4.ensures.globals ∙ or_from _ _ four c.program.ensures.local in
+    let six = c.in_ok-arg-5.ensures.globals ∙ or_from _ _ five c.place.ensures.local in
+    IfOk-weaker c.arg-6.result _ _ (λ r added. added.globals ∙ or_from _ _ six c.table.ensures.local) c.arg-6.ensures
