@@ -1,6 +1,7 @@
 -- What columns say of a solution.
-use Rattle.std.proofs.Common.{◌≡◌, ◌≢◌, ℕ, zero, suc, ◌+◌, ◌-◌, ◌<◌, ◌≤◌, inl, inr, Bool, true, false, cond, List, [], length, set, Option, Some, ℤ, refl, sym, subst, ◌∙◌, ap, ap₂, arith}
-use Rattle.std.specs.Prelude.{slice_get, IfOk, Ok, Err, Vec}
+use Rattle.std.proofs.Common.{◌≡◌, ◌≢◌, ℕ, zero, suc, ◌+◌, ◌-◌, ◌<◌, ◌≤◌, inl, inr, Bool, true, false, cond, List, [], ◌∷◌, ◌++◌, length, length-append, set, Option, Some, ℤ, refl, sym, subst, ◌∙◌, ap, ap₂, arith}
+use Rattle.std.specs.Prelude.{slice_get, if◌then◌else◌, IfOk, Ok, Err, Vec}
+use mir.Val.{bool_byte}
 use Rattle.std.specs.declared.result.Result.{Result}
 use Rattle.std.proofs.lemmas.Bool.{cases_lt, lt-ltb}
 use Rattle.std.proofs.lemmas.Option.{slice_get_within, slice_get-get_or, same_Some}
@@ -19,7 +20,8 @@ use Rattle.luflow.specs.Sound.{IsFit, IsTidyMark, ClockFits}
 use Rattle.luflow.specs.Flats.{IsFlat}
 use Rattle.luflow.proofs.TidyStreams.{tidy}
 use Rattle.lueval.specs.Frames.{has_value}
-use Rattle.lublock.specs.Blocks.{datum_at, Holds, once_true, since, IsRight}
+use Rattle.lueval.proofs.Spans.{slice_get_front, slice_get_last}
+use Rattle.lublock.specs.Blocks.{datum_at, Holds, once, once_true, since, IsRight}
 use Rattle.lublock_rows.specs.Rows.{word_in}
 use Rattle.lublock.specs.Machine.{block_of, row_of}
 use Rattle.lublock.specs.Shown.{Column, IsAdded, present_at, status_in, seen_in, slow_at, IsShown, IsNear, AreNear}
@@ -29,6 +31,56 @@ use Rattle.lublock.specs.declared.span.Span.{Span}
 pub ok_weaker : {X E : Type 0} (P Q : X → Type 0) (r : Result X E) → ((x : X) → P x → Q x) → IfOk r P → IfOk r Q
 ok_weaker P Q (Ok x) f h = f x h
 ok_weaker P Q (Err e) f h = tt
+
+-- nothing was put, and one status more
+pub added_none : (old : List Status) (status : ℕ → Status) → IsAdded old old 0 status
+added_none old status = record {
+  long = omega arith;
+  kept = λ m l. refl;
+  added = λ n l. absurd (omega (arith, l));
+}
+
+pub added_more : (old mid new : List Status) (n : ℕ) (status : ℕ → Status) → IsAdded old mid n status → new ≡ mid ++ status n ∷ [] → IsAdded old new (n + 1) status
+added_more old mid new n status h is =
+    let x = status n in
+    let long = h.long in
+    let more = ap length is in
+    let both = length-append mid (x ∷ []) in
+    let front : (m : ℕ) → m < length mid → slice_get new m ≡ slice_get mid m = λ m l. ap (λ (xs : List Status). slice_get xs m) is ∙ slice_get_front mid (x ∷ []) m l in
+    record {
+      long = omega (arith, more, both, long);
+      kept = λ m l. front m (omega (arith, l, long)) ∙ h.kept m l;
+      added = λ k l. elim (cases_lt k n) [
+        | inl low ↦ front (length old + k) (omega (arith, low, long)) ∙ h.added k low
+        | inr high ↦
+            let e : k ≡ n = omega (arith, high, l) in
+            ap (λ (xs : List Status). slice_get xs (length old + k)) is
+            ∙ slice_get_last mid x (length old + k) (omega (arith, long, e))
+            ∙ ap (λ (j : ℕ). Some (status j)) (sym e)
+      ];
+    }
+
+-- one instant more: how often a variable had a value, and what the flow has
+byte_once : (b : Bool) → bool_byte b ≡ once b
+byte_once true = refl
+byte_once false = refl
+
+pub byte_small : (b : Bool) → bool_byte b ≤ 1
+byte_small true = omega arith
+byte_small false = omega arith
+
+pub seen_more : (of : List Status) (d : Datum) (t n tick : ℕ) (on : Bool) → tick ≡ seen_in of d t n → on ≡ has_value d (status_in of (t + n)) → tick + bool_byte on ≡ seen_in of d t (n + 1)
+seen_more of d t n tick on count is =
+    let next : suc n ≡ n + 1 = omega arith in
+    ap₂ (λ (a b : ℕ). a + b) count (byte_once on ∙ ap once is) ∙ ap (seen_in of d t) next
+
+if_cond : (b : Bool) (x y : Status) → (if b then x else y) ≡ cond b x y
+if_cond true x y = refl
+if_cond false x y = refl
+
+pub slow_more : (kind : Kind) (row : List ℤ) (of : List Status) (d : Datum) (t n tick : ℕ) (on : Bool) → tick ≡ seen_in of d t n → on ≡ has_value d (status_in of (t + n)) → (if on then present_at kind row tick else Absent) ≡ slow_at kind row of d t n
+slow_more kind row of d t n tick on count is =
+    if_cond on (present_at kind row tick) Absent ∙ ap₂ (λ (b : Bool) (k : ℕ). cond b (present_at kind row k) Absent) is count
 
 -- near a mark that isn't nil is what it is
 truth_near : (e : Bool) (u : Kind) (w q : Option Bool) (d : Datum) (m : Mark) (s : Status) → IsTidyMark u e w q m → e ≡ false → IsNear m s → truth_in d m ≡ Some (has_value d s)

@@ -1,9 +1,9 @@
 -- What a site reads of its own columns.
-use Rattle.std.proofs.Common.{get_or, ◌++◌, Vec, ◌≡◌, ℕ, zero, suc, ◌+◌, ◌<◌, ◌≤◌, true, false, cond, List, [], ◌∷◌, length, map, Some, None, sym, ap, ◌∙◌, refl, arith, inl, inr}
+use Rattle.std.proofs.Common.{get_or, take, ◌++◌, Vec, ◌≡◌, ℕ, zero, suc, ◌+◌, ◌<◌, ◌≤◌, true, false, cond, List, [], ◌∷◌, length, map, Some, None, sym, ap, ◌∙◌, refl, arith, inl, inr}
 use Rattle.std.specs.Prelude.{slice_get, unwrap_or}
 use Rattle.std.specs.List.{range_with_len}
 use Rattle.std.proofs.lemmas.Bool.{cases_lt}
-use Rattle.std.proofs.lemmas.List.{map-append}
+use Rattle.std.proofs.lemmas.List.{map-append, take_more}
 use Rattle.std.specs.declared.string.String.{String}
 use Rattle.std.specs.declared.alloc.Global.{Global}
 use Rattle.luflow.specs.declared.data.Datum.{Datum}
@@ -65,3 +65,7 @@ pub values_there : (xs : List (String Global × Vec Datum Global)) (c : ℕ) (d 
 values_there [] c d l = absurd (omega arith)
 values_there (x ∷ xs) zero d l = refl
 values_there (x ∷ xs) (suc c) d l = values_there xs c d (omega arith)
+
+-- what a list's first items are mapped to, and one item more
+pub map_taken : {X Y : Type 0} (f : X → Y) (xs : List X) (i : ℕ) (d x : X) → i < length xs → x ≡ get_or xs i d → map f (take (i + 1) xs) ≡ map f (take i xs) ++ f x ∷ []
+map_taken f xs i d x l e = ap (map f) (take_more xs i d l) ∙ map-append f (take i xs) (get_or xs i d ∷ []) ∙ ap (λ y. map f (take i xs) ++ f y ∷ []) (sym e)

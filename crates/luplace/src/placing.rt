@@ -49,7 +49,8 @@ fn rows_of(
     let mut rows = Vec::with_capacity(alloc, variables.len())?;
     for variable in variables {
         let sites = sites_put(place, places, variable.name.as_str());
-        rows.push(copied(alloc, sites)?)?;
+        let row = copied(alloc, sites)?;
+        rows.push_reserved(row);
     }
     Ok(rows)
 }

@@ -1,8 +1,9 @@
 //! Plans: where the flows of a program stand, what each site needs, and which links there are.
 
-ghost use Rattle.std.specs.Prelude.{◌≡◌, ◌⊎◌, ◌<◌, true, length, IfOk, IfErr};
+ghost use Rattle.std.specs.List.Sorted.{IsStrictlyIncreasing};
+ghost use Rattle.std.specs.Prelude.{◌≡◌, ◌⊎◌, ◌<◌, true, length, All, IfOk, IfErr};
 ghost use Rattle.luworld.specs.Needs.{Distribution, IsPlan, sites_of, stands};
-ghost use Rattle.luplace.specs.Placing.{refusal, are_somewhere, are_together, placed_by, IsPlanOf, IsPlanAt};
+ghost use Rattle.luplace.specs.Placing.{refusal, are_somewhere, are_together, placed_by, IsPlanOf};
 ghost use Rattle.luflow.specs.Rank.{row};
 
 use crate::assembly::names_of;
@@ -53,37 +54,45 @@ impl Model for Plan {
     }) };
 }
 
-/// The plan of a program whose main variables stand at these sites.
-fn plan_at(
+/// What follows of a program and of where its main variables stand.
+struct Followed {
+    names: Row<Name>,
+    needs: Row<Row<usize>>,
+    links: Row<Link>,
+}
+
+/// What follows of a program whose main variables stand at these sites: with it they are a plan.
+fn what_follows(
     alloc: Global,
-    flat: Flat,
+    flat: &Flat,
     place: &Place,
-    placed: Vec<Row<u8>>,
-) -> Result<Plan, AllocError>
-    requires rows { placed.items ≡ placed_by flat.variables place.now }
-    requires somewhere { are_somewhere placed.items ≡ true }
-    requires together { are_together flat.owners placed.items ≡ true }
-    ensures { IfOk result (IsPlanAt flat place.now placed.items) }
+    placed: &[Row<u8>],
+) -> Result<Followed, AllocError>
+    requires rows { placed.now ≡ placed_by flat.now.variables place.now }
+    requires somewhere { are_somewhere placed.now ≡ true }
+    requires together { are_together flat.now.owners placed.now ≡ true }
+    ensures names { IfOk result (λ x. x.names ≡ place.now.sites) }
+    ensures in_order { IfOk result (λ x. All IsStrictlyIncreasing x.needs) }
+    ensures plan { IfOk result (λ x. IsPlan (record {
+      flat = flat.now;
+      names = x.names;
+      placed = placed.now;
+      needs = x.needs;
+      links = x.links;
+      capacity = place.now.capacity;
+    })) }
 {
-    let names = names_of(alloc, place.sites())?;
-    let rows = all_marks(alloc, &flat, placed.as_slice(), place.sites().len() as u8)?;
-    let needs = needs_of(alloc, rows.as_slice())?;
+    let rows = all_marks(alloc, flat, placed, place.sites().len() as u8)?;
+    let _flat = flat.flows();
     let variables = flat.variables().len();
-    let links = links_of(
-        alloc,
-        rows.as_slice(),
-        flat.owners(),
-        placed.as_slice(),
-        variables,
-    )?;
-    Ok(Plan::of_parts(
-        flat,
-        Row::new(names),
-        Row::new(placed),
-        Row::new(needs),
-        Row::new(links),
-        place.capacity(),
-    ))
+    let links = links_of(alloc, rows.as_slice(), flat.owners(), placed, variables)?;
+    let needs = needs_of(alloc, rows.as_slice())?;
+    let names = names_of(alloc, place.sites())?;
+    Ok(Followed {
+        names: Row::new(names),
+        needs: Row::new(needs),
+        links: Row::new(links),
+    })
 }
 
 impl Plan {
@@ -97,7 +106,19 @@ impl Plan {
             ⊎ (refusal flat place.now ≡ Some e)) }
     {
         let placed = placed_by(alloc, &flat, place)?;
-        Ok(plan_at(alloc, flat, place, placed)?)
+        let Followed {
+            names,
+            needs,
+            links,
+        } = what_follows(alloc, &flat, place, placed.as_slice())?;
+        Ok(Plan::of_parts(
+            flat,
+            names,
+            Row::new(placed),
+            needs,
+            links,
+            place.capacity(),
+        ))
     }
 
     /// The plan of these parts, which are what they are said to be.

@@ -18,7 +18,7 @@ pub fn variable_places<'a>(
 {
     let mut names = Vec::with_capacity(alloc, variables.len())?;
     for variable in variables {
-        names.push(variable.name.as_str())?;
+        names.push_reserved(variable.name.as_str());
     }
     Places::new(alloc, names)
 }
@@ -29,7 +29,7 @@ pub fn entry_places<'a>(alloc: Global, entries: &'a [Placed]) -> Result<Places<'
 {
     let mut names = Vec::with_capacity(alloc, entries.len())?;
     for entry in entries {
-        names.push(entry.variable.as_str())?;
+        names.push_reserved(entry.variable.as_str());
     }
     Places::new(alloc, names)
 }

@@ -1,16 +1,30 @@
 //! The report as JSON.
 
-ghost use Rattle.std.specs.Prelude.{◌≡◌, IfOk, string_bytes};
-ghost use Rattle.serde_json.specs.Data.{array};
-ghost use Rattle.serde_json.specs.View.{view};
+ghost use Rattle.std.specs.Prelude.{◌≡◌, IfOk, codes, string_bytes};
+ghost use Rattle.serde_json.specs.Data.{array, number, string, unsigned, put as with_member};
+ghost use Rattle.serde_json.specs.View.{view, members_view};
 ghost use Rattle.luflow.specs.Rank.{row};
 ghost use Rattle.luplace_report.specs.Report.{site_data, names_data, sites_data, flow_data, flows_data, link_data, links_data, report_data, report_text};
 
 use crate::names::{clock_of, clock_text, site_name, type_of, variable_name};
 use lulist::Name;
 use luplace::{Link, Plan};
-use serde_json::{Value, json};
+use serde_json::{Map, Value, put};
 use std::alloc::{AllocError, Global};
+
+/// Puts a text into an object.
+fn put_text(
+    members: &mut Map<String, Value>,
+    alloc: Global,
+    key: &str,
+    text: &str,
+) -> Result<(), AllocError>
+    ensures { IfOk result (λ _. members_view members.new.entries
+        ≡ with_member key.now (string text.now) (members_view members.old.entries)) }
+{
+    let value = Value::try_from_str(alloc, text)?;
+    put(members, alloc, key, value)
+}
 
 /// Names as an array.
 fn names_value(alloc: Global, names: &[Name]) -> Result<Value, AllocError>
@@ -18,7 +32,7 @@ fn names_value(alloc: Global, names: &[Name]) -> Result<Value, AllocError>
 {
     let mut values = Vec::new(alloc);
     for name in names {
-        values.push(json!(in alloc; name.as_str())?)?;
+        values.push(Value::try_from_str(alloc, name.as_str())?)?;
     }
     Ok(Value::Array(values))
 }
@@ -29,7 +43,7 @@ fn site_array(alloc: Global, names: &[Name], sites: &[u8]) -> Result<Value, Allo
 {
     let mut values = Vec::new(alloc);
     for site in sites {
-        values.push(json!(in alloc; site_name(names, *site))?)?;
+        values.push(Value::try_from_str(alloc, site_name(names, *site))?)?;
     }
     Ok(Value::Array(values))
 }
@@ -39,7 +53,7 @@ fn site_value(alloc: Global, names: &[Name], sites: &[u8]) -> Result<Value, Allo
     ensures { IfOk result (λ value. view value ≡ site_data names.now sites.now) }
 {
     match sites {
-        [site] => json!(in alloc; site_name(names, *site)),
+        [site] => Value::try_from_str(alloc, site_name(names, *site)),
         _ => site_array(alloc, names, sites),
     }
 }
@@ -61,10 +75,13 @@ fn flow_value(alloc: Global, plan: &Plan, variable: usize) -> Result<Value, Allo
 {
     let flat = plan.flat();
     let clock = clock_text(alloc, flat, clock_of(flat, variable))?;
-    let name = variable_name(flat, variable);
+    let mut members = Map::new(alloc);
+    put(&mut members, alloc, "clock", Value::String(clock))?;
+    put_text(&mut members, alloc, "name", variable_name(flat, variable))?;
     let site = site_value(alloc, plan.sites(), sites_at(plan, variable))?;
-    let kind = type_of(flat, variable);
-    json!(in alloc; {"clock": clock, "name": name, "site": site, "type": kind})
+    put(&mut members, alloc, "site", site)?;
+    put_text(&mut members, alloc, "type", type_of(flat, variable))?;
+    Ok(Value::Object(members))
 }
 
 /// The main variables.
@@ -84,10 +101,17 @@ fn link_value(alloc: Global, plan: &Plan, link: Link) -> Result<Value, AllocErro
 {
     let flat = plan.flat();
     let clock = clock_text(alloc, flat, clock_of(flat, link.flow))?;
-    let flow = variable_name(flat, link.flow);
-    let from = site_name(plan.sites(), link.from);
-    let to = site_name(plan.sites(), link.to);
-    json!(in alloc; {"clock": clock, "flow": flow, "from": from, "to": to})
+    let mut members = Map::new(alloc);
+    put(&mut members, alloc, "clock", Value::String(clock))?;
+    put_text(&mut members, alloc, "flow", variable_name(flat, link.flow))?;
+    put_text(
+        &mut members,
+        alloc,
+        "from",
+        site_name(plan.sites(), link.from),
+    )?;
+    put_text(&mut members, alloc, "to", site_name(plan.sites(), link.to))?;
+    Ok(Value::Object(members))
 }
 
 /// The links.
@@ -101,14 +125,32 @@ fn links_value(alloc: Global, plan: &Plan) -> Result<Value, AllocError>
     Ok(Value::Array(values))
 }
 
+/// Puts what the report has into an object.
+fn put_report(
+    members: &mut Map<String, Value>,
+    alloc: Global,
+    plan: &Plan,
+) -> Result<(), AllocError>
+    ensures { IfOk result (λ _. members_view members.new.entries
+        ≡ with_member (codes "sites") (names_data plan.now.names)
+        (with_member (codes "links") (links_data plan.now)
+        (with_member (codes "flows") (flows_data plan.now)
+        (with_member (codes "capacity") (number (unsigned plan.now.capacity))
+        (members_view members.old.entries))))) }
+{
+    let capacity = Value::from(u64::from(plan.capacity()));
+    put(members, alloc, "capacity", capacity)?;
+    put(members, alloc, "flows", flows_value(alloc, plan)?)?;
+    put(members, alloc, "links", links_value(alloc, plan)?)?;
+    put(members, alloc, "sites", names_value(alloc, plan.sites())?)
+}
+
 fn report_value(alloc: Global, plan: &Plan) -> Result<Value, AllocError>
     ensures { IfOk result (λ value. view value ≡ report_data plan.now) }
 {
-    let capacity = u64::from(plan.capacity());
-    let flows = flows_value(alloc, plan)?;
-    let links = links_value(alloc, plan)?;
-    let sites = names_value(alloc, plan.sites())?;
-    json!(in alloc; {"capacity": capacity, "flows": flows, "links": links, "sites": sites})
+    let mut members = Map::new(alloc);
+    put_report(&mut members, alloc, plan)?;
+    Ok(Value::Object(members))
 }
 
 /// The report of a plan as compact JSON on one line, without a line feed: its capacity, its main variables in order of
