@@ -6,6 +6,7 @@ ghost use Rattle.lustat_rules.specs.Accepted.{IsAccepted};
 ghost use Rattle.lustat_rules.specs.Told.{Tells};
 ghost use Rattle.lustat_rules.specs.Faults.{AreKept};
 ghost use Rattle.lustat_clocks.specs.Asked.{is_asked};
+ghost use Rattle.lustat_classes.specs.Rows.{AreClasses, plain};
 ghost use Rattle.lustat.specs.First.{IsToldFirst};
 
 use crate::checked::Checked;
@@ -16,19 +17,35 @@ use lutree::Program;
 use lutype::{Typed, names};
 use std::alloc::Global;
 
-// The last stage, of a program that keeps the rules of names and of clocks.
-fn last_stage(alloc: Global, typed: Typed<'_>) -> Result<Checked<'_>, StatError>
-    requires { AreKept is_asked typed.program typed.main }
-    ensures program { IfOk result (λ checked. checked.program ≡ typed.entry.program) }
-    ensures main { IfOk result (λ checked. checked.main ≡ typed.entry.main) }
-    ensures accepted { IfOk result (λ _. IsAccepted (program_view typed.entry.program)
-        typed.entry.main) }
-    ensures told { IfErr result (Tells 3 (program_view typed.entry.program) typed.entry.main) }
-    ensures first { IfErr result (IsToldFirst typed.entry.program typed.entry.main) }
+// The last stage: the classes of a program that keeps the rules of names and of clocks.
+fn classes_of(alloc: Global, typed: &Typed) -> Result<Vec<Vec<bool>>, StatError>
+    requires { AreKept is_asked typed.now.program typed.now.main }
+    ensures accepted { IfOk result (λ _. IsAccepted (program_view typed.now.program)
+        typed.now.main) }
+    ensures classes { IfOk result (λ classes. AreClasses (program_view typed.now.program)
+        (plain classes.items)) }
+    ensures told { IfErr result (Tells 3 (program_view typed.now.program) typed.now.main) }
+    ensures first { IfErr result (IsToldFirst typed.now.program typed.now.main) }
 {
     match initialise(alloc, typed.catalog())? {
-        Initialised::Kept(classes) => Ok(Checked::new(typed, classes)),
+        Initialised::Kept(classes) => Ok(classes),
         Initialised::Broken(fault) => Err(fault),
+    }
+}
+
+// The stages behind that of names: the classes of a program that keeps the rules of names.
+fn later_stages(alloc: Global, typed: &Typed) -> Result<Vec<Vec<bool>>, StatError>
+    ensures accepted { IfOk result (λ _. IsAccepted (program_view typed.now.program)
+        typed.now.main) }
+    ensures classes { IfOk result (λ classes. AreClasses (program_view typed.now.program)
+        (plain classes.items)) }
+    ensures told { IfErr result (Tells 3 (program_view typed.now.program) typed.now.main) }
+    ensures first { IfErr result (IsToldFirst typed.now.program typed.now.main) }
+{
+    let main = typed.main();
+    match clock_fault(alloc, typed.catalog(), main)? {
+        Some(fault) => Err(fault),
+        None => classes_of(alloc, typed),
     }
 }
 
@@ -54,8 +71,6 @@ pub fn check<'a>(
     ensures first { IfErr result (IsToldFirst program.now main.now) }
 {
     let typed = names(alloc, program, main)?;
-    match clock_fault(alloc, typed.catalog(), main)? {
-        Some(fault) => Err(fault),
-        None => last_stage(alloc, typed),
-    }
+    let classes = later_stages(alloc, &typed)?;
+    Ok(Checked::new(typed, classes))
 }

@@ -6,3 +6,4 @@ pub mod Lent
 pub mod Starting
 pub mod Equations
 pub mod Rowing
+pub mod Steps

@@ -34,6 +34,12 @@ row_new : (rows : Rows) (row : List Bool) → row_at (rows ++ row ∷ []) (lengt
 row_new [] row = refl
 row_new (r ∷ rows) row = row_new rows row
 
+-- a node has a row
+pub row_within : (nodes : List Node) (rows : List (Vec Bool Global)) (i : ℕ) (n : Node) → length (plain rows) ≡ length nodes → slice_get nodes i ≡ Some n → i < length rows
+row_within nodes rows i n long at =
+    let lt = slice_get_within nodes i n at in
+    omega (arith, lt, long, length-map rows (λ (r : Vec Bool Global). r.items))
+
 -- a row in memory
 pub row_in : (rows : List (Vec Bool Global)) (i : ℕ) (row : Vec Bool Global) → slice_get rows i ≡ Some row → row_at (plain rows) i ≡ row.items
 row_in rows i row at = ap (λ (o : Option (List Bool)). unwrap_or o []) (item_view (λ (r : Vec Bool Global). r.items) rows i row at)

@@ -1,6 +1,6 @@
 //! Which equations keep the rules of classes.
 
-ghost use Rattle.std.specs.Prelude.{◌≡◌, ◌↔◌, ◌++◌, IsTrue, All, IfOk, OnOk, map, option_copied, option_to_list};
+ghost use Rattle.std.specs.Prelude.{◌≡◌, ◌↔◌, ◌++◌, ◌∷◌, [], IsTrue, All, IfOk, OnOk, map, option_copied, option_to_list};
 ghost use Rattle.lutree.specs.Tree.{equation_view, node_view, view, views, trees_of};
 ghost use Rattle.lustat_rules.specs.Clocks.{clocks_in, clocks_in_all};
 ghost use Rattle.lustat_classes.specs.Assigned.{assigned};
@@ -39,6 +39,15 @@ fn names_of_clocks<'a>(
     Ok(names)
 }
 
+// What `when` or `merge` names, behind what was named before.
+fn push_sampler<'a>(names: &mut Vec<&'a str>, name: &'a str) -> Result<(), AllocError>
+    ensures { OnOk result
+        (spelled names.new.items ≡ spelled names.old.items ++ name.now ∷ []) }
+{
+    names.push(name)?;
+    Ok(())
+}
+
 // What `when` and `merge` name in an expression, behind what was named before.
 #[cycle(samplers)]
 fn push_samplers<'a>(names: &mut Vec<&'a str>, e: &'a Expr) -> Result<(), AllocError>
@@ -60,11 +69,10 @@ fn push_samplers<'a>(names: &mut Vec<&'a str>, e: &'a Expr) -> Result<(), AllocE
         }
         Expr::When(a, c) => {
             push_samplers(names, a)?;
-            names.push(c.variable.as_str())?;
-            Ok(())
+            push_sampler(names, c.variable.as_str())
         }
         Expr::Merge(c, _, branches) => {
-            names.push(c.as_str())?;
+            push_sampler(names, c.as_str())?;
             push_samplers_of_all(names, branches)
         }
         Expr::Call(_, arguments) => push_samplers_of_all(names, arguments),

@@ -6,3 +6,4 @@ pub mod Chaining
 pub mod Uncalled
 pub mod Places
 pub mod Branched
+pub mod Steps

@@ -10,3 +10,4 @@ pub mod CallsPushed
 pub mod CallWays
 pub mod Branches
 pub mod NameAt
+pub mod Steps

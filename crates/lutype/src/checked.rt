@@ -7,6 +7,7 @@ ghost use Rattle.lustat_rules.specs.Accepted.{IsNamed};
 ghost use Rattle.lustat_rules.specs.Told.{Tells};
 ghost use Rattle.lustat_rules.specs.Faults.{lesser_of};
 ghost use Rattle.lutype.specs.First.{IsToldFirst};
+ghost use Rattle.lutype.specs.Named.{AreInOrder};
 
 use crate::order::{CallOrder, call_order};
 use crate::search::least_fault;
@@ -40,6 +41,29 @@ fn byte_of_node(catalog: &Catalog, place: usize) -> usize
     catalog.program().nodes.as_slice()[place].byte
 }
 
+/// An order of all nodes in which calls go backward, of a program whose names and types are in order.
+fn order_of_names(alloc: Global, catalog: &Catalog, main: &str) -> Result<Vec<usize>, StatError>
+    ensures order { IfOk result (λ order. AreInOrder (record {
+      program = catalog.now;
+      main = main.now;
+      order = order.items;
+    })) }
+    ensures told { IfErr result (Tells 1 (program_view catalog.now) main.now) }
+    ensures first { IfErr result (IsToldFirst catalog.now main.now) }
+{
+    let found = least_fault(alloc, catalog, main)?;
+    match call_order(alloc, catalog)? {
+        CallOrder::Sorted(order) => match found {
+            None => Ok(order),
+            Some(fault) => Err(fault),
+        },
+        CallOrder::Recursive(place) => {
+            let byte = byte_of_node(catalog, place);
+            Err(with_recursion(found, StatError::RecursiveNode { byte }))
+        }
+    }
+}
+
 /// Whether the names and types of a program are in order: its names are declared once and known, its calls are of nodes and
 /// have their arities, no node reaches itself by calls, its equations are well typed and define each variable once that is no
 /// input, and some node has the name of the main node.
@@ -58,15 +82,6 @@ pub fn names<'a>(alloc: Global, program: &'a Program, main: &'a str) -> Result<T
     ensures first { IfErr result (IsToldFirst program.now main.now) }
 {
     let catalog = Catalog::new(alloc, program)?;
-    let found = least_fault(alloc, &catalog, main)?;
-    match call_order(alloc, &catalog)? {
-        CallOrder::Sorted(order) => match found {
-            None => Ok(Typed::new(catalog, main, order)),
-            Some(fault) => Err(fault),
-        },
-        CallOrder::Recursive(place) => {
-            let byte = byte_of_node(&catalog, place);
-            Err(with_recursion(found, StatError::RecursiveNode { byte }))
-        }
-    }
+    let order = order_of_names(alloc, &catalog, main)?;
+    Ok(Typed::new(catalog, main, order))
 }

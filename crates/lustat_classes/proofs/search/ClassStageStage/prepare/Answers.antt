@@ -1,14 +1,17 @@
-use Rattle.std.proofs.Common.{◌≡◌, ◌∙◌, ◌<◌, List, Bool, refl, sym, ap, subst, length, arith}
+use Rattle.std.proofs.Common.{◌≡◌, ◌∙◌, List, Bool, refl, sym, ap, subst, length}
 use Rattle.std.specs.Prelude.{Vec}
 use Rattle.std.specs.Global.{Global}
-use Rattle.std.proofs.lemmas.List.{length-map}
-use Rattle.std.proofs.lemmas.Option.{slice_get_read, slice_get_within}
+use Rattle.std.proofs.lemmas.Option.{slice_get_read}
 use Rattle.lutree.specs.Tree.{node_view}
 use Rattle.lustat_rules.specs.Classes.{IsLeast}
 use Rattle.lustat_classes.specs.Assigned.{assigned}
 use Rattle.lustat_classes.specs.Rows.{plain, row_at}
-use Rattle.lustat_classes.proofs.Rowing.{row_in}
+use Rattle.lustat_classes.proofs.Rowing.{row_in, row_within}
 use Rattle.lustat_classes.proofs.search.ClassStageStage.prepare.Goals as goal
+
+pub bounds-self-place : goal.bounds-self-place
+bounds-self-place c =
+    row_within c.args.self.now.catalog.now.nodes c.args.self.now.rows.now c.args.place c.args.scope.now c.args.self.now.least.long c.requires
 
 pub returns : goal.returns
 returns c =
@@ -17,9 +20,7 @@ returns c =
     let i = c.args.place in
     let rows : List (Vec Bool Global) = s.rows.now in
     let row = c.index-self-place.result in
-    let nodes = s.catalog.now.nodes in
-    let long : length (plain rows) ≡ length nodes = s.least.long in
-    let lt : i < length rows = (let t = slice_get_within nodes i n c.requires in let m = length-map rows (λ (r : Vec Bool Global). r.items) in omega (arith, t, long, m)) in
+    let lt = row_within s.catalog.now.nodes rows i n s.least.long c.requires in
     let there = slice_get_read rows (length rows) i row refl lt c.index-self-place.is in
     let own : row_at (plain rows) i ≡ c.as_slice-marks.result.now = row_in rows i row there ∙ ap (λ (r : Vec Bool Global). r.items) c.index-self-place.is ∙ sym c.as_slice-marks.ensures.value in
     record {

@@ -2,8 +2,6 @@ use Rattle.std.proofs.Common.{List, ℕ, Some, All, sym, subst}
 use Rattle.lutree.specs.declared.program.Program.{Program}
 use Rattle.lutree.specs.Tree.{program_view}
 use Rattle.lustat_rules.specs.Accepted.{Passes}
-use Rattle.lustat_rules.specs.Naming.{IsCallOrder}
-use Rattle.lutype.specs.Named.{Named}
 use Rattle.lustat_rules.specs.Faults.{IsJudged}
 use Rattle.lustat_classes.specs.Assigned.{LeftsKnown}
 use Rattle.lustat_classes.specs.Faults.{AreKept, IsFault, TellsBroken}
@@ -11,49 +9,40 @@ use Rattle.lustat_classes.specs.Rows.{AreClasses, IfKept, IfBroken, fault_of, pl
 use Rattle.lustat_classes.proofs.Rowing.{lefts}
 use Rattle.lustat.proofs.Telling.{accepted_from, told_by_classes}
 use Rattle.lustat.proofs.First.{first_of_classes}
-use Rattle.lustat.proofs.stages.last_stage.Goals as goal
+use Rattle.lustat.proofs.stages.classes_of.Goals as goal
 
 pub initialise-requires : goal.initialise-requires
 initialise-requires c =
-    let p : Program = c.args.typed.program in
-    subst (λ (x : Program). All LeftsKnown (program_view x).nodes) (sym c.catalog.ensures.catalog) (lefts (program_view p) c.args.typed.main c.catalog.ensures.names)
-
-pub new-requires : goal.new-requires
-new-requires c =
-    let p : Program = c.args.typed.program in
-    let main = c.args.typed.main in
-    let seen : Program = c.catalog.result.now in
-    let all = subst (λ f. IfKept f (λ _. (m : List ℕ) → Passes (program_view seen) m 3)) c.in-Kept.is c.in_ok-classes.ensures.passes in
-    let passes = subst (λ (x : Program). Passes (program_view x) main 3) c.catalog.ensures.catalog (all main) in
-    let rows = subst (λ f. IfKept f (AreClasses (program_view seen))) c.in-Kept.is c.in_ok-classes.ensures.classes in
-    record {
-      accepted = accepted_from p main c.catalog.ensures.names c.requires passes;
-      calls = subst (λ (t : Named). IsCallOrder (program_view t.program) t.order) c.typed.view_is c.typed.invariant.calls;
-      classes = subst (λ (x : Program). AreClasses (program_view x) (plain c.in-Kept.classes.items)) c.catalog.ensures.catalog rows;
-    }
+    let p : Program = c.args.typed.now.program in
+    subst (λ (x : Program). All LeftsKnown (program_view x).nodes) (sym c.catalog.ensures.catalog) (lefts (program_view p) c.args.typed.now.main c.catalog.ensures.names)
 
 pub returns-in-Kept-clause-accepted : goal.returns-in-Kept-clause-accepted
 returns-in-Kept-clause-accepted c =
-    let p : Program = c.args.typed.program in
-    let main = c.args.typed.main in
+    let p : Program = c.args.typed.now.program in
+    let main = c.args.typed.now.main in
     let seen : Program = c.catalog.result.now in
     let all = subst (λ f. IfKept f (λ _. (m : List ℕ) → Passes (program_view seen) m 3)) c.in-Kept.is c.in_ok-classes.ensures.passes in
     let passes = subst (λ (x : Program). Passes (program_view x) main 3) c.catalog.ensures.catalog (all main) in
     accepted_from p main c.catalog.ensures.names c.requires passes
 
-pub returns-clause-told : goal.returns-clause-told
-returns-clause-told c =
-    let p : Program = c.args.typed.program in
-    let main = c.args.typed.main in
+pub returns-in-Kept-clause-classes : goal.returns-in-Kept-clause-classes
+returns-in-Kept-clause-classes c =
+    let rows = subst (λ f. IfKept f (AreClasses (program_view c.catalog.result.now))) c.in-Kept.is c.in_ok-classes.ensures.classes in
+    subst (λ (x : Program). AreClasses (program_view x) (plain c.in-Kept.classes.items)) c.catalog.ensures.catalog rows
+
+pub returns-in-Broken-clause-told : goal.returns-in-Broken-clause-told
+returns-in-Broken-clause-told c =
+    let p : Program = c.args.typed.now.program in
+    let main = c.args.typed.now.main in
     let e = c.in-Broken.fault in
     let seen : Program = c.catalog.result.now in
     let broken = subst (λ f. IfBroken f (λ e. (m : List ℕ) → TellsBroken (program_view seen) m e)) c.in-Broken.is c.in_ok-classes.ensures.broken in
     told_by_classes p main e c.catalog.ensures.names c.requires (subst (λ (x : Program). TellsBroken (program_view x) main e) c.catalog.ensures.catalog (broken main))
 
-pub returns-clause-first : goal.returns-clause-first
-returns-clause-first c =
-    let p : Program = c.args.typed.program in
-    let main = c.args.typed.main in
+pub returns-in-Broken-clause-first : goal.returns-in-Broken-clause-first
+returns-in-Broken-clause-first c =
+    let p : Program = c.args.typed.now.program in
+    let main = c.args.typed.now.main in
     let e = c.in-Broken.fault in
     let seen : Program = c.catalog.result.now in
     let broken = subst (λ f. IfBroken f (λ e. (m : List ℕ) → TellsBroken (program_view seen) m e)) c.in-Broken.is c.in_ok-classes.ensures.broken in
