@@ -1,5 +1,5 @@
 -- The walk of each form of expression, from those of its operands.
-use Rattle.std.proofs.Common.{◌≡◌, ℕ, suc, ◌+◌, ◌<◌, take, get_or, List, [], ◌∷◌, ◌++◌, Bool, true, false, Option, Some, length, refl, sym, ap, ◌∙◌, subst, arith}
+use Rattle.std.proofs.Common.{◌≡◌, ℕ, suc, ◌+◌, ◌<◌, take, get_or, List, [], ◌∷◌, ◌++◌, Bool, Option, Some, length, refl, sym, ap, ◌∙◌, subst, arith}
 use Rattle.std.specs.Prelude.{pos}
 use Rattle.std.proofs.Math.Path.{fun_ext}
 use Rattle.std.proofs.lemmas.List.{take_more, map-append, append-nil, length-map, length-take}
@@ -22,12 +22,12 @@ use Rattle.luflow.specs.declared.form.Flow.{Flow}
 use Rattle.lusource.specs.Names.{clock_of}
 use Rattle.lusource.specs.Source.{condition, first_pattern, next_patterns}
 use Rattle.lustat_rules.specs.Typing.{agreed, agreed_all, double_kind, choice_kind, type_of, types_of}
-use Rattle.lucore_list.specs.Layout.{Root, root_flows, root_place, Walking, leaf, after, clock_place, flow_of, variable_place, walk, walk_all, walk_branches}
+use Rattle.lucore_list.specs.Layout.{Root, Walking, made, place as place_in, leaf, after, clock_place, flow_of, variable_place, walk, walk_all, walk_branches}
 use Rattle.lucore_list.specs.Layout.Root.{own, at}
 use Rattle.lucore_moved.specs.declared.operand.Operand.{Operand}
 use Rattle.lucore_inline.specs.Walks.{IsWalked, flow_on, prefix_form, prefix_kind, infix_walk, infix_kind, kinds_of, pattern_at}
 use Rattle.lucore_moved.specs.Operands.{places_of}
-use Rattle.lucore_inline.proofs.Walking.{IsMade, settled_is, after_is, leaf_is}
+use Rattle.lucore_inline.proofs.Walking.{IsMade, after_is, leaf_is}
 
 module _ (p : ProgramTree) (l : List (List Flow)) (n : NodeTree) where
   pub unary_is : (op : Prefix) (a : Tree) (k : Option Condition) (old mid : List Flow) (x : Operand) → IsMade (walk p l n a k) old mid x.place → x.kind ≡ type_of p n a →
@@ -199,13 +199,12 @@ module _ (p : ProgramTree) (l : List (List Flow)) (n : NodeTree) where
       (leaf_is (flow_of p l n e k form) (flow_on (clock_place n k) (agreed_all (kinds_of ops)) form) new (ap (λ ks. flow_on (clock_place n k) (agreed_all ks) form) kinds))
 
   -- an operand in memory
-  pub operand_is : (a d : Expr) (k : Option Condition) (old mid new : List Flow) (r : Root) (x : ℕ) → d ≡ a → IsWalked (walk p l n (view d) k) old mid r → new ≡ mid ++ root_flows r → x ≡ root_place (length mid) r →
-      IsMade (walk p l n (view a) k) old new x
-  operand_is a d k old mid new r x e h more here =
-      settled_is (walk p l n (view a) k) old mid new r x (subst (λ d. IsWalked (walk p l n (view d) k) old mid r) e h) more here
+  pub operand_is : (a d : Expr) (k : Option Condition) (old new : List Flow) (x : ℕ) → d ≡ a → new ≡ old ++ made (walk p l n (view d) k (length old))
+      → x ≡ place_in (length old) (walk p l n (view d) k (length old)) → IsMade (walk p l n (view a) k) old new x
+  operand_is a d k old new x e more here = subst (λ d. IsMade (walk p l n (view d) k) old new x) e (record { flows = more; place = here })
 
-  pub operand_typed : (a d : Expr) (w x : Option Kind) → d ≡ a → w ≡ type_of p n (view d) → x ≡ w → x ≡ type_of p n (view a)
-  operand_typed a d w x e h g = g ∙ h ∙ ap (λ d. type_of p n (view d)) e
+  pub operand_typed : (a d : Expr) (x : Option Kind) → d ≡ a → x ≡ type_of p n (view d) → x ≡ type_of p n (view a)
+  operand_typed a d x e h = h ∙ ap (λ d. type_of p n (view d)) e
 
   -- an expression in memory, by its form
   pub formed : (e t : Tree) (k : Option Condition) (old new : List Flow) (r r' : Root) → e ≡ t → r ≡ r' → IsWalked (walk p l n t k) old new r' → IsWalked (walk p l n e k) old new r

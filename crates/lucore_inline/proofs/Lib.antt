@@ -8,3 +8,4 @@ pub mod Found
 pub mod Owned
 pub mod Reaching
 pub mod Building
+pub mod Growing

@@ -1,20 +1,20 @@
 //! The open list of a node with its owners.
 
-ghost use Rattle.std.specs.Prelude.{◌≡◌, ◌++◌, map, IfOk, OnOk};
-ghost use Rattle.lutree.specs.Tree.{equation_view, node_view, program_view};
+ghost use Rattle.std.specs.Prelude.{◌≡◌, ◌++◌, drop, map, IfOk, OnOk};
+ghost use Rattle.lutree.specs.Tree.{declarations_view, equation_view, node_view, program_view};
 ghost use Rattle.lusource.specs.Names.{variables_of, place_of};
 ghost use Rattle.lucore_list.specs.Layout.{node_flows, node_owners};
 ghost use Rattle.lunames.specs.Places.{first_place};
 ghost use Rattle.lustat_scope.specs.Scopes.{spellings};
 ghost use Rattle.lucore_inline.specs.Walks.{plain};
-ghost use Rattle.lucore_inline.specs.Nodes.{leaders, number_at, owners_found};
+ghost use Rattle.lucore_inline.specs.Nodes.{flows_found, inputs_from, leaders, number_at, owners_found};
 
 use crate::context::{Context, variable_place};
-use crate::node::{first_name, parts_of, push_copies};
+use crate::node::{Parts, first_name, parts_of, push_copies};
 use crate::open::{left_names, push_behind, push_inputs, push_variables};
 use luflow::Flow;
 use lustat_scope::{Places, Scope};
-use lutree::{Declaration, Equation};
+use lutree::{Declaration, Equation, Node};
 use std::alloc::{AllocError, Global};
 
 /// The list of a node, and for each flow the place of the first variable on the left side of its equation. An input's own place is its
@@ -72,6 +72,49 @@ fn push_owners(
     Ok(())
 }
 
+// The flows of a node's inputs, outputs and locals, and behind them all of its parts but for the first ones, so many.
+fn listed_flows(
+    alloc: Global,
+    node: &Node,
+    places: &Places,
+    parts: &Parts,
+    count: usize,
+) -> Result<Vec<Flow>, AllocError>
+    ensures { IfOk result (λ flows. flows.items
+        ≡ ((inputs_from 0 (declarations_view node.now.inputs)
+        ++ flows_found places.now parts.now.defined.items (spellings node.now.outputs))
+        ++ flows_found places.now parts.now.defined.items (spellings node.now.locals))
+        ++ drop count parts.now.flows.items) }
+{
+    let defined = &parts.defined;
+    let mut flows = Vec::with_capacity(alloc, parts.flows.len())?;
+    push_inputs(&mut flows, node.inputs.as_slice())?;
+    push_variables(alloc, &mut flows, places, defined, node.outputs.as_slice())?;
+    push_variables(alloc, &mut flows, places, defined, node.locals.as_slice())?;
+    push_behind(alloc, &mut flows, &parts.flows, count)?;
+    Ok(flows)
+}
+
+// The owners of declared variables of a node with these equations, and behind them those of its parts.
+fn listed_owners(
+    alloc: Global,
+    scope: &Scope,
+    places: &Places,
+    parts: &Parts,
+    declarations: &[&Declaration],
+    equations: &[Equation],
+) -> Result<Vec<usize>, AllocError>
+    ensures { IfOk result (λ owners. owners.items ≡ owners_found (node_view scope.now) places.now
+        (leaders (node_view scope.now) (map equation_view equations.now))
+        (spellings (map (λ d. d.now) declarations.now)) ++ parts.now.owners.items) }
+{
+    let known = leaders_of(alloc, scope, equations)?;
+    let mut owners = Vec::with_capacity(alloc, parts.flows.len())?;
+    push_owners(&mut owners, scope, places, &known, declarations)?;
+    owners.extend_from_slice(&parts.owners)?;
+    Ok(owners)
+}
+
 /// The open list of a node with its owners, given the lists of the nodes that it calls.
 ///
 /// The time grows with the length of the node and of the list.
@@ -87,31 +130,13 @@ pub fn node_list(alloc: Global, context: &Context) -> Result<NodeList, AllocErro
         ≡ node_owners (program_view context.now.catalog.now) (plain context.now.lists.now)
         (node_view context.now.scope.now)) }
 {
-    let node = context.scope.node();
-    let variables = context.scope.declarations();
+    let scope = context.scope;
+    let node = scope.node();
+    let variables = scope.declarations();
     let equations = node.equations.as_slice();
     let parts = parts_of(alloc, context)?;
     let places = Places::new(alloc, left_names(alloc, equations)?)?;
-    let mut flows = Vec::with_capacity(alloc, parts.flows.len())?;
-    push_inputs(&mut flows, node.inputs.as_slice())?;
-    push_variables(
-        alloc,
-        &mut flows,
-        &places,
-        &parts.defined,
-        node.outputs.as_slice(),
-    )?;
-    push_variables(
-        alloc,
-        &mut flows,
-        &places,
-        &parts.defined,
-        node.locals.as_slice(),
-    )?;
-    push_behind(alloc, &mut flows, &parts.flows, variables.len())?;
-    let known = leaders_of(alloc, context.scope, equations)?;
-    let mut owners = Vec::with_capacity(alloc, parts.flows.len())?;
-    push_owners(&mut owners, context.scope, &places, &known, variables)?;
-    owners.extend_from_slice(&parts.owners)?;
+    let flows = listed_flows(alloc, node, &places, &parts, variables.len())?;
+    let owners = listed_owners(alloc, scope, &places, &parts, variables, equations)?;
     Ok(NodeList { flows, owners })
 }

@@ -1,11 +1,11 @@
 //! The walk of an expression.
 
-ghost use Rattle.std.specs.Prelude.{fold, ◌≡◌, ◌∷◌, [], pos, length, map, IfOk, unwrap_or};
+ghost use Rattle.std.specs.Prelude.{fold, ◌≡◌, ◌∷◌, ◌++◌, [], pos, length, map, IfOk, OnOk, unwrap_or};
 ghost use Rattle.lutree.specs.Tree.{view, views, trees_of, node_view, program_view, declarations_view};
 ghost use Rattle.lutree.specs.Tree as tree;
 ghost use Rattle.lustat_rules.specs.Scope.{node_called};
 ghost use Rattle.lustat_rules.specs.Typing.{type_of, only, call_kinds, arguments_fit, agreed, agreed_all};
-ghost use Rattle.lucore_list.specs.Layout.{clock_place, instance, walk as walk_of};
+ghost use Rattle.lucore_list.specs.Layout.{clock_place, instance, made, place as place_in, walk as walk_of};
 ghost use Rattle.lustat_scope.specs.ClockRefs.{the_pattern, placed_view, IsPlaced};
 ghost use Rattle.lucore_inline.specs.Walks.{IsWalked, root_view, plain, prefix_form, prefix_kind, infix_walk, infix_kind, kinds_of, pattern_at};
 ghost use Rattle.lucore_moved.specs.Operands.{places_of};
@@ -233,7 +233,7 @@ pub fn walk(
             Ok(own(scope, clock, scope.kind(x.as_str()), form))
         }
         Expr::Unary(op, a) => {
-            let x = settled(walk(alloc, context, flows, a, clock)?, flows)?;
+            let x = walk_operand(alloc, context, flows, a, clock)?;
             Ok(own(
                 scope,
                 clock,
@@ -242,21 +242,21 @@ pub fn walk(
             ))
         }
         Expr::Binary(op, a, b) => {
-            let x = settled(walk(alloc, context, flows, a, clock)?, flows)?;
-            let y = settled(walk(alloc, context, flows, b, clock)?, flows)?;
+            let x = walk_operand(alloc, context, flows, a, clock)?;
+            let y = walk_operand(alloc, context, flows, b, clock)?;
             infix(scope, flows, *op, x, y, clock)
         }
         Expr::If(c, a, b) => {
-            let z = settled(walk(alloc, context, flows, c, clock)?, flows)?;
-            let x = settled(walk(alloc, context, flows, a, clock)?, flows)?;
-            let y = settled(walk(alloc, context, flows, b, clock)?, flows)?;
+            let z = walk_operand(alloc, context, flows, c, clock)?;
+            let x = walk_operand(alloc, context, flows, a, clock)?;
+            let y = walk_operand(alloc, context, flows, b, clock)?;
             let kind = kind_of_choice(z.kind, x.kind, y.kind);
             Ok(own(scope, clock, kind, Form::If(z.place, x.place, y.place)))
         }
         Expr::When(a, c) => {
             let name = c.variable.as_str();
             let inside = variable_clock(scope, name);
-            let x = settled(walk(alloc, context, flows, a, inside)?, flows)?;
+            let x = walk_operand(alloc, context, flows, a, inside)?;
             let sampled = scope.placed(ClockRef::of(c));
             Ok(own(scope, sampled, x.kind, Form::When(x.place)))
         }
@@ -271,6 +271,30 @@ pub fn walk(
         ),
         Expr::Call(f, arguments) => call(alloc, context, flows, f.as_str(), arguments, clock),
     }
+}
+
+// The walk of an operand of a node: where its root is a flow of its own, that has a place now.
+#[cycle(walk)]
+fn walk_operand(
+    alloc: Global,
+    context: &Context,
+    flows: &mut Vec<Flow>,
+    e: &Expr,
+    clock: PlacedClock,
+) -> Result<Operand, AllocError>
+    requires { IsPlaced (node_view context.now.scope.now) clock }
+    ensures flows { OnOk result (flows.new.items ≡ flows.old.items
+        ++ made (walk_of (program_view context.now.catalog.now) (plain context.now.lists.now)
+        (node_view context.now.scope.now) (view e.now) (placed_view clock.entry)
+        (length flows.old.items))) }
+    ensures place { IfOk result (λ x. x.place ≡ place_in (length flows.old.items)
+        (walk_of (program_view context.now.catalog.now) (plain context.now.lists.now)
+        (node_view context.now.scope.now) (view e.now) (placed_view clock.entry)
+        (length flows.old.items))) }
+    ensures kind { IfOk result (λ x. x.kind ≡ type_of (program_view context.now.catalog.now)
+        (node_view context.now.scope.now) (view e.now)) }
+{
+    settled(walk(alloc, context, flows, e, clock)?, flows)
 }
 
 // The walk of a call: its arguments from left to right, then the called node's list.
@@ -293,7 +317,7 @@ fn call(
 {
     let mut operands = Vec::with_capacity(alloc, arguments.len())?;
     for a in arguments {
-        let x = settled(walk(alloc, context, flows, a, clock)?, flows)?;
+        let x = walk_operand(alloc, context, flows, a, clock)?;
         operands.push(x)?;
     }
     instance_of(alloc, context, flows, name, operands.as_slice(), clock)
@@ -323,7 +347,7 @@ fn merge(
     let mut operands = Vec::with_capacity(alloc, branches.len())?;
     for (i, a) in branches.iter().enumerate() {
         let on = scope.placed(ClockRef::On(name, pattern_at(patterns, i)));
-        let x = settled(walk(alloc, context, flows, a, on)?, flows)?;
+        let x = walk_operand(alloc, context, flows, a, on)?;
         operands.push(x)?;
     }
     let places = row_of_places(alloc, operands.as_slice())?;

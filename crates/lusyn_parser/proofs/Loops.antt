@@ -1,5 +1,5 @@
 -- A loop that takes piece after piece, against the pieces that reading takes.
-use Rattle.std.proofs.Common.{◌≡◌, ◌<◌, ◌+◌, ◌-◌, ◌++◌, ℕ, zero, suc, Bool, true, false, List, length, map, append-nil, [], ◌∷◌, Result, Ok, Err, refl, ap, sym, ◌∙◌, arith, cond, subst}
+use Rattle.std.proofs.Common.{◌≡◌, ◌<◌, ◌+◌, ◌-◌, ◌++◌, ℕ, zero, suc, Bool, true, false, List, length, map, [], ◌∷◌, Result, Ok, Err, refl, ap, sym, ◌∙◌, arith, cond, subst}
 use Rattle.std.specs.Result.{is_ok}
 use Rattle.lusyn_parser.specs.declared.error.Stop.{Stop}
 use Rattle.lusyn_parser.specs.declared.error.Stop.TheVariants as stops_by
@@ -240,16 +240,11 @@ abbrev read_as : Tree → Result Tree (List Tok)
 read_as e = Ok e
 
 -- the merge of all branches
-pub merged-all : (v : List ℕ) (found rest : List Branch) (ps : List Pattern) (es : Vec Expr Global)
-    → ps ++ map (λ (b : Branch). patterns.Label (bare_label b.label)) rest ≡ map (λ (b : Branch). patterns.Label (bare_label b.label)) found
-    → views es.items ++ map (λ (b : Branch). view b.value) rest ≡ map (λ (b : Branch). view b.value) found
-    → length rest ≡ 0 → (boxed : Box (List Pattern) Global) → boxed.value ≡ ps
+pub merged-all : (v : List ℕ) (found : List Branch) (boxed : Box (List Pattern) Global) (es : Vec Expr Global)
+    → boxed.value ≡ map (λ (b : Branch). patterns.Label (bare_label b.label)) found → es.items ≡ map (λ (b : Branch). b.value) found
     → read_as (merged v (branches_view found)) ≡ read_as (view (variant.Merge v boxed es))
-merged-all v found [] ps es labels values none boxed same =
-    let all : ps ≡ map (λ (b : Branch). patterns.Label (bare_label b.label)) found = sym (append-nil ps) ∙ labels in
-    let trees : views es.items ≡ map (λ (b : Branch). view b.value) found = sym (append-nil (views es.items)) ∙ values in
-    ap (λ (qs : List Pattern). read_as (t.merge v qs (trees_of (map (λ b. b.1) (branches_view found))))) (map_of_map (λ (b : List ℕ × Tree). patterns.Label (bare_label b.0)) branch_view found ∙ sym all)
-    ∙ ap (λ (values : List Tree). read_as (t.merge v ps (trees_of values))) (map_of_map (λ (b : List ℕ × Tree). b.1) branch_view found ∙ sym trees)
-    ∙ ap (λ (qs : List Pattern). read_as (t.merge v qs (trees_of (views es.items)))) (sym same)
+merged-all v found boxed es labels values =
+    let trees : views es.items ≡ map (λ (b : Branch). view b.value) found = ap views values ∙ map_of_map view (λ (b : Branch). b.value) found in
+    ap (λ (qs : List Pattern). read_as (t.merge v qs (trees_of (map (λ b. b.1) (branches_view found))))) (map_of_map (λ (b : List ℕ × Tree). patterns.Label (bare_label b.0)) branch_view found ∙ sym labels)
+    ∙ ap (λ (values : List Tree). read_as (t.merge v boxed.value (trees_of values))) (map_of_map (λ (b : List ℕ × Tree). b.1) branch_view found ∙ sym trees)
     ∙ ap read_as (sym (ap view (sym (variant.rolls-Merge v boxed es)) ∙ fold-roll-Expr Tree view_step (Expr-F.Merge v boxed es)))
-merged-all v found (b ∷ rest) ps es labels values none boxed same = absurd (omega (arith, none))

@@ -1,8 +1,8 @@
 //! What is handed on while tokens are read.
 
-ghost use Rattle.std.specs.Prelude.{◌≡◌, IfOk, drop};
+ghost use Rattle.std.specs.Prelude.{◌≡◌, ◌∷◌, ◌++◌, [], IfOk, drop, map};
 ghost use Rattle.std.specs.Result.{IfErr};
-ghost use Rattle.lusyn_grammar.specs.Grammar.{bare_label};
+ghost use Rattle.lusyn_grammar.specs.Grammar.{bare_label, truths};
 ghost use Rattle.lusyn_grammar.specs.Grammar as grammar;
 ghost use Rattle.lusyn_parser.specs.Gives.{names_view, type_view};
 ghost use Rattle.lusyn_tokens.specs.Tokens.{located};
@@ -73,6 +73,93 @@ pub(crate) fn operand_of(level: u8, read: (Expr, usize)) -> Operand
 {
     let (found, next) = read;
     Operand { level, found, next }
+}
+
+/// The expression, in memory of its own.
+pub(crate) fn boxed(alloc: Global, a: Expr) -> Result<Box<Expr>, Stop>
+    ensures ok { IfOk result (λ found. found.value ≡ a) }
+    ensures err { IfErr result (λ e. e ≡ Stop.OutOfMemory) }
+{
+    Ok(Box::new(alloc, a)?)
+}
+
+/// The two expressions, each in memory of its own.
+pub(crate) fn boxes(alloc: Global, a: Expr, b: Expr) -> Result<(Box<Expr>, Box<Expr>), Stop>
+    ensures ok { IfOk result (λ x. (x.0.value ≡ a) × (x.1.value ≡ b)) }
+    ensures err { IfErr result (λ e. e ≡ Stop.OutOfMemory) }
+{
+    let a = boxed(alloc, a)?;
+    Ok((a, boxed(alloc, b)?))
+}
+
+/// The patterns of a merge with a branch for each truth.
+pub(crate) fn truths(alloc: Global) -> Result<Box<Row<Pattern>>, Stop>
+    ensures ok { IfOk result (λ found. found.value ≡ truths) }
+    ensures err { IfErr result (λ e. e ≡ Stop.OutOfMemory) }
+{
+    let patterns = vec![in alloc; Pattern::Truth(true), Pattern::Truth(false)]?;
+    Ok(Box::new(alloc, Row::new(patterns))?)
+}
+
+/// These two expressions alone.
+pub(crate) fn pair(alloc: Global, a: Expr, b: Expr) -> Result<Vec<Expr>, Stop>
+    ensures ok { IfOk result (λ found. found.items ≡ a ∷ b ∷ []) }
+    ensures err { IfErr result (λ e. e ≡ Stop.OutOfMemory) }
+{
+    Ok(vec![in alloc; a, b]?)
+}
+
+/// Puts a pattern with this name behind others.
+fn push_label(patterns: &mut Vec<Pattern>, label: SharedName) -> Result<(), Stop>
+    ensures ok { IfOk result (λ _. patterns.new.items
+        ≡ patterns.old.items ++ Pattern.Label (bare_label label) ∷ []) }
+    ensures err { IfErr result (λ e. e ≡ Stop.OutOfMemory) }
+{
+    Ok(patterns.push(Pattern::Label(bare_label(label)))?)
+}
+
+/// Puts an expression behind others.
+fn push_value(values: &mut Vec<Expr>, value: Expr) -> Result<(), Stop>
+    ensures ok { IfOk result (λ _. values.new.items ≡ values.old.items ++ value ∷ []) }
+    ensures err { IfErr result (λ e. e ≡ Stop.OutOfMemory) }
+{
+    Ok(values.push(value)?)
+}
+
+/// Puts the name of a branch and its value behind those of others.
+fn push_branch(
+    patterns: &mut Vec<Pattern>,
+    values: &mut Vec<Expr>,
+    branch: Branch,
+) -> Result<(), Stop>
+    ensures patterns { IfOk result (λ _. patterns.new.items
+        ≡ patterns.old.items ++ Pattern.Label (bare_label branch.label) ∷ []) }
+    ensures values { IfOk result (λ _. values.new.items
+        ≡ values.old.items ++ branch.value ∷ []) }
+    ensures err { IfErr result (λ e. e ≡ Stop.OutOfMemory) }
+{
+    let Branch { label, value } = branch;
+    push_label(patterns, label)?;
+    push_value(values, value)
+}
+
+/// The names of the branches as patterns, and their values.
+pub(crate) fn parted(
+    alloc: Global,
+    found: Vec<Branch>,
+) -> Result<(Box<Row<Pattern>>, Vec<Expr>), Stop>
+    ensures patterns { IfOk result (λ x. x.0.value
+        ≡ map (λ b. Pattern.Label (bare_label b.label)) found.items) }
+    ensures values { IfOk result (λ x. x.1.items ≡ map (λ b. b.value) found.items) }
+    ensures err { IfErr result (λ e. e ≡ Stop.OutOfMemory) }
+{
+    let mut patterns = Vec::new(alloc);
+    let mut values = Vec::new(alloc);
+    for branch in found {
+        push_branch(&mut patterns, &mut values, branch)?;
+    }
+    let patterns = Box::new(alloc, Row::new(patterns))?;
+    Ok((patterns, values))
 }
 
 /// The names without their places.

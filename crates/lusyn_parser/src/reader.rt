@@ -13,7 +13,10 @@ ghost use Rattle.lusyn_parser.specs.Refused.{place};
 ghost use Rattle.lusyn_parser.specs.Gives.{Gives, GivesPlace, EndsOperand, atom, ahead, next_view, operand_view, names_view, branch_view, branches_view, equations_view, Reads, ReadsInto};
 
 use crate::error::Stop;
-use crate::pieces::{Branch, Next, Operand, bare_label, byte_of, operand_of, plain};
+use crate::pieces::{
+    Branch, Next, Operand, bare_label, boxed, boxes, byte_of, operand_of, pair, parted, plain,
+    truths,
+};
 use lulist::{Name, Number, Row, SharedName};
 use lusyn_tokens::{Fixed, Lexeme, Token, binding_of, infix_of, prefix_of};
 use lutree::{Condition, DeclaredName, Equation, Expr, Infix, Pattern, Prefix};
@@ -204,29 +207,28 @@ impl<'t> Reader<'t> {
     fn unary(&self, op: Prefix, a: Expr) -> Result<Expr, Stop>
         ensures { Gives self.now.tokens.now view result (Ok (t.unary op (view a))) }
     {
-        Ok(Expr::Unary(op, Box::new(self.alloc, a)?))
+        Ok(Expr::Unary(op, boxed(self.alloc, a)?))
     }
 
     fn binary(&self, op: Infix, a: Expr, b: Expr) -> Result<Expr, Stop>
         ensures { Gives self.now.tokens.now view result (Ok (t.binary op (view a) (view b))) }
     {
-        let a = Box::new(self.alloc, a)?;
-        Ok(Expr::Binary(op, a, Box::new(self.alloc, b)?))
+        let (a, b) = boxes(self.alloc, a, b)?;
+        Ok(Expr::Binary(op, a, b))
     }
 
     fn choice_of(&self, test: Expr, a: Expr, b: Expr) -> Result<Expr, Stop>
         ensures { Gives self.now.tokens.now view result
             (Ok (t.choice (view test) (view a) (view b))) }
     {
-        let test = Box::new(self.alloc, test)?;
-        let a = Box::new(self.alloc, a)?;
-        Ok(Expr::If(test, a, Box::new(self.alloc, b)?))
+        let (a, b) = boxes(self.alloc, a, b)?;
+        Ok(Expr::If(boxed(self.alloc, test)?, a, b))
     }
 
     fn when(&self, a: Expr, clock: Condition) -> Result<Expr, Stop>
         ensures { Gives self.now.tokens.now view result (Ok (t.when (view a) clock)) }
     {
-        Ok(Expr::When(Box::new(self.alloc, a)?, clock))
+        Ok(Expr::When(boxed(self.alloc, a)?, clock))
     }
 
     /// The merge on this variable with a branch for each truth.
@@ -234,12 +236,8 @@ impl<'t> Reader<'t> {
         ensures { Gives self.now.tokens.now view result
             (Ok (t.merge variable truths (t.more (view a) (t.more (view b) t.none)))) }
     {
-        let patterns = vec![in self.alloc; Pattern::Truth(true), Pattern::Truth(false)]?;
-        let patterns = Box::new(self.alloc, Row::new(patterns))?;
-        let mut branches = Vec::new(self.alloc);
-        branches.push(a)?;
-        branches.push(b)?;
-        Ok(Expr::Merge(variable, patterns, branches))
+        let branches = pair(self.alloc, a, b)?;
+        Ok(Expr::Merge(variable, truths(self.alloc)?, branches))
     }
 
     /// The merge on this variable with these branches.
@@ -247,13 +245,7 @@ impl<'t> Reader<'t> {
         ensures { Gives self.now.tokens.now view result
             (Ok (reading.merged variable (branches_view found.items))) }
     {
-        let mut patterns = Vec::new(self.alloc);
-        let mut branches = Vec::new(self.alloc);
-        for branch in found {
-            patterns.push(Pattern::Label(bare_label(branch.label)))?;
-            branches.push(branch.value)?;
-        }
-        let patterns = Box::new(self.alloc, Row::new(patterns))?;
+        let (patterns, branches) = parted(self.alloc, found)?;
         Ok(Expr::Merge(variable, patterns, branches))
     }
 
@@ -404,6 +396,29 @@ impl<'t> Reader<'t> {
         }
     }
 
+    /// An expression behind this token, which has to stand here.
+    #[cycle(parser)]
+    fn behind(&self, depth: usize, wanted: Fixed, at: usize) -> Result<(Expr, usize), Stop>
+        ensures expr { Reads self.now.tokens.now at view result
+            (λ ts. reading.◌>>=◌ (reading.after wanted ts) (reading.expr depth 0)) }
+        ensures within { IfOk result (λ x. at ≤ x.1) }
+    {
+        let next = self.after(wanted, at)?;
+        self.expr(depth, 0, next)
+    }
+
+    /// The expression of a branch of `merge`, behind its arrow, and the parenthesis that closes the branch.
+    #[cycle(parser)]
+    #[tactic(auto, unfolding(lusyn_grammar::specs::Reading::inside))]
+    fn arrowed(&self, depth: usize, at: usize) -> Result<(Expr, usize), Stop>
+        ensures inside { Reads self.now.tokens.now at view result (λ ts. reading.◌>>=◌
+            (reading.after Fixed.Arrow ts) (reading.inside (reading.expr depth))) }
+        ensures within { IfOk result (λ x. at ≤ x.1) }
+    {
+        let inner = self.behind(depth, Fixed::Arrow, at)?;
+        self.closed(inner)
+    }
+
     /// After `if`.
     #[cycle(parser)]
     #[tactic(auto, unfolding(lusyn_grammar::specs::Reading::choice))]
@@ -413,10 +428,8 @@ impl<'t> Reader<'t> {
         ensures within { IfOk result (λ x. at ≤ x.1) }
     {
         let (test, next) = self.expr(depth, 0, at)?;
-        let next = self.after(Fixed::Then, next)?;
-        let (first, next) = self.expr(depth, 0, next)?;
-        let next = self.after(Fixed::Else, next)?;
-        let (second, next) = self.expr(depth, 0, next)?;
+        let (first, next) = self.behind(depth, Fixed::Then, next)?;
+        let (second, next) = self.behind(depth, Fixed::Else, next)?;
         Ok((self.choice_of(test, first, second)?, next))
     }
 
@@ -430,9 +443,7 @@ impl<'t> Reader<'t> {
     {
         let next = self.after(Fixed::Open, at)?;
         let next = self.after(sign, next)?;
-        let next = self.after(Fixed::Arrow, next)?;
-        let inner = self.expr(depth, 0, next)?;
-        self.closed(inner)
+        self.arrowed(depth, next)
     }
 
     /// After `merge v (true`, up to the end of the second branch.
@@ -448,9 +459,7 @@ impl<'t> Reader<'t> {
             (reading.by_truths (reading.expr depth) variable) }
         ensures within { IfOk result (λ x. at ≤ x.1) }
     {
-        let next = self.after(Fixed::Arrow, at)?;
-        let inner = self.expr(depth, 0, next)?;
-        let (first, next) = self.closed(inner)?;
+        let (first, next) = self.arrowed(depth, at)?;
         let (second, next) = self.branch(depth, Fixed::False, next)?;
         Ok((self.both(variable, first, second)?, next))
     }
@@ -467,9 +476,7 @@ impl<'t> Reader<'t> {
         ensures within { IfOk result (λ x. at ≤ x.1) }
     {
         let (label, next) = self.shared_name(at)?;
-        let next = self.after(Fixed::Arrow, next)?;
-        let inner = self.expr(depth, 0, next)?;
-        let (value, next) = self.closed(inner)?;
+        let (value, next) = self.arrowed(depth, next)?;
         Ok((Branch { label, value }, next))
     }
 
@@ -664,8 +671,7 @@ impl<'t> Reader<'t> {
     {
         let byte = self.byte(at);
         let (name, next) = self.name(at)?;
-        let next = self.after(Fixed::Equal, next)?;
-        let (right, next) = self.expr(self.bound(), 0, next)?;
+        let (right, next) = self.behind(self.bound(), Fixed::Equal, next)?;
         let left = Row::new(vec![in self.alloc; name]?);
         Ok((Equation { left, right, byte }, next))
     }

@@ -1,11 +1,9 @@
-use Rattle.std.proofs.Common.{◌≡◌, ◌<◌, true, false, Option, Some, List, [], ◌∷◌, pos, length, take, refl, sym, ap, subst, ◌∙◌, arith}
+use Rattle.std.proofs.Common.{◌≡◌, ◌<◌, Option, Some, List, pos, length, take, refl, sym, ap, subst, ◌∙◌, arith}
 use Rattle.std.proofs.lemmas.List.{take_all}
 use Rattle.std.proofs.lemmas.Result.{IfOk-weaker}
-use Rattle.lutree.specs.declared.expr.Infix.TheVariants.{Arrow as Starts}
 use Rattle.lutree.specs.declared.program.Kind.{Kind}
 use Rattle.lutree.specs.declared.program.Kind.TheVariants.{Int as Ints, Bool as Truths}
 use Rattle.lutree.specs.declared.expr.Expr.{Expr}
-use Rattle.lutree.specs.declared.expr.Pattern.TheVariants as patterns
 use Rattle.lutree.specs.Tree.{Tree, view, views, trees_of, node_view, program_view}
 use Rattle.lutree.specs.Tree as tree
 use Rattle.luflow.specs.declared.form.Form.{Form}
@@ -15,14 +13,15 @@ use Rattle.luflow.specs.declared.data.Datum.TheVariants.{Int, Bool as Truth, Nam
 use Rattle.lusource.specs.Names.{clock_of}
 use Rattle.lusource.specs.Source.{condition}
 use Rattle.lustat_rules.specs.Scope.{node_called, kind_of}
-use Rattle.lustat_rules.specs.Typing.{agreed, choice_kind, agreed_all, type_of, types_of, only, call_kinds}
+use Rattle.lustat_rules.specs.Typing.{choice_kind, agreed_all, type_of, types_of, only, call_kinds}
 use Rattle.lucore_list.specs.Layout.{clock_place, instance, variable_place, walk}
 use Rattle.lucore_list.specs.Layout.Root.{own, at}
 use Rattle.lustat_scope.specs.ClockRefs.{placed_view}
-use Rattle.lucore_inline.specs.Walks.{IsWalked, root_view, plain, flow_on, prefix_form, prefix_kind, kinds_of, pattern_at}
+use Rattle.lucore_inline.specs.Walks.{IsWalked, root_view, plain, flow_on, prefix_form, prefix_kind, kinds_of}
 use Rattle.lucore_moved.specs.Operands.{places_of}
 use Rattle.lucore_inline.proofs.Views.{viewed-Number, viewed-Truth, viewed-Variable, viewed-Current, viewed-Call, viewed-Unary, viewed-Binary, viewed-If, viewed-When, viewed-Merge, viewed-Label}
 use Rattle.lucore_inline.proofs.Forms.{AreMade, none_made, argument_made, argument_typed, BranchesAreMade, no_branches, branch_made, operand_is, operand_typed, formed, number_is, truth_is, variable_is, current_is, unary_is, binary_is, choice_is, when_is, merge_is, label_is, prefix_typed, infix_typed, choice_typed}
+use Rattle.lucore_inline.proofs.Walking.{IsMade}
 use Rattle.lucore_inline.proofs.walk.+walk.Goals as goal
 
 pub walk-returns-in_ok-x-in-Unary-clause-walked : goal.walk-returns-in_ok-x-in-Unary-clause-walked
@@ -32,21 +31,21 @@ walk-returns-in_ok-x-in-Unary-clause-walked t c =
     let n = node_view c.args.context.now.scope.now in
     let k = placed_view c.args.clock in
     let old = c.args.flows.now.items in
-    let m = operand_is p l n c.in-Unary.a.value c.deref.result.now (k) (old) c.walk.new.flows.items c.settled.new.flows.items (root_view c.in_ok-walk-in-Unary.field-0.root) c.in_ok-x-in-Unary.x.place c.deref.ensures c.in_ok-walk-in-Unary.ensures.walked c.in_ok-x-in-Unary.ensures.flows c.in_ok-x-in-Unary.ensures.place in
-    let mk = operand_typed p l n c.in-Unary.a.value c.deref.result.now c.in_ok-walk-in-Unary.field-0.kind c.in_ok-x-in-Unary.x.kind c.deref.ensures c.in_ok-walk-in-Unary.ensures.kind c.in_ok-x-in-Unary.ensures.kind in
+    let m = operand_is p l n c.in-Unary.a.value c.deref.result.now (k) (old) c.walk_operand.new.flows.items c.in_ok-x-in-Unary.x.place c.deref.ensures c.in_ok-x-in-Unary.ensures.flows c.in_ok-x-in-Unary.ensures.place in
+    let mk = operand_typed p l n c.in-Unary.a.value c.deref.result.now c.in_ok-x-in-Unary.x.kind c.deref.ensures c.in_ok-x-in-Unary.ensures.kind in
     let x = c.in_ok-x-in-Unary.x in
     let op = c.in-Unary.op in
     let ck = clock_place n k in
     let root = ap root_view c.own-in-Unary.ensures.root ∙ ap (λ (q : Option Kind). own (flow_on ck q c.prefix.result)) c.kind_of_prefix.ensures ∙ ap (λ (f : Form). own (flow_on ck (prefix_kind op x.kind) f)) c.prefix.ensures in
-    formed p l n (view c.args.e.now) (tree.unary op (view c.in-Unary.a.value)) k old c.settled.new.flows.items (root_view c.own-in-Unary.result.root) (own (flow_on ck (prefix_kind op x.kind) (prefix_form op x.place)))
-    (ap view c.in-Unary.is ∙ viewed-Unary op c.in-Unary.a) root (unary_is p l n op (view c.in-Unary.a.value) k old c.settled.new.flows.items x m mk)
+    formed p l n (view c.args.e.now) (tree.unary op (view c.in-Unary.a.value)) k old c.walk_operand.new.flows.items (root_view c.own-in-Unary.result.root) (own (flow_on ck (prefix_kind op x.kind) (prefix_form op x.place)))
+    (ap view c.in-Unary.is ∙ viewed-Unary op c.in-Unary.a) root (unary_is p l n op (view c.in-Unary.a.value) k old c.walk_operand.new.flows.items x m mk)
 
 pub walk-returns-in_ok-x-in-Unary-clause-kind : goal.walk-returns-in_ok-x-in-Unary-clause-kind
 walk-returns-in_ok-x-in-Unary-clause-kind t c =
     let p = program_view c.args.context.now.catalog.now in
     let l = plain c.args.context.now.lists.now in
     let n = node_view c.args.context.now.scope.now in
-    let mk = operand_typed p l n c.in-Unary.a.value c.deref.result.now c.in_ok-walk-in-Unary.field-0.kind c.in_ok-x-in-Unary.x.kind c.deref.ensures c.in_ok-walk-in-Unary.ensures.kind c.in_ok-x-in-Unary.ensures.kind in
+    let mk = operand_typed p l n c.in-Unary.a.value c.deref.result.now c.in_ok-x-in-Unary.x.kind c.deref.ensures c.in_ok-x-in-Unary.ensures.kind in
     let op = c.in-Unary.op in
     let a = view c.in-Unary.a.value in
     c.own-in-Unary.ensures.kind ∙ c.kind_of_prefix.ensures ∙ prefix_typed p l n op a c.in_ok-x-in-Unary.x.kind mk ∙ sym (ap (type_of p n) (ap view c.in-Unary.is ∙ viewed-Unary op c.in-Unary.a))
@@ -58,10 +57,10 @@ walk-returns-in_ok-y-in-Binary-clause-walked t c =
     let n = node_view c.args.context.now.scope.now in
     let k = placed_view c.args.clock in
     let old = c.args.flows.now.items in
-    let m = operand_is p l n c.in-Binary.a.value c.deref-in-Binary.result.now (k) (old) c.walk-in-Binary.new.flows.items c.settled-in-Binary.new.flows.items (root_view c.in_ok-walk-in-Binary.field-0.root) c.in_ok-x-in-Binary.x.place c.deref-in-Binary.ensures c.in_ok-walk-in-Binary.ensures.walked c.in_ok-x-in-Binary.ensures.flows c.in_ok-x-in-Binary.ensures.place in
-    let mk = operand_typed p l n c.in-Binary.a.value c.deref-in-Binary.result.now c.in_ok-walk-in-Binary.field-0.kind c.in_ok-x-in-Binary.x.kind c.deref-in-Binary.ensures c.in_ok-walk-in-Binary.ensures.kind c.in_ok-x-in-Binary.ensures.kind in
-    let r = operand_is p l n c.in-Binary.b.value c.deref-in-Binary-2.result.now (k) (c.settled-in-Binary.new.flows.items) c.walk-in-Binary-2.new.flows.items c.settled-in-Binary-2.new.flows.items (root_view c.in_ok-walk-in-Binary-2.field-0.root) c.in_ok-y-in-Binary.y.place c.deref-in-Binary-2.ensures c.in_ok-walk-in-Binary-2.ensures.walked c.in_ok-y-in-Binary.ensures.flows c.in_ok-y-in-Binary.ensures.place in
-    let rk = operand_typed p l n c.in-Binary.b.value c.deref-in-Binary-2.result.now c.in_ok-walk-in-Binary-2.field-0.kind c.in_ok-y-in-Binary.y.kind c.deref-in-Binary-2.ensures c.in_ok-walk-in-Binary-2.ensures.kind c.in_ok-y-in-Binary.ensures.kind in
+    let m = operand_is p l n c.in-Binary.a.value c.deref-in-Binary.result.now (k) (old) c.walk_operand-in-Binary.new.flows.items c.in_ok-x-in-Binary.x.place c.deref-in-Binary.ensures c.in_ok-x-in-Binary.ensures.flows c.in_ok-x-in-Binary.ensures.place in
+    let mk = operand_typed p l n c.in-Binary.a.value c.deref-in-Binary.result.now c.in_ok-x-in-Binary.x.kind c.deref-in-Binary.ensures c.in_ok-x-in-Binary.ensures.kind in
+    let r = operand_is p l n c.in-Binary.b.value c.deref-in-Binary-2.result.now (k) (c.walk_operand-in-Binary.new.flows.items) c.walk_operand-in-Binary-2.new.flows.items c.in_ok-y-in-Binary.y.place c.deref-in-Binary-2.ensures c.in_ok-y-in-Binary.ensures.flows c.in_ok-y-in-Binary.ensures.place in
+    let rk = operand_typed p l n c.in-Binary.b.value c.deref-in-Binary-2.result.now c.in_ok-y-in-Binary.y.kind c.deref-in-Binary-2.ensures c.in_ok-y-in-Binary.ensures.kind in
     let op = c.in-Binary.op in
     let a = c.in-Binary.a in
     let b = c.in-Binary.b in
@@ -70,7 +69,7 @@ walk-returns-in_ok-y-in-Binary-clause-walked t c =
     IfOk-weaker c.infix.result _ _ (λ w h.
     formed p l n (view c.args.e.now) (tree.binary op (view a.value) (view b.value)) k old c.infix.new.flows.items (root_view w.root) (root_view w.root)
     (ap view c.in-Binary.is ∙ viewed-Binary op a b) refl
-    (binary_is p l n op (view a.value) (view b.value) k old c.settled-in-Binary.new.flows.items c.settled-in-Binary-2.new.flows.items c.infix.new.flows.items x y (root_view w.root) m r mk rk h))
+    (binary_is p l n op (view a.value) (view b.value) k old c.walk_operand-in-Binary.new.flows.items c.walk_operand-in-Binary-2.new.flows.items c.infix.new.flows.items x y (root_view w.root) m r mk rk h))
     c.infix.ensures.walked
 
 pub walk-returns-in_ok-y-in-Binary-clause-kind : goal.walk-returns-in_ok-y-in-Binary-clause-kind
@@ -78,8 +77,8 @@ walk-returns-in_ok-y-in-Binary-clause-kind t c =
     let p = program_view c.args.context.now.catalog.now in
     let l = plain c.args.context.now.lists.now in
     let n = node_view c.args.context.now.scope.now in
-    let mk = operand_typed p l n c.in-Binary.a.value c.deref-in-Binary.result.now c.in_ok-walk-in-Binary.field-0.kind c.in_ok-x-in-Binary.x.kind c.deref-in-Binary.ensures c.in_ok-walk-in-Binary.ensures.kind c.in_ok-x-in-Binary.ensures.kind in
-    let rk = operand_typed p l n c.in-Binary.b.value c.deref-in-Binary-2.result.now c.in_ok-walk-in-Binary-2.field-0.kind c.in_ok-y-in-Binary.y.kind c.deref-in-Binary-2.ensures c.in_ok-walk-in-Binary-2.ensures.kind c.in_ok-y-in-Binary.ensures.kind in
+    let mk = operand_typed p l n c.in-Binary.a.value c.deref-in-Binary.result.now c.in_ok-x-in-Binary.x.kind c.deref-in-Binary.ensures c.in_ok-x-in-Binary.ensures.kind in
+    let rk = operand_typed p l n c.in-Binary.b.value c.deref-in-Binary-2.result.now c.in_ok-y-in-Binary.y.kind c.deref-in-Binary-2.ensures c.in_ok-y-in-Binary.ensures.kind in
     let op = c.in-Binary.op in
     let a = c.in-Binary.a in
     let b = c.in-Binary.b in
@@ -94,12 +93,12 @@ walk-returns-in_ok-y-in-If-clause-walked t c =
     let n = node_view c.args.context.now.scope.now in
     let k = placed_view c.args.clock in
     let old = c.args.flows.now.items in
-    let h = operand_is p l n c.in-If.c.value c.deref-in-If.result.now (k) (old) c.walk-in-If.new.flows.items c.settled-in-If.new.flows.items (root_view c.in_ok-walk-in-If.field-0.root) c.in_ok-z-in-If.z.place c.deref-in-If.ensures c.in_ok-walk-in-If.ensures.walked c.in_ok-z-in-If.ensures.flows c.in_ok-z-in-If.ensures.place in
-    let hk = operand_typed p l n c.in-If.c.value c.deref-in-If.result.now c.in_ok-walk-in-If.field-0.kind c.in_ok-z-in-If.z.kind c.deref-in-If.ensures c.in_ok-walk-in-If.ensures.kind c.in_ok-z-in-If.ensures.kind in
-    let m = operand_is p l n c.in-If.a.value c.deref-in-If-2.result.now (k) (c.settled-in-If.new.flows.items) c.walk-in-If-2.new.flows.items c.settled-in-If-2.new.flows.items (root_view c.in_ok-walk-in-If-2.field-0.root) c.in_ok-x-in-If.x.place c.deref-in-If-2.ensures c.in_ok-walk-in-If-2.ensures.walked c.in_ok-x-in-If.ensures.flows c.in_ok-x-in-If.ensures.place in
-    let mk = operand_typed p l n c.in-If.a.value c.deref-in-If-2.result.now c.in_ok-walk-in-If-2.field-0.kind c.in_ok-x-in-If.x.kind c.deref-in-If-2.ensures c.in_ok-walk-in-If-2.ensures.kind c.in_ok-x-in-If.ensures.kind in
-    let r = operand_is p l n c.in-If.b.value c.deref-in-If-3.result.now (k) (c.settled-in-If-2.new.flows.items) c.walk-in-If-3.new.flows.items c.settled-in-If-3.new.flows.items (root_view c.in_ok-walk-in-If-3.field-0.root) c.in_ok-y-in-If.y.place c.deref-in-If-3.ensures c.in_ok-walk-in-If-3.ensures.walked c.in_ok-y-in-If.ensures.flows c.in_ok-y-in-If.ensures.place in
-    let rk = operand_typed p l n c.in-If.b.value c.deref-in-If-3.result.now c.in_ok-walk-in-If-3.field-0.kind c.in_ok-y-in-If.y.kind c.deref-in-If-3.ensures c.in_ok-walk-in-If-3.ensures.kind c.in_ok-y-in-If.ensures.kind in
+    let h = operand_is p l n c.in-If.c.value c.deref-in-If.result.now (k) (old) c.walk_operand-in-If.new.flows.items c.in_ok-z-in-If.z.place c.deref-in-If.ensures c.in_ok-z-in-If.ensures.flows c.in_ok-z-in-If.ensures.place in
+    let hk = operand_typed p l n c.in-If.c.value c.deref-in-If.result.now c.in_ok-z-in-If.z.kind c.deref-in-If.ensures c.in_ok-z-in-If.ensures.kind in
+    let m = operand_is p l n c.in-If.a.value c.deref-in-If-2.result.now (k) (c.walk_operand-in-If.new.flows.items) c.walk_operand-in-If-2.new.flows.items c.in_ok-x-in-If.x.place c.deref-in-If-2.ensures c.in_ok-x-in-If.ensures.flows c.in_ok-x-in-If.ensures.place in
+    let mk = operand_typed p l n c.in-If.a.value c.deref-in-If-2.result.now c.in_ok-x-in-If.x.kind c.deref-in-If-2.ensures c.in_ok-x-in-If.ensures.kind in
+    let r = operand_is p l n c.in-If.b.value c.deref-in-If-3.result.now (k) (c.walk_operand-in-If-2.new.flows.items) c.walk_operand-in-If-3.new.flows.items c.in_ok-y-in-If.y.place c.deref-in-If-3.ensures c.in_ok-y-in-If.ensures.flows c.in_ok-y-in-If.ensures.place in
+    let rk = operand_typed p l n c.in-If.b.value c.deref-in-If-3.result.now c.in_ok-y-in-If.y.kind c.deref-in-If-3.ensures c.in_ok-y-in-If.ensures.kind in
     let d = c.in-If.c in
     let a = c.in-If.a in
     let b = c.in-If.b in
@@ -108,18 +107,18 @@ walk-returns-in_ok-y-in-If-clause-walked t c =
     let y = c.in_ok-y-in-If.y in
     let ck = clock_place n k in
     let root = ap root_view c.own-in-If.ensures.root ∙ ap (λ (q : Option Kind). own (flow_on ck q (If z.place x.place y.place))) c.kind_of_choice-kind.ensures in
-    formed p l n (view c.args.e.now) (tree.choice (view d.value) (view a.value) (view b.value)) k old c.settled-in-If-3.new.flows.items (root_view c.own-in-If.result.root) (own (flow_on ck (choice_kind z.kind x.kind y.kind) (If z.place x.place y.place)))
+    formed p l n (view c.args.e.now) (tree.choice (view d.value) (view a.value) (view b.value)) k old c.walk_operand-in-If-3.new.flows.items (root_view c.own-in-If.result.root) (own (flow_on ck (choice_kind z.kind x.kind y.kind) (If z.place x.place y.place)))
     (ap view c.in-If.is ∙ viewed-If d a b) root
-    (choice_is p l n (view d.value) (view a.value) (view b.value) k old c.settled-in-If.new.flows.items c.settled-in-If-2.new.flows.items c.settled-in-If-3.new.flows.items z x y h m r hk mk rk)
+    (choice_is p l n (view d.value) (view a.value) (view b.value) k old c.walk_operand-in-If.new.flows.items c.walk_operand-in-If-2.new.flows.items c.walk_operand-in-If-3.new.flows.items z x y h m r hk mk rk)
 
 pub walk-returns-in_ok-y-in-If-clause-kind : goal.walk-returns-in_ok-y-in-If-clause-kind
 walk-returns-in_ok-y-in-If-clause-kind t c =
     let p = program_view c.args.context.now.catalog.now in
     let l = plain c.args.context.now.lists.now in
     let n = node_view c.args.context.now.scope.now in
-    let hk = operand_typed p l n c.in-If.c.value c.deref-in-If.result.now c.in_ok-walk-in-If.field-0.kind c.in_ok-z-in-If.z.kind c.deref-in-If.ensures c.in_ok-walk-in-If.ensures.kind c.in_ok-z-in-If.ensures.kind in
-    let mk = operand_typed p l n c.in-If.a.value c.deref-in-If-2.result.now c.in_ok-walk-in-If-2.field-0.kind c.in_ok-x-in-If.x.kind c.deref-in-If-2.ensures c.in_ok-walk-in-If-2.ensures.kind c.in_ok-x-in-If.ensures.kind in
-    let rk = operand_typed p l n c.in-If.b.value c.deref-in-If-3.result.now c.in_ok-walk-in-If-3.field-0.kind c.in_ok-y-in-If.y.kind c.deref-in-If-3.ensures c.in_ok-walk-in-If-3.ensures.kind c.in_ok-y-in-If.ensures.kind in
+    let hk = operand_typed p l n c.in-If.c.value c.deref-in-If.result.now c.in_ok-z-in-If.z.kind c.deref-in-If.ensures c.in_ok-z-in-If.ensures.kind in
+    let mk = operand_typed p l n c.in-If.a.value c.deref-in-If-2.result.now c.in_ok-x-in-If.x.kind c.deref-in-If-2.ensures c.in_ok-x-in-If.ensures.kind in
+    let rk = operand_typed p l n c.in-If.b.value c.deref-in-If-3.result.now c.in_ok-y-in-If.y.kind c.deref-in-If-3.ensures c.in_ok-y-in-If.ensures.kind in
     let d = c.in-If.c in
     let a = c.in-If.a in
     let b = c.in-If.b in
@@ -137,13 +136,12 @@ walk-returns-in_ok-x-in-When-clause-walked t c =
     let a = c.in-When.a in
     let d = c.in-When.c in
     let x = c.in_ok-x-in-When.x in
-    let mid = c.settled-in-When.new.flows.items in
+    let mid = c.walk_operand-in-When.new.flows.items in
     let inside = c.variable_clock-inside.ensures.clock ∙ ap (clock_of n) c.as_str-name.ensures in
     let sampled = c.placed-sampled.ensures.clock ∙ c.of.ensures in
-    let w = c.in_ok-walk-in-When.ensures.walked in
-    let h = subst (λ j. IsWalked (walk p l n (view c.deref-in-When.result.now) j) old c.walk-in-When.new.flows.items (root_view c.in_ok-walk-in-When.field-0.root)) inside w in
-    let m = operand_is p l n a.value c.deref-in-When.result.now (clock_of n d.variable) old c.walk-in-When.new.flows.items mid (root_view c.in_ok-walk-in-When.field-0.root) x.place c.deref-in-When.ensures h c.in_ok-x-in-When.ensures.flows c.in_ok-x-in-When.ensures.place in
-    let mk = operand_typed p l n a.value c.deref-in-When.result.now c.in_ok-walk-in-When.field-0.kind x.kind c.deref-in-When.ensures c.in_ok-walk-in-When.ensures.kind c.in_ok-x-in-When.ensures.kind in
+    let m = subst (λ j. IsMade (walk p l n (view a.value) j) old mid x.place) inside
+    (operand_is p l n a.value c.deref-in-When.result.now _ old mid x.place c.deref-in-When.ensures c.in_ok-x-in-When.ensures.flows c.in_ok-x-in-When.ensures.place) in
+    let mk = operand_typed p l n a.value c.deref-in-When.result.now x.kind c.deref-in-When.ensures c.in_ok-x-in-When.ensures.kind in
     let root = ap root_view c.own-in-When.ensures.root ∙ ap (λ j. own (flow_on (clock_place n j) x.kind (When x.place))) sampled in
     formed p l n (view c.args.e.now) (tree.when (view a.value) d) k old mid (root_view c.own-in-When.result.root) (own (flow_on (clock_place n (Some d)) x.kind (When x.place)))
     (ap view c.in-When.is ∙ viewed-When a d) root (when_is p l n (view a.value) d k old mid x m mk)
@@ -153,7 +151,7 @@ walk-returns-in_ok-x-in-When-clause-kind t c =
     let p = program_view c.args.context.now.catalog.now in
     let l = plain c.args.context.now.lists.now in
     let n = node_view c.args.context.now.scope.now in
-    let mk = operand_typed p l n c.in-When.a.value c.deref-in-When.result.now c.in_ok-walk-in-When.field-0.kind c.in_ok-x-in-When.x.kind c.deref-in-When.ensures c.in_ok-walk-in-When.ensures.kind c.in_ok-x-in-When.ensures.kind in
+    let mk = operand_typed p l n c.in-When.a.value c.deref-in-When.result.now c.in_ok-x-in-When.x.kind c.deref-in-When.ensures c.in_ok-x-in-When.ensures.kind in
     c.own-in-When.ensures.kind ∙ mk ∙ sym (ap (type_of p n) (ap view c.in-When.is ∙ viewed-When c.in-When.a c.in-When.c))
 
 pub merge-loop-i-init : goal.merge-loop-i-init
@@ -184,11 +182,11 @@ merge-loop-i-preserved t c =
     let y = c.in_ok-x.x in
     let more = c.in_ok-push.ensures.items in
     let on = c.placed-on.ensures.clock ∙ ap (condition x) c.pattern_at.ensures in
-    let walked = subst (λ k. IsWalked (walk p l n (view a) k) c.loop-i.flows.items c.walk.new.flows.items (root_view c.in_ok-walk.field-0.root)) on c.in_ok-walk.ensures.walked in
-    let m = operand_is p l n a a (condition x (pattern_at ps i)) c.loop-i.flows.items c.walk.new.flows.items c.settled.new.flows.items (root_view c.in_ok-walk.field-0.root) y.place refl walked c.in_ok-x.ensures.flows c.in_ok-x.ensures.place in
-    let mk = operand_typed p l n a a c.in_ok-walk.field-0.kind y.kind refl c.in_ok-walk.ensures.kind c.in_ok-x.ensures.kind in
+    let m = subst (λ k. IsMade (walk p l n (view a) k) c.loop-i.flows.items c.walk_operand.new.flows.items y.place) on
+    (operand_is p l n a a _ c.loop-i.flows.items c.walk_operand.new.flows.items y.place refl c.in_ok-x.ensures.flows c.in_ok-x.ensures.place) in
+    let mk = operand_typed p l n a a y.kind refl c.in_ok-x.ensures.kind in
     record {
-      made = branch_made p l n x ps args i a old c.loop-i.flows.items c.settled.new.flows.items ops c.push.new.self.items y lt c.index-branches-i.is c.loop-i.invariant.made m more;
+      made = branch_made p l n x ps args i a old c.loop-i.flows.items c.walk_operand.new.flows.items ops c.push.new.self.items y lt c.index-branches-i.is c.loop-i.invariant.made m more;
       kinds = argument_typed p l n args i a ops c.push.new.self.items y lt c.index-branches-i.is c.loop-i.invariant.kinds mk more;
     }
 
@@ -304,10 +302,10 @@ call-loop-a-preserved t c =
     let ops = c.loop-a.operands.items in
     let x = c.in_ok-x.x in
     let more = c.in_ok-push.ensures.items in
-    let m = operand_is p l n a a k c.loop-a.flows.items c.walk.new.flows.items c.settled.new.flows.items (root_view c.in_ok-walk.field-0.root) x.place refl c.in_ok-walk.ensures.walked c.in_ok-x.ensures.flows c.in_ok-x.ensures.place in
-    let mk = operand_typed p l n a a c.in_ok-walk.field-0.kind x.kind refl c.in_ok-walk.ensures.kind c.in_ok-x.ensures.kind in
+    let m = operand_is p l n a a k c.loop-a.flows.items c.walk_operand.new.flows.items x.place refl c.in_ok-x.ensures.flows c.in_ok-x.ensures.place in
+    let mk = operand_typed p l n a a x.kind refl c.in_ok-x.ensures.kind in
     record {
-      made = argument_made p l n args i a k old c.loop-a.flows.items c.settled.new.flows.items ops c.push.new.self.items x lt c.a-item.is c.loop-a.invariant.made m more;
+      made = argument_made p l n args i a k old c.loop-a.flows.items c.walk_operand.new.flows.items ops c.push.new.self.items x lt c.a-item.is c.loop-a.invariant.made m more;
       kinds = argument_typed p l n args i a ops c.push.new.self.items x lt c.a-item.is c.loop-a.invariant.kinds mk more;
     }
 

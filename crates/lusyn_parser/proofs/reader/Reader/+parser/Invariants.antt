@@ -10,26 +10,32 @@ use Rattle.lusyn_parser.proofs.reader.Reader.+parser.Given as goal
 abbrev pub decreases-expr : goal.decreases-expr
 decreases-expr l = 2 ^ 66 * l.depth
 
+abbrev pub decreases-behind : goal.decreases-behind
+decreases-behind l = 2 ^ 66 * l.depth + 1
+
 abbrev pub decreases-choice : goal.decreases-choice
-decreases-choice l = 2 ^ 66 * l.depth + 1
+decreases-choice l = 2 ^ 66 * l.depth + 2
+
+abbrev pub decreases-arrowed : goal.decreases-arrowed
+decreases-arrowed l = 2 ^ 66 * l.depth + 2
 
 abbrev pub decreases-branch : goal.decreases-branch
-decreases-branch l = 2 ^ 66 * l.depth + 1
+decreases-branch l = 2 ^ 66 * l.depth + 3
 
 abbrev pub decreases-labelled : goal.decreases-labelled
-decreases-labelled l = 2 ^ 66 * l.depth + 1
+decreases-labelled l = 2 ^ 66 * l.depth + 3
 
 abbrev pub decreases-by_truths : goal.decreases-by_truths
-decreases-by_truths l = 2 ^ 66 * l.depth + 2
+decreases-by_truths l = 2 ^ 66 * l.depth + 4
 
 abbrev pub decreases-further_branches : goal.decreases-further_branches
-decreases-further_branches l = 2 ^ 66 * l.depth + 2
+decreases-further_branches l = 2 ^ 66 * l.depth + 4
 
 abbrev pub decreases-by_labels : goal.decreases-by_labels
-decreases-by_labels l = 2 ^ 66 * l.depth + 3
+decreases-by_labels l = 2 ^ 66 * l.depth + 5
 
 abbrev pub decreases-merge : goal.decreases-merge
-decreases-merge l = 2 ^ 66 * l.depth + 4
+decreases-merge l = 2 ^ 66 * l.depth + 6
 
 abbrev pub decreases-climb : goal.decreases-climb
 decreases-climb l = 2 ^ 66 * l.depth + 1
@@ -44,10 +50,10 @@ abbrev pub decreases-named : goal.decreases-named
 decreases-named l = 2 ^ 66 * l.depth + 3
 
 abbrev pub decreases-head : goal.decreases-head
-decreases-head l = 2 ^ 66 * l.depth + 5
+decreases-head l = 2 ^ 66 * l.depth + 7
 
 abbrev pub decreases-compound : goal.decreases-compound
-decreases-compound l = 2 ^ 66 * l.depth + 6
+decreases-compound l = 2 ^ 66 * l.depth + 8
 
 abbrev pub invariant-climb-loop : goal.invariant-climb-loop
 invariant-climb-loop l =
