@@ -19,6 +19,6 @@ returns c =
     let kinds = c.deref.ensures.value ∙ c.in_ok-kinds.ensures ∙ ap (λ (xs : List Variable). kinds_of (shown_of false xs)) (c.variables.ensures ∙ ap (λ (f : FlatProgram). f.variables) flat) in
     let types = c.types.ensures ∙ ap (λ (f : FlatProgram). f.types) flat in
     let signals = ap signals_view c.deref-2.ensures.value ∙ c.in_ok-signals.ensures
-        ∙ ap (signals_of c.types.result.now c.deref.result.now) c.columns.ensures.columns
-        ∙ ap₂ (λ (ts : List Enum) (ks : List Kind). signals_of ts ks outputs) types kinds in
+    ∙ ap (signals_of c.types.result.now c.deref.result.now) c.columns.ensures.columns
+    ∙ ap₂ (λ (ts : List Enum) (ks : List Kind). signals_of ts ks outputs) types kinds in
     IfOk-weaker c.dump_by_site.result _ _ (λ text e. e ∙ ap (site_dump c.args.main.now plan) signals) c.dump_by_site.ensures
