@@ -5,12 +5,13 @@ ghost use Rattle.luexplain.specs.Texts.{IsToldSomewhere};
 ghost use Rattle.luexplain.specs.Told.{IsTold, whole};
 
 use crate::circle::circle;
+use crate::find::node_named;
 use crate::place::where_in;
 use crate::said::{Said, in_words, mended_by, told, whole};
 use crate::words::Part;
 use luflow::FaultKind;
-use lustat_scope::{Catalog, Scope};
-use lutree::{Equation, Expr, Infix, Prefix, Program};
+use lustat_scope::Scope;
+use lutree::{Equation, Expr, Infix, Node, Prefix, Program};
 use std::alloc::{AllocError, Global};
 
 /// The place of a variable, behind those before.
@@ -152,28 +153,37 @@ fn said_of_names<'a>(alloc: Global, names: &'a [&'a str]) -> Result<Said, AllocE
     )
 }
 
+/// What is said of a circle in a node with this scope.
+fn said_in(alloc: Global, scope: &Scope, variable: &str) -> Result<Said, AllocError> {
+    let names = circle_of(alloc, scope, variable)?;
+    said_of_names(alloc, names.as_slice())
+}
+
+/// What is said of a circle in a node.
+fn said_of_node(alloc: Global, node: &Node, variable: &str) -> Result<Said, AllocError> {
+    let scope = Scope::new(alloc, node)?;
+    said_in(alloc, &scope, variable)
+}
+
 /// What is said of a circle in the main node.
 fn said_of_cycle(
     alloc: Global,
-    catalog: &Catalog,
+    program: &Program,
     main: &str,
     variable: &str,
 ) -> Result<Said, AllocError> {
-    match catalog.find(main) {
-        Some(scope) => {
-            let names = circle_of(alloc, scope, variable)?;
-            said_of_names(alloc, names.as_slice())
-        }
+    match node_named(program, main) {
+        Some(node) => said_of_node(alloc, node, variable),
         None => said_of_names(alloc, &[]),
     }
 }
 
 /// Where the equation of a variable of the main node begins; 0 where there is none.
-fn byte_of(catalog: &Catalog, main: &str, variable: &str) -> usize {
-    let Some(scope) = catalog.find(main) else {
+fn byte_of(program: &Program, main: &str, variable: &str) -> usize {
+    let Some(node) = node_named(program, main) else {
         return 0;
     };
-    for equation in scope.node().equations.as_slice() {
+    for equation in node.equations.as_slice() {
         for x in equation.left.as_slice() {
             if x.is(variable) {
                 return equation.byte;
@@ -181,6 +191,19 @@ fn byte_of(catalog: &Catalog, main: &str, variable: &str) -> usize {
         }
     }
     0
+}
+
+/// What is said, behind the place of a byte.
+fn told_at(
+    alloc: Global,
+    path: &str,
+    text: &[u8],
+    byte: usize,
+    said: &Said,
+) -> Result<String, AllocError>
+    ensures { IfOk result (IsToldSomewhere path.now text.now) }
+{
+    told(where_in(alloc, path, text, byte)?, said)
 }
 
 /// What a person is told where a main variable depends on itself: its place, what is wrong, and how to mend it. `text` is the text of the file
@@ -199,10 +222,9 @@ pub fn of_cycle(
 ) -> Result<String, AllocError>
     ensures { IfOk result (IsToldSomewhere path.now text.now) }
 {
-    let catalog = Catalog::new(alloc, program)?;
-    let said = said_of_cycle(alloc, &catalog, main, variable)?;
-    let byte = byte_of(&catalog, main, variable);
-    told(where_in(alloc, path, text, byte)?, &said)
+    let byte = byte_of(program, main, variable);
+    let said = said_of_cycle(alloc, program, main, variable)?;
+    told_at(alloc, path, text, byte, &said)
 }
 
 /// What a person is told of a program with too many flows: the path of its file, what is wrong, and how to mend it.
@@ -270,8 +292,7 @@ pub fn of_fault(
 ) -> Result<String, AllocError>
     ensures { IfOk result (IsToldSomewhere path.now text.now) }
 {
-    let catalog = Catalog::new(alloc, program)?;
+    let byte = byte_of(program, main, variable);
     let said = said_of_fault(alloc, variable, instant, kind)?;
-    let byte = byte_of(&catalog, main, variable);
-    told(where_in(alloc, path, text, byte)?, &said)
+    told_at(alloc, path, text, byte, &said)
 }

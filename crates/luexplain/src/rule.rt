@@ -118,6 +118,31 @@ fn place_of_rule(
     }
 }
 
+/// What is said of a rule that a program breaks.
+fn said_in(
+    alloc: Global,
+    text: &[u8],
+    program: &Program,
+    main: &str,
+    error: &StatError,
+) -> Result<Said, AllocError> {
+    let catalog = Catalog::new(alloc, program)?;
+    said_of_rule(alloc, text, &catalog, main, error)
+}
+
+/// What is said, behind the place of a rule that is broken.
+fn told_at(
+    alloc: Global,
+    path: &str,
+    text: &[u8],
+    error: &StatError,
+    said: &Said,
+) -> Result<String, AllocError>
+    ensures { IfOk result (IsTold (place_of_rule path.now text.now error.now)) }
+{
+    told(place_of_rule(alloc, path, text, error)?, said)
+}
+
 /// What a person is told where the static checks refuse a program: its place, what is wrong, and how to mend it. `text` is the text of the file
 /// of this path, `program` is what it spells, and `main` the name of the main node.
 ///
@@ -134,7 +159,6 @@ pub fn of_rule(
 ) -> Result<String, AllocError>
     ensures { IfOk result (IsTold (place_of_rule path.now text.now error.now)) }
 {
-    let catalog = Catalog::new(alloc, program)?;
-    let said = said_of_rule(alloc, text, &catalog, main, error)?;
-    told(place_of_rule(alloc, path, text, error)?, &said)
+    let said = said_in(alloc, text, program, main, error)?;
+    told_at(alloc, path, text, error, &said)
 }

@@ -9,6 +9,7 @@ mod runs;
 
 use crate::parties::put_driven;
 use crate::runs::{put_outputs, put_run};
+use luplace::Job;
 use lurun::collect;
 use lusdist_commands::jobs::job_for;
 use lusdist_shell::RealFiles;
@@ -26,6 +27,20 @@ pub fn number(line: &str, k: usize) -> u32 {
     word(line, k).parse().unwrap_or(0)
 }
 
+/// Writes what a line comes to, of a job.
+fn take_job<R: Threads + Wait + Sync>(
+    threads: &R,
+    rt: &HostRuntime,
+    job: &Job,
+    line: &str,
+) -> io::Result<()> {
+    match word(line, 0) {
+        "collect" => put_outputs(rt, job, collect(rt.alloc(), Vec::new(rt.alloc()))),
+        "drive" => put_driven(threads, rt, job, line),
+        _ => put_run(threads, rt, job, line),
+    }
+}
+
 /// Writes what a line comes to.
 fn take_line<R: Threads + Wait + Sync>(
     threads: &R,
@@ -37,11 +52,7 @@ fn take_line<R: Threads + Wait + Sync>(
     let Ok(job) = job_for(rt.alloc(), &files, program, place, table, "main") else {
         return println!(rt; "! no job");
     };
-    match word(line, 0) {
-        "collect" => put_outputs(rt, &job, collect(rt.alloc(), Vec::new(rt.alloc()))),
-        "drive" => put_driven(threads, rt, &job, line),
-        _ => put_run(threads, rt, &job, line),
-    }
+    take_job(threads, rt, &job, line)
 }
 
 fn main(rt: HostRuntime) -> io::Result<()> {

@@ -84,6 +84,33 @@ fn put_report(rt: &HostRuntime, report: &SiteReport, count: usize) -> io::Result
     Ok(())
 }
 
+/// The first two sites of a job, new.
+fn both_sites(alloc: Global, job: &Job) -> Result<(Site, Site), AllocError>
+    requires { 1 < sites_of job.now.plan }
+    ensures job { IfOk result (λ x. x.1.job ≡ job.now) }
+    ensures site { IfOk result (λ x. x.1.site ≡ 1) }
+    ensures done { IfOk result (λ x. x.1.done ≡ 0) }
+{
+    let one = site_of(alloc, job, 0)?;
+    let two = site_of(alloc, job, 1)?;
+    Ok((one, two))
+}
+
+/// The unused ends of the first two links of a job, the senders' and the receivers'.
+fn all_ends<'l>(
+    alloc: Global,
+    job: &Job,
+    first: &'l [Msg],
+    second: &'l [Msg],
+) -> Result<((Feeder<'l>, Feeder<'l>), (Rx, Rx)), AllocError>
+    requires first { first.now ≡ list_of job.now 0 }
+    requires second { second.now ≡ list_of job.now 1 }
+{
+    let (tx, rx) = ends_of(alloc, job, 0, first)?;
+    let (other_tx, other_rx) = ends_of(alloc, job, 1, second)?;
+    Ok(((tx, other_tx), (rx, other_rx)))
+}
+
 /// Drives the two sites of a job up to these numbers of items.
 fn drive<R: Threads + Wait + Sync>(
     threads: &R,
@@ -95,12 +122,9 @@ fn drive<R: Threads + Wait + Sync>(
     requires two { 1 < sites_of job.now.plan }
     requires plain { IsPlain job.now 1 plain.script.now plain.first.now plain.second.now }
 {
-    let one = site_of(alloc, job, 0)?;
-    let two = site_of(alloc, job, 1)?;
-    let (tx, rx) = ends_of(alloc, job, 0, plain.first)?;
-    let (other_tx, other_rx) = ends_of(alloc, job, 1, plain.second)?;
-    let (feeders, takers) = ((tx, other_tx), (rx, other_rx));
-    Ok(driven(threads, (one, two), feeders, takers, plain, most))
+    let sites = both_sites(alloc, job)?;
+    let (feeders, takers) = all_ends(alloc, job, plain.first, plain.second)?;
+    Ok(driven(threads, sites, feeders, takers, plain, most))
 }
 
 /// Writes what both sites leave, and what the second took from each link.
@@ -109,6 +133,47 @@ fn put_left(rt: &HostRuntime, one: &Left, two: &Left, plain: Plain<'_>) -> io::R
     put_report(rt, &two.0, two.1)?;
     put_taken(rt, plain.first, takes_in(plain.script, two.1, 0))?;
     put_taken(rt, plain.second, takes_in(plain.script, two.1, 1))
+}
+
+/// Writes what two reports tell together.
+fn put_both(rt: &HostRuntime, job: &Job, one: SiteReport, two: SiteReport) -> io::Result<()> {
+    let mut reports = Vec::with_capacity(rt.alloc(), 2)?;
+    reports.push_reserved(one);
+    reports.push_reserved(two);
+    put_outputs(rt, job, collect(rt.alloc(), reports))
+}
+
+/// Writes what two sites leave, and what both reports tell together.
+fn put_all(rt: &HostRuntime, job: &Job, one: Left, two: Left, plain: Plain<'_>) -> io::Result<()> {
+    put_left(rt, &one, &two, plain)?;
+    put_both(rt, job, one.0, two.0)
+}
+
+/// Drives the two sites of a job up to the numbers of items that a line tells, by what the plain programs say, and writes what both leave.
+fn put_sites<R: Threads + Wait + Sync>(
+    threads: &R,
+    rt: &HostRuntime,
+    job: &Job,
+    plain: Plain<'_>,
+    line: &str,
+) -> io::Result<()>
+    requires two { 1 < sites_of job.now.plan }
+    requires plain { IsPlain job.now 1 plain.script.now plain.first.now plain.second.now }
+{
+    let most = (number(line, 4) as usize, number(line, 5) as usize);
+    let (one, two) = drive(threads, rt.alloc(), job, plain, most)?;
+    put_all(rt, job, one, two, plain)
+}
+
+/// The lists of the first two links of a job.
+fn lists_of(alloc: Global, job: &Job) -> Result<(Vec<Msg>, Vec<Msg>), AllocError>
+    requires { 1 < sites_of job.now.plan }
+    ensures first { IfOk result (λ x. x.0.items ≡ list_of job.now 0) }
+    ensures second { IfOk result (λ x. x.1.items ≡ list_of job.now 1) }
+{
+    let first = list_of_link(alloc, job, 0)?;
+    let second = list_of_link(alloc, job, 1)?;
+    Ok((first, second))
 }
 
 /// Drives the two sites of a job up to the numbers of items that a line tells, and writes what both leave, what was taken from the
@@ -124,18 +189,11 @@ pub fn put_driven<R: Threads + Wait + Sync>(
         return println!(rt; "! too few sites");
     }
     let script = script_of(alloc, job, 1)?;
-    let first = list_of_link(alloc, job, 0)?;
-    let second = list_of_link(alloc, job, 1)?;
+    let (first, second) = lists_of(alloc, job)?;
     let plain = Plain {
         script: &script,
         first: &first,
         second: &second,
     };
-    let most = (number(line, 4) as usize, number(line, 5) as usize);
-    let (one, two) = drive(threads, alloc, job, plain, most)?;
-    put_left(rt, &one, &two, plain)?;
-    let mut reports = Vec::with_capacity(alloc, 2)?;
-    reports.push_reserved(one.0);
-    reports.push_reserved(two.0);
-    put_outputs(rt, job, collect(alloc, reports))
+    put_sites(threads, rt, job, plain, line)
 }

@@ -85,6 +85,24 @@ fn put_seen(rt: &HostRuntime, seen: &Seen) -> io::Result<()> {
     println!(rt; "= {came} items, {reached} instants")
 }
 
+/// Runs the stations that a line asks for, under a gate, and writes what they answer.
+fn put_chosen<R: Threads + Wait + Sync>(
+    threads: &R,
+    rt: &HostRuntime,
+    job: &Job,
+    line: &str,
+    gate: &Watch,
+) -> io::Result<()> {
+    let workers = u8::try_from(number(line, 4)).unwrap_or(u8::MAX);
+    let part = word(line, 6);
+    let stations = chosen(rt.alloc(), job, part)?;
+    if part == "each" {
+        put_each(threads, rt, job, stations, workers, gate)
+    } else {
+        put_answer(threads, rt, job, stations, workers, gate)
+    }
+}
+
 /// Runs the stations that a line asks for, by its workers and under its gate, and writes what they answer, how many items each of the
 /// first two sites came to, and how far it was.
 pub fn put_run<R: Threads + Wait + Sync>(
@@ -94,14 +112,7 @@ pub fn put_run<R: Threads + Wait + Sync>(
     line: &str,
 ) -> io::Result<()> {
     let gate = Watch::new(word(line, 5));
-    let workers = u8::try_from(number(line, 4)).unwrap_or(u8::MAX);
-    let part = word(line, 6);
-    let stations = chosen(rt.alloc(), job, part)?;
-    if part == "each" {
-        put_each(threads, rt, job, stations, workers, &gate)?;
-    } else {
-        put_answer(threads, rt, job, stations, workers, &gate)?;
-    }
+    put_chosen(threads, rt, job, line, &gate)?;
     put_seen(rt, &gate.first)?;
     put_seen(rt, &gate.second)?;
     if gate.failed.load(Ordering::SeqCst) == 0 {

@@ -1,13 +1,13 @@
 -- The dumps of a run and of a replay, and what a call says that can't write one.
 use Rattle.std.proofs.Common.{◌≡◌, ◌⊎◌, ◌∙◌, ℕ, List, refl, sym, ap, subst, inl, inr}
-use Rattle.std.specs.Prelude.{Option, Some, Result, Ok, Err, IfErr, OnOk, slice_get, string_bytes}
+use Rattle.std.specs.Prelude.{Option, Some, Result, Ok, Err, IfErr, IfOk, IsUtf8, OnOk, false, slice_get, string_bytes}
 use Rattle.std.specs.declared.string.String.{String}
 use Rattle.std.specs.declared.alloc.Global.{Global}
 use Rattle.luflow.specs.declared.form.FaultKind.{FaultKind}
 use Rattle.luflow.specs.declared.variable.Enum.{Enum}
 use Rattle.luflow.specs.declared.variable.Variable.{Variable}
-use Rattle.luflow.specs.Program.{FlatProgram}
-use Rattle.luflow.specs.Tables.{OutputColumn}
+use Rattle.luflow.specs.Program.{FlatProgram, Table as Inputs}
+use Rattle.luflow.specs.Tables.{Fits, OutputColumn}
 use Rattle.luflow.specs.Variables.{inputs_of}
 use Rattle.luworld.specs.Needs.{Distribution}
 use Rattle.luworld.specs.Runs.{Run}
@@ -15,22 +15,26 @@ use Rattle.luworld.specs.Progress.{Progress}
 use Rattle.lusource.specs.Source.{SourceStreams, IsSourceSolution}
 use Rattle.lumeaning.specs.Meaning.{IsMeant}
 use Rattle.lumeaning.specs.Telling.{OutputTold}
+use Rattle.lutab.specs.Table.{IsTextOf, is_too_long}
 use Rattle.lurun.specs.Reports.{AreOutputsOf as AreRunOutputs}
 use Rattle.luchart.specs.Signals.{Signal}
 use Rattle.luweave_text.specs.Waves.{site_dump, AreOutputSignals}
+use Rattle.lusdist_shell.specs.declared.request.EvalRequest.{EvalRequest}
 use Rattle.lusdist_shell.specs.declared.request.ReplayRequest.{ReplayRequest}
 use Rattle.lusdist_shell.specs.declared.request.RunRequest.{RunRequest}
 use Rattle.lusdist_commands.specs.declared.stop.Stop.{Stop}
 use Rattle.lusdist_commands.specs.declared.stop.Stop.TheVariants.{CannotRead, CannotWrite, NotAscii, Syntax, Rules, Flat, Place, Table, Schedule, Fault, LinkLost, NoThread, OutOfMemory, Mistaken}
-use Rattle.lusdist_commands.specs.Asked.{IsAskedFor, IsJobFor}
+use Rattle.lusdist_commands.specs.Asked.{IsAskedFor, IsFlatAt, IsJobFor, IsTableAt}
 use Rattle.lusdist_commands.specs.Evaluated.{IsNoFault}
 use Rattle.lusdist_commands.specs.Filed.{IsFiledAt, IsUnfiledAt, IsUnwritten}
 use Rattle.lusdist_commands.specs.Waved.{replay_path, run_path, run_dump, AreRunWaves, IsRunDumped, IsRunFiled, IsWorldFiled, IsWorldDumped, IsWaved, AreWaved, AreSignalsTrue, IsReplayFiled, IsReplayDumped}
 use Rattle.lusdist_commands.specs.Ran.{IsStopOfRun}
 use Rattle.lusdist_commands.specs.Refused.{IsPlaceRefused}
-use Rattle.lusdist_commands.specs.Stopped.{HasNoFlat, IsReplayStopped, IsRunStopped, IsScheduleRefused, StopsAtJob, StopsAtPlan, StopsAtProgram}
+use Rattle.lusdist_commands.specs.Stopped.{HasNoFlat, IsEvalStopped, IsReplayStopped, IsRunStopped, IsScheduleRefused, StopsAtJob, StopsAtPlan, StopsAtProgram, StopsAtTable}
 use Rattle.lusdist_commands.specs.Stopped.HasNoFlat.{unspelled, unruled}
 use Rattle.lusdist_commands.specs.Stopped.StopsAtProgram.{program_unread, program_refused}
+use Rattle.lusdist_commands.specs.Stopped.StopsAtTable.{no_table, bad_table}
+use Rattle.lusdist_commands.specs.Stopped.IsEvalStopped.{eval_unread, eval_table}
 use Rattle.lusdist_commands.specs.Stopped.StopsAtPlan.{no_program, place_unread, place_refused}
 use Rattle.lusdist_commands.specs.Stopped.StopsAtJob.{no_plan, table_unread, table_refused}
 use Rattle.lusdist_commands.specs.Stopped.IsReplayStopped.{replay_unwritten, replay_memory}
@@ -51,9 +55,32 @@ flat_none : (bytes main : List ℕ) (stop : Stop) → HasNoFlat bytes main stop 
 flat_none bytes main stop (unspelled refused) = program_none bytes stop refused
 flat_none bytes main stop (unruled tree places spelled are told) = told_none tree places main stop told
 
-at_program_none : (gives : List ℕ → Option (List ℕ) → Type 0) (path main : List ℕ) (stop : Stop) → StopsAtProgram gives path main stop → IsNoFault stop
+pub at_program_none : (gives : List ℕ → Option (List ℕ) → Type 0) (path main : List ℕ) (stop : Stop) → StopsAtProgram gives path main stop → IsNoFault stop
 at_program_none gives path main stop (program_unread unread) = unread_none gives path stop unread
 at_program_none gives path main stop (program_refused program given none) = flat_none program main stop none
+
+pub at_table_none : (gives : List ℕ → Option (List ℕ) → Type 0) (path : List ℕ) (flat : FlatProgram) (stop : Stop) → StopsAtTable gives path flat stop → IsNoFault stop
+at_table_none gives path flat stop (no_table unread) = unread_none gives path stop unread
+at_table_none gives path flat stop (bad_table table given refused) = table_none flat.types (inputs_of flat.variables) table stop refused
+
+-- an evaluation that stops at its table
+pub stops_at_table : (gives : List ℕ → Option (List ℕ) → Type 0) (request : EvalRequest) (flat : FlatProgram) (stop : Stop) → IsFlatAt gives request.program.now request.main.now flat → StopsAtTable gives request.table.now flat stop → IsEvalStopped gives request stop
+stops_at_table gives request flat stop at (no_table unread) = eval_unread at.program flat at.given at.flat_is unread
+stops_at_table gives request flat stop at (bad_table table given refused) = eval_table at.program table flat at.given given at.flat_is refused
+
+-- the table that a file's bytes are
+pub table_found : {E : Type 0} (gives : List ℕ → Option (List ℕ) → Type 0) (path : List ℕ) (flat : FlatProgram) (table : List ℕ) → gives path (Some table) → (r : Result Inputs E)
+    → IfOk r (λ inputs. IsTextOf flat.types (inputs_of flat.variables) inputs table) → IfOk r (λ _. is_too_long table ≡ false) → IfOk r (λ _. IsUtf8 table) → IfOk r (λ inputs. Fits flat inputs)
+    → IfOk r (IsTableAt gives path flat)
+table_found gives path flat table given (Ok inputs) text short utf8 fits = record {
+  table = table;
+  given = given;
+  text = text;
+  short = short;
+  utf8 = utf8;
+  fits = fits;
+}
+table_found gives path flat table given (Err e) text short utf8 fits = tt
 
 at_plan_none : (gives : List ℕ → Option (List ℕ) → Type 0) (path place_path main : List ℕ) (stop : Stop) → StopsAtPlan gives path place_path main stop → IsNoFault stop
 at_plan_none gives path place_path main stop (no_program at) = at_program_none gives path main stop at

@@ -1,7 +1,7 @@
 -- What the texts of a check, of a plan, of a replay and of a run say, and what their files gave.
 use Rattle.std.specs.Prelude.{◌≡◌, ℕ, false, List, Option, Some, Ok, IsUtf8, [], ◌∷◌, ◌++◌, Bool, true}
 use Rattle.lutree.specs.Tree.{ProgramTree}
-use Rattle.luflow.specs.Program.{FlatProgram}
+use Rattle.luflow.specs.Program.{FlatProgram, Table as Inputs}
 use Rattle.luworld.specs.Needs.{Distribution, IsPlan}
 use Rattle.luworld.specs.World.{reached, NoTurnMoves}
 use Rattle.luworld.specs.Runs.{Run, IsRun, system_of}
@@ -38,7 +38,7 @@ use Rattle.luweave_text.specs.WorldText.{IsWorldText}
 use Rattle.luweave_text.specs.Traced.{IsTraced}
 use Rattle.luweave_text.specs.declared.form.TraceForm.TheVariants as traces
 use Rattle.lusdist_commands.specs.TellingText.{telling_text, IsToldBy}
-use Rattle.luflow.specs.Tables.{OutputColumn}
+use Rattle.luflow.specs.Tables.{Fits, OutputColumn}
 use Rattle.lutab.specs.Outputs.{output_text}
 use Rattle.lusdist_commands.specs.Evaluated.{AreOutputsOf, IsEvaluated}
 use Rattle.lusdist_commands.specs.Explained.{code_in, explanation}
@@ -48,6 +48,21 @@ pub record HasFlat (text main : List ℕ) (flat : FlatProgram) : Type 0 where
   pub tree : ProgramTree
   pub spelled : SpellsText text tree
   pub flat_is : IsFlatOf tree main flat
+
+-- the flat program, from this main node, of the program that the file of a path gave
+pub record IsFlatAt (gives : List ℕ → Option (List ℕ) → Type 0) (path main : List ℕ) (flat : FlatProgram) : Type 0 where
+  pub program : List ℕ
+  pub given : gives path (Some program)
+  pub flat_is : HasFlat program main flat
+
+-- the table of a flat program's inputs that the file of a path gave, which isn't too long, in UTF-8
+pub record IsTableAt (gives : List ℕ → Option (List ℕ) → Type 0) (path : List ℕ) (flat : FlatProgram) (inputs : Inputs) : Type 0 where
+  pub table : List ℕ
+  pub given : gives path (Some table)
+  pub text : IsTextOf flat.types (inputs_of flat.variables) inputs table
+  pub short : is_too_long table ≡ false
+  pub utf8 : IsUtf8 table
+  pub fits : Fits flat inputs
 
 -- the plan of its flat program and the placement that a text says, in UTF-8
 pub record IsPlanOfText (text : List ℕ) (plan : Distribution) : Type 0 where

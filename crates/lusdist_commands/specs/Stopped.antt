@@ -50,6 +50,11 @@ pub data HasNoFlat (bytes main : List ℕ) (stop : Stop) : Type 0 where
   unspelled : IsProgramRefused bytes stop → HasNoFlat bytes main stop
   unruled : (tree : ProgramTree) (places : ProgramPlaces) → SpellsText bytes tree → ArePlacesOf bytes places → IsToldOf tree places main stop → HasNoFlat bytes main stop
 
+-- It stops at the table of this path: it can't be read, or is none of the program's.
+pub data StopsAtTable (gives : List ℕ → Option (List ℕ) → Type 0) (path : List ℕ) (flat : FlatProgram) (stop : Stop) : Type 0 where
+  no_table : IsUnread gives path stop → StopsAtTable gives path flat stop
+  bad_table : (table : List ℕ) → gives path (Some table) → IsTableRefused flat.types (inputs_of flat.variables) table stop → StopsAtTable gives path flat stop
+
 -- A call stops at the program of this path: it can't be read, or has no flat program from this main node.
 pub data StopsAtProgram (gives : List ℕ → Option (List ℕ) → Type 0) (path main : List ℕ) (stop : Stop) : Type 0 where
   program_unread : IsUnread gives path stop → StopsAtProgram gives path main stop

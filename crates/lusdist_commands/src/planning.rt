@@ -5,7 +5,7 @@ ghost use Rattle.luplace_report.specs.Report.{report_text};
 ghost use Rattle.lusdist_commands.specs.Asked.{IsPlanFor, plan_text};
 ghost use Rattle.lusdist_commands.specs.Stopped.{StopsAtPlan};
 
-use crate::sources::{flat_of, plan_of, read};
+use crate::sources::{flat_at, plan_of, read};
 use crate::stop::Stop;
 use luplace::Plan;
 use luplace_report::{report_dot, report_json, report_table};
@@ -24,8 +24,7 @@ pub fn planned<F: Files>(
     ensures stopped { IfErr result (StopsAtPlan (F.gives files.now) program.now place.now
         main.now) }
 {
-    let bytes = read(alloc, files, program)?;
-    let flat = flat_of(alloc, &bytes, main)?;
+    let flat = flat_at(alloc, files, program, main)?;
     let place_bytes = read(alloc, files, place)?;
     let plan = plan_of(alloc, flat, &place_bytes)?;
     let _flat = plan.flat();

@@ -2,9 +2,7 @@
 
 ghost use Rattle.std.specs.Prelude.{◌≡◌, ◌<◌, ◌⊎◌, ℕ, [], length, true, List, map, IfOk, IfErr, None, OnOk, string_bytes, codes};
 ghost use Rattle.std.specs.Io.KnownBytes.{Appends};
-ghost use Rattle.clap.specs.Words.{takes};
-ghost use Rattle.lusdist_shell.specs.CommandLine.{lusdist};
-ghost use Rattle.lusdist_shell.specs.Request.{AreFew, HasFewWorkers};
+ghost use Rattle.lusdist_shell.specs.Request.{AreFew, HasFewWorkers, is_taken};
 ghost use Rattle.lusdist_shell.specs.Sinks.{HasPut, HasLine, HasBeginning};
 ghost use Rattle.luweave.specs.Headline.{IsFaithful};
 ghost use Rattle.luweave_text.specs.Traced.{IsTraced};
@@ -28,7 +26,7 @@ use crate::mistake::mistake_in;
 use crate::planning::{plan_text, planned};
 use crate::reasons::put_refusal;
 use crate::running::run_table;
-use crate::sources::{flattened, inputs_in, program_of, read, turns_of};
+use crate::sources::{flat_at, flattened, inputs_at, program_of, read, turns_of};
 use crate::stop::Stop;
 use luflow::{Flat, Inputs};
 use luplace::Job;
@@ -209,11 +207,8 @@ fn posed<F: Files>(
     ensures stopped { IfErr result (IsEvalStopped (F.gives files.now) request.entry) }
     ensures no_fault { IfErr result IsNoFault }
 {
-    let bytes = read(alloc, files, request.program)?;
-    let program = program_of(alloc, &bytes)?;
-    let flat = flattened(alloc, &program, request.main)?;
-    let table = read(alloc, files, request.table)?;
-    let inputs = inputs_in(alloc, &flat, &table)?;
+    let flat = flat_at(alloc, files, request.program, request.main)?;
+    let inputs = inputs_at(alloc, files, &flat, request.table)?;
     Ok((flat, inputs))
 }
 
@@ -397,7 +392,7 @@ pub fn serve_words<R: Threads + Wait + Sync, F: Files, P: Progress, W: Write, V:
         }) }
 
     // Where the command line takes the words and the call is done, the text that they ask for went to the output.
-    ensures done { takes lusdist (map string_bytes words.entry.now) ≡ true → result ≡ 0
+    ensures done { is_taken (map string_bytes words.entry.now) ≡ true → result ≡ 0
         → (text : List ℕ) × IsDone (F.gives files.now) (map string_bytes words.entry.now) text
         × Appends (W.contents out.old.writer) (W.contents out.new.writer) text }
 
@@ -407,7 +402,7 @@ pub fn serve_words<R: Threads + Wait + Sync, F: Files, P: Progress, W: Write, V:
     // Where a text is refused, it is for what the text says; and where words that the command line takes end with status 2, a
     // file can't be read, or no page has the code that is to be explained.
     ensures text { result ≡ 1 → IsRefusal (F.gives files.now) (map string_bytes words.entry.now) 1 }
-    ensures file { takes lusdist (map string_bytes words.entry.now) ≡ true → result ≡ 2
+    ensures file { is_taken (map string_bytes words.entry.now) ≡ true → result ≡ 2
         → IsRefusal (F.gives files.now) (map string_bytes words.entry.now) 2 }
 
     // Where the call is done and no turns are to be told, nothing goes to the error stream.

@@ -12,9 +12,9 @@ ghost use Rattle.luflow.specs.Tables.{Fits};
 ghost use Rattle.luflow.specs.Variables.{inputs_of};
 ghost use Rattle.luworld.specs.Runs.{IsRun};
 ghost use Rattle.lutab.specs.Table.{IsTextOf, is_too_long};
-ghost use Rattle.lusdist_commands.specs.Asked.{HasFlat, IsPlanOfText};
+ghost use Rattle.lusdist_commands.specs.Asked.{HasFlat, IsFlatAt, IsPlanOfText, IsTableAt};
 ghost use Rattle.lusdist_commands.specs.Refused.{IsToldOf, IsProgramRefused, IsPlaceRefused, IsTableRefused};
-ghost use Rattle.lusdist_commands.specs.Stopped.{IsUnread, HasNoFlat, IsScheduleRefused};
+ghost use Rattle.lusdist_commands.specs.Stopped.{IsUnread, HasNoFlat, IsScheduleRefused, StopsAtProgram, StopsAtTable};
 
 use crate::stop::Stop;
 use lucore::flatten;
@@ -83,6 +83,15 @@ pub fn flat_of(alloc: Global, bytes: &[u8], main: &str) -> Result<Flat, Stop>
     flattened(alloc, &program, main)
 }
 
+/// The flat program of the program's file at the path, from its main node of this name.
+pub fn flat_at<F: Files>(alloc: Global, files: &F, path: &str, main: &str) -> Result<Flat, Stop>
+    ensures flat { IfOk result (IsFlatAt (F.gives files.now) path.now main.now) }
+    ensures stopped { IfErr result (StopsAtProgram (F.gives files.now) path.now main.now) }
+{
+    let bytes = read(alloc, files, path)?;
+    flat_of(alloc, &bytes, main)
+}
+
 /// The plan of a flat program and the bytes of a placement's file.
 pub fn plan_of(alloc: Global, flat: Flat, bytes: &[u8]) -> Result<Plan, Stop>
     ensures flat { IfOk result (λ plan. plan.flat ≡ flat) }
@@ -121,6 +130,21 @@ pub fn inputs_in(alloc: Global, flat: &Flat, bytes: &[u8]) -> Result<Inputs, Sto
         Ok(inputs) => Ok(inputs),
         Err(e) => Err(Stop::Table(e)),
     }
+}
+
+/// The table of a flat program's inputs that stands in the file at the path.
+pub fn inputs_at<F: Files>(
+    alloc: Global,
+    files: &F,
+    flat: &Flat,
+    path: &str,
+) -> Result<Inputs, Stop>
+    ensures table { IfOk result (IsTableAt (F.gives files.now) path.now flat.now) }
+    ensures fit { IfOk result (λ inputs. IsFit flat.now inputs) }
+    ensures stopped { IfErr result (StopsAtTable (F.gives files.now) path.now flat.now) }
+{
+    let bytes = read(alloc, files, path)?;
+    inputs_in(alloc, flat, &bytes)
 }
 
 /// The job of a plan and the bytes of a table's file.

@@ -2,10 +2,12 @@
 //! replays it at two sites by a schedule of its own.
 #![tactic(auto)]
 
+use luplace::Job;
 use lusdist_commands::evaluating::evaluation;
 use lusdist_commands::jobs::job_for;
 use lusdist_commands::{Stop, replayed};
 use lusdist_shell::{EvalRequest, Files, ReadError, WriteError};
+use luweave::World;
 use luweave_text::text_of_world;
 use std::alloc::Global;
 use std::io;
@@ -76,13 +78,33 @@ impl Files for Texts {
     }
 }
 
+/// The table of the outputs of a job.
+fn table_of(alloc: Global, job: &Job) -> Result<String, Stop> {
+    evaluation(alloc, OUTPUTS, &Texts, job.plan().flat(), job.inputs())
+}
+
+/// How a world stands, line by line.
+fn text_of(alloc: Global, job: &Job, world: &World) -> Result<String, Stop> {
+    Ok(text_of_world(alloc, job.plan(), world)?)
+}
+
+/// How the sites of a job stand after the turns.
+fn replay_of(alloc: Global, job: &Job) -> Result<String, Stop> {
+    let world = replayed(alloc, job, &TURNS, true)?;
+    text_of(alloc, job, &world)
+}
+
+/// Both, of a job.
+fn both_of(alloc: Global, job: &Job) -> Result<(String, String), Stop> {
+    let table = table_of(alloc, job)?;
+    let text = replay_of(alloc, job)?;
+    Ok((table, text))
+}
+
 /// The table of the design's outputs, and how its sites stand after the turns.
 fn told(alloc: Global) -> Result<(String, String), Stop> {
     let job = job_for(alloc, &Texts, "design", "placement", "table", "main")?;
-    let table = evaluation(alloc, OUTPUTS, &Texts, job.plan().flat(), job.inputs())?;
-    let world = replayed(alloc, &job, &TURNS, true)?;
-    let text = text_of_world(alloc, job.plan(), &world)?;
-    Ok((table, text))
+    both_of(alloc, &job)
 }
 
 fn main(rt: HostRuntime) -> io::Result<()> {

@@ -63,23 +63,39 @@ impl Files for Counters {
     }
 }
 
-/// Whether a call whose output takes nothing has this status and line.
+/// The words of a command.
+fn words_of(alloc: Global, line: &str) -> Result<Vec<String>, AllocError> {
+    let mut words = Vec::new(alloc);
+    for word in line.split(' ') {
+        words.push(String::from_str(alloc, word)?)?;
+    }
+    Ok(words)
+}
+
+/// Whether a call with these words whose output takes nothing has this status and line.
+fn ends_so<R: Threads + Wait + Sync>(
+    threads: &R,
+    alloc: Global,
+    words: &[String],
+    want: (u8, &str),
+) -> bool {
+    let mut out = Sink::new(Full);
+    let mut err = Sink::new(Vec::new(alloc));
+    let status = serve_words(
+        threads, alloc, words, &Counters, &Silent, &mut out, &mut err,
+    );
+    status == want.0 && err.writer().starts_with(want.1.as_bytes())
+}
+
+/// The same of the words of a line.
 fn stops<R: Threads + Wait + Sync>(
     threads: &R,
     alloc: Global,
     line: &str,
     want: (u8, &str),
 ) -> Result<bool, AllocError> {
-    let mut words = Vec::new(alloc);
-    for word in line.split(' ') {
-        words.push(String::from_str(alloc, word)?)?;
-    }
-    let mut out = Sink::new(Full);
-    let mut err = Sink::new(Vec::new(alloc));
-    let status = serve_words(
-        threads, alloc, &words, &Counters, &Silent, &mut out, &mut err,
-    );
-    Ok(status == want.0 && err.writer().starts_with(want.1.as_bytes()))
+    let words = words_of(alloc, line)?;
+    Ok(ends_so(threads, alloc, &words, want))
 }
 
 const FULL: (u8, &str) = (3, "F02 CannotWrite\n");

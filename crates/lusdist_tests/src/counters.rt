@@ -2,7 +2,7 @@
 //! one so large that the second sum has no value; and what a site is handed.
 
 use luflow::{Body, Datum, Msg, Status};
-use luplace::Job;
+use luplace::{Job, SiteInputs};
 use lusdist_commands::Stop;
 use lusdist_commands::sources::{flat_of, job_of, plan_of};
 use lusdist_plain::{Item, Mark, Marks, list_of_link, marks_of, script_of, world_after};
@@ -169,12 +169,17 @@ fn is_counted(alloc: Global, job: &Job, counted: &Counted) -> Result<bool, Alloc
 
 const TWO_SITES: &str = "sites = [\"A\", \"B\"]\ncapacity = 1\n[place]\na = \"A\"\nb = \"B\"\n";
 
+/// Whether they say so of a program at two sites.
+fn is_counted_at_two(alloc: Global, counted: &Counted) -> Result<bool, Stop> {
+    let job = job(alloc, counted.program, TWO_SITES, "\n\n\n\n")?;
+    Ok(is_counted(alloc, &job, counted)?)
+}
+
 #[test]
 fn counters_count_until_a_fault(rt: HostRuntime) -> Result<(), Fail> {
     for counted in COUNTED {
-        let job = job(rt.alloc(), counted.program, TWO_SITES, "\n\n\n\n")?;
         assert!(rt;
-            is_counted(rt.alloc(), &job, counted)?,
+            is_counted_at_two(rt.alloc(), counted)?,
             "{}",
             counted.program
         );
@@ -183,32 +188,40 @@ fn counters_count_until_a_fault(rt: HostRuntime) -> Result<(), Fail> {
 }
 
 /// Whether the first of two sites has the column of the input over both instants, and the second needs the input and has no column.
-fn is_handed(alloc: Global, job: &Job) -> Result<bool, AllocError> {
-    if job.plan().sites().len() != 2 {
-        return Ok(false);
-    }
-    let own = job.inputs_at(alloc, 0)?;
-    let other = job.inputs_at(alloc, 1)?;
+fn are_given(job: &Job, own: &SiteInputs, other: &SiteInputs) -> bool {
     let data = [
         own.given(0, 0),
         own.given(0, 1),
         own.given(0, 2),
         other.given(0, 0),
     ];
-    Ok(
-        data == [Some(Datum::Int(5)), Some(Datum::Int(7)), None, None]
-            && (own.site(), other.site()) == (0, 1)
-            && (own.instants(), other.instants()) == (2, 2)
-            && job.plan().needs(0).is_empty()
-            && job.plan().needs(1) == [0].as_slice(),
-    )
+    data == [Some(Datum::Int(5)), Some(Datum::Int(7)), None, None]
+        && (own.site(), other.site()) == (0, 1)
+        && (own.instants(), other.instants()) == (2, 2)
+        && job.plan().needs(0).is_empty()
+        && job.plan().needs(1) == [0].as_slice()
+}
+
+/// The same, of the inputs of a job of two sites.
+fn is_handed(alloc: Global, job: &Job) -> Result<bool, AllocError> {
+    if job.plan().sites().len() != 2 {
+        return Ok(false);
+    }
+    let own = job.inputs_at(alloc, 0)?;
+    let other = job.inputs_at(alloc, 1)?;
+    Ok(are_given(job, &own, &other))
+}
+
+/// The same, of a copy at another site.
+fn is_copy_handed(alloc: Global) -> Result<bool, Stop> {
+    let program = "node main(x: int) returns (y: int); let y = x; tel";
+    let place = "sites = [\"A\", \"B\"]\n[place]\nx = \"A\"\ny = \"B\"\n";
+    let job = job(alloc, program, place, "x\n5\n7\n")?;
+    Ok(is_handed(alloc, &job)?)
 }
 
 #[test]
 fn a_site_has_the_columns_of_its_own_inputs_alone(rt: HostRuntime) -> Result<(), Fail> {
-    let program = "node main(x: int) returns (y: int); let y = x; tel";
-    let place = "sites = [\"A\", \"B\"]\n[place]\nx = \"A\"\ny = \"B\"\n";
-    let job = job(rt.alloc(), program, place, "x\n5\n7\n")?;
-    assert!(rt; is_handed(rt.alloc(), &job)?);
+    assert!(rt; is_copy_handed(rt.alloc())?);
     Ok(())
 }

@@ -124,6 +124,22 @@ fn outputs_agree(plain: &Plain, world: &World) -> bool {
     true
 }
 
+/// Whether a world that these turns made is the plain one.
+fn world_agrees(
+    alloc: Global,
+    job: &Job,
+    plain: &Plain,
+    scripts: &[Row<Item>],
+    turns: &[u8],
+    world: &World,
+) -> Result<bool, Stop>
+    requires scripts { AreScripts job.now scripts.now }
+    requires world { world.now.job ≡ job.now }
+{
+    let dones = world_by(alloc, job, scripts, turns)?;
+    Ok(links_agree(job, plain, scripts, world, &dones) && outputs_agree(plain, world))
+}
+
 /// Whether the world after these turns is the plain one.
 fn agrees(
     alloc: Global,
@@ -135,8 +151,7 @@ fn agrees(
     requires { AreScripts job.now scripts.now }
 {
     let world = replayed(alloc, job, turns, false)?;
-    let dones = world_by(alloc, job, scripts, turns)?;
-    Ok(links_agree(job, plain, scripts, &world, &dones) && outputs_agree(plain, &world))
+    world_agrees(alloc, job, plain, scripts, turns, &world)
 }
 
 /// Whether the world after these turns and each eight more is the plain one.
@@ -161,16 +176,38 @@ fn all_agree_after(
 /// Turns to begin with: none, or those of the first messages.
 const FIRST: &[&[u8]] = &[&[], &[0, 0, 0, 0, 0, 1, 1, 1, 1, 1, 2, 2, 2, 2, 2]];
 
+/// Whether that is so behind each of these beginnings.
+fn all_agree(alloc: Global, job: &Job, plain: &Plain, scripts: &[Row<Item>]) -> Result<bool, Stop>
+    requires { AreScripts job.now scripts.now }
+{
+    for first in FIRST {
+        if !all_agree_after(alloc, job, plain, scripts, first)? {
+            return Ok(false);
+        }
+    }
+    Ok(true)
+}
+
+/// The same, by the scripts of a job.
+fn all_agree_by(alloc: Global, job: &Job, plain: &Plain) -> Result<bool, Stop> {
+    let scripts = scripts_of(alloc, job)?;
+    all_agree(alloc, job, plain, &scripts)
+}
+
+/// The same, of a job.
+fn all_agree_of(alloc: Global, job: &Job) -> Result<bool, Stop> {
+    let plain = plain_of(alloc, job)?;
+    all_agree_by(alloc, job, &plain)
+}
+
+/// The same, of a ring of three sites.
+fn all_agree_in_ring(alloc: Global) -> Result<bool, Stop> {
+    let job = job(alloc, RING, THREE_SITES, "\n\n\n")?;
+    all_agree_of(alloc, &job)
+}
+
 #[test]
 fn every_schedule_of_eight_turns(rt: HostRuntime) -> Result<(), Fail> {
-    let job = job(rt.alloc(), RING, THREE_SITES, "\n\n\n")?;
-    let plain = plain_of(rt.alloc(), &job)?;
-    let scripts = scripts_of(rt.alloc(), &job)?;
-    for first in FIRST {
-        assert!(rt;
-            all_agree_after(rt.alloc(), &job, &plain, &scripts, first)?,
-            "{first:?}"
-        );
-    }
+    assert!(rt; all_agree_in_ring(rt.alloc())?);
     Ok(())
 }
