@@ -4,7 +4,7 @@ use lucore::flatten;
 use luflow::{Clock, Datum, Flat, Flow, Form};
 use lustat::{Checked, check};
 use lusyn::read_program;
-use lutree::{BinaryOperator, Kind, UnaryOperator};
+use lutree::{BinaryOperator, Kind, Program, UnaryOperator};
 use std::alloc::Global;
 use std::test::Fail;
 
@@ -266,11 +266,16 @@ const LISTINGS: &[Listing] = &[
     },
 ];
 
+/// The flat program of a program.
+fn flattened(alloc: Global, program: &Program) -> Result<Flat, Fail> {
+    let checked = check(alloc, program, "main")?;
+    Ok(flatten(alloc, &checked)?)
+}
+
 /// The flat program of a text.
 pub(crate) fn flat_of(alloc: Global, text: &str) -> Result<Flat, Fail> {
     let program = read_program(alloc, text)?;
-    let checked = check(alloc, &program, "main")?;
-    Ok(flatten(alloc, &checked)?)
+    flattened(alloc, &program)
 }
 
 fn is_form(form: &Form, shape: &Shape) -> bool {
@@ -307,11 +312,16 @@ fn is_listed(flat: &Flat, listing: &Listing) -> bool {
         && flat.owners() == listing.owners
 }
 
+/// Whether the flat program of a text is what is listed.
+fn has_listed(alloc: Global, listing: &Listing) -> Result<bool, Fail> {
+    let flat = flat_of(alloc, listing.text)?;
+    Ok(is_listed(&flat, listing))
+}
+
 #[test]
 fn flows_stand_in_their_places(rt: HostRuntime) -> Result<(), Fail> {
     for listing in LISTINGS {
-        let flat = flat_of(rt.alloc(), listing.text)?;
-        assert!(rt; is_listed(&flat, listing), "{}", listing.text);
+        assert!(rt; has_listed(rt.alloc(), listing)?, "{}", listing.text);
     }
     Ok(())
 }
@@ -339,10 +349,20 @@ fn lends(checked: &Checked) -> bool {
     }
 }
 
+/// The same of a program that is checked.
+fn lends_all(alloc: Global, program: &Program) -> Result<bool, Fail> {
+    let checked = check(alloc, program, "main")?;
+    Ok(lends(&checked))
+}
+
+/// The same of a text.
+fn lends_of_text(alloc: Global, text: &str) -> Result<bool, Fail> {
+    let program = read_program(alloc, text)?;
+    lends_all(alloc, &program)
+}
+
 #[test]
 fn a_program_that_keeps_all_rules_lends_what_was_found(rt: HostRuntime) -> Result<(), Fail> {
-    let program = read_program(rt.alloc(), CALLER)?;
-    let checked = check(rt.alloc(), &program, "main")?;
-    assert!(rt; lends(&checked));
+    assert!(rt; lends_of_text(rt.alloc(), CALLER)?);
     Ok(())
 }

@@ -86,14 +86,16 @@ const TEXTS: &[(Stage, &str, StatError)] = &[
     ),
 ];
 
+/// Whether a stage tells this fault of a text.
+fn tells_of_text(alloc: Global, stage: Stage, text: &str, fault: StatError) -> Result<bool, Fail> {
+    let program = read_program(alloc, text)?;
+    Ok(tells(alloc, stage, &program, Some(fault))?)
+}
+
 #[test]
 fn a_stage_alone_judges_what_an_earlier_one_refuses(rt: HostRuntime) -> Result<(), Fail> {
     for (stage, text, fault) in TEXTS {
-        let program = read_program(rt.alloc(), text)?;
-        assert!(rt;
-            tells(rt.alloc(), *stage, &program, Some(*fault))?,
-            "{text}"
-        );
+        assert!(rt; tells_of_text(rt.alloc(), *stage, text, *fault)?, "{text}");
     }
     Ok(())
 }
@@ -160,29 +162,58 @@ fn declared(
     Ok(Row::new(vec![in alloc; declaration]?))
 }
 
-/// `node main(c: bool) returns (); var x: bool when c; let = RIGHT; tel`, its equation at byte 7.
-fn nameless(alloc: Global, right: Right) -> Result<Program, AllocError> {
+/// `let = RIGHT; tel`, the equation at byte 7.
+fn equations_of(alloc: Global, right: Right) -> Result<Row<Equation>, AllocError> {
     let equation = Equation {
         left: Row::new(Vec::new(alloc)),
         right: expression(alloc, right)?,
         byte: 7,
     };
+    Ok(Row::new(vec![in alloc; equation]?))
+}
+
+/// `x: bool when c`
+fn sampled(alloc: Global) -> Result<Row<Declaration>, AllocError> {
     let clock = Condition {
         variable: SharedName::from_text(alloc, "c")?,
         pattern: Pattern::Truth(true),
     };
-    let main = Node {
+    declared(alloc, "x", Some(clock))
+}
+
+/// `node main(c: bool) returns (); var x: bool when c; let = RIGHT; tel`
+fn main_node(alloc: Global, right: Right) -> Result<Node, AllocError> {
+    let inputs = declared(alloc, "c", None)?;
+    let locals = sampled(alloc)?;
+    let equations = equations_of(alloc, right)?;
+    Ok(Node {
         name: Name::from_text(alloc, "main")?,
         byte: 0,
-        inputs: declared(alloc, "c", None)?,
+        inputs,
         outputs: Row::new(Vec::new(alloc)),
-        locals: declared(alloc, "x", Some(clock))?,
-        equations: Row::new(vec![in alloc; equation]?),
-    };
+        locals,
+        equations,
+    })
+}
+
+/// A program of this node alone.
+fn nameless(alloc: Global, right: Right) -> Result<Program, AllocError> {
+    let main = main_node(alloc, right)?;
     Ok(Program {
         types: Row::new(Vec::new(alloc)),
         nodes: Row::new(vec![in alloc; main]?),
     })
+}
+
+/// Whether a stage tells this fault of it.
+fn tells_of_nameless(
+    alloc: Global,
+    stage: Stage,
+    right: Right,
+    fault: Option<StatError>,
+) -> Result<bool, AllocError> {
+    let program = nameless(alloc, right)?;
+    tells(alloc, stage, &program, fault)
 }
 
 const WRONG_ARITY: Option<StatError> = Some(StatError::WrongArity { byte: 7 });
@@ -206,8 +237,10 @@ const NAMELESS: &[(Stage, Right, Option<StatError>)] = &[
 #[test]
 fn equations_without_variables_are_judged(rt: HostRuntime) -> Result<(), Fail> {
     for (stage, right, fault) in NAMELESS {
-        let program = nameless(rt.alloc(), *right)?;
-        assert!(rt; tells(rt.alloc(), *stage, &program, *fault)?, "{right:?}");
+        assert!(rt;
+            tells_of_nameless(rt.alloc(), *stage, *right, *fault)?,
+            "{right:?}"
+        );
     }
     Ok(())
 }
@@ -233,13 +266,20 @@ fn finds(catalog: &Catalog) -> bool {
 const TWICE: &str =
     "node f(x: int; c: bool) returns (y: int; x: bool); var v: int when not c; let tel node g() returns (y: int); let tel node f() returns (y: int); let y = 0; z = 1; tel";
 
+/// Whether both are so of a program.
+fn are_meant(alloc: Global, program: &Program) -> Result<bool, AllocError> {
+    let catalog = Catalog::new(alloc, program)?;
+    Ok(finds(&catalog) && catalog.scopes().iter().take(1).all(looks_up))
+}
+
+/// The same of a text.
+fn are_meant_in(alloc: Global, text: &str) -> Result<bool, Fail> {
+    let program = read_program(alloc, text)?;
+    Ok(are_meant(alloc, &program)?)
+}
+
 #[test]
 fn names_mean_what_stands_first(rt: HostRuntime) -> Result<(), Fail> {
-    let program = read_program(rt.alloc(), TWICE)?;
-    let catalog = Catalog::new(rt.alloc(), &program)?;
-    assert!(rt; finds(&catalog));
-    for scope in catalog.scopes().iter().take(1) {
-        assert!(rt; looks_up(scope));
-    }
+    assert!(rt; are_meant_in(rt.alloc(), TWICE)?);
     Ok(())
 }

@@ -60,12 +60,17 @@ fn is_answer(alloc: Global, flat: &Flat, inputs: &Inputs, want: Want) -> bool {
 }
 
 /// Whether this is the answer at a table.
-fn is_answered(alloc: Global, text: &str, table: Table, want: Want) -> Result<bool, Fail> {
-    let flat = flat_of(alloc, text)?;
+fn is_answer_at(alloc: Global, flat: &Flat, table: Table, want: Want) -> Result<bool, AllocError> {
     match inputs_of(alloc, table)? {
-        Some(inputs) => Ok(is_answer(alloc, &flat, &inputs, want)),
+        Some(inputs) => Ok(is_answer(alloc, flat, &inputs, want)),
         None => Ok(false),
     }
+}
+
+/// The same of a text.
+fn is_answered(alloc: Global, text: &str, table: Table, want: Want) -> Result<bool, Fail> {
+    let flat = flat_of(alloc, text)?;
+    Ok(is_answer_at(alloc, &flat, table, want)?)
 }
 
 const FIRST: Status = Status::Present(Datum::Name(0));
@@ -153,15 +158,29 @@ const TABLES: &[(Table, Option<bool>)] = &[
     ((2, &[ONES, ("c", &[Datum::Bool(true)])]), None),
 ];
 
+/// Whether a table fits a program so.
+fn fits_so(
+    alloc: Global,
+    flat: &Flat,
+    table: Table,
+    want: Option<bool>,
+) -> Result<bool, AllocError> {
+    match inputs_of(alloc, table)? {
+        Some(inputs) => Ok(want == Some(inputs.fits(flat))),
+        None => Ok(want.is_none()),
+    }
+}
+
+/// The same of the program above.
+fn fits_samples(alloc: Global, table: Table, want: Option<bool>) -> Result<bool, Fail> {
+    let flat = flat_of(alloc, SAMPLES)?;
+    Ok(fits_so(alloc, &flat, table, want)?)
+}
+
 #[test]
 fn a_table_fits_by_its_names_and_its_types(rt: HostRuntime) -> Result<(), Fail> {
-    let flat = flat_of(rt.alloc(), SAMPLES)?;
     for (table, want) in TABLES {
-        let inputs = inputs_of(rt.alloc(), *table)?;
-        assert!(rt;
-            inputs.map(|inputs| inputs.fits(&flat)) == *want,
-            "{table:?}"
-        );
+        assert!(rt; fits_samples(rt.alloc(), *table, *want)?, "{table:?}");
     }
     Ok(())
 }
@@ -200,7 +219,20 @@ fn outputs_have_one_length_and_keep_their_columns(rt: HostRuntime) -> Result<(),
     Ok(())
 }
 
-/// Whether the table of these outputs of a program is written so.
+/// Whether the table of these outputs of a flat program is written so.
+fn is_written_of(
+    alloc: Global,
+    flat: &Flat,
+    columns: &[&[Status]],
+    text: &str,
+) -> Result<bool, AllocError> {
+    match outputs(alloc, columns)? {
+        Some(outputs) => Ok(write_outputs(alloc, flat, &outputs)?.as_str() == text),
+        None => Ok(false),
+    }
+}
+
+/// The same of a program.
 fn is_written(
     alloc: Global,
     program: &str,
@@ -208,10 +240,7 @@ fn is_written(
     text: &str,
 ) -> Result<bool, Fail> {
     let flat = flat_of(alloc, program)?;
-    match outputs(alloc, columns)? {
-        Some(outputs) => Ok(write_outputs(alloc, &flat, &outputs)?.as_str() == text),
-        None => Ok(false),
-    }
+    Ok(is_written_of(alloc, &flat, columns, text)?)
 }
 
 #[test]

@@ -1,6 +1,6 @@
 //! A job of two sites, of which the first sends its input to the second: its link carries 0, 1, 2 and so on.
 
-use luplace::Job;
+use luplace::{Job, Plan};
 use lusdist_commands::Stop;
 use lusdist_commands::sources::{flat_of, job_of, plan_of};
 use std::alloc::{AllocError, Global};
@@ -19,10 +19,15 @@ fn table_of(alloc: Global, instants: u32) -> Result<String, AllocError> {
     Ok(table)
 }
 
+/// The plan of the two sites.
+fn plan_of_two(alloc: Global) -> Result<Plan, Stop> {
+    let flat = flat_of(alloc, PROGRAM, "main")?;
+    plan_of(alloc, flat, TWO_SITES)
+}
+
 /// The job over so many instants.
 pub fn job_of_numbers(alloc: Global, instants: u32) -> Result<Job, Stop> {
-    let flat = flat_of(alloc, PROGRAM, "main")?;
-    let plan = plan_of(alloc, flat, TWO_SITES)?;
     let table = table_of(alloc, instants)?;
+    let plan = plan_of_two(alloc)?;
     job_of(alloc, plan, table.as_bytes())
 }

@@ -112,18 +112,19 @@ fn nanos_since(clock: &impl Clock, start: &Instant) -> io::Result<u64> {
     Ok(whole.saturating_add(u64::from(span.subsec_nanos())))
 }
 
-/// Writes what a line comes to; of a case that is done several times, how long it took too.
-fn tell<R: Threads + Wait + Sync + Clock + Print>(
+/// Does a case over a job's list, and writes what it comes to; of one that is done several times, how long it took too.
+fn timed<R: Threads + Wait + Sync + Clock + Print>(
     rt: &R,
     alloc: Global,
     job: &Job,
+    list: &[Msg],
     task: Task<'_>,
 ) -> io::Result<()>
-    requires { 0 < task.capacity }
+    requires capacity { 0 < task.capacity }
+    requires list { list.now ≡ list_of job.now 0 }
 {
-    let list = list_of_link(alloc, job, 0)?;
     let start = Instant::now(rt)?;
-    let told = done(rt, alloc, job, list.as_slice(), task);
+    let told = done(rt, alloc, job, list, task);
     let nanos = nanos_since(rt, &start)?;
     let messages = (list.len() as u64).saturating_mul(u64::from(task.runs));
     match told {
@@ -133,17 +134,39 @@ fn tell<R: Threads + Wait + Sync + Clock + Print>(
     }
 }
 
+/// Writes what a task comes to, over a job.
+fn tell<R: Threads + Wait + Sync + Clock + Print>(
+    rt: &R,
+    alloc: Global,
+    job: &Job,
+    task: Task<'_>,
+) -> io::Result<()>
+    requires { 0 < task.capacity }
+{
+    let list = list_of_link(alloc, job, 0)?;
+    timed(rt, alloc, job, list.as_slice(), task)
+}
+
+/// Writes what a line comes to.
+fn take_line<R: Threads + Wait + Sync + Clock + Print>(
+    rt: &R,
+    alloc: Global,
+    line: &str,
+) -> io::Result<()> {
+    let Some(task) = task_of(line) else {
+        return Ok(());
+    };
+    match job_of_numbers(alloc, task.instants) {
+        Ok(job) => tell(rt, alloc, &job, task),
+        Err(_) => println!(rt; "! no job"),
+    }
+}
+
 fn main(rt: HostRuntime) -> io::Result<()> {
     for line in rt.lines(rt.alloc()) {
         let line = line?;
         println!(rt; "{line}")?;
-        let Some(task) = task_of(line.as_str()) else {
-            continue;
-        };
-        match job_of_numbers(rt.alloc(), task.instants) {
-            Ok(job) => tell(&rt, rt.alloc(), &job, task)?,
-            Err(_) => println!(rt; "! no job")?,
-        }
+        take_line(&rt, rt.alloc(), line.as_str())?;
     }
     Ok(())
 }

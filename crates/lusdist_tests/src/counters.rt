@@ -187,8 +187,8 @@ fn counters_count_until_a_fault(rt: HostRuntime) -> Result<(), Fail> {
     Ok(())
 }
 
-/// Whether the first of two sites has the column of the input over both instants, and the second needs the input and has no column.
-fn are_given(job: &Job, own: &SiteInputs, other: &SiteInputs) -> bool {
+/// Whether the first of two sites has the column of the input over both instants, and the second has none.
+fn are_given(own: &SiteInputs, other: &SiteInputs) -> bool {
     let data = [
         own.given(0, 0),
         own.given(0, 1),
@@ -198,18 +198,17 @@ fn are_given(job: &Job, own: &SiteInputs, other: &SiteInputs) -> bool {
     data == [Some(Datum::Int(5)), Some(Datum::Int(7)), None, None]
         && (own.site(), other.site()) == (0, 1)
         && (own.instants(), other.instants()) == (2, 2)
-        && job.plan().needs(0).is_empty()
-        && job.plan().needs(1) == [0].as_slice()
 }
 
-/// The same, of the inputs of a job of two sites.
+/// Whether two sites are handed that, and the second needs the input.
 fn is_handed(alloc: Global, job: &Job) -> Result<bool, AllocError> {
     if job.plan().sites().len() != 2 {
         return Ok(false);
     }
+    let needs = job.plan().needs(0).is_empty() && job.plan().needs(1) == [0].as_slice();
     let own = job.inputs_at(alloc, 0)?;
     let other = job.inputs_at(alloc, 1)?;
-    Ok(are_given(job, &own, &other))
+    Ok(needs && are_given(&own, &other))
 }
 
 /// The same, of a copy at another site.
