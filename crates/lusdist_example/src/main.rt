@@ -2,12 +2,14 @@
 //! replays it at two sites by a schedule of its own.
 #![tactic(auto)]
 
+ghost use Rattle.std.specs.Prelude.{◌<◌, length};
+ghost use Rattle.luflow.specs.Variables.{outputs_of};
+
 use luplace::Job;
 use lusdist_commands::evaluating::evaluation;
 use lusdist_commands::jobs::job_for;
 use lusdist_commands::{Stop, replayed};
 use lusdist_shell::{EvalRequest, Files, ReadError, WriteError};
-use luweave::World;
 use luweave_text::text_of_world;
 use std::alloc::Global;
 use std::io;
@@ -79,23 +81,22 @@ impl Files for Texts {
 }
 
 /// The table of the outputs of a job.
-fn table_of(alloc: Global, job: &Job) -> Result<String, Stop> {
+fn table_of(alloc: Global, job: &Job) -> Result<String, Stop>
+    requires { 0 < length (outputs_of job.now.plan.flat.variables) }
+{
     evaluation(alloc, OUTPUTS, &Texts, job.plan().flat(), job.inputs())
-}
-
-/// How a world stands, line by line.
-fn text_of(alloc: Global, job: &Job, world: &World) -> Result<String, Stop> {
-    Ok(text_of_world(alloc, job.plan(), world)?)
 }
 
 /// How the sites of a job stand after the turns.
 fn replay_of(alloc: Global, job: &Job) -> Result<String, Stop> {
     let world = replayed(alloc, job, &TURNS, true)?;
-    text_of(alloc, job, &world)
+    Ok(text_of_world(alloc, job.plan(), &world)?)
 }
 
 /// Both, of a job.
-fn both_of(alloc: Global, job: &Job) -> Result<(String, String), Stop> {
+fn both_of(alloc: Global, job: &Job) -> Result<(String, String), Stop>
+    requires { 0 < length (outputs_of job.now.plan.flat.variables) }
+{
     let table = table_of(alloc, job)?;
     let text = replay_of(alloc, job)?;
     Ok((table, text))
