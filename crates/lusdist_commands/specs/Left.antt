@@ -1,7 +1,7 @@
 -- What a call leaves in its two streams and in the file of a dump, and with which status it ends.
 use Rattle.std.specs.Prelude.{◌≡◌, ◌⊎◌, ℕ, true, List, [], Option, codes}
 use Rattle.std.specs.Io.KnownBytes.{Appends}
-use Rattle.clap.specs.Words.{IsAmong}
+use Rattle.clap.specs.Words.{fault_of, IsAmong}
 use Rattle.clap.specs.declared.error.kind.ErrorKind.{ErrorKind}
 use Rattle.clap.specs.declared.error.kind.ErrorKind.TheVariants.{DisplayHelp, DisplayVersion}
 use Rattle.lusdist_shell.specs.declared.request.Request.{Request}
@@ -11,7 +11,8 @@ use Rattle.lusdist_commands.specs.Filed.{IsUnwritten}
 use Rattle.lusdist_commands.specs.Waved.{IsReplayDumped, IsRunDumped}
 use Rattle.lusdist_shell.specs.declared.sink.Sink.{Sink}
 use Rattle.lusdist_shell.specs.Sinks.{HasPut, HasLine, HasBeginning}
-use Rattle.lusdist_shell.specs.Request.{IsAskedBy, faults_of}
+use Rattle.lusdist_shell.specs.CommandLine.{lusdist}
+use Rattle.lusdist_shell.specs.Request.{IsAskedBy}
 use Rattle.lusdist_commands.specs.declared.stop.Stop.{Stop}
 use Rattle.lusdist_commands.specs.Asked.{IsAnswer, AreNotes}
 use Rattle.lusdist_commands.specs.Stopped.{IsRequestStopped}
@@ -78,7 +79,7 @@ IsHelp kind = (kind ≡ DisplayHelp) ⊎ (kind ≡ DisplayVersion)
 -- mistake in the words; and with 3 where memory ran out before they were read, or help couldn't be written.
 pub data IsCallEnded {W V : Type 0} (gives : List ℕ → Option (List ℕ) → Type 0) (takes : List ℕ → Option (List ℕ) → Type 0) (words : List (List ℕ)) (status : ℕ) (streams : Streams W V) : Type 0 where
   asked : (request : Request) → IsAskedBy words request → IsEnded gives takes request status streams → IsCallEnded gives takes words status streams
-  helped : (kind : ErrorKind) → IsAmong kind (faults_of words) → IsHelp kind → status ≡ 0 → streams.err_after ≡ streams.err → IsCallEnded gives takes words status streams
-  mistaken : (kind : ErrorKind) → IsAmong kind (faults_of words) → ¬ IsHelp kind → status ≡ 2 → streams.out_after ≡ streams.out → IsCallEnded gives takes words status streams
+  helped : (kind : ErrorKind) → IsAmong kind (fault_of lusdist words) → IsHelp kind → status ≡ 0 → streams.err_after ≡ streams.err → IsCallEnded gives takes words status streams
+  mistaken : (kind : ErrorKind) → IsAmong kind (fault_of lusdist words) → ¬ IsHelp kind → status ≡ 2 → streams.out_after ≡ streams.out → IsCallEnded gives takes words status streams
   no_memory : status ≡ 3 → HasError streams (codes "R2 OutOfMemory") → IsCallEnded gives takes words status streams
-  no_help : (kind : ErrorKind) → IsAmong kind (faults_of words) → IsHelp kind → status ≡ 3 → HasNoOutput streams → IsCallEnded gives takes words status streams
+  no_help : (kind : ErrorKind) → IsAmong kind (fault_of lusdist words) → IsHelp kind → status ≡ 3 → HasNoOutput streams → IsCallEnded gives takes words status streams

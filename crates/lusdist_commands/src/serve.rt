@@ -2,7 +2,9 @@
 
 ghost use Rattle.std.specs.Prelude.{◌≡◌, ◌<◌, ◌⊎◌, ℕ, [], length, true, List, map, IfOk, IfErr, None, OnOk, string_bytes, codes};
 ghost use Rattle.std.specs.Io.KnownBytes.{Appends};
-ghost use Rattle.lusdist_shell.specs.Request.{AreFew, HasFewWorkers, is_taken};
+ghost use Rattle.clap.specs.Words.{takes};
+ghost use Rattle.lusdist_shell.specs.CommandLine.{lusdist};
+ghost use Rattle.lusdist_shell.specs.Request.{AreFew, HasFewWorkers};
 ghost use Rattle.lusdist_shell.specs.Sinks.{HasPut, HasLine, HasBeginning};
 ghost use Rattle.luweave.specs.Headline.{IsFaithful};
 ghost use Rattle.luweave_text.specs.Traced.{IsTraced};
@@ -392,7 +394,7 @@ pub fn serve_words<R: Threads + Wait + Sync, F: Files, P: Progress, W: Write, V:
         }) }
 
     // Where the command line takes the words and the call is done, the text that they ask for went to the output.
-    ensures done { is_taken (map string_bytes words.entry.now) ≡ true → result ≡ 0
+    ensures done { takes lusdist (map string_bytes words.entry.now) ≡ true → result ≡ 0
         → (text : List ℕ) × IsDone (F.gives files.now) (map string_bytes words.entry.now) text
         × Appends (W.contents out.old.writer) (W.contents out.new.writer) text }
 
@@ -402,7 +404,7 @@ pub fn serve_words<R: Threads + Wait + Sync, F: Files, P: Progress, W: Write, V:
     // Where a text is refused, it is for what the text says; and where words that the command line takes end with status 2, a
     // file can't be read, or no page has the code that is to be explained.
     ensures text { result ≡ 1 → IsRefusal (F.gives files.now) (map string_bytes words.entry.now) 1 }
-    ensures file { is_taken (map string_bytes words.entry.now) ≡ true → result ≡ 2
+    ensures file { takes lusdist (map string_bytes words.entry.now) ≡ true → result ≡ 2
         → IsRefusal (F.gives files.now) (map string_bytes words.entry.now) 2 }
 
     // Where the call is done and no turns are to be told, nothing goes to the error stream.

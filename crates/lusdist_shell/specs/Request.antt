@@ -3,11 +3,8 @@ use Rattle.std.specs.Prelude.{◌≡◌, ◌⊎◌, ◌≤◌, ℕ, Bool, IfSome
 use Rattle.std.specs.Str.{bytes_eq}
 use Rattle.std.specs.Str.Parse.{digits_value, without_leading_plus}
 use Rattle.clap.specs.Values.{IsUnsignedIn}
-use Rattle.clap.specs.Faults.{fault_of}
-use Rattle.clap.specs.Kinds.{Kinds}
 use Rattle.clap.specs.Walk.{Row, Text, first_of}
 use Rattle.clap.specs.Simple.{subcommand_of}
-use Rattle.clap.specs.Takes.{takes}
 use Rattle.lusdist_shell.specs.declared.request.CheckRequest.{CheckRequest}
 use Rattle.lusdist_shell.specs.declared.request.EvalRequest.{EvalRequest}
 use Rattle.lusdist_shell.specs.declared.request.ExplainRequest.{ExplainRequest}
@@ -140,22 +137,6 @@ abbrev pub HasFewWorkers : Request → Type 0
 HasFewWorkers (Run request) = AreFew request.workers
 HasFewWorkers _ = Unit {0}
 
--- WORDS
-
--- The three are unfolded where the words are parsed, and nowhere else: written out, the command line is long.
-
--- whether the command line takes the words
-unfoldable pub is_taken : List Text → Bool
-is_taken words = takes lusdist words
-
--- what is wrong with words that it doesn't take, in the parser's kinds
-unfoldable pub faults_of : List Text → Kinds
-faults_of words = fault_of lusdist words
-
--- the command that the words name, and what they give its arguments
-unfoldable pub command_of : List Text → Option (Text × List Row)
-command_of words = subcommand_of lusdist words
-
 -- The request is for the command that the words name, with what they give its arguments.
 abbrev pub IsAskedBy : List Text → Request → Type 0
-IsAskedBy words request = IsFoundIn (command_of words) request
+IsAskedBy words request = IsFoundIn (subcommand_of lusdist words) request

@@ -1,9 +1,10 @@
 //! What the command line asks for.
 
 ghost use Rattle.std.specs.Prelude.{◌≡◌, IfOk, IfErr, map, option_map, true, string_bytes, codes, Some};
-ghost use Rattle.clap.specs.Words.{kind_of, found_of, first_of, rows_of, subcommand_rows_of, FailsBy};
+ghost use Rattle.clap.specs.Words.{kind_of, takes, found_of, first_of, rows_of, subcommand_of, subcommand_rows_of, FailsBy, fault_of};
 ghost use Rattle.clap.specs.declared.error.kind.ErrorKind.TheVariants.{OutOfMemory};
-ghost use Rattle.lusdist_shell.specs.Request.{text_in, is_given, form_in, turns_in, IsCommand, IsCheckIn, IsEvalIn, IsPlanIn, IsReplayIn, IsRunIn, IsExplainIn, IsInstantIn, AreWorkersIn, AreFew, HasFewWorkers, IsFoundIn, IsAskedBy, is_taken, faults_of, command_of};
+ghost use Rattle.lusdist_shell.specs.CommandLine.{lusdist};
+ghost use Rattle.lusdist_shell.specs.Request.{text_in, is_given, form_in, turns_in, IsCommand, IsCheckIn, IsEvalIn, IsPlanIn, IsReplayIn, IsRunIn, IsExplainIn, IsInstantIn, AreWorkersIn, AreFew, HasFewWorkers, IsFoundIn, IsAskedBy};
 
 use crate::command::lusdist;
 use clap::{ArgMatches, Error};
@@ -341,10 +342,10 @@ fn request_in<'a>(matches: &ArgMatches<'a>) -> Request<'a>
 fn matches_in<'a>(alloc: Global, words: &'a [String]) -> Result<ArgMatches<'a>, Error>
     ensures command { IfOk result (λ m. IsCommand (subcommand_rows_of m)) }
     ensures matches { IfOk result (λ m. subcommand_rows_of m
-        ≡ command_of (map string_bytes words.entry.now)) }
-    ensures taken { IfErr result (λ e. is_taken (map string_bytes words.entry.now) ≡ true
+        ≡ subcommand_of lusdist (map string_bytes words.entry.now)) }
+    ensures taken { IfErr result (λ e. takes lusdist (map string_bytes words.entry.now) ≡ true
         → kind_of e ≡ OutOfMemory) }
-    ensures refused { FailsBy (faults_of (map string_bytes words.entry.now)) result }
+    ensures refused { FailsBy (fault_of lusdist (map string_bytes words.entry.now)) result }
 {
     lusdist(alloc)?.try_get_matches_from(words)
 }
@@ -356,11 +357,11 @@ pub fn parse<'a>(alloc: Global, words: &'a [String]) -> Result<Request<'a>, Erro
     ensures few { IfOk result HasFewWorkers }
 
     // Words that the command line takes are refused for want of memory alone.
-    ensures taken { IfErr result (λ e. is_taken (map string_bytes words.entry.now) ≡ true
+    ensures taken { IfErr result (λ e. takes lusdist (map string_bytes words.entry.now) ≡ true
         → kind_of e ≡ OutOfMemory) }
 
     // Other words are refused for what is wrong with them.
-    ensures refused { FailsBy (faults_of (map string_bytes words.entry.now)) result }
+    ensures refused { FailsBy (fault_of lusdist (map string_bytes words.entry.now)) result }
 {
     let matches = matches_in(alloc, words)?;
     Ok(request_in(&matches))
