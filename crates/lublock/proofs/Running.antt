@@ -16,7 +16,7 @@ use Rattle.lublock.specs.Shown.{Column, AllNear, IsReady, IsRightBlock, StandsAt
 pub ready_stands : (flat : FlatProgram) (inputs : Table) (σ : Streams) (t len : ℕ) (board : Board) → IsReady flat inputs σ t board → StandsOn flat inputs σ t len board
 ready_stands flat inputs σ t len board ready = record {
   begins = ready.begins;
-  done = λ i n flow there l. absurd (let e = ready.upto i in omega (arith, e, l));
+  done = λ i n flow there now l. absurd (let e = ready.upto i in omega (arith, e, l));
   counts = λ i flow there on. absurd (let e : true ≡ false = sym on ∙ ready.known i in cc);
 }
 

@@ -9,6 +9,8 @@ ghost use Rattle.lublock.specs.Blocks.{IsRight};
 ghost use Rattle.lublock.specs.Machine.{IsWhole, StandsOn, StandsStill, block_of};
 
 use crate::board::Board;
+use crate::closing::closes;
+use crate::cycle::{Back, Cycle};
 use crate::plan::{Plan, Step};
 use crate::span::Span;
 use luflow::{Flat, Inputs};
@@ -49,52 +51,53 @@ impl Board {
         }
     }
 
-    /// Finds the next words of some flows, one of each.
-    fn tick(&mut self, flat: &Flat, members: &[usize]) -> bool
+    /// Supposes what the `pre`s of a pace give.
+    fn suppose_all(&mut self, flat: &Flat, backs: &[Back]) -> bool
         ensures stands { (inputs : Table) (t len : ℕ)
             → StandsStill flat.now inputs t len self.old self.new }
         ensures flows { length self.new.spans.items ≡ length self.old.spans.items }
     {
-        for i in members {
-            if self.next(flat, *i) {
+        for back in backs {
+            let Some(words) = back.words.as_slice().get(..back.count) else {
+                return true;
+            };
+            if self.suppose(flat, back.flow, words) {
                 return true;
             }
         }
         false
     }
 
-    /// Counts the ticks of some flows.
-    fn count_all(&mut self, flat: &Flat, len: usize, members: &[usize]) -> bool
+    /// How many ticks a cycle has whose clock is that of this flow.
+    fn ticks_of(&mut self, flat: &Flat, len: usize, lead: Option<usize>) -> Option<usize>
         ensures stands { (inputs : Table) (t : ℕ)
             → StandsStill flat.now inputs t len self.old self.new }
         ensures flows { length self.new.spans.items ≡ length self.old.spans.items }
     {
-        for i in members {
-            if self.count(flat, len, *i) {
-                return true;
-            }
+        let Some(i) = lead else {
+            return Some(len);
+        };
+        if self.count(flat, len, i) {
+            return None;
         }
-        false
+        match self.spans.get(i) {
+            Some(span) => Some(span.ticks),
+            None => None,
+        }
     }
 
-    /// Finds all words of some flows of one clock, tick by tick.
-    fn cycle(&mut self, flat: &Flat, len: usize, members: &[usize]) -> bool
+    /// Goes through a cycle, instant by instant, and supposes what its `pre`s give.
+    fn cycle(&mut self, flat: &Flat, len: usize, cycle: &mut Cycle) -> bool
         ensures stands { (inputs : Table) (t : ℕ)
             → StandsStill flat.now inputs t len self.old self.new }
         ensures flows { length self.new.spans.items ≡ length self.old.spans.items }
     {
-        if self.count_all(flat, len, members) {
-            return true;
-        }
-        let Some(first) = members.first() else {
-            return false;
-        };
-        let Some(span) = self.spans.get(*first) else {
+        let Some(ticks) = self.ticks_of(flat, len, cycle.lead) else {
             return true;
         };
-        let ticks = span.ticks;
-        for _j in 0..ticks {
-            if self.tick(flat, members) {
+        cycle.run(self.rows.as_slice(), ticks);
+        for pace in &cycle.paces {
+            if self.suppose_all(flat, pace.backs.as_slice()) {
                 return true;
             }
         }
@@ -107,7 +110,7 @@ impl Board {
         alloc: Global,
         flat: &Flat,
         inputs: &Inputs,
-        plan: &Plan,
+        cycles: &mut [Cycle],
         t: usize,
         len: usize,
         step: Step,
@@ -117,8 +120,8 @@ impl Board {
     {
         match step {
             Step::Column(i) => self.column(alloc, flat, inputs, t, len, i),
-            Step::Cycle(first, end) => match plan.members.as_slice().get(first..end) {
-                Some(members) => self.cycle(flat, len, members),
+            Step::Cycle(k) => match cycles.get_mut(k) {
+                Some(cycle) => self.cycle(flat, len, cycle),
                 None => true,
             },
         }
@@ -130,7 +133,7 @@ impl Board {
         alloc: Global,
         flat: &Flat,
         inputs: &Inputs,
-        plan: &Plan,
+        plan: &mut Plan,
         t: usize,
         len: usize,
     ) -> bool
@@ -138,7 +141,8 @@ impl Board {
         ensures flows { length self.new.spans.items ≡ length self.old.spans.items }
     {
         for step in &plan.steps {
-            if self.step(alloc, flat, inputs, plan, t, len, *step) {
+            let cycles = plan.cycles.as_mut_slice();
+            if self.step(alloc, flat, inputs, cycles, t, len, *step) {
                 return true;
             }
         }
@@ -151,7 +155,7 @@ impl Board {
         alloc: Global,
         flat: &Flat,
         inputs: &Inputs,
-        plan: &Plan,
+        plan: &mut Plan,
         t: usize,
         len: usize,
     ) -> bool
@@ -169,5 +173,6 @@ impl Board {
             return true;
         }
         !is_whole(self.spans.as_slice())
+            || !closes(flat, self.rows.as_slice(), self.spans.as_slice())
     }
 }

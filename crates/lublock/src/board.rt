@@ -1,24 +1,20 @@
 //! The rows of all flows, and how far each has come in the block.
 
-ghost use Rattle.std.specs.Prelude.{◌≡◌, ◌<◌, ◌+◌, ◌^◌, ◌||◌, ℕ, length, true, false, IfOk, IfSome, Some, nat_lt, replicate};
+ghost use Rattle.std.specs.Prelude.{◌≡◌, ◌<◌, ◌||◌, ℕ, length, true, false, IfOk, IfSome, Some, nat_lt, replicate};
 ghost use Rattle.luflow.specs.Program.{Table};
 ghost use Rattle.luflow.specs.declared.form.Flow.{Flow};
-ghost use Rattle.lublock_rows.specs.Rows.{IsPut, Keeps, word_in};
+ghost use Rattle.lublock_rows.specs.Rows.{Keeps, word_in};
 ghost use Rattle.lublock.specs.Machine.{IsAfter, IsCount, StandsStill, WritesForm, row_of, ticks_of, upto_of, was_of, known_of};
 
 use crate::clocked::ticks_at;
-use crate::forms::{clock_at, flow_of, kind_at, read};
+use crate::forms::{clock_at, flow_of, is_pre, kind_at, read};
 use crate::solve::solve_form;
 use crate::span::Span;
-use crate::ticks::tick_form;
 use lublock_rows::clocks::count;
 use lublock_rows::rows::put;
 use luflow::{Clock, Datum, Flat, Flow, Inputs};
 use std::alloc::{AllocError, Global};
 use std::mem;
-
-/// More ticks than any block has.
-const MOST_TICKS: usize = 65536;
 
 /// A row of words for each flow, and how far it has come.
 #[derive(Drop)]
@@ -199,57 +195,46 @@ impl Board {
     }
 }
 
-/// Puts the word of a row's tick.
-fn put_word(row: &mut Vec<i64>, tick: usize, word: i64)
-    requires { tick + 1 < length row.old.items }
-    ensures { IsPut row.old.items tick word row.new.items }
+/// Puts words behind a row's first one.
+fn put_all(row: &mut [i64], words: &[i64])
+    requires { length words.now < length row.old }
+    ensures { Keeps 0 row.old row.new }
 {
-    put(row.as_mut_slice(), tick, word);
-}
-
-/// The span of a flow that has one word more.
-fn longer(span: Span) -> Span
-    requires { span.upto < 2 ^ 32 }
-    ensures { result ≡ record {
-      ticks = span.ticks;
-      upto = span.upto + 1;
-      was = span.was;
-      known = span.known;
-    } }
-{
-    Span {
-        ticks: span.ticks,
-        upto: span.upto + 1,
-        was: span.was,
-        known: span.known,
+    for m in 0..words.len() {
+        put(row, m, words[m]);
     }
 }
 
+/// Puts words behind a row's first one.
+fn put_words(row: &mut Vec<i64>, words: &[i64])
+    requires { length words.now < length row.old.items }
+    ensures { Keeps 0 row.old.items row.new.items }
+{
+    put_all(row.as_mut_slice(), words);
+}
+
 impl Board {
-    /// Finds the next word of flow i; whether it has none, or what is read isn't there.
-    pub fn next(&mut self, flat: &Flat, i: usize) -> bool
+    /// Supposes the words of a `pre`, of which it has none yet; whether they can't be put. Nothing is known of them before it is seen that they
+    /// are right.
+    pub fn suppose(&mut self, flat: &Flat, i: usize, words: &[i64]) -> bool
         ensures stands { (inputs : Table) (t len : ℕ)
             → StandsStill flat.now inputs t len self.old self.new }
         ensures flows { length self.new.spans.items ≡ length self.old.spans.items }
     {
-        let Some(flow) = flow_of(flat, i) else {
-            return true;
-        };
-        if self.spans.len() <= i || self.rows.len() <= i {
+        if !is_pre(flat, i) || self.spans.len() <= i || self.rows.len() <= i {
             return true;
         }
         let span = self.spans[i];
-        if MOST_TICKS <= span.upto || self.rows[i].len() <= span.upto + 1 {
+        if span.upto != 0 || self.rows[i].len() <= words.len() {
             return true;
         }
-        let rows = self.rows.as_slice();
-        let spans = self.spans.as_slice();
-        let (word, none) = tick_form(flat, rows, spans, i, flow, span.upto);
-        if none {
-            return true;
-        }
-        put_word(&mut self.rows[i], span.upto, word);
-        self.spans[i] = longer(span);
+        put_words(&mut self.rows[i], words);
+        self.spans[i] = Span {
+            ticks: span.ticks,
+            upto: words.len(),
+            was: span.was,
+            known: span.known,
+        };
         false
     }
 }

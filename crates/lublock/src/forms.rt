@@ -8,7 +8,7 @@ ghost use Rattle.luflow.specs.Program.{FlatProgram, Table, column_of, flow_at};
 ghost use Rattle.luflow.specs.Operators.{makes};
 ghost use Rattle.lublock.specs.Blocks.{kind_at, clock_of};
 ghost use Rattle.lublock_rows.specs.Rows.{Keeps};
-ghost use Rattle.lublock.specs.Machine.{IsRead, WritesForm, upto_of, was_of};
+ghost use Rattle.lublock.specs.Machine.{IsPre, IsRead, WritesForm, upto_of, was_of};
 
 use crate::span::Span;
 use lublock_rows::doubles::write_doubles;
@@ -16,7 +16,7 @@ use lublock_rows::singles::{
     word_for, write_arrow, write_constant, write_copied, write_if, write_input, write_pre,
     write_singles,
 };
-use luflow::{Clock, Datum, Flat, Flow, Inputs};
+use luflow::{Clock, Datum, Flat, Flow, Form, Inputs};
 use lutree::{BinaryOperator, Kind, UnaryOperator};
 
 /// The flow of a place.
@@ -43,6 +43,19 @@ pub fn clock_at(flat: &Flat, r: usize) -> Option<Clock>
     match flat.flows().get(r) {
         Some(flow) => Some(flow.clock),
         None => None,
+    }
+}
+
+/// Whether a flow is a `pre`.
+pub fn is_pre(flat: &Flat, r: usize) -> bool
+    ensures { result ≡ true → IsPre flat.now r }
+{
+    match flat.flows().get(r) {
+        Some(flow) => match flow.form {
+            Form::Pre(_) => true,
+            _ => false,
+        },
+        None => false,
     }
 }
 

@@ -7,13 +7,16 @@
 mod block;
 mod board;
 mod clocked;
+mod closing;
+mod cycle;
 mod forms;
 pub mod laws;
+mod lines;
 mod plan;
+mod reads;
 mod run;
 mod show;
 mod solve;
 mod span;
-mod ticks;
 
 pub use run::block_outputs;

@@ -1,256 +1,229 @@
 //! The order in which a block's flows are worked out. What is read is tested where it is read, so nothing depends on the order but the
 //! time that it takes.
 
-use luflow::{Clock, Flat, Flow, Form, Role};
+use crate::cycle::Cycle;
+use crate::forms::is_pre;
+use crate::reads::{reads_itself, read_of};
+use luflow::{Clock, Flat, Role};
 use std::alloc::{AllocError, Global};
 
-/// How often all flows are gone over for an order.
-const ROUNDS: usize = 256;
+/// More steps than the search for cycles takes: one for each flow and for each thing that a flow reads.
+const MOST_STEPS: usize = 16_777_216;
 
-/// From how many flows it is looked what they lead to.
-const TRIES: usize = 1_024;
-
-/// What is done at a time: all ticks of one flow; or some flows of one clock tick by tick, which are those from `first` to `end` of the
-/// plan's members.
+/// What is done at a time: all ticks of one flow; or, for the cycle of this number, what its `pre`s give.
 #[derive(Clone, Copy, Debug, Drop)]
 pub enum Step {
     Column(usize),
-    Cycle(usize, usize),
+    Cycle(usize),
 }
 
-/// All steps.
+/// All steps, and the cycles.
 #[derive(Drop)]
 pub struct Plan {
     pub steps: Vec<Step>,
-    pub members: Vec<usize>,
+    pub cycles: Vec<Cycle>,
 }
 
-/// Whether a flow of this number is placed.
-fn is_placed(placed: &[bool], r: usize) -> bool {
-    match placed.get(r) {
-        Some(placed) => *placed,
-        None => false,
+/// A search for the parts of a program of which each flow leads, by what it reads, to each other: those that a part reads are found before
+/// it.
+#[derive(Drop)]
+struct Search {
+    /// When each flow was come to, from 1 on; 0 before.
+    found: Vec<usize>,
+    /// The earliest flow of the same part that each flow is known to lead to.
+    low: Vec<usize>,
+    /// The part of each flow, from 1 on; 0 before it is known.
+    part: Vec<usize>,
+    /// The flows that are in no part yet, as they were come to.
+    open: Vec<usize>,
+    /// The flows from the first one to the one at hand, each with how much of what it reads was looked at.
+    path: Vec<(usize, usize)>,
+    count: usize,
+    parts: usize,
+}
+
+fn at(list: &[usize], i: usize) -> usize {
+    match list.get(i) {
+        Some(x) => *x,
+        None => 0,
     }
 }
 
-/// Whether a clock's variable is placed.
-fn has_clock(placed: &[bool], clock: Clock) -> bool {
-    match clock {
-        Clock::Base => true,
-        Clock::On(c, _) => is_placed(placed, c),
+fn put(list: &mut Vec<usize>, i: usize, x: usize) {
+    if i < list.len() {
+        list[i] = x;
     }
 }
 
-/// Whether all that a form reads, before now too, is placed.
-fn has_operands(flat: &Flat, placed: &[bool], form: &Form) -> bool {
-    match form {
-        Form::Input(_) | Form::Constant(_) => true,
-        Form::Copied(a) | Form::Unary(_, a) | Form::Pre(a) | Form::When(a) => {
-            is_placed(placed, *a)
-        }
-        Form::Binary(_, a, b) | Form::Arrow(a, b) => is_placed(placed, *a) && is_placed(placed, *b),
-        Form::If(c, a, b) => {
-            is_placed(placed, *c) && is_placed(placed, *a) && is_placed(placed, *b)
-        }
-        Form::Current(a) => match flat.flows().get(*a) {
-            Some(flow) => is_placed(placed, *a) && has_clock(placed, flow.clock),
-            None => false,
-        },
-        Form::Merge(c, branches) => {
-            is_placed(placed, *c) && branches.as_slice().iter().all(|x| is_placed(placed, *x))
-        }
-    }
-}
-
-/// Whether a flow can be worked out, all its ticks at once.
-fn is_ready(flat: &Flat, placed: &[bool], flow: &Flow) -> bool {
-    has_clock(placed, flow.clock) && has_operands(flat, placed, &flow.form)
-}
-
-impl Plan {
-    /// An order for all flows of a program. One that isn't found within bounds isn't sought further: some flows then have no place, and nothing is worked out by
-    /// the plan. So the time grows with the number of flows alone.
-    pub fn new(alloc: Global, flat: &Flat) -> Result<Plan, AllocError> {
-        let count = flat.flows().len();
-        let mut placed = vec![in alloc; false; count]?;
-        let mut plan = Plan {
-            steps: Vec::with_capacity(alloc, count)?,
-            members: Vec::with_capacity(alloc, count)?,
-        };
-        let mut tries = TRIES;
-        for _round in 0..ROUNDS {
-            let swept = plan.sweep(flat, &mut placed)?;
-            if swept == 0 && !plan.close(alloc, flat, &mut placed, &mut tries)? {
-                return Ok(plan);
-            }
-        }
-        Ok(plan)
+impl Search {
+    fn new(alloc: Global, flows: usize) -> Result<Search, AllocError> {
+        Ok(Search {
+            found: vec![in alloc; 0usize; flows]?,
+            low: vec![in alloc; 0usize; flows]?,
+            part: vec![in alloc; 0usize; flows]?,
+            open: Vec::with_capacity(alloc, flows)?,
+            path: Vec::with_capacity(alloc, flows)?,
+            count: 0,
+            parts: 0,
+        })
     }
 
-    /// Places all flows that can be worked out at once, in order of rank; how many there are.
-    fn sweep(&mut self, flat: &Flat, placed: &mut Vec<bool>) -> Result<usize, AllocError> {
-        let mut count = 0usize;
-        for i in flat.rank() {
-            if let Some(flow) = flat.flows().get(*i) {
-                if *i < placed.len() && !placed[*i] && is_ready(flat, placed.as_slice(), flow) {
-                    placed[*i] = true;
-                    self.steps.push(Step::Column(*i))?;
-                    count = count.saturating_add(1);
+    /// Comes to a flow.
+    fn enter(&mut self, i: usize) -> Result<(), AllocError> {
+        self.count = self.count.saturating_add(1);
+        put(&mut self.found, i, self.count);
+        put(&mut self.low, i, self.count);
+        self.open.push(i)?;
+        self.path.push((i, 0))?;
+        Ok(())
+    }
+
+    /// A flow leads to one that is known to lead so far back.
+    fn lower(&mut self, i: usize, to: usize) {
+        if to < at(self.low.as_slice(), i) {
+            put(&mut self.low, i, to);
+        }
+    }
+
+    /// All that a flow reads was looked at: where it leads to no earlier flow, those that were come to since are a part.
+    fn leave(&mut self, i: usize) {
+        let low = at(self.low.as_slice(), i);
+        if low == at(self.found.as_slice(), i) {
+            self.parts = self.parts.saturating_add(1);
+            for _k in 0..self.open.len() {
+                if let Some(member) = self.open.pop() {
+                    put(&mut self.part, member, self.parts);
+                    if member == i {
+                        break;
+                    }
                 }
             }
         }
-        Ok(count)
+        if let Some((reader, _)) = self.path.last() {
+            let reader = *reader;
+            self.lower(reader, low);
+        }
     }
 
-    /// Places a least cycle; whether there is one, and it was found with so many looks.
-    fn close(
-        &mut self,
-        alloc: Global,
-        flat: &Flat,
-        placed: &mut Vec<bool>,
-        tries: &mut usize,
-    ) -> Result<bool, AllocError> {
-        let Some(start) = placed.iter().position(|done| !*done) else {
+    /// One step of the search; whether one was left.
+    fn step(&mut self, flat: &Flat) -> Result<bool, AllocError> {
+        let Some((i, k)) = self.path.pop() else {
             return Ok(false);
         };
-        let mut best = reached(alloc, flat, placed.as_slice(), start)?;
-        // What is reached from a flow of the cycle is never more; where it is less, that is taken.
-        for _round in 0..placed.len() {
-            match smaller(alloc, flat, placed.as_slice(), &best, tries)? {
-                Some(found) => best = found,
-                None if *tries == 0 => return Ok(false),
-                None => return self.place(flat, placed, &best),
+        let Some(read) = read_of(flat, i, k) else {
+            self.leave(i);
+            return Ok(true);
+        };
+        self.path.push((i, k.saturating_add(1)))?;
+        if at(self.found.as_slice(), read) == 0 {
+            self.enter(read)?;
+        } else if at(self.part.as_slice(), read) == 0 {
+            let found = at(self.found.as_slice(), read);
+            self.lower(i, found);
+        }
+        Ok(true)
+    }
+
+    /// Finds all parts; whether it came to an end.
+    fn run(&mut self, flat: &Flat) -> Result<bool, AllocError> {
+        let mut next = 0usize;
+        for _step in 0..MOST_STEPS {
+            if !self.step(flat)? {
+                match flat.rank().get(next) {
+                    Some(i) => {
+                        next = next.saturating_add(1);
+                        if at(self.found.as_slice(), *i) == 0 {
+                            self.enter(*i)?;
+                        }
+                    }
+                    None => return Ok(true),
+                }
             }
         }
         Ok(false)
     }
 
-    /// Places the marked flows as one cycle, in order of rank.
+    /// The flows part by part, each in order of rank, and where each part ends.
+    fn sorted(
+        &self,
+        alloc: Global,
+        flat: &Flat,
+    ) -> Result<(Vec<usize>, Vec<usize>), AllocError> {
+        let mut ends = vec![in alloc; 0usize; self.parts.saturating_add(2)]?;
+        for part in self.part.as_slice() {
+            let next = part.saturating_add(1);
+            let more = at(ends.as_slice(), next).saturating_add(1);
+            put(&mut ends, next, more);
+        }
+        for k in 1..ends.len() {
+            ends[k] = ends[k].saturating_add(ends[k - 1]);
+        }
+        let mut members = vec![in alloc; 0usize; flat.flows().len()]?;
+        for i in flat.rank() {
+            let part = at(self.part.as_slice(), *i);
+            let place = at(ends.as_slice(), part);
+            put(&mut members, place, *i);
+            put(&mut ends, part, place.saturating_add(1));
+        }
+        Ok((members, ends))
+    }
+}
+
+impl Plan {
+    /// An order for all flows of a program, in a time that grows with the flows and with what they read. Where the search takes more steps than
+    /// are allowed, the plan is empty, and nothing is worked out by it.
+    pub fn new(alloc: Global, flat: &Flat, instants: usize) -> Result<Plan, AllocError> {
+        let count = flat.flows().len();
+        let mut plan = Plan {
+            steps: Vec::with_capacity(alloc, count)?,
+            cycles: Vec::new(alloc),
+        };
+        let mut search = Search::new(alloc, count)?;
+        if !search.run(flat)? {
+            return Ok(plan);
+        }
+        let (members, ends) = search.sorted(alloc, flat)?;
+        let mut places = vec![in alloc; usize::MAX; count]?;
+        let mut from = 0usize;
+        for k in 1..ends.len() {
+            let to = ends[k];
+            if let Some(part) = members.as_slice().get(from..to) {
+                plan.place(alloc, flat, part, &mut places, instants)?;
+            }
+            from = to;
+        }
+        Ok(plan)
+    }
+
+    /// Places a part: a flow that doesn't lead to itself; or a cycle, first what its `pre`s give, then its other flows, then its `pre`s.
     fn place(
         &mut self,
+        alloc: Global,
         flat: &Flat,
-        placed: &mut Vec<bool>,
-        marked: &Vec<bool>,
-    ) -> Result<bool, AllocError> {
-        let first = self.members.len();
-        for i in flat.rank() {
-            if is_placed(marked.as_slice(), *i) && *i < placed.len() {
-                placed[*i] = true;
-                self.members.push(*i)?;
-            }
-        }
-        self.steps.push(Step::Cycle(first, self.members.len()))?;
-        Ok(true)
-    }
-}
-
-/// Marks a flow, if it is not placed; whether it is new.
-fn mark(
-    marked: &mut Vec<bool>,
-    placed: &[bool],
-    r: usize,
-    next: &mut Vec<usize>,
-) -> Result<(), AllocError> {
-    if r < marked.len() && !marked[r] && !is_placed(placed, r) {
-        marked[r] = true;
-        next.push(r)?;
-    }
-    Ok(())
-}
-
-/// Marks the variable of a clock.
-fn mark_clock(
-    marked: &mut Vec<bool>,
-    placed: &[bool],
-    clock: Clock,
-    next: &mut Vec<usize>,
-) -> Result<(), AllocError> {
-    if let Clock::On(c, _) = clock {
-        mark(marked, placed, c, next)?;
-    }
-    Ok(())
-}
-
-/// Marks what a form reads.
-fn mark_operands(
-    flat: &Flat,
-    marked: &mut Vec<bool>,
-    placed: &[bool],
-    form: &Form,
-    next: &mut Vec<usize>,
-) -> Result<(), AllocError> {
-    match form {
-        Form::Input(_) | Form::Constant(_) => {}
-        Form::Copied(a) | Form::Unary(_, a) | Form::Pre(a) | Form::When(a) => {
-            mark(marked, placed, *a, next)?;
-        }
-        Form::Binary(_, a, b) | Form::Arrow(a, b) => {
-            mark(marked, placed, *a, next)?;
-            mark(marked, placed, *b, next)?;
-        }
-        Form::If(c, a, b) => {
-            mark(marked, placed, *c, next)?;
-            mark(marked, placed, *a, next)?;
-            mark(marked, placed, *b, next)?;
-        }
-        Form::Current(a) => {
-            mark(marked, placed, *a, next)?;
-            if let Some(flow) = flat.flows().get(*a) {
-                mark_clock(marked, placed, flow.clock, next)?;
-            }
-        }
-        Form::Merge(c, branches) => {
-            mark(marked, placed, *c, next)?;
-            for x in branches.as_slice() {
-                mark(marked, placed, *x, next)?;
-            }
-        }
-    }
-    Ok(())
-}
-
-/// Marks all flows not yet placed that a flow leads to, itself too.
-fn reached(
-    alloc: Global,
-    flat: &Flat,
-    placed: &[bool],
-    start: usize,
-) -> Result<Vec<bool>, AllocError> {
-    let mut marked = vec![in alloc; false; flat.flows().len()]?;
-    let mut next = Vec::new(alloc);
-    mark(&mut marked, placed, start, &mut next)?;
-    for k in 0..flat.flows().len() {
-        let Some(i) = next.get(k) else {
-            return Ok(marked);
+        part: &[usize],
+        places: &mut Vec<usize>,
+        instants: usize,
+    ) -> Result<(), AllocError> {
+        let is_cycle = match part.first() {
+            Some(i) => part.len() > 1 || reads_itself(flat, *i),
+            None => false,
         };
-        let i = *i;
-        if let Some(flow) = flat.flows().get(i) {
-            mark_clock(&mut marked, placed, flow.clock, &mut next)?;
-            mark_operands(flat, &mut marked, placed, &flow.form, &mut next)?;
+        if is_cycle {
+            self.steps.push(Step::Cycle(self.cycles.len()))?;
+            self.cycles.push(Cycle::new(alloc, flat, part, places, instants)?)?;
         }
-    }
-    Ok(marked)
-}
-
-/// Of a flow that the marked ones lead to, and that doesn't lead to all of them, what it leads to; nothing where there are no more looks.
-fn smaller(
-    alloc: Global,
-    flat: &Flat,
-    placed: &[bool],
-    marked: &Vec<bool>,
-    tries: &mut usize,
-) -> Result<Option<Vec<bool>>, AllocError> {
-    let all = marked.iter().filter(|x| **x).count();
-    for i in 0..marked.len() {
-        if marked[i] && *tries > 0 {
-            *tries -= 1;
-            let found = reached(alloc, flat, placed, i)?;
-            if found.iter().filter(|x| **x).count() < all {
-                return Ok(Some(found));
+        for i in part {
+            if !(is_cycle && is_pre(flat, *i)) {
+                self.steps.push(Step::Column(*i))?;
             }
         }
+        for i in part {
+            if is_cycle && is_pre(flat, *i) {
+                self.steps.push(Step::Column(*i))?;
+            }
+        }
+        Ok(())
     }
-    Ok(None)
 }
 
 /// The main variables whose statuses are put out: the outputs and the variables of their clocks, in order of rank.
@@ -262,7 +235,7 @@ pub fn needed(alloc: Global, flat: &Flat) -> Result<Vec<usize>, AllocError> {
         }
     }
     for i in flat.rank().iter().rev() {
-        if is_placed(wanted.as_slice(), *i) {
+        if is_wanted(wanted.as_slice(), *i) {
             if let Some(flow) = flat.flows().get(*i) {
                 if let Clock::On(c, _) = flow.clock {
                     if c < wanted.len() {
@@ -274,9 +247,17 @@ pub fn needed(alloc: Global, flat: &Flat) -> Result<Vec<usize>, AllocError> {
     }
     let mut needs = Vec::new(alloc);
     for i in flat.rank() {
-        if is_placed(wanted.as_slice(), *i) {
+        if is_wanted(wanted.as_slice(), *i) {
             needs.push(*i)?;
         }
     }
     Ok(needs)
+}
+
+/// Whether a flow is wanted.
+fn is_wanted(wanted: &[bool], r: usize) -> bool {
+    match wanted.get(r) {
+        Some(wanted) => *wanted,
+        None => false,
+    }
 }

@@ -52,7 +52,7 @@ fn go(
     alloc: Global,
     flat: &Flat,
     inputs: &Inputs,
-    plan: &Plan,
+    plan: &mut Plan,
     needs: &[usize],
     board: &mut Board,
     columns: &mut Vec<Vec<Status>>,
@@ -92,19 +92,14 @@ fn empty_columns(alloc: Global, count: usize) -> Result<Vec<Vec<Status>>, AllocE
     Ok(columns)
 }
 
-/// The columns of a whole run, if it could be worked out in blocks; not tried where more than half of the flows would go tick by tick,
-/// which takes longer than `lueval` does.
+/// The columns of a whole run, if it could be worked out in blocks.
 fn run(alloc: Global, flat: &Flat, inputs: &Inputs) -> Result<Option<Vec<Vec<Status>>>, AllocError>
     requires { IsFit flat.now inputs.now }
     ensures { IfOk result (λ columns. IfSome columns (λ x. IsRun flat.now inputs.now x.items)) }
 {
-    let plan = Plan::new(alloc, flat)?;
-    let all = flat.flows();
-    if all.len() / 2 < plan.members.len() {
-        return Ok(None);
-    }
+    let mut plan = Plan::new(alloc, flat, INSTANTS)?;
     let needs = needed(alloc, flat)?;
-    let mut board = Board::new(alloc, all.len(), INSTANTS)?;
+    let mut board = Board::new(alloc, flat.flows().len(), INSTANTS)?;
     let mut columns = empty_columns(alloc, flat.variables().len())?;
     let instants = inputs.instants() as usize;
     let mut t = 0;
@@ -116,7 +111,7 @@ fn run(alloc: Global, flat: &Flat, inputs: &Inputs) -> Result<Option<Vec<Vec<Sta
             alloc,
             flat,
             inputs,
-            &plan,
+            &mut plan,
             members,
             &mut board,
             &mut columns,

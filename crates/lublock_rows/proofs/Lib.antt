@@ -1,2 +1,3 @@
 pub mod Filling
 pub mod Counting
+pub mod Parting

@@ -95,3 +95,8 @@ branch_datum Truths zero = Some (Truth true)
 branch_datum Truths (suc zero) = Some (Truth false)
 branch_datum Truths (suc (suc k)) = None
 branch_datum (Enum p n) k = Some (Name k)
+
+-- a row that has one number above 0 at each of these ticks
+pub record IsSteady (row : List ℤ) (from to m : ℕ) : Type 0 where
+  pub some : 0 < m
+  pub words : (n : ℕ) → from ≤ n → n < to → word_in row (suc n) ≡ pos m

@@ -5,6 +5,7 @@ ghost use Rattle.lutree.specs.declared.program.Kind.{Kind};
 ghost use Rattle.lutree.specs.declared.expr.BinaryOperator.{BinaryOperator};
 ghost use Rattle.lublock_rows.specs.Rows.{AreDoubles, IsDouble, Keeps, is_ints, is_names, is_truths, word_in};
 
+use crate::parts::{steady, write_quotients, write_rests};
 use crate::rows::{at, fill};
 use crate::word::{difference, product, quotient, rest, sum, truth_of, word_of};
 use lutree::{BinaryOperator, Kind};
@@ -316,6 +317,38 @@ fn write<O: Double>(
     )
 }
 
+/// `div`, at whole numbers.
+fn divide(row: &mut [i64], x: &[i64], y: &[i64], from: usize, to: usize) -> bool
+    requires row { to < length row.old }
+    requires x { to < length x.now }
+    requires y { to < length y.now }
+    ensures len { length row.new ≡ length row.old }
+    ensures kept { Keeps from row.old row.new }
+    ensures words { result ≡ false
+        → AreDoubles BinaryOperator.Divide Kind.Int from to x.now y.now row.new }
+{
+    match steady(y, from, to) {
+        Some(m) => write_quotients(row, x, m, from, to),
+        None => write::<Quotient>(Kind::Int, row, x, y, from, to),
+    }
+}
+
+/// `mod`, at whole numbers.
+fn reduce(row: &mut [i64], x: &[i64], y: &[i64], from: usize, to: usize) -> bool
+    requires row { to < length row.old }
+    requires x { to < length x.now }
+    requires y { to < length y.now }
+    ensures len { length row.new ≡ length row.old }
+    ensures kept { Keeps from row.old row.new }
+    ensures words { result ≡ false
+        → AreDoubles BinaryOperator.Modulo Kind.Int from to x.now y.now row.new }
+{
+    match steady(y, from, to) {
+        Some(m) => write_rests(row, x, m, from, to),
+        None => write::<Rest>(Kind::Int, row, x, y, from, to),
+    }
+}
+
 /// An operator at whole numbers; none where it takes none.
 fn write_ints(
     op: BinaryOperator,
@@ -336,8 +369,8 @@ fn write_ints(
         BinaryOperator::Add => write::<Sum>(Kind::Int, row, x, y, from, to),
         BinaryOperator::Subtract => write::<Difference>(Kind::Int, row, x, y, from, to),
         BinaryOperator::Multiply => write::<Product>(Kind::Int, row, x, y, from, to),
-        BinaryOperator::Divide => write::<Quotient>(Kind::Int, row, x, y, from, to),
-        BinaryOperator::Modulo => write::<Rest>(Kind::Int, row, x, y, from, to),
+        BinaryOperator::Divide => divide(row, x, y, from, to),
+        BinaryOperator::Modulo => reduce(row, x, y, from, to),
         BinaryOperator::Less => write::<Less>(Kind::Int, row, x, y, from, to),
         BinaryOperator::LessEqual => write::<LessEqual>(Kind::Int, row, x, y, from, to),
         BinaryOperator::Greater => write::<Greater>(Kind::Int, row, x, y, from, to),
@@ -421,93 +454,5 @@ pub fn write_doubles(
         Kind::Int => write_ints(op, row, x, y, from, to),
         Kind::Bool => write_truths(op, row, x, y, from, to),
         Kind::Enum(place, size) => write_names(place, size, op, row, x, y, from, to),
-    }
-}
-
-/// What an operator gives of the words of two rows at a tick, and whether there is none.
-#[inline(always)]
-fn one<O: Double>(kind: Kind, x: &[i64], y: &[i64], tick: usize) -> (i64, bool)
-    requires fits { O.fits kind ≡ true }
-    requires x { tick + 1 < length x.now }
-    requires y { tick + 1 < length y.now }
-    ensures { result.1 ≡ false
-        → IsDouble O.op kind (word_in x.now (suc tick)) (word_in y.now (suc tick)) result.0 }
-{
-    O::word(at(x, tick), at(y, tick))
-}
-
-/// An operator at whole numbers, at one tick.
-fn one_of_ints(op: BinaryOperator, x: &[i64], y: &[i64], tick: usize) -> (i64, bool)
-    requires x { tick + 1 < length x.now }
-    requires y { tick + 1 < length y.now }
-    ensures { result.1 ≡ false
-        → IsDouble op Kind.Int (word_in x.now (suc tick)) (word_in y.now (suc tick)) result.0 }
-{
-    match op {
-        BinaryOperator::Add => one::<Sum>(Kind::Int, x, y, tick),
-        BinaryOperator::Subtract => one::<Difference>(Kind::Int, x, y, tick),
-        BinaryOperator::Multiply => one::<Product>(Kind::Int, x, y, tick),
-        BinaryOperator::Divide => one::<Quotient>(Kind::Int, x, y, tick),
-        BinaryOperator::Modulo => one::<Rest>(Kind::Int, x, y, tick),
-        BinaryOperator::Less => one::<Less>(Kind::Int, x, y, tick),
-        BinaryOperator::LessEqual => one::<LessEqual>(Kind::Int, x, y, tick),
-        BinaryOperator::Greater => one::<Greater>(Kind::Int, x, y, tick),
-        BinaryOperator::GreaterEqual => one::<GreaterEqual>(Kind::Int, x, y, tick),
-        BinaryOperator::Equal => one::<Equal>(Kind::Int, x, y, tick),
-        BinaryOperator::Unequal => one::<Unequal>(Kind::Int, x, y, tick),
-        _ => (0, true),
-    }
-}
-
-/// An operator at truth values, at one tick.
-fn one_of_truths(op: BinaryOperator, x: &[i64], y: &[i64], tick: usize) -> (i64, bool)
-    requires x { tick + 1 < length x.now }
-    requires y { tick + 1 < length y.now }
-    ensures { result.1 ≡ false
-        → IsDouble op Kind.Bool (word_in x.now (suc tick)) (word_in y.now (suc tick)) result.0 }
-{
-    match op {
-        BinaryOperator::And => one::<And>(Kind::Bool, x, y, tick),
-        BinaryOperator::Or => one::<Or>(Kind::Bool, x, y, tick),
-        BinaryOperator::Xor => one::<Xor>(Kind::Bool, x, y, tick),
-        BinaryOperator::Implies => one::<Implies>(Kind::Bool, x, y, tick),
-        BinaryOperator::Equal => one::<Same>(Kind::Bool, x, y, tick),
-        BinaryOperator::Unequal => one::<Differs>(Kind::Bool, x, y, tick),
-        _ => (0, true),
-    }
-}
-
-/// An operator at names, at one tick.
-fn one_of_names(
-    place: u8,
-    size: u8,
-    op: BinaryOperator,
-    x: &[i64],
-    y: &[i64],
-    tick: usize,
-) -> (i64, bool)
-    requires x { tick + 1 < length x.now }
-    requires y { tick + 1 < length y.now }
-    ensures { result.1 ≡ false
-        → IsDouble op (Kind.Enum place size) (word_in x.now (suc tick)) (word_in y.now (suc tick)) result.0 }
-{
-    match op {
-        BinaryOperator::Equal => one::<Alike>(Kind::Enum(place, size), x, y, tick),
-        BinaryOperator::Unequal => one::<Unlike>(Kind::Enum(place, size), x, y, tick),
-        _ => (0, true),
-    }
-}
-
-/// What an operator gives of the words of two rows of this type at a tick, and whether there is none.
-pub fn one_double(op: BinaryOperator, kind: Kind, x: &[i64], y: &[i64], tick: usize) -> (i64, bool)
-    requires x { tick + 1 < length x.now }
-    requires y { tick + 1 < length y.now }
-    ensures { result.1 ≡ false
-        → IsDouble op kind (word_in x.now (suc tick)) (word_in y.now (suc tick)) result.0 }
-{
-    match kind {
-        Kind::Int => one_of_ints(op, x, y, tick),
-        Kind::Bool => one_of_truths(op, x, y, tick),
-        Kind::Enum(place, size) => one_of_names(place, size, op, x, y, tick),
     }
 }

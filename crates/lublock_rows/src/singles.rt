@@ -239,27 +239,3 @@ pub fn write_singles(
         _ => true,
     }
 }
-
-/// What an operator with one operand gives of a row's word at a tick, and whether there is none.
-pub fn one_single(op: UnaryOperator, kind: Kind, x: &[i64], tick: usize) -> (i64, bool)
-    requires { tick + 1 < length x.now }
-    ensures { result.1 ≡ false → single_of op (datum_at kind (word_in x.now (suc tick)))
-        ≡ Outcome.Gives (datum_at kind result.0) }
-{
-    match (op, kind) {
-        (UnaryOperator::Minus, Kind::Int) => negative(at(x, tick)),
-        (UnaryOperator::Not, Kind::Bool) => (word_of(!truth_of(at(x, tick))), false),
-        _ => (0, true),
-    }
-}
-
-/// One of the words of two rows at a tick, by that of a third.
-pub fn one_choice(c: &[i64], x: &[i64], y: &[i64], tick: usize) -> i64
-    requires c { tick + 1 < length c.now }
-    requires x { tick + 1 < length x.now }
-    requires y { tick + 1 < length y.now }
-    ensures { result ≡ cond (is_zero (word_in c.now (suc tick)))
-        (word_in y.now (suc tick)) (word_in x.now (suc tick)) }
-{
-    choice(at(c, tick), at(x, tick), at(y, tick))
-}

@@ -7,9 +7,9 @@ pub loop-t-init : goal.loop-t-init
 loop-t-init c = record {
   whole = search rules;
   within = omega arith;
-  flows = board_len c.in_ok-board.board (length c.flows-all.result.now) c.in_ok-board.ensures ∙ (search rules);
+  flows = board_len c.in_ok-board.board (length c.flows.result.now) c.in_ok-board.ensures ∙ (search rules);
   len = search rules;
-  stands = stands_first c.args.flat.now c.args.inputs.now (length c.flows-all.result.now) c.in_ok-board.board c.in_ok-columns.columns.items c.in_ok-board.ensures c.in_ok-columns.ensures.empty;
+  stands = stands_first c.args.flat.now c.args.inputs.now (length c.flows.result.now) c.in_ok-board.board c.in_ok-columns.columns.items c.in_ok-board.ensures c.in_ok-columns.ensures.empty;
 }
 
 pub returns : goal.returns

@@ -1,0 +1,71 @@
+//! Whether what each `pre` gave in a block is what its operand had a tick before.
+
+ghost use Rattle.std.specs.Prelude.{◌≡◌, ◌<◌, ℕ, suc, true};
+ghost use Rattle.lublock_rows.specs.Rows.{word_in};
+ghost use Rattle.luflow.specs.declared.form.Form.{Form};
+ghost use Rattle.lublock.specs.Machine.{AllClose, ClosesAt, row_of, ticks_of};
+
+use crate::span::Span;
+use luflow::{Flat, Form};
+
+/// The row of a flow.
+fn row_at(rows: &[Vec<i64>], r: usize) -> &[i64]
+    ensures { result.now ≡ row_of rows.now r }
+{
+    match rows.get(r) {
+        Some(row) => row.as_slice(),
+        None => &[],
+    }
+}
+
+/// Whether a row has at each tick the word that another one has a tick before.
+fn is_shifted(x: &[i64], a: &[i64], ticks: usize) -> bool
+    ensures { result ≡ true
+        → (n : ℕ) → n < ticks → word_in x.now (suc n) ≡ word_in a.now n }
+{
+    if x.len() <= ticks || a.len() < ticks {
+        return false;
+    }
+    for m in 0..ticks {
+        if x[m + 1] != a[m] {
+            return false;
+        }
+    }
+    true
+}
+
+/// Whether flow i is right, if this form of it is `pre`.
+fn form_closes(form: &Form, rows: &[Vec<i64>], spans: &[Span], i: usize) -> bool
+    ensures { result ≡ true → (a n : ℕ) → form.now ≡ Form.Pre a → n < ticks_of spans.now i
+        → word_in (row_of rows.now i) (suc n) ≡ word_in (row_of rows.now a) n }
+{
+    match form {
+        Form::Pre(a) => match spans.get(i) {
+            Some(span) => is_shifted(row_at(rows, i), row_at(rows, *a), span.ticks),
+            None => true,
+        },
+        _ => true,
+    }
+}
+
+/// Whether flow i is right, if it is a `pre`.
+fn closes_at(flat: &Flat, rows: &[Vec<i64>], spans: &[Span], i: usize) -> bool
+    ensures { result ≡ true → ClosesAt flat.now rows.now spans.now i }
+{
+    match flat.flows().get(i) {
+        Some(flow) => form_closes(&flow.form, rows, spans, i),
+        None => true,
+    }
+}
+
+/// Whether each `pre` is right.
+pub fn closes(flat: &Flat, rows: &[Vec<i64>], spans: &[Span]) -> bool
+    ensures { result ≡ true → AllClose flat.now rows.now spans.now }
+{
+    for i in 0..flat.flows().len() {
+        if !closes_at(flat, rows, spans, i) {
+            return false;
+        }
+    }
+    true
+}

@@ -1,0 +1,66 @@
+-- A quotient and its rest are known by where they lie.
+use Rattle.std.proofs.Common.{◌≡◌, true, false, ℕ, zero, suc, ◌+◌, ◌-◌, ◌*◌, ◌/◌, ◌<◌, ◌≤◌, ℤ, pos, negsuc, neg_ℤ, ◌+ℤ◌, ◌-ℤ◌, ◌*ℤ◌, sym, ◌∙◌, ap, arith}
+use Rattle.std.specs.Prelude.{int_le, nat_abs}
+use Rattle.std.proofs.lemmas.Nat.{div-mul-add}
+use Rattle.std.proofs.Math.Dec.{leb-zero}
+use Rattle.std.proofs.Math.Nat.{mul_comm, mul-zero}
+use Rattle.std.proofs.Math.IntN.{neg_ℤ-neg_ℤ, pos-*ℤ-pos, pos-*ℤ-negsuc}
+use Rattle.luflow.specs.Operators.{int_of, quotient_of, rest_of}
+
+pub zero_first : (n : ℕ) → n ≡ 0 + n
+zero_first n = omega arith
+
+-- m is in a so often, where so many m are at most a and one more is more
+pub often : (a k q p : ℕ) → p ≡ q * suc k → p ≤ a → a < p + suc k → a / suc k ≡ q
+often a k q p product below above =
+    let whole : a ≡ q * suc k + (a - p) = omega (arith, product, below) in
+    ap (λ (n : ℕ). n / suc k) whole ∙ div-mul-add q (suc k) (a - p) (omega (arith, below, above))
+
+module _ (a k q p : ℕ) (product : p ≡ q * suc k) (below : p ≤ a) (above : a < p + suc k) where
+  quotient_up : quotient_of (pos a) (pos (suc k)) ≡ int_of (pos q)
+  quotient_up = ap (λ (n : ℕ). int_of (pos n)) (often a k q p product below above)
+
+  times : pos (suc k) *ℤ pos q ≡ pos p
+  times = pos-*ℤ-pos (suc k) q ∙ ap pos (mul_comm (suc k) q ∙ sym product)
+
+  rest_up : rest_of (pos a) (pos (suc k)) ≡ int_of (pos a -ℤ pos p)
+  rest_up = ap (λ (n : ℕ). int_of (pos a -ℤ pos (suc k) *ℤ pos n)) (often a k q p product below above) ∙ ap (λ (z : ℤ). int_of (pos a -ℤ z)) times
+
+pub times_down : (k q : ℕ) → pos (suc k) *ℤ neg_ℤ (pos q) ≡ neg_ℤ (pos (suc k * q))
+times_down k zero =
+    let none : suc k * 0 ≡ 0 = mul-zero (suc k) in
+    pos-*ℤ-pos (suc k) 0 ∙ ap pos none ∙ ap (λ (n : ℕ). neg_ℤ (pos n)) (sym none)
+times_down k (suc n) = pos-*ℤ-negsuc (suc k) n
+
+module _ (b k q p : ℕ) (product : p ≡ q * suc k) (below : p ≤ suc b) (above : suc b < p + suc k) where
+  quotient_down : quotient_of (negsuc b) (pos (suc k)) ≡ int_of (neg_ℤ (pos q))
+  quotient_down = ap (λ (n : ℕ). int_of (neg_ℤ (pos n))) (often (suc b) k q p product below above)
+
+  times_back : neg_ℤ (pos (suc k) *ℤ neg_ℤ (pos q)) ≡ pos p
+  times_back = ap neg_ℤ (times_down k q) ∙ neg_ℤ-neg_ℤ (pos (suc k * q)) ∙ ap pos (mul_comm (suc k) q ∙ sym product)
+
+  rest_down : rest_of (negsuc b) (pos (suc k)) ≡ int_of (negsuc b +ℤ pos p)
+  rest_down =
+      ap (λ (n : ℕ). int_of (negsuc b -ℤ pos (suc k) *ℤ neg_ℤ (pos n))) (often (suc b) k q p product below above)
+      ∙ ap (λ (z : ℤ). int_of (negsuc b +ℤ z)) times_back
+
+-- for a number that isn't below 0, and one that is
+pub quotient_above : (x : ℤ) (m q p : ℕ) → int_le (pos 0) x ≡ true → 0 < m → p ≡ q * m → p ≤ nat_abs x → nat_abs x < p + m → quotient_of x (pos m) ≡ int_of (pos q)
+quotient_above (negsuc b) m q p up some product below above = absurd cc
+quotient_above (pos a) zero q p up some product below above = absurd (omega (arith, some))
+quotient_above (pos a) (suc k) q p up some product below above = quotient_up a k q p product below above
+
+pub rest_above : (x : ℤ) (m q p : ℕ) → int_le (pos 0) x ≡ true → 0 < m → p ≡ q * m → p ≤ nat_abs x → nat_abs x < p + m → rest_of x (pos m) ≡ int_of (x -ℤ pos p)
+rest_above (negsuc b) m q p up some product below above = absurd cc
+rest_above (pos a) zero q p up some product below above = absurd (omega (arith, some))
+rest_above (pos a) (suc k) q p up some product below above = rest_up a k q p product below above
+
+pub quotient_below : (x : ℤ) (m q p : ℕ) → int_le (pos 0) x ≡ false → 0 < m → p ≡ q * m → p ≤ nat_abs (neg_ℤ x) → nat_abs (neg_ℤ x) < p + m → quotient_of x (pos m) ≡ int_of (neg_ℤ (pos q))
+quotient_below (pos a) m q p down some product below above = absurd (let e : true ≡ false = sym (leb-zero a) ∙ down in cc)
+quotient_below (negsuc b) zero q p down some product below above = absurd (omega (arith, some))
+quotient_below (negsuc b) (suc k) q p down some product below above = quotient_down b k q p product below above
+
+pub rest_below : (x : ℤ) (m q p : ℕ) → int_le (pos 0) x ≡ false → 0 < m → p ≡ q * m → p ≤ nat_abs (neg_ℤ x) → nat_abs (neg_ℤ x) < p + m → rest_of x (pos m) ≡ int_of (x +ℤ pos p)
+rest_below (pos a) m q p down some product below above = absurd (let e : true ≡ false = sym (leb-zero a) ∙ down in cc)
+rest_below (negsuc b) zero q p down some product below above = absurd (omega (arith, some))
+rest_below (negsuc b) (suc k) q p down some product below above = rest_down b k q p product below above
