@@ -26,7 +26,7 @@ fn is_whole(spans: &[Span]) -> bool
 }
 
 impl Board {
-    /// Finds all words of flow i.
+    /// Finds all words of flow i, which has the clock of flow `like`.
     fn column(
         &mut self,
         alloc: Global,
@@ -35,11 +35,12 @@ impl Board {
         t: usize,
         len: usize,
         i: usize,
+        like: usize,
     ) -> bool
         ensures stands { StandsStill flat.now inputs.now t len self.old self.new }
         ensures flows { length self.new.spans.items ≡ length self.old.spans.items }
     {
-        if self.count(flat, len, i) {
+        if self.count(flat, len, i, like) {
             return true;
         }
         match self.spans.get(i) {
@@ -77,7 +78,7 @@ impl Board {
         let Some(i) = lead else {
             return Some(len);
         };
-        if self.count(flat, len, i) {
+        if self.count(flat, len, i, i) {
             return None;
         }
         match self.spans.get(i) {
@@ -119,7 +120,7 @@ impl Board {
         ensures flows { length self.new.spans.items ≡ length self.old.spans.items }
     {
         match step {
-            Step::Column(i) => self.column(alloc, flat, inputs, t, len, i),
+            Step::Column(i, like) => self.column(alloc, flat, inputs, t, len, i, like),
             Step::Cycle(k) => match cycles.get_mut(k) {
                 Some(cycle) => self.cycle(flat, len, cycle),
                 None => true,

@@ -4,7 +4,7 @@ ghost use Rattle.std.specs.Prelude.{◌≡◌, ◌<◌, ◌||◌, ℕ, length, t
 ghost use Rattle.luflow.specs.Program.{Table};
 ghost use Rattle.luflow.specs.declared.form.Flow.{Flow};
 ghost use Rattle.lublock_rows.specs.Rows.{Keeps, word_in};
-ghost use Rattle.lublock.specs.Machine.{IsAfter, IsCount, StandsStill, WritesForm, row_of, ticks_of, upto_of, was_of, known_of};
+ghost use Rattle.lublock.specs.Machine.{IsAfter, IsCount, IsLike, StandsStill, WritesForm, row_of, ticks_of, upto_of, was_of, known_of};
 
 use crate::clocked::ticks_at;
 use crate::forms::{clock_at, flow_of, is_pre, kind_at, read};
@@ -53,6 +53,16 @@ fn ticks_on(
     match clock {
         Clock::Base => Some(len),
         Clock::On(c, datum) => hits_on(flat, rows, spans, c, datum),
+    }
+}
+
+/// How many ticks a clock has that this flow has, if they were counted.
+fn ticks_like(flat: &Flat, spans: &[Span], clock: Clock, like: usize) -> Option<usize>
+    ensures { IfSome result (IsLike flat.now spans.now clock like) }
+{
+    match flat.flows().get(like) {
+        Some(flow) if flow.clock == clock => ticks_at(spans, like),
+        _ => None,
     }
 }
 
@@ -114,8 +124,9 @@ impl Board {
         Ok(Board { rows, spans })
     }
 
-    /// Counts the ticks of flow i in a block of `len` instants, where they aren't counted yet; whether they can't be.
-    pub fn count(&mut self, flat: &Flat, len: usize, i: usize) -> bool
+    /// Counts the ticks of flow i in a block of `len` instants, where they aren't counted yet; whether they can't be. Where flow `like` has the same
+    /// clock and was counted, it has as many.
+    pub fn count(&mut self, flat: &Flat, len: usize, i: usize, like: usize) -> bool
         ensures stands { (inputs : Table) (t : ℕ)
             → StandsStill flat.now inputs t len self.old self.new }
         ensures flows { length self.new.spans.items ≡ length self.old.spans.items }
@@ -130,6 +141,15 @@ impl Board {
         let Some(clock) = clock_at(flat, i) else {
             return true;
         };
+        if let Some(ticks) = ticks_like(flat, self.spans.as_slice(), clock, like) {
+            self.spans[i] = Span {
+                ticks,
+                upto: span.upto,
+                was: span.was,
+                known: true,
+            };
+            return false;
+        }
         match ticks_on(
             flat,
             self.rows.as_slice(),

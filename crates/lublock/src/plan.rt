@@ -2,18 +2,19 @@
 //! time that it takes.
 
 use crate::cycle::Cycle;
-use crate::forms::is_pre;
+use crate::forms::{clock_at, is_pre};
 use crate::reads::{reads_itself, read_of};
-use luflow::{Clock, Flat, Role};
+use luflow::{Clock, Datum, Flat, Role};
 use std::alloc::{AllocError, Global};
 
 /// More steps than the search for cycles takes: one for each flow and for each thing that a flow reads.
 const MOST_STEPS: usize = 16_777_216;
 
-/// What is done at a time: all ticks of one flow; or, for the cycle of this number, what its `pre`s give.
+/// What is done at a time: all ticks of one flow, which has the clock of another that was counted before it, or of itself; or, for the cycle of
+/// this number, what its `pre`s give.
 #[derive(Clone, Copy, Debug, Drop)]
 pub enum Step {
-    Column(usize),
+    Column(usize, usize),
     Cycle(usize),
 }
 
@@ -22,6 +23,8 @@ pub enum Step {
 pub struct Plan {
     pub steps: Vec<Step>,
     pub cycles: Vec<Cycle>,
+    /// The first flow that was placed of some clocks.
+    firsts: Vec<usize>,
 }
 
 /// A search for the parts of a program of which each flow leads, by what it reads, to each other: those that a part reads are found before
@@ -177,6 +180,7 @@ impl Plan {
         let mut plan = Plan {
             steps: Vec::with_capacity(alloc, count)?,
             cycles: Vec::new(alloc),
+            firsts: vec![in alloc; usize::MAX; count.saturating_add(count).saturating_add(1)]?,
         };
         let mut search = Search::new(alloc, count)?;
         if !search.run(flat)? {
@@ -214,15 +218,44 @@ impl Plan {
         }
         for i in part {
             if !(is_cycle && is_pre(flat, *i)) {
-                self.steps.push(Step::Column(*i))?;
+                self.column(flat, *i)?;
             }
         }
         for i in part {
             if is_cycle && is_pre(flat, *i) {
-                self.steps.push(Step::Column(*i))?;
+                self.column(flat, *i)?;
             }
         }
         Ok(())
+    }
+
+    /// Places one flow.
+    fn column(&mut self, flat: &Flat, i: usize) -> Result<(), AllocError> {
+        let Some(clock) = clock_at(flat, i) else {
+            return Ok(());
+        };
+        let at = slot_of(clock);
+        let like = match self.firsts.get(at) {
+            Some(like) if clock_at(flat, *like) == Some(clock) => *like,
+            _ => i,
+        };
+        put(&mut self.firsts, at, like);
+        self.steps.push(Step::Column(i, like))?;
+        Ok(())
+    }
+}
+
+/// Where the first flow of a clock is kept: one for the base clock, and two for each variable.
+fn slot_of(clock: Clock) -> usize {
+    match clock {
+        Clock::Base => 0,
+        Clock::On(c, datum) => {
+            let place = c.saturating_add(c);
+            place.saturating_add(match datum {
+                Datum::Bool(false) => 2,
+                _ => 1,
+            })
+        }
     }
 }
 
