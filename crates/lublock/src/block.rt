@@ -10,9 +10,8 @@ ghost use Rattle.lublock.specs.Machine.{IsWhole, StandsOn, StandsStill, block_of
 
 use crate::board::Board;
 use crate::closing::closes;
-use crate::cycle::{Back, Cycle};
-use crate::plan::{Plan, Step};
 use crate::span::Span;
+use lublock_plan::{Back, Cycle, Plan, Step};
 use luflow::{Flat, Inputs};
 use std::alloc::Global;
 

@@ -10,8 +10,8 @@ ghost use Rattle.lueval.specs.Whole.{AreWholeOutputs, HasNoFault, IsAnswer, Keep
 ghost use Rattle.lublock.specs.Shown.{AllNear, Column, IsRightBlock, IsRun, StandsAt};
 
 use crate::board::Board;
-use crate::plan::{Plan, needed};
 use crate::show::show;
+use lublock_plan::{Plan, needed};
 use lueval::{EvalError, taken_outputs, whole_outputs};
 use luflow::{Flat, Inputs, Outputs, Role, Status, Variable};
 use std::alloc::{AllocError, Global};

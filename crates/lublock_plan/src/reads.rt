@@ -84,3 +84,14 @@ pub fn reads_itself(flat: &Flat, i: usize) -> bool {
         None => false,
     }
 }
+
+/// Whether a flow is a `pre`.
+pub fn is_pre(flat: &Flat, i: usize) -> bool {
+    match flat.flows().get(i) {
+        Some(flow) => match flow.form {
+            Form::Pre(_) => true,
+            _ => false,
+        },
+        None => false,
+    }
+}

@@ -2,8 +2,7 @@
 //! time that it takes.
 
 use crate::cycle::Cycle;
-use crate::forms::{clock_at, is_pre};
-use crate::reads::{reads_itself, read_of};
+use crate::reads::{is_pre, read_of, reads_itself};
 use luflow::{Clock, Datum, Flat, Role};
 use std::alloc::{AllocError, Global};
 
@@ -147,11 +146,7 @@ impl Search {
     }
 
     /// The flows part by part, each in order of rank, and where each part ends.
-    fn sorted(
-        &self,
-        alloc: Global,
-        flat: &Flat,
-    ) -> Result<(Vec<usize>, Vec<usize>), AllocError> {
+    fn sorted(&self, alloc: Global, flat: &Flat) -> Result<(Vec<usize>, Vec<usize>), AllocError> {
         let mut ends = vec![in alloc; 0usize; self.parts.saturating_add(2)]?;
         for part in self.part.as_slice() {
             let next = part.saturating_add(1);
@@ -214,7 +209,8 @@ impl Plan {
         };
         if is_cycle {
             self.steps.push(Step::Cycle(self.cycles.len()))?;
-            self.cycles.push(Cycle::new(alloc, flat, part, places, instants)?)?;
+            self.cycles
+                .push(Cycle::new(alloc, flat, part, places, instants)?)?;
         }
         for i in part {
             if !(is_cycle && is_pre(flat, *i)) {
@@ -242,6 +238,14 @@ impl Plan {
         put(&mut self.firsts, at, like);
         self.steps.push(Step::Column(i, like))?;
         Ok(())
+    }
+}
+
+/// The clock of a flow.
+fn clock_at(flat: &Flat, r: usize) -> Option<Clock> {
+    match flat.flows().get(r) {
+        Some(flow) => Some(flow.clock),
+        None => None,
     }
 }
 

@@ -1,0 +1,14 @@
+//! In which order a block's flows are worked out, and a pass through each cycle. Whoever uses it looks at what it tells, so its calls promise nothing
+//! but that they end.
+//!
+//! - [`Plan`], [`Step`]: the order of a program's flows; [`needed`]: the main variables that are put out.
+//! - [`Cycle`], [`Pace`], [`Back`]: a cycle of flows, and what its `pre`s give.
+#![tactic(auto)]
+
+mod cycle;
+mod lines;
+mod plan;
+mod reads;
+
+pub use cycle::{Back, Cycle, Pace};
+pub use plan::{Plan, Step, needed};
