@@ -1,14 +1,11 @@
 -- A quotient and its rest are known by where they lie.
-use Rattle.std.proofs.Common.{◌≡◌, true, false, ℕ, zero, suc, ◌+◌, ◌-◌, ◌*◌, ◌/◌, ◌<◌, ◌≤◌, ℤ, pos, negsuc, neg_ℤ, ◌+ℤ◌, ◌-ℤ◌, ◌*ℤ◌, sym, ◌∙◌, ap, arith}
-use Rattle.std.specs.Prelude.{int_le, nat_abs}
+use Rattle.std.proofs.Common.{◌≡◌, true, false, ℕ, zero, suc, ◌+◌, ◌-◌, ◌*◌, ◌/◌, ◌<◌, ◌≤◌, ℤ, pos, negsuc, neg_ℤ, ◌-ℤ◌, ◌*ℤ◌, refl, sym, subst, ◌∙◌, ap, arith}
+use Rattle.std.specs.Prelude.{int_le, unsigned_abs}
 use Rattle.std.proofs.lemmas.Nat.{div-mul-add}
 use Rattle.std.proofs.Math.Dec.{leb-zero}
 use Rattle.std.proofs.Math.Nat.{mul_comm, mul-zero}
-use Rattle.std.proofs.Math.IntN.{neg_ℤ-neg_ℤ, pos-*ℤ-pos, pos-*ℤ-negsuc}
+use Rattle.std.proofs.Math.IntN.{pos-*ℤ-pos, pos-*ℤ-negsuc}
 use Rattle.luflow.specs.Operators.{int_of, quotient_of, rest_of}
-
-pub zero_first : (n : ℕ) → n ≡ 0 + n
-zero_first n = omega arith
 
 -- m is in a so often, where so many m are at most a and one more is more
 pub often : (a k q p : ℕ) → p ≡ q * suc k → p ≤ a → a < p + suc k → a / suc k ≡ q
@@ -36,31 +33,44 @@ module _ (b k q p : ℕ) (product : p ≡ q * suc k) (below : p ≤ suc b) (abov
   quotient_down : quotient_of (negsuc b) (pos (suc k)) ≡ int_of (neg_ℤ (pos q))
   quotient_down = ap (λ (n : ℕ). int_of (neg_ℤ (pos n))) (often (suc b) k q p product below above)
 
-  times_back : neg_ℤ (pos (suc k) *ℤ neg_ℤ (pos q)) ≡ pos p
-  times_back = ap neg_ℤ (times_down k q) ∙ neg_ℤ-neg_ℤ (pos (suc k * q)) ∙ ap pos (mul_comm (suc k) q ∙ sym product)
+  times_back : pos (suc k) *ℤ neg_ℤ (pos q) ≡ neg_ℤ (pos p)
+  times_back = times_down k q ∙ ap (λ (n : ℕ). neg_ℤ (pos n)) (mul_comm (suc k) q ∙ sym product)
 
-  rest_down : rest_of (negsuc b) (pos (suc k)) ≡ int_of (negsuc b +ℤ pos p)
+  rest_down : rest_of (negsuc b) (pos (suc k)) ≡ int_of (negsuc b -ℤ neg_ℤ (pos p))
   rest_down =
       ap (λ (n : ℕ). int_of (negsuc b -ℤ pos (suc k) *ℤ neg_ℤ (pos n))) (often (suc b) k q p product below above)
-      ∙ ap (λ (z : ℤ). int_of (negsuc b +ℤ z)) times_back
+      ∙ ap (λ (z : ℤ). int_of (negsuc b -ℤ z)) times_back
 
 -- for a number that isn't below 0, and one that is
-pub quotient_above : (x : ℤ) (m q p : ℕ) → int_le (pos 0) x ≡ true → 0 < m → p ≡ q * m → p ≤ nat_abs x → nat_abs x < p + m → quotient_of x (pos m) ≡ int_of (pos q)
+pub quotient_above : (x : ℤ) (m q p : ℕ) → int_le (pos 0) x ≡ true → 0 < m → p ≡ q * m → p ≤ unsigned_abs x → unsigned_abs x < p + m → quotient_of x (pos m) ≡ int_of (pos q)
 quotient_above (negsuc b) m q p up some product below above = absurd cc
 quotient_above (pos a) zero q p up some product below above = absurd (omega (arith, some))
 quotient_above (pos a) (suc k) q p up some product below above = quotient_up a k q p product below above
 
-pub rest_above : (x : ℤ) (m q p : ℕ) → int_le (pos 0) x ≡ true → 0 < m → p ≡ q * m → p ≤ nat_abs x → nat_abs x < p + m → rest_of x (pos m) ≡ int_of (x -ℤ pos p)
+pub rest_above : (x : ℤ) (m q p : ℕ) → int_le (pos 0) x ≡ true → 0 < m → p ≡ q * m → p ≤ unsigned_abs x → unsigned_abs x < p + m → rest_of x (pos m) ≡ int_of (x -ℤ pos p)
 rest_above (negsuc b) m q p up some product below above = absurd cc
 rest_above (pos a) zero q p up some product below above = absurd (omega (arith, some))
 rest_above (pos a) (suc k) q p up some product below above = rest_up a k q p product below above
 
-pub quotient_below : (x : ℤ) (m q p : ℕ) → int_le (pos 0) x ≡ false → 0 < m → p ≡ q * m → p ≤ nat_abs (neg_ℤ x) → nat_abs (neg_ℤ x) < p + m → quotient_of x (pos m) ≡ int_of (neg_ℤ (pos q))
+pub quotient_below : (x : ℤ) (m q p : ℕ) → int_le (pos 0) x ≡ false → 0 < m → p ≡ q * m → p ≤ unsigned_abs x → unsigned_abs x < p + m → quotient_of x (pos m) ≡ int_of (neg_ℤ (pos q))
 quotient_below (pos a) m q p down some product below above = absurd (let e : true ≡ false = sym (leb-zero a) ∙ down in cc)
 quotient_below (negsuc b) zero q p down some product below above = absurd (omega (arith, some))
 quotient_below (negsuc b) (suc k) q p down some product below above = quotient_down b k q p product below above
 
-pub rest_below : (x : ℤ) (m q p : ℕ) → int_le (pos 0) x ≡ false → 0 < m → p ≡ q * m → p ≤ nat_abs (neg_ℤ x) → nat_abs (neg_ℤ x) < p + m → rest_of x (pos m) ≡ int_of (x +ℤ pos p)
+pub rest_below : (x : ℤ) (m q p : ℕ) → int_le (pos 0) x ≡ false → 0 < m → p ≡ q * m → p ≤ unsigned_abs x → unsigned_abs x < p + m → rest_of x (pos m) ≡ int_of (x -ℤ neg_ℤ (pos p))
 rest_below (pos a) m q p down some product below above = absurd (let e : true ≡ false = sym (leb-zero a) ∙ down in cc)
 rest_below (negsuc b) zero q p down some product below above = absurd (omega (arith, some))
 rest_below (negsuc b) (suc k) q p down some product below above = rest_down b k q p product below above
+
+-- with the sign of the number
+pub rest_with : (x s : ℤ) (m q p a : ℕ) → a ≡ unsigned_abs x → (int_le (pos 0) x ≡ true → s ≡ pos p) → (int_le (pos 0) x ≡ false → s ≡ neg_ℤ (pos p)) → 0 < m → p ≡ q * m → p ≤ a → a < p + m → rest_of x (pos m) ≡ int_of (x -ℤ s)
+rest_with (pos n) s m q p a is up down some product below above =
+    rest_above (pos n) m q p (leb-zero n) some product (subst (λ (k : ℕ). p ≤ k) is below) (subst (λ (k : ℕ). k < p + m) is above) ∙ ap (λ (z : ℤ). int_of (pos n -ℤ z)) (sym (up (leb-zero n)))
+rest_with (negsuc b) s m q p a is up down some product below above =
+    rest_below (negsuc b) m q p refl some product (subst (λ (k : ℕ). p ≤ k) is below) (subst (λ (k : ℕ). k < p + m) is above) ∙ ap (λ (z : ℤ). int_of (negsuc b -ℤ z)) (sym (down refl))
+
+pub quotient_with : (x s : ℤ) (m q p a : ℕ) → a ≡ unsigned_abs x → (int_le (pos 0) x ≡ true → s ≡ pos q) → (int_le (pos 0) x ≡ false → s ≡ neg_ℤ (pos q)) → 0 < m → p ≡ q * m → p ≤ a → a < p + m → quotient_of x (pos m) ≡ int_of s
+quotient_with (pos n) s m q p a is up down some product below above =
+    quotient_above (pos n) m q p (leb-zero n) some product (subst (λ (k : ℕ). p ≤ k) is below) (subst (λ (k : ℕ). k < p + m) is above) ∙ ap int_of (sym (up (leb-zero n)))
+quotient_with (negsuc b) s m q p a is up down some product below above =
+    quotient_below (negsuc b) m q p refl some product (subst (λ (k : ℕ). p ≤ k) is below) (subst (λ (k : ℕ). k < p + m) is above) ∙ ap int_of (sym (down refl))

@@ -1,6 +1,6 @@
 //! Division by a number that stays: the quotient is found by a multiplication, looked at, and found by a division where it isn't right.
 
-ghost use Rattle.std.specs.Prelude.{◌≡◌, ◌≤◌, ◌<◌, ◌+◌, ◌*◌, ℕ, pos, suc, length, false, IfSome};
+ghost use Rattle.std.specs.Prelude.{◌≡◌, ◌≢◌, ◌≤◌, ◌<◌, ◌+◌, ◌*◌, ℕ, pos, negsuc, neg_ℤ, int_le, unsigned_abs, suc, length, true, false, IfSome};
 ghost use Rattle.luflow.specs.Operators.{quotient_of, rest_of};
 ghost use Rattle.lublock_rows.specs.Rows.{IsSteady, IsWhole, Keeps, word_in};
 ghost use Rattle.lublock_rows.specs.Words.{datum_at};
@@ -8,7 +8,7 @@ ghost use Rattle.lutree.specs.declared.program.Kind.{Kind};
 ghost use Rattle.luflow.specs.declared.form.Outcome.{Outcome};
 
 use crate::rows::{at, fill};
-use crate::word::{difference, negative, sum};
+use crate::word::{difference, sum};
 
 /// A number of which 2^32 is about a multiple, to multiply by in place of a division.
 pub fn near_of(m: u64) -> u64
@@ -22,6 +22,7 @@ pub fn near_of(m: u64) -> u64
 fn parted(x: u64, m: u64, near: u64) -> (u64, u64)
     requires { 0 < m }
     ensures product { result.1 ≡ result.0 * m }
+    ensures part { result.0 ≤ x }
     ensures below { result.1 ≤ x }
     ensures above { x < result.1 + m }
 {
@@ -45,42 +46,41 @@ fn parted(x: u64, m: u64, near: u64) -> (u64, u64)
     (q, q * m)
 }
 
-/// `x div m`
+/// A number with the sign of another, whose amount isn't less.
+#[inline(always)]
+fn with_sign(x: i64, n: u64) -> i64
+    requires less { n ≤ unsigned_abs x }
+    requires some { x ≢ negsuc 9223372036854775807 }
+    ensures up { int_le (pos 0) x ≡ true → result ≡ pos n }
+    ensures down { int_le (pos 0) x ≡ false → result ≡ neg_ℤ (pos n) }
+{
+    if 0 <= x { n as i64 } else { -(n as i64) }
+}
+
+/// `x div m`; none for the least `int`
 #[inline(always)]
 pub fn quotient_by(x: i64, m: u64, near: u64) -> (i64, bool)
     requires some { 0 < m }
     ensures { IsWhole result (quotient_of x (pos m)) }
 {
-    if 0 <= x {
-        let (q, _p) = parted(x as u64, m, near);
-        return sum(0, q as i64);
+    if x == i64::MIN {
+        return (0, true);
     }
-    match x.checked_neg() {
-        Some(y) => {
-            let (q, _p) = parted(y as u64, m, near);
-            negative(q as i64)
-        }
-        None => (0, true),
-    }
+    let (q, _p) = parted(x.unsigned_abs(), m, near);
+    sum(0, with_sign(x, q))
 }
 
-/// `x mod m`
+/// `x mod m`; none for the least `int`
 #[inline(always)]
 pub fn rest_by(x: i64, m: u64, near: u64) -> (i64, bool)
     requires some { 0 < m }
     ensures { IsWhole result (rest_of x (pos m)) }
 {
-    if 0 <= x {
-        let (_q, p) = parted(x as u64, m, near);
-        return difference(x, p as i64);
+    if x == i64::MIN {
+        return (0, true);
     }
-    match x.checked_neg() {
-        Some(y) => {
-            let (_q, p) = parted(y as u64, m, near);
-            sum(x, p as i64)
-        }
-        None => (0, true),
-    }
+    let (_q, p) = parted(x.unsigned_abs(), m, near);
+    difference(x, with_sign(x, p))
 }
 
 /// The number above 0 that a row has at all these ticks.
