@@ -2,6 +2,7 @@ pub mod Ageing
 pub mod Answering
 pub mod Keeping
 pub mod Lines
+pub mod Moved
 pub mod Listing
 pub mod Named
 pub mod Noting

@@ -1,4 +1,5 @@
 pub mod Frames
+pub mod Moving
 pub mod Operations
 pub mod Cells
 pub mod Steps

@@ -1,10 +1,10 @@
 -- What a pass over the links finds is what a site's parts have.
-use Rattle.std.proofs.Common.{◌≡◌, ℕ, zero, suc, ◌+◌, ◌<◌, ◌≤◌, inl, inr, Bool, true, false, cond, List, [], ◌∷◌, ◌++◌, length, get_or, take, map, nat_eq, filter, flat_map, Option, Some, None, refl, sym, ap, ap₂, ◌∙◌, subst, arith}
+use Rattle.std.proofs.Common.{◌≡◌, ℕ, zero, suc, ◌+◌, ◌<◌, ◌≤◌, inl, inr, Bool, true, false, cond, List, [], ◌∷◌, ◌++◌, length, take, map, nat_eq, filter, flat_map, Option, Some, None, refl, sym, ap, ap₂, ◌∙◌, subst, arith}
 use Rattle.std.specs.Prelude.{slice_get, ◌&&◌, unwrap_or}
 use Rattle.std.specs.List.{range_with_len, position_from}
 use Rattle.std.specs.Option.{option_map}
 use Rattle.std.proofs.lemmas.Bool.{cases_eq, ne_eqb}
-use Rattle.std.proofs.lemmas.Option.{same_Some, none-some, slice_get_within, get_or_from_slice_get}
+use Rattle.std.proofs.lemmas.Option.{same_Some, none-some, slice_get_within}
 use Rattle.std.proofs.lemmas.Iterator.Adapters.{position_from-zero}
 use Rattle.std.proofs.lemmas.List.{length-take-le}
 use Rattle.std.proofs.Math.Seq.{take-length}
@@ -123,8 +123,8 @@ pass_step links s flows l k sources sources' rows rows' so_far e lt len source r
 }
 
 -- what is found for a place, once all links were passed
-pub source_found : (plan : Distribution) (s flows i : ℕ) (sources : List (Option ℕ)) (rows : List LinkRow) (d : Option ℕ) → AreCarriers plan.links s flows sources rows → i < flows → get_or sources i d ≡ link_into plan s i
-source_found plan s flows i sources rows d all li = get_or_from_slice_get sources i (position_from (is_into s i) 0 (take (length plan.links) plan.links)) d (all.source i li) ∙ source_all plan s i
-
 pub row_found : (plan : Distribution) (ok : IsPlan plan) (s flows i : ℕ) (sources : List (Option ℕ)) (rows : List LinkRow) (row : LinkRow) → AreCarriers plan.links s flows sources rows → slice_get rows i ≡ Some row → row.items ≡ sends plan s i
 row_found plan ok s flows i sources rows row all there = all.row i row there ∙ sent_all plan ok s i
+
+pub source_there : (plan : Distribution) (s flows i : ℕ) (sources : List (Option ℕ)) (rows : List LinkRow) → AreCarriers plan.links s flows sources rows → i < flows → slice_get sources i ≡ Some (link_into plan s i)
+source_there plan s flows i sources rows all li = all.source i li ∙ ap Some (source_all plan s i)

@@ -1,15 +1,40 @@
--- The logs of the outputs, moved out one after the other.
-use Rattle.std.proofs.Common.{◌≡◌, ℕ, zero, suc, ◌+◌, ◌<◌, ◌≤◌, Bool, true, false, cond, List, [], ◌∷◌, ◌++◌, length, filter, Some, sym, ap, ◌∙◌, arith, inl, inr}
-use Rattle.std.specs.Prelude.{slice_get, ◌≢◌}
+-- The logs of the outputs, by the numbers of their flows.
+use Rattle.std.proofs.Common.{◌≡◌, ℕ, zero, suc, ◌+◌, ◌<◌, ◌≤◌, Bool, true, false, cond, List, [], ◌∷◌, ◌++◌, length, map, filter, Option, Some, None, refl, sym, ap, ◌∙◌, subst, arith, inl, inr}
+use Rattle.std.specs.Prelude.{slice_get, unwrap_or, is_some}
 use Rattle.std.specs.List.{range_with_len}
+use Rattle.std.specs.Option.{option_map}
 use Rattle.std.proofs.lemmas.Bool.{cases_lt}
-use Rattle.std.proofs.lemmas.Option.{slice_get_past}
+use Rattle.std.proofs.lemmas.Option.{same_Some, slice_get-map, slice_get_past, slice_get_within}
+use Rattle.luflow.specs.Program.{flows_of}
 use Rattle.luflow.specs.Variables.{is_output_of}
+use Rattle.luflow.proofs.Solutions.{some_at}
 use Rattle.luworld.specs.Needs.{Distribution}
 use Rattle.luworld.specs.Runs.{outputs_of}
 use Rattle.luworld.proofs.Cursor.{slice_get-append_left, slice_get-append_right}
-use Rattle.lusite.specs.Programs.{SitePlan, part_at}
-use Rattle.lusite.specs.Logs.{Log, log_in, row_items}
+use Rattle.lusite.specs.declared.desk.Desk.{Desk}
+use Rattle.lusite.specs.declared.program.Part.{Part}
+use Rattle.lusite.specs.Programs.{SitePlan, places_of, Reports, AreReported}
+use Rattle.lusite.specs.Logs.{Log, LogView, log_view, logs_in, logs_of, log_in, log_at, told_at, row_items, view_items, IsDrawn}
+use Rattle.lusite.specs.Machine.{IsSet}
+use Rattle.lusite.proofs.Desks.{part_there}
+use Rattle.lusite.proofs.Outputs.{output_there}
+use Rattle.lusite.proofs.Rows.{log_row}
+
+-- what is told of an output
+pub reported_there : (plan : Distribution) (s : ℕ) (told : List (Option ℕ)) (k i : ℕ) → AreReported plan s told → slice_get (outputs_of plan) k ≡ Some i → Reports plan s i (unwrap_or (slice_get told k) None)
+reported_there plan s told k i are there =
+    let l = slice_get_within (outputs_of plan) k i there in
+    let o = some_at told k (let n = are.len in omega (arith, l, n)) in
+    subst (λ (x : Option (Option ℕ)). Reports plan s i (unwrap_or x None)) (sym o.1) (are.each k i o.0 there o.1)
+
+pub reported_beyond : (plan : Distribution) (s : ℕ) (told : List (Option ℕ)) (k : ℕ) → AreReported plan s told → slice_get (outputs_of plan) k ≡ None → unwrap_or (slice_get told k) None ≡ None
+reported_beyond plan s told k are none = elim (cases_lt k (length told)) [
+  | inl l ↦
+      let i = some_at (outputs_of plan) k (let n = are.len in omega (arith, l, n)) in
+      let e = sym none ∙ i.1 in
+      absurd cc
+  | inr ge ↦ ap (λ (x : Option (Option ℕ)). unwrap_or x None) (slice_get_past told k ge)
+]
 
 -- what is left of a range stands in order
 module _ (p : ℕ → Bool) where
@@ -38,37 +63,104 @@ module _ (p : ℕ → Bool) where
 pub output_after : (plan : Distribution) (j k x y : ℕ) → j < k → slice_get (outputs_of plan) j ≡ Some x → slice_get (outputs_of plan) k ≡ Some y → y ≡ x → ⊥
 output_after plan j k x y l ex ey same = let up_to = up (is_output_of plan.flat) 0 _ j k x y l ex ey in omega (arith, same, up_to)
 
+-- what a log has, by its view
+view_row : (xs : List Log) (k : ℕ) → view_items (slice_get (map log_view xs) k) ≡ row_items (slice_get xs k)
+view_row xs k = ap view_items (slice_get-map log_view xs k) ∙ go (slice_get xs k)
+  where
+    go : (o : Option Log) → view_items (option_map log_view o) ≡ row_items o
+    go None = refl
+    go (Some x) = refl
+
+-- what is told of an output, by what the site's program says of it
+module _ (p : SitePlan) (inside : (i : ℕ) (k : ℕ) → slice_get (outputs_of p.plan) k ≡ Some i → i < flows_of p.plan.flat) where
+  told_no : (logs : List LogView) (k : ℕ) (o : Option ℕ) → slice_get (outputs_of p.plan) k ≡ o → ((i : ℕ) → o ≡ Some i → Reports p.plan p.site i None) → log_in p logs o ≡ []
+  told_no logs k None there h = refl
+  told_no logs k (Some i) there h = ap (λ (b : Bool). cond b (view_items (slice_get logs i)) []) (ap (λ (x : Part). x.told) (part_there p i (inside i k there)) ∙ h i refl)
+
+  pub untold : (logs : List LogView) (k : ℕ) → ((i : ℕ) → slice_get (outputs_of p.plan) k ≡ Some i → Reports p.plan p.site i None) → log_in p logs (slice_get (outputs_of p.plan) k) ≡ []
+  untold logs k h = told_no logs k (slice_get (outputs_of p.plan) k) refl h
+
+  pub told : (logs : List LogView) (k i r : ℕ) → slice_get (outputs_of p.plan) k ≡ Some i → Reports p.plan p.site i (Some r) → log_in p logs (slice_get (outputs_of p.plan) k) ≡ view_items (slice_get logs i)
+  told logs k i r there h =
+      ap (log_in p logs) there
+      ∙ ap (λ (b : Bool). cond b (view_items (slice_get logs i)) []) (ap (λ (x : Part). x.told) (part_there p i (inside i k there)) ∙ h.0)
+
+-- the logs moved out so far, and those left
 module _ (p : SitePlan) (all : List Log) where
   abbrev pub AreDrawn : List Log → ℕ → Type 0
-  AreDrawn rows k = (j : ℕ) → j < k → row_items (slice_get rows j) ≡ log_in p all (slice_get (outputs_of p.plan) j)
+  AreDrawn rows k = (j : ℕ) → j < k → row_items (slice_get rows j) ≡ log_in p (logs_in p all) (slice_get (outputs_of p.plan) j)
 
   abbrev pub AreLeft : List Log → ℕ → Type 0
-  AreLeft logs k = (j i : ℕ) → k ≤ j → slice_get (outputs_of p.plan) j ≡ Some i → slice_get logs i ≡ slice_get all i
+  AreLeft logs k = (j i r : ℕ) → k ≤ j → slice_get (outputs_of p.plan) j ≡ Some i → slice_get (places_of p.plan p.site) r ≡ Some i → slice_get logs r ≡ slice_get all r
 
-  -- one output more is moved out
-  pub one_drawn : (logs rows rows' : List Log) (row : Log) (k i : ℕ) → slice_get (outputs_of p.plan) k ≡ Some i → AreDrawn rows k → AreLeft logs k → length rows ≡ k → rows' ≡ rows ++ row ∷ [] → row.items ≡ cond (part_at p i).told (row_items (slice_get logs i)) [] → AreDrawn rows' (k + 1)
-  one_drawn logs rows rows' row k i is drawn left len more has j l =
-      elim (cases_lt j k) [
-        | inl lt ↦ ap (λ (xs : List Log). row_items (slice_get xs j)) more ∙ ap row_items (slice_get-append_left rows (row ∷ []) j (omega (arith, lt, len))) ∙ drawn j lt
-        | inr ge ↦
-            let here : j ≡ k = omega (arith, l, ge) in
-            let z : j ≡ length rows + 0 = omega (arith, here, len) in
-            ap (λ (xs : List Log). row_items (slice_get xs j)) more
-            ∙ ap (λ (n : ℕ). row_items (slice_get (rows ++ row ∷ []) n)) z
-            ∙ ap row_items (slice_get-append_right rows (row ∷ []) 0)
-            ∙ has
-            ∙ ap (λ o. cond (part_at p i).told (row_items o) []) (left k i (omega arith) is)
-            ∙ ap (log_in p all) (sym is)
-            ∙ ap (λ (n : ℕ). log_in p all (slice_get (outputs_of p.plan) n)) (sym here)
-      ]
+  module _ (inside : (i : ℕ) (k : ℕ) → slice_get (outputs_of p.plan) k ≡ Some i → i < flows_of p.plan.flat) (row_log : (r i : ℕ) → slice_get (places_of p.plan p.site) r ≡ Some i → slice_get (logs_in p all) i ≡ slice_get (map log_view all) r) where
+    here : (logs : List Log) (row : Log) (k i : ℕ) (o : Option ℕ) → slice_get (outputs_of p.plan) k ≡ Some i → AreLeft logs k → Reports p.plan p.site i o → IsDrawn o logs row → row.items ≡ log_in p (logs_in p all) (slice_get (outputs_of p.plan) k)
+    here logs row k i None is left reports drawn =
+        drawn ∙ sym (untold p inside (logs_in p all) k (λ j e. subst (λ (x : ℕ). Reports p.plan p.site x None) (same_Some i j (sym is ∙ e)) reports))
+    here logs row k i (Some r) is left reports drawn =
+        drawn
+        ∙ ap row_items (left k i r (omega arith) is reports.1)
+        ∙ sym (view_row all r)
+        ∙ ap view_items (sym (row_log r i reports.1))
+        ∙ sym (told p inside (logs_in p all) k i r is reports)
 
-  pub others_left : (logs logs' : List Log) (k i : ℕ) → slice_get (outputs_of p.plan) k ≡ Some i → AreLeft logs k → ((j : ℕ) → j ≢ i → slice_get logs' j ≡ slice_get logs j) → AreLeft logs' (k + 1)
-  others_left logs logs' k i is left others j x l at =
-      others x (output_after p.plan k j i x (omega (arith, l)) is at) ∙ left j x (omega (arith, l)) at
+    -- one output more is moved out
+    pub one_drawn : (logs rows rows' : List Log) (row : Log) (k i : ℕ) (o : Option ℕ) → slice_get (outputs_of p.plan) k ≡ Some i → AreDrawn rows k → AreLeft logs k → length rows ≡ k → rows' ≡ rows ++ row ∷ [] → Reports p.plan p.site i o → IsDrawn o logs row → AreDrawn rows' (k + 1)
+    one_drawn logs rows rows' row k i o is drawn left len more reports has j l =
+        elim (cases_lt j k) [
+          | inl lt ↦ ap (λ (xs : List Log). row_items (slice_get xs j)) more ∙ ap row_items (slice_get-append_left rows (row ∷ []) j (omega (arith, lt, len))) ∙ drawn j lt
+          | inr ge ↦
+              let same : j ≡ k = omega (arith, l, ge) in
+              let z : j ≡ length rows + 0 = omega (arith, same, len) in
+              ap (λ (xs : List Log). row_items (slice_get xs j)) more
+              ∙ ap (λ (n : ℕ). row_items (slice_get (rows ++ row ∷ []) n)) z
+              ∙ ap row_items (slice_get-append_right rows (row ∷ []) 0)
+              ∙ here logs row k i o is left reports has
+              ∙ ap (λ (n : ℕ). log_in p (logs_in p all) (slice_get (outputs_of p.plan) n)) (sym same)
+        ]
 
-  pub all_drawn : (rows : List Log) (k : ℕ) → AreDrawn rows k → length rows ≡ k → length (outputs_of p.plan) ≤ k → (j : ℕ) → row_items (slice_get rows j) ≡ log_in p all (slice_get (outputs_of p.plan) j)
+  -- no other output's log is touched
+  pub others_left : (logs logs' : List Log) (k i : ℕ) (o : Option ℕ) → slice_get (outputs_of p.plan) k ≡ Some i → AreLeft logs k → Reports p.plan p.site i o → ((j : ℕ) → (o ≡ Some j → ⊥) → slice_get logs' j ≡ slice_get logs j) → AreLeft logs' (k + 1)
+  others_left logs logs' k i None is left reports others j x r l at place = others r (λ e. absurd cc) ∙ left j x r (omega (arith, l)) at place
+  others_left logs logs' k i (Some q) is left reports others j x r l at place =
+      others r (λ e.
+      let same : q ≡ r = same_Some q r e in
+      let there : i ≡ x = same_Some i x (sym reports.1 ∙ ap (slice_get (places_of p.plan p.site)) same ∙ place) in
+      output_after p.plan k j i x (omega (arith, l)) is at (sym there))
+      ∙ left j x r (omega (arith, l)) at place
+
+  pub all_drawn : (rows : List Log) (k : ℕ) → AreDrawn rows k → length rows ≡ k → length (outputs_of p.plan) ≤ k → (j : ℕ) → row_items (slice_get rows j) ≡ log_in p (logs_in p all) (slice_get (outputs_of p.plan) j)
   all_drawn rows k drawn len over j =
       elim (cases_lt j k) [
         | inl lt ↦ drawn j lt
-        | inr ge ↦ ap row_items (slice_get_past rows j (omega (arith, ge, len))) ∙ ap (log_in p all) (sym (slice_get_past (outputs_of p.plan) j (omega (arith, ge, over))))
+        | inr ge ↦ ap row_items (slice_get_past rows j (omega (arith, ge, len))) ∙ ap (log_in p (logs_in p all)) (sym (slice_get_past (outputs_of p.plan) j (omega (arith, ge, over))))
       ]
+
+-- the log of an output that a desk reports
+module _ (a : Desk) (set_up : IsSet a) where
+  output_inside : (i : ℕ) (k : ℕ) → slice_get (outputs_of a.program.plan) k ≡ Some i → i < flows_of a.program.plan.flat
+  output_inside i k e =
+      let first = subst (λ (q : Distribution). length q.flat.variables ≤ flows_of q.flat) (sym set_up.plan_is) set_up.is_job.is_plan.variables_first in
+      let l = (output_there a.program.plan k i e).0 in
+      omega (arith, first, l)
+
+  pub desk_untold : (k : ℕ) → ((i : ℕ) → slice_get (outputs_of a.program.plan) k ≡ Some i → Reports a.program.plan a.program.site i None) → [] ≡ log_at a (slice_get (outputs_of a.program.plan) k)
+  desk_untold k h = sym (untold a.program output_inside (logs_of a) k h)
+
+  told_in : (k r : ℕ) (o : Option ℕ) → slice_get (outputs_of a.program.plan) k ≡ o → ((i : ℕ) → o ≡ Some i → Reports a.program.plan a.program.site i (Some r)) → (o ≡ None → ⊥) → log_at a (slice_get (outputs_of a.program.plan) k) ≡ row_items (slice_get a.logs.items r)
+  told_in k r None there h some = absurd (some refl)
+  told_in k r (Some i) there h some =
+      let reports = h i refl in
+      told a.program output_inside (logs_of a) k i r there reports ∙ ap view_items (log_row a set_up r i reports.1) ∙ view_row a.logs.items r
+
+  pub desk_told : (k r : ℕ) → ((i : ℕ) → slice_get (outputs_of a.program.plan) k ≡ Some i → Reports a.program.plan a.program.site i (Some r)) → (slice_get (outputs_of a.program.plan) k ≡ None → ⊥) → log_at a (slice_get (outputs_of a.program.plan) k) ≡ row_items (slice_get a.logs.items r)
+  desk_told k r h some = told_in k r (slice_get (outputs_of a.program.plan) k) refl h some
+
+  -- whether it reports an output
+  reports_in : (k : ℕ) (o p : Option ℕ) → slice_get (outputs_of a.program.plan) k ≡ o → ((i : ℕ) → o ≡ Some i → Reports a.program.plan a.program.site i p) → (o ≡ None → p ≡ None) → is_some p ≡ told_at a o
+  reports_in k None p there h none = ap is_some (none refl)
+  reports_in k (Some i) None there h none = sym (ap (λ (x : Part). x.told) (part_there a.program i (output_inside i k there)) ∙ h i refl)
+  reports_in k (Some i) (Some r) there h none = sym (ap (λ (x : Part). x.told) (part_there a.program i (output_inside i k there)) ∙ (h i refl).0)
+
+  pub desk_reports : (k : ℕ) (p : Option ℕ) → ((i : ℕ) → slice_get (outputs_of a.program.plan) k ≡ Some i → Reports a.program.plan a.program.site i p) → (slice_get (outputs_of a.program.plan) k ≡ None → p ≡ None) → is_some p ≡ told_at a (slice_get (outputs_of a.program.plan) k)
+  desk_reports k p h none = reports_in k (slice_get (outputs_of a.program.plan) k) p refl h none

@@ -14,6 +14,8 @@ pub mod Sifted
 pub mod Skips
 pub mod Moves
 pub mod Held
+pub mod Spread
+pub mod Rows
 pub mod Posts
 pub mod Counting
 pub mod Drawn

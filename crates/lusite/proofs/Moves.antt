@@ -19,11 +19,12 @@ use Rattle.lusite.specs.declared.next.Next.TheVariants.{Local, Put, Take, Faulte
 use Rattle.luflow.specs.declared.data.Datum.{Datum}
 use Rattle.luflow.specs.declared.message.Body.TheVariants.{Value, Close}
 use Rattle.lusite.specs.Machine.{is_faulted, Stands, IsSet, done_of, cell_size, offered, offered_at, offered_part, offered_own, count_kept, datum_shown, shown_of, pasts_of}
-use Rattle.lusite.specs.Logs.{Log, IsLogged}
+use Rattle.lusite.specs.Logs.{LogView, IsLogged}
 use Rattle.lusite.specs.Programs.{SitePlan, ranks_of, places_of, rank_at, part_at, parts_of, no_part, knows_in}
 use Rattle.lusite.proofs.Carried.{filter_same}
-use Rattle.lusite.proofs.Desks.{Going, part_there, pass_desk, tick_desk}
-use Rattle.lusite.proofs.Skips.{AreUnknown, stands_skip, logged_skip, before_skip, rank_le, rank_in, rank_next, unknown_first, unknown_next, places_in, places_has}
+use Rattle.luworld.proofs.Cursor.{before_next_instant}
+use Rattle.lusite.proofs.Desks.{Going, part_there, pass_desk, tick_desk, no_step}
+use Rattle.lusite.proofs.Skips.{AreUnknown, stands_skip, logged_skip, before_skip, rank_le, rank_in, rank_next, unknown_first, unknown_next, places_has}
 
 -- the ranks that the parts tell are those of the flows that the site knows
 pub ranks_found : (plan : Distribution) (s : ℕ) → IsOrdered plan.flat → filter (λ p. knows_in (unwrap_or (slice_get (parts_of plan s) (slice_index plan.flat.order p)) no_part)) (range_with_len 0 (length plan.flat.order)) ≡ ranks_of plan s
@@ -88,13 +89,6 @@ module _ (a : Desk) (set : IsSet a) where
   pub ordered_here : IsOrdered a.program.plan.flat
   ordered_here = subst (λ (q : Distribution). IsOrdered q.flat) (sym set.plan_is) set.is_job.is_plan.ordered
 
-  -- the flow at hand is one that is shown
-  pub place_shown : (now : List Status) → length now ≡ flows_of job.plan.flat → (k : ℕ) → k < length (places_of a.program.plan a.program.site) → slice_index (places_of a.program.plan a.program.site) k < length now
-  place_shown now len k lk =
-      let inside = places_in a.program ordered_here k lk in
-      let same = ap (λ (q : Distribution). flows_of q.flat) set.plan_is in
-      omega (arith, inside, same, len)
-
   -- what is kept of the flows of the site's own is kept of each that it knows
   pub aged : (pasts' : List Past) → ((k : ℕ) (x : Status) (y : Past) → k < length (places_of a.program.plan a.program.site) → slice_get (shown_of a) (slice_index (places_of a.program.plan a.program.site) k) ≡ Some x → slice_get (pasts_of a) (slice_index (places_of a.program.plan a.program.site) k) ≡ Some y → slice_get pasts' (slice_index (places_of a.program.plan a.program.site) k) ≡ Some (later x y)) → (i : ℕ) → i < flows_of job.plan.flat → knows job.plan s i ≡ true → (x : Status) (y : Past) → slice_get (shown_of a) i ≡ Some x → slice_get (pasts_of a) i ≡ Some y → slice_get pasts' i ≡ Some (later x y)
   aged pasts' each i li known x y ex ey =
@@ -151,7 +145,7 @@ module _ (a : Desk) (g : Going a) (l : a.row < length (places_of a.program.plan 
         before_skip a.inputs.job a.inputs.site g.set.is_job a.instant (a.place + 1) next above (rank_within a g.set (a.row + 1)) unknown ∙ r.1,
       )
 
-  pub logged_next : (logs : List Log) → IsLogged a.inputs.job a.inputs.site logs a.instant (a.place + 1) → IsLogged a.inputs.job a.inputs.site logs a.instant next
+  pub logged_next : (logs : List LogView) → IsLogged a.inputs.job a.inputs.site logs a.instant (a.place + 1) → IsLogged a.inputs.job a.inputs.site logs a.instant next
   logged_next logs h = logged_skip a.inputs.job a.inputs.site g.set.is_job logs a.instant (a.place + 1) next (let n = next_above a g.set l in omega (arith, n)) (next_unknown a g.set l) h
 
 -- from the last flow of an instant to the first of the next that the site knows
@@ -168,5 +162,15 @@ module _ (a : Desk) (g : Going a) (last : a.place ≡ length a.program.plan.flat
         before_skip a.inputs.job a.inputs.site g.set.is_job (a.instant + 1) 0 first low (rank_within a g.set 0) unknown ∙ r.1,
       )
 
-  pub logged_first : (logs : List Log) → IsLogged a.inputs.job a.inputs.site logs (a.instant + 1) 0 → IsLogged a.inputs.job a.inputs.site logs (a.instant + 1) first
+  -- no item is done on the way
+  pub tick_done : items_before a.inputs.job (streams_of a.inputs.job) a.inputs.site (a.instant + 1) first 0 ≡ done_of a
+  tick_done =
+      let job = a.inputs.job in
+      let σ = streams_of job in
+      let end' = last ∙ ap (λ (q : Distribution). length q.flat.order) g.set.plan_is in
+      before_skip job a.inputs.site g.set.is_job (a.instant + 1) 0 first (omega arith) (rank_within a g.set 0) (first_unknown a g.set)
+      ∙ before_next_instant job σ a.inputs.site a.instant
+      ∙ ap₂ (items_before job σ a.inputs.site a.instant) (sym end') (sym (no_step a g end'))
+
+  pub logged_first : (logs : List LogView) → IsLogged a.inputs.job a.inputs.site logs (a.instant + 1) 0 → IsLogged a.inputs.job a.inputs.site logs (a.instant + 1) first
   logged_first logs h = logged_skip a.inputs.job a.inputs.site g.set.is_job logs (a.instant + 1) 0 first (omega arith) (first_unknown a g.set) h

@@ -14,7 +14,7 @@ use Rattle.luworld.specs.Runs.{streams_of, cell, script, outputs_of}
 use Rattle.lusite.specs.declared.desk.Desk.{Desk}
 use Rattle.lusite.specs.declared.program.Part.{Part}
 use Rattle.lusite.specs.Machine.{is_faulted, IsSet, StandsAt, IsReadyAt, Ready, Over, done_of}
-use Rattle.lusite.specs.Logs.{add_if, IsOutput, IsRow, IsLoggedAt, is_wanted, passed_to, row_items, log_at, told_at}
+use Rattle.lusite.specs.Logs.{add_if, IsOutput, IsRow, IsLoggedAt, is_wanted, passed_to, view_items, logs_of, log_at, told_at}
 use Rattle.lusite.specs.Programs.{is_home, reports_output}
 use Rattle.luworld.specs.Progress.{IsFirst}
 use Rattle.lusite.proofs.Desks.{Going, going, part_here}
@@ -65,7 +65,7 @@ output_is a set st logged ready k xs e =
     let job = a.inputs.job in
     let ok = set.is_job.is_plan in
     let inside : (i : ℕ) → slice_get (outputs_of job.plan) k ≡ Some i → (i < flows_of job.plan.flat) × (is_output_of job.plan.flat i ≡ true) = λ i out. let o = output_there job.plan k i out in let v = ok.variables_first in let l = o.0 in (omega (arith, v, l), o.1) in
-    let log = λ (i : ℕ) (out : slice_get (outputs_of job.plan) k ≡ Some i). e ∙ ap (λ (q : Distribution). log_at a (slice_get (outputs_of q) k)) set.plan_is ∙ ap (log_at a) out ∙ ap (λ (x : Part). cond x.told (row_items (slice_get a.logs.items i)) []) (part_here a i set (inside i out).0) in
+    let log = λ (i : ℕ) (out : slice_get (outputs_of job.plan) k ≡ Some i). e ∙ ap (λ (q : Distribution). log_at a (slice_get (outputs_of q) k)) set.plan_is ∙ ap (log_at a) out ∙ ap (λ (x : Part). cond x.told (view_items (slice_get (logs_of a) i)) []) (part_here a i set (inside i out).0) in
     record {
       told = λ i out at_home.
           let o = inside i out in
@@ -73,8 +73,8 @@ output_is a set st logged ready k xs e =
           let w = place_in job.plan.flat.order i (ok.ordered.all_flows i o.0) in
           let b = nat_lt w.0 (passed_to a) in
           let m = a.instant + add_if (nat_lt a.instant job.inputs.instants && b) in
-          let r : IsRow job i a.logs.items m = subst (λ (j : ℕ). IsRow job j a.logs.items m) w.2 (logged w.0 w.1 (subst (λ (j : ℕ). is_wanted job a.inputs.site j ≡ true) (sym w.2) wanted)) in
-          let xs_is : xs ≡ r.row.items = log i out ∙ ap (λ (t : Bool). cond t (row_items (slice_get a.logs.items i)) []) wanted ∙ ap row_items r.there in
+          let r : IsRow job i (logs_of a) m = subst (λ (j : ℕ). IsRow job j (logs_of a) m) w.2 (logged w.0 w.1 (subst (λ (j : ℕ). is_wanted job a.inputs.site j ≡ true) (sym w.2) wanted)) in
+          let xs_is : xs ≡ r.row.items = log i out ∙ ap (λ (t : Bool). cond t (view_items (slice_get (logs_of a) i)) []) wanted ∙ ap view_items r.there in
           let known : IsFirst job i xs m = ap (map Known) xs_is ∙ r.known in
           record {
             begun = (m, within_all a.instant job.inputs.instants b st.instant_le, known);
@@ -82,8 +82,8 @@ output_is a set st logged ready k xs e =
                 let lq = slice_get_within job.plan.flat.order q i there in
                 let eq : slice_index job.plan.flat.order q ≡ i = get_or_from_slice_get job.plan.flat.order q i 0 there in
                 let n = told a set st ready q in
-                let row : IsRow job i a.logs.items n = subst (λ (j : ℕ). IsRow job j a.logs.items n) eq (logged q lq (subst (λ (j : ℕ). is_wanted job a.inputs.site j ≡ true) (sym eq) wanted)) in
-                let items : xs ≡ row.row.items = log i out ∙ ap (λ (t : Bool). cond t (row_items (slice_get a.logs.items i)) []) wanted ∙ ap row_items row.there in
+                let row : IsRow job i (logs_of a) n = subst (λ (j : ℕ). IsRow job j (logs_of a) n) eq (logged q lq (subst (λ (j : ℕ). is_wanted job a.inputs.site j ≡ true) (sym eq) wanted)) in
+                let items : xs ≡ row.row.items = log i out ∙ ap (λ (t : Bool). cond t (view_items (slice_get (logs_of a) i)) []) wanted ∙ ap view_items row.there in
                 let len : length xs ≡ n = first_len job i xs n (ap (map Known) items ∙ row.known) in
                 let own : stands job.plan (slice_index job.plan.flat.order q) a.inputs.site ≡ true = ap (λ (j : ℕ). stands job.plan j a.inputs.site) eq ∙ ap (stands job.plan i) (sym at_home) ∙ ok.stands_home i o.0 in
                 (λ l. told_passed a set st ready q lq own u lu (omega (arith, l, len)), λ h. let l = passed_told a set st ready q lq own u lu h in omega (arith, l, len));
@@ -97,7 +97,7 @@ output_is a set st logged ready k xs e =
           };
       elsewhere = λ i out away.
           let off : is_wanted job a.inputs.site i ≡ false = ap (λ (b : Bool). b && is_output_of job.plan.flat i) (ne_eqb (home job.plan i) a.inputs.site away) in
-          log i out ∙ ap (λ (t : Bool). cond t (row_items (slice_get a.logs.items i)) []) off;
+          log i out ∙ ap (λ (t : Bool). cond t (view_items (slice_get (logs_of a) i)) []) off;
       beyond = λ none. e ∙ ap (λ (q : Distribution). log_at a (slice_get (outputs_of q) k)) set.plan_is ∙ ap (log_at a) none;
     }
 

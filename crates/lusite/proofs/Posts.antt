@@ -1,33 +1,47 @@
 -- What the machine of a site has of its flows.
-use Rattle.std.proofs.Common.{◌≡◌, ℕ, zero, suc, ◌<◌, ◌≤◌, ◌*◌, ◌^◌, inl, inr, Bool, true, false, List, [], ◌∷◌, ◌++◌, length, Option, Some, None, refl, sym, ap, ap₂, ◌∙◌, subst, arith}
+use Rattle.std.proofs.Common.{◌≡◌, ◌≢◌, ℕ, zero, suc, ◌+◌, ◌<◌, ◌≤◌, ◌*◌, ◌^◌, inl, inr, Bool, true, false, List, [], ◌∷◌, ◌++◌, length, map, set, get_or, Option, Some, None, refl, sym, ap, ap₂, ◌∙◌, subst, arith}
 use Rattle.std.specs.List.{range_with_len}
 use Rattle.std.proofs.lemmas.List.FromFn.{length-range_with_len}
-use Rattle.std.specs.Prelude.{slice_get, slice_index, unwrap_or, not, ◌||◌, nat_lt, is_some}
-use Rattle.std.proofs.lemmas.Option.{same_Some, slice_get-get_or}
+use Rattle.std.specs.Prelude.{slice_get, slice_index, unwrap_or, not, ◌||◌, nat_lt, is_some, All}
+use Rattle.std.proofs.lemmas.Option.{same_Some, slice_get-get_or, slice_get-map, get_or_from_slice_get}
+use Rattle.std.specs.Option.{option_map}
 use Rattle.std.proofs.lemmas.Bool.{cases_lt}
+use Rattle.std.proofs.lemmas.List.{length-append, length-map, map-append}
 use Rattle.std.proofs.lemmas.List.Elements.{All-get_or}
+use Rattle.luflow.specs.declared.data.Datum.{Datum}
+use Rattle.luflow.specs.declared.form.Clock.{Clock}
+use Rattle.luflow.specs.declared.form.Clock.TheVariants.{Base, On}
 use Rattle.luflow.specs.declared.form.Flow.{Flow}
-use Rattle.luflow.specs.Program.{flow_at, flows_of, column_of, IsOrdered}
-use Rattle.luworld.specs.Needs.{Distribution, IsPlan, stands}
-use Rattle.luworld.specs.Runs.{is_open, knows}
-use Rattle.lueval.specs.Cells.{clock_of, view_of}
-use Rattle.lueval.specs.Frames.{clock_in}
+use Rattle.luflow.specs.declared.form.Form.TheVariants.{Input}
+use Rattle.luflow.specs.declared.form.Outcome.{Outcome}
+use Rattle.luflow.specs.Program.{flow_at, flows_of, column_of, places, reads, clock_reads, IsOrdered}
+use Rattle.luflow.specs.Values.{View, value_of}
+use Rattle.luflow.proofs.Solutions.{first_of_all, some_at}
+use Rattle.luflow.specs.Variables.{is_output_of}
+use Rattle.luworld.specs.Needs.{Distribution, IsPlan, home, stands}
+use Rattle.luworld.specs.Runs.{is_open, knows, link_into, outputs_of, sends}
+use Rattle.luworld.proofs.Fitting.{fits}
+use Rattle.lueval.specs.Cells.{clock_of, statuses, view_of}
+use Rattle.lueval.specs.Frames.{clock_in, value_there, datum_there, last_in, ticked_in, latest, view_in}
+use Rattle.lueval.specs.Moving.{moved_clock, moved_form}
+use Rattle.lueval.specs.Operations.{IsLonger, form_of}
+use Rattle.lueval.proofs.Lines.{few_branches}
+use Rattle.lueval.proofs.Moved.{IsSeen, value_moved}
+use Rattle.lueval.proofs.Spans.{form_same, inside_more, slice_get_front}
 use Rattle.lusite.specs.declared.program.Part.{Part}
 use Rattle.lusite.specs.declared.program.Post.{Post}
 use Rattle.lusite.specs.declared.desk.Desk.{Desk}
-use Rattle.lusite.specs.Programs.{part_of, part_at, parts_of, no_part, ranks_of, places_of, IsPost}
-use Rattle.lusite.specs.Machine.{in_cell, clock_there, cell_size, shown_of, pasts_of, outcome_of, Computes, IsSet}
+use Rattle.lusite.specs.Programs.{SitePlan, part_of, part_at, ranks_of, places_of, AreNumbers, IsPost, ArePosts}
+use Rattle.lusite.specs.Widths.{width, width_of}
+use Rattle.lusite.specs.Machine.{in_cell, clock_there, cell_size, shown_of, pasts_of, pasts_in, outcome_of, Computes, IsSet}
 use Rattle.lusite.proofs.Desks.{part_there}
 use Rattle.lusite.proofs.Held.{view_same}
-use Rattle.lusite.proofs.Moves.{place_over}
-use Rattle.lusite.proofs.Skips.{rank_in}
-use Rattle.lusite.proofs.Widths.{filter_short}
-use Rattle.luflow.specs.declared.data.Datum.{Datum}
-use Rattle.luflow.specs.declared.form.Outcome.{Outcome}
-use Rattle.luflow.specs.declared.form.Form.TheVariants.{Input}
-use Rattle.luflow.specs.Values.{value_of}
-use Rattle.lueval.specs.Operations.{IsLonger, form_of}
-use Rattle.lueval.proofs.Lines.{longer_line, few_branches}
+use Rattle.lusite.proofs.Machine.{slice_get-set_same, slice_get-set_other}
+use Rattle.lusite.proofs.Moves.{ordered_here, place_over, place_within, rank_here}
+use Rattle.lusite.proofs.Outputs.{output_there}
+use Rattle.lusite.proofs.Rows.{row_here, shown_row, past_row}
+use Rattle.lusite.proofs.Skips.{places_has, rank_in, rank_known}
+use Rattle.lusite.proofs.Widths.{filter_short, sends_short}
 
 -- a flow that has items is present, or closes
 pub begun_size : (open' own early : Bool) (outs : ℕ) (into : Bool) → 0 < in_cell open' own early outs into → in_cell true own early outs into ≡ in_cell open' own early outs into
@@ -41,21 +55,49 @@ pushed P [] y here each (suc k) x e = absurd cc
 pushed P (z ∷ xs) y here each zero x e = each zero x e
 pushed P (z ∷ xs) y here each (suc k) x e = pushed (λ n. P (suc n)) xs y here (λ j w h. each (suc j) w h) k x e
 
--- branches of other flows behind its own change nothing for a flow
-longer_post : (plan : Distribution) (s : ℕ) (old new : List ℕ) (p : ℕ) (post : Post) → IsLonger old new → IsPost plan s old p post → IsPost plan s new p post
-longer_post plan s old new p post longer is = record {
-  line = longer_line plan.flat old new p post.line longer is.line;
+-- more behind a list changes nothing of it, and is behind it
+index_front : (xs ys : List ℕ) (i : ℕ) → i < length xs → slice_index (xs ++ ys) i ≡ slice_index xs i
+index_front xs ys i l =
+    let w = some_at xs i l in
+    get_or_from_slice_get (xs ++ ys) i w.0 0 (slice_get_front xs ys i l ∙ w.1) ∙ sym (get_or_from_slice_get xs i w.0 0 w.1)
+
+pub index_back : (xs ys : List ℕ) (j : ℕ) → slice_index (xs ++ ys) (length xs + j) ≡ slice_index ys j
+index_back [] ys j = let e : 0 + j ≡ j = omega arith in ap (slice_index ys) e
+index_back (x ∷ xs) ys j = let e : length (x ∷ xs) + j ≡ suc (length xs + j) = omega arith in ap (slice_index (x ∷ (xs ++ ys))) e ∙ index_back xs ys j
+
+-- branches and links of other flows behind its own change nothing for a flow
+longer_post : (plan : Distribution) (s : ℕ) (old new links more : List ℕ) (p : ℕ) (post : Post) → IsLonger old new → IsPost plan s old links p post → IsPost plan s new (links ++ more) p post
+longer_post plan s old new links more p post longer is = record {
+  numbers = is.numbers;
+  numbered = is.numbered;
+  flow = is.flow;
+  there = is.there;
+  place = is.place;
+  form = ap (λ xs. form_of xs post.line.operation) longer.is ∙ form_same old longer.more post.line.operation is.inside ∙ is.form;
+  inside = inside_more old new post.line.operation longer is.inside;
+  clock = is.clock;
+  owner = is.owner;
   own = is.own;
   told = is.told;
   from = is.from;
   outs = is.outs;
+  linked = let n = length-append links more in let w = is.linked in omega (arith, n, w);
+  to = λ j l. index_front links more (post.first + j) (let w = is.linked in omega (arith, w, l)) ∙ is.to j l;
 }
 
-pub posts_more : (plan : Distribution) (s : ℕ) (old new : List ℕ) (posts posts' : List Post) (k rank : ℕ) (post : Post) → IsLonger old new → posts' ≡ posts ++ post ∷ [] → length posts ≡ k → slice_get (ranks_of plan s) k ≡ Some rank → IsPost plan s new rank post → ((j p : ℕ) (x : Post) → slice_get (ranks_of plan s) j ≡ Some p → slice_get posts j ≡ Some x → IsPost plan s old p x) → (j p : ℕ) (x : Post) → slice_get (ranks_of plan s) j ≡ Some p → slice_get posts' j ≡ Some x → IsPost plan s new p x
-posts_more plan s old new posts posts' k rank post longer is len there last each j p x ep ex =
-    let P : ℕ → Post → Type 0 = λ i y. (q : ℕ) → slice_get (ranks_of plan s) i ≡ Some q → IsPost plan s new q y in
-    let here : P (length posts) post = λ q eq. subst (λ (r : ℕ). IsPost plan s new r post) (same_Some rank q (sym there ∙ ap (slice_get (ranks_of plan s)) (sym len) ∙ eq)) last in
-    pushed P posts post here (λ i y ey q eq. longer_post plan s old new q y longer (each i q y eq ey)) j x (ap (λ (ys : List Post). slice_get ys j) (sym is) ∙ ex) p ep
+-- they stay behind where each is put elsewhere
+pub longer_moved : (f : ℕ → ℕ) (old new : List ℕ) → IsLonger old new → IsLonger (map f old) (map f new)
+longer_moved f old new longer = record {
+  more = map f longer.more;
+  is = ap (map f) longer.is ∙ map-append f old longer.more;
+  few = let n = length-map longer.more f in let few = longer.few in omega (arith, n, few);
+}
+
+pub posts_more : (plan : Distribution) (s : ℕ) (old new links more : List ℕ) (posts posts' : List Post) (k rank : ℕ) (post : Post) → IsLonger old new → posts' ≡ posts ++ post ∷ [] → length posts ≡ k → slice_get (ranks_of plan s) k ≡ Some rank → IsPost plan s new (links ++ more) rank post → ((j p : ℕ) (x : Post) → slice_get (ranks_of plan s) j ≡ Some p → slice_get posts j ≡ Some x → IsPost plan s old links p x) → (j p : ℕ) (x : Post) → slice_get (ranks_of plan s) j ≡ Some p → slice_get posts' j ≡ Some x → IsPost plan s new (links ++ more) p x
+posts_more plan s old new links more posts posts' k rank post longer is len there last each j p x ep ex =
+    let P : ℕ → Post → Type 0 = λ i y. (q : ℕ) → slice_get (ranks_of plan s) i ≡ Some q → IsPost plan s new (links ++ more) q y in
+    let here : P (length posts) post = λ q eq. subst (λ (r : ℕ). IsPost plan s new (links ++ more) r post) (same_Some rank q (sym there ∙ ap (slice_get (ranks_of plan s)) (sym len) ∙ eq)) last in
+    pushed P posts post here (λ i y ey q eq. longer_post plan s old new links more q y longer (each i q y eq ey)) j x (ap (λ (ys : List Post). slice_get ys j) (sym is) ∙ ex) p ep
 
 -- a site has few flows, so their merges have few branches
 pub few_posts : (plan : Distribution) (s k : ℕ) (ranks branches : List ℕ) → IsPlan plan → ranks ≡ ranks_of plan s → k < length ranks → length branches ≤ k * 255 → length branches < 2 ^ 32
@@ -65,12 +107,22 @@ few_posts plan s k ranks branches is_plan e l h =
     let m = ap length e in
     few_branches plan.flat branches k is_plan.flat_is (omega (arith, short, n, m, l)) h
 
--- the flow of a rank, from the parts in all flows
-pub post_part : (plan : Distribution) (s p place : ℕ) (parts : List Part) → parts ≡ parts_of plan s → place ≡ slice_index plan.flat.order p → place < flows_of plan.flat → unwrap_or (slice_get parts place) no_part ≡ part_of plan s (slice_index plan.flat.order p)
-post_part plan s p place parts e is l =
-    ap (λ (ps : List Part). unwrap_or (slice_get ps place) no_part) e
-    ∙ part_there (record { plan = plan; site = s }) place l
-    ∙ ap (part_of plan s) is
+-- a flow goes out by few links
+pub few_sends : (plan : Distribution) (s i : ℕ) → IsPlan plan → length (sends plan s i) ≤ 65536
+few_sends plan s i is_plan =
+    let n = sends_short plan s i in
+    let few = (fits plan is_plan).few_links in
+    omega (arith, n, few)
+
+-- the flow of a number, and its rank
+pub row_rank : (plan : Distribution) (s k rank : ℕ) → slice_get (ranks_of plan s) k ≡ Some rank → slice_get (places_of plan s) k ≡ Some (slice_index plan.flat.order rank)
+row_rank plan s k rank e = slice_get-map (slice_index plan.flat.order) (ranks_of plan s) k ∙ ap (option_map (slice_index plan.flat.order)) e
+
+-- the site's part in it
+pub part_rank : (plan : Distribution) (s k rank : ℕ) (parts : List Part) (d : Part) → parts ≡ map (part_of plan s) (places_of plan s) → slice_get (ranks_of plan s) k ≡ Some rank → get_or parts k d ≡ part_of plan s (slice_index plan.flat.order rank)
+part_rank plan s k rank parts d e there =
+    get_or_from_slice_get parts k (part_of plan s (slice_index plan.flat.order rank)) d
+    (ap (λ (ps : List Part). slice_get ps k) e ∙ slice_get-map (part_of plan s) (places_of plan s) k ∙ ap (option_map (part_of plan s)) (row_rank plan s k rank there))
 
 -- a rank of the site's own
 pub rank_below : (plan : Distribution) (s k : ℕ) (ranks : List ℕ) → ranks ≡ ranks_of plan s → k < length ranks → (slice_get (ranks_of plan s) k ≡ Some (slice_index ranks k)) × (slice_index ranks k < length plan.flat.order)
@@ -88,17 +140,64 @@ row_within a set lp = elim (cases_lt a.row (length (places_of a.program.plan a.p
       absurd (omega (arith, over, same, lp))
 ]
 
-module _ (a : Desk) (set : IsSet a) (post : Post) (branches : List ℕ) (is : IsPost a.program.plan a.program.site branches a.place post) (lp : a.place < length a.program.plan.flat.order) where
+-- the number of one flow more is noted at its place
+pub number_noted : (places numbers : List ℕ) (k : ℕ) → ((i j : ℕ) → i < j → j < length places → slice_index places i ≢ slice_index places j) → k < length places → slice_index places k < length numbers → ((j i : ℕ) → j < k → slice_get places j ≡ Some i → slice_get numbers i ≡ Some j) → (j i : ℕ) → j < k + 1 → slice_get places j ≡ Some i → slice_get (set numbers (slice_index places k) k) i ≡ Some j
+number_noted places numbers k once lk within done j i l e =
+    let at = get_or_from_slice_get places j i 0 e in
+    elim (cases_lt j k) [
+      | inl lt ↦ slice_get-set_other numbers (slice_index places k) i k (λ same. once j k lt lk (at ∙ same)) ∙ done j i lt e
+      | inr ge ↦
+          let here : j ≡ k = omega (arith, l, ge) in
+          let place : i ≡ slice_index places k = sym at ∙ ap (slice_index places) here in
+          ap (slice_get (set numbers (slice_index places k) k)) place ∙ slice_get-set_same numbers (slice_index places k) k within ∙ ap Some (sym here)
+    ]
+
+-- a site knows few flows, each at one place
+pub few_places : (plan : Distribution) (s : ℕ) → IsPlan plan → length (places_of plan s) < 65536
+few_places plan s is_plan =
+    let short = filter_short (λ p. knows plan s (slice_index plan.flat.order p)) (range_with_len 0 (length plan.flat.order)) in
+    let n = length-range_with_len 0 (length plan.flat.order) in
+    let m = length-map (ranks_of plan s) (slice_index plan.flat.order) in
+    let count = is_plan.flat_is.ranked.count in
+    let r = length-map plan.flat.flows reads in
+    let few = is_plan.flat_is.few in
+    omega (arith, short, n, m, count, r, few)
+
+pub few_ranks : (plan : Distribution) (s : ℕ) (ranks : List ℕ) → IsPlan plan → ranks ≡ ranks_of plan s → length ranks ≤ 4096
+few_ranks plan s ranks is_plan e =
+    let short = filter_short (λ p. knows plan s (slice_index plan.flat.order p)) (range_with_len 0 (length plan.flat.order)) in
+    let n = length-range_with_len 0 (length plan.flat.order) in
+    let count = is_plan.flat_is.ranked.count in
+    let r = length-map plan.flat.flows reads in
+    let few = is_plan.flat_is.few in
+    let m = ap length e in
+    omega (arith, short, n, m, count, r, few)
+
+-- the place of a rank's flow
+pub place_below : (plan : Distribution) (p : ℕ) → IsOrdered plan.flat → p < length plan.flat.order → slice_index plan.flat.order p < flows_of plan.flat
+place_below plan p ordered lp = All-get_or (λ j. j < flows_of plan.flat) plan.flat.order p 0 lp ordered.only_flows
+
+module _ (a : Desk) (set_up : IsSet a) (post : Post) (branches links : List ℕ) (is : IsPost a.program.plan a.program.site branches links a.place post) (l : a.row < length (places_of a.program.plan a.program.site)) where
   abbrev i : ℕ
   i = slice_index a.program.plan.flat.order a.place
 
-  pub place_is : post.line.place ≡ i
-  place_is = is.line.place
+  abbrev put : ℕ → ℕ
+  put = slice_index is.numbers
+
+  lp : a.place < length a.program.plan.flat.order
+  lp = place_within a set_up l
+
+  ordered : IsOrdered a.program.plan.flat
+  ordered = ordered_here a set_up
+
+  number : (k r : ℕ) → slice_get (places_of a.program.plan a.program.site) k ≡ Some r → put r ≡ k
+  number k r e = get_or_from_slice_get is.numbers r k 0 (is.numbered k r e)
+
+  pub place_is : post.line.place ≡ a.row
+  place_is = is.place ∙ number a.row i (row_here a set_up l)
 
   part_here : part_of a.program.plan a.program.site i ≡ part_at a.program i
-  part_here =
-      let ordered : IsOrdered a.program.plan.flat = subst (λ (q : Distribution). IsOrdered q.flat) (sym set.plan_is) set.is_job.is_plan.ordered in
-      sym (part_there a.program i (All-get_or (λ j. j < flows_of a.program.plan.flat) a.program.plan.flat.order a.place 0 lp ordered.only_flows))
+  part_here = sym (part_there a.program i (place_below a.program.plan a.place ordered lp))
 
   pub own_is : post.own ≡ (part_at a.program i).own
   own_is = is.own ∙ ap (λ (x : Part). x.own) part_here
@@ -112,28 +211,86 @@ module _ (a : Desk) (set : IsSet a) (post : Post) (branches : List ℕ) (is : Is
   pub outs_is : post.outs ≡ length (part_at a.program i).to
   outs_is = is.outs ∙ ap (λ (x : Part). length x.to) part_here
 
-  pub flow_is : flow_at a.program.plan.flat i ≡ Some is.line.flow
-  flow_is = ap (flow_at a.program.plan.flat) (sym place_is) ∙ is.line.there
+  pub sent_is : (j : ℕ) → j < post.outs → slice_index links (post.first + j) ≡ slice_index (part_at a.program i).to j
+  sent_is j lj = is.to j lj ∙ ap (λ (x : Part). slice_index x.to j) part_here
 
+  -- a flow that the site knows is seen by its number as by its place
+  abbrev Known : ℕ → Type 0
+  Known r = knows a.program.plan a.program.site r ≡ true
+
+  known_here : Known i
+  known_here = rank_known a.program a.row a.place (rank_here a set_up l)
+
+  row_of : (r : ℕ) → Known r → r < flows_of a.program.plan.flat → slice_get (places_of a.program.plan a.program.site) (put r) ≡ Some r
+  row_of r known lr =
+      let w = places_has a.program ordered r lr known in
+      let e : slice_get (places_of a.program.plan a.program.site) w.0 ≡ Some r = slice_get-get_or (places_of a.program.plan a.program.site) w.0 0 w.1 ∙ ap Some w.2 in
+      ap (slice_get (places_of a.program.plan a.program.site)) (number w.0 r e) ∙ e
+
+  shown_known : (r : ℕ) → Known r → r < flows_of a.program.plan.flat → slice_get (statuses a.shown.items) (put r) ≡ slice_get (shown_of a) r
+  shown_known r known lr = sym (shown_row a set_up (put r) r (row_of r known lr))
+
+  past_known : (r : ℕ) → Known r → r < flows_of a.program.plan.flat → slice_get (pasts_in a.lasts.items a.counts.items) (put r) ≡ slice_get (pasts_of a) r
+  past_known r known lr = sym (past_row a set_up (put r) r (row_of r known lr))
+
+  -- the clock
   abbrev on : Bool
-  on = unwrap_or (clock_in (shown_of a) (clock_of post.line.clock)) false
+  on = unwrap_or (clock_in (statuses a.shown.items) (clock_of post.line.clock)) false
 
   open_on : (o : Option Bool) → unwrap_or o false ≡ is_open o
   open_on None = refl
   open_on (Some b) = refl
 
+  clock_same : (k : Clock) → All Known (clock_reads k) → All (λ r. r < flows_of a.program.plan.flat) (clock_reads k) → clock_in (statuses a.shown.items) (moved_clock put k) ≡ clock_in (shown_of a) k
+  clock_same Base known low = refl
+  clock_same (On c d) known low = ap (value_there d) (shown_known c (first_of_all Known c [] known) (first_of_all (λ r. r < flows_of a.program.plan.flat) c [] low))
+
+  needs : (Q : Distribution → ℕ → Type 0) → Q a.inputs.job.plan a.inputs.site → Q a.program.plan a.program.site
+  needs Q h = subst (λ (k : ℕ). Q a.program.plan k) (sym set_up.site_is) (subst (λ (q : Distribution). Q q a.inputs.site) (sym set_up.plan_is) h)
+
+  clock_known : All Known (clock_reads is.flow.clock)
+  clock_known = needs (λ q s. flow_at q.flat i ≡ Some is.flow → knows q s i ≡ true → All (λ r. knows q s r ≡ true) (clock_reads is.flow.clock)) (set_up.is_job.is_plan.needs_clock a.inputs.site i is.flow) is.there known_here
+
   on_is : on ≡ is_open (clock_there (shown_of a) (flow_at a.program.plan.flat i))
-  on_is = open_on (clock_in (shown_of a) (clock_of post.line.clock)) ∙ ap (λ k. is_open (clock_in (shown_of a) k)) is.line.clock ∙ ap (λ (o : Option Flow). is_open (clock_there (shown_of a) o)) (sym flow_is)
+  on_is =
+      open_on (clock_in (statuses a.shown.items) (clock_of post.line.clock))
+      ∙ ap (λ k. is_open (clock_in (statuses a.shown.items) k)) is.clock
+      ∙ ap is_open (clock_same is.flow.clock clock_known (ordered.clocks_in i is.flow is.there))
+      ∙ ap (λ (o : Option Flow). is_open (clock_there (shown_of a) o)) (sym is.there)
+
+  -- what the flow at hand looks at
+  module _ (d : Option Datum) where
+    abbrev part : View
+    part = view_in d (statuses a.shown.items) (pasts_in a.lasts.items a.counts.items) (put i)
+
+    abbrev whole : View
+    whole = view_in d (shown_of a) (pasts_of a) i
+
+    seen : (r : ℕ) → Known r → r < flows_of a.program.plan.flat → IsSeen put part whole r
+    seen r known lr =
+        let now = ap datum_there (shown_known r known lr) in
+        let last = ap last_in (past_known r known lr) in
+        record { now = now; upto = ap₂ latest now last; last = last }
+
+    was : part.was ≡ whole.was
+    was = ap ticked_in (past_known i known_here (place_below a.program.plan a.place ordered lp))
+
+    operands : stands a.inputs.job.plan i a.inputs.site ≡ true → All (IsSeen put part whole) (places is.flow.form)
+    operands own =
+        let known : All Known (places is.flow.form) = needs (λ q s. flow_at q.flat i ≡ Some is.flow → stands q i s ≡ true → All (λ r. knows q s r ≡ true) (places is.flow.form)) (set_up.is_job.is_plan.needs_operands a.inputs.site i is.flow) is.there (needs (λ q s. stands q i s ≡ true) own) in
+        let low = ordered.places_in i is.flow is.there in
+        λ k e lk. seen (get_or (places is.flow.form) k e) (known k e lk) (low k e lk)
 
   -- the value of the flow at hand
-  pub computes_is : (d : Option Datum) (o : Outcome) → o ≡ value_of (form_of branches post.line.operation) (view_of (λ c. d) (shown_of a) a.lasts.items post.line.place) → ((c : ℕ) → form_of branches post.line.operation ≡ Input c → stands a.inputs.job.plan c a.inputs.site ≡ true → d ≡ slice_get (column_of a.inputs.job.inputs c) a.instant) → Computes a i (flow_at a.program.plan.flat i) o
-  computes_is d o e given = record {
+  pub computes_is : (d : Option Datum) (o : Outcome) → stands a.inputs.job.plan i a.inputs.site ≡ true → o ≡ value_of (form_of branches post.line.operation) (view_of (λ c. d) (statuses a.shown.items) a.lasts.items post.line.place) → ((c : ℕ) → form_of branches post.line.operation ≡ Input c → stands a.inputs.job.plan c a.inputs.site ≡ true → d ≡ slice_get (column_of a.inputs.job.inputs c) a.instant) → Computes a i (flow_at a.program.plan.flat i) o
+  computes_is d o own e given = record {
     given = d;
-    is_given = λ c f flow form own. given c (is.line.form ∙ ap (λ (x : Flow). x.form) (same_Some is.line.flow f (sym flow_is ∙ flow)) ∙ form) own;
+    is_given = λ c f flow form there. given c (is.form ∙ ap (moved_form put) (ap (λ (x : Flow). x.form) (same_Some is.flow f (sym is.there ∙ flow)) ∙ form)) there;
     is = e
-        ∙ ap₂ (λ f j. value_of f (view_of (λ c. d) (shown_of a) a.lasts.items j)) is.line.form place_is
-        ∙ ap (value_of is.line.flow.form) (view_same a.lasts.items a.counts.items set.pasts_fit (shown_of a) d i)
-        ∙ ap (outcome_of d (shown_of a) (pasts_of a) i) (sym flow_is);
+        ∙ ap₂ (λ f j. value_of f (view_of (λ c. d) (statuses a.shown.items) a.lasts.items j)) is.form is.place
+        ∙ ap (value_of (moved_form put is.flow.form)) (view_same a.lasts.items a.counts.items set_up.pasts_fit (statuses a.shown.items) d (put i))
+        ∙ value_moved put (part d) (whole d) is.flow.form (operands d own) (was d) (λ c _. refl)
+        ∙ ap (outcome_of d (shown_of a) (pasts_of a) i) (sym is.there);
   }
 
   -- how many items the flow at hand has
@@ -143,3 +300,31 @@ module _ (a : Desk) (set : IsSet a) (post : Post) (branches : List ℕ) (is : Is
       ∙ ap (λ (b : Bool). in_cell (not early || b) (part_at a.program i).own early (length (part_at a.program i).to) (is_some (part_at a.program i).from)) (sym on_is)
       ∙ ap₂ (λ (b : Bool) (n : ℕ). in_cell (not early || on) b early n (is_some (part_at a.program i).from)) (sym own_is) (sym outs_is)
       ∙ ap (λ (o : Option ℕ). in_cell (not early || on) post.own early post.outs (is_some o)) (sym from_is)
+
+-- how many items a flow of the site's has where it is present
+pub post_width : (p : SitePlan) → IsOrdered p.plan.flat → (early : Bool) (k rank : ℕ) (branches links : List ℕ) (post : Post) → IsPost p.plan p.site branches links rank post → slice_get (ranks_of p.plan p.site) k ≡ Some rank → in_cell true post.own early post.outs (is_some post.from) ≡ width p early (slice_index p.plan.flat.order rank)
+post_width p ordered early k rank branches links post is there =
+    ap₂ (λ (b : Bool) (n : ℕ). in_cell true b early n (is_some post.from)) is.own is.outs
+    ∙ ap (λ (o : Option ℕ). in_cell true (part_of p.plan p.site (slice_index p.plan.flat.order rank)).own early (length (part_of p.plan p.site (slice_index p.plan.flat.order rank)).to) (is_some o)) is.from
+    ∙ ap (λ (x : Part). width_of x early) (sym (part_there p (slice_index p.plan.flat.order rank) (place_below p.plan rank ordered (rank_in p k rank there))))
+
+pub row_width : (p : SitePlan) → IsOrdered p.plan.flat → (early : Bool) (branches links : List ℕ) (posts : List Post) → ArePosts p.plan p.site branches links posts → (k : ℕ) (d : Post) (n : ℕ) → k < length posts → n ≡ in_cell true (get_or posts k d).own early (get_or posts k d).outs (is_some (get_or posts k d).from) → (rank : ℕ) × (slice_get (ranks_of p.plan p.site) k ≡ Some rank) × (n ≡ width p early (slice_index p.plan.flat.order rank))
+row_width p ordered early branches links posts are k d n lk e =
+    let rank = some_at (ranks_of p.plan p.site) k (let m = are.len in omega (arith, m, lk)) in
+    (rank.0, rank.1, e ∙ post_width p ordered early k rank.0 branches links (get_or posts k d) (are.each k rank.0 (get_or posts k d) rank.1 (slice_get-get_or posts k d lk)) rank.1)
+
+-- a flow that stands at its home has a number there
+pub number_home : (plan : Distribution) (s i : ℕ) (numbers : List ℕ) → IsPlan plan → AreNumbers plan s numbers → i < flows_of plan.flat → home plan i ≡ s → slice_get (places_of plan s) (slice_index numbers i) ≡ Some i
+number_home plan s i numbers is_plan are li e =
+    let ordered = is_plan.flat_is.ordered in
+    let stands_here : stands plan i s ≡ true = subst (λ (h : ℕ). stands plan i h ≡ true) e ((fits plan is_plan).stands_home i li) in
+    let w = places_has (record { plan = plan; site = s }) ordered i li (ap (λ b. b || is_some (link_into plan s i)) stands_here) in
+    let here : slice_get (places_of plan s) w.0 ≡ Some i = slice_get-get_or (places_of plan s) w.0 0 w.1 ∙ ap Some w.2 in
+    ap (slice_get (places_of plan s)) (get_or_from_slice_get numbers i w.0 0 (are w.0 i here)) ∙ here
+
+-- the place of an output
+pub output_within : (plan : Distribution) (k i : ℕ) → IsPlan plan → slice_get (outputs_of plan) k ≡ Some i → (i < flows_of plan.flat) × (is_output_of plan.flat i ≡ true)
+output_within plan k i is_plan e =
+    let first = (fits plan is_plan).variables_first in
+    let w = output_there plan k i e in
+    (let l = w.0 in omega (arith, first, l), w.1)

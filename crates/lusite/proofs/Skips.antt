@@ -16,7 +16,7 @@ use Rattle.luworld.proofs.Cursor.{before_next_flow}
 use Rattle.luworld.proofs.Outlines.{cell_is}
 use Rattle.lueval.specs.declared.kernel.Past.{Past}
 use Rattle.lusite.specs.Machine.{Stands}
-use Rattle.lusite.specs.Logs.{Log, add_if, IsRow, IsLogged}
+use Rattle.lusite.specs.Logs.{LogView, add_if, IsRow, IsLogged}
 use Rattle.lusite.specs.Programs.{SitePlan, ranks_of, places_of, rank_at}
 use Rattle.lusite.proofs.Machine.{there}
 use Rattle.lusite.proofs.Told.{lt-false, wanted_known}
@@ -81,7 +81,7 @@ module _ (job : Run) (s : ℕ) (ij : IsJob job) where
   }
 
   -- no output is among them
-  pub logged_skip : (logs : List Log) (t p q : ℕ) → p ≤ q → AreUnknown job.plan s p q → IsLogged job s logs t p → IsLogged job s logs t q
+  pub logged_skip : (logs : List LogView) (t p q : ℕ) → p ≤ q → AreUnknown job.plan s p q → IsLogged job s logs t p → IsLogged job s logs t q
   logged_skip logs t p q le h logged r lr wanted =
       subst (λ (b : Bool). IsRow job (slice_index job.plan.flat.order r) logs (t + add_if (nat_lt t job.inputs.instants && b))) same (logged r lr wanted)
     where

@@ -1,6 +1,6 @@
 -- The logs of a site's outputs.
 use Rattle.std.proofs.Common.{◌≡◌, ◌≢◌, ℕ, ◌+◌, ◌<◌, ◌≤◌, ◌⊎◌, inl, inr, Bool, true, false, List, [], ◌∷◌, ◌++◌, length, map, set, Some, refl, sym, ap, ap₂, ◌∙◌, subst, arith, nat_eq}
-use Rattle.std.specs.Prelude.{slice_get, slice_index, ◌&&◌, ◌||◌, ◌==◌, not, nat_lt, is_some, vec_capacity}
+use Rattle.std.specs.Prelude.{slice_get, slice_index, ◌&&◌, ◌||◌, ◌==◌, not, nat_lt, is_some}
 use Rattle.std.specs.List.{range_with_len}
 use Rattle.std.proofs.lemmas.List.{length-map, map-append}
 use Rattle.std.proofs.lemmas.List.FromFn.{length-range_with_len}
@@ -13,10 +13,9 @@ use Rattle.luflow.specs.declared.data.Status.TheVariants.{Absent}
 use Rattle.luflow.specs.Streams.{Mark, Known}
 use Rattle.luflow.specs.Program.{flows_of}
 use Rattle.luflow.specs.Messages.{marks}
-use Rattle.luflow.proofs.Solutions.{some_at}
 use Rattle.luworld.specs.Needs.{Distribution, stands, home}
 use Rattle.luworld.specs.Runs.{Run, streams_of, knows, IsJob, link_into}
-use Rattle.lusite.specs.Logs.{Log, add_if, IsRow, IsLogged, IsLoggedAt, is_wanted, is_noted, passed_to, IsNoted, IsNewRow}
+use Rattle.lusite.specs.Logs.{LogView, logs_of, add_if, IsRow, IsLogged, IsLoggedAt, is_wanted, is_noted, passed_to, IsNoted}
 use Rattle.luworld.specs.Progress.{IsFirst}
 use Rattle.lusite.specs.Machine.{Stands, is_faulted, shown_of, pasts_of}
 use Rattle.lusite.specs.declared.desk.Desk.{Desk}
@@ -49,7 +48,7 @@ and_no true = refl
 and_no false = refl
 
 -- one flow further
-module _ (job : Run) (s : ℕ) (ok : IsJob job) (logs logs' : List Log) (t p : ℕ) (lp : p < length job.plan.flat.order) (logged : IsLogged job s logs t p) where
+module _ (job : Run) (s : ℕ) (ok : IsJob job) (logs logs' : List LogView) (t p : ℕ) (lp : p < length job.plan.flat.order) (logged : IsLogged job s logs t p) where
   abbrev here : ℕ
   here = slice_index job.plan.flat.order p
 
@@ -59,11 +58,11 @@ module _ (job : Run) (s : ℕ) (ok : IsJob job) (logs logs' : List Log) (t p : �
       let z : add_if (nat_lt t job.inputs.instants && nat_lt p p) ≡ 0 = ap₂ (λ a b. add_if (a && b)) (lt-ltb t job.inputs.instants lt) (lt-false p p (omega arith)) in
       subst (IsRow job here logs) (let e : t + add_if (nat_lt t job.inputs.instants && nat_lt p p) ≡ t = omega (arith, z) in e) (logged p lp wanted)
 
-  pub room_here : t < job.inputs.instants → is_wanted job s here ≡ true → (here < length logs) × ((x : Log) → slice_get logs here ≡ Some x → length x.items < vec_capacity x)
+  pub room_here : t < job.inputs.instants → is_wanted job s here ≡ true → (here < length logs) × ((x : LogView) → slice_get logs here ≡ Some x → length x.items < x.room)
   room_here lt wanted =
       let r = row_here lt wanted in (
         slice_get_within logs here r.row r.there,
-        λ x e. subst (λ (y : Log). length y.items < vec_capacity y) (same_Some r.row x (sym r.there ∙ e)) (let a = first_len job here r.row.items t r.known in let b = r.room in omega (arith, a, b, lt)),
+        λ x e. subst (λ (y : LogView). length y.items < y.room) (same_Some r.row x (sym r.there ∙ e)) (let a = first_len job here r.row.items t r.known in let b = r.room in omega (arith, a, b, lt)),
       )
 
   ne_here : (q : ℕ) → q < length job.plan.flat.order → q ≢ p → slice_index job.plan.flat.order q ≢ here
@@ -81,18 +80,18 @@ module _ (job : Run) (s : ℕ) (ok : IsJob job) (logs logs' : List Log) (t p : �
   -- where nothing is noted
   pub logged_left : (t < job.inputs.instants → is_wanted job s here ≡ true → ⊥) → logs' ≡ logs → IsLogged job s logs' t (p + 1)
   logged_left unwanted e q lq wanted = elim (cases_eq q p) [
-    | inr ne ↦ row_same q ne (subst (λ (ls : List Log). IsRow job (slice_index job.plan.flat.order q) ls (t + add_if (nat_lt t job.inputs.instants && nat_lt q p))) (sym e) (logged q lq wanted))
+    | inr ne ↦ row_same q ne (subst (λ (ls : List LogView). IsRow job (slice_index job.plan.flat.order q) ls (t + add_if (nat_lt t job.inputs.instants && nat_lt q p))) (sym e) (logged q lq wanted))
     | inl same ↦ elim (cases_lt t job.inputs.instants) [
       | inl lt ↦ absurd (unwanted lt (subst (λ (k : ℕ). is_wanted job s (slice_index job.plan.flat.order k) ≡ true) same wanted))
       | inr ge ↦
           let late = lt-false t job.inputs.instants ge in
           let z = ap (λ b. t + add_if (b && nat_lt q p)) late ∙ sym (ap (λ b. t + add_if (b && nat_lt q (p + 1))) late) in
-          subst (IsRow job (slice_index job.plan.flat.order q) logs') z (subst (λ (ls : List Log). IsRow job (slice_index job.plan.flat.order q) ls (t + add_if (nat_lt t job.inputs.instants && nat_lt q p))) (sym e) (logged q lq wanted))
+          subst (IsRow job (slice_index job.plan.flat.order q) logs') z (subst (λ (ls : List LogView). IsRow job (slice_index job.plan.flat.order q) ls (t + add_if (nat_lt t job.inputs.instants && nat_lt q p))) (sym e) (logged q lq wanted))
     ]
   ]
 
   -- where the status of the flow at hand is noted
-  pub logged_noted : (status : Status) → t < job.inputs.instants → is_wanted job s here ≡ true → streams_of job here t ≡ Known status → ((x : Log) → slice_get logs here ≡ Some x → IsNoted logs here x status logs') → IsLogged job s logs' t (p + 1)
+  pub logged_noted : (status : Status) → t < job.inputs.instants → is_wanted job s here ≡ true → streams_of job here t ≡ Known status → ((x : LogView) → slice_get logs here ≡ Some x → IsNoted logs here x status logs') → IsLogged job s logs' t (p + 1)
   logged_noted status lt wanted is noted q lq wanted' =
       let r = row_here lt wanted in
       let n = noted r.row r.there in
@@ -117,26 +116,25 @@ module _ (job : Run) (s : ℕ) (ok : IsJob job) (logs logs' : List Log) (t p : �
       ]
 
 -- past the last instant it doesn't matter how far
-pub logged_late : (job : Run) (s : ℕ) (logs : List Log) (t e e' : ℕ) → job.inputs.instants ≤ t → IsLogged job s logs t e → IsLogged job s logs t e'
+pub logged_late : (job : Run) (s : ℕ) (logs : List LogView) (t e e' : ℕ) → job.inputs.instants ≤ t → IsLogged job s logs t e → IsLogged job s logs t e'
 logged_late job s logs t e e' ge logged q lq wanted =
     let late = lt-false t job.inputs.instants ge in
     let z = ap (λ b. t + add_if (b && nat_lt q e)) late ∙ sym (ap (λ b. t + add_if (b && nat_lt q e')) late) in
     subst (IsRow job (slice_index job.plan.flat.order q) logs) z (logged q lq wanted)
 
 -- to the next instant
-pub logged_tick : (job : Run) (s : ℕ) (logs : List Log) (t p : ℕ) → p ≡ length job.plan.flat.order → t < job.inputs.instants → IsLogged job s logs t p → IsLogged job s logs (t + 1) 0
+pub logged_tick : (job : Run) (s : ℕ) (logs : List LogView) (t p : ℕ) → p ≡ length job.plan.flat.order → t < job.inputs.instants → IsLogged job s logs t p → IsLogged job s logs (t + 1) 0
 logged_tick job s logs t p end lt logged q lq wanted =
     let one : add_if (nat_lt t job.inputs.instants && nat_lt q p) ≡ 1 = ap₂ (λ a b. add_if (a && b)) (lt-ltb t job.inputs.instants lt) (lt-ltb q p (omega arith)) in
     let none : add_if (nat_lt (t + 1) job.inputs.instants && nat_lt q 0) ≡ 0 = ap (λ b. add_if (nat_lt (t + 1) job.inputs.instants && b)) (lt-false q 0 (omega arith)) ∙ and_no (nat_lt (t + 1) job.inputs.instants) in
     subst (IsRow job (slice_index job.plan.flat.order q) logs) (let e : t + add_if (nat_lt t job.inputs.instants && nat_lt q p) ≡ t + 1 + add_if (nat_lt (t + 1) job.inputs.instants && nat_lt q 0) = omega (arith, one, none) in e) (logged q lq wanted)
 
-pub logged_new : (job : Run) (s : ℕ) (logs : List Log) → length logs ≡ flows_of job.plan.flat → ((q : ℕ) → q < length job.plan.flat.order → slice_index job.plan.flat.order q < flows_of job.plan.flat) → ((i : ℕ) (y : Log) → slice_get logs i ≡ Some y → IsNewRow (is_wanted job s i) job.inputs.instants y) → IsLogged job s logs 0 0
-logged_new job s logs len inside each q lq wanted =
+pub logged_new : (job : Run) (s : ℕ) (logs : List LogView) → ((q : ℕ) → q < length job.plan.flat.order → slice_index job.plan.flat.order q < flows_of job.plan.flat) → ((i : ℕ) → i < flows_of job.plan.flat → is_wanted job s i ≡ true → (y : LogView) × (slice_get logs i ≡ Some y) × (y.items ≡ []) × (job.inputs.instants ≤ y.room)) → IsLogged job s logs 0 0
+logged_new job s logs inside each q lq wanted =
     let i = slice_index job.plan.flat.order q in
-    let x = some_at logs i (let l = inside q lq in omega (arith, len, l)) in
-    let n = each i x.0 x.1 in
+    let n = each i (inside q lq) wanted in
     let none : add_if (nat_lt 0 job.inputs.instants && nat_lt q 0) ≡ 0 = ap (λ b. add_if (nat_lt 0 job.inputs.instants && b)) (lt-false q 0 (omega arith)) ∙ and_no (nat_lt 0 job.inputs.instants) in
-    let new : IsRow job i logs 0 = record { row = x.0; there = x.1; known = ap (map Known) n.empty; room = n.room wanted } in
+    let new : IsRow job i logs 0 = record { row = n.0; there = n.1; known = ap (map Known) n.2; room = n.3 } in
     subst (IsRow job i logs) (let e : 0 ≡ 0 + add_if (nat_lt 0 job.inputs.instants && nat_lt q 0) = omega (arith, none) in e) new
 
 -- a flow that a site reports is one that it knows
@@ -162,42 +160,42 @@ module _ (a : Desk) (g : Going a) (lp : a.place < length a.program.plan.flat.ord
   abbrev i : ℕ
   i = slice_index a.program.plan.flat.order a.place
 
-  at_place : a.step ≡ 0 → IsLogged a.inputs.job a.inputs.site a.logs.items a.instant a.place
-  at_place z = subst (λ (e : ℕ). IsLogged a.inputs.job a.inputs.site a.logs.items a.instant e) (passed_none a z) logged
+  at_place : a.step ≡ 0 → IsLogged a.inputs.job a.inputs.site (logs_of a) a.instant a.place
+  at_place z = subst (λ (e : ℕ). IsLogged a.inputs.job a.inputs.site (logs_of a) a.instant e) (passed_none a z) logged
 
   noted_parts : is_noted a i ≡ true → (a.instant < a.inputs.job.inputs.instants) × (is_wanted a.inputs.job a.inputs.site (slice_index a.inputs.job.plan.flat.order a.place) ≡ true)
   noted_parts on =
       let n = and_parts (nat_lt a.instant a.inputs.job.inputs.instants) (is_wanted a.inputs.job a.inputs.site (slice_index a.inputs.job.plan.flat.order a.place)) (sym (noted_is a g lp) ∙ on) in
       (ltb-true a.instant a.inputs.job.inputs.instants n.0, n.1)
 
-  pub note_room : a.step ≡ 0 → is_noted a i ≡ true → (i < length a.logs.items) × ((x : Log) → slice_get a.logs.items i ≡ Some x → length x.items < vec_capacity x)
+  pub note_room : a.step ≡ 0 → is_noted a i ≡ true → (i < length (logs_of a)) × ((x : LogView) → slice_get (logs_of a) i ≡ Some x → length x.items < x.room)
   note_room z on =
       let w = noted_parts on in
-      subst (λ (k : ℕ). (k < length a.logs.items) × ((x : Log) → slice_get a.logs.items k ≡ Some x → length x.items < vec_capacity x)) (sym (flow_same a g.set))
-      (room_here a.inputs.job a.inputs.site g.set.is_job a.logs.items a.logs.items a.instant a.place (place_in_job a g.set lp) (at_place z) w.0 w.1)
+      subst (λ (k : ℕ). (k < length (logs_of a)) × ((x : LogView) → slice_get (logs_of a) k ≡ Some x → length x.items < x.room)) (sym (flow_same a g.set))
+      (room_here a.inputs.job a.inputs.site g.set.is_job (logs_of a) (logs_of a) a.instant a.place (place_in_job a g.set lp) (at_place z) w.0 w.1)
 
   -- the flow at hand is passed: its status is noted, or it isn't wanted
-  pub note_here : (status : Status) (logs' : List Log) → a.step ≡ 0 → (is_noted a i ≡ false → logs' ≡ a.logs.items) → (is_noted a i ≡ true → streams_of a.inputs.job (slice_index a.inputs.job.plan.flat.order a.place) a.instant ≡ Known status) → (is_noted a i ≡ true → (x : Log) → slice_get a.logs.items i ≡ Some x → IsNoted a.logs.items i x status logs') → IsLogged a.inputs.job a.inputs.site logs' a.instant (a.place + 1)
+  pub note_here : (status : Status) (logs' : List LogView) → a.step ≡ 0 → (is_noted a i ≡ false → logs' ≡ (logs_of a)) → (is_noted a i ≡ true → streams_of a.inputs.job (slice_index a.inputs.job.plan.flat.order a.place) a.instant ≡ Known status) → (is_noted a i ≡ true → (x : LogView) → slice_get (logs_of a) i ≡ Some x → IsNoted (logs_of a) i x status logs') → IsLogged a.inputs.job a.inputs.site logs' a.instant (a.place + 1)
   note_here status logs' z left is noted =
       let lp' = place_in_job a g.set lp in
       elim (bool_cases (is_noted a i)) [
-        | inr off ↦ logged_left a.inputs.job a.inputs.site g.set.is_job a.logs.items logs' a.instant a.place lp' (at_place z)
+        | inr off ↦ logged_left a.inputs.job a.inputs.site g.set.is_job (logs_of a) logs' a.instant a.place lp' (at_place z)
             (λ lt wanted. false≢true (sym off ∙ noted_is a g lp ∙ both (nat_lt a.instant a.inputs.job.inputs.instants) (is_wanted a.inputs.job a.inputs.site (slice_index a.inputs.job.plan.flat.order a.place)) (lt-ltb a.instant a.inputs.job.inputs.instants lt) wanted)) (left off)
         | inl on ↦
             let w = noted_parts on in
-            logged_noted a.inputs.job a.inputs.site g.set.is_job a.logs.items logs' a.instant a.place lp' (at_place z) status w.0 w.1 (is on)
-            (subst (λ (k : ℕ). (x : Log) → slice_get a.logs.items k ≡ Some x → IsNoted a.logs.items k x status logs') (flow_same a g.set) (noted on))
+            logged_noted a.inputs.job a.inputs.site g.set.is_job (logs_of a) logs' a.instant a.place lp' (at_place z) status w.0 w.1 (is on)
+            (subst (λ (k : ℕ). (x : LogView) → slice_get (logs_of a) k ≡ Some x → IsNoted (logs_of a) k x status logs') (flow_same a g.set) (noted on))
       ]
 
   same_absent : (xs : List Status) (k : ℕ) (status : Status) → k < length xs → slice_get (set xs k Absent) k ≡ Some status → status ≡ Absent
   same_absent xs k status l e = sym (same_Some Absent status (sym (slice_get-set_same xs k Absent l) ∙ e))
 
   -- from one flow to the next
-  pub note_pass : (now' : List Status) (logs' : List Log) (faulted : Bool) → Stands a.inputs.job a.inputs.site now' (pasts_of a) a.instant (a.place + 1) 0 faulted → (a.step ≡ 0 → now' ≡ set (shown_of a) i Absent) → (0 < a.step → logs' ≡ a.logs.items) → (a.step ≡ 0 → is_noted a i ≡ false → logs' ≡ a.logs.items) → (a.step ≡ 0 → is_noted a i ≡ true → (x : Log) → slice_get a.logs.items i ≡ Some x → IsNoted a.logs.items i x Absent logs') → IsLogged a.inputs.job a.inputs.site logs' a.instant (a.place + 1)
+  pub note_pass : (now' : List Status) (logs' : List LogView) (faulted : Bool) → Stands a.inputs.job a.inputs.site now' (pasts_of a) a.instant (a.place + 1) 0 faulted → (a.step ≡ 0 → now' ≡ set (shown_of a) i Absent) → (0 < a.step → logs' ≡ (logs_of a)) → (a.step ≡ 0 → is_noted a i ≡ false → logs' ≡ (logs_of a)) → (a.step ≡ 0 → is_noted a i ≡ true → (x : LogView) → slice_get (logs_of a) i ≡ Some x → IsNoted (logs_of a) i x Absent logs') → IsLogged a.inputs.job a.inputs.site logs' a.instant (a.place + 1)
   note_pass now' logs' faulted st cleared kept left noted = elim (cases_lt 0 a.step) [
     | inl some ↦
-        subst (λ (ls : List Log). IsLogged a.inputs.job a.inputs.site ls a.instant (a.place + 1)) (sym (kept some))
-        (subst (λ (e : ℕ). IsLogged a.inputs.job a.inputs.site a.logs.items a.instant e) (passed_some a g some) logged)
+        subst (λ (ls : List LogView). IsLogged a.inputs.job a.inputs.site ls a.instant (a.place + 1)) (sym (kept some))
+        (subst (λ (e : ℕ). IsLogged a.inputs.job a.inputs.site (logs_of a) a.instant e) (passed_some a g some) logged)
     | inr none ↦
         let z : a.step ≡ 0 = omega arith in
         let job = a.inputs.job in
@@ -215,17 +213,17 @@ module _ (a : Desk) (g : Going a) (lp : a.place < length a.program.plan.flat.ord
       known_of_own : (job : Run) (s k : ℕ) → stands job.plan k s ≡ true → knows job.plan s k ≡ true
       known_of_own job s k own = ap (λ b. b || is_some (link_into job.plan s k)) own
 
-pub note_tick : (a : Desk) → Going a → a.place ≡ length a.program.plan.flat.order → a.instant < a.inputs.job.inputs.instants → IsLoggedAt a → IsLogged a.inputs.job a.inputs.site a.logs.items (a.instant + 1) 0
+pub note_tick : (a : Desk) → Going a → a.place ≡ length a.program.plan.flat.order → a.instant < a.inputs.job.inputs.instants → IsLoggedAt a → IsLogged a.inputs.job a.inputs.site (logs_of a) (a.instant + 1) 0
 note_tick a g end lt logged =
     let z = no_step a g (end ∙ ap (λ (q : Distribution). length q.flat.order) g.set.plan_is) in
-    logged_tick a.inputs.job a.inputs.site a.logs.items a.instant a.place (end ∙ ap (λ (q : Distribution). length q.flat.order) g.set.plan_is) lt (subst (λ (e : ℕ). IsLogged a.inputs.job a.inputs.site a.logs.items a.instant e) (passed_none a z) logged)
+    logged_tick a.inputs.job a.inputs.site (logs_of a) a.instant a.place (end ∙ ap (λ (q : Distribution). length q.flat.order) g.set.plan_is) lt (subst (λ (e : ℕ). IsLogged a.inputs.job a.inputs.site (logs_of a) a.instant e) (passed_none a z) logged)
 
 -- a message that is passed changes no log
-pub note_step : (a : Desk) → Going a → IsLoggedAt a → (0 < a.step) ⊎ (a.inputs.job.inputs.instants ≤ a.instant) → IsLogged a.inputs.job a.inputs.site a.logs.items a.instant (a.place + add_if (nat_lt 0 (a.step + 1) && not (is_faulted a)))
+pub note_step : (a : Desk) → Going a → IsLoggedAt a → (0 < a.step) ⊎ (a.inputs.job.inputs.instants ≤ a.instant) → IsLogged a.inputs.job a.inputs.site (logs_of a) a.instant (a.place + add_if (nat_lt 0 (a.step + 1) && not (is_faulted a)))
 note_step a g logged (inl some) =
     let e : passed_to a ≡ a.place + add_if (nat_lt 0 (a.step + 1) && not (is_faulted a)) = ap (λ b. a.place + add_if (b && not (is_faulted a))) (lt-ltb 0 a.step some ∙ sym (lt-ltb 0 (a.step + 1) (omega arith))) in
-    subst (λ (k : ℕ). IsLogged a.inputs.job a.inputs.site a.logs.items a.instant k) e logged
-note_step a g logged (inr late) = logged_late a.inputs.job a.inputs.site a.logs.items a.instant (passed_to a) (a.place + add_if (nat_lt 0 (a.step + 1) && not (is_faulted a))) late logged
+    subst (λ (k : ℕ). IsLogged a.inputs.job a.inputs.site (logs_of a) a.instant k) e logged
+note_step a g logged (inr late) = logged_late a.inputs.job a.inputs.site (logs_of a) a.instant (passed_to a) (a.place + add_if (nat_lt 0 (a.step + 1) && not (is_faulted a))) late logged
 
 -- whether an absent status is to be told
 eq_zero : (n : ℕ) → 0 < n → (n == 0) ≡ false
@@ -241,24 +239,24 @@ pub absent_yes : (n : ℕ) (b r : Bool) → r ≡ ((n == 0) && b) → r ≡ true
 absent_yes n b r e on = let p = and_parts (n == 0) b (sym e ∙ on) in (eqb-true n 0 p.0, p.1)
 
 -- past a flow nothing of the next one is passed
-pub none_yet : (job : Run) (s : ℕ) (logs : List Log) (t p : ℕ) (b : Bool) → IsLogged job s logs t p → IsLogged job s logs t (p + add_if (nat_lt 0 0 && b))
+pub none_yet : (job : Run) (s : ℕ) (logs : List LogView) (t p : ℕ) (b : Bool) → IsLogged job s logs t p → IsLogged job s logs t (p + add_if (nat_lt 0 0 && b))
 none_yet job s logs t p b h = let e : p ≡ p + 0 = omega arith in subst (λ (k : ℕ). IsLogged job s logs t k) e h
 
 -- how far the outputs are passed after one item of a flow
 step_one : (a : Desk) → Going a → a.place + 1 ≡ a.place + add_if (nat_lt 0 1 && not (is_faulted a))
 step_one a g = ap (λ b. a.place + add_if (nat_lt 0 1 && not b)) (sym g.goes)
 
-pub noted_step : (a : Desk) (logs : List Log) → Going a → IsLogged a.inputs.job a.inputs.site logs a.instant (a.place + 1) → IsLogged a.inputs.job a.inputs.site logs a.instant (a.place + add_if (nat_lt 0 1 && not (is_faulted a)))
+pub noted_step : (a : Desk) (logs : List LogView) → Going a → IsLogged a.inputs.job a.inputs.site logs a.instant (a.place + 1) → IsLogged a.inputs.job a.inputs.site logs a.instant (a.place + add_if (nat_lt 0 1 && not (is_faulted a)))
 noted_step a logs g h = subst (λ (k : ℕ). IsLogged a.inputs.job a.inputs.site logs a.instant k) (step_one a g) h
 
 -- a flow that was taken is not reported
-pub note_given : (a : Desk) → Going a → IsLoggedAt a → a.step ≡ 0 → a.place < length a.inputs.job.plan.flat.order → stands a.inputs.job.plan (slice_index a.inputs.job.plan.flat.order a.place) a.inputs.site ≡ false → IsLogged a.inputs.job a.inputs.site a.logs.items a.instant (a.place + add_if (nat_lt 0 1 && not (is_faulted a)))
+pub note_given : (a : Desk) → Going a → IsLoggedAt a → a.step ≡ 0 → a.place < length a.inputs.job.plan.flat.order → stands a.inputs.job.plan (slice_index a.inputs.job.plan.flat.order a.place) a.inputs.site ≡ false → IsLogged a.inputs.job a.inputs.site (logs_of a) a.instant (a.place + add_if (nat_lt 0 1 && not (is_faulted a)))
 note_given a g logged z lp other =
     let job = a.inputs.job in
     let i = slice_index job.plan.flat.order a.place in
-    let h = subst (λ (e : ℕ). IsLogged job a.inputs.site a.logs.items a.instant e) (passed_none a z) logged in
-    noted_step a a.logs.items g (logged_left job a.inputs.site g.set.is_job a.logs.items a.logs.items a.instant a.place lp h (λ _ wanted. false≢true (sym other ∙ wanted_known job a.inputs.site i g.set.is_job (here_in a g.set lp) wanted)) refl)
+    let h = subst (λ (e : ℕ). IsLogged job a.inputs.site (logs_of a) a.instant e) (passed_none a z) logged in
+    noted_step a (logs_of a) g (logged_left job a.inputs.site g.set.is_job (logs_of a) (logs_of a) a.instant a.place lp h (λ _ wanted. false≢true (sym other ∙ wanted_known job a.inputs.site i g.set.is_job (here_in a g.set lp) wanted)) refl)
 
 -- a computation that faults passes nothing
-pub note_fault : (a : Desk) → IsLoggedAt a → a.step ≡ 0 → IsLogged a.inputs.job a.inputs.site a.logs.items a.instant (a.place + add_if (nat_lt 0 1 && not true))
-note_fault a logged z = let e : passed_to a ≡ a.place + add_if (nat_lt 0 1 && not true) = passed_none a z ∙ (let w : a.place ≡ a.place + 0 = omega arith in w) in subst (λ (k : ℕ). IsLogged a.inputs.job a.inputs.site a.logs.items a.instant k) e logged
+pub note_fault : (a : Desk) → IsLoggedAt a → a.step ≡ 0 → IsLogged a.inputs.job a.inputs.site (logs_of a) a.instant (a.place + add_if (nat_lt 0 1 && not true))
+note_fault a logged z = let e : passed_to a ≡ a.place + add_if (nat_lt 0 1 && not true) = passed_none a z ∙ (let w : a.place ≡ a.place + 0 = omega arith in w) in subst (λ (k : ℕ). IsLogged a.inputs.job a.inputs.site (logs_of a) a.instant k) e logged

@@ -87,6 +87,19 @@ work_at a o g ready next c =
     let c' = subst (λ (k : ℕ). Computes a k (flow_at a.program.plan.flat k) o) (flow_same a g.set) c in
     (h.place_lt, work_hand a h o c' next.0 next.1 next.2 (hand_of a h))
 
+own_hand : (a : Desk) (h : Here a) (i t : ℕ) → slice_get (script a.inputs.job (streams_of a.inputs.job) a.inputs.site) (done_of a) ≡ Some (Compute i t) → AtHand a (slice_index a.inputs.job.plan.flat.order a.place) → stands a.inputs.job.plan (slice_index a.inputs.job.plan.flat.order a.place) a.inputs.site ≡ true
+own_hand a h i t e (ComputeAt own lt z open' item) = own
+own_hand a h i t e (PutEarly own lt k ek open' item within) = own
+own_hand a h i t e (PutLate own end item within) = own
+own_hand a h i t e (TakeEarly other lt z open' into item) = let n = sym item ∙ sym (hand_next a h) ∙ e in absurd cc
+own_hand a h i t e (TakeLate other end into item) = let n = sym item ∙ sym (hand_next a h) ∙ e in absurd cc
+
+-- where the next item is a computation, the flow at hand is one of the site's own
+pub work_own : (a : Desk) → Going a → IsReadyAt a → IsLocalNext a.inputs.job a.inputs.site (done_of a) → stands a.inputs.job.plan (slice_index a.inputs.job.plan.flat.order a.place) a.inputs.site ≡ true
+work_own a g ready next =
+    let h = here_from a (Compute next.0 next.1) g ready next.2 in
+    own_hand a h next.0 next.1 next.2 (hand_of a h)
+
 one_step : (a : Desk) → a.step ≡ 0 → (a.step + 1 ≡ 1) × (items_before a.inputs.job (streams_of a.inputs.job) a.inputs.site a.instant a.place 1 ≡ done_of a + 1)
 one_step a z =
     let one : a.step + 1 ≡ 1 = omega (arith, z) in

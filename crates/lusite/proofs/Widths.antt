@@ -1,6 +1,6 @@
 -- What is left of a site, by how many items each flow has.
 use Rattle.std.proofs.Common.{◌≡◌, ℕ, zero, suc, ◌+◌, ◌-◌, ◌*◌, ◌<◌, ◌≤◌, inl, inr, Bool, true, false, cond, List, [], ◌∷◌, ◌++◌, length, map, filter, drop, Option, Some, None, refl, sym, ap, ap₂, ◌∙◌, subst, arith, nat_eq}
-use Rattle.std.specs.Prelude.{slice_index, nat_lt, is_some, sum_by, unwrap_or, ◌&&◌, ◌||◌}
+use Rattle.std.specs.Prelude.{slice_get, slice_index, nat_lt, is_some, sum_by, unwrap_or, ◌&&◌, ◌||◌}
 use Rattle.std.specs.List.{range_with_len, list_any}
 use Rattle.std.proofs.Math.Seq.{drop-cons}
 use Rattle.std.proofs.lemmas.List.{length-map}
@@ -10,24 +10,25 @@ use Rattle.std.proofs.lemmas.List.Folds.{list_any_at}
 use Rattle.std.proofs.lemmas.List.Elements.{All-get_or}
 use Rattle.std.proofs.lemmas.Option.{slice_get_within, slice_get_past, get_or_from_slice_get}
 use Rattle.std.proofs.lemmas.Bool.{cases_lt, lt-ltb, le-ltb, eq-eqb, ne_eqb, false≢true}
-use Rattle.luflow.specs.Program.{flows_of, reads}
+use Rattle.luflow.specs.Program.{flows_of, reads, IsOrdered}
 use Rattle.luflow.proofs.Solutions.{some_at, IsSolution-solution}
 use Rattle.lueval.proofs.Steps.{fault_broken}
 use Rattle.luflow.specs.Streams.{is_broken}
 use Rattle.luworld.specs.Needs.{Distribution, stands, home}
 use Rattle.luworld.specs.World.{Item, Compute, Puts, Takes}
 use Rattle.luworld.specs.Outline.{Outline, Cell, cells, size, left_in, left_after, faulted_after, is_break, stops, NoStop, compute_items, message_items, flow_items}
-use Rattle.luworld.specs.Runs.{Run, IsRun, IsJob, streams_of, outline, script, cell, items_before, sends, link_into, listed, carriers, carried, HasNoStop}
+use Rattle.luworld.specs.Runs.{Run, IsRun, IsJob, streams_of, knows, outline, script, cell, items_before, sends, link_into, listed, carriers, carried, HasNoStop}
 use Rattle.luworld.proofs.Outlines.{message_is, broken_is}
 use Rattle.luworld.proofs.Remaining.{cell_of, row, later, left_here, left_over, later_size, later_none, sum_drop_same, size_map}
 use Rattle.lusite.specs.declared.program.Part.{Part}
 use Rattle.lusite.specs.declared.next.Fault.{Fault}
 use Rattle.lusite.specs.declared.desk.Desk.{Desk}
-use Rattle.lusite.specs.Programs.{SitePlan, part_of, parts_of, no_part}
+use Rattle.lusite.specs.Programs.{SitePlan, part_of, parts_of, no_part, ranks_of, places_of, rank_at}
 use Rattle.lusite.specs.Machine.{in_cell, is_faulted, Stands, IsSet, StandsAt, IsReadyAt, Ready, Over, TellsFault, done_of, shown_of, pasts_of}
 use Rattle.lusite.specs.Widths.{width_of, width, widths}
 use Rattle.lusite.proofs.Machine.{ended}
-use Rattle.lusite.proofs.Desks.{Going, part_here}
+use Rattle.lusite.proofs.Desks.{Going, part_here, part_there}
+use Rattle.lusite.proofs.Skips.{AreUnknown, rank_in, rank_next, rank_le, unknown_first, unknown_next}
 use Rattle.lusite.proofs.Offers.{Here, hand_next}
 
 -- a width is small
@@ -39,7 +40,7 @@ filter_short p (x ∷ xs) = go (p x) (filter_short p xs)
     go true h = omega (arith, h)
     go false h = omega (arith, h)
 
-sends_short : (plan : Distribution) (s i : ℕ) → length (sends plan s i) ≤ length plan.links
+pub sends_short : (plan : Distribution) (s i : ℕ) → length (sends plan s i) ≤ length plan.links
 sends_short plan s i = go (nat_eq (home plan i) s)
   where
     go : (b : Bool) → length (cond b (carriers plan i) []) ≤ length plan.links
@@ -88,6 +89,15 @@ order_short a run set =
     let few = flat.few in
     omega (arith, same, count, n, few)
 
+-- and as few flows that the site knows
+pub rows_short : (a : Desk) → IsRun a.inputs.job → IsSet a → length (places_of a.program.plan a.program.site) ≤ 4096
+rows_short a run set =
+    let n = order_short a run set in
+    let short = filter_short (λ p. knows a.program.plan a.program.site (slice_index a.program.plan.flat.order p)) (range_with_len 0 (length a.program.plan.flat.order)) in
+    let m = length-range_with_len 0 (length a.program.plan.flat.order) in
+    let k = length-map (ranks_of a.program.plan a.program.site) (slice_index a.program.plan.flat.order) in
+    omega (arith, n, short, m, k)
+
 -- one rank more
 pub widths_next : (p : SitePlan) (early : Bool) (order : List ℕ) (q : ℕ) → q < length order → widths p early (drop q order) ≡ width p early (slice_index order q) + widths p early (drop (q + 1) order)
 widths_next p early order q lt =
@@ -101,6 +111,58 @@ widths_end p early [] zero le = refl
 widths_end p early [] (suc q) le = refl
 widths_end p early (x ∷ order) zero le = absurd (omega (arith, le))
 widths_end p early (x ∷ order) (suc q) le = widths_end p early order q (omega (arith, le))
+
+-- flows that a site neither computes nor takes have no items there
+unknown_width : (p : SitePlan) (early : Bool) (q : ℕ) → IsOrdered p.plan.flat → q < length p.plan.flat.order → knows p.plan p.site (slice_index p.plan.flat.order q) ≡ false → width p early (slice_index p.plan.flat.order q) ≡ 0
+unknown_width p early q ordered lq unknown =
+    let i = slice_index p.plan.flat.order q in
+    ap (λ (x : Part). width_of x early) (part_there p i (All-get_or (λ j. j < flows_of p.plan.flat) p.plan.flat.order q 0 lq ordered.only_flows))
+    ∙ go (stands p.plan i p.site) (is_some (link_into p.plan p.site i)) unknown
+  where
+    go : (own into : Bool) → (own || into) ≡ false → in_cell true own early (length (sends p.plan p.site (slice_index p.plan.flat.order q))) into ≡ 0
+    go true into h = absurd (false≢true (sym h))
+    go false true h = absurd (false≢true (sym h))
+    go false false h = refl
+
+widths_over : (p : SitePlan) (early : Bool) (q d : ℕ) → IsOrdered p.plan.flat → q + d ≤ length p.plan.flat.order → AreUnknown p.plan p.site q (q + d) → widths p early (drop q p.plan.flat.order) ≡ widths p early (drop (q + d) p.plan.flat.order)
+widths_over p early q zero ordered le h = let e : q ≡ q + 0 = omega arith in ap (λ n. widths p early (drop n p.plan.flat.order)) e
+widths_over p early q (suc d) ordered le h =
+    let order = p.plan.flat.order in
+    let e : q + d + 1 ≡ q + suc d = omega arith in
+    let next = widths_next p early order (q + d) (omega (arith, le)) in
+    let none = unknown_width p early (q + d) ordered (omega (arith, le)) (h (q + d) (omega arith) (omega arith)) in
+    let same : widths p early (drop (q + d) order) ≡ widths p early (drop (q + d + 1) order) = omega (arith, next, none) in
+    widths_over p early q d ordered (omega (arith, le)) (λ r low high. h r low (omega (arith, high))) ∙ same ∙ ap (λ n. widths p early (drop n order)) e
+
+-- from one flow of the site's to the next
+pub widths_row : (p : SitePlan) (early : Bool) (k : ℕ) → IsOrdered p.plan.flat → (rank : ℕ) → slice_get (ranks_of p.plan p.site) k ≡ Some rank → widths p early (drop (rank_at p k) p.plan.flat.order) ≡ width p early (slice_index p.plan.flat.order rank) + widths p early (drop (rank_at p (k + 1)) p.plan.flat.order)
+widths_row p early k ordered rank there =
+    let order = p.plan.flat.order in
+    let lq = rank_in p k rank there in
+    let here : rank_at p k ≡ rank = ap (λ o. unwrap_or o (length order)) there in
+    let above = rank_next p k rank there in
+    let le = rank_le p (k + 1) in
+    let e : rank + 1 + (rank_at p (k + 1) - (rank + 1)) ≡ rank_at p (k + 1) = omega (arith, above) in
+    let over = widths_over p early (rank + 1) (rank_at p (k + 1) - (rank + 1)) ordered (omega (arith, e, le)) (subst (AreUnknown p.plan p.site (rank + 1)) (sym e) (unknown_next p k rank there)) in
+    ap (λ n. widths p early (drop n order)) here
+    ∙ widths_next p early order rank lq
+    ∙ ap (λ n. width p early (slice_index order rank) + n) (over ∙ ap (λ n. widths p early (drop n order)) e)
+
+-- behind the last of them there is nothing
+pub widths_last : (p : SitePlan) (early : Bool) (k : ℕ) → length (places_of p.plan p.site) ≤ k → widths p early (drop (rank_at p k) p.plan.flat.order) ≡ 0
+widths_last p early k le =
+    let order = p.plan.flat.order in
+    let n = length-map (ranks_of p.plan p.site) (slice_index order) in
+    let end : rank_at p k ≡ length order = ap (λ o. unwrap_or o (length order)) (slice_get_past (ranks_of p.plan p.site) k (omega (arith, le, n))) in
+    widths_end p early order (rank_at p k) (omega (arith, end))
+
+-- all of them are all flows
+pub widths_first : (a : Desk) → IsSet a → (early : Bool) → widths a.program early (drop (rank_at a.program 0) a.program.plan.flat.order) ≡ widths a.program early (drop 0 a.program.plan.flat.order)
+widths_first a set early =
+    let p = a.program in
+    let ordered : IsOrdered p.plan.flat = subst (λ (q : Distribution). IsOrdered q.flat) (sym set.plan_is) set.is_job.is_plan.ordered in
+    let e : 0 + rank_at p 0 ≡ rank_at p 0 = omega arith in
+    sym (widths_over p early 0 (rank_at p 0) ordered (let le = rank_le p 0 in omega (arith, le)) (subst (AreUnknown p.plan p.site 0) (sym e) (unknown_first p)) ∙ ap (λ n. widths p early (drop n p.plan.flat.order)) e)
 
 -- nothing breaks where nothing stops
 no_break : (plan : Outline) (before xs : List Item) → NoStop plan before xs → list_any (is_break plan) xs ≡ false

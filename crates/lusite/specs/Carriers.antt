@@ -4,7 +4,9 @@ use Rattle.std.specs.List.{range_with_len, position_from}
 use Rattle.std.specs.Option.{option_map, ForSome}
 use Rattle.std.specs.declared.alloc.Global.{Global}
 use Rattle.luworld.specs.declared.link.Link.{Link}
-use Rattle.luworld.specs.Runs.{is_into}
+use Rattle.luflow.specs.Program.{flows_of}
+use Rattle.luworld.specs.Needs.{Distribution}
+use Rattle.luworld.specs.Runs.{is_into, link_into}
 
 -- the links of one flow
 abbrev pub LinkRow : Type 0
@@ -44,3 +46,7 @@ pub record AreCarriersTo (links : List Link) (s flows l : ℕ) (sources : List (
 
 abbrev pub AreCarriers : List Link → ℕ → ℕ → List (Option ℕ) → List LinkRow → Type 0
 AreCarriers links s flows sources rows = AreCarriersTo links s flows (length links) sources rows
+
+-- for each place the link by which a site takes the flow
+abbrev pub HasSources : Distribution → ℕ → List (Option ℕ) → Type 0
+HasSources plan s sources = (i : ℕ) → i < flows_of plan.flat → slice_get sources i ≡ Some (link_into plan s i)

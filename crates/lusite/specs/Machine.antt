@@ -4,7 +4,7 @@ use Rattle.std.specs.Option.{option_map}
 use Rattle.luflow.specs.declared.data.Datum.{Datum}
 use Rattle.luflow.specs.declared.data.Datum.TheVariants.{Nil}
 use Rattle.luflow.specs.declared.data.Status.{Status}
-use Rattle.luflow.specs.declared.data.Status.TheVariants.{Present}
+use Rattle.luflow.specs.declared.data.Status.TheVariants.{Absent, Present}
 use Rattle.luflow.specs.declared.form.Form.TheVariants.{Input}
 use Rattle.luflow.specs.declared.form.Flow.{Flow}
 use Rattle.luflow.specs.declared.form.Outcome.{Outcome}
@@ -20,6 +20,7 @@ use Rattle.luworld.specs.Needs.{stands}
 use Rattle.luworld.specs.Runs.{Run, IsJob, knows, cell, endless, script, system_of, is_open, HasNoStop, IsFree, items_before, link_list, streams_of}
 use Rattle.lueval.specs.declared.kernel.Past.{Past}
 use Rattle.lueval.specs.declared.cell.Cell.{Cell}
+use Rattle.lueval.specs.declared.cell.Cell.TheVariants as cells
 use Rattle.lueval.specs.Cells.{statuses, last_of, ticks_of, is_absent}
 use Rattle.lueval.specs.Frames.{clock_in, datum_in, view_in, IsShown, IsPast}
 use Rattle.lusite.specs.declared.next.Next.{Next}
@@ -29,7 +30,8 @@ use Rattle.lusite.specs.declared.report.Standing.{Standing}
 use Rattle.lusite.specs.declared.report.Standing.TheVariants.{Ended as StandsEnded, Faulted as StandsFaulted, Cut}
 use Rattle.lusite.specs.declared.program.Part.{Part}
 use Rattle.lusite.specs.declared.desk.Desk.{Desk}
-use Rattle.lusite.specs.Programs.{part_at, rank_at}
+use Rattle.lusite.specs.Programs.{SitePlan, part_at, places_of, rank_at}
+use Rattle.lusite.specs.Spread.{spread}
 
 abbrev pub is_faulted : Desk → Bool
 is_faulted a = is_some a.fault
@@ -85,7 +87,7 @@ pub record IsAtInstant (job : Run) (s n t : ℕ) : Type 0 where
   pub is : n ≡ items_before job (streams_of job) s t place step
   pub here : IsGoingAt job s n t place step ⊎ IsStoppedAt job s n step
 
--- what a machine holds of the flows: their statuses now, and what is kept of them from the instants before
+-- what a machine holds of its flows: their statuses now, and what is kept of them from the instants before
 abbrev pub past_of : Cell → ℕ → Past
 past_of cell n = record { last = last_of cell; ticked = ticks_of cell; count = n }
 
@@ -94,23 +96,34 @@ pasts_in [] ns = []
 pasts_in (x ∷ xs) [] = []
 pasts_in (x ∷ xs) (n ∷ ns) = past_of x n ∷ pasts_in xs ns
 
+-- the same by the places of all flows: of the flows that the site neither computes nor takes there is nothing
+abbrev pub shown_in : SitePlan → List Cell → List Status
+shown_in p shown = spread (flows_of p.plan.flat) Absent (places_of p.plan p.site) (statuses shown)
+
+abbrev pub kept_in : SitePlan → List Cell → List ℕ → List Past
+kept_in p lasts counts = spread (flows_of p.plan.flat) (past_of cells.Absent 0) (places_of p.plan p.site) (pasts_in lasts counts)
+
 abbrev pub shown_of : Desk → List Status
-shown_of a = statuses a.shown.items
+shown_of a = shown_in a.program a.shown.items
 
 abbrev pub pasts_of : Desk → List Past
-pasts_of a = pasts_in a.lasts.items a.counts.items
+pasts_of a = kept_in a.program a.lasts.items a.counts.items
 
 -- how often a flow was present, one instant later
 abbrev pub more_of : Cell → ℕ → ℕ
 more_of cell n = cond (is_absent cell) n (n + 1)
 
--- a site's own part of its job; it stands at the rank of one of the flows that it knows, or behind the last
+-- a site's own part of its job, with cells and a log for each flow that it knows; it stands at the rank of one of them, or behind the last
 pub record IsSet (a : Desk) : Type 0 where
   pub is_job : IsJob a.inputs.job
   pub plan_is : a.program.plan ≡ a.inputs.job.plan
   pub site_is : a.program.site ≡ a.inputs.site
   pub rank_is : a.place ≡ rank_at a.program a.row
+  pub row_in : a.row ≤ length (places_of a.program.plan a.program.site)
+  pub shown_fit : length a.shown.items ≡ length (places_of a.program.plan a.program.site)
+  pub lasts_fit : length a.lasts.items ≡ length (places_of a.program.plan a.program.site)
   pub pasts_fit : length a.lasts.items ≡ length a.counts.items
+  pub logs_fit : length a.logs.items ≡ length (places_of a.program.plan a.program.site)
 
 -- the fault that a machine tells is one
 abbrev pub TellsFault : Desk → Type 0

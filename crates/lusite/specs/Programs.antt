@@ -1,12 +1,15 @@
 -- What of a plan a site runs.
-use Rattle.std.specs.Prelude.{◌≡◌, ℕ, Bool, false, ◌&&◌, ◌||◌, nat_eq, List, [], length, map, filter, Option, None, Some, is_some, slice_get, slice_index, unwrap_or}
+use Rattle.std.specs.Prelude.{◌≡◌, ℕ, ◌+◌, ◌<◌, ◌≤◌, Bool, true, false, ◌&&◌, ◌||◌, nat_eq, List, [], length, map, filter, Option, None, Some, is_some, slice_get, slice_index, unwrap_or}
 use Rattle.std.specs.List.{range_with_len}
-use Rattle.luflow.specs.Program.{flows_of}
+use Rattle.luflow.specs.Program.{flow_at, flows_of}
 use Rattle.luworld.specs.Needs.{Distribution, IsPlan, sites_of, stands, home}
 use Rattle.luworld.specs.Runs.{link_into, sends, outputs_of, knows}
 use Rattle.luflow.specs.declared.variable.Variable.{Variable}
 use Rattle.std.specs.Option.{option_map}
-use Rattle.lueval.specs.Cells.{IsLine}
+use Rattle.luflow.specs.declared.form.Flow.{Flow}
+use Rattle.lueval.specs.Cells.{clock_of}
+use Rattle.lueval.specs.Moving.{moved_clock, moved_form}
+use Rattle.lueval.specs.Operations.{form_of, IsInside}
 use Rattle.lusite.specs.declared.program.Part.{Part}
 use Rattle.lusite.specs.declared.program.Post.{Post}
 use Rattle.luflow.specs.Variables.{is_output_of, is_output, variable_name}
@@ -44,18 +47,43 @@ places_of plan s = map (slice_index plan.flat.order) (ranks_of plan s)
 abbrev pub rank_at : SitePlan → ℕ → ℕ
 rank_at p k = unwrap_or (slice_get (ranks_of p.plan p.site) k) (length p.plan.flat.order)
 
--- what the machine of a site has of the flow of rank p, whose branches, where it is a merge, are among these
-pub record IsPost (plan : Distribution) (s : ℕ) (branches : List ℕ) (p : ℕ) (post : Post) : Type 0 where
-  pub line : IsLine plan.flat branches p post.line
+-- by its place, the number of each flow that a site computes or takes among these, in order of rank
+abbrev pub AreNumbers : Distribution → ℕ → List ℕ → Type 0
+AreNumbers plan s numbers = (k i : ℕ) → slice_get (places_of plan s) k ≡ Some i → slice_get numbers i ≡ Some k
+
+-- What the machine of a site has of the flow of rank p: its line, with the numbers of the site's flows in place of their places, and
+-- the site's part in it. Its branches, where it is a merge, are among these, and so are the links by which the site sends it.
+pub record IsPost (plan : Distribution) (s : ℕ) (branches links : List ℕ) (p : ℕ) (post : Post) : Type 0 where
+  pub numbers : List ℕ
+  pub numbered : AreNumbers plan s numbers
+  pub flow : Flow
+  pub there : flow_at plan.flat (slice_index plan.flat.order p) ≡ Some flow
+  pub place : post.line.place ≡ slice_index numbers (slice_index plan.flat.order p)
+  pub form : form_of branches post.line.operation ≡ moved_form (slice_index numbers) flow.form
+  pub inside : IsInside (length branches) post.line.operation
+  pub clock : clock_of post.line.clock ≡ moved_clock (slice_index numbers) flow.clock
+  pub owner : post.owner ≡ slice_index plan.flat.owners (slice_index plan.flat.order p)
   pub own : post.own ≡ (part_of plan s (slice_index plan.flat.order p)).own
   pub told : post.told ≡ (part_of plan s (slice_index plan.flat.order p)).told
   pub from : post.from ≡ (part_of plan s (slice_index plan.flat.order p)).from
   pub outs : post.outs ≡ length (part_of plan s (slice_index plan.flat.order p)).to
+  pub linked : post.first + post.outs ≤ length links
+  pub to : (j : ℕ) → j < post.outs → slice_index links (post.first + j) ≡ slice_index (part_of plan s (slice_index plan.flat.order p)).to j
 
 -- the same of each flow that the site computes or takes, in order of rank
-pub record ArePosts (plan : Distribution) (s : ℕ) (branches : List ℕ) (posts : List Post) : Type 0 where
+pub record ArePosts (plan : Distribution) (s : ℕ) (branches links : List ℕ) (posts : List Post) : Type 0 where
   pub len : length posts ≡ length (ranks_of plan s)
-  pub each : (k p : ℕ) (post : Post) → slice_get (ranks_of plan s) k ≡ Some p → slice_get posts k ≡ Some post → IsPost plan s branches p post
+  pub each : (k p : ℕ) (post : Post) → slice_get (ranks_of plan s) k ≡ Some p → slice_get posts k ≡ Some post → IsPost plan s branches links p post
+
+-- the number of an output's flow, where the site reports it
+abbrev pub Reports : Distribution → ℕ → ℕ → Option ℕ → Type 0
+Reports plan s i None = (part_of plan s i).told ≡ false
+Reports plan s i (Some k) = ((part_of plan s i).told ≡ true) × (slice_get (places_of plan s) k ≡ Some i)
+
+-- the same for each main output, in order of declaration
+pub record AreReported (plan : Distribution) (s : ℕ) (told : List (Option ℕ)) : Type 0 where
+  pub len : length told ≡ length (outputs_of plan)
+  pub each : (k i : ℕ) (o : Option ℕ) → slice_get (outputs_of plan) k ≡ Some i → slice_get told k ≡ Some o → Reports plan s i o
 
 -- the names of the main outputs, in order of declaration
 abbrev pub output_names : Distribution → List (List ℕ)
@@ -69,16 +97,14 @@ is_home plan s (Some i) = nat_eq (home plan i) s
 abbrev pub reports_output : Distribution → ℕ → ℕ → Bool
 reports_output plan s k = is_home plan s (slice_get (outputs_of plan) k)
 
-pub record IsProgram (plan : Distribution) (site flows : ℕ) (order owners : List ℕ) (parts : List Part) (ranks places branches : List ℕ) (posts : List Post) (outputs : List ℕ) (sites : ℕ) (names : List (List ℕ)) : Type 0 where
+-- a site's program has what the plan says of the flows that the site computes or takes, and of the main outputs
+pub record IsProgram (plan : Distribution) (site ranks_end : ℕ) (ranks places branches links : List ℕ) (posts : List Post) (told : List (Option ℕ)) (sites : ℕ) (names : List (List ℕ)) : Type 0 where
   pub plan_is : IsPlan plan
-  pub flows_are : flows ≡ flows_of plan.flat
-  pub order_is : order ≡ plan.flat.order
-  pub owners_are : owners ≡ plan.flat.owners
-  pub parts_are : parts ≡ parts_of plan site
+  pub end_is : ranks_end ≡ length plan.flat.order
   pub ranks_are : ranks ≡ ranks_of plan site
   pub places_are : places ≡ places_of plan site
-  pub posts_are : ArePosts plan site branches posts
-  pub outputs_are : outputs ≡ outputs_of plan
+  pub posts_are : ArePosts plan site branches links posts
+  pub told_are : AreReported plan site told
   pub sites_are : sites ≡ sites_of plan
   pub names_are : names ≡ output_names plan
 

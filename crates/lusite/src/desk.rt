@@ -16,7 +16,7 @@ ghost use Rattle.lusite.specs.Machine.{IsSet, StandsAt, IsSameRun, IsReadyAt, Te
 
 use crate::logs::note;
 use crate::next::{Fault, LinkNo, Next};
-use crate::program::{Post, SiteProgram};
+use crate::program::{Post, SiteProgram, link_of};
 use lueval::{
     Answer, Cell, Line, cell_at, cell_of, column_of, is_absent, is_datum, is_on, status, value_with,
 };
@@ -28,13 +28,13 @@ use luplace::SiteInputs;
 pub struct Desk {
     pub program: SiteProgram,
     pub inputs: SiteInputs,
-    /// What each flow that the site knows and has passed shows now.
+    /// What each flow that the site knows shows now, by its number among these; of those that it has passed.
     pub shown: Vec<Cell>,
-    /// The last value of each flow before this instant; absent before the first.
+    /// The last value of each of them before this instant; absent before the first.
     pub lasts: Vec<Cell>,
-    /// At how many instants before this one each flow was present.
+    /// At how many instants before this one each of them was present.
     pub counts: Vec<u32>,
-    /// For each flow that the site reports, its statuses so far.
+    /// The statuses so far of each of them that the site reports.
     pub logs: Vec<Vec<Status>>,
     pub instant: u32,
     /// The number of the flow at hand among those that the site computes or takes.
@@ -46,7 +46,7 @@ pub struct Desk {
     pub fault: Option<Fault>,
 }
 
-/// The last value of flow i, one instant later.
+/// The last value of the flow of number i, one instant later.
 #[inline(always)]
 fn renew(lasts: &mut Vec<Cell>, i: usize, cell: Cell)
     requires { i < length lasts.old.items }
@@ -59,7 +59,7 @@ fn renew(lasts: &mut Vec<Cell>, i: usize, cell: Cell)
     lasts[i] = cell;
 }
 
-/// How often flow i was present, one instant later.
+/// How often the flow of number i was present, one instant later.
 #[inline(always)]
 fn count(counts: &mut Vec<u32>, i: usize, cell: Cell)
     requires within { i < length counts.old.items }
@@ -73,33 +73,26 @@ fn count(counts: &mut Vec<u32>, i: usize, cell: Cell)
     counts[i] += 1;
 }
 
-/// Adds an instant to what is kept of the flows of these places: their last values, and how often they were present.
-fn age(places: &[usize], shown: &[Cell], lasts: &mut Vec<Cell>, counts: &mut Vec<u32>, instant: u32)
+/// Adds an instant to what is kept of each flow: its last value, and how often it was present.
+fn age(shown: &[Cell], lasts: &mut Vec<Cell>, counts: &mut Vec<u32>, instant: u32)
     requires lasts_len { length shown.now ≡ length lasts.old.items }
     requires counts_len { length shown.now ≡ length counts.old.items }
-    requires within { (k : ℕ) → k < length places.now → slice_index places.now k
-        < length shown.now }
-    requires once { (j k : ℕ) → j < k → k < length places.now → slice_index places.now j
-        ≢ slice_index places.now k }
     requires counts { All (λ n. n ≤ instant) counts.old.items }
     requires few { instant < most_instants }
-    ensures lasts { (k : ℕ) (x y : Cell) → k < length places.now
-        → slice_get shown.now (slice_index places.now k) ≡ Some x
-        → slice_get lasts.old.items (slice_index places.now k) ≡ Some y
-        → slice_get lasts.new.items (slice_index places.now k) ≡ Some (newest x y) }
-    ensures counted { (k : ℕ) (x : Cell) (n : ℕ) → k < length places.now
-        → slice_get shown.now (slice_index places.now k) ≡ Some x
-        → slice_get counts.old.items (slice_index places.now k) ≡ Some n
-        → slice_get counts.new.items (slice_index places.now k) ≡ Some (more_of x n) }
+    ensures lasts { (k : ℕ) (x y : Cell) → slice_get shown.now k ≡ Some x
+        → slice_get lasts.old.items k ≡ Some y
+        → slice_get lasts.new.items k ≡ Some (newest x y) }
+    ensures counted { (k : ℕ) (x : Cell) (n : ℕ) → slice_get shown.now k ≡ Some x
+        → slice_get counts.old.items k ≡ Some n
+        → slice_get counts.new.items k ≡ Some (more_of x n) }
     ensures lasts_len { length lasts.new.items ≡ length lasts.old.items }
     ensures counts_len { length counts.new.items ≡ length counts.old.items }
     ensures counts { All (λ n. n ≤ instant + 1) counts.new.items }
 {
-    for k in 0..places.len() {
-        let i = places[k];
-        let cell = shown[i];
-        renew(lasts, i, cell);
-        count(counts, i, cell);
+    for k in 0..shown.len() {
+        let cell = shown[k];
+        renew(lasts, k, cell);
+        count(counts, k, cell);
     }
 }
 
@@ -115,15 +108,6 @@ fn is_left(done: usize, early: bool, own: bool, outs: usize, into: bool) -> bool
         return done < outs;
     }
     into && done == 0
-}
-
-fn link_at(links: &[LinkNo], k: usize) -> LinkNo
-    ensures { result ≡ slice_index links.now k }
-{
-    match links.get(k) {
-        Some(link) => *link,
-        None => 0,
-    }
 }
 
 /// A flow that had nothing to do is absent.
@@ -163,7 +147,7 @@ fn datum_of(cell: Cell) -> Datum
     Datum::Nil
 }
 
-/// The flow of place i shows this now.
+/// The flow of number i shows this now.
 #[inline(always)]
 fn show(shown: &mut Vec<Cell>, i: usize, cell: Cell)
     ensures { statuses shown.new.items ≡ slice_set (statuses shown.old.items) i (status_of cell) }
@@ -183,17 +167,17 @@ fn show_body(shown: &mut Vec<Cell>, i: usize, body: Body)
 }
 
 impl Desk {
-    /// The flow at hand, with the list of all branches.
+    /// The flow at hand, with the lists of all branches and of all links out.
     #[inline(always)]
-    fn here(&self) -> (&Post, &[u16])
+    fn here(&self) -> (&Post, &[u16], &[LinkNo])
         requires set { IsSet self.now }
         requires within { self.now.row < length (places_of self.now.program.plan
             self.now.program.site) }
-        ensures { IsPost self.now.program.plan self.now.program.site result.1.now self.now.place
-            result.0.now }
+        ensures { IsPost self.now.program.plan self.now.program.site result.1.now result.2.now
+            self.now.place result.0.now }
     {
-        let (posts, branches) = self.program.code();
-        (&posts[self.row], branches)
+        let (posts, branches, links) = self.program.code();
+        (&posts[self.row], branches, links)
     }
 
     /// The flow at hand.
@@ -202,10 +186,10 @@ impl Desk {
         requires set { IsSet self.now }
         requires within { self.now.row < length (places_of self.now.program.plan
             self.now.program.site) }
-        ensures { (branches : List ℕ) × IsPost self.now.program.plan self.now.program.site branches
-            self.now.place result.now }
+        ensures { (branches : List ℕ) × (links : List ℕ) × IsPost self.now.program.plan
+            self.now.program.site branches links self.now.place result.now }
     {
-        let (post, _) = self.here();
+        let (post, _, _) = self.here();
         post
     }
 
@@ -247,28 +231,22 @@ impl Desk {
 
     /// Whether the site reports output k.
     pub fn reports_output(&self, k: usize) -> bool
+        requires { IsSet self.now }
         ensures { result ≡ told_at self.now (slice_get (outputs_of self.now.program.plan) k) }
     {
-        match self.program.outputs().get(k) {
-            Some(i) => self.program.told(*i),
-            None => false,
-        }
+        self.program.reported(k).is_some()
     }
 
     /// The statuses so far of output k; nothing where another site reports it.
     pub fn output(&self, k: usize) -> &[Status]
+        requires { IsSet self.now }
         ensures { result.now ≡ log_at self.now (slice_get (outputs_of self.now.program.plan) k) }
     {
-        match self.program.outputs().get(k) {
-            Some(i) => {
-                if !self.program.told(*i) {
-                    return &[];
-                }
-                match self.logs.get(*i) {
-                    Some(row) => row.as_slice(),
-                    None => &[],
-                }
-            }
+        let Some(number) = self.program.reported(k) else {
+            return &[];
+        };
+        match self.logs.get(number) {
+            Some(row) => row.as_slice(),
             None => &[],
         }
     }
@@ -276,7 +254,7 @@ impl Desk {
     /// Whether a line's clock is true, or the table is over.
     #[inline(always)]
     fn is_open(&self, line: &Line, early: bool) -> bool
-        ensures { result ≡ (not early || unwrap_or (clock_in (shown_of self.now)
+        ensures { result ≡ (not early || unwrap_or (clock_in (statuses self.now.shown.items)
             (clock_of line.now.clock)) false) }
     {
         if early {
@@ -288,12 +266,12 @@ impl Desk {
     /// Whether a flow of which nothing is done has an item at this instant.
     #[inline(always)]
     fn has_first(&self, post: &Post, early: bool) -> bool
-        ensures { result ≡ nat_lt 0 (in_cell (not early || unwrap_or (clock_in (shown_of self.now)
-            (clock_of post.now.line.clock)) false) post.now.own early post.now.outs
-            (is_some post.now.from)) }
+        ensures { result ≡ nat_lt 0 (in_cell (not early || unwrap_or (clock_in
+            (statuses self.now.shown.items) (clock_of post.now.line.clock)) false)
+            post.now.own early post.now.outs (is_some post.now.from)) }
     {
         if self.is_open(&post.line, early) {
-            return is_left(0, early, post.own, post.outs, post.from.is_some());
+            return is_left(0, early, post.own, post.outs as usize, post.from.is_some());
         }
         false
     }
@@ -314,7 +292,13 @@ impl Desk {
         if self.step == 0 {
             return self.has_first(post, early);
         }
-        is_left(self.step, early, post.own, post.outs, post.from.is_some())
+        is_left(
+            self.step,
+            early,
+            post.own,
+            post.outs as usize,
+            post.from.is_some(),
+        )
     }
 
     /// From a flow whose items are all done to the next one.
@@ -327,8 +311,6 @@ impl Desk {
         requires row { self.old.row < length (places_of self.old.program.plan
             self.old.program.site) }
         requires within { self.old.place < length self.old.program.plan.flat.order }
-        requires there { slice_index self.old.program.plan.flat.order self.old.place
-            < length self.old.shown.items }
         requires all { self.old.step ≡ cell_size self.old (slice_index
             self.old.program.plan.flat.order self.old.place) }
         ensures same { IsSameRun self.old self.new }
@@ -339,10 +321,9 @@ impl Desk {
         ensures done { done_of self.new ≡ done_of self.old }
         ensures less { rest_of self.new < rest_of self.old }
     {
-        let i = self.program.places()[self.row];
         let wanted = self.absent_noted();
-        clear(&mut self.shown, i, self.step);
-        note(&mut self.logs, wanted, i, Status::Absent);
+        clear(&mut self.shown, self.row, self.step);
+        note(&mut self.logs, wanted, self.row, Status::Absent);
         self.row += 1;
         self.place = self.program.rank(self.row);
         self.step = 0;
@@ -364,13 +345,7 @@ impl Desk {
         ensures done { done_of self.new ≡ done_of self.old }
         ensures less { rest_of self.new < rest_of self.old }
     {
-        age(
-            self.program.places(),
-            &self.shown,
-            &mut self.lasts,
-            &mut self.counts,
-            self.instant,
-        );
+        age(&self.shown, &mut self.lasts, &mut self.counts, self.instant);
         self.instant += 1;
         self.row = 0;
         self.place = self.program.rank(0);
@@ -446,11 +421,13 @@ impl Desk {
         requires set { IsSet self.now }
         requires within { self.now.row < length (places_of self.now.program.plan
             self.now.program.site) }
+        requires own { stands self.now.inputs.job.plan (slice_index
+            self.now.inputs.job.plan.flat.order self.now.place) self.now.inputs.site ≡ true }
         ensures { Computes self.now (slice_index self.now.program.plan.flat.order self.now.place)
             (flow_at self.now.program.plan.flat (slice_index self.now.program.plan.flat.order
             self.now.place)) (outcome_of result) }
     {
-        let (post, branches) = self.here();
+        let (post, branches, _) = self.here();
         value_with(
             &post.line,
             branches,
@@ -472,54 +449,67 @@ impl Desk {
         if self.row >= self.program.places().len() {
             return Next::Ended;
         }
-        let post = self.post();
+        let (post, _, links) = self.here();
         if post.own {
-            self.offer_own(post)
+            self.offer_own(post, links)
         } else {
             Next::Take(post.from.unwrap_or(0))
         }
     }
 
     #[inline(always)]
-    fn offer_own(&self, post: &Post) -> Next
-        requires { IsSet self.now }
-        ensures { result ≡ offered_own self.now post.now.line.place (part_at self.now.program
-            post.now.line.place).to }
+    fn offer_own(&self, post: &Post, links: &[LinkNo]) -> Next
+        requires set { IsSet self.now }
+        requires within { self.now.row < length (places_of self.now.program.plan
+            self.now.program.site) }
+        requires post { (branches : List ℕ) × IsPost self.now.program.plan
+            self.now.program.site branches links.now self.now.place post.now }
+        ensures { result ≡ offered_own self.now (slice_index self.now.program.plan.flat.order
+            self.now.place) (part_at self.now.program (slice_index
+            self.now.program.plan.flat.order self.now.place)).to }
     {
         if self.instant < self.inputs.instants() {
             if self.step == 0 {
                 return Next::Local;
             }
-            return self.offer_value(post);
+            return self.offer_value(post, links);
         }
-        self.offer_close(post)
+        self.offer_close(post, links)
     }
 
     /// The put at hand of a value.
-    fn offer_value(&self, post: &Post) -> Next
+    fn offer_value(&self, post: &Post, links: &[LinkNo]) -> Next
         requires set { IsSet self.now }
+        requires within { self.now.row < length (places_of self.now.program.plan
+            self.now.program.site) }
+        requires post { (branches : List ℕ) × IsPost self.now.program.plan
+            self.now.program.site branches links.now self.now.place post.now }
         requires early { self.now.instant < self.now.inputs.job.inputs.instants }
         requires some { 0 < self.now.step }
-        ensures { result ≡ offered_own self.now post.now.line.place (part_at self.now.program
-            post.now.line.place).to }
+        ensures { result ≡ offered_own self.now (slice_index self.now.program.plan.flat.order
+            self.now.place) (part_at self.now.program (slice_index
+            self.now.program.plan.flat.order self.now.place)).to }
     {
-        let i = post.line.place as usize;
-        let link = link_at(self.program.to(i), self.step - 1);
-        let no = count_at(&self.counts, i);
+        let link = link_of(post, links, self.step - 1);
+        let no = count_at(&self.counts, self.row);
         let body = Body::Value(datum_of(cell_at(&self.shown, post.line.place)));
         Next::Put(link, Msg { no, body })
     }
 
     /// The put at hand of the close.
-    fn offer_close(&self, post: &Post) -> Next
+    fn offer_close(&self, post: &Post, links: &[LinkNo]) -> Next
         requires set { IsSet self.now }
+        requires within { self.now.row < length (places_of self.now.program.plan
+            self.now.program.site) }
+        requires post { (branches : List ℕ) × IsPost self.now.program.plan
+            self.now.program.site branches links.now self.now.place post.now }
         requires late { self.now.inputs.job.inputs.instants ≤ self.now.instant }
-        ensures { result ≡ offered_own self.now post.now.line.place (part_at self.now.program
-            post.now.line.place).to }
+        ensures { result ≡ offered_own self.now (slice_index self.now.program.plan.flat.order
+            self.now.place) (part_at self.now.program (slice_index
+            self.now.program.plan.flat.order self.now.place)).to }
     {
-        let i = post.line.place as usize;
-        let link = link_at(self.program.to(i), self.step);
-        let no = count_at(&self.counts, i);
+        let link = link_of(post, links, self.step);
+        let no = count_at(&self.counts, self.row);
         Next::Put(
             link,
             Msg {
@@ -527,17 +517,6 @@ impl Desk {
                 body: Body::Close,
             },
         )
-    }
-
-    /// The place of the flow at hand.
-    #[inline(always)]
-    fn flow_here(&self) -> usize
-        requires set { IsSet self.now }
-        requires within { self.now.row < length (places_of self.now.program.plan
-            self.now.program.site) }
-        ensures { result ≡ slice_index self.now.program.plan.flat.order self.now.place }
-    {
-        self.post().line.place as usize
     }
 
     /// Computes the flow at hand.
@@ -555,17 +534,16 @@ impl Desk {
         ensures tells { TellsFault self.new }
         ensures done { done_of self.new ≡ done_of self.old + 1 }
     {
-        let i = self.flow_here();
         let answer = self.compute();
         let wanted = self.noted();
         self.step = 1;
         match answer {
             Answer::Gives(cell) => {
-                show(&mut self.shown, i, cell);
-                note(&mut self.logs, wanted, i, status(cell));
+                show(&mut self.shown, self.row, cell);
+                note(&mut self.logs, wanted, self.row, status(cell));
             }
             Answer::Faults(kind) => {
-                let variable = self.program.owner(i);
+                let variable = self.post().owner;
                 self.fault = Some(Fault {
                     variable,
                     instant: self.instant,
@@ -609,8 +587,7 @@ impl Desk {
         ensures fault { self.new.fault ≡ self.old.fault }
         ensures done { done_of self.new ≡ done_of self.old + 1 }
     {
-        let i = self.flow_here();
-        show_body(&mut self.shown, i, msg.body);
+        show_body(&mut self.shown, self.row, msg.body);
         self.step = 1;
     }
 }

@@ -1,41 +1,43 @@
 //! What is left of a site's script, were every flow present that it hasn't passed.
 
-ghost use Rattle.std.specs.Prelude.{◌≡◌, ◌≤◌, drop, false, length};
+ghost use Rattle.std.specs.Prelude.{◌≡◌, ◌≤◌, drop, false, is_some, length, true};
 ghost use Rattle.luworld.specs.Outline.{left_after};
 ghost use Rattle.luworld.specs.Runs.{IsRun, outline, streams_of};
-ghost use Rattle.lusite.specs.Machine.{IsSet, StandsAt, IsReadyAt, is_faulted, done_of};
-ghost use Rattle.lusite.specs.Widths.{width, widths, most_width, most_left};
+ghost use Rattle.lusite.specs.Machine.{IsSet, StandsAt, IsReadyAt, in_cell, is_faulted, done_of};
+ghost use Rattle.lusite.specs.Programs.{places_of, rank_at};
+ghost use Rattle.lusite.specs.Widths.{widths, most_width, most_left};
 
 use crate::desk::Desk;
+use crate::program::Post;
+
+/// How many items a flow has where it is present: at an instant of the table, or at the close.
+fn width(post: &Post, early: bool) -> usize
+    ensures { result ≡ in_cell true post.now.own early post.now.outs (is_some post.now.from) }
+{
+    let outs = post.outs as usize;
+    if post.own {
+        if early { outs + 1 } else { outs }
+    } else if post.from.is_some() {
+        1
+    } else {
+        0
+    }
+}
 
 impl Desk {
-    /// How many items a flow has where it is present: at an instant of the table, or at the close.
-    pub fn width(&self, place: usize, early: bool) -> usize
-        ensures { result ≡ width self.now.program early place }
-    {
-        if self.program.owned(place) {
-            let outs = self.program.to(place).len();
-            if early { outs + 1 } else { outs }
-        } else if self.program.from(place).is_some() {
-            1
-        } else {
-            0
-        }
-    }
-
-    /// The same of all flows from a rank on.
-    fn widths(&self, rank: usize, early: bool) -> u64
+    /// The same of all flows from number `row` of the site's on.
+    fn widths(&self, row: usize, early: bool) -> u64
         requires run { IsRun self.now.inputs.job }
         requires set { IsSet self.now }
-        requires within { rank ≤ length self.now.program.plan.flat.order }
+        requires within { row ≤ length (places_of self.now.program.plan self.now.program.site) }
         ensures sum { result ≡ widths self.now.program early
-            (drop rank self.now.program.plan.flat.order) }
+            (drop (rank_at self.now.program row) self.now.program.plan.flat.order) }
         ensures few { result ≤ most_width }
     {
-        let order = self.program.order();
+        let (posts, _, _) = self.program.code();
         let mut total = 0;
-        for p in rank..order.len() {
-            total += self.width(order[p], early) as u64;
+        for k in row..posts.len() {
+            total += width(&posts[k], early) as u64;
         }
         total
     }
@@ -53,11 +55,11 @@ impl Desk {
     {
         let instants = self.inputs.instants();
         if self.instant < instants {
-            let here = self.widths(self.place, true) - self.step as u64;
+            let here = self.widths(self.row, true) - self.step as u64;
             let whole = (instants - self.instant - 1) as u64 * self.widths(0, true);
             here + whole + self.widths(0, false)
         } else {
-            self.widths(self.place, false) - self.step as u64
+            self.widths(self.row, false) - self.step as u64
         }
     }
 }

@@ -1,10 +1,9 @@
 //! What of a plan a site runs.
 
-ghost use Rattle.std.specs.Prelude.{◌≡◌, ◌<◌, [], slice_get, slice_index, unwrap_or, IfOk, Option};
-ghost use Rattle.luflow.specs.Program.{flows_of};
+ghost use Rattle.std.specs.Prelude.{◌≡◌, ℕ, ◌+◌, ◌<◌, length, slice_get, slice_index, unwrap_or, List, Option};
 ghost use Rattle.luworld.specs.Needs.{IsPlan, sites_of};
 ghost use Rattle.luworld.specs.Runs.{outputs_of};
-ghost use Rattle.lusite.specs.Programs.{part_at, no_part, output_names, ranks_of, places_of, rank_at, ArePosts};
+ghost use Rattle.lusite.specs.Programs.{output_names, places_of, rank_at, ArePosts, Reports};
 
 use crate::next::LinkNo;
 use lueval::Line;
@@ -29,36 +28,41 @@ pub struct Part {
 /// A flow that a site computes or takes, as the site's machine has it.
 #[derive(Clone, Copy, Drop)]
 pub struct Post {
-    /// The flow, with its place.
+    /// The flow, with its number among these flows in order of rank in place of its place; so are its operands and its clock's variable.
     pub line: Line,
+    /// The number of the main variable in whose equation the flow stands.
+    pub owner: usize,
     /// Whether the site computes the flow.
     pub own: bool,
     /// Whether the site reports the flow, as an output.
     pub told: bool,
     /// The link by which the site takes the flow.
     pub from: Option<LinkNo>,
+    /// Where the links by which the site sends the flow begin in the list of all of these.
+    pub first: u32,
     /// By how many links the site sends the flow.
-    pub outs: usize,
+    pub outs: u32,
 }
 
-/// What of a plan a site runs: the flows, and the site's part in each. It keeps, for contracts alone, which plan it is of.
+/// What of a plan a site runs: the flows that it computes or takes, in order of rank, and its part in each. It keeps, for contracts
+/// alone, which plan it is of.
 #[derive(Drop)]
 pub struct SiteProgram {
     pub(crate) site: u8,
-    /// How many flows the program has.
-    pub(crate) flows: usize,
-    pub(crate) order: Row<usize>,
-    pub(crate) owners: Row<usize>,
-    pub(crate) parts: Row<Part>,
+    /// How many flows the whole program has.
+    pub(crate) end: usize,
     /// The ranks of the flows that the site computes or takes, in order.
     pub(crate) ranks: Row<usize>,
     /// The places of these flows, in order of rank.
     pub(crate) places: Row<usize>,
     /// These flows, in order of rank.
     pub(crate) posts: Row<Post>,
-    /// The places of the branches of the merges among them.
+    /// The numbers of the branches of the merges among them.
     pub(crate) branches: Row<u16>,
-    pub(crate) outputs: Row<usize>,
+    /// The links by which the site sends flows, those of one flow side by side.
+    pub(crate) links: Row<LinkNo>,
+    /// For each main output the number of its flow, where the site reports it.
+    pub(crate) told: Row<Option<usize>>,
     pub(crate) sites: u8,
     pub(crate) names: Row<Name>,
     pub(crate) plan: Snapshot<Plan>,
@@ -71,43 +75,33 @@ impl Model for SiteProgram {
 
     ghost view = { λ a. record { plan = a.plan.value; site = a.site } };
 
-    ghost invariant = { λ a. IsProgram a.plan.value a.site a.flows a.order a.owners a.parts a.ranks
-        a.places a.branches a.posts a.outputs a.sites a.names };
+    ghost invariant = { λ a. IsProgram a.plan.value a.site a.end a.ranks a.places a.branches a.links
+        a.posts a.told a.sites a.names };
 }
 
-pub(crate) fn own_at(parts: &[Part], place: usize) -> bool
-    ensures { result ≡ (unwrap_or (slice_get parts.now place) no_part).own }
+/// Link number j of those by which the site sends a flow, among those of all its flows.
+#[inline(always)]
+pub(crate) fn link_of(post: &Post, links: &[LinkNo], j: usize) -> LinkNo
+    ensures { (to : List ℕ) → post.now.outs ≡ length to
+        → ((i : ℕ) → i < post.now.outs → slice_index links.now (post.now.first + i)
+        ≡ slice_index to i) → result ≡ slice_index to j }
 {
-    match parts.get(place) {
-        Some(part) => part.own,
-        None => false,
+    if j >= post.outs as usize {
+        return 0;
+    }
+    match links.get(post.first as usize + j) {
+        Some(link) => *link,
+        None => 0,
     }
 }
 
-pub(crate) fn told_at(parts: &[Part], place: usize) -> bool
-    ensures { result ≡ (unwrap_or (slice_get parts.now place) no_part).told }
+/// The number that is told of output k, if one is.
+fn number_of(told: &[Option<usize>], k: usize) -> Option<usize>
+    ensures { result ≡ unwrap_or (slice_get told.now k) Option.None }
 {
-    match parts.get(place) {
-        Some(part) => part.told,
-        None => false,
-    }
-}
-
-pub(crate) fn from_at(parts: &[Part], place: usize) -> Option<LinkNo>
-    ensures { result ≡ (unwrap_or (slice_get parts.now place) no_part).from }
-{
-    match parts.get(place) {
-        Some(part) => part.from,
+    match told.get(k) {
+        Some(number) => *number,
         None => None,
-    }
-}
-
-pub(crate) fn to_at(parts: &[Part], place: usize) -> &[LinkNo]
-    ensures { result.now ≡ (unwrap_or (slice_get parts.now place) no_part).to }
-{
-    match parts.get(place) {
-        Some(part) => part.to.as_slice(),
-        None => &[],
     }
 }
 
@@ -120,20 +114,6 @@ impl SiteProgram {
         self.site
     }
 
-    /// How many flows the program has.
-    pub fn flows(&self) -> usize
-        ensures { result ≡ flows_of self.now.plan.flat }
-    {
-        self.flows
-    }
-
-    /// The places of all flows in order of rank.
-    pub fn order(&self) -> &[usize]
-        ensures { result.now ≡ self.now.plan.flat.order }
-    {
-        self.order.as_slice()
-    }
-
     /// The places of the flows that the site computes or takes, in order of rank.
     pub fn places(&self) -> &[usize]
         ensures { result.now ≡ places_of self.now.plan self.now.site }
@@ -141,40 +121,45 @@ impl SiteProgram {
         self.places.as_slice()
     }
 
-    /// The flows that the site computes or takes, in order of rank, as its machine has them, and the places of the branches of the
-    /// merges among them.
+    /// The flows that the site computes or takes, in order of rank, as its machine has them, the numbers of the branches of the
+    /// merges among them, and the links by which the site sends them.
     #[inline(always)]
-    pub(crate) fn code(&self) -> (&[Post], &[u16])
-        ensures { ArePosts self.now.plan self.now.site result.1.now result.0.now }
+    pub(crate) fn code(&self) -> (&[Post], &[u16], &[LinkNo])
+        ensures { ArePosts self.now.plan self.now.site result.1.now result.2.now result.0.now }
     {
-        (self.posts.as_slice(), self.branches.as_slice())
+        (
+            self.posts.as_slice(),
+            self.branches.as_slice(),
+            self.links.as_slice(),
+        )
     }
 
     /// The rank of flow number k of those that the site computes or takes; behind the last the number of all flows.
-    pub fn rank(&self, k: usize) -> usize
+    pub(crate) fn rank(&self, k: usize) -> usize
         ensures { result ≡ rank_at self.now k }
     {
         match self.ranks.as_slice().get(k) {
             Some(rank) => *rank,
-            None => self.order.as_slice().len(),
+            None => self.end,
         }
     }
 
-    /// The number of the main variable in whose equation a flow stands.
-    pub fn owner(&self, place: usize) -> usize
-        ensures { result ≡ slice_index self.now.plan.flat.owners place }
+    /// How many main outputs there are.
+    pub(crate) fn outputs(&self) -> usize
+        ensures count { result ≡ length (outputs_of self.now.plan) }
+        ensures plan { IsPlan self.now.plan }
     {
-        match self.owners.as_slice().get(place) {
-            Some(owner) => *owner,
-            None => 0,
-        }
+        self.told.as_slice().len()
     }
 
-    /// The places of the main outputs, in order of declaration.
-    pub fn outputs(&self) -> &[usize]
-        ensures { result.now ≡ outputs_of self.now.plan }
+    /// The number, among the flows that the site computes or takes, of that which is output k, where the site reports it.
+    pub(crate) fn reported(&self, k: usize) -> Option<usize>
+        ensures there { (i : ℕ) → slice_get (outputs_of self.now.plan) k ≡ Option.Some i
+            → Reports self.now.plan self.now.site i result }
+        ensures beyond { slice_get (outputs_of self.now.plan) k ≡ Option.None
+            → result ≡ Option.None }
     {
-        self.outputs.as_slice()
+        number_of(self.told.as_slice(), k)
     }
 
     /// The number of sites of the plan, 1 to 16.
@@ -189,33 +174,5 @@ impl SiteProgram {
         ensures { result.now ≡ output_names self.now.plan }
     {
         self.names.as_slice()
-    }
-
-    /// Whether the site computes a flow.
-    pub fn owned(&self, place: usize) -> bool
-        ensures { result ≡ (part_at self.now place).own }
-    {
-        own_at(self.parts.as_slice(), place)
-    }
-
-    /// Whether the site reports a flow.
-    pub fn told(&self, place: usize) -> bool
-        ensures { result ≡ (part_at self.now place).told }
-    {
-        told_at(self.parts.as_slice(), place)
-    }
-
-    /// The link by which the site takes a flow.
-    pub fn from(&self, place: usize) -> Option<LinkNo>
-        ensures { result ≡ (part_at self.now place).from }
-    {
-        from_at(self.parts.as_slice(), place)
-    }
-
-    /// The links by which the site sends a flow, in order.
-    pub fn to(&self, place: usize) -> &[LinkNo]
-        ensures { result.now ≡ (part_at self.now place).to }
-    {
-        to_at(self.parts.as_slice(), place)
     }
 }

@@ -3,13 +3,12 @@
 ghost use Rattle.std.specs.Prelude.{◌≡◌, ◌↔◌, ℕ, ◌+◌, ◌<◌, ◌≤◌, IfOk, IfSome, IsSome, List, length, replicate, Some, slice_get};
 ghost use Rattle.std.specs.Option.{ForSome};
 ghost use Rattle.lueval.specs.declared.cell.Cell.TheVariants.{Absent};
-ghost use Rattle.luflow.specs.Program.{flows_of};
 ghost use Rattle.luworld.specs.Needs.{sites_of};
 ghost use Rattle.luworld.specs.Outline.{left_after};
 ghost use Rattle.luworld.specs.Runs.{IsJob, IsRun, outline, outputs_of, streams_of};
 ghost use Rattle.lusite.specs.Logs.{IsOutput, IsNewRow, Log, row_items};
 ghost use Rattle.lusite.specs.Machine.{IsAtInstant, IsNext, IsLocalNext, IsPutNext, IsTakeNext, IsFaultAt};
-ghost use Rattle.lusite.specs.Programs.{part_at, output_names, reports_output};
+ghost use Rattle.lusite.specs.Programs.{part_of, places_of, output_names, reports_output};
 ghost use Rattle.lusite.specs.Widths.{most_left};
 
 use crate::desk::Desk;
@@ -50,22 +49,24 @@ fn new_row(alloc: Global, wanted: bool, instants: u32) -> Result<Vec<Status>, Al
 fn new_logs(
     alloc: Global,
     program: &SiteProgram,
-    flows: usize,
     instants: u32,
 ) -> Result<Vec<Vec<Status>>, AllocError>
-    ensures len { IfOk result (λ x. length x.items ≡ flows) }
-    ensures each { IfOk result (λ x. (i : ℕ) → ForSome (slice_get x.items i)
-        (λ y. IsNewRow (part_at program.now i).told instants y)) }
+    ensures len { IfOk result (λ x. length x.items
+        ≡ length (places_of program.now.plan program.now.site)) }
+    ensures each { IfOk result (λ x. (k i : ℕ) → slice_get (places_of program.now.plan
+        program.now.site) k ≡ Some i → ForSome (slice_get x.items k)
+        (λ y. IsNewRow (part_of program.now.plan program.now.site i).told instants y)) }
 {
-    let mut logs = Vec::with_capacity(alloc, flows)?;
-    for i in 0..flows {
-        let row = new_row(alloc, program.told(i), instants)?;
+    let (posts, _, _) = program.code();
+    let mut logs = Vec::with_capacity(alloc, posts.len())?;
+    for k in 0..posts.len() {
+        let row = new_row(alloc, posts[k].told, instants)?;
         logs.push_reserved(row);
     }
     Ok(logs)
 }
 
-/// What a site holds for each flow.
+/// What a site holds: cells for each flow that it computes or takes, and the logs.
 struct Held {
     shown: Vec<Cell>,
     lasts: Vec<Cell>,
@@ -76,20 +77,22 @@ struct Held {
 /// What a new site holds: nothing is shown, no flow was present, and there is room for what is told.
 fn new_held(alloc: Global, program: &SiteProgram, instants: u32) -> Result<Held, AllocError>
     ensures shown { IfOk result (λ x. x.shown.items
-        ≡ replicate (flows_of program.now.plan.flat) Absent) }
+        ≡ replicate (length (places_of program.now.plan program.now.site)) Absent) }
     ensures lasts { IfOk result (λ x. x.lasts.items
-        ≡ replicate (flows_of program.now.plan.flat) Absent) }
+        ≡ replicate (length (places_of program.now.plan program.now.site)) Absent) }
     ensures counts { IfOk result (λ x. x.counts.items
-        ≡ replicate (flows_of program.now.plan.flat) 0) }
-    ensures len { IfOk result (λ x. length x.logs.items ≡ flows_of program.now.plan.flat) }
-    ensures each { IfOk result (λ x. (i : ℕ) → ForSome (slice_get x.logs.items i)
-        (λ y. IsNewRow (part_at program.now i).told instants y)) }
+        ≡ replicate (length (places_of program.now.plan program.now.site)) 0) }
+    ensures len { IfOk result (λ x. length x.logs.items
+        ≡ length (places_of program.now.plan program.now.site)) }
+    ensures each { IfOk result (λ x. (k i : ℕ) → slice_get (places_of program.now.plan
+        program.now.site) k ≡ Some i → ForSome (slice_get x.logs.items k)
+        (λ y. IsNewRow (part_of program.now.plan program.now.site i).told instants y)) }
 {
-    let flows = program.flows();
-    let shown = Vec::from_elem(alloc, Cell::Absent, flows)?;
-    let lasts = Vec::from_elem(alloc, Cell::Absent, flows)?;
-    let counts = Vec::from_elem(alloc, 0, flows)?;
-    let logs = new_logs(alloc, program, flows, instants)?;
+    let rows = program.places().len();
+    let shown = Vec::from_elem(alloc, Cell::Absent, rows)?;
+    let lasts = Vec::from_elem(alloc, Cell::Absent, rows)?;
+    let counts = Vec::from_elem(alloc, 0, rows)?;
+    let logs = new_logs(alloc, program, instants)?;
     Ok(Held {
         shown,
         lasts,

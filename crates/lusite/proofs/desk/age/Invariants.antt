@@ -1,9 +1,12 @@
-use Rattle.lueval.proofs.Ageing.{AreAged}
-use Rattle.lusite.proofs.Counting.{AreCounted}
+use Rattle.std.proofs.Common.{ℕ}
+use Rattle.lueval.specs.declared.cell.Cell.{Cell}
+use Rattle.lueval.specs.Cells.{newest}
+use Rattle.lusite.specs.Machine.{more_of}
+use Rattle.lusite.proofs.Counting.{AreRenewed}
 use Rattle.lusite.proofs.desk.age.Given as goal
 
 abbrev pub invariant-loop-k : goal.invariant-loop-k
 invariant-loop-k l = record {
-  lasts : AreAged l.places l.shown l.initial.lasts.items l.lasts.items l.k;
-  counts : AreCounted l.places l.shown l.initial.counts.items l.counts.items l.k l.instant;
+  lasts : AreRenewed Cell newest l.shown l.initial.lasts.items l.lasts.items l.k;
+  counts : AreRenewed ℕ more_of l.shown l.initial.counts.items l.counts.items l.k;
 }

@@ -1,28 +1,32 @@
-use Rattle.std.proofs.Common.{◌≡◌, Bool, cond, [], Some, length, ap, ◌∙◌, sym, arith}
-use Rattle.std.specs.Prelude.{slice_get, slice_index}
-use Rattle.std.proofs.lemmas.Option.{slice_get-get_or}
+use Rattle.std.proofs.Common.{◌≡◌, ℕ, ◌<◌, Some, arith}
+use Rattle.std.specs.Prelude.{slice_get}
+use Rattle.luflow.specs.Program.{flows_of}
+use Rattle.luflow.proofs.Solutions.{some_at}
 use Rattle.luworld.specs.Runs.{outputs_of}
-use Rattle.lusite.specs.Logs.{row_items}
+use Rattle.luworld.proofs.Fitting.{fits}
 use Rattle.lusite.proofs.Drawn.{one_drawn, others_left, all_drawn}
+use Rattle.lusite.proofs.Outputs.{output_there}
+use Rattle.lusite.proofs.Rows.{logs_row}
 use Rattle.lusite.proofs.logs.drawn.Goals as goal
 
 pub loop-k-preserved : goal.loop-k-preserved
 loop-k-preserved c =
     let p = c.args.program.now in
+    let all = c.args.logs.items in
     let inv = c.loop-k.invariant in
     let k = c.loop-k.k in
-    let lk = c.loop-k-test.true in
-    let outs = c.outputs-outputs.result.now in
-    let here : slice_get (outputs_of p.plan) k ≡ Some (slice_index outs k) = ap (λ xs. slice_get xs k) (sym c.outputs-outputs.ensures) ∙ slice_get-get_or outs k 0 lk in
+    let plan_is = c.outputs-count.ensures.plan in
+    let i = some_at (outputs_of p.plan) k (omega (arith, c.loop-k-test.true, c.outputs-count.ensures.count)) in
+    let reports = c.reported.ensures.there i.0 i.1 in
+    let inside : (x : ℕ) (j : ℕ) → slice_get (outputs_of p.plan) j ≡ Some x → x < flows_of p.plan.flat = λ x j e. (let first = (fits p.plan plan_is).variables_first in let l = (output_there p.plan j x e).0 in omega (arith, first, l)) in
     let push = c.push_reserved.ensures in
     record {
       len = (let a = inv.len in let b = push.len in omega (arith, a, b));
       room = (let a = inv.room in let b = push.capacity in omega (arith, a, b));
-      done = one_drawn p c.args.logs.items c.loop-k.logs.items c.loop-k.rows.items c.push_reserved.new.self.items c.draw-row.result k (slice_index outs k) here inv.done inv.left inv.len push.items (c.draw-row.ensures.drawn ∙ ap (λ (b : Bool). cond b (row_items (slice_get c.loop-k.logs.items (slice_index outs k))) []) c.told.ensures);
-      left = others_left p c.args.logs.items c.loop-k.logs.items c.draw-row.new.logs.items k (slice_index outs k) here inv.left c.draw-row.ensures.others;
+      done = one_drawn p all inside (logs_row p all plan_is.flat_is.ordered c.requires) c.loop-k.logs.items c.loop-k.rows.items c.push_reserved.new.self.items c.draw_reported-row.result k i.0 c.reported.result i.1 inv.done inv.left inv.len push.items reports c.draw_reported-row.ensures.drawn;
+      left = others_left p all c.loop-k.logs.items c.draw_reported-row.new.logs.items k i.0 c.reported.result i.1 inv.left reports c.draw_reported-row.ensures.others;
     }
 
 pub returns-clause-each : goal.returns-clause-each
 returns-clause-each c =
-    let n = ap length c.outputs-outputs.ensures in
-    all_drawn c.args.program.now c.args.logs.items c.loop-k.rows.items c.loop-k.k c.loop-k.invariant.done c.loop-k.invariant.len (let a = c.loop-k-test.false in omega (arith, a, n))
+    all_drawn c.args.program.now c.args.logs.items c.loop-k.rows.items c.loop-k.k c.loop-k.invariant.done c.loop-k.invariant.len (omega (arith, c.loop-k-test.false, c.outputs-count.ensures.count))

@@ -1,44 +1,67 @@
-use Rattle.std.proofs.Common.{◌≢◌, ℕ, get_or, [], ◌∷◌, ◌++◌, length, length-append, refl, sym, ap, ap₂, ◌∙◌, arith}
+use Rattle.std.proofs.Common.{◌≡◌, ◌≢◌, ℕ, ◌<◌, List, get_or, [], ◌∷◌, ◌++◌, length, map, take, refl, sym, ap, ap₂, subst, ◌∙◌, arith}
+use Rattle.std.specs.Prelude.{slice_index}
+use Rattle.std.proofs.lemmas.List.{map-append, take_more, take_all}
+use Rattle.std.proofs.lemmas.Option.{get_or_from_slice_get}
+use Rattle.luflow.specs.Program.{flows_of}
+use Rattle.luworld.specs.Runs.{link_into}
 use Rattle.lusite.specs.declared.program.Part.{Part}
-use Rattle.lusite.specs.Programs.{part_of}
-use Rattle.lusite.proofs.Carried.{source_found, row_found}
-use Rattle.lusite.proofs.Ranges.{map_more}
+use Rattle.lusite.specs.Programs.{SitePlan, part_of}
+use Rattle.lusite.proofs.Skips.{places_in, places_once}
 use Rattle.lusite.proofs.projecting.parts.Goals as goal
 
-pub loop-i-init : goal.loop-i-init
-loop-i-init c =
-    let found = c.in_ok-carriers in
+pub loop-k-init : goal.loop-k-init
+loop-k-init c =
+    let plan = c.args.plan.now in
+    let p : SitePlan = record { plan = plan; site = c.args.site } in
     record {
       made = c.in_ok-all.ensures.items;
-      len = ap length c.in_ok-all.ensures.items;
       room = let e = c.in_ok-all.ensures.exact in omega (arith, e);
-      rows_len = found.ensures.rows_len;
+      rows_len = refl;
       sources = refl;
-      left = λ k _ x there. row_found c.args.plan.now c.flat.ensures.plan c.args.site (length c.flows-flows.result.now) k found.carriers.sources.items found.carriers.rows.items x found.ensures there;
+      left = λ j le lt x there. c.requires.rows (slice_index c.args.places.now j) (subst (λ (ps : List ℕ). slice_index ps j < flows_of plan.flat) (sym c.requires.places) (places_in p c.requires.plan.flat_is.ordered j (subst (λ (ps : List ℕ). j < length ps) c.requires.places lt))) x there;
     }
+
+pub take_row-to-requires : goal.take_row-to-requires
+take_row-to-requires c =
+    let plan = c.args.plan.now in
+    let k = c.loop-k.k in
+    let l = subst (λ (ps : List ℕ). slice_index ps k < flows_of plan.flat) (sym c.requires.places) (places_in (record { plan = plan; site = c.args.site }) c.requires.plan.flat_is.ordered k (subst (λ (ps : List ℕ). k < length ps) c.requires.places c.loop-k-test.true)) in
+    let n = c.loop-k.invariant.rows_len in
+    let m = c.requires.rows_len in
+    omega (arith, l, n, m)
 
 pub part-requires-clause-from : goal.part-requires-clause-from
 part-requires-clause-from c =
-    let found = c.in_ok-carriers in
+    let plan = c.args.plan.now in
+    let k = c.loop-k.k in
+    let i = slice_index c.args.places.now k in
+    let l : i < flows_of plan.flat = subst (λ (ps : List ℕ). slice_index ps k < flows_of plan.flat) (sym c.requires.places) (places_in (record { plan = plan; site = c.args.site }) c.requires.plan.flat_is.ordered k (subst (λ (ps : List ℕ). k < length ps) c.requires.places c.loop-k-test.true)) in
     c.index.ensures
-    ∙ ap (λ xs. get_or xs c.loop-i.i c.index.result.now) c.loop-i.invariant.sources
-    ∙ source_found c.args.plan.now c.args.site (length c.flows-flows.result.now) c.loop-i.i found.carriers.sources.items found.carriers.rows.items c.index.result.now found.ensures c.loop-i-test.true
+    ∙ ap (λ xs. get_or xs i c.index.result.now) c.loop-k.invariant.sources
+    ∙ get_or_from_slice_get c.args.carriers.now.sources.items i (link_into plan c.args.site i) c.index.result.now (c.requires.sources i l)
 
-pub loop-i-preserved : goal.loop-i-preserved
-loop-i-preserved c =
-    let f : ℕ → Part = part_of c.args.plan.now c.args.site in
-    let i = c.loop-i.i in
+pub part-requires-clause-to : goal.part-requires-clause-to
+part-requires-clause-to c = c.loop-k.invariant.left c.loop-k.k (omega arith) c.loop-k-test.true c.take_row-to.result c.take_row-to.ensures.row
+
+pub loop-k-preserved : goal.loop-k-preserved
+loop-k-preserved c =
+    let plan = c.args.plan.now in
+    let places = c.args.places.now in
+    let k = c.loop-k.k in
+    let i = slice_index places k in
     let p = c.push_reserved.ensures in
-    let so_far = c.loop-i.invariant in
-    let n = length-append c.loop-i.all.items (c.part.result ∷ []) in
-    let e = ap length p.items in
+    let so_far = c.loop-k.invariant in
+    let f : ℕ → Part = part_of plan c.args.site in
+    let once = subst (λ (ps : List ℕ). (j n : ℕ) → j < n → n < length ps → slice_index ps j ≡ slice_index ps n → ⊥) (sym c.requires.places) (places_once (record { plan = plan; site = c.args.site }) c.requires.plan.flat_is.ordered) in
     record {
-      made = p.items ∙ ap₂ (λ xs (x : Part). xs ++ x ∷ []) so_far.made c.part.ensures ∙ sym (map_more f i);
-      len = let b = so_far.len in omega (arith, e, n, b);
+      made = p.items ∙ ap₂ (λ xs (x : Part). xs ++ x ∷ []) so_far.made c.part.ensures ∙ sym (map-append f (take k places) (i ∷ [])) ∙ ap (map f) (sym (take_more places k 0 c.loop-k-test.true));
       room = let a = p.capacity in let b = so_far.room in omega (arith, a, b);
       rows_len = c.take_row-to.ensures.len ∙ so_far.rows_len;
       sources = so_far.sources;
-      left = λ k le x there.
-          let ne : k ≢ i = omega arith in
-          so_far.left k (omega arith) x (sym (c.take_row-to.ensures.rest k ne) ∙ there);
+      left = λ j le lt x there.
+          let ne : slice_index places j ≢ i = λ e. once k j (omega (arith, le)) lt (sym e) in
+          so_far.left j (omega (arith, le)) lt x (sym (c.take_row-to.ensures.rest (slice_index places j) ne) ∙ there);
     }
+
+pub returns : goal.returns
+returns c = c.loop-k.invariant.made ∙ ap (map (part_of c.args.plan.now c.args.site)) (take_all c.loop-k.k c.args.places.now c.loop-k-test.false ∙ c.requires.places)

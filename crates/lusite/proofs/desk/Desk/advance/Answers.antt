@@ -1,12 +1,9 @@
-use Rattle.std.proofs.Common.{◌≡◌, ℕ, ◌<◌, slice_index, ap, length, arith, sym, subst, ◌∙◌}
+use Rattle.std.proofs.Common.{◌≡◌, ◌<◌, slice_index, ap, length, arith, sym, ◌∙◌}
 use Rattle.luworld.specs.Needs.{Distribution}
-use Rattle.lusite.specs.Machine.{cell_size, Over, shown_of}
+use Rattle.lusite.specs.Machine.{cell_size, Over}
 use Rattle.lusite.specs.Programs.{places_of}
 use Rattle.lusite.proofs.Desks.{going, size_desk, ready_desk, full_desk, no_step}
-use Rattle.lusite.proofs.Moves.{place_within, place_over, place_shown}
-use Rattle.lusite.proofs.Skips.{place_here}
-use Rattle.std.proofs.lemmas.List.{length-map}
-use Rattle.lueval.specs.Cells.{status_of}
+use Rattle.lusite.proofs.Moves.{place_within, place_over}
 use Rattle.std.proofs.lemmas.Bool.{ltb-true}
 use Rattle.lusite.proofs.Passed.{lt_no}
 use Rattle.lusite.proofs.desk.Desk.advance.Goals as goal
@@ -24,15 +21,6 @@ pub pass-requires-clause-within : goal.pass-requires-clause-within
 pass-requires-clause-within c =
     let a = c.args.self.now in
     place_within a c.requires.set (omega (arith, ap length c.places.ensures))
-
-pub pass-requires-clause-there : goal.pass-requires-clause-there
-pass-requires-clause-there c =
-    let a = c.args.self.now in
-    let l : a.row < length (places_of a.program.plan a.program.site) = omega (arith, ap length c.places.ensures) in
-    let e = place_here a.program a.row a.place c.requires.set.rank_is in
-    let n = length-map a.shown.items status_of in
-    let w = subst (λ (i : ℕ). i < length (shown_of a)) e (place_shown a c.requires.set (shown_of a) c.requires.stands.now_len a.row l) in
-    omega (arith, n, w)
 
 pub pass-requires-clause-all : goal.pass-requires-clause-all
 pass-requires-clause-all c =

@@ -1,19 +1,22 @@
-use Rattle.std.proofs.Common.{List, refl, ap₂, ◌∙◌}
+use Rattle.std.proofs.Common.{◌≡◌, ℕ, List, true, refl, ap₂, sym, subst, ◌∙◌}
 use Rattle.luflow.specs.Values.{value_of}
+use Rattle.luworld.specs.Needs.{stands}
 use Rattle.lueval.specs.declared.cell.Cell.{Cell}
 use Rattle.lueval.specs.Cells.{held, statuses, view_of}
 use Rattle.lueval.specs.Operations.{form_of}
-use Rattle.lusite.proofs.Moves.{place_within}
+use Rattle.lusite.proofs.Desks.{flow_same}
 use Rattle.lusite.proofs.Posts.{computes_is}
 use Rattle.lusite.proofs.desk.Desk.compute.Goals as goal
 
 pub returns : goal.returns
 returns c =
     let a = c.args.self.now in
+    let r = c.requires in
     let post = c.here.result.0.now in
     let branches = c.here.result.1.now in
     let d = held c.given.result in
-    computes_is a c.requires.set post branches c.here.ensures (place_within a c.requires.set c.requires.within) d _
+    computes_is a r.set post branches c.here.result.2.now c.here.ensures r.within d _
+    (subst (λ (i : ℕ). stands a.inputs.job.plan i a.inputs.site ≡ true) (sym (flow_same a r.set)) r.own)
     (c.value_with.ensures (λ n. d) (λ n e. refl)
     ∙ ap₂ (λ (ys zs : List Cell). value_of (form_of branches post.line.operation) (view_of (λ n. d) (statuses ys) zs post.line.place)) c.deref.ensures.value c.deref-2.ensures.value)
     (c.given.ensures branches)

@@ -1,7 +1,6 @@
 use Rattle.std.proofs.Common.{ℕ, ◌<◌, true, sym, ap, ◌∙◌, arith}
 use Rattle.std.specs.Prelude.{slice_index, nat_lt, is_some}
 use Rattle.lusite.specs.Machine.{in_cell, cell_size}
-use Rattle.lusite.proofs.Moves.{place_within}
 use Rattle.lusite.proofs.Posts.{size_is, begun_size}
 use Rattle.lusite.proofs.desk.Desk.has_item.Goals as goal
 
@@ -10,7 +9,7 @@ returns-then-self-eq0 c =
     let a = c.args.self.now in
     let post = c.post-post.result.now in
     let early = nat_lt a.instant c.instants.result in
-    let size = size_is a c.requires.set post c.post-post.ensures.0 c.post-post.ensures.1 (place_within a c.requires.set c.requires.within) early (ap (nat_lt a.instant) c.instants.ensures) in
+    let size = size_is a c.requires.set post c.post-post.ensures.0 c.post-post.ensures.1 c.post-post.ensures.2 c.requires.within early (ap (nat_lt a.instant) c.instants.ensures) in
     c.has_first.ensures ∙ ap (nat_lt 0) (sym size) ∙ ap (λ (j : ℕ). nat_lt j (cell_size a (slice_index a.program.plan.flat.order a.place))) (sym c.if-self-eq0.true)
 
 pub returns : goal.returns
@@ -18,8 +17,7 @@ returns c =
     let a = c.args.self.now in
     let post = c.post-post.result.now in
     let early = nat_lt a.instant c.instants.result in
-    let lp = place_within a c.requires.set c.requires.within in
-    let size = size_is a c.requires.set post c.post-post.ensures.0 c.post-post.ensures.1 lp early (ap (nat_lt a.instant) c.instants.ensures) in
+    let size = size_is a c.requires.set post c.post-post.ensures.0 c.post-post.ensures.1 c.post-post.ensures.2 c.requires.within early (ap (nat_lt a.instant) c.instants.ensures) in
     let some : 0 < a.step = let ne = c.if-self-eq0.false in omega (arith, ne) in
     c.is_left.ensures
     ∙ ap (nat_lt a.step) (ap (in_cell true post.own early post.outs) c.is_some.ensures ∙ begun_size _ post.own early post.outs (is_some post.from) (let b = c.requires.begun some in omega (arith, some, b, size)) ∙ sym size)

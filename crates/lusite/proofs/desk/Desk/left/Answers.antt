@@ -1,22 +1,30 @@
-use Rattle.std.proofs.Common.{ap, ap₂, ◌∙◌, arith, ◌+◌, ◌-◌, ◌*◌, ℕ, true, false, drop}
+use Rattle.std.proofs.Common.{◌≡◌, ap, ap₂, sym, ◌∙◌, arith, ◌+◌, ◌-◌, ◌*◌, ℕ, Bool, true, false, drop}
+use Rattle.lusite.specs.declared.desk.Desk.{Desk}
+use Rattle.lusite.specs.Machine.{IsSet}
+use Rattle.lusite.specs.Programs.{rank_at}
 use Rattle.lusite.specs.Widths.{widths}
 use Rattle.lusite.proofs.Desks.{going}
-use Rattle.lusite.proofs.Widths.{desk_early, desk_late}
+use Rattle.lusite.proofs.Widths.{desk_early, desk_late, widths_first}
 use Rattle.lusite.proofs.desk.Desk.left.Goals as goal
+
+from_here : (a : Desk) → IsSet a → (early : Bool) → widths a.program early (drop (rank_at a.program a.row) a.program.plan.flat.order) ≡ widths a.program early (drop a.place a.program.plan.flat.order)
+from_here a set early = ap (λ (p : ℕ). widths a.program early (drop p a.program.plan.flat.order)) (sym set.rank_is)
 
 pub overflow_sub-here : goal.overflow_sub-here
 overflow_sub-here c =
     let a = c.args.self.now in
     let g = going a c.requires.set c.requires.stands c.requires.going in
     let h = (desk_early a g c.requires.ready (omega (arith, c.if-self-instants.true, c.instants-instants.ensures))).1 in
-    omega (arith, h, c.widths.ensures.sum)
+    let e = from_here a c.requires.set true in
+    omega (arith, h, e, c.widths.ensures.sum)
 
 pub overflow_sub-result : goal.overflow_sub-result
 overflow_sub-result c =
     let a = c.args.self.now in
     let g = going a c.requires.set c.requires.stands c.requires.going in
     let h = (desk_late a g c.requires.ready (omega (arith, c.if-self-instants.false, c.instants-instants.ensures))).1 in
-    omega (arith, h, c.widths-else-self-instants.ensures.sum)
+    let e = from_here a c.requires.set false in
+    omega (arith, h, e, c.widths-else-self-instants.ensures.sum)
 
 pub returns-then-self-instants-clause-left : goal.returns-then-self-instants-clause-left
 returns-then-self-instants-clause-left c =
@@ -25,13 +33,17 @@ returns-then-self-instants-clause-left c =
     let h = (desk_early a g c.requires.ready (omega (arith, c.if-self-instants.true, c.instants-instants.ensures))).0 in
     let n = c.instants-instants.result in
     let order = a.program.plan.flat.order in
-    let e = ap₂ (λ (m : ℕ) (k : ℕ). ((n - a.instant) - 1) * m + k) c.widths-then-self-instants.ensures.sum c.widths-then-self-instants-2.ensures.sum in
+    let whole = c.widths-then-self-instants.ensures.sum ∙ widths_first a c.requires.set true in
+    let closes = c.widths-then-self-instants-2.ensures.sum ∙ widths_first a c.requires.set false in
+    let here = from_here a c.requires.set true in
+    let e = ap₂ (λ (m : ℕ) (k : ℕ). ((n - a.instant) - 1) * m + k) whole closes in
     let f = ap (λ (t : ℕ). ((t - a.instant) - 1) * widths a.program true (drop 0 order) + widths a.program false (drop 0 order)) c.instants-instants.ensures in
-    omega (arith, h, c.widths.ensures.sum, e ∙ f)
+    omega (arith, h, here, c.widths.ensures.sum, e ∙ f)
 
 pub returns-else-self-instants-clause-left : goal.returns-else-self-instants-clause-left
 returns-else-self-instants-clause-left c =
     let a = c.args.self.now in
     let g = going a c.requires.set c.requires.stands c.requires.going in
     let h = (desk_late a g c.requires.ready (omega (arith, c.if-self-instants.false, c.instants-instants.ensures))).0 in
-    omega (arith, h, c.widths-else-self-instants.ensures.sum)
+    let e = from_here a c.requires.set false in
+    omega (arith, h, e, c.widths-else-self-instants.ensures.sum)
