@@ -34,8 +34,8 @@ The answer was worked out, but nothing of it was written, or a beginning. No
 text is at fault, and none is to be mended: make room, or write to another
 place. On Linux `lusdist check pump.lus > /dev/full` shows the line.
 
-With a PATH behind it, it is the file of `eval --vcd` that can't be written,
-since its folder isn't there, for instance: the file is as it was, or has a
-beginning of the dump. Nothing went to the output, and a fault that the
+With a PATH behind it, it is the file of a dump (`--vcd`) that can't be
+written, since its folder isn't there, for instance: the file is as it was, or
+has a beginning of the dump. Nothing went to the output, and a fault that the
 evaluation would tell isn't told.
 ";
