@@ -6,9 +6,7 @@ use Rattle.lulist.proofs.row.Row.TheSendSync as row
 use Rattle.lulist.proofs.name.Name.TheSendSync as name
 use Rattle.luflow.proofs.data.Datum.TheSendSync as datum
 use Rattle.luflow.proofs.data.Status.TheSendSync as status
-use Rattle.luflow.proofs.form.Flow.TheSendSync as flow
 use Rattle.lueval.proofs.cell.Cell.TheSendSync as cell
-use Rattle.lusite.proofs.program.Part.TheSendSync as part
 use Rattle.lusite.proofs.program.Post.TheSendSync as post
 use Rattle.lusite.proofs.next.Fault.TheSendSync as fault
 use Rattle.lulink.proofs.sender.Tx.TheSendSync as tx
@@ -45,32 +43,26 @@ inside_program =
     (struct_send (shape program.the_type) (
       search sendable,
       (
-        search (sendable, crosses, row.the_send, flow.the_send) depth 12,
+        search sendable,
         (
           search (sendable, crosses, row.the_send) depth 12,
           (
             search (sendable, crosses, row.the_send) depth 12,
             (
-              search (sendable, crosses, row.the_send, part.the_send) depth 12,
+              search (sendable, crosses, row.the_send, post.the_send) depth 12,
               (
                 search (sendable, crosses, row.the_send) depth 12,
                 (
                   search (sendable, crosses, row.the_send) depth 12,
                   (
-                    search (sendable, crosses, row.the_send, post.the_send) depth 12,
+                    search (sendable, crosses, row.the_send) depth 12,
                     (
-                      search (sendable, crosses, row.the_send) depth 12,
+                      search sendable,
                       (
-                        search (sendable, crosses, row.the_send) depth 12,
+                        search (sendable, crosses, row.the_send, name.the_send) depth 12,
                         (
                           search sendable,
-                          (
-                            search (sendable, crosses, row.the_send, name.the_send) depth 12,
-                            (
-                              search sendable,
-                              tt,
-                            ),
-                          ),
+                          tt,
                         ),
                       ),
                     ),
