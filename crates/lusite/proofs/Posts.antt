@@ -55,15 +55,11 @@ pushed P [] y here each (suc k) x e = absurd cc
 pushed P (z ∷ xs) y here each zero x e = each zero x e
 pushed P (z ∷ xs) y here each (suc k) x e = pushed (λ n. P (suc n)) xs y here (λ j w h. each (suc j) w h) k x e
 
--- more behind a list changes nothing of it, and is behind it
+-- more behind a list changes nothing of it
 index_front : (xs ys : List ℕ) (i : ℕ) → i < length xs → slice_index (xs ++ ys) i ≡ slice_index xs i
 index_front xs ys i l =
     let w = some_at xs i l in
     get_or_from_slice_get (xs ++ ys) i w.0 0 (slice_get_front xs ys i l ∙ w.1) ∙ sym (get_or_from_slice_get xs i w.0 0 w.1)
-
-pub index_back : (xs ys : List ℕ) (j : ℕ) → slice_index (xs ++ ys) (length xs + j) ≡ slice_index ys j
-index_back [] ys j = let e : 0 + j ≡ j = omega arith in ap (slice_index ys) e
-index_back (x ∷ xs) ys j = let e : length (x ∷ xs) + j ≡ suc (length xs + j) = omega arith in ap (slice_index (x ∷ (xs ++ ys))) e ∙ index_back xs ys j
 
 -- branches and links of other flows behind its own change nothing for a flow
 longer_post : (plan : Distribution) (s : ℕ) (old new links more : List ℕ) (p : ℕ) (post : Post) → IsLonger old new → IsPost plan s old links p post → IsPost plan s new (links ++ more) p post

@@ -1,9 +1,8 @@
 -- What a site's machine holds, by the numbers of its flows and by the places of all.
-use Rattle.std.proofs.Common.{inl, inr, ◌≡◌, ℕ, ◌<◌, ◌≤◌, List, length, map, replicate, set, get_or, Option, Some, refl, sym, ap, ◌∙◌, subst, arith}
+use Rattle.std.proofs.Common.{◌≡◌, ℕ, ◌<◌, ◌≤◌, List, length, map, replicate, set, get_or, Option, Some, sym, ap, ◌∙◌, subst, arith}
 use Rattle.std.specs.Prelude.{slice_get, slice_index, unwrap_or, All, vec_capacity}
 use Rattle.std.specs.Option.{option_map}
-use Rattle.std.proofs.lemmas.Bool.{cases_lt}
-use Rattle.std.proofs.lemmas.List.{length-map, length-set, length-replicate}
+use Rattle.std.proofs.lemmas.List.{length-map, length-replicate}
 use Rattle.std.proofs.lemmas.Option.{same_Some, slice_get-get_or, slice_get-map, get_or_from_slice_get, slice_get_within}
 use Rattle.luflow.specs.declared.data.Datum.TheVariants.{Nil}
 use Rattle.luflow.specs.declared.data.Status.{Status}
@@ -27,23 +26,9 @@ use Rattle.lusite.proofs.Moves.{ordered_here}
 use Rattle.lusite.proofs.Skips.{places_once, places_in, place_here}
 use Rattle.lusite.proofs.Spread.{AreOnce, put_len, put_has, put_same, put_set, spread_all}
 
--- as many cells as before
-pub cells_len : (xs ys : List Cell) (zs : List Status) → statuses ys ≡ zs → length zs ≡ length (statuses xs) → length ys ≡ length xs
-cells_len xs ys zs e n = sym (length-map ys status_of) ∙ ap length e ∙ n ∙ length-map xs status_of
-
-pub body_length : (xs : List Status) (k : ℕ) (b : Body) → length (with_body xs k b) ≡ length xs
-body_length xs k (Value d) = length-set xs k (Present d)
-body_length xs k Close = refl
-
 -- what is left as it was is shown as it was
 pub left_same : (a : Desk) (xs : List Cell) → statuses xs ≡ statuses a.shown.items → shown_in a.program xs ≡ shown_of a
 left_same a xs e = ap (λ ys. put_at (replicate (flows_of a.program.plan.flat) Absent) (places_of a.program.plan a.program.site) ys) e
-
-pub cleared_len : (a : Desk) (xs : List Cell) → (a.step ≡ 0 → statuses xs ≡ set (statuses a.shown.items) a.row Absent) → (0 < a.step → statuses xs ≡ statuses a.shown.items) → length xs ≡ length a.shown.items
-cleared_len a xs cleared left = elim (cases_lt 0 a.step) [
-  | inl l ↦ cells_len a.shown.items xs (statuses a.shown.items) (left l) refl
-  | inr l ↦ cells_len a.shown.items xs (set (statuses a.shown.items) a.row Absent) (cleared (omega (arith, l))) (length-set (statuses a.shown.items) a.row Absent)
-]
 
 -- the log of a flow, by its number and by its place
 pub logs_row : (p : SitePlan) (all : List Log) → IsOrdered p.plan.flat → length all ≡ length (places_of p.plan p.site) → (k i : ℕ) → slice_get (places_of p.plan p.site) k ≡ Some i → slice_get (logs_in p all) i ≡ slice_get (map log_view all) k
@@ -130,7 +115,7 @@ module _ (a : Desk) (set_up : IsSet a) where
     i = slice_index a.program.plan.flat.order a.place
 
     pub row_here : slice_get rows a.row ≡ Some i
-    row_here = slice_get-get_or rows a.row 0 l ∙ ap Some (place_here a.program a.row a.place set_up.rank_is)
+    row_here = slice_get-get_or rows (a.row) 0 l ∙ ap Some (place_here a.program a.row a.place set_up.rank_is)
 
     pub count_row : count_kept (pasts_of a) i ≡ unwrap_or (slice_get a.counts.items a.row) 0
     count_row =

@@ -117,6 +117,7 @@ fn clear(shown: &mut Vec<Cell>, i: usize, step: usize)
     ensures cleared { step ≡ 0 → statuses shown.new.items ≡ slice_set (statuses shown.old.items) i
         AnyStatus.Absent }
     ensures left { 0 < step → statuses shown.new.items ≡ statuses shown.old.items }
+    ensures len { length shown.new.items ≡ length shown.old.items }
 {
     if step == 0 {
         shown[i] = Cell::Absent;
@@ -150,7 +151,9 @@ fn datum_of(cell: Cell) -> Datum
 /// The flow of number i shows this now.
 #[inline(always)]
 fn show(shown: &mut Vec<Cell>, i: usize, cell: Cell)
-    ensures { statuses shown.new.items ≡ slice_set (statuses shown.old.items) i (status_of cell) }
+    ensures shown { statuses shown.new.items ≡ slice_set (statuses shown.old.items) i
+        (status_of cell) }
+    ensures len { length shown.new.items ≡ length shown.old.items }
 {
     if i < shown.len() {
         shown[i] = cell;
@@ -158,7 +161,8 @@ fn show(shown: &mut Vec<Cell>, i: usize, cell: Cell)
 }
 
 fn show_body(shown: &mut Vec<Cell>, i: usize, body: Body)
-    ensures { statuses shown.new.items ≡ with_body (statuses shown.old.items) i body }
+    ensures shown { statuses shown.new.items ≡ with_body (statuses shown.old.items) i body }
+    ensures len { length shown.new.items ≡ length shown.old.items }
 {
     match body {
         Body::Value(d) => show(shown, i, cell_of(d)),

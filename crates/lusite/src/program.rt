@@ -106,16 +106,8 @@ fn number_of(told: &[Option<usize>], k: usize) -> Option<usize>
 }
 
 impl SiteProgram {
-    /// The site.
-    pub fn site(&self) -> u8
-        ensures site { result ≡ self.now.site }
-        ensures plan { IsPlan self.now.plan }
-    {
-        self.site
-    }
-
     /// The places of the flows that the site computes or takes, in order of rank.
-    pub fn places(&self) -> &[usize]
+    pub(crate) fn places(&self) -> &[usize]
         ensures { result.now ≡ places_of self.now.plan self.now.site }
     {
         self.places.as_slice()
@@ -163,14 +155,14 @@ impl SiteProgram {
     }
 
     /// The number of sites of the plan, 1 to 16.
-    pub fn sites(&self) -> u8
+    pub(crate) fn sites(&self) -> u8
         ensures { result ≡ sites_of self.now.plan }
     {
         self.sites
     }
 
     /// The names of the main outputs, in order of declaration.
-    pub fn names(&self) -> &[Name]
+    pub(crate) fn names(&self) -> &[Name]
         ensures { result.now ≡ output_names self.now.plan }
     {
         self.names.as_slice()

@@ -371,6 +371,7 @@ struct Outputs {
     names: Vec<Name>,
 }
 
+/// For each main output the number of its flow, where the site reports it, and its name.
 fn outputs_told(
     alloc: Global,
     plan: &Plan,

@@ -1,5 +1,5 @@
 use Rattle.lusite.proofs.Held.{statuses_set}
 use Rattle.lusite.proofs.desk.show.Goals as goal
 
-pub returns-then-i-len : goal.returns-then-i-len
-returns-then-i-len c = statuses_set c.args.shown.now.items c.args.i c.args.cell
+pub returns-then-i-len-clause-shown : goal.returns-then-i-len-clause-shown
+returns-then-i-len-clause-shown c = statuses_set c.args.shown.now.items c.args.i c.args.cell

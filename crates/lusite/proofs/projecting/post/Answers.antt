@@ -1,12 +1,12 @@
 use Rattle.std.proofs.Common.{◌≡◌, ℕ, ◌+◌, ◌++◌, List, length, length-append, map, ap, subst, sym, ◌∙◌, arith}
 use Rattle.std.specs.Prelude.{slice_index}
-use Rattle.std.proofs.lemmas.List.{length-map}
+use Rattle.std.proofs.lemmas.List.{get_or-append-add, length-map}
 use Rattle.luflow.specs.Program.{FlatProgram, flow_at}
 use Rattle.lueval.specs.Cells.{IsLine}
 use Rattle.lueval.specs.Moving.{moved_clock, moved_form}
 use Rattle.lueval.specs.Operations.{IsInside}
 use Rattle.lusite.specs.declared.program.Part.{Part}
-use Rattle.lusite.proofs.Posts.{few_sends, index_back}
+use Rattle.lusite.proofs.Posts.{few_sends}
 use Rattle.lusite.proofs.projecting.post.Goals as goal
 
 pub overflow_cast-result : goal.overflow_cast-result
@@ -44,5 +44,5 @@ returns-clause-post c =
       from = ap (λ (x : Part). x.from) part;
       outs = ap length c.as_slice-2.ensures ∙ ap (λ (x : Part). length x.to) part;
       linked = let n = ap length links in let m = length-append old to in let k = ap length c.as_slice-2.ensures in omega (arith, n, m, k);
-      to = λ j l. ap (λ (n : ℕ). slice_index c.put_links.new.links.items (n + j)) first ∙ ap (λ (xs : List ℕ). slice_index xs (length old + j)) links ∙ index_back old to j ∙ ap (λ (x : Part). slice_index x.to j) part;
+      to = λ j l. ap (λ (n : ℕ). slice_index c.put_links.new.links.items (n + j)) first ∙ ap (λ (xs : List ℕ). slice_index xs (length old + j)) links ∙ get_or-append-add old to j 0 ∙ ap (λ (x : Part). slice_index x.to j) part;
     }

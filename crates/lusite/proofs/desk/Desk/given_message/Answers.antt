@@ -1,12 +1,11 @@
 use Rattle.std.proofs.Common.{List, subst, sym, ◌∙◌}
 use Rattle.luflow.specs.declared.data.Status.{Status}
-use Rattle.lueval.specs.Cells.{statuses}
 use Rattle.lusite.specs.Machine.{Stands, is_faulted, pasts_of}
 use Rattle.lusite.proofs.Desks.{going}
 use Rattle.lusite.proofs.Told.{note_given}
 use Rattle.lusite.proofs.Turns.{given_next, given_at}
 use Rattle.lusite.proofs.Posts.{row_within}
-use Rattle.lusite.proofs.Rows.{cells_len, body_length, shown_body}
+use Rattle.lusite.proofs.Rows.{shown_body}
 use Rattle.lusite.proofs.desk.Desk.given_message.Goals as goal
 
 pub returns-clause-set : goal.returns-clause-set
@@ -18,7 +17,7 @@ returns-clause-set c =
       plan_is = r.plan_is;
       site_is = r.site_is;
       rank_is = r.rank_is;
-      shown_fit = cells_len a.shown.items c.show_body.new.shown.items _ c.show_body.ensures (body_length (statuses a.shown.items) a.row c.args.msg.body) ∙ r.shown_fit;
+      shown_fit = c.show_body.ensures.len ∙ r.shown_fit;
       lasts_fit = r.lasts_fit;
       pasts_fit = r.pasts_fit;
       logs_fit = r.logs_fit;
@@ -30,7 +29,7 @@ returns-clause-stands c =
     let a = c.args.self.now in
     let r = c.requires in
     let w = given_at a c.args.msg r.set r.stands r.going r.ready r.next in
-    let e = shown_body a r.set (row_within a r.set w.1) c.show_body.new.shown.items c.args.msg.body c.show_body.ensures in
+    let e = shown_body a r.set (row_within a r.set w.1) c.show_body.new.shown.items c.args.msg.body c.show_body.ensures.shown in
     subst (λ (xs : List Status). Stands a.inputs.job a.inputs.site xs (pasts_of a) a.instant a.place 1 (is_faulted a)) (sym e) (given_next a c.args.msg r.set r.stands r.going r.ready r.next).0
 
 pub returns-clause-done : goal.returns-clause-done

@@ -6,7 +6,7 @@ use Rattle.lusite.specs.Logs.{is_noted, logs_in, IsLogged}
 use Rattle.lusite.proofs.Told.{none_yet, note_room, note_pass, absent_no, absent_is, absent_yes}
 use Rattle.lusite.proofs.Desks.{going, pass_desk}
 use Rattle.lusite.proofs.Moves.{pass_next, logged_next, next_above}
-use Rattle.lusite.proofs.Rows.{shown_set, cleared_len, left_same, log_within, log_room, log_noted}
+use Rattle.lusite.proofs.Rows.{shown_set, left_same, log_within, log_room, log_noted}
 use Rattle.lusite.specs.Machine.{Stands, is_faulted, shown_in, pasts_of}
 use Rattle.lusite.proofs.desk.Desk.pass.Goals as goal
 
@@ -19,7 +19,7 @@ returns-clause-set c =
       plan_is = r.plan_is;
       site_is = r.site_is;
       rank_is = c.rank-self.ensures;
-      shown_fit = cleared_len a c.clear.new.shown.items c.clear.ensures.cleared c.clear.ensures.left ∙ r.shown_fit;
+      shown_fit = c.clear.ensures.len ∙ r.shown_fit;
       lasts_fit = r.lasts_fit;
       pasts_fit = r.pasts_fit;
       logs_fit = c.note.ensures.len ∙ r.logs_fit;

@@ -1,6 +1,5 @@
 use Rattle.std.proofs.Common.{◌≡◌, List, map, set, refl, sym, ap, ◌∙◌, subst}
 use Rattle.std.specs.Prelude.{slice_index}
-use Rattle.std.proofs.lemmas.List.{length-set}
 use Rattle.std.proofs.lemmas.Option.{same_Some}
 use Rattle.luflow.specs.declared.data.Status.{Status}
 use Rattle.luflow.specs.declared.data.Status.TheVariants.{Present}
@@ -10,13 +9,13 @@ use Rattle.luflow.specs.Program.{flow_at}
 use Rattle.luflow.specs.Values.{gives}
 use Rattle.luworld.specs.World.{Compute}
 use Rattle.lusite.specs.declared.next.Fault.{Fault}
-use Rattle.lueval.specs.Cells.{status_of, statuses}
+use Rattle.lueval.specs.Cells.{statuses}
 use Rattle.lusite.specs.Machine.{Stands, Computes, IsFaultAt, is_faulted, pasts_of}
 use Rattle.lusite.specs.Logs.{log_view, logs_in, IsNoted}
 use Rattle.lusite.proofs.Desks.{going}
 use Rattle.lusite.proofs.Held.{gives_datum}
 use Rattle.lusite.proofs.Posts.{row_within}
-use Rattle.lusite.proofs.Rows.{cells_len, shown_set, log_within, log_room, log_noted}
+use Rattle.lusite.proofs.Rows.{shown_set, log_within, log_room, log_noted}
 use Rattle.lusite.proofs.Told.{note_room, note_here, noted_step, note_fault}
 use Rattle.lusite.proofs.Turns.{here_from, work_own, work_at, work_gives, work_faults, work_fault, work_stuck, place_in_plan}
 use Rattle.lusite.proofs.desk.Desk.work.Goals as goal
@@ -81,7 +80,7 @@ returns-in-Gives-clause-set c =
       plan_is = r.plan_is;
       site_is = r.site_is;
       rank_is = r.rank_is;
-      shown_fit = cells_len a.shown.items c.show.new.shown.items _ c.show.ensures (length-set (statuses a.shown.items) a.row (status_of c.in-Gives.cell)) ∙ r.shown_fit;
+      shown_fit = c.show.ensures.len ∙ r.shown_fit;
       lasts_fit = r.lasts_fit;
       pasts_fit = r.pasts_fit;
       logs_fit = c.note.ensures.len ∙ r.logs_fit;
@@ -99,7 +98,7 @@ returns-in-Gives-clause-stands c =
     let d = go.0 in
     let computes : is (Gives d) = subst is (ap gives go.1) c.in-Gives.ensures in
     let l = row_within a r.set (here_from a (Compute r.next.0 r.next.1) g r.ready r.next.2).place_lt in
-    let e = shown_set a r.set l c.show.new.shown.items (Present d) (c.show.ensures ∙ ap (λ (s : Status). set (statuses a.shown.items) a.row s) go.2) in
+    let e = shown_set a r.set l c.show.new.shown.items (Present d) (c.show.ensures.shown ∙ ap (λ (s : Status). set (statuses a.shown.items) a.row s) go.2) in
     subst (λ (xs : List Status). Stands a.inputs.job a.inputs.site xs (pasts_of a) a.instant a.place 1 (is_faulted a)) (sym e)
     (work_gives a d g r.ready r.next computes).0
 
