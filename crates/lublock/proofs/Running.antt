@@ -8,20 +8,24 @@ use Rattle.luflow.specs.Streams.{Streams, Broken}
 use Rattle.luflow.proofs.Solutions.{some_at, all_at}
 use Rattle.lublock.specs.declared.span.Span.{Span}
 use Rattle.lublock.specs.declared.board.Board.{Board}
-use Rattle.lublock.specs.Blocks.{Holds, IsRight}
-use Rattle.lublock.specs.Machine.{block_of, upto_of, known_of, was_of, StandsOn, IsAfter}
+use Rattle.luflow.specs.declared.form.Form.{Form}
+use Rattle.luflow.specs.Solution.{IsSolution}
+use Rattle.lublock.specs.Blocks.{Holds, IsRight, IsSolved, SolvesAt, datum_at}
+use Rattle.lublock.specs.Machine.{block_of, upto_of, known_of, was_of, StandsOn, IsAfter, IsDone}
 use Rattle.lublock.specs.Shown.{Column, AllNear, IsReady, IsRightBlock, StandsAt}
 
 -- a board that is ready stands, whatever the block's length
 pub ready_stands : (flat : FlatProgram) (inputs : Table) (σ : Streams) (t len : ℕ) (board : Board) → IsReady flat inputs σ t board → StandsOn flat inputs σ t len board
 ready_stands flat inputs σ t len board ready = record {
   begins = ready.begins;
-  done = λ i n flow there now l. absurd (let e = ready.upto i in omega (arith, e, l));
+  done = λ i n flow there now l.
+      let k = ready.constants i n flow there l in
+      subst (λ (f : Form). IsDone flat inputs t (block_of board.rows.items board.spans.items) (upto_of board.spans.items) (known_of board.spans.items) i flow f n) (sym k.1) (k.2, tt);
   counts = λ i flow there on. absurd (let e : true ≡ false = sym on ∙ ready.known i in cc);
 }
 
-pub after_ready : (flat : FlatProgram) (inputs : Table) (σ : Streams) (t len : ℕ) (old new : Board) → IsRight flat inputs σ t len (block_of old.rows.items old.spans.items) → IsAfter old new → IsReady flat inputs σ (t + len) new
-after_ready flat inputs σ t len old new right after = record {
+pub after_ready : (flat : FlatProgram) (inputs : Table) (σ : Streams) (t len : ℕ) (old new : Board) → IsRight flat inputs σ t len (block_of old.rows.items old.spans.items) → IsSolved flat inputs t len (block_of old.rows.items old.spans.items) → IsAfter flat old new → IsReady flat inputs σ (t + len) new
+after_ready flat inputs σ t len old new right solved after = record {
   begins = λ r flow there.
       let e = right.ends r flow there in
       record {
@@ -30,14 +34,17 @@ after_ready flat inputs σ t len old new right after = record {
         holds = subst (λ (z : ℤ). Holds flow.kind z e.datum) (sym (after.first r)) e.holds;
         ticks = e.ticks ∙ ap (λ (w : Bool). Some w) (sym (after.was r));
       };
-  upto = after.upto;
+  constants = λ r n flow there l.
+      let a = after.upto r n flow there l in
+      let is = subst (λ (f : Form). SolvesAt flat inputs t (block_of old.rows.items old.spans.items) r flow f n) a.0.1 (solved.forms r flow there n a.1) in
+      (a.0.0, a.0.1, ap (datum_at flow.kind) (after.beside r n) ∙ is);
   known = after.known;
 }
 
 -- one block more
-pub stands_on : (flat : FlatProgram) (inputs : Table) (t len : ℕ) (before old new : Board) (columns columns' : List Column) → StandsAt flat inputs t before columns → IsRightBlock flat inputs t len old → IsAfter old new → AllNear flat inputs columns' → StandsAt flat inputs (t + len) new columns'
-stands_on flat inputs t len before old new columns columns' stands right after near = record {
-  ready = λ σ sol. after_ready flat inputs σ t len old new (right σ sol) after;
+pub stands_on : (flat : FlatProgram) (inputs : Table) (t len : ℕ) (before old new : Board) (columns columns' : List Column) → StandsAt flat inputs t before columns → IsRightBlock flat inputs t len old → ((σ : Streams) → IsSolution flat inputs σ → IsSolved flat inputs t len (block_of old.rows.items old.spans.items)) → IsAfter flat old new → AllNear flat inputs columns' → StandsAt flat inputs (t + len) new columns'
+stands_on flat inputs t len before old new columns columns' stands right solved after near = record {
+  ready = λ σ sol. after_ready flat inputs σ t len old new (right σ sol) (solved σ sol) after;
   near = near;
   sound = λ σ sol r u lr lu. elim (cases_lt u t) [
     | inl h ↦ stands.sound σ sol r u lr h
@@ -83,7 +90,7 @@ stands_first flat inputs n board columns is empty = record {
       holds = λ ne. absurd (ne refl);
       ticks = ap (λ (w : Bool). Some w) (sym (ap (λ (spans : List Span). was_of spans r) is ∙ fresh_was n r));
     };
-    upto = λ r. ap (λ (spans : List Span). upto_of spans r) is ∙ fresh_upto n r;
+    constants = λ r k flow there l. absurd (let none : upto_of board.spans.items r ≡ 0 = ap (λ (spans : List Span). upto_of spans r) is ∙ fresh_upto n r in omega (arith, none, l));
     known = λ r. ap (λ (spans : List Span). known_of spans r) is ∙ fresh_known n r;
   };
   near = λ σ sol. record {

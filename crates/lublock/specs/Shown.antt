@@ -8,14 +8,16 @@ use Rattle.luflow.specs.declared.data.Status.{Status}
 use Rattle.luflow.specs.declared.data.Status.TheVariants.{Absent, Present}
 use Rattle.luflow.specs.declared.form.Clock.{Clock}
 use Rattle.luflow.specs.declared.form.Clock.TheVariants.{Base, On}
-use Rattle.luflow.specs.Program.{FlatProgram, Table, flows_of}
+use Rattle.luflow.specs.declared.form.Flow.{Flow}
+use Rattle.luflow.specs.declared.form.Form.TheVariants.{Constant}
+use Rattle.luflow.specs.Program.{FlatProgram, Table, flow_at, flows_of}
 use Rattle.luflow.specs.Streams.{Mark, Known, Broken, Streams}
 use Rattle.luflow.specs.Solution.{IsSolution}
 use Rattle.lueval.specs.Frames.{has_value}
 use Rattle.lublock.specs.declared.board.Board.{Board}
 use Rattle.lublock.specs.Blocks.{Begins, IsRight, datum_at, once}
 use Rattle.lublock_rows.specs.Rows.{word_in}
-use Rattle.lublock.specs.Machine.{block_of, upto_of, known_of}
+use Rattle.lublock.specs.Machine.{block_of, row_of, upto_of, known_of}
 
 abbrev pub Column : Type 0
 Column = Vec Status Global
@@ -60,7 +62,8 @@ pub record AreNear (σ : Streams) (columns : List Column) : Type 0 where
 -- a board before a block
 pub record IsReady (flat : FlatProgram) (inputs : Table) (σ : Streams) (t : ℕ) (board : Board) : Type 0 where
   pub begins : Begins flat inputs σ t (block_of board.rows.items board.spans.items)
-  pub upto : (r : ℕ) → upto_of board.spans.items r ≡ 0
+  pub constants : (r n : ℕ) (flow : Flow) → flow_at flat r ≡ Some flow → n < upto_of board.spans.items r
+      → (d : Datum) × (flow.form ≡ Constant d) × (datum_at flow.kind (word_in (row_of board.rows.items r) (suc n)) ≡ d)
   pub known : (r : ℕ) → known_of board.spans.items r ≡ false
 
 -- no flow is broken before an instant

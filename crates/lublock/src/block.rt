@@ -5,13 +5,13 @@ ghost use Rattle.luflow.specs.Streams.{Streams};
 ghost use Rattle.luflow.specs.Program.{Table, flows_of};
 ghost use Rattle.luflow.specs.Solution.{IsSolution};
 ghost use Rattle.luflow.specs.Sound.{IsFit};
-ghost use Rattle.lublock.specs.Blocks.{IsRight};
+ghost use Rattle.lublock.specs.Blocks.{IsRight, IsSolved};
 ghost use Rattle.lublock.specs.Machine.{IsWhole, StandsOn, StandsStill, block_of};
 
 use crate::board::Board;
 use crate::closing::closes;
 use crate::span::Span;
-use lublock_plan::{Back, Cycle, Plan, Step};
+use lublock_plan::{Back, Cycle, Pace, Plan, Step};
 use luflow::{Flat, Inputs};
 use std::alloc::Global;
 
@@ -21,7 +21,7 @@ fn is_whole(spans: &[Span]) -> bool
 {
     spans
         .iter()
-        .all(|span| span.known && span.upto == span.ticks)
+        .all(|span| span.known && span.ticks <= span.upto)
 }
 
 impl Board {
@@ -42,13 +42,14 @@ impl Board {
         if self.count(flat, len, i, like) {
             return true;
         }
-        match self.spans.get(i) {
-            Some(span) => {
-                let to = span.ticks;
-                self.solve(alloc, flat, inputs, t, i, to)
-            }
-            None => true,
+        let Some(span) = self.spans.get(i) else {
+            return true;
+        };
+        let to = span.ticks;
+        if to <= span.upto {
+            return false;
         }
+        self.solve(alloc, flat, inputs, t, i, to)
     }
 
     /// Supposes what the `pre`s of a pace give.
@@ -62,6 +63,26 @@ impl Board {
                 return true;
             };
             if self.suppose(flat, back.flow, words) {
+                return true;
+            }
+        }
+        false
+    }
+
+    /// Supposes what the other `pre`s of a pace give, which have the words of some of its `pre`s.
+    fn suppose_twins(&mut self, flat: &Flat, pace: &Pace) -> bool
+        ensures stands { (inputs : Table) (t len : ℕ)
+            → StandsStill flat.now inputs t len self.old self.new }
+        ensures flows { length self.new.spans.items ≡ length self.old.spans.items }
+    {
+        for twin in &pace.twins {
+            let Some(back) = pace.backs.get(twin.back) else {
+                return true;
+            };
+            let Some(words) = back.words.as_slice().get(..back.count) else {
+                return true;
+            };
+            if self.suppose(flat, twin.flow, words) {
                 return true;
             }
         }
@@ -98,6 +119,9 @@ impl Board {
         cycle.run(self.rows.as_slice(), ticks);
         for pace in &cycle.paces {
             if self.suppose_all(flat, pace.backs.as_slice()) {
+                return true;
+            }
+            if self.suppose_twins(flat, pace) {
                 return true;
             }
         }
@@ -166,6 +190,10 @@ impl Board {
             → (σ : Streams) → IsFit flat.now inputs.now → IsSolution flat.now inputs.now σ
             → StandsOn flat.now inputs.now σ t len self.old
             → IsRight flat.now inputs.now σ t len (block_of self.new.rows.items
+            self.new.spans.items) }
+        ensures solved { result ≡ false
+            → (σ : Streams) → StandsOn flat.now inputs.now σ t len self.old
+            → IsSolved flat.now inputs.now t len (block_of self.new.rows.items
             self.new.spans.items) }
     {
         let _flows = flat.flows();

@@ -1,10 +1,10 @@
 //! The rows of all flows, and how far each has come in the block.
 
-ghost use Rattle.std.specs.Prelude.{◌≡◌, ◌<◌, ◌||◌, ℕ, length, true, false, IfOk, IfSome, Some, nat_lt, replicate};
-ghost use Rattle.luflow.specs.Program.{Table};
+ghost use Rattle.std.specs.Prelude.{◌≡◌, ◌<◌, ◌||◌, ℕ, suc, length, true, false, cond, IfOk, IfSome, Some, nat_lt, replicate};
+ghost use Rattle.luflow.specs.Program.{Table, flow_at};
 ghost use Rattle.luflow.specs.declared.form.Flow.{Flow};
 ghost use Rattle.lublock_rows.specs.Rows.{Keeps, word_in};
-ghost use Rattle.lublock.specs.Machine.{IsAfter, IsCount, IsLike, StandsStill, WritesForm, row_of, ticks_of, upto_of, was_of, known_of};
+ghost use Rattle.lublock.specs.Machine.{IsAfter, IsConstant, IsCount, IsLike, StandsStill, WritesForm, row_of, ticks_of, upto_of, was_of, known_of};
 
 use crate::clocked::ticks_at;
 use crate::forms::{clock_at, flow_of, is_pre, kind_at, read};
@@ -12,7 +12,7 @@ use crate::solve::solve_form;
 use crate::span::Span;
 use lublock_rows::clocks::count;
 use lublock_rows::rows::put;
-use luflow::{Clock, Datum, Flat, Flow, Inputs};
+use luflow::{Clock, Datum, Flat, Flow, Form, Inputs};
 use std::alloc::{AllocError, Global};
 use std::mem;
 
@@ -261,7 +261,8 @@ impl Board {
 
 /// Puts the word of a row's last tick first.
 fn renew_row(row: &mut Vec<i64>, ticks: usize)
-    ensures { word_in row.new.items 0 ≡ word_in row.old.items ticks }
+    ensures first { word_in row.new.items 0 ≡ word_in row.old.items ticks }
+    ensures beside { (n : ℕ) → word_in row.new.items (suc n) ≡ word_in row.old.items (suc n) }
 {
     let last = match row.get(ticks) {
         Some(word) => *word,
@@ -274,8 +275,10 @@ fn renew_row(row: &mut Vec<i64>, ticks: usize)
 
 /// Puts the word of each row's last tick first.
 fn renew_rows(rows: &mut Vec<Vec<i64>>, spans: &[Span])
-    ensures { (r : ℕ) → word_in (row_of rows.new.items r) 0
+    ensures first { (r : ℕ) → word_in (row_of rows.new.items r) 0
         ≡ word_in (row_of rows.old.items r) (ticks_of spans.now r) }
+    ensures beside { (r n : ℕ) → word_in (row_of rows.new.items r) (suc n)
+        ≡ word_in (row_of rows.old.items r) (suc n) }
 {
     for i in 0..rows.len() {
         let ticks = match spans.get(i) {
@@ -286,42 +289,58 @@ fn renew_rows(rows: &mut Vec<Vec<i64>>, spans: &[Span])
     }
 }
 
-/// How far a flow is when the next block begins.
-fn renewed(span: Span) -> Span
+/// Whether a flow is a constant.
+fn is_constant(flat: &Flat, r: usize) -> bool
+    ensures { result ≡ true → (flow : Flow) → flow_at flat.now r ≡ Some flow
+        → IsConstant flow.form }
+{
+    match flat.flows().get(r) {
+        Some(flow) => match flow.form {
+            Form::Constant(_) => true,
+            _ => false,
+        },
+        None => false,
+    }
+}
+
+/// How far a flow is when the next block begins: one that `stays` has its words of the last block.
+fn renewed(span: Span, stays: bool) -> Span
     ensures { result ≡ record {
       ticks = 0;
-      upto = 0;
+      upto = cond stays span.ticks 0;
       was = span.was || nat_lt 0 span.ticks;
       known = false;
     } }
 {
     Span {
         ticks: 0,
-        upto: 0,
+        upto: if stays { span.ticks } else { 0 },
         was: span.was || 0 < span.ticks,
         known: false,
     }
 }
 
 /// How far each flow is when the next block begins.
-fn renew_spans(spans: &mut Vec<Span>)
+fn renew_spans(flat: &Flat, spans: &mut Vec<Span>)
     ensures was { (r : ℕ) → was_of spans.new.items r
         ≡ was_of spans.old.items r || nat_lt 0 (ticks_of spans.old.items r) }
-    ensures upto { (r : ℕ) → upto_of spans.new.items r ≡ 0 }
+    ensures upto { (r n : ℕ) (flow : Flow) → flow_at flat.now r ≡ Some flow
+        → n < upto_of spans.new.items r
+        → IsConstant flow.form × (n < ticks_of spans.old.items r) }
     ensures known { (r : ℕ) → known_of spans.new.items r ≡ false }
     ensures len { length spans.new.items ≡ length spans.old.items }
 {
     for i in 0..spans.len() {
-        spans[i] = renewed(spans[i]);
+        spans[i] = renewed(spans[i], is_constant(flat, i));
     }
 }
 
 impl Board {
     /// Makes the board ready for the next block.
-    pub fn renew(&mut self)
-        ensures { IsAfter self.old self.new }
+    pub fn renew(&mut self, flat: &Flat)
+        ensures { IsAfter flat.now self.old self.new }
     {
         renew_rows(&mut self.rows, self.spans.as_slice());
-        renew_spans(&mut self.spans);
+        renew_spans(flat, &mut self.spans);
     }
 }

@@ -26,12 +26,11 @@ fn is_shifted(x: &[i64], a: &[i64], ticks: usize) -> bool
     if x.len() <= ticks || a.len() < ticks {
         return false;
     }
+    let mut others = 0;
     for m in 0..ticks {
-        if x[m + 1] != a[m] {
-            return false;
-        }
+        others += (x[m + 1] != a[m]) as usize;
     }
-    true
+    others == 0
 }
 
 /// Whether flow i is right, if this form of it is `pre`.

@@ -17,7 +17,7 @@ use luflow::{Flat, Inputs, Outputs, Role, Status, Variable};
 use std::alloc::{AllocError, Global};
 
 /// The instants of a block.
-const INSTANTS: usize = 128;
+const INSTANTS: usize = 256;
 
 /// Puts the statuses of these main variables at a block's instants at their columns' ends; whether some isn't there.
 fn show_all(
@@ -76,7 +76,7 @@ fn go(
     if show_all(alloc, flat, inputs, board, columns, needs, t, len)? {
         return Ok(true);
     }
-    board.renew();
+    board.renew(flat);
     Ok(false)
 }
 

@@ -2,13 +2,17 @@
 //! but that they end.
 //!
 //! - [`Plan`], [`Step`]: the order of a program's flows; [`needed`]: the main variables that are put out.
-//! - [`Cycle`], [`Pace`], [`Back`]: a cycle of flows, and what its `pre`s give.
+//! - [`Cycle`], [`Pace`], [`Back`], [`Twin`]: a cycle of flows, and what its `pre`s give.
 #![tactic(auto)]
 
+mod course;
 mod cycle;
 mod lines;
+mod pace;
+mod pass;
 mod plan;
 mod reads;
 
-pub use cycle::{Back, Cycle, Pace};
+pub use cycle::Cycle;
+pub use pace::{Back, Pace, Twin};
 pub use plan::{Plan, Step, needed};

@@ -1,6 +1,7 @@
 //! The order in which a block's flows are worked out. What is read is tested where it is read, so nothing depends on the order but the
 //! time that it takes.
 
+use crate::course::{at, put};
 use crate::cycle::Cycle;
 use crate::reads::{is_pre, read_of, reads_itself};
 use luflow::{Clock, Datum, Flat, Role};
@@ -42,19 +43,6 @@ struct Search {
     path: Vec<(usize, usize)>,
     count: usize,
     parts: usize,
-}
-
-fn at(list: &[usize], i: usize) -> usize {
-    match list.get(i) {
-        Some(x) => *x,
-        None => 0,
-    }
-}
-
-fn put(list: &mut Vec<usize>, i: usize, x: usize) {
-    if i < list.len() {
-        list[i] = x;
-    }
 }
 
 impl Search {
@@ -182,7 +170,7 @@ impl Plan {
             return Ok(plan);
         }
         let (members, ends) = search.sorted(alloc, flat)?;
-        let mut places = vec![in alloc; usize::MAX; count]?;
+        let mut places = vec![in alloc; usize::MAX; count.saturating_add(count)]?;
         let mut from = 0usize;
         for k in 1..ends.len() {
             let to = ends[k];

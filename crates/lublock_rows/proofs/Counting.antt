@@ -1,6 +1,6 @@
 -- Ticks counted in a row, and what is written where they are counted.
-use Rattle.std.proofs.Common.{◌≡◌, ℕ, zero, suc, ◌+◌, ◌<◌, ◌≤◌, inl, inr, Bool, true, false, List, length, ℤ, sym, subst, ◌∙◌, ap, arith}
-use Rattle.std.proofs.lemmas.Bool.{cases_lt}
+use Rattle.std.proofs.Common.{◌≡◌, ℕ, zero, suc, ◌+◌, ◌<◌, ◌≤◌, inl, inr, Bool, true, false, List, length, ℤ, refl, sym, subst, ◌∙◌, ap, arith}
+use Rattle.std.proofs.lemmas.Bool.{cases_lt, cases_eq}
 use Rattle.luflow.specs.declared.data.Datum.{Datum}
 use Rattle.lutree.specs.declared.program.Kind.{Kind}
 use Rattle.luflow.specs.Streams.{is_value}
@@ -95,14 +95,29 @@ spreading_hit u d m limit to hits c x old row new is on few len put =
       stays = stays_more u d to m c old row new (word_in x (suc hits)) on is.stays put';
     }
 
-pub spreading_skip : (u : Kind) (d : Datum) (m limit to hits : ℕ) (c x old row : List ℤ) → Spreading u d m limit to hits c x old row → hit c u d m ≡ false → Spreading u d (m + 1) limit to hits c x old row
-spreading_skip u d m limit to hits c x old row is off =
+-- the same words again
+same_words : (m : ℕ) (row new : List ℤ) → IsPut row m (word_in row (suc m)) new → (n : ℕ) → word_in new n ≡ word_in row n
+same_words m row new put n = elim (cases_eq n (suc m)) [
+  | inl e ↦ ap (word_in new) e ∙ put.word ∙ ap (word_in row) (sym e)
+  | inr e ↦ put.others n e
+]
+
+pub spreading_skip : (u : Kind) (d : Datum) (m limit to hits : ℕ) (c x old row new : List ℤ) → Spreading u d m limit to hits c x old row → hit c u d m ≡ false → length new ≡ length row → IsPut row m (word_in row (suc m)) new → Spreading u d (m + 1) limit to hits c x old new
+spreading_skip u d m limit to hits c x old row new is off len put =
     let e : hits + 0 ≡ hits = omega arith in
+    let same = same_words m row new put in
     record {
       count = sym e ∙ hits_more c u d m hits 0 is.count (sym (ap once off));
       few = let f = is.few in omega (arith, f);
-      len = is.len;
-      kept = is.kept;
-      words = spread_skip u d m limit c x row off is.words;
-      stays = is.stays;
+      len = len ∙ is.len;
+      kept = λ n l. same n ∙ is.kept n l;
+      words = λ n l on. let done = spread_skip u d m limit c x row off is.words n l on in (same (suc n) ∙ done.0, done.1);
+      stays = λ n l beside. same (suc n) ∙ is.stays n l beside;
     }
+
+pub spreading_more : (u : Kind) (d : Datum) (m limit to hits : ℕ) (c x old row new : List ℤ) (b : Bool) → Spreading u d m limit to hits c x old row → hit c u d m ≡ b → hits + once b ≤ limit → length new ≡ length row → (b ≡ true → IsPut row m (word_in x (hits + once b)) new) → (b ≡ false → IsPut row m (word_in row (suc m)) new) → Spreading u d (m + 1) limit to (hits + once b) c x old new
+spreading_more u d m limit to hits c x old row new true is on few len put beside =
+    spreading_hit u d m limit to hits c x old row new is on (omega (arith, few)) len (put refl)
+spreading_more u d m limit to hits c x old row new false is off few len put beside =
+    let e : hits + 0 ≡ hits = omega arith in
+    subst (λ (k : ℕ). Spreading u d (m + 1) limit to k c x old new) (sym e) (spreading_skip u d m limit to hits c x old row new is off len (beside refl))

@@ -4,7 +4,8 @@ use Rattle.std.specs.Prelude.{int_le, unsigned_abs}
 use Rattle.std.proofs.lemmas.Nat.{div-mul-add}
 use Rattle.std.proofs.Math.Dec.{leb-zero}
 use Rattle.std.proofs.Math.Nat.{mul_comm, mul-zero}
-use Rattle.std.proofs.Math.IntN.{pos-*ℤ-pos, pos-*ℤ-negsuc}
+use Rattle.std.proofs.Math.IntN.{pos-*ℤ-pos, pos-*ℤ-negsuc, pos-+ℤ-pos, +ℤ-neg_ℤ_cancel, neg_ℤ-+ℤ}
+use Rattle.luflow.specs.declared.form.Outcome.{Outcome}
 use Rattle.luflow.specs.Operators.{int_of, quotient_of, rest_of}
 
 -- m is in a so often, where so many m are at most a and one more is more
@@ -74,3 +75,27 @@ quotient_with (pos n) s m q p a is up down some product below above =
     quotient_above (pos n) m q p (leb-zero n) some product (subst (λ (k : ℕ). p ≤ k) is below) (subst (λ (k : ℕ). k < p + m) is above) ∙ ap int_of (sym (up (leb-zero n)))
 quotient_with (negsuc b) s m q p a is up down some product below above =
     quotient_below (negsuc b) m q p refl some product (subst (λ (k : ℕ). p ≤ k) is below) (subst (λ (k : ℕ). k < p + m) is above) ∙ ap int_of (sym (down refl))
+
+minus : (a p r : ℕ) → r + p ≡ a → pos a -ℤ pos p ≡ pos r
+minus a p r e = ap (λ (n : ℕ). pos n -ℤ pos p) (sym e) ∙ ap (λ (z : ℤ). z -ℤ pos p) (sym (pos-+ℤ-pos r p)) ∙ +ℤ-neg_ℤ_cancel (pos r) (pos p)
+
+minus_down : (a p r : ℕ) → r + p ≡ a → neg_ℤ (pos a) -ℤ neg_ℤ (pos p) ≡ neg_ℤ (pos r)
+minus_down a p r e =
+    ap (λ (n : ℕ). neg_ℤ (pos n) -ℤ neg_ℤ (pos p)) (sym e)
+    ∙ ap (λ (z : ℤ). neg_ℤ z -ℤ neg_ℤ (pos p)) (sym (pos-+ℤ-pos r p))
+    ∙ ap (λ (z : ℤ). z -ℤ neg_ℤ (pos p)) (neg_ℤ-+ℤ (pos r) (pos p))
+    ∙ +ℤ-neg_ℤ_cancel (neg_ℤ (pos r)) (neg_ℤ (pos p))
+
+-- what is left of a number, with its sign, is the rest
+pub rest_left : (x : ℤ) (m q p a r : ℕ) (v : Outcome) → a ≡ unsigned_abs x → 0 < m → p ≡ q * m → p ≤ a → a < p + m → r + p ≡ a → (int_le (pos 0) x ≡ true → int_of (pos r) ≡ v) → (int_le (pos 0) x ≡ false → int_of (neg_ℤ (pos r)) ≡ v) → rest_of x (pos m) ≡ v
+rest_left (pos n) m q p a r v is some product below above left up down =
+    rest_above (pos n) m q p (leb-zero n) some product (subst (λ (k : ℕ). p ≤ k) is below) (subst (λ (k : ℕ). k < p + m) is above) ∙ ap int_of (minus n p r (left ∙ is)) ∙ up (leb-zero n)
+rest_left (negsuc b) m q p a r v is some product below above left up down =
+    rest_below (negsuc b) m q p refl some product (subst (λ (k : ℕ). p ≤ k) is below) (subst (λ (k : ℕ). k < p + m) is above) ∙ ap int_of (minus_down (suc b) p r (left ∙ is)) ∙ down refl
+
+-- and how often, with its sign, the quotient
+pub quotient_found : (x : ℤ) (m q p a : ℕ) (v : Outcome) → a ≡ unsigned_abs x → 0 < m → p ≡ q * m → p ≤ a → a < p + m → (int_le (pos 0) x ≡ true → int_of (pos q) ≡ v) → (int_le (pos 0) x ≡ false → int_of (neg_ℤ (pos q)) ≡ v) → quotient_of x (pos m) ≡ v
+quotient_found (pos n) m q p a v is some product below above up down =
+    quotient_above (pos n) m q p (leb-zero n) some product (subst (λ (k : ℕ). p ≤ k) is below) (subst (λ (k : ℕ). k < p + m) is above) ∙ up (leb-zero n)
+quotient_found (negsuc b) m q p a v is some product below above up down =
+    quotient_below (negsuc b) m q p refl some product (subst (λ (k : ℕ). p ≤ k) is below) (subst (λ (k : ℕ). k < p + m) is above) ∙ down refl

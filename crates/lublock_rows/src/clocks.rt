@@ -1,11 +1,11 @@
 //! The loops of the forms that look at a clock: they count in the row of its variable.
 
-ghost use Rattle.std.specs.Prelude.{◌≡◌, ◌≤◌, ◌<◌, ◌+◌, suc, length, false, IfSome, Some};
+ghost use Rattle.std.specs.Prelude.{◌≡◌, ◌≤◌, ◌<◌, ◌+◌, suc, length, true, false, IfSome, Some};
 ghost use Rattle.luflow.specs.Streams.{is_value};
 ghost use Rattle.lublock_rows.specs.Words.{datum_at, once};
-ghost use Rattle.lublock_rows.specs.Rows.{Keeps, IsGathered, IsHeld, IsSpread, StaysElsewhere, hits_in, word_in, branch_datum};
+ghost use Rattle.lublock_rows.specs.Rows.{Keeps, IsGathered, IsHeld, IsPut, IsSpread, StaysElsewhere, hits_in, word_in, branch_datum};
 
-use crate::rows::{at, carry};
+use crate::rows::{at, carry, put};
 use luflow::Datum;
 use lutree::Kind;
 
@@ -37,6 +37,21 @@ fn once(b: bool) -> usize
     ensures { result ≡ once b }
 {
     b as usize
+}
+
+/// Puts the word that x has at a place, where there is a hit, and else the one that stands there. Both are read, so that no jump depends on a clock.
+#[inline(always)]
+fn carry_if(row: &mut [i64], tick: usize, hit: bool, x: &[i64], place: usize)
+    requires row { tick + 1 < length row.old }
+    requires x { place < length x.now }
+    ensures len { length row.new ≡ length row.old }
+    ensures hit { hit ≡ true → IsPut row.old tick (word_in x.now place) row.new }
+    ensures beside { hit ≡ false → IsPut row.old tick (word_in row.old (suc tick)) row.new }
+{
+    let word = x[place];
+    let old = row[tick + 1];
+    let new = if hit { word } else { old };
+    put(row, tick, new);
 }
 
 /// How often a row has a value at its first ticks.
@@ -125,13 +140,13 @@ pub fn spread(
 {
     let mut hits = 0;
     for m in 0..to {
-        if has_hit(c, m, kind, datum) {
-            if limit <= hits {
-                return true;
-            }
-            carry(row, m, x, hits + 1);
-            hits += 1;
+        let hit = has_hit(c, m, kind, datum);
+        let more = hits + once(hit);
+        if limit < more {
+            return true;
         }
+        carry_if(row, m, hit, x, more);
+        hits = more;
     }
     false
 }

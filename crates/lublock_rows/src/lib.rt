@@ -7,7 +7,7 @@
 
 pub mod clocks;
 pub mod doubles;
-pub mod parts;
+mod parts;
 pub mod rows;
 pub mod singles;
 pub mod word;

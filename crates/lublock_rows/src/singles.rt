@@ -9,7 +9,7 @@ ghost use Rattle.luflow.specs.declared.form.Outcome.{Outcome};
 ghost use Rattle.lublock_rows.specs.Words.{datum_at};
 ghost use Rattle.lublock_rows.specs.Rows.{Keeps, word_in};
 
-use crate::rows::{at, fill};
+use crate::rows::{at, carry, fill};
 use crate::word::{negative, truth_of, word_of};
 use luflow::Datum;
 use lutree::{Kind, UnaryOperator};
@@ -155,20 +155,12 @@ pub fn write_arrow(row: &mut [i64], was: bool, x: &[i64], y: &[i64], from: usize
     ensures words { result ≡ false → (n : ℕ) → from ≤ n → n < to → word_in row.new (suc n)
         ≡ cond (was || nat_lt 0 n) (word_in y.now (suc n)) (word_in x.now (suc n)) }
 {
-    fill(
-        row,
-        from,
-        to,
-        |m: usize| -> (i64, bool)
-            requires x { m + 1 < length x.now }
-            requires y { m + 1 < length y.now }
-            ensures { result.0
-                ≡ cond (was || nat_lt 0 m) (word_in y.entry.now (suc m)) (word_in x.entry.now (suc m)) }
-        {
-            let word = if was || 0 < m { at(y, m) } else { at(x, m) };
-            (word, false)
-        },
-    )
+    let none = write_copied(row, y, from, to);
+    if was || from != 0 || to == 0 {
+        return none;
+    }
+    carry(row, 0, x, 1);
+    none
 }
 
 /// Writes the negatives of a row's words.

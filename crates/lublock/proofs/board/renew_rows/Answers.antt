@@ -2,7 +2,7 @@ use Rattle.std.proofs.Common.{arith, ◌≡◌, ◌<◌, length, refl, sym, ap, 
 use Rattle.std.proofs.lemmas.Option.{slice_get_read, slice_get_past}
 use Rattle.lublock.specs.Machine.{ticks_there, ticks_of}
 use Rattle.lublock.proofs.Steps.{len_set}
-use Rattle.lublock.proofs.Renewing.{rows_renewed, rows_left}
+use Rattle.lublock.proofs.Renewing.{rows_renewed, rows_beside, rows_left}
 use Rattle.lublock.proofs.board.renew_rows.Goals.{in-Some, in-None}
 use Rattle.lublock.proofs.board.renew_rows.Goals as goal
 
@@ -23,6 +23,7 @@ loop-i-preserved c =
     let inside : i < length rows = omega (arith, low, all, long) in
     record {
       len = len_set rows i c.renew_row.new.row ∙ inv.len;
-      done = rows_renewed old rows spans i c.match-get.ticks c.index_mut.result.now c.renew_row.new.row inside c.index_mut.ensures.value c.renew_row.ensures at inv.done inv.left;
+      done = rows_renewed old rows spans i c.match-get.ticks c.index_mut.result.now c.renew_row.new.row inside c.index_mut.ensures.value c.renew_row.ensures.first at inv.done inv.left;
+      beside = rows_beside old rows spans i c.match-get.ticks c.index_mut.result.now c.renew_row.new.row inside c.index_mut.ensures.value c.renew_row.ensures.beside inv.beside;
       left = rows_left old rows spans i c.match-get.ticks c.index_mut.result.now c.renew_row.new.row inv.left;
     }

@@ -1,3 +1,5 @@
+use Rattle.luflow.specs.Streams.{Streams}
+use Rattle.luflow.specs.Solution.{IsSolution}
 use Rattle.lublock.specs.Shown.{IsRightBlock}
 use Rattle.lublock.proofs.Running.{ready_stands, stands_on}
 use Rattle.lublock.proofs.run.go.Goals as goal
@@ -7,4 +9,5 @@ returns-clause-stands c = λ e stands.
     let flat = c.args.flat.now in
     let inputs = c.args.inputs.now in
     let right : IsRightBlock flat inputs c.args.t c.args.len c.work.new.self = λ σ sol. c.work.ensures.right c.if-work.false σ c.requires.fit sol (ready_stands flat inputs σ c.args.t c.args.len c.args.board.now (stands.ready σ sol)) in
-    stands_on flat inputs c.args.t c.args.len c.args.board.now c.work.new.self c.renew.new.self c.args.columns.now.items c.show_all.new.columns.items stands right c.renew.ensures (c.in_ok-show_all.ensures.near c.if-branch.false right stands.near)
+    let solved = λ (σ : Streams) (sol : IsSolution flat inputs σ). c.work.ensures.solved c.if-work.false σ (ready_stands flat inputs σ c.args.t c.args.len c.args.board.now (stands.ready σ sol)) in
+    stands_on flat inputs c.args.t c.args.len c.args.board.now c.work.new.self c.renew.new.self c.args.columns.now.items c.show_all.new.columns.items stands right solved c.renew.ensures (c.in_ok-show_all.ensures.near c.if-branch.false right stands.near)

@@ -1,7 +1,8 @@
-use Rattle.std.proofs.Common.{◌∙◌, ◌+◌, sym, arith, subst, ℕ, List, ℤ, refl}
-use Rattle.lublock_rows.proofs.Counting.{Spreading, spreading_hit, spreading_skip}
+use Rattle.std.proofs.Common.{◌∙◌, ◌+◌, ◌≡◌, ◌≤◌, sym, arith, ap, subst, ℕ, true, false, refl}
+use Rattle.lublock_rows.specs.Words.{once}
+use Rattle.lublock_rows.specs.Rows.{IsPut, word_in}
+use Rattle.lublock_rows.proofs.Counting.{Spreading, spreading_more}
 use Rattle.lublock_rows.proofs.clocks.spread.Goals as goal
-use Rattle.lublock_rows.proofs.clocks.spread.Goals.{then-has_hit+else-limit-hits, else-has_hit}
 
 pub loop-m-init : goal.loop-m-init
 loop-m-init c = record {
@@ -17,13 +18,9 @@ pub loop-m-preserved : goal.loop-m-preserved
 loop-m-preserved c =
     let u = c.args.kind in
     let d = c.args.datum in
-    let m = c.loop-m.m in
-    let Step = λ (hits : ℕ) (row : List ℤ). Spreading u d (m + 1) c.args.limit c.args.to hits c.args.c.now c.args.x.now c.args.row.now row in
-    elim c.if-has_hit.branch [
-      | then-has_hit+else-limit-hits w ↦
-          let more = spreading_hit u d m c.args.limit c.args.to c.loop-m.hits c.args.c.now c.args.x.now c.args.row.now c.loop-m.row w.carry.new.row c.loop-m.invariant (sym c.has_hit.ensures ∙ w.if-has_hit.true) w.if-limit-hits.false w.carry.ensures.len w.carry.ensures.put in
-          subst (λ (row : List ℤ). Step c.if-has_hit.hits row) (sym w.row-is) (subst (λ (hits : ℕ). Step hits w.carry.new.row) (sym w.hits-is) more)
-      | else-has_hit w ↦
-          let more = spreading_skip u d m c.args.limit c.args.to c.loop-m.hits c.args.c.now c.args.x.now c.args.row.now c.loop-m.row c.loop-m.invariant (sym c.has_hit.ensures ∙ w.if-has_hit.false) in
-          subst (λ (row : List ℤ). Step c.if-has_hit.hits row) (sym w.row-is) (subst (λ (hits : ℕ). Step hits c.loop-m.row) (sym w.hits-is) more)
-    ]
+    let b = c.has_hit-hit.result in
+    let more : c.loop-m.hits + c.once.result ≡ c.loop-m.hits + once b = ap (λ (n : ℕ). c.loop-m.hits + n) c.once.ensures in
+    let few : c.loop-m.hits + once b ≤ c.args.limit = subst (λ (n : ℕ). n ≤ c.args.limit) more c.if-limit-more.false in
+    let put = λ (e : b ≡ true). subst (λ (n : ℕ). IsPut c.loop-m.row c.loop-m.m (word_in c.args.x.now n) c.carry_if.new.row) more (c.carry_if.ensures.hit e) in
+    let next = spreading_more u d c.loop-m.m c.args.limit c.args.to c.loop-m.hits c.args.c.now c.args.x.now c.args.row.now c.loop-m.row c.carry_if.new.row b c.loop-m.invariant (sym c.has_hit-hit.ensures) few c.carry_if.ensures.len put c.carry_if.ensures.beside in
+    subst (λ (n : ℕ). Spreading u d (c.loop-m.m + 1) c.args.limit c.args.to n c.args.c.now c.args.x.now c.args.row.now c.carry_if.new.row) (sym more) next

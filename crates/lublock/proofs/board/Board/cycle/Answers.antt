@@ -1,4 +1,5 @@
-use Rattle.std.proofs.Common.{rules}
+use Rattle.std.proofs.Common.{rules, ℕ}
+use Rattle.luflow.specs.Program.{Table}
 use Rattle.lublock.proofs.Standing.{still_more}
 use Rattle.lublock.proofs.board.Board.cycle.Goals as goal
 
@@ -6,10 +7,17 @@ pub loop-pace-init : goal.loop-pace-init
 loop-pace-init c = record { stands = c.ticks_of.ensures.stands; flows = search rules }
 
 pub loop-pace-preserved : goal.loop-pace-preserved
-loop-pace-preserved c = record {
-  stands = λ inputs t. still_more c.args.flat.now inputs t c.args.len c.args.self.now c.loop-pace.self c.suppose_all.new.self (c.loop-pace.invariant.stands inputs t) (c.suppose_all.ensures.stands inputs t c.args.len);
-  flows = search rules;
-}
+loop-pace-preserved c =
+    let first = λ (inputs : Table) (t : ℕ). still_more c.args.flat.now inputs t c.args.len c.args.self.now c.loop-pace.self c.suppose_all.new.self (c.loop-pace.invariant.stands inputs t) (c.suppose_all.ensures.stands inputs t c.args.len) in
+    record {
+      stands = λ inputs t. still_more c.args.flat.now inputs t c.args.len c.args.self.now c.suppose_all.new.self c.suppose_twins.new.self (first inputs t) (c.suppose_twins.ensures.stands inputs t c.args.len);
+      flows = search rules;
+    }
 
 pub returns-then-suppose_all-clause-stands : goal.returns-then-suppose_all-clause-stands
 returns-then-suppose_all-clause-stands c = λ inputs t. still_more c.args.flat.now inputs t c.args.len c.args.self.now c.loop-pace.self c.suppose_all.new.self (c.loop-pace.invariant.stands inputs t) (c.suppose_all.ensures.stands inputs t c.args.len)
+
+pub returns-then-suppose_twins-clause-stands : goal.returns-then-suppose_twins-clause-stands
+returns-then-suppose_twins-clause-stands c =
+    let first = λ (inputs : Table) (t : ℕ). still_more c.args.flat.now inputs t c.args.len c.args.self.now c.loop-pace.self c.suppose_all.new.self (c.loop-pace.invariant.stands inputs t) (c.suppose_all.ensures.stands inputs t c.args.len) in
+    λ inputs t. still_more c.args.flat.now inputs t c.args.len c.args.self.now c.suppose_all.new.self c.suppose_twins.new.self (first inputs t) (c.suppose_twins.ensures.stands inputs t c.args.len)
