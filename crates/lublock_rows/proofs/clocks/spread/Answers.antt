@@ -1,4 +1,4 @@
-use Rattle.std.proofs.Common.{◌∙◌, ◌+◌, ◌≡◌, ◌≤◌, sym, arith, ap, subst, ℕ, true, false, refl}
+use Rattle.std.proofs.Common.{◌+◌, ◌≡◌, ◌≤◌, sym, arith, ap, subst, ℕ, true, refl}
 use Rattle.lublock_rows.specs.Words.{once}
 use Rattle.lublock_rows.specs.Rows.{IsPut, word_in}
 use Rattle.lublock_rows.proofs.Counting.{Spreading, spreading_more}
