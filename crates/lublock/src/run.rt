@@ -97,11 +97,16 @@ fn run(alloc: Global, flat: &Flat, inputs: &Inputs) -> Result<Option<Vec<Vec<Sta
     requires { IsFit flat.now inputs.now }
     ensures { IfOk result (λ columns. IfSome columns (λ x. IsRun flat.now inputs.now x.items)) }
 {
-    let mut plan = Plan::new(alloc, flat, INSTANTS)?;
-    let needs = needed(alloc, flat)?;
-    let mut board = Board::new(alloc, flat.flows().len(), INSTANTS)?;
-    let mut columns = empty_columns(alloc, flat.variables().len())?;
     let instants = inputs.instants() as usize;
+    let room = if instants < INSTANTS {
+        instants
+    } else {
+        INSTANTS
+    };
+    let mut plan = Plan::new(alloc, flat, room)?;
+    let needs = needed(alloc, flat)?;
+    let mut board = Board::new(alloc, flat.flows().len(), room)?;
+    let mut columns = empty_columns(alloc, flat.variables().len())?;
     let mut t = 0;
     while t < instants {
         let left = instants - t;
