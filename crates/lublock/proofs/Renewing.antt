@@ -17,10 +17,6 @@ pub record Renewed (flat : FlatProgram) (old new : List Span) (r : ℕ) : Type 0
   pub upto : (n : ℕ) (flow : Flow) → flow_at flat r ≡ Some flow → n < upto_of new r → IsConstant flow.form × (n < ticks_of old r)
   pub known : known_of new r ≡ false
 
-pub first_set : (row : List ℤ) (z : ℤ) (n : ℕ) → word_in (set row 0 z) (suc n) ≡ word_in row (suc n)
-first_set [] z n = refl
-first_set (y ∷ row) z n = refl
-
 pub kept_upto : (b : Bool) (ticks n : ℕ) → n < cond b ticks 0 → (b ≡ true) × (n < ticks)
 kept_upto true ticks n l = (refl, l)
 kept_upto false ticks n l = absurd (omega (arith, l))
