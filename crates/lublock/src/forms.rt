@@ -6,6 +6,7 @@ ghost use Rattle.luflow.specs.declared.form.Flow.{Flow};
 ghost use Rattle.luflow.specs.declared.form.Form.{Form};
 ghost use Rattle.luflow.specs.Program.{FlatProgram, Table, column_of, flow_at};
 ghost use Rattle.luflow.specs.Operators.{makes};
+ghost use Rattle.luflow.specs.Packed.{data_in};
 ghost use Rattle.lublock.specs.Blocks.{kind_at, clock_of};
 ghost use Rattle.lublock_rows.specs.Rows.{Keeps};
 ghost use Rattle.lublock.specs.Machine.{IsPre, IsRead, WritesForm, upto_of, was_of};
@@ -16,7 +17,7 @@ use lublock_rows::singles::{
     word_for, write_arrow, write_constant, write_copied, write_if, write_input, write_pre,
     write_singles,
 };
-use luflow::{Clock, Datum, Flat, Flow, Form, Inputs};
+use luflow::{Clock, Datum, Flat, Flow, Form, Inputs, Values};
 use lutree::{BinaryOperator, Kind, UnaryOperator};
 
 /// The flow of a place.
@@ -93,11 +94,11 @@ pub fn read<'a>(rows: &'a [Vec<i64>], spans: &[Span], r: usize, need: usize) -> 
 }
 
 /// The column of an input.
-pub fn column_at(inputs: &Inputs, c: usize) -> Option<&[Datum]>
-    ensures { IfSome result (λ column. column.now ≡ column_of inputs.now c) }
+pub fn column_at(inputs: &Inputs, c: usize) -> Option<&Values>
+    ensures { IfSome result (λ column. data_in column.now ≡ column_of inputs.now c) }
 {
     match inputs.columns().get(c) {
-        Some(column) => Some(column.1.as_slice()),
+        Some(column) => Some(&column.1),
         None => None,
     }
 }

@@ -17,27 +17,32 @@ use crate::span::Span;
 use luflow::{Flat, Flow, Form, Inputs};
 use lutree::{BinaryOperator, Kind};
 
-/// The type of what an operator gives.
-fn result_kind(op: BinaryOperator) -> Kind
-    ensures { result ≡ makes op }
-{
-    match op {
-        BinaryOperator::Add
-        | BinaryOperator::Subtract
-        | BinaryOperator::Multiply
-        | BinaryOperator::Divide
-        | BinaryOperator::Modulo => Kind::Int,
-        _ => Kind::Bool,
-    }
-}
-
-/// Whether an operator gives this type.
+/// Whether an operator that has a loop here gives this type.
 pub fn is_result(op: BinaryOperator, kind: Kind) -> bool
     ensures { result ≡ true → kind ≡ makes op }
 {
-    match (result_kind(op), kind) {
-        (Kind::Int, Kind::Int) => true,
-        (Kind::Bool, Kind::Bool) => true,
+    match (op, kind) {
+        (
+            BinaryOperator::Add
+            | BinaryOperator::Subtract
+            | BinaryOperator::Multiply
+            | BinaryOperator::Divide
+            | BinaryOperator::Modulo,
+            Kind::Int,
+        ) => true,
+        (
+            BinaryOperator::Less
+            | BinaryOperator::LessEqual
+            | BinaryOperator::Greater
+            | BinaryOperator::GreaterEqual
+            | BinaryOperator::Equal
+            | BinaryOperator::Unequal
+            | BinaryOperator::And
+            | BinaryOperator::Or
+            | BinaryOperator::Xor
+            | BinaryOperator::Implies,
+            Kind::Bool,
+        ) => true,
         _ => false,
     }
 }

@@ -4,6 +4,7 @@ ghost use Rattle.std.specs.Prelude.{◌≡◌, ◌≤◌, ◌<◌, ◌+◌, ◌|
 ghost use Rattle.luflow.specs.declared.data.Datum.{Datum};
 ghost use Rattle.lutree.specs.declared.program.Kind.{Kind};
 ghost use Rattle.lutree.specs.declared.expr.UnaryOperator.{UnaryOperator};
+ghost use Rattle.luflow.specs.Packed.{data_in};
 ghost use Rattle.luflow.specs.Operators.{is_zero, single_of};
 ghost use Rattle.luflow.specs.declared.form.Outcome.{Outcome};
 ghost use Rattle.lublock_rows.specs.Words.{datum_at};
@@ -11,7 +12,7 @@ ghost use Rattle.lublock_rows.specs.Rows.{Keeps, word_in};
 
 use crate::rows::{at, carry, fill};
 use crate::word::{negative, truth_of, word_of};
-use luflow::Datum;
+use luflow::{Datum, Values};
 use lutree::{Kind, UnaryOperator};
 
 /// The word of a datum of this type; none for another, and for nil.
@@ -44,32 +45,92 @@ pub fn write_constant(row: &mut [i64], word: i64, from: usize, to: usize) -> boo
     )
 }
 
-/// Writes the words of a table's column from instant `t` on.
-pub fn write_input(
-    row: &mut [i64],
-    kind: Kind,
-    column: &[Datum],
-    t: usize,
-    from: usize,
-    to: usize,
-) -> bool
+fn word_of_value(kind: Kind, value: Option<Datum>) -> (i64, bool)
+    ensures { result.1 ≡ false → value ≡ Some (datum_at kind result.0) }
+{
+    match value {
+        Some(datum) => word_for(kind, datum),
+        None => (0, true),
+    }
+}
+
+/// The word of value `t + m` of a table's column; none where it has another type, or there is none.
+fn word_at(kind: Kind, column: &Values, t: usize, m: usize) -> (i64, bool)
+    ensures { result.1 ≡ false
+        → slice_get (data_in column.now) (t + m) ≡ Some (datum_at kind result.0) }
+{
+    match t.checked_add(m) {
+        Some(i) => word_of_value(kind, column.get(i)),
+        None => (0, true),
+    }
+}
+
+/// Writes numbers from number `t` on.
+fn write_numbers(row: &mut [i64], numbers: &[i64], t: usize, from: usize, to: usize) -> bool
     requires row { to < length row.old }
-    requires inside { t + to ≤ length column.now }
+    requires inside { t + to ≤ length numbers.now }
     ensures len { length row.new ≡ length row.old }
     ensures kept { Keeps from row.old row.new }
     ensures words { result ≡ false → (n : ℕ) → from ≤ n → n < to
-        → slice_get column.now (t + n) ≡ Some (datum_at kind (word_in row.new (suc n))) }
+        → slice_get numbers.now (t + n) ≡ Some (word_in row.new (suc n)) }
 {
     fill(
         row,
         from,
         to,
         |m: usize| -> (i64, bool)
-            requires { t + m < length column.now }
-            ensures { result.1 ≡ false
-                → slice_get column.entry.now (t + m) ≡ Some (datum_at kind result.0) }
-        { word_for(kind, column[t + m]) },
+            requires { t + m < length numbers.now }
+            ensures { slice_get numbers.entry.now (t + m) ≡ Some result.0 }
+        { (numbers[t + m], false) },
     )
+}
+
+/// Writes the words of values from number `t` on.
+fn write_values(
+    row: &mut [i64],
+    kind: Kind,
+    column: &Values,
+    t: usize,
+    from: usize,
+    to: usize,
+) -> bool
+    requires row { to < length row.old }
+    ensures len { length row.new ≡ length row.old }
+    ensures kept { Keeps from row.old row.new }
+    ensures words { result ≡ false → (n : ℕ) → from ≤ n → n < to
+        → slice_get (data_in column.now) (t + n) ≡ Some (datum_at kind (word_in row.new (suc n))) }
+{
+    fill(
+        row,
+        from,
+        to,
+        |m: usize| -> (i64, bool)
+            ensures { result.1 ≡ false
+                → slice_get (data_in column.entry.now) (t + m) ≡ Some (datum_at kind result.0) }
+        { word_at(kind, column, t, m) },
+    )
+}
+
+/// Writes the words of a table's column from instant `t` on.
+pub fn write_input(
+    row: &mut [i64],
+    kind: Kind,
+    column: &Values,
+    t: usize,
+    from: usize,
+    to: usize,
+) -> bool
+    requires row { to < length row.old }
+    requires inside { t + to ≤ length (data_in column.now) }
+    ensures len { length row.new ≡ length row.old }
+    ensures kept { Keeps from row.old row.new }
+    ensures words { result ≡ false → (n : ℕ) → from ≤ n → n < to
+        → slice_get (data_in column.now) (t + n) ≡ Some (datum_at kind (word_in row.new (suc n))) }
+{
+    match (kind, column) {
+        (Kind::Int, Values::Numbers(numbers)) => write_numbers(row, numbers, t, from, to),
+        _ => write_values(row, kind, column, t, from, to),
+    }
 }
 
 /// Writes the words of another row.

@@ -21,6 +21,8 @@ use Rattle.luflow.specs.Streams.{Streams, datum_of, clock_at, truth_in}
 use Rattle.luflow.specs.Values.{gives, on_two, arrow_of, value_at, under}
 use Rattle.luflow.specs.Solution.{says, IsSolution}
 use Rattle.luflow.specs.Sound.{IsFitFor, IsFit}
+use Rattle.luflow.specs.declared.values.Values.{Values}
+use Rattle.luflow.specs.Packed.{data_in}
 use Rattle.luflow.specs.Tables.{IsTable, column_view, columns_view}
 use Rattle.luflow.specs.Faults.{IsFault, IsFaultOn}
 use Rattle.luflow.specs.Faults.IsFaultOn.{OnBinary, OnUnary}
@@ -39,7 +41,7 @@ pub is_table : (n : ℕ) (inputs : Table) → n ≤ inputs.instants → IsTable 
 is_table n inputs le is = let few = is.few in record { few = omega (arith, le, few); long = long n inputs.instants inputs.columns le is.long }
 
 -- each column as the code has it is long enough
-pub long_enough : (n : ℕ) (inputs : Table) (xs : List (String Global × Vec Datum Global)) → columns_view xs ≡ inputs.columns → n ≤ inputs.instants → IsTable inputs → All (λ x. n ≤ length x.1.items) xs
+pub long_enough : (n : ℕ) (inputs : Table) (xs : List (String Global × Values)) → columns_view xs ≡ inputs.columns → n ≤ inputs.instants → IsTable inputs → All (λ x. n ≤ length (data_in x.1)) xs
 long_enough n inputs xs e le is = λ k d lt.
     let h = subst (λ (cs : List Column). All (λ column. length column.values ≡ inputs.instants) cs) (sym e) is.long k (column_view d) (omega (arith, lt, length-map xs column_view)) in
     let same = ap (λ (column : Column). length column.values) (get_or-map column_view xs k d) in

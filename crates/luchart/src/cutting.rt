@@ -1,33 +1,34 @@
 //! A table cut to its first instants.
 
 ghost use Rattle.std.specs.Prelude.{◌≡◌, ◌≤◌, All, IfOk, length, map};
+ghost use Rattle.luflow.specs.Packed.{data_in};
 ghost use Rattle.luflow.specs.Tables.{column_view, columns_view};
 ghost use Rattle.luchart.specs.Cut.{cut, cut_column};
 
-use luflow::{Datum, Inputs};
+use luflow::{Inputs, Values};
 use std::alloc::{AllocError, Global};
 
 /// The first values of a column.
 fn cut_column(
     alloc: Global,
-    column: &(String, Vec<Datum>),
+    column: &(String, Values),
     instants: usize,
-) -> Result<(String, Vec<Datum>), AllocError>
-    requires { instants ≤ length column.now.1.items }
+) -> Result<(String, Values), AllocError>
+    requires { instants ≤ length (data_in column.now.1) }
     ensures { IfOk result (λ x. column_view x ≡ cut_column instants (column_view column.now)) }
 {
     let name = String::from_str(alloc, column.0.as_str())?;
-    let values = Vec::from_slice(alloc, &column.1[..instants])?;
+    let values = column.1.first(alloc, instants)?;
     Ok((name, values))
 }
 
 /// The first values of each column.
 fn cut_columns(
     alloc: Global,
-    columns: &[(String, Vec<Datum>)],
+    columns: &[(String, Values)],
     instants: usize,
-) -> Result<Vec<(String, Vec<Datum>)>, AllocError>
-    requires { All (λ x. instants ≤ length x.1.items) columns.now }
+) -> Result<Vec<(String, Values)>, AllocError>
+    requires { All (λ x. instants ≤ length (data_in x.1)) columns.now }
     ensures { IfOk result (λ x. columns_view x.items
         ≡ map (cut_column instants) (columns_view columns.now)) }
 {

@@ -4,6 +4,7 @@
 //! - `stages`: clocks and initialisation of texts that the stage before refuses, and of programs that no text has.
 //! - `flats`: what a program that keeps all rules lends, and flat lists with their ranks and owners (`lustat`, `lucore`).
 //! - `streams`: tables that fit a program, its streams and outputs (`luflow`, `lueval`).
+//! - `values`: lists of values (`luflow`).
 //!
 //! Expected values are worked out by hand, by the rules of the language and of the layout.
 #![tactic(auto)]
@@ -16,3 +17,5 @@ mod graph;
 mod stages;
 #[cfg(test)]
 mod streams;
+#[cfg(test)]
+mod values;

@@ -4,7 +4,7 @@ ghost use Rattle.std.specs.Prelude.{◌≡◌, length};
 
 use crate::flats::flat_of;
 use lueval::{EvalError, Streams, whole};
-use luflow::{Datum, FaultKind, Flat, Inputs, Outputs, Status};
+use luflow::{Datum, FaultKind, Flat, Inputs, Outputs, Status, Values};
 use lutab::write_outputs;
 use std::alloc::{AllocError, Global};
 use std::test::Fail;
@@ -18,7 +18,7 @@ fn inputs_of(alloc: Global, table: Table) -> Result<Option<Inputs>, AllocError> 
     for (name, data) in table.1 {
         columns.push((
             String::from_str(alloc, *name)?,
-            Vec::from_slice(alloc, *data)?,
+            Values::Mixed(Vec::from_slice(alloc, *data)?),
         ))?;
     }
     Ok(Inputs::new(table.0, columns))

@@ -7,7 +7,8 @@ use crate::words::Part;
 use lulist::Name;
 use lustat_scope::{Catalog, Scope};
 use lusyn_tokens::{infix_token, prefix_token};
-use lutree::{BinaryOperator, Expr, Infix, Kind, Prefix, UnaryOperator};
+use lutree::{Expr, Infix, Kind, Prefix};
+use lutype::{asked_kind, kind_of_result, kind_of_unary};
 use std::alloc::{AllocError, Global};
 
 /// Two things that have to be of one type and aren't, with their types.
@@ -19,36 +20,6 @@ struct Clash<'a> {
     found: Kind,
 }
 
-/// What an operator's one operand has to be.
-fn asked_by_unary(op: UnaryOperator) -> Kind {
-    match op {
-        UnaryOperator::Minus => Kind::Int,
-        UnaryOperator::Not => Kind::Bool,
-    }
-}
-
-/// What an operator's two operands have to be; none is any type.
-fn asked_by(op: BinaryOperator) -> Option<Kind> {
-    match op {
-        BinaryOperator::Equal | BinaryOperator::Unequal => None,
-        BinaryOperator::And | BinaryOperator::Or | BinaryOperator::Xor | BinaryOperator::Implies =>
-            { Some(Kind::Bool) }
-        _ => Some(Kind::Int),
-    }
-}
-
-/// What two operands and the operator between them are.
-fn made_by(op: BinaryOperator) -> Kind {
-    match op {
-        BinaryOperator::Add
-        | BinaryOperator::Subtract
-        | BinaryOperator::Multiply
-        | BinaryOperator::Divide
-        | BinaryOperator::Modulo => Kind::Int,
-        _ => Kind::Bool,
-    }
-}
-
 /// The type that an expression has if it has one, by its form.
 fn kind_of(catalog: &Catalog, scope: &Scope, e: &Expr) -> Option<Kind> {
     match e {
@@ -56,8 +27,8 @@ fn kind_of(catalog: &Catalog, scope: &Scope, e: &Expr) -> Option<Kind> {
         Expr::Truth(_) => Some(Kind::Bool),
         Expr::Label(label) => Some(label.kind),
         Expr::Variable(x) | Expr::Current(x) => scope.kind(x.as_str()),
-        Expr::Unary(Prefix::Data(op), _) => Some(asked_by_unary(*op)),
-        Expr::Binary(Infix::Data(op), _, _) => Some(made_by(*op)),
+        Expr::Unary(Prefix::Data(op), _) => Some(kind_of_unary(*op)),
+        Expr::Binary(Infix::Data(op), _, _) => Some(kind_of_result(*op)),
         Expr::Unary(Prefix::Pre, a) | Expr::When(a, _) => kind_of(catalog, scope, a),
         Expr::Binary(Infix::Arrow | Infix::FollowedBy, a, _) => kind_of(catalog, scope, a),
         Expr::If(_, a, _) => kind_of(catalog, scope, a),
@@ -125,9 +96,9 @@ fn clash_at<'a>(spot: &Spot<'_, 'a>, e: &'a Expr) -> Option<Clash<'a>> {
         Expr::Unary(Prefix::Data(op), a) => {
             let sign = prefix_token(Prefix::Data(*op)).text();
             let side = Part::Around("what ", sign, " takes");
-            clash_with(spot, side, asked_by_unary(*op), a)
+            clash_with(spot, side, kind_of_unary(*op), a)
         }
-        Expr::Binary(Infix::Data(op), a, b) => match asked_by(*op) {
+        Expr::Binary(Infix::Data(op), a, b) => match asked_kind(*op) {
             Some(asked) => {
                 let sign = infix_token(Infix::Data(*op)).text();
                 let side = Part::Around("what ", sign, " takes");

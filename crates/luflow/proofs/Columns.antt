@@ -1,23 +1,24 @@
 -- Columns and inputs, one after the other.
-use Rattle.std.proofs.Common.{◌≡◌, ℕ, ◌+◌, ◌<◌, ◌≤◌, List, [], ◌∷◌, length, drop, get_or, map, Vec, String, Global, true, false, ◌==◌, sym, ap, ◌∙◌, subst, arith}
+use Rattle.std.proofs.Common.{◌≡◌, ℕ, ◌+◌, ◌<◌, ◌≤◌, List, [], ◌∷◌, length, drop, get_or, map, Vec, String, Global, true, false, ◌==◌, sym, ap, ◌∙◌, subst, arith, ◌↔◌}
 use Rattle.std.specs.Prelude.{All, string_bytes}
 use Rattle.std.proofs.lemmas.List.{drop_more, drop_all, length-map, get_or-map}
 use Rattle.std.proofs.lemmas.List.Elements.{All-map}
 use Rattle.luflow.specs.declared.data.Status.{Status}
-use Rattle.luflow.specs.declared.data.Datum.{Datum}
+use Rattle.luflow.specs.declared.values.Values.{Values}
 use Rattle.luflow.specs.declared.variable.Variable.{Variable}
+use Rattle.luflow.specs.Packed.{data_in}
 use Rattle.luflow.specs.Sound.{IsConstantOf}
 use Rattle.luflow.specs.Tables.{AreColumnsOf, columns_view, OutputColumn, AreOutputs, output_view, outputs_view}
 
 abbrev pub Pair : Type 0
-Pair = String Global × Vec Datum Global
+Pair = String Global × Values
 
 -- what is asked from place i on
 abbrev pub From : List Variable → List Pair → ℕ → Type 0
 From xs cs i = AreColumnsOf (drop i xs) (columns_view (drop i cs))
 
 abbrev pub One : Variable → Pair → Type 0
-One x c = (string_bytes c.0 ≡ x.name) × All (λ d. IsConstantOf x.kind d) c.1.items
+One x c = (string_bytes c.0 ≡ x.name) × All (λ d. IsConstantOf x.kind d) (data_in c.1)
 
 module _ (xs : List Variable) (cs : List Pair) (i : ℕ) (x : Variable) (c : Pair) (lx : i < length xs) (lc : i < length cs) (ex : x ≡ get_or xs i x) (ec : c ≡ get_or cs i c) where
   cut_inputs : drop i xs ≡ x ∷ drop (i + 1) xs
@@ -51,6 +52,10 @@ AreLong xs n = All (λ (x : Output). length x.1.items ≡ n) xs
 
 pub all_back : {X Y : Type 0} (P : Y → Type 0) (f : X → Y) (xs : List X) → All P (map f xs) → All (λ x. P (f x)) xs
 all_back P f xs h = λ k d l. let n = length-map xs f in subst P (get_or-map f xs k d (f d) l) (h k (f d) (omega (arith, n)))
+
+-- what holds of all that a list is mapped to
+pub all_mapped : {X Y : Type 0} (P : Y → Type 0) (f : X → Y) (xs : List X) → All (λ x. P (f x)) xs ↔ All P (map f xs)
+all_mapped P f xs = (λ h. All-map P f xs h, λ h. all_back P f xs h)
 
 -- columns that are as long as the first one
 pub long_outputs : (x : Output) (xs : List Output) → AreLong (x ∷ xs) (length x.1.items) → AreOutputs (outputs_view (x ∷ xs))

@@ -1,3 +1,4 @@
+pub mod Packed
 pub mod Program
 pub mod Rank
 pub mod Operators

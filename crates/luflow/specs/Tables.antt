@@ -3,18 +3,19 @@ use Rattle.std.specs.Prelude.{◌≡◌, ℕ, ◌≤◌, List, [], ◌∷◌, ma
 use Rattle.std.specs.declared.string.String.{String}
 use Rattle.std.specs.declared.alloc.Global.{Global}
 use Rattle.lulimits.specs.Limits.{most_instants}
-use Rattle.luflow.specs.declared.data.Datum.{Datum}
 use Rattle.luflow.specs.declared.data.Status.{Status}
+use Rattle.luflow.specs.declared.values.Values.{Values}
 use Rattle.luflow.specs.declared.variable.Variable.{Variable}
+use Rattle.luflow.specs.Packed.{data_in}
 use Rattle.luflow.specs.Program.{FlatProgram, Table, Column}
 use Rattle.luflow.specs.Sound.{IsConstantOf, IsFit}
 use Rattle.luflow.specs.Flats.{IsFlat}
 use Rattle.luflow.specs.Variables.{inputs_of}
 
-abbrev pub column_view : String Global × Vec Datum Global → Column
-column_view x = record { name = string_bytes x.0; values = x.1.items }
+abbrev pub column_view : String Global × Values → Column
+column_view x = record { name = string_bytes x.0; values = data_in x.1 }
 
-abbrev pub columns_view : List (String Global × Vec Datum Global) → List Column
+abbrev pub columns_view : List (String Global × Values) → List Column
 columns_view xs = map column_view xs
 
 -- at most as many instants as a table may have, and each column has a value for each of them

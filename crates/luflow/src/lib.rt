@@ -2,7 +2,7 @@
 //!
 //! - [`Datum`], [`Status`]: what a flow has at an instant.
 //! - [`Form`], [`Flow`], [`Clock`]: what a flow is made of; [`Outcome`], [`FaultKind`]: what its value may be.
-//! - [`Flat`], [`Variable`], [`Enum`], [`names_of`], [`name_of`]: a whole flat program, and how its names are spelled; [`Inputs`]: the table of its inputs; [`Outputs`]: that of its outputs.
+//! - [`Flat`], [`Variable`], [`Enum`], [`names_of`], [`name_of`]: a whole flat program, and how its names are spelled; [`Inputs`]: the table of its inputs, each input's [`Values`]; [`Outputs`]: that of its outputs.
 //! - [`Msg`], [`Body`]: what a link carries.
 //! - [`laws`]: exactly one solution, what every solution keeps, and worked programs.
 //!
@@ -17,6 +17,7 @@ pub mod laws;
 mod message;
 mod outputs;
 mod table;
+mod values;
 mod variable;
 
 pub use data::{Datum, Status};
@@ -25,4 +26,5 @@ pub use form::{Clock, FaultKind, Flow, Form, Outcome};
 pub use message::{Body, Msg};
 pub use outputs::Outputs;
 pub use table::Inputs;
+pub use values::Values;
 pub use variable::{Enum, Role, Variable, name_of, names_of};

@@ -1,11 +1,14 @@
 //! The table of a program's inputs.
 
 ghost use Rattle.std.specs.Prelude.{◌≡◌, ◌↔◌, All, IfSome, IsSome, IsTrue, length, string_bytes};
+ghost use Rattle.luflow.specs.declared.data.Datum.TheVariants.{Int, Bool, Name};
+ghost use Rattle.luflow.specs.Packed.{data_in};
 ghost use Rattle.luflow.specs.Sound.{IsConstantOf, IsFit};
 ghost use Rattle.luflow.specs.Tables.{IsTable, AreColumnsOf, Fits, columns_view};
 
 use crate::data::Datum;
 use crate::flat::Flat;
+use crate::values::Values;
 use crate::variable::Variable;
 use lulimits::limits::MOST_INSTANTS;
 use lutree::Kind;
@@ -16,7 +19,7 @@ use std::marker::Model;
 #[derive(Debug, Drop)]
 pub struct Inputs {
     instants: u32,
-    columns: Vec<(String, Vec<Datum>)>,
+    columns: Vec<(String, Values)>,
 }
 
 impl Model for Inputs {
@@ -32,15 +35,15 @@ impl Model for Inputs {
         (record { instants = a.instants; columns = columns_view a.columns.items }) };
 }
 
-fn are_long(columns: &[(String, Vec<Datum>)], instants: u32) -> bool
-    ensures { IsTrue result ↔ All (λ x. length x.1.items ≡ instants) columns.now }
+fn are_long(columns: &[(String, Values)], instants: u32) -> bool
+    ensures { IsTrue result ↔ All (λ x. length (data_in x.1) ≡ instants) columns.now }
 {
     columns
         .iter()
         .all(|column| column.1.len() == instants as usize)
 }
 
-fn is_table(instants: u32, columns: &[(String, Vec<Datum>)]) -> bool
+fn is_table(instants: u32, columns: &[(String, Values)]) -> bool
     ensures { IsTrue result ↔ IsTable (record {
       instants = instants;
       columns = columns_view
@@ -62,20 +65,44 @@ fn is_constant_of(kind: Kind, datum: Datum) -> bool
     }
 }
 
-fn are_constants_of(kind: Kind, values: &[Datum]) -> bool
-    ensures { IsTrue result ↔ All (λ d. IsConstantOf kind d) values.now }
+fn are_numbers(kind: Kind, numbers: &[i64]) -> bool
+    ensures { IsTrue result ↔ All (λ z. IsConstantOf kind (Int z)) numbers.now }
 {
-    values.iter().all(|d| is_constant_of(kind, *d))
+    numbers.iter().all(|z| is_constant_of(kind, Datum::Int(*z)))
 }
 
-fn is_column_of(x: &Variable, column: &(String, Vec<Datum>)) -> bool
+fn are_truths(kind: Kind, truths: &[bool]) -> bool
+    ensures { IsTrue result ↔ All (λ b. IsConstantOf kind (Bool b)) truths.now }
+{
+    truths.iter().all(|b| is_constant_of(kind, Datum::Bool(*b)))
+}
+
+fn are_names(kind: Kind, names: &[u8]) -> bool
+    ensures { IsTrue result ↔ All (λ k. IsConstantOf kind (Name k)) names.now }
+{
+    names.iter().all(|k| is_constant_of(kind, Datum::Name(*k)))
+}
+
+/// Whether all values have a type, and aren't nil.
+fn are_constants_of(kind: Kind, values: &Values) -> bool
+    ensures { IsTrue result ↔ All (λ d. IsConstantOf kind d) (data_in values.now) }
+{
+    match values {
+        Values::Numbers(numbers) => are_numbers(kind, numbers),
+        Values::Truths(truths) => are_truths(kind, truths),
+        Values::Names(names) => are_names(kind, names),
+        Values::Mixed(mixed) => mixed.iter().all(|d| is_constant_of(kind, *d)),
+    }
+}
+
+fn is_column_of(x: &Variable, column: &(String, Values)) -> bool
     ensures { IsTrue result ↔ ((string_bytes column.now.0 ≡ x.now.name)
-        × All (λ d. IsConstantOf x.now.kind d) column.now.1.items) }
+        × All (λ d. IsConstantOf x.now.kind d) (data_in column.now.1)) }
 {
     x.name.as_str() == column.0.as_str() && are_constants_of(x.kind, &column.1)
 }
 
-fn are_columns_of(variables: &[Variable], columns: &[(String, Vec<Datum>)]) -> bool
+fn are_columns_of(variables: &[Variable], columns: &[(String, Values)]) -> bool
     ensures { IsTrue result ↔ AreColumnsOf variables.now (columns_view columns.now) }
 {
     if variables.len() != columns.len() {
@@ -92,7 +119,7 @@ fn are_columns_of(variables: &[Variable], columns: &[(String, Vec<Datum>)]) -> b
 impl Inputs {
     /// The table of these columns. None exactly for more than 1,000,000 instants, or where the length of a column is not
     /// the number of instants. Takes no memory.
-    pub fn new(instants: u32, columns: Vec<(String, Vec<Datum>)>) -> Option<Inputs>
+    pub fn new(instants: u32, columns: Vec<(String, Values)>) -> Option<Inputs>
         ensures when { IsSome result ↔ IsTable (record {
           instants = instants;
           columns =
@@ -120,7 +147,7 @@ impl Inputs {
     }
 
     /// The names and values, in order of declaration.
-    pub fn columns(&self) -> &[(String, Vec<Datum>)]
+    pub fn columns(&self) -> &[(String, Values)]
         ensures { columns_view result.now ≡ self.now.columns }
     {
         self.columns.as_slice()

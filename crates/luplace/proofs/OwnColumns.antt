@@ -4,10 +4,6 @@ use Rattle.std.specs.Prelude.{slice_get, unwrap_or}
 use Rattle.std.specs.List.{range_with_len}
 use Rattle.std.proofs.lemmas.Bool.{cases_lt}
 use Rattle.std.proofs.lemmas.List.{map-append, take_more}
-use Rattle.std.specs.declared.string.String.{String}
-use Rattle.std.specs.declared.alloc.Global.{Global}
-use Rattle.luflow.specs.declared.data.Datum.{Datum}
-use Rattle.luflow.specs.Tables.{columns_view}
 use Rattle.luflow.specs.Program.{column_of, data_of}
 use Rattle.luworld.specs.Needs.{stands}
 use Rattle.luworld.specs.Runs.{Run}
@@ -60,11 +56,6 @@ pub map_more : {X : Type 0} (f : ℕ → X) (n : ℕ) → map f (range_with_len 
 map_more f n =
     let z : 0 + n ≡ n = omega arith in
     ap (map f) (range_more 0 n) ∙ map-append f (range_with_len 0 n) ((0 + n) ∷ []) ∙ ap (λ u. map f (range_with_len 0 n) ++ f u ∷ []) z
-
-pub values_there : (xs : List (String Global × Vec Datum Global)) (c : ℕ) (d : String Global × Vec Datum Global) → c < length xs → (get_or xs c d).1.items ≡ data_of (slice_get (columns_view xs) c)
-values_there [] c d l = absurd (omega arith)
-values_there (x ∷ xs) zero d l = refl
-values_there (x ∷ xs) (suc c) d l = values_there xs c d (omega arith)
 
 -- what a list's first items are mapped to, and one item more
 pub map_taken : {X Y : Type 0} (f : X → Y) (xs : List X) (i : ℕ) (d x : X) → i < length xs → x ≡ get_or xs i d → map f (take (i + 1) xs) ≡ map f (take i xs) ++ f x ∷ []

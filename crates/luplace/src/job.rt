@@ -3,13 +3,14 @@
 ghost use Rattle.std.specs.Prelude.{◌≡◌, ◌<◌, true, false, cond, [], IfOk, None, length, map, slice_get, unwrap_or};
 ghost use Rattle.std.specs.List.{range_with_len};
 ghost use Rattle.luflow.specs.Program.{column_of, data_of};
+ghost use Rattle.luflow.specs.Packed.{data_in};
 ghost use Rattle.luflow.specs.Tables.{columns_view};
 ghost use Rattle.luflow.specs.Sound.{IsFit};
 ghost use Rattle.luworld.specs.Needs.{sites_of, stands};
 ghost use Rattle.luworld.specs.Runs.{IsRun};
 
 use crate::plan::Plan;
-use luflow::{Datum, Inputs};
+use luflow::{Datum, Inputs, Values};
 use lulist::Row;
 use std::alloc::{AllocError, Global};
 use std::marker::Model;
@@ -52,10 +53,10 @@ impl Model for SiteInputs {
     ghost invariant = { λ a. IsSiteTable a.job.value a.site a.instants a.columns };
 }
 
-fn copied(alloc: Global, column: &[Datum]) -> Result<Row<Datum>, AllocError>
-    ensures { IfOk result (λ row. row ≡ column.now) }
+fn copied(alloc: Global, column: &Values) -> Result<Row<Datum>, AllocError>
+    ensures { IfOk result (λ row. row ≡ data_in column.now) }
 {
-    Ok(Row::new(Vec::from_slice(alloc, column)?))
+    Ok(Row::new(column.to_vec(alloc)?))
 }
 
 impl Job {
@@ -131,7 +132,7 @@ impl SiteInputs {
 fn column_for(
     alloc: Global,
     plan: &Plan,
-    columns: &[(String, Vec<Datum>)],
+    columns: &[(String, Values)],
     c: usize,
     site: u8,
 ) -> Result<Row<Datum>, AllocError>
@@ -146,18 +147,18 @@ fn column_for(
     }
 }
 
-fn values_in(columns: &[(String, Vec<Datum>)], c: usize) -> &[Datum]
+fn values_in(columns: &[(String, Values)], c: usize) -> &Values
     requires { c < length columns.now }
-    ensures { result.now ≡ data_of (slice_get (columns_view columns.now) c) }
+    ensures { data_in result.now ≡ data_of (slice_get (columns_view columns.now) c) }
 {
-    columns[c].1.as_slice()
+    &columns[c].1
 }
 
 /// The columns of a site's own inputs, and an empty one for each other input.
 fn columns_of(
     alloc: Global,
     plan: &Plan,
-    columns: &[(String, Vec<Datum>)],
+    columns: &[(String, Values)],
     site: u8,
 ) -> Result<Vec<Row<Datum>>, AllocError>
     ensures { IfOk result (λ rows. rows.items ≡ map (λ c. cond (stands plan.now c site)

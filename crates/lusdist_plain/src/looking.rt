@@ -111,7 +111,7 @@ fn given(inputs: &Inputs, column: usize, instant: u32) -> Option<Datum>
     ensures { result ≡ slice_get (column_of inputs.now column) instant }
 {
     match inputs.columns().get(column) {
-        Some(found) => found.1.as_slice().get(instant as usize).copied(),
+        Some(found) => found.1.get(instant as usize),
         None => None,
     }
 }

@@ -2,6 +2,8 @@
 use Rattle.std.proofs.Common.{◌≡◌, ℕ, zero, suc, ◌+◌, ◌<◌, ◌≤◌, List, [], ◌∷◌, ◌++◌, length, get_or, set, drop, Option, Some, None, refl, sym, ap, ◌∙◌, arith, append_assoc, length-append}
 use Rattle.lutree.specs.declared.program.Kind.{Kind}
 use Rattle.luflow.specs.declared.data.Datum.{Datum}
+use Rattle.luflow.specs.declared.values.Values.{Values}
+use Rattle.luflow.specs.Packed.{data_in}
 use Rattle.luflow.specs.declared.variable.Enum.{Enum}
 use Rattle.lutab.specs.Text.{Sort, sort_of}
 use Rattle.lutab.specs.Table.{sorts_in}
@@ -124,9 +126,9 @@ module _ (types : List Enum) where
       stops (sorts_in types kinds) bytes old i rest now (sort_of types k) so (omega (arith, n, lt)) (rw (← is, sort_at kinds i k) h)
 
   -- one more field
-  pub one_more : (kinds : List Kind) (bytes : List ℕ) (old : List Column) (i : ℕ) (rest : List ℕ) (columns : List (String Global × Vec Datum Global)) (k : Kind) (end : ℕ) (column : String Global × Vec Datum Global) (new : Vec Datum Global) (after : Bor (List ℕ)) →
+  pub one_more : (kinds : List Kind) (bytes : List ℕ) (old : List Column) (i : ℕ) (rest : List ℕ) (columns : List (String Global × Values)) (k : Kind) (end : ℕ) (column : String Global × Values) (new : Values) (after : Bor (List ℕ)) →
       SoFar (sorts_in types kinds) bytes old i rest (columns_view columns) → i < length kinds → length old ≡ length kinds → end ≡ end_before (drop (suc i) (sorts_in types kinds)) →
-      FillsField (get_or columns i column).1.items new.items (Ok after) (field_at (sort_of types (get_or kinds i k)) end rest) → SoFar (sorts_in types kinds) bytes old (suc i) after.now (columns_view (set columns i ((get_or columns i column).0, new)))
+      FillsField (data_in (get_or columns i column).1) (data_in new) (Ok after) (field_at (sort_of types (get_or kinds i k)) end rest) → SoFar (sorts_in types kinds) bytes old (suc i) after.now (columns_view (set columns i ((get_or columns i column).0, new)))
   one_more kinds bytes old i rest columns k end column new after so lt same is h =
       let n = as_many kinds in
       let g = goes_on (sorts_in types kinds) bytes old i rest (columns_view columns) (sort_of types k) h.0 after.now (column_view column) so (omega (arith, n, lt)) (omega (arith, n, same)) (rw (← is, sort_at kinds i k) h.1) in

@@ -11,9 +11,11 @@ use Rattle.std.specs.declared.vec.Vec.{Vec}
 use Rattle.std.specs.declared.string.String.{String}
 use Rattle.std.specs.declared.alloc.Global.{Global}
 use Rattle.luflow.specs.declared.data.Datum.{Datum}
+use Rattle.luflow.specs.declared.values.Values.{Values}
 use Rattle.luflow.specs.declared.variable.Enum.{Enum}
 use Rattle.luflow.specs.declared.variable.Variable.{Variable}
 use Rattle.luflow.specs.Program.{Column}
+use Rattle.luflow.specs.Packed.{data_in}
 use Rattle.luflow.specs.Tables.{column_view, columns_view}
 use Rattle.lutab.specs.Text.{Sort, sort_of, HasKind}
 use Rattle.lutab.specs.Table.{kinds_of, sorts_of}
@@ -25,8 +27,8 @@ one_column [] k (d ∷ cs) c is none = absurd is
 one_column (j ∷ ks) k [] c is none = absurd is
 one_column (j ∷ ks) k (d ∷ cs) c is none = (is.0, is.1, one_column ks k cs c is.2 none)
 
-pub one_more_column : (types : List Enum) (inputs : List Variable) (i : ℕ) (input : Variable) (columns new : List (String Global × Vec Datum Global)) (c : String Global × Vec Datum Global) → i < length inputs → AreEmptyOf types (take i inputs) (columns_view columns) →
-    string_bytes c.0 ≡ (get_or inputs i input).name → c.1.items ≡ [] → new ≡ columns ++ c ∷ [] → AreEmptyOf types (take (i + 1) inputs) (columns_view new)
+pub one_more_column : (types : List Enum) (inputs : List Variable) (i : ℕ) (input : Variable) (columns new : List (String Global × Values)) (c : String Global × Values) → i < length inputs → AreEmptyOf types (take i inputs) (columns_view columns) →
+    string_bytes c.0 ≡ (get_or inputs i input).name → data_in c.1 ≡ [] → new ≡ columns ++ c ∷ [] → AreEmptyOf types (take (i + 1) inputs) (columns_view new)
 one_more_column types inputs i input columns new c lt is named none e =
     let x = get_or inputs i input in
     let names : map (λ y. y.name) (columns_view (columns ++ c ∷ [])) ≡ map (λ y. y.name) (take i inputs ++ x ∷ []) =

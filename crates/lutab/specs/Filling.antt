@@ -6,6 +6,7 @@ use Rattle.std.specs.declared.vec.Vec.{Vec}
 use Rattle.std.specs.declared.string.String.{String}
 use Rattle.std.specs.declared.alloc.Global.{Global}
 use Rattle.luflow.specs.declared.data.Datum.{Datum}
+use Rattle.luflow.specs.declared.values.Values.{Values}
 use Rattle.luflow.specs.declared.variable.Enum.{Enum}
 use Rattle.luflow.specs.declared.variable.Variable.{Variable}
 use Rattle.luflow.specs.Program.{Column, Table}
@@ -81,7 +82,7 @@ abbrev pub AreEmptyOf : List Enum → List Variable → List Column → Type 0
 AreEmptyOf types inputs columns = (map (λ c. c.name) columns ≡ map (λ x. x.name) inputs) × AreFilled 0 (sorts_of types inputs) columns
 
 -- What reading the lines behind the header of these inputs answers.
-abbrev pub ReadsColumns : List Enum → List Variable → List ℕ → Result (ℕ × Vec (String Global × Vec Datum Global) Global) TabError → Type 0
+abbrev pub ReadsColumns : List Enum → List Variable → List ℕ → Result (ℕ × Vec (String Global × Values) Global) TabError → Type 0
 ReadsColumns types inputs body (Ok x) = AreRead (sorts_of types inputs) (map (λ y. y.name) inputs) body x.0 (columns_view x.1.items)
 ReadsColumns types inputs body (Err e) = IsLineFault (sorts_of types inputs) body e
 

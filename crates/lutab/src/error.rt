@@ -4,7 +4,7 @@ ghost use Rattle.std.specs.Prelude.{◌≡◌};
 ghost use Rattle.lutab.specs.declared.error.TabError.TheVariants as table;
 ghost use Rattle.lutab.specs.declared.error.LineError.TheVariants as lines;
 
-use std::alloc::{AllocError, AllocFailed};
+use std::alloc::AllocError;
 use std::fmt;
 use thiserror::Error;
 
@@ -57,10 +57,10 @@ pub enum LineError {
     Faulty,
 }
 
-impl<T: Drop> From<AllocFailed<T>> for LineError {
+impl From<AllocError> for LineError {
     ghost from_gives = { λ _ e. e ≡ lines.OutOfMemory };
 
-    fn from(_e: AllocFailed<T>) -> LineError {
+    fn from(_e: AllocError) -> LineError {
         LineError::OutOfMemory
     }
 }

@@ -14,7 +14,7 @@ ghost use Rattle.lutab.specs.Filling.{AreEmptyOf, ReadsColumns, ReadsText};
 use crate::error::TabError;
 use crate::rows::read_rows;
 use crate::writing::put_comma;
-use luflow::{Datum, Enum, Flat, Inputs, Variable};
+use luflow::{Enum, Flat, Inputs, Values, Variable};
 use lulimits::limits::{LONGEST_TABLE, MOST_INSTANTS};
 use lutree::Kind;
 use std::alloc::{AllocError, Global};
@@ -65,14 +65,14 @@ fn empty_columns(
     alloc: Global,
     inputs: &[Variable],
     room: usize,
-) -> Result<Vec<(String, Vec<Datum>)>, AllocError>
+) -> Result<Vec<(String, Values)>, AllocError>
     ensures { (types : List AnyEnum) → IfOk result
         (λ v. AreEmptyOf types inputs.now (columns_view v.items)) }
 {
     let mut columns = Vec::new(alloc);
     for input in inputs {
         let name = String::from_str(alloc, input.name.as_str())?;
-        let values = Vec::with_capacity(alloc, room)?;
+        let values = Values::new(alloc, input.kind, room)?;
         columns.push((name, values))?;
     }
     Ok(columns)
@@ -84,7 +84,7 @@ fn read_columns(
     types: &[Enum],
     inputs: &[Variable],
     body: &[u8],
-) -> Result<(usize, Vec<(String, Vec<Datum>)>), TabError>
+) -> Result<(usize, Vec<(String, Values)>), TabError>
     requires { length body.now ≤ longest_table }
     ensures { ReadsColumns types.now inputs.now body.now result }
 {
@@ -103,7 +103,7 @@ fn after_header<'a>(header: &[u8], bytes: &'a [u8]) -> Option<&'a [u8]>
 }
 
 /// The table of these columns.
-fn table_of(instants: usize, columns: Vec<(String, Vec<Datum>)>) -> Inputs
+fn table_of(instants: usize, columns: Vec<(String, Values)>) -> Inputs
     requires { IsTable (record { instants = instants; columns = columns_view columns.items }) }
     ensures { result ≡ record { instants = instants; columns = columns_view columns.items } }
 {

@@ -2,6 +2,7 @@
 
 ghost use Rattle.std.specs.Prelude.{◌≡◌, List, option_map, length};
 ghost use Rattle.luflow.specs.declared.variable.Enum.{Enum as AnyEnum};
+ghost use Rattle.luflow.specs.Packed.{data_in};
 ghost use Rattle.luflow.specs.Tables.{columns_view};
 ghost use Rattle.lutab.specs.Text.{sort_of};
 ghost use Rattle.lutab.specs.Table.{sorts_in};
@@ -10,7 +11,7 @@ ghost use Rattle.lutab.specs.Filling.{FillsField, FillsRow};
 
 use crate::error::LineError;
 use crate::field;
-use luflow::{Datum, Enum};
+use luflow::{Enum, Values};
 use lutree::Kind;
 
 /// What follows the byte.
@@ -39,10 +40,10 @@ fn read_field<'a>(
     types: &[Enum],
     kind: Kind,
     end: u8,
-    column: &mut Vec<Datum>,
+    column: &mut Values,
     bytes: &'a [u8],
 ) -> Result<&'a [u8], LineError>
-    ensures { FillsField column.old.items column.new.items result
+    ensures { FillsField (data_in column.old) (data_in column.new) result
         (field_at (sort_of types.now kind) end bytes.now) }
 {
     let Some((datum, tail)) = field::value(types, kind, bytes) else {
@@ -58,7 +59,7 @@ fn read_field<'a>(
 fn read_fields<'a>(
     types: &[Enum],
     kinds: &[Kind],
-    columns: &mut [(String, Vec<Datum>)],
+    columns: &mut [(String, Values)],
     bytes: &'a [u8],
 ) -> Result<&'a [u8], LineError>
     requires { length columns.old ≡ length kinds.now }
@@ -78,7 +79,7 @@ fn read_fields<'a>(
 pub fn read_row<'a>(
     types: &[Enum],
     kinds: &[Kind],
-    columns: &mut [(String, Vec<Datum>)],
+    columns: &mut [(String, Values)],
     bytes: &'a [u8],
 ) -> Result<&'a [u8], LineError>
     requires { length columns.old ≡ length kinds.now }

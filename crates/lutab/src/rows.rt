@@ -9,7 +9,7 @@ ghost use Rattle.lutab.specs.Filling.{ReadsLine, ReadsLines, AreFilled, IsReache
 
 use crate::error::{LineError, TabError};
 use crate::row::read_row;
-use luflow::{Datum, Enum};
+use luflow::{Enum, Values};
 use lutree::Kind;
 
 fn line_end(bytes: &[u8]) -> Option<usize>
@@ -63,7 +63,7 @@ fn fault_of(kinds: &[Kind], line: usize, bytes: &[u8]) -> TabError
 fn read_line<'a>(
     types: &[Enum],
     kinds: &[Kind],
-    columns: &mut [(String, Vec<Datum>)],
+    columns: &mut [(String, Values)],
     bytes: &'a [u8],
 ) -> Result<&'a [u8], LineError>
     requires { length columns.old ≡ length kinds.now }
@@ -77,7 +77,7 @@ fn read_line<'a>(
 pub fn read_rows(
     types: &[Enum],
     kinds: &[Kind],
-    columns: &mut [(String, Vec<Datum>)],
+    columns: &mut [(String, Values)],
     bytes: &[u8],
 ) -> Result<usize, TabError>
     requires empty { AreFilled 0 (sorts_in types.now kinds.now) (columns_view columns.old) }

@@ -1,11 +1,12 @@
 //! The text of a table of outputs, or of all main variables.
 
-ghost use Rattle.std.specs.Prelude.{◌≡◌, ◌<◌, ◌++◌, All, IfOk, OnOk, string_bytes, vec_len};
+ghost use Rattle.std.specs.Prelude.{◌≡◌, ◌<◌, ◌≤◌, ◌-◌, ◌++◌, All, IfOk, OnOk, length, map, string_bytes, vec_len};
 ghost use Rattle.luflow.specs.Tables.{outputs_view};
 ghost use Rattle.luflow.specs.Types.{names_of};
 ghost use Rattle.luflow.specs.Variables.{is_output, outputs_of};
 ghost use Rattle.lutab.specs.Text.{comma_before, datum_text, status_text, line_text};
 ghost use Rattle.lutab.specs.Outputs.{names_in, output_kinds, kinds_of, shown_of, statuses_at, names_text, lines_text, column_text, output_text};
+ghost use Rattle.lutab.specs.Buffers.{cells_view, stretch_of};
 
 use itoa::Buffer;
 use luflow::{Datum, Enum, Flat, Outputs, Role, Status, Variable, name_of, names_of};
@@ -15,6 +16,9 @@ use std::alloc::{AllocError, Global};
 
 /// The least bytes that a field and what ends it take.
 const LEAST_FIELD: usize = 2;
+
+/// How many instants of all columns are brought together before they are written.
+const AT_ONCE: usize = 64;
 
 /// What stands before field i of a line.
 pub fn put_comma(out: &mut String, i: usize) -> Result<(), AllocError>
@@ -60,21 +64,21 @@ fn names_at<'a>(types: &'a [Enum], kinds: &[Kind], i: usize) -> &'a [Name]
     }
 }
 
-/// The line of an instant, of outputs of these types.
+/// The line of instant `k` of a buffer, of outputs of these types.
 fn put_row(
     out: &mut String,
     types: &[Enum],
     kinds: &[Kind],
-    outputs: &[(String, Vec<Status>)],
-    instant: usize,
+    cells: &[Vec<Status>],
+    k: usize,
 ) -> Result<(), AllocError>
-    requires { All (λ x. instant < vec_len x.1) outputs.now }
+    requires { All (λ x. k < vec_len x) cells.now }
     ensures { OnOk result (string_bytes out.new ≡ string_bytes out.old
-        ++ line_text (statuses_at types.now kinds.now (outputs_view outputs.now) instant)) }
+        ++ line_text (statuses_at types.now kinds.now (cells_view cells.now) k)) }
 {
-    for i in 0..outputs.len() {
+    for i in 0..cells.len() {
         put_comma(out, i)?;
-        put_status(out, names_at(types, kinds, i), outputs[i].1[instant])?;
+        put_status(out, names_at(types, kinds, i), cells[i][k])?;
     }
     out.push('\n')
 }
@@ -90,7 +94,73 @@ fn put_header(out: &mut String, outputs: &[(String, Vec<Status>)]) -> Result<(),
     out.push('\n')
 }
 
-/// The text of outputs of these types that have something at each of these instants.
+/// A buffer for so many outputs, with room for the instants that are written at once.
+fn new_cells(alloc: Global, outputs: usize) -> Result<Vec<Vec<Status>>, AllocError>
+    ensures { IfOk result (λ v. length v.items ≡ outputs) }
+{
+    let mut cells = Vec::with_capacity(alloc, outputs)?;
+    for _ in 0..outputs {
+        cells.push(Vec::with_capacity(alloc, AT_ONCE)?)?;
+    }
+    Ok(cells)
+}
+
+/// Puts these statuses in place of what a part of the buffer has.
+fn refill(part: &mut Vec<Status>, statuses: &[Status]) -> Result<(), AllocError>
+    ensures { OnOk result (part.new.items ≡ statuses.now) }
+{
+    part.clear();
+    part.extend_from_slice(statuses)
+}
+
+/// Fills the buffer with what the outputs have at these instants.
+fn fill(
+    cells: &mut [Vec<Status>],
+    outputs: &[(String, Vec<Status>)],
+    from: usize,
+    to: usize,
+) -> Result<(), AllocError>
+    requires as_many { length cells.old ≡ length outputs.now }
+    requires order { from ≤ to }
+    requires long { All (λ x. to ≤ vec_len x.1) outputs.now }
+    ensures len { length cells.new ≡ length cells.old }
+    ensures filled { OnOk result (cells_view cells.new
+        ≡ map (stretch_of from (to - from)) (outputs_view outputs.now)) }
+{
+    for i in 0..outputs.len() {
+        refill(&mut cells[i], &outputs[i].1[from..to])?;
+    }
+    Ok(())
+}
+
+/// Adds the lines of some instants to a text that has those before them.
+fn put_rows(
+    out: &mut String,
+    types: &[Enum],
+    kinds: &[Kind],
+    outputs: &[(String, Vec<Status>)],
+    cells: &mut [Vec<Status>],
+    from: usize,
+    to: usize,
+) -> Result<(), AllocError>
+    requires as_many { length cells.old ≡ length outputs.now }
+    requires order { from ≤ to }
+    requires long { All (λ x. to ≤ vec_len x.1) outputs.now }
+    requires before { string_bytes out.old
+        ≡ lines_text types.now kinds.now (outputs_view outputs.now) from }
+    ensures len { length cells.new ≡ length cells.old }
+    ensures more { OnOk result (string_bytes out.new
+        ≡ lines_text types.now kinds.now (outputs_view outputs.now) to) }
+{
+    fill(cells, outputs, from, to)?;
+    for k in 0..to - from {
+        put_row(out, types, kinds, cells, k)?;
+    }
+    Ok(())
+}
+
+/// The text of outputs of these types that have something at each of these instants. Columns lie far apart in memory, and only some can be
+/// read side by side at full speed; so what they have at the next instants is brought together first.
 fn write_lines(
     alloc: Global,
     types: &[Enum],
@@ -105,8 +175,12 @@ fn write_lines(
     let fields = instants.saturating_mul(outputs.len());
     let mut out = String::with_capacity(alloc, fields.saturating_mul(LEAST_FIELD))?;
     put_header(&mut out, outputs)?;
-    for instant in 0..instants {
-        put_row(&mut out, types, kinds, outputs, instant)?;
+    let mut cells = new_cells(alloc, outputs.len())?;
+    let mut from: usize = 0;
+    while from < instants {
+        let to = from.saturating_add(AT_ONCE).min(instants);
+        put_rows(&mut out, types, kinds, outputs, &mut cells, from, to)?;
+        from = to;
     }
     Ok(out)
 }

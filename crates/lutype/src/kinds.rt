@@ -57,8 +57,8 @@ pub fn kind_of_unary(op: UnaryOperator) -> Kind
     }
 }
 
-// The type that an operator asks of its two operands; none is any.
-fn asked_kind(op: BinaryOperator) -> Option<Kind>
+/// The type that an operator asks of its two operands; none is any.
+pub fn asked_kind(op: BinaryOperator) -> Option<Kind>
     ensures { result ≡ operand_kind op }
 {
     match op {
@@ -69,8 +69,8 @@ fn asked_kind(op: BinaryOperator) -> Option<Kind>
     }
 }
 
-// The type of an operator's result.
-fn kind_of_result(op: BinaryOperator) -> Kind
+/// The type of an operator's result, where it has two operands.
+pub fn kind_of_result(op: BinaryOperator) -> Kind
     ensures { result ≡ result_kind op }
 {
     match op {
