@@ -26,8 +26,8 @@ fn new_bench(alloc: Global, job: &Job, site: u8) -> Result<Bench, AllocError>
     requires { site < sites_of job.now.plan }
     ensures { IfOk result (IsBench job.now 0 site) }
 {
-    let program = project(alloc, job.plan(), site)?;
     let inputs = job.inputs_at(alloc, site)?;
+    let program = project(alloc, job.plan(), site)?;
     let site = Site::new(alloc, program, inputs)?;
     Ok(Bench {
         site,
