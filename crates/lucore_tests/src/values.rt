@@ -12,7 +12,11 @@ const KINDS: &[Kind] = &[Kind::Int, Kind::Bool, Kind::Enum(0, 3)];
 
 const LISTS: &[&[Datum]] = &[
     &[],
-    &[Datum::Int(-9223372036854775808), Datum::Int(0), Datum::Int(9223372036854775807)],
+    &[
+        Datum::Int(-9223372036854775808),
+        Datum::Int(0),
+        Datum::Int(9223372036854775807),
+    ],
     &[Datum::Bool(true), Datum::Bool(false)],
     &[Datum::Name(0), Datum::Name(255)],
     &[Datum::Nil],

@@ -32,8 +32,8 @@ mod typing;
 pub use checked::names;
 pub use graph::graph_of;
 pub use kinds::{
-    agreed_kind, asked_kind, is_of_kind, kind_of_binary, kind_of_choice, kind_of_result, kind_of_unary,
-    kind_with,
+    agreed_kind, asked_kind, is_of_kind, kind_of_binary, kind_of_choice, kind_of_result,
+    kind_of_unary, kind_with,
 };
 pub use lustat_rules::StatError;
 pub use order::{CallOrder, call_order};
