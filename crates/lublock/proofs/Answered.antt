@@ -1,5 +1,5 @@
 -- The outputs of a whole run.
-use Rattle.std.proofs.Common.{◌≡◌, ℕ, suc, ◌+◌, ◌<◌, true, List, [], ◌∷◌, length, map, Some, refl, sym, ◌∙◌, ap, ap₂, arith}
+use Rattle.std.proofs.Common.{◌≡◌, ℕ, suc, ◌+◌, ◌<◌, Bool, true, cond, List, [], ◌∷◌, length, map, Option, Some, refl, sym, subst, ◌∙◌, ap, ap₂, arith}
 use Rattle.std.specs.Prelude.{slice_get, OnOk, Ok, Err}
 use Rattle.std.specs.declared.result.Result.{Result}
 use Rattle.std.specs.List.{range_with_len}
@@ -23,7 +23,7 @@ use Rattle.lueval.specs.Steps.{lists_of}
 use Rattle.lueval.specs.Whole.{AreWholeOutputs, HasNoFault}
 use Rattle.lueval.proofs.Listing.{outputs_of_columns, sound_columns}
 use Rattle.lueval.proofs.Steps.{fault_broken}
-use Rattle.lublock.specs.Shown.{Column, IsRun}
+use Rattle.lublock.specs.Shown.{Column, IsNear, IsRun, first_for, first_of}
 use Rattle.lublock.proofs.Showing.{exact_near}
 
 listed : (xs : List Status) (f : ℕ → Mark) (a : ℕ) → ((m : ℕ) (s : Status) → slice_get xs m ≡ Some s → f (a + m) ≡ Known s) → map Known xs ≡ map f (range_with_len a (length xs))
@@ -61,7 +61,9 @@ module _ (flat : FlatProgram) (inputs : Table) (columns : List Column) (is_flat 
       let f = some_at flat.flows v lv in
       exact_near f.0.kind (is_flat.sound.class v) (ticked (clock_at inputs σ f.0.clock) m) (clock_at inputs σ f.0.clock m) (σ v m) s
       (tidy flat inputs σ is_flat.ordered is_flat.sound fit one v m lv lm f.0 f.1) (is_flat.sound.outputs v x there (is_role x.role output))
-      ((run.near σ one).near v column at m s is)
+      (let first : first_of flat v inputs.instants ≡ 0 = ap (λ (o : Option Variable). first_for o inputs.instants) there ∙ ap (λ (b : Bool). cond b 0 inputs.instants) output in
+      let same : first_of flat v inputs.instants + m ≡ m = ap (λ (k : ℕ). k + m) first ∙ (let none : 0 + m ≡ m = omega arith in none) in
+      subst (λ (k : ℕ). IsNear (σ v k) s) same ((run.near σ one).near v column at m s is))
 
   pub known : AreLong flat inputs columns → (v : ℕ) (x : Variable) (column : Column) → slice_get flat.variables v ≡ Some x → is_output x.role ≡ true → slice_get columns v ≡ Some column → map Known column.items ≡ marks (solution flat inputs v) inputs.instants
   known whole v x column there output at =

@@ -1,5 +1,5 @@
 -- What a board is made ready with for the next block.
-use Rattle.std.proofs.Common.{◌≡◌, ◌≢◌, ℕ, suc, ◌+◌, ◌<◌, ◌≤◌, inl, inr, Bool, true, false, cond, List, [], ◌∷◌, Some, None, length, set, get_or, ℤ, refl, sym, subst, ap, ap₂, ◌∙◌, arith}
+use Rattle.std.proofs.Common.{◌≡◌, ◌≢◌, ℕ, suc, ◌+◌, ◌<◌, ◌≤◌, inl, inr, Bool, true, false, cond, List, Some, None, length, set, get_or, ℤ, refl, sym, subst, ap, ap₂, ◌∙◌, arith}
 use Rattle.std.specs.Prelude.{◌||◌, nat_lt, slice_get, Option, Vec}
 use Rattle.std.specs.declared.alloc.Global.{Global}
 use Rattle.std.proofs.lemmas.Bool.{cases_lt, cases_eq}

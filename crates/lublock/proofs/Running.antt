@@ -12,7 +12,8 @@ use Rattle.luflow.specs.declared.form.Form.{Form}
 use Rattle.luflow.specs.Solution.{IsSolution}
 use Rattle.lublock.specs.Blocks.{Holds, IsRight, IsSolved, SolvesAt, datum_at}
 use Rattle.lublock.specs.Machine.{block_of, upto_of, known_of, was_of, StandsOn, IsAfter, IsDone}
-use Rattle.lublock.specs.Shown.{Column, AllNear, IsReady, IsRightBlock, StandsAt}
+use Rattle.luflow.specs.declared.data.Status.{Status}
+use Rattle.lublock.specs.Shown.{Column, AllNear, AreKept, AreNear, IsNear, IsReady, IsRightBlock, StandsAt}
 
 -- a board that is ready stands, whatever the block's length
 pub ready_stands : (flat : FlatProgram) (inputs : Table) (σ : Streams) (t len : ℕ) (board : Board) → IsReady flat inputs σ t board → StandsOn flat inputs σ t len board
@@ -41,11 +42,23 @@ after_ready flat inputs σ t len old new right solved after = record {
   known = after.known;
 }
 
+-- what is kept stays near, from whichever instant on the others begin
+no_status : (column : Column) (m : ℕ) (s : Status) → column.items ≡ [] → slice_get column.items m ≡ Some s → ⊥
+no_status column m s empty at = let none : List Status = [] in let f : slice_get none m ≡ Some s = ap (λ xs. slice_get xs m) (sym empty) ∙ at in cc
+
+kept_near : (flat : FlatProgram) (σ : Streams) (t u : ℕ) (old new : List Column) → AreNear flat σ t old → AreKept flat old new → AreNear flat σ u new
+kept_near flat σ t u old new near kept = record {
+  near = λ v x there m s at. elim (kept v x there) [
+    | inl h ↦ subst (λ (k : ℕ). IsNear (σ v (k + m)) s) (h.0 t ∙ sym (h.0 u)) (near.near v x h.1 m s at)
+    | inr empty ↦ absurd (no_status x m s empty at)
+  ];
+}
+
 -- one block more
-pub stands_on : (flat : FlatProgram) (inputs : Table) (t len : ℕ) (before old new : Board) (columns columns' : List Column) → StandsAt flat inputs t before columns → IsRightBlock flat inputs t len old → ((σ : Streams) → IsSolution flat inputs σ → IsSolved flat inputs t len (block_of old.rows.items old.spans.items)) → IsAfter flat old new → AllNear flat inputs columns' → StandsAt flat inputs (t + len) new columns'
-stands_on flat inputs t len before old new columns columns' stands right solved after near = record {
+pub stands_on : (flat : FlatProgram) (inputs : Table) (t len : ℕ) (before old new : Board) (columns columns' kept : List Column) → StandsAt flat inputs t before columns → IsRightBlock flat inputs t len old → ((σ : Streams) → IsSolution flat inputs σ → IsSolved flat inputs t len (block_of old.rows.items old.spans.items)) → IsAfter flat old new → AllNear flat inputs t columns' → AreKept flat columns' kept → StandsAt flat inputs (t + len) new kept
+stands_on flat inputs t len before old new columns columns' kept stands right solved after near are = record {
   ready = λ σ sol. after_ready flat inputs σ t len old new (right σ sol) (solved σ sol) after;
-  near = near;
+  near = λ σ sol. kept_near flat σ t (t + len) columns' kept (near σ sol) are;
   sound = λ σ sol r u lr lu. elim (cases_lt u t) [
     | inl h ↦ stands.sound σ sol r u lr h
     | inr h ↦

@@ -24,7 +24,7 @@ use Rattle.lueval.proofs.Spans.{slice_get_front, slice_get_last}
 use Rattle.lublock.specs.Blocks.{datum_at, Holds, once, once_true, since, IsRight}
 use Rattle.lublock_rows.specs.Rows.{word_in}
 use Rattle.lublock.specs.Machine.{block_of, row_of}
-use Rattle.lublock.specs.Shown.{Column, IsAdded, present_at, status_in, seen_in, slow_at, IsShown, IsNear, AreNear}
+use Rattle.lublock.specs.Shown.{Column, IsAdded, present_at, status_in, seen_in, slow_at, first_of, IsShown, IsNear, AreNear}
 use Rattle.lublock.proofs.Steps.{get_other, get_same, len_set, same_place}
 use Rattle.lublock.specs.declared.span.Span.{Span}
 
@@ -143,58 +143,58 @@ module _ (flat : FlatProgram) (inputs : Table) (σ : Streams) (t len : ℕ) (row
       let count : since (clock_at inputs σ flow.clock) t n ≡ n = ap (λ (k : Clock). since (clock_at inputs σ k) t n) clock ∙ base_count n (omega arith) in
       subst (λ (m : ℕ). IsNear (σ v (t + n)) (present_at flow.kind (row_of rows v) m)) count (on_at v n flow there l (ap (λ (k : Clock). clock_at inputs σ k (t + n)) clock ∙ base_on n l))
 
-  module _ (v c : ℕ) (d : Datum) (flow : Flow) (there : flow_at flat v ≡ Some flow) (clock : flow.clock ≡ On c d) (of : List Status) (near : (m : ℕ) (s : Status) → slice_get of m ≡ Some s → IsNear (σ c m) s) (long : length of ≡ t + len) where
-    tick_at : (n : ℕ) → n < len → clock_at inputs σ (On c d) (t + n) ≡ Some (has_value d (status_in of (t + n)))
+  module _ (v c : ℕ) (d : Datum) (flow : Flow) (there : flow_at flat v ≡ Some flow) (clock : flow.clock ≡ On c d) (of : List Status) (s b : ℕ) (begins : s + b ≡ t) (near : (m : ℕ) (status : Status) → slice_get of m ≡ Some status → IsNear (σ c (s + m)) status) (long : length of ≡ b + len) where
+    tick_at : (n : ℕ) → n < len → clock_at inputs σ (On c d) (t + n) ≡ Some (has_value d (status_in of (b + n)))
     tick_at n l =
         let fits : ClockFits flat is_flat.sound.class (On c d) = subst (ClockFits flat is_flat.sound.class) clock (is_flat.sound.clocks v flow there) in
         let flow_c : Flow = record { form = fits.3.form; clock = fits.0; kind = fits.1 } in
-        truth_near (is_flat.sound.class c) fits.1 (ticked (clock_at inputs σ fits.0) (t + n)) (clock_at inputs σ fits.0 (t + n)) d (σ c (t + n)) (status_in of (t + n)) (mark c n flow_c fits.3.there l) fits.4
-        (near (t + n) (status_in of (t + n)) (slice_get-get_or of (t + n) Absent (omega (arith, long))))
+        truth_near (is_flat.sound.class c) fits.1 (ticked (clock_at inputs σ fits.0) (t + n)) (clock_at inputs σ fits.0 (t + n)) d (σ c (t + n)) (status_in of (b + n)) (mark c n flow_c fits.3.there l) fits.4
+        (subst (λ (k : ℕ). IsNear (σ c k) (status_in of (b + n))) (let e : s + (b + n) ≡ t + n = omega (arith, begins) in e) (near (b + n) (status_in of (b + n)) (slice_get-get_or of (b + n) Absent (omega (arith, long)))))
 
-    count_at : (n : ℕ) → n ≤ len → since (clock_at inputs σ (On c d)) t n ≡ seen_in of d t n
+    count_at : (n : ℕ) → n ≤ len → since (clock_at inputs σ (On c d)) t n ≡ seen_in of d b n
     count_at zero l = refl
     count_at (suc n) l = ap₂ (λ (x y : ℕ). x + y) (count_at n (omega arith)) (ap once_true (tick_at n (omega arith)))
 
-    show_slow : (n : ℕ) → n < len → IsNear (σ v (t + n)) (slow_at flow.kind (row_of rows v) of d t n)
+    show_slow : (n : ℕ) → n < len → IsNear (σ v (t + n)) (slow_at flow.kind (row_of rows v) of d b n)
     show_slow n l =
         let own : clock_at inputs σ flow.clock (t + n) ≡ clock_at inputs σ (On c d) (t + n) = ap (λ (k : Clock). clock_at inputs σ k (t + n)) clock in
-        let count : since (clock_at inputs σ flow.clock) t n ≡ seen_in of d t n = ap (λ (k : Clock). since (clock_at inputs σ k) t n) clock ∙ count_at n (omega arith) in
-        near_slow (has_value d (status_in of (t + n))) (clock_at inputs σ (On c d) (t + n)) (σ v (t + n)) (present_at flow.kind (row_of rows v) (seen_in of d t n)) (tick_at n l)
+        let count : since (clock_at inputs σ flow.clock) t n ≡ seen_in of d b n = ap (λ (k : Clock). since (clock_at inputs σ k) t n) clock ∙ count_at n (omega arith) in
+        near_slow (has_value d (status_in of (b + n))) (clock_at inputs σ (On c d) (t + n)) (σ v (t + n)) (present_at flow.kind (row_of rows v) (seen_in of d b n)) (tick_at n l)
         (λ on. subst (λ (m : ℕ). IsNear (σ v (t + n)) (present_at flow.kind (row_of rows v) m)) count (on_at v n flow there l (own ∙ on)))
         (λ off. off_at v n flow there l (own ∙ off))
 
   -- statuses at a column's end
-  added_near : (v : ℕ) (old new : List Status) (f : ℕ → Status) → length old ≡ t → IsAdded old new len f → ((m : ℕ) (s : Status) → slice_get old m ≡ Some s → IsNear (σ v m) s) → ((n : ℕ) → n < len → IsNear (σ v (t + n)) (f n)) → (m : ℕ) (s : Status) → slice_get new m ≡ Some s → IsNear (σ v m) s
-  added_near v old new f at added before now m s is = elim (cases_lt m t) [
-    | inl h ↦ before m s (sym (added.kept m (omega (arith, at, h))) ∙ is)
+  added_near : (v first : ℕ) (old new : List Status) (f : ℕ → Status) → first + length old ≡ t → IsAdded old new len f → ((m : ℕ) (s : Status) → slice_get old m ≡ Some s → IsNear (σ v (first + m)) s) → ((n : ℕ) → n < len → IsNear (σ v (t + n)) (f n)) → (m : ℕ) (s : Status) → slice_get new m ≡ Some s → IsNear (σ v (first + m)) s
+  added_near v first old new f at added before now m s is = elim (cases_lt m (length old)) [
+    | inl h ↦ before m s (sym (added.kept m h) ∙ is)
     | inr h ↦
         let l : m < length new = slice_get_within new m s is in
-        let n = m - t in
-        let e : t + n ≡ m = omega arith in
-        let f' : length old + n ≡ m = omega (arith, at) in
+        let n = m - length old in
+        let e : t + n ≡ first + m = omega (arith, at) in
+        let f' : length old + n ≡ m = omega arith in
         let ln : n < len = let g = added.long in omega (arith, g, l, at) in
         let same : f n ≡ s = same_Some (f n) s (sym (added.added n ln) ∙ ap (slice_get new) f' ∙ is) in
         subst (λ (k : ℕ). IsNear (σ v k) s) e (subst (λ (x : Status). IsNear (σ v (t + n)) x) same (now n ln))
   ]
 
-  shown_by : (columns : List Column) (v : ℕ) (flow : Flow) (k : Clock) (old new : List Status) → AreNear σ columns → flow_at flat v ≡ Some flow → flow.clock ≡ k → ((m : ℕ) (s : Status) → slice_get old m ≡ Some s → IsNear (σ v m) s) → IsShown columns flow.kind (row_of rows v) k t len old new → (m : ℕ) (s : Status) → slice_get new m ≡ Some s → IsNear (σ v m) s
-  shown_by columns v flow Base old new near there clock before shown = added_near v old new (present_at flow.kind (row_of rows v)) shown.0 shown.1 before (λ n l. show_base v n flow there clock l)
+  shown_by : (columns : List Column) (v : ℕ) (flow : Flow) (k : Clock) (old new : List Status) → AreNear flat σ t columns → flow_at flat v ≡ Some flow → flow.clock ≡ k → ((m : ℕ) (s : Status) → slice_get old m ≡ Some s → IsNear (σ v (first_of flat v t + m)) s) → IsShown flat columns (first_of flat v t) flow.kind (row_of rows v) k t len old new → (m : ℕ) (s : Status) → slice_get new m ≡ Some s → IsNear (σ v (first_of flat v t + m)) s
+  shown_by columns v flow Base old new near there clock before shown = added_near v (first_of flat v t) old new (present_at flow.kind (row_of rows v)) shown.0 shown.1 before (λ n l. show_base v n flow there clock l)
   shown_by columns v flow (On c d) old new near there clock before shown =
-      added_near v old new (slow_at flow.kind (row_of rows v) shown.1.items d t) shown.0 shown.4 before
-      (show_slow v c d flow there clock shown.1.items (λ m s. near.near c shown.1 shown.2 m s) shown.3)
+      added_near v (first_of flat v t) old new (slow_at flow.kind (row_of rows v) shown.1.items d shown.3) shown.0 shown.6 before
+      (show_slow v c d flow there clock shown.1.items (first_of flat c t) shown.3 shown.4 (λ m s. near.near c shown.1 shown.2 m s) shown.5)
 
   -- a column that was taken out and put back with what its flow has in the block
-  pub shown_more : (columns : List Column) (v : ℕ) (flow : Flow) (old dest new : Column) → v < length columns → slice_get columns v ≡ Some old → dest.items ≡ [] → flow_at flat v ≡ Some flow → AreNear σ columns → IsShown (set columns v dest) flow.kind (row_of rows v) flow.clock t len old.items new.items → AreNear σ (set (set columns v dest) v new)
+  pub shown_more : (columns : List Column) (v : ℕ) (flow : Flow) (old dest new : Column) → v < length columns → slice_get columns v ≡ Some old → dest.items ≡ [] → flow_at flat v ≡ Some flow → AreNear flat σ t columns → IsShown flat (set columns v dest) (first_of flat v t) flow.kind (row_of rows v) flow.clock t len old.items new.items → AreNear flat σ t (set (set columns v dest) v new)
   shown_more columns v flow old dest new inside was empty there near shown =
-      let taken : AreNear σ (set columns v dest) = record {
+      let taken : AreNear flat σ t (set columns v dest) = record {
         near = λ r x is m s at.
-            same_place (λ (r : ℕ). (x : Column) → slice_get (set columns v dest) r ≡ Some x → slice_get x.items m ≡ Some s → IsNear (σ r m) s) v r
+            same_place (λ (r : ℕ). (x : Column) → slice_get (set columns v dest) r ≡ Some x → slice_get x.items m ≡ Some s → IsNear (σ r (first_of flat r t + m)) s) v r
             (λ x is at. absurd (let e : x ≡ dest = same_Some x dest (sym is ∙ get_same columns v dest inside) in let none : List Status = [] in let f : slice_get none m ≡ Some s = ap (λ (xs : List Status). slice_get xs m) (sym empty ∙ ap (λ (y : Column). y.items) (sym e)) ∙ at in cc))
             (λ ne x is at. near.near r x (sym (get_other columns v r dest ne) ∙ is) m s at) x is at;
       } in
       record {
         near = λ r x is m s at.
-            same_place (λ (r : ℕ). (x : Column) → slice_get (set (set columns v dest) v new) r ≡ Some x → slice_get x.items m ≡ Some s → IsNear (σ r m) s) v r
+            same_place (λ (r : ℕ). (x : Column) → slice_get (set (set columns v dest) v new) r ≡ Some x → slice_get x.items m ≡ Some s → IsNear (σ r (first_of flat r t + m)) s) v r
             (λ x is at.
             let e : new ≡ x = same_Some new x (sym (get_same (set columns v dest) v new (let k = len_set columns v dest in omega (arith, k, inside))) ∙ is) in
             shown_by (set columns v dest) v flow flow.clock old.items new.items taken there refl (λ m s at. near.near v old was m s at) shown m s (ap (λ (y : Column). slice_get y.items m) e ∙ at))

@@ -1,5 +1,5 @@
 -- The columns of statuses that blocks put out.
-use Rattle.std.specs.Prelude.{◌≡◌, ◌≢◌, ℕ, zero, suc, ◌+◌, ◌<◌, false, List, length, Some, Vec, cond, slice_get, slice_index_or, ℤ}
+use Rattle.std.specs.Prelude.{◌≡◌, ◌≢◌, ℕ, zero, suc, ◌+◌, ◌<◌, false, List, [], length, Option, Some, None, Vec, cond, ◌⊎◌, slice_get, slice_index_or, ℤ}
 use Rattle.std.specs.declared.alloc.Global.{Global}
 use Rattle.lutree.specs.declared.program.Kind.{Kind}
 use Rattle.luflow.specs.declared.data.Datum.{Datum}
@@ -10,7 +10,9 @@ use Rattle.luflow.specs.declared.form.Clock.{Clock}
 use Rattle.luflow.specs.declared.form.Clock.TheVariants.{Base, On}
 use Rattle.luflow.specs.declared.form.Flow.{Flow}
 use Rattle.luflow.specs.declared.form.Form.TheVariants.{Constant}
+use Rattle.luflow.specs.declared.variable.Variable.{Variable}
 use Rattle.luflow.specs.Program.{FlatProgram, Table, flow_at, flows_of}
+use Rattle.luflow.specs.Variables.{is_output}
 use Rattle.luflow.specs.Streams.{Mark, Known, Broken, Streams}
 use Rattle.luflow.specs.Solution.{IsSolution}
 use Rattle.lueval.specs.Frames.{has_value}
@@ -44,20 +46,38 @@ seen_in of d t (suc n) = seen_in of d t n + once (has_value d (status_in of (t +
 abbrev pub slow_at : Kind → List ℤ → List Status → Datum → ℕ → ℕ → Status
 slow_at kind row of d t n = cond (has_value d (status_in of (t + n))) (present_at kind row (seen_in of d t n)) Absent
 
--- the statuses of a flow on this clock at a block's instants were put at its column's end
-abbrev pub IsShown : List Column → Kind → List ℤ → Clock → ℕ → ℕ → List Status → List Status → Type 0
-IsShown columns kind row Base t len old new = (length old ≡ t) × IsAdded old new len (present_at kind row)
-IsShown columns kind row (On c d) t len old new =
-    (length old ≡ t) × (of : Column) × (slice_get columns c ≡ Some of) × (length of.items ≡ t + len) × IsAdded old new len (slow_at kind row of.items d t)
+-- The instant of the first status in a main variable's column, in a block from t on: of an output the first of all, since its column is kept;
+-- of another variable the block's first.
+abbrev pub first_for : Option Variable → ℕ → ℕ
+first_for None t = t
+first_for (Some x) t = cond (is_output x.role) 0 t
+
+abbrev pub first_of : FlatProgram → ℕ → ℕ → ℕ
+first_of flat v t = first_for (slice_get flat.variables v) t
+
+-- The statuses of a flow on this clock at a block's instants were put at the end of its column, whose first status is of instant s. The column of
+-- its clock's variable has b statuses of before the block.
+abbrev pub IsShown : FlatProgram → List Column → ℕ → Kind → List ℤ → Clock → ℕ → ℕ → List Status → List Status → Type 0
+IsShown flat columns s kind row Base t len old new = (s + length old ≡ t) × IsAdded old new len (present_at kind row)
+IsShown flat columns s kind row (On c d) t len old new =
+    (s + length old ≡ t) × (of : Column) × (slice_get columns c ≡ Some of) × (b : ℕ) × (first_of flat c t + b ≡ t) × (length of.items ≡ b + len) × IsAdded old new len (slow_at kind row of.items d b)
 
 -- what a flow has, unless that is nil
 abbrev pub IsNear : Mark → Status → Type 0
 IsNear m Absent = m ≡ Known Absent
 IsNear m (Present d) = (x : Datum) × (m ≡ Known (Present x)) × (x ≢ Nil → x ≡ d)
 
--- columns are what their flows have first
-pub record AreNear (σ : Streams) (columns : List Column) : Type 0 where
-  pub near : (v : ℕ) (x : Column) → slice_get columns v ≡ Some x → (m : ℕ) (s : Status) → slice_get x.items m ≡ Some s → IsNear (σ v m) s
+-- columns are what their flows have, those of outputs from the first instant on, and others from instant t on
+pub record AreNear (flat : FlatProgram) (σ : Streams) (t : ℕ) (columns : List Column) : Type 0 where
+  pub near : (v : ℕ) (x : Column) → slice_get columns v ≡ Some x → (m : ℕ) (s : Status) → slice_get x.items m ≡ Some s → IsNear (σ v (first_of flat v t + m)) s
+
+-- of the columns those of outputs are as they were, and others are empty
+abbrev pub AreKept : FlatProgram → List Column → List Column → Type 0
+AreKept flat old new = (v : ℕ) (x : Column) → slice_get new v ≡ Some x → (((t : ℕ) → first_of flat v t ≡ 0) × (slice_get old v ≡ Some x)) ⊎ (x.items ≡ [])
+
+-- the same in each solution
+abbrev pub AllNear : FlatProgram → Table → ℕ → List Column → Type 0
+AllNear flat inputs t columns = (σ : Streams) → IsSolution flat inputs σ → AreNear flat σ t columns
 
 -- a board before a block
 pub record IsReady (flat : FlatProgram) (inputs : Table) (σ : Streams) (t : ℕ) (board : Board) : Type 0 where
@@ -73,18 +93,15 @@ IsSoundTo flat σ t = (r u : ℕ) → r < flows_of flat → u < t → σ r u ≢
 -- after the instants before t: what was put out, and where the next block begins, in each solution
 pub record StandsAt (flat : FlatProgram) (inputs : Table) (t : ℕ) (board : Board) (columns : List Column) : Type 0 where
   pub ready : (σ : Streams) → IsSolution flat inputs σ → IsReady flat inputs σ t board
-  pub near : (σ : Streams) → IsSolution flat inputs σ → AreNear σ columns
+  pub near : AllNear flat inputs t columns
   pub sound : (σ : Streams) → IsSolution flat inputs σ → IsSoundTo flat σ t
 
 -- a block was right, in each solution
 abbrev pub IsRightBlock : FlatProgram → Table → ℕ → ℕ → Board → Type 0
 IsRightBlock flat inputs t len board = (σ : Streams) → IsSolution flat inputs σ → IsRight flat inputs σ t len (block_of board.rows.items board.spans.items)
 
-abbrev pub AllNear : FlatProgram → Table → List Column → Type 0
-AllNear flat inputs columns = (σ : Streams) → IsSolution flat inputs σ → AreNear σ columns
-
 -- the columns of a whole run, in each solution, of which nothing is broken
 pub record IsRun (flat : FlatProgram) (inputs : Table) (columns : List Column) : Type 0 where
-  pub near : AllNear flat inputs columns
+  pub near : AllNear flat inputs inputs.instants columns
   pub sound : (σ : Streams) → IsSolution flat inputs σ → IsSoundTo flat σ inputs.instants
   pub len : length columns ≡ length flat.variables

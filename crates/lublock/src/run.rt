@@ -7,13 +7,13 @@ ghost use Rattle.luflow.specs.Sound.{IsFit};
 ghost use Rattle.luflow.specs.FlatLaws.{HasOneSolution};
 ghost use Rattle.luflow.specs.declared.variable.Variable.{Variable};
 ghost use Rattle.lueval.specs.Whole.{AreWholeOutputs, HasNoFault, IsAnswer, KeepsAllTypes};
-ghost use Rattle.lublock.specs.Shown.{AllNear, Column, IsRightBlock, IsRun, StandsAt};
+ghost use Rattle.lublock.specs.Shown.{AllNear, AreKept, Column, IsRightBlock, IsRun, StandsAt};
 
 use crate::board::Board;
-use crate::show::show;
+use crate::show::{first_of, is_output, show};
 use lublock_plan::{Plan, needed};
 use lueval::{EvalError, taken_outputs, whole_outputs};
-use luflow::{Flat, Inputs, Outputs, Role, Status, Variable};
+use luflow::{Flat, Inputs, Outputs, Status, Variable};
 use std::alloc::{AllocError, Global};
 
 /// The instants of a block.
@@ -36,8 +36,8 @@ fn show_all(
         → length columns.new.items ≡ length columns.old.items) }
     ensures near { IfOk result (λ none. none ≡ false
         → IsRightBlock flat.now inputs.now t len board.now
-        → AllNear flat.now inputs.now columns.old.items
-        → AllNear flat.now inputs.now columns.new.items) }
+        → AllNear flat.now inputs.now t columns.old.items
+        → AllNear flat.now inputs.now t columns.new.items) }
 {
     for v in needs {
         if show(alloc, flat, inputs, board, columns, t, len, *v)? {
@@ -45,6 +45,18 @@ fn show_all(
         }
     }
     Ok(false)
+}
+
+/// Forgets what main variables have that aren't outputs.
+fn clear_others(flat: &Flat, columns: &mut Vec<Vec<Status>>)
+    ensures len { length columns.new.items ≡ length columns.old.items }
+    ensures kept { AreKept flat.now columns.old.items columns.new.items }
+{
+    for v in 0..columns.len() {
+        if first_of(flat, v, 1) != 0 {
+            columns[v].clear();
+        }
+    }
 }
 
 /// Works out a block, puts out what it has, and makes the board ready for the next; whether something isn't there.
@@ -77,6 +89,7 @@ fn go(
         return Ok(true);
     }
     board.renew(flat);
+    clear_others(flat, columns);
     Ok(false)
 }
 
@@ -130,16 +143,6 @@ fn run(alloc: Global, flat: &Flat, inputs: &Inputs) -> Result<Option<Vec<Vec<Sta
     Ok(Some(columns))
 }
 
-/// Whether this is the role of an output.
-fn is_output(role: Role) -> bool
-    ensures { result ≡ is_output role }
-{
-    match role {
-        Role::Output => true,
-        Role::Input | Role::Local => false,
-    }
-}
-
 /// Whether the columns of all outputs have so many statuses.
 fn are_whole(variables: &[Variable], columns: &[Vec<Status>], instants: usize) -> bool
     requires { length variables.now ≡ length columns.now }
@@ -181,8 +184,8 @@ fn told(
 }
 
 /// Evaluates the whole program at a table, as [`whole_outputs`] does, in blocks of instants where it can: its outputs by name, in order of
-/// declaration, each with its stream in the only solution; or the first fault. The memory is a status for each output, and each variable
-/// of an output's clock, and instant, and a fixed amount for each flow.
+/// declaration, each with its stream in the only solution; or the first fault. The memory is a status for each output and instant, and a
+/// fixed amount for each flow.
 ///
 /// # Errors
 ///

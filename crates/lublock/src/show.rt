@@ -7,12 +7,13 @@ ghost use Rattle.luflow.specs.Sound.{IsFit};
 ghost use Rattle.lublock.specs.Machine.{row_of};
 ghost use Rattle.lueval.specs.Frames.{has_value};
 ghost use Rattle.lublock.specs.Blocks.{datum_at};
-ghost use Rattle.lublock.specs.Shown.{AllNear, IsAdded, IsRightBlock, IsShown, present_at, slow_at};
+ghost use Rattle.luflow.specs.Variables.{is_output};
+ghost use Rattle.lublock.specs.Shown.{AllNear, IsAdded, IsRightBlock, IsShown, first_of, present_at, slow_at};
 
 use crate::board::Board;
 use crate::forms::flow_of;
 use lublock_rows::rows::at;
-use luflow::{Clock, Datum, Flat, Inputs, Status};
+use luflow::{Clock, Datum, Flat, Inputs, Role, Status};
 use lutree::Kind;
 use std::alloc::{AllocError, Global};
 use std::mem;
@@ -155,10 +156,34 @@ fn column_of(columns: &[Vec<Status>], c: usize) -> Option<&Vec<Status>>
     columns.get(c)
 }
 
-/// Puts the statuses of a flow on this clock at the `len` instants from `t` on; whether some isn't there.
+/// Whether this is the role of an output.
+pub fn is_output(role: Role) -> bool
+    ensures { result ≡ is_output role }
+{
+    match role {
+        Role::Output => true,
+        Role::Input | Role::Local => false,
+    }
+}
+
+/// The instant of the first status in a main variable's column, in a block from `t` on: what is no output has the block's alone.
+pub fn first_of(flat: &Flat, v: usize, t: usize) -> usize
+    ensures first { result ≡ first_of flat.now v t }
+    ensures before { result ≤ t }
+{
+    match flat.variables().get(v) {
+        Some(x) if is_output(x.role) => 0,
+        _ => t,
+    }
+}
+
+/// Puts the statuses of a flow on this clock at the `len` instants from `t` on, behind those from instant `first` on; whether some isn't
+/// there.
 pub fn push_block(
+    flat: &Flat,
     columns: &[Vec<Status>],
     column: &mut Vec<Status>,
+    first: usize,
     row: &[i64],
     kind: Kind,
     clock: Clock,
@@ -166,18 +191,24 @@ pub fn push_block(
     len: usize,
 ) -> Result<bool, AllocError>
     ensures { IfOk result (λ none. none ≡ false
-        → IsShown columns.now kind row.now clock t len column.old.items column.new.items) }
+        → IsShown flat.now columns.now first kind row.now clock t len column.old.items
+        column.new.items) }
 {
-    if column.len() != t {
+    if first > t || column.len() != t - first {
         return Ok(true);
     }
     match clock {
         Clock::Base => push_base(column, row, kind, len),
         Clock::On(c, value) => match column_of(columns, c) {
-            Some(of) if t <= of.len() && of.len() - t == len => {
-                push_slow(column, row, kind, of.as_slice(), value, t, len)
+            Some(of) => {
+                let before = t - first_of(flat, c, t);
+                if before <= of.len() && of.len() - before == len {
+                    push_slow(column, row, kind, of.as_slice(), value, before, len)
+                } else {
+                    Ok(true)
+                }
             }
-            _ => Ok(true),
+            None => Ok(true),
         },
     }
 }
@@ -209,8 +240,8 @@ pub fn show(
         → length columns.new.items ≡ length columns.old.items) }
     ensures near { IfOk result (λ none. none ≡ false
         → IsRightBlock flat.now inputs.now t len board.now
-        → AllNear flat.now inputs.now columns.old.items
-        → AllNear flat.now inputs.now columns.new.items) }
+        → AllNear flat.now inputs.now t columns.old.items
+        → AllNear flat.now inputs.now t columns.new.items) }
 {
     let _flows = flat.flows();
     let Some(flow) = flow_of(flat, v) else {
@@ -223,8 +254,19 @@ pub fn show(
         return Ok(true);
     }
     let mut column = mem::replace(&mut columns[v], Vec::new(alloc));
+    let first = first_of(flat, v, t);
     let taken = columns.as_slice();
-    if push_block(taken, &mut column, row, flow.kind, flow.clock, t, len)? {
+    if push_block(
+        flat,
+        taken,
+        &mut column,
+        first,
+        row,
+        flow.kind,
+        flow.clock,
+        t,
+        len,
+    )? {
         return Ok(true);
     }
     columns[v] = column;

@@ -1,8 +1,6 @@
 -- The sites of the main variables.
-use Rattle.std.proofs.Common.{◌≡◌, ◌∙◌, ◌↔◌, ℕ, zero, suc, ◌+◌, ◌<◌, Bool, true, false, List, [], ◌∷◌, length, map, Option, Some, None, cond, refl, sym, ap, arith}
-use Rattle.std.specs.Prelude.{All, not, ◌&&◌, ◌||◌, find, is_some, slice_get, if◌then◌else◌}
-use Rattle.std.specs.List.{list_any}
-use Rattle.std.specs.Option.{option_map}
+use Rattle.std.proofs.Common.{◌≡◌, ℕ, zero, suc, ◌+◌, Bool, true, false, List, [], ◌∷◌, length, Option, Some, None, cond, refl, ap, arith}
+use Rattle.std.specs.Prelude.{All, not, ◌||◌, find, is_some, if◌then◌else◌}
 use Rattle.std.specs.Str.{bytes_eq}
 use Rattle.std.proofs.lemmas.Bool.{false≢true, true≢false}
 use Rattle.luflow.specs.declared.variable.Variable.{Variable}

@@ -15,7 +15,6 @@ use Rattle.std.proofs.Common.{Ok, Err, take, ◌-◌, add-one}
 use Rattle.std.proofs.lemmas.List.{map-set, take_all, length-drop, length-map}
 use Rattle.std.proofs.Math.ListN.{get_or-map}
 use Rattle.std.specs.Borrow.{Bor}
-use Rattle.std.specs.declared.vec.Vec.{Vec}
 use Rattle.std.specs.declared.alloc.Global.{Global}
 use Rattle.lutab.specs.declared.error.LineError.{LineError}
 use Rattle.lutab.specs.declared.error.LineError.TheVariants as errors

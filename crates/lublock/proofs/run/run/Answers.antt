@@ -1,5 +1,5 @@
 use Rattle.std.proofs.Common.{rules, ◌≡◌, ◌∙◌, ℕ, length, subst, arith}
-use Rattle.lublock.specs.Shown.{IsSoundTo}
+use Rattle.lublock.specs.Shown.{AllNear, IsSoundTo}
 use Rattle.lublock.proofs.Running.{board_len, stands_first}
 use Rattle.lublock.proofs.run.run.Goals as goal
 
@@ -17,7 +17,7 @@ returns c =
     let inv = c.loop-t.invariant in
     let all : c.loop-t.t ≡ c.args.inputs.now.instants = (let a = inv.within in let b = inv.whole in omega arith) in
     record {
-      near = inv.stands.near;
+      near = subst (λ (n : ℕ). AllNear c.args.flat.now c.args.inputs.now n c.loop-t.columns.items) all inv.stands.near;
       sound = λ σ sol. subst (λ (n : ℕ). IsSoundTo c.args.flat.now σ n) all (inv.stands.sound σ sol);
       len = inv.len;
     }

@@ -1,7 +1,6 @@
-use Rattle.std.proofs.Common.{◌≡◌, ◌∙◌, ap, ◌↔◌, List, subst, sym, map}
-use Rattle.std.specs.Prelude.{All, IsTrue}
+use Rattle.std.proofs.Common.{subst, sym}
+use Rattle.std.specs.Prelude.{All}
 use Rattle.luflow.specs.declared.data.Datum.TheVariants.{Int, Bool, Name}
-use Rattle.luflow.specs.Packed.{data_in}
 use Rattle.luflow.specs.Sound.{IsConstantOf}
 use Rattle.luflow.proofs.Columns.{all_mapped}
 use Rattle.luflow.proofs.table.are_constants_of.Goals as goal

@@ -1,7 +1,6 @@
 use Rattle.std.proofs.Common.{ap, ◌∙◌, map, take}
 use Rattle.std.proofs.lemmas.List.{take-map}
 use Rattle.luflow.specs.declared.data.Datum.TheVariants.{Int, Bool, Name}
-use Rattle.luflow.specs.Packed.{data_in}
 use Rattle.luflow.proofs.values.Values.first.Goals as goal
 
 pub returns-in_ok-from_slice-in-Numbers : goal.returns-in_ok-from_slice-in-Numbers
