@@ -5,6 +5,7 @@
 //! - [`Cycle`], [`Pace`], [`Back`], [`Twin`]: a cycle of flows, and what its `pre`s give.
 #![tactic(auto)]
 
+mod brief;
 mod course;
 mod cycle;
 mod lines;
