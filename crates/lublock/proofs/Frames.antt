@@ -15,7 +15,7 @@ use Rattle.luflow.specs.Operators.{is_zero, single_of, double_of}
 use Rattle.luflow.specs.Streams.{Streams, is_value}
 use Rattle.luflow.specs.Values.{branch_of}
 use Rattle.lublock.specs.Blocks.{Block, datum_at, once, hits, Counts, Begins, Holds}
-use Rattle.lublock.specs.Machine.{IsDone, ReachesClock, Stands, Grows, looks_back}
+use Rattle.lublock.specs.Machine.{IsDone, ReachesClock, Stands, Grows}
 
 pub hits_same : (b b' : Block) (u : Kind) (c : ℕ) (d : Datum) (n : ℕ) → ((m : ℕ) → m ≤ n → b'.word c m ≡ b.word c m) → hits b' u c d n ≡ hits b u c d n
 hits_same b b' u c d zero same = refl
@@ -121,14 +121,14 @@ module _ (flat : FlatProgram) (inputs : Table) (t : ℕ) (b b' : Block) (upto up
   by_known len i k false e was new = new e
 
   -- a block that went on stands as before, with what is new
-  pub stands_more : (σ : Streams) (len : ℕ) → Stands flat inputs σ t len b upto known
-      → ((i n : ℕ) (flow : Flow) → flow_at flat i ≡ Some flow → looks_back flow.form ≡ false → upto i ≤ n → n < upto' i → IsDone flat inputs t b' upto' known' i flow flow.form n)
+  pub stands_more : (supposed supposed' : ℕ → Bool) → ((r : ℕ) → supposed' r ≡ false → supposed r ≡ false) → (σ : Streams) (len : ℕ) → Stands flat inputs σ t len b upto known supposed
+      → ((i n : ℕ) (flow : Flow) → flow_at flat i ≡ Some flow → supposed' i ≡ false → upto i ≤ n → n < upto' i → IsDone flat inputs t b' upto' known' i flow flow.form n)
       → ((i : ℕ) (flow : Flow) → flow_at flat i ≡ Some flow → known i ≡ false → known' i ≡ true → Counts flat len b' i flow.clock × ReachesClock b' upto' known' flow.clock)
-      → Stands flat inputs σ t len b' upto' known'
-  stands_more σ len stands new_done new_counts = record {
+      → Stands flat inputs σ t len b' upto' known' supposed'
+  stands_more supposed supposed' still σ len stands new_done new_counts = record {
     begins = begins_still σ stands.begins;
     done = λ i n flow there now l. elim (cases_lt n (upto i)) [
-      | inl h ↦ done_still i flow flow.form n (same i n h) (stands.done i n flow there now h)
+      | inl h ↦ done_still i flow flow.form n (same i n h) (stands.done i n flow there (still i now) h)
       | inr h ↦ new_done i n flow there now h l
     ];
     counts = λ i flow there is. by_known len i flow.clock (known i) refl (stands.counts i flow there) (λ off. new_counts i flow there off is);

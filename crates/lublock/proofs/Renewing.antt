@@ -30,7 +30,7 @@ module _ (flat : FlatProgram) (old : List Span) where
     known = ap known_there e ∙ h.known;
   }
 
-  renewed_one : (new : List Span) (i : ℕ) (span next : Span) (stays : Bool) → slice_get new i ≡ Some next → slice_get old i ≡ Some span → next ≡ record { ticks = 0; upto = cond stays span.ticks 0; was = span.was || nat_lt 0 span.ticks; known = false } → (stays ≡ true → (flow : Flow) → flow_at flat i ≡ Some flow → IsConstant flow.form) → Renewed flat old new i
+  renewed_one : (new : List Span) (i : ℕ) (span next : Span) (stays : Bool) → slice_get new i ≡ Some next → slice_get old i ≡ Some span → next ≡ record { ticks = 0; upto = cond stays span.ticks 0; was = span.was || nat_lt 0 span.ticks; known = false; supposed = false } → (stays ≡ true → (flow : Flow) → flow_at flat i ≡ Some flow → IsConstant flow.form) → Renewed flat old new i
   renewed_one new i span next stays here there is constant = record {
     was = ap was_there here ∙ ap (λ (s : Span). s.was) is ∙ sym (ap₂ (λ (w : Bool) (t : ℕ). w || nat_lt 0 t) (ap was_there there) (ap ticks_there there));
     upto = λ n flow at l.
@@ -48,7 +48,7 @@ module _ (flat : FlatProgram) (old : List Span) where
   }
 
   -- the spans below a number are renewed, and one more
-  pub spans_renewed : (spans : List Span) (i : ℕ) (span next : Span) (stays : Bool) → i < length spans → slice_get spans i ≡ Some span → next ≡ record { ticks = 0; upto = cond stays span.ticks 0; was = span.was || nat_lt 0 span.ticks; known = false } → (stays ≡ true → (flow : Flow) → flow_at flat i ≡ Some flow → IsConstant flow.form) → ((r : ℕ) → r < i → Renewed flat old spans r) → ((r : ℕ) → i ≤ r → slice_get spans r ≡ slice_get old r) → (r : ℕ) → r < i + 1 → Renewed flat old (set spans i next) r
+  pub spans_renewed : (spans : List Span) (i : ℕ) (span next : Span) (stays : Bool) → i < length spans → slice_get spans i ≡ Some span → next ≡ record { ticks = 0; upto = cond stays span.ticks 0; was = span.was || nat_lt 0 span.ticks; known = false; supposed = false } → (stays ≡ true → (flow : Flow) → flow_at flat i ≡ Some flow → IsConstant flow.form) → ((r : ℕ) → r < i → Renewed flat old spans r) → ((r : ℕ) → i ≤ r → slice_get spans r ≡ slice_get old r) → (r : ℕ) → r < i + 1 → Renewed flat old (set spans i next) r
   spans_renewed spans i span next stays inside at is constant done left r l = elim (cases_lt r i) [
     | inl low ↦ renewed_same spans (set spans i next) r (get_other spans i r next (λ e. omega (arith, e, low))) (done r low)
     | inr high ↦

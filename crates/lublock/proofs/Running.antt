@@ -69,7 +69,7 @@ stands_on flat inputs t len before old new columns columns' kept stands right so
 }
 
 abbrev fresh : Span
-fresh = record { ticks = 0; upto = 0; was = false; known = false }
+fresh = record { ticks = 0; upto = 0; was = false; known = false; supposed = false }
 
 fresh_upto : (n r : ℕ) → upto_of (replicate n fresh) r ≡ 0
 fresh_upto zero r = refl

@@ -2,7 +2,7 @@
 
 ghost use Rattle.std.specs.Prelude.{◌≡◌, ◌≤◌, ◌<◌, ◌+◌, ℕ, All, length, true, false, IsTrue};
 ghost use Rattle.luflow.specs.Streams.{Streams};
-ghost use Rattle.luflow.specs.Program.{Table, flows_of};
+ghost use Rattle.luflow.specs.Program.{FlatProgram, Table, flows_of};
 ghost use Rattle.luflow.specs.Solution.{IsSolution};
 ghost use Rattle.luflow.specs.Sound.{IsFit};
 ghost use Rattle.lublock.specs.Blocks.{IsRight, IsSolved};
@@ -53,16 +53,16 @@ impl Board {
     }
 
     /// Supposes what the `pre`s of a pace give.
-    fn suppose_all(&mut self, flat: &Flat, backs: &[Back]) -> bool
-        ensures stands { (inputs : Table) (t len : ℕ)
-            → StandsStill flat.now inputs t len self.old self.new }
+    fn suppose_all(&mut self, backs: &[Back]) -> bool
+        ensures stands { (flat : FlatProgram) (inputs : Table) (t len : ℕ)
+            → StandsStill flat inputs t len self.old self.new }
         ensures flows { length self.new.spans.items ≡ length self.old.spans.items }
     {
         for back in backs {
             let Some(words) = back.words.as_slice().get(..back.count) else {
                 return true;
             };
-            if self.suppose(flat, back.flow, words) {
+            if self.suppose(back.flow, words) {
                 return true;
             }
         }
@@ -70,9 +70,9 @@ impl Board {
     }
 
     /// Supposes what the other `pre`s of a pace give, which have the words of some of its `pre`s.
-    fn suppose_twins(&mut self, flat: &Flat, pace: &Pace) -> bool
-        ensures stands { (inputs : Table) (t len : ℕ)
-            → StandsStill flat.now inputs t len self.old self.new }
+    fn suppose_twins(&mut self, pace: &Pace) -> bool
+        ensures stands { (flat : FlatProgram) (inputs : Table) (t len : ℕ)
+            → StandsStill flat inputs t len self.old self.new }
         ensures flows { length self.new.spans.items ≡ length self.old.spans.items }
     {
         for twin in &pace.twins {
@@ -82,7 +82,7 @@ impl Board {
             let Some(words) = back.words.as_slice().get(..back.count) else {
                 return true;
             };
-            if self.suppose(flat, twin.flow, words) {
+            if self.suppose(twin.flow, words) {
                 return true;
             }
         }
@@ -118,10 +118,10 @@ impl Board {
         };
         cycle.run(self.rows.as_slice(), ticks);
         for pace in &cycle.paces {
-            if self.suppose_all(flat, pace.backs.as_slice()) {
+            if self.suppose_all(pace.backs.as_slice()) {
                 return true;
             }
-            if self.suppose_twins(flat, pace) {
+            if self.suppose_twins(pace) {
                 return true;
             }
         }

@@ -1,13 +1,13 @@
 //! The rows of all flows, and how far each has come in the block.
 
 ghost use Rattle.std.specs.Prelude.{◌≡◌, ◌<◌, ◌||◌, ℕ, suc, length, true, false, cond, IfOk, IfSome, Some, nat_lt, replicate};
-ghost use Rattle.luflow.specs.Program.{Table, flow_at};
+ghost use Rattle.luflow.specs.Program.{FlatProgram, Table, flow_at};
 ghost use Rattle.luflow.specs.declared.form.Flow.{Flow};
 ghost use Rattle.lublock_rows.specs.Rows.{Keeps, word_in};
 ghost use Rattle.lublock.specs.Machine.{IsAfter, IsConstant, IsCount, IsLike, StandsStill, WritesForm, row_of, ticks_of, upto_of, was_of, known_of};
 
 use crate::clocked::ticks_at;
-use crate::forms::{clock_at, flow_of, is_pre, kind_at, read};
+use crate::forms::{clock_at, flow_of, kind_at, read};
 use crate::solve::solve_form;
 use crate::span::Span;
 use lublock_rows::clocks::count;
@@ -100,13 +100,14 @@ fn solve_into(
 
 /// Where no block was yet.
 fn fresh() -> Span
-    ensures { result ≡ record { ticks = 0; upto = 0; was = false; known = false } }
+    ensures { result ≡ record { ticks = 0; upto = 0; was = false; known = false; supposed = false } }
 {
     Span {
         ticks: 0,
         upto: 0,
         was: false,
         known: false,
+        supposed: false,
     }
 }
 
@@ -114,7 +115,7 @@ impl Board {
     /// A board before the first block, with room for blocks of so many instants.
     pub fn new(alloc: Global, flows: usize, instants: usize) -> Result<Board, AllocError>
         ensures { IfOk result (λ board. board.spans.items
-            ≡ replicate flows (record { ticks = 0; upto = 0; was = false; known = false })) }
+            ≡ replicate flows (record { ticks = 0; upto = 0; was = false; known = false; supposed = false })) }
     {
         let mut rows = Vec::with_capacity(alloc, flows)?;
         for _r in 0..flows {
@@ -147,6 +148,7 @@ impl Board {
                 upto: span.upto,
                 was: span.was,
                 known: true,
+                supposed: span.supposed,
             };
             return false;
         }
@@ -163,6 +165,7 @@ impl Board {
                     upto: span.upto,
                     was: span.was,
                     known: true,
+                    supposed: span.supposed,
                 };
                 false
             }
@@ -210,6 +213,7 @@ impl Board {
             upto: to,
             was: span.was,
             known: span.known,
+            supposed: span.supposed,
         };
         false
     }
@@ -234,14 +238,14 @@ fn put_words(row: &mut Vec<i64>, words: &[i64])
 }
 
 impl Board {
-    /// Supposes the words of a `pre`, of which it has none yet; whether they can't be put. Nothing is known of them before it is seen that they
+    /// Supposes the words of a flow, of which it has none yet; whether they can't be put. Nothing is known of them before it is seen that they
     /// are right.
-    pub fn suppose(&mut self, flat: &Flat, i: usize, words: &[i64]) -> bool
-        ensures stands { (inputs : Table) (t len : ℕ)
-            → StandsStill flat.now inputs t len self.old self.new }
+    pub fn suppose(&mut self, i: usize, words: &[i64]) -> bool
+        ensures stands { (flat : FlatProgram) (inputs : Table) (t len : ℕ)
+            → StandsStill flat inputs t len self.old self.new }
         ensures flows { length self.new.spans.items ≡ length self.old.spans.items }
     {
-        if !is_pre(flat, i) || self.spans.len() <= i || self.rows.len() <= i {
+        if self.spans.len() <= i || self.rows.len() <= i {
             return true;
         }
         let span = self.spans[i];
@@ -254,6 +258,7 @@ impl Board {
             upto: words.len(),
             was: span.was,
             known: span.known,
+            supposed: true,
         };
         false
     }
@@ -310,6 +315,7 @@ fn renewed(span: Span, stays: bool) -> Span
       upto = cond stays span.ticks 0;
       was = span.was || nat_lt 0 span.ticks;
       known = false;
+      supposed = false;
     } }
 {
     Span {
@@ -317,6 +323,7 @@ fn renewed(span: Span, stays: bool) -> Span
         upto: if stays { span.ticks } else { 0 },
         was: span.was || 0 < span.ticks,
         known: false,
+        supposed: false,
     }
 }
 

@@ -1,9 +1,8 @@
-//! Whether what each `pre` gave in a block is what its operand had a tick before.
+//! Whether what was supposed of a `pre` in a block is what its operand had a tick before.
 
 ghost use Rattle.std.specs.Prelude.{◌≡◌, ◌<◌, ℕ, suc, true};
 ghost use Rattle.lublock_rows.specs.Rows.{word_in};
-ghost use Rattle.luflow.specs.declared.form.Form.{Form};
-ghost use Rattle.lublock.specs.Machine.{AllClose, ClosesAt, row_of, ticks_of};
+ghost use Rattle.lublock.specs.Machine.{AllClose, ClosesAt, IsClosed, row_of};
 
 use crate::span::Span;
 use luflow::{Flat, Form};
@@ -33,31 +32,30 @@ fn is_shifted(x: &[i64], a: &[i64], ticks: usize) -> bool
     others == 0
 }
 
-/// Whether flow i is right, if this form of it is `pre`.
-fn form_closes(form: &Form, rows: &[Vec<i64>], spans: &[Span], i: usize) -> bool
-    ensures { result ≡ true → (a n : ℕ) → form.now ≡ Form.Pre a → n < ticks_of spans.now i
-        → word_in (row_of rows.now i) (suc n) ≡ word_in (row_of rows.now a) n }
+/// Whether a flow of this form is a `pre` that has at each of its ticks the word that its operand has a tick before.
+fn form_closes(form: &Form, rows: &[Vec<i64>], i: usize, ticks: usize) -> bool
+    ensures { result ≡ true → IsClosed rows.now i ticks form.now }
 {
     match form {
-        Form::Pre(a) => match spans.get(i) {
-            Some(span) => is_shifted(row_at(rows, i), row_at(rows, *a), span.ticks),
+        Form::Pre(a) => is_shifted(row_at(rows, i), row_at(rows, *a), ticks),
+        _ => false,
+    }
+}
+
+/// Whether flow i is right, if its words were supposed.
+fn closes_at(flat: &Flat, rows: &[Vec<i64>], spans: &[Span], i: usize) -> bool
+    ensures { result ≡ true → ClosesAt flat.now rows.now spans.now i }
+{
+    match spans.get(i) {
+        Some(span) if span.supposed => match flat.flows().get(i) {
+            Some(flow) => form_closes(&flow.form, rows, i, span.ticks),
             None => true,
         },
         _ => true,
     }
 }
 
-/// Whether flow i is right, if it is a `pre`.
-fn closes_at(flat: &Flat, rows: &[Vec<i64>], spans: &[Span], i: usize) -> bool
-    ensures { result ≡ true → ClosesAt flat.now rows.now spans.now i }
-{
-    match flat.flows().get(i) {
-        Some(flow) => form_closes(&flow.form, rows, spans, i),
-        None => true,
-    }
-}
-
-/// Whether each `pre` is right.
+/// Whether each flow is right whose words were supposed.
 pub fn closes(flat: &Flat, rows: &[Vec<i64>], spans: &[Span]) -> bool
     ensures { result ≡ true → AllClose flat.now rows.now spans.now }
 {

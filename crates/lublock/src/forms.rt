@@ -9,7 +9,7 @@ ghost use Rattle.luflow.specs.Operators.{makes};
 ghost use Rattle.luflow.specs.Packed.{data_in};
 ghost use Rattle.lublock.specs.Blocks.{kind_at, clock_of};
 ghost use Rattle.lublock_rows.specs.Rows.{Keeps};
-ghost use Rattle.lublock.specs.Machine.{IsPre, IsRead, WritesForm, upto_of, was_of};
+ghost use Rattle.lublock.specs.Machine.{IsRead, WritesForm, upto_of, was_of};
 
 use crate::span::Span;
 use lublock_rows::doubles::write_doubles;
@@ -44,19 +44,6 @@ pub fn clock_at(flat: &Flat, r: usize) -> Option<Clock>
     match flat.flows().get(r) {
         Some(flow) => Some(flow.clock),
         None => None,
-    }
-}
-
-/// Whether a flow is a `pre`.
-pub fn is_pre(flat: &Flat, r: usize) -> bool
-    ensures { result ≡ true → IsPre flat.now r }
-{
-    match flat.flows().get(r) {
-        Some(flow) => match flow.form {
-            Form::Pre(_) => true,
-            _ => false,
-        },
-        None => false,
     }
 }
 

@@ -11,4 +11,6 @@ pub struct Span {
     pub was: bool,
     /// Whether its ticks are counted.
     pub known: bool,
+    /// Whether its first words were supposed, and not found.
+    pub supposed: bool,
 }

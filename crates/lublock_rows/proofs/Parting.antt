@@ -99,3 +99,19 @@ quotient_found (pos n) m q p a v is some product below above up down =
     quotient_above (pos n) m q p (leb-zero n) some product (subst (λ (k : ℕ). p ≤ k) is below) (subst (λ (k : ℕ). k < p + m) is above) ∙ up (leb-zero n)
 quotient_found (negsuc b) m q p a v is some product below above up down =
     quotient_below (negsuc b) m q p refl some product (subst (λ (k : ℕ). p ≤ k) is below) (subst (λ (k : ℕ). k < p + m) is above) ∙ down refl
+
+part_below : (a p r : ℕ) → a ≡ p + r → p ≤ a
+part_below a p r e = omega (arith, e)
+
+part_above : (a p r m : ℕ) → a ≡ p + r → r < m → a < p + m
+part_above a p r m e l = omega (arith, e, l)
+
+part_left : (a p r : ℕ) → a ≡ p + r → r + p ≡ a
+part_left a p r e = omega (arith, e)
+
+-- a quotient and a rest, each with the sign of the number
+pub rest_known : (x : ℤ) (m q a r : ℕ) (v : Outcome) → a ≡ unsigned_abs x → 0 < m → a ≡ q * m + r → r < m → (int_le (pos 0) x ≡ true → int_of (pos r) ≡ v) → (int_le (pos 0) x ≡ false → int_of (neg_ℤ (pos r)) ≡ v) → rest_of x (pos m) ≡ v
+rest_known x m q a r v is some whole less up down = rest_left x m q (q * m) a r v is some refl (part_below a (q * m) r whole) (part_above a (q * m) r m whole less) (part_left a (q * m) r whole) up down
+
+pub quotient_known : (x : ℤ) (m q a r : ℕ) (v : Outcome) → a ≡ unsigned_abs x → 0 < m → a ≡ q * m + r → r < m → (int_le (pos 0) x ≡ true → int_of (pos q) ≡ v) → (int_le (pos 0) x ≡ false → int_of (neg_ℤ (pos q)) ≡ v) → quotient_of x (pos m) ≡ v
+quotient_known x m q a r v is some whole less up down = quotient_found x m q (q * m) a v is some refl (part_below a (q * m) r whole) (part_above a (q * m) r m whole less) up down

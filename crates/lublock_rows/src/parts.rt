@@ -92,21 +92,39 @@ fn low_half(x: u64) -> u64
     x & 4_294_967_295
 }
 
-/// How often m is in x, and that many m, found without a jump; and whether that isn't so.
+/// What is left of a where p is taken away; where p is more, 2^64 more.
+#[inline(always)]
+fn left(a: u64, p: u64) -> u64
+    ensures inside { p ≤ a → result + p ≡ a }
+    ensures around { a < p → result + p ≡ a + 18446744073709551616 }
+{
+    a.wrapping_sub(p)
+}
+
+/// A product of two numbers below 2^32.
+#[inline(always)]
+fn times(q: u64, m: u32) -> u64
+    requires { q ≤ 4294967295 }
+    ensures product { result ≡ q * m }
+    ensures most { result ≤ 18446744065119617025 }
+{
+    q * m as u64
+}
+
+/// How often m is in x, and what is left, found without a jump; and whether that isn't so.
 #[inline(always)]
 fn nearly(x: u64, m: u32, near: u32) -> (u64, u64, bool)
-    ensures product { result.1 ≡ result.0 * m }
     ensures few { result.0 ≤ 4294967296 }
-    ensures below { result.2 ≡ false → result.1 ≤ x }
-    ensures above { result.2 ≡ false → x < result.1 + m }
+    ensures whole { result.2 ≡ false → x ≡ result.0 * m + result.1 }
+    ensures less { result.2 ≡ false → result.1 < m }
 {
     let by = m as u64;
     let q = low_half(low_half(x).wrapping_mul(near as u64) >> 32);
-    let p = q * by;
-    let more = p + by <= x;
+    let over = left(x, times(q, m));
+    let more = by <= over;
     let found = if more { q + 1 } else { q };
-    let part = if more { p + by } else { p };
-    (found, part, x < part || part + by <= x)
+    let rest = if more { over - by } else { over };
+    (found, rest, by <= rest)
 }
 
 /// A number that isn't large, with the sign of x.
@@ -122,14 +140,6 @@ fn signed_word(x: i64, n: u64) -> i64
     if 0 <= x { word } else { -word }
 }
 
-/// What is left of a, where p isn't more.
-#[inline(always)]
-fn left(a: u64, p: u64) -> u64
-    ensures { p ≤ a → result + p ≡ a }
-{
-    a.wrapping_sub(p)
-}
-
 /// `x mod m`, and whether it isn't known
 #[inline(always)]
 fn small_rest(x: i64, m: u32, near: u32) -> (i64, bool)
@@ -137,9 +147,8 @@ fn small_rest(x: i64, m: u32, near: u32) -> (i64, bool)
     ensures { IsWhole result (rest_of x (pos m)) }
 {
     let a = x.unsigned_abs();
-    let (_q, p, none) = nearly(a, m, near);
-    let rest = low_half(left(a, p));
-    (signed_word(x, rest), none)
+    let (_q, rest, none) = nearly(a, m, near);
+    (signed_word(x, low_half(rest)), none)
 }
 
 /// `x div m`, and whether it isn't known
@@ -149,7 +158,7 @@ fn small_quotient(x: i64, m: u32, near: u32) -> (i64, bool)
     ensures { IsWhole result (quotient_of x (pos m)) }
 {
     let a = x.unsigned_abs();
-    let (q, _p, none) = nearly(a, m, near);
+    let (q, _rest, none) = nearly(a, m, near);
     (signed_word(x, q), none)
 }
 

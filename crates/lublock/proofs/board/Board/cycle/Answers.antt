@@ -8,16 +8,16 @@ loop-pace-init c = record { stands = c.ticks_of.ensures.stands; flows = search r
 
 pub loop-pace-preserved : goal.loop-pace-preserved
 loop-pace-preserved c =
-    let first = λ (inputs : Table) (t : ℕ). still_more c.args.flat.now inputs t c.args.len c.args.self.now c.loop-pace.self c.suppose_all.new.self (c.loop-pace.invariant.stands inputs t) (c.suppose_all.ensures.stands inputs t c.args.len) in
+    let first = λ (inputs : Table) (t : ℕ). still_more c.args.flat.now inputs t c.args.len c.args.self.now c.loop-pace.self c.suppose_all.new.self (c.loop-pace.invariant.stands inputs t) (c.suppose_all.ensures.stands c.args.flat.now inputs t c.args.len) in
     record {
-      stands = λ inputs t. still_more c.args.flat.now inputs t c.args.len c.args.self.now c.suppose_all.new.self c.suppose_twins.new.self (first inputs t) (c.suppose_twins.ensures.stands inputs t c.args.len);
+      stands = λ inputs t. still_more c.args.flat.now inputs t c.args.len c.args.self.now c.suppose_all.new.self c.suppose_twins.new.self (first inputs t) (c.suppose_twins.ensures.stands c.args.flat.now inputs t c.args.len);
       flows = search rules;
     }
 
 pub returns-then-suppose_all-clause-stands : goal.returns-then-suppose_all-clause-stands
-returns-then-suppose_all-clause-stands c = λ inputs t. still_more c.args.flat.now inputs t c.args.len c.args.self.now c.loop-pace.self c.suppose_all.new.self (c.loop-pace.invariant.stands inputs t) (c.suppose_all.ensures.stands inputs t c.args.len)
+returns-then-suppose_all-clause-stands c = λ inputs t. still_more c.args.flat.now inputs t c.args.len c.args.self.now c.loop-pace.self c.suppose_all.new.self (c.loop-pace.invariant.stands inputs t) (c.suppose_all.ensures.stands c.args.flat.now inputs t c.args.len)
 
 pub returns-then-suppose_twins-clause-stands : goal.returns-then-suppose_twins-clause-stands
 returns-then-suppose_twins-clause-stands c =
-    let first = λ (inputs : Table) (t : ℕ). still_more c.args.flat.now inputs t c.args.len c.args.self.now c.loop-pace.self c.suppose_all.new.self (c.loop-pace.invariant.stands inputs t) (c.suppose_all.ensures.stands inputs t c.args.len) in
-    λ inputs t. still_more c.args.flat.now inputs t c.args.len c.args.self.now c.suppose_all.new.self c.suppose_twins.new.self (first inputs t) (c.suppose_twins.ensures.stands inputs t c.args.len)
+    let first = λ (inputs : Table) (t : ℕ). still_more c.args.flat.now inputs t c.args.len c.args.self.now c.loop-pace.self c.suppose_all.new.self (c.loop-pace.invariant.stands inputs t) (c.suppose_all.ensures.stands c.args.flat.now inputs t c.args.len) in
+    λ inputs t. still_more c.args.flat.now inputs t c.args.len c.args.self.now c.suppose_all.new.self c.suppose_twins.new.self (first inputs t) (c.suppose_twins.ensures.stands c.args.flat.now inputs t c.args.len)
