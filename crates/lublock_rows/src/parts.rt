@@ -174,12 +174,11 @@ pub fn steady(y: &[i64], from: usize, to: usize) -> Option<u64>
     if m <= 0 {
         return None;
     }
+    let mut others = 0;
     for n in from..to {
-        if at(y, n) != m {
-            return None;
-        }
+        others += (at(y, n) != m) as usize;
     }
-    Some(m as u64)
+    if others == 0 { Some(m as u64) } else { None }
 }
 
 /// Writes the quotients of a row's words by m, where these are found without a jump.
