@@ -1,8 +1,10 @@
-//! What only code can show of graphs, of stages alone, and of flat programs: tests alone.
+//! What only code can show of plain data, of graphs, of stages alone, of flat programs and of the evaluator: tests alone.
 //!
+//! - `lists`: `lulist`.
 //! - `graph`: `lugraph`.
 //! - `stages`: clocks and initialisation of texts that the stage before refuses, and of programs that no text has.
 //! - `flats`: what a program that keeps all rules lends, and flat lists with their ranks and owners (`lustat`, `lucore`).
+//! - `operators`: values of one flow at one instant (`lueval`).
 //! - `streams`: tables that fit a program, its streams and outputs (`luflow`, `lueval`).
 //! - `values`: lists of values (`luflow`).
 //!
@@ -13,6 +15,10 @@
 mod flats;
 #[cfg(test)]
 mod graph;
+#[cfg(test)]
+mod lists;
+#[cfg(test)]
+mod operators;
 #[cfg(test)]
 mod stages;
 #[cfg(test)]

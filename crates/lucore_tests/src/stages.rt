@@ -40,6 +40,20 @@ fn has_class_fault(
     }
 }
 
+/// Whether a stage tells this fault of what is looked up.
+fn tells_of(
+    alloc: Global,
+    stage: Stage,
+    catalog: &Catalog,
+    fault: Option<StatError>,
+) -> Result<bool, AllocError> {
+    match stage {
+        Stage::Names => Ok(least_fault(alloc, catalog, "main")? == fault),
+        Stage::Clocks => Ok(clock_fault(alloc, catalog, "main")? == fault),
+        Stage::Classes => has_class_fault(alloc, catalog, fault),
+    }
+}
+
 /// Whether a stage tells this fault of a program.
 fn tells(
     alloc: Global,
@@ -48,11 +62,7 @@ fn tells(
     fault: Option<StatError>,
 ) -> Result<bool, AllocError> {
     let catalog = Catalog::new(alloc, program)?;
-    match stage {
-        Stage::Names => Ok(least_fault(alloc, &catalog, "main")? == fault),
-        Stage::Clocks => Ok(clock_fault(alloc, &catalog, "main")? == fault),
-        Stage::Classes => has_class_fault(alloc, &catalog, fault),
-    }
+    tells_of(alloc, stage, &catalog, fault)
 }
 
 const TEXTS: &[(Stage, &str, StatError)] = &[
@@ -131,18 +141,23 @@ fn before(alloc: Global, operand: Expr) -> Result<Expr, AllocError> {
     Ok(Expr::Unary(Prefix::Pre, Box::new(alloc, operand)?))
 }
 
+fn one() -> Expr {
+    Expr::Number(Number::from(1))
+}
+
+fn call(alloc: Global) -> Result<Expr, AllocError> {
+    let arguments = vec![in alloc; variable(alloc, "c")?]?;
+    Ok(Expr::Call(Name::from_text(alloc, "main")?, arguments))
+}
+
 fn expression(alloc: Global, right: Right) -> Result<Expr, AllocError> {
-    let one = Expr::Number(Number::from(1));
     match right {
-        Right::One => Ok(one),
+        Right::One => Ok(one()),
         Right::Sampled => variable(alloc, "x"),
         Right::Mixed => mixed(alloc),
-        Right::Before => before(alloc, one),
-        Right::BeforeTwice => before(alloc, before(alloc, one)?),
-        Right::Call => {
-            let arguments = vec![in alloc; variable(alloc, "c")?]?;
-            Ok(Expr::Call(Name::from_text(alloc, "main")?, arguments))
-        }
+        Right::Before => before(alloc, one()),
+        Right::BeforeTwice => before(alloc, before(alloc, one())?),
+        Right::Call => call(alloc),
     }
 }
 

@@ -60,32 +60,24 @@ pub(crate) fn wrong_arity(alloc: Global, spot: &Spot) -> Result<Said, AllocError
     match wrong_in(spot) {
         Some(Number::Arguments(f, given, wanted)) => mended_by(
             alloc,
+            "The call of @ has @, and the node has @.",
             &[
-                Part::Around("The call of ", f, " has "),
+                Part::Name(f),
                 Part::Count(given, "argument"),
-                Part::Words(", and the node has "),
                 Part::Count(wanted, "input"),
-                Part::Words("."),
             ],
             "Give each call as many arguments as its node has inputs.",
         ),
         Some(Number::Inside(f, values)) => mended_by(
             alloc,
-            &[
-                Part::Around("The call of ", f, " stands inside an expression and gives "),
-                Part::Count(values, "value"),
-                Part::Words("."),
-            ],
+            "The call of @ stands inside an expression and gives @.",
+            &[Part::Name(f), Part::Count(values, "value")],
             "Give its values to variables in an equation of their own, and use these.",
         ),
         Some(Number::Sides(left, right)) => mended_by(
             alloc,
-            &[
-                Part::Count(left, "variable"),
-                Part::Words(" on the left, and "),
-                Part::Count(right, "value"),
-                Part::Words(" on the right."),
-            ],
+            "@ on the left, and @ on the right.",
+            &[Part::Count(left, "variable"), Part::Count(right, "value")],
             "Write as many variables on the left as the right side has values.",
         ),
         None => usual(alloc, spot.error),
@@ -164,29 +156,22 @@ pub(crate) fn bad_merge(alloc: Global, spot: &Spot) -> Result<Said, AllocError> 
     let Some(merged) = bad_merge_in(spot) else {
         return usual(alloc, spot.error);
     };
-    let mend = [
-        Part::Words("Write a branch for each name of the type, in this order: "),
-        Part::Labels(merged.names),
-        Part::Words("."),
-    ];
+    let mend = "Write a branch for each name of the type, in this order: @.";
+    let names = [Part::Labels(merged.names)];
     match missing(merged.patterns, merged.names) {
         Some(name) => say(
             alloc,
-            &[
-                Part::Around("The merge on ", merged.variable, " has no branch for "),
-                Part::Name(name),
-                Part::Words("."),
-            ],
-            &mend,
+            "The merge on @ has no branch for @.",
+            &[Part::Name(merged.variable), Part::Name(name)],
+            mend,
+            &names,
         ),
         None => say(
             alloc,
-            &[Part::Around(
-                "The branches of the merge on ",
-                merged.variable,
-                " aren't the names of its type, each once and in order.",
-            )],
-            &mend,
+            "The branches of the merge on @ aren't the names of its type, each once and in order.",
+            &[Part::Name(merged.variable)],
+            mend,
+            &names,
         ),
     }
 }

@@ -3,7 +3,7 @@
 use crate::find::Spot;
 use crate::said::{Said, mended_by, say};
 use crate::usual::{mend_of, usual};
-use crate::words::Part;
+use crate::words::{Part, Told};
 use lulist::Name;
 use lustat_classes::{is_one, least_classes, lefts_are_known, needs_met};
 use lustat_scope::{ClockRef, PatternRef, Scope};
@@ -165,11 +165,10 @@ fn said_of_gap<'a>(
     let cause = cause_of(scope, marks, part).unwrap_or(gap.part);
     mended_by(
         alloc,
+        "@ has no value at the first instant, and @ needs one there.",
         &[
             Part::Value(root_of(scope, marks, cause)),
-            Part::Words(" has no value at the first instant, and "),
             need_part(gap.need),
-            Part::Words(" needs one there."),
         ],
         mend_of(spot.error),
     )
@@ -240,31 +239,20 @@ pub(crate) fn current_nil(alloc: Global, spot: &Spot) -> Result<Said, AllocError
     let Some(held) = held_in(spot) else {
         return usual(alloc, spot.error);
     };
-    let sign = Part::Sign(held.pattern);
-    let mend = [
-        Part::Around(
-            "Put ",
-            held.variable,
-            " on a clock whose equation begins so, as `k = ",
-        ),
-        sign,
-        Part::Words(" -> ..`."),
-    ];
-    let variable = Part::Around("", held.variable, " is on ");
-    let clock = Part::Clock(ClockRef::On(held.clock, held.pattern));
-    if spot.scope.is_input(held.clock) {
-        let why = Part::Around(
-            ", which may be false at first: ",
-            held.clock,
-            " is an input.",
-        );
-        return say(alloc, &[variable, clock, why], &mend);
-    }
-    let why = Part::Around(
-        ", which may be false at first: the equation of ",
-        held.clock,
-        " doesn't begin with `",
-    );
-    let end = Part::Words(" ->`.");
-    say(alloc, &[variable, clock, why, sign, end], &mend)
+    let variable = Part::Name(held.variable);
+    let on = ClockRef::On(held.clock, held.pattern);
+    let clock = Part::Clock(on, Told::Clock);
+    let sign = Part::Clock(on, Told::Sign);
+    let what = if spot.scope.is_input(held.clock) {
+        "@ is on @, which may be false at first: @ is an input."
+    } else {
+        "@ is on @, which may be false at first: the equation of @ doesn't begin with `@ ->`."
+    };
+    say(
+        alloc,
+        what,
+        &[variable, clock, Part::Name(held.clock), sign],
+        "Put @ on a clock whose equation begins so, as `k = @ -> ..`.",
+        &[variable, sign],
+    )
 }

@@ -3,7 +3,7 @@
 use crate::find::{Spot, role_at};
 use crate::said::{Said, mended_by, say};
 use crate::usual::{mend_of, usual};
-use crate::words::Part;
+use crate::words::{Part, Told};
 use lustat_rules::StatError;
 use lustat_scope::{ClockRef, PatternRef, Scope};
 use lutree::{Declaration, Expr, Kind, Node, Pattern, Program};
@@ -13,10 +13,31 @@ use std::slice;
 /// Two things of one equation that stand on two clocks.
 #[derive(Clone, Copy)]
 struct Apart<'a> {
-    first: Part<'a>,
+    first: Side<'a>,
     on: ClockRef<'a>,
-    second: Part<'a>,
+    second: Side<'a>,
     other: ClockRef<'a>,
+}
+
+/// What stands on a clock.
+#[derive(Clone, Copy)]
+enum Side<'a> {
+    Value(&'a Expr),
+    Variable(&'a str),
+    /// The branch of a merge whose pattern is that of the clock.
+    Branch,
+    /// The right side of an equation.
+    Right,
+}
+
+/// How what stands on a clock is told in a sentence.
+fn side_part<'a>(side: Side<'a>, clock: ClockRef<'a>) -> Part<'a> {
+    match side {
+        Side::Value(e) => Part::Value(e),
+        Side::Variable(x) => Part::Name(x),
+        Side::Branch => Part::Clock(clock, Told::Branch),
+        Side::Right => Part::Words("the right side"),
+    }
 }
 
 /// The clock that an expression stands on, if it fits one; none where it may stand on any, or names no variable.
@@ -58,14 +79,14 @@ fn clock_of<'a>(scope: &Scope<'a>, e: &'a Expr) -> Option<ClockRef<'a>> {
 fn apart_with<'a>(
     scope: &Scope<'a>,
     first: &'a Expr,
-    second: Part<'a>,
+    second: Side<'a>,
     other: ClockRef<'a>,
 ) -> Option<Apart<'a>> {
     let on = clock_of(scope, first)?;
     if on.is(&other) {
         return None;
     }
-    let first = Part::Value(first);
+    let first = Side::Value(first);
     Some(Apart {
         first,
         on,
@@ -77,7 +98,7 @@ fn apart_with<'a>(
 /// Two expressions on two clocks.
 fn apart_of_two<'a>(scope: &Scope<'a>, a: &'a Expr, b: &'a Expr) -> Option<Apart<'a>> {
     let other = clock_of(scope, b)?;
-    apart_with(scope, a, Part::Value(b), other)
+    apart_with(scope, a, Side::Value(b), other)
 }
 
 /// The first of some expressions with a clock and another on another clock.
@@ -109,14 +130,13 @@ fn apart_at<'a>(scope: &Scope<'a>, e: &'a Expr) -> Option<Apart<'a>> {
         },
         Expr::When(a, clock) => {
             let name = clock.variable.as_str();
-            apart_with(scope, a, Part::Name(name), scope.clock(name)?)
+            apart_with(scope, a, Side::Variable(name), scope.clock(name)?)
         }
         Expr::Merge(c, patterns, branches) => {
             let name = c.as_str();
             for (pattern, branch) in patterns.as_slice().iter().zip(branches) {
-                let sign = PatternRef::of(pattern);
-                let side = Part::Branch(name, sign);
-                let found = apart_with(scope, branch, side, ClockRef::On(name, sign));
+                let other = ClockRef::On(name, PatternRef::of(pattern));
+                let found = apart_with(scope, branch, Side::Branch, other);
                 if found.is_some() {
                     return found;
                 }
@@ -132,12 +152,12 @@ fn apart_at<'a>(scope: &Scope<'a>, e: &'a Expr) -> Option<Apart<'a>> {
 fn apart_of_sides<'a>(spot: &Spot<'_, 'a>) -> Option<Apart<'a>> {
     let scope = spot.scope;
     let (x, others) = spot.equation.left.as_slice().split_first()?;
-    let first = Part::Name(x.as_str());
+    let first = Side::Variable(x.as_str());
     let on = scope.clock(x.as_str())?;
     for y in others {
         if let Some(other) = scope.clock(y.as_str()) {
             if !on.is(&other) {
-                let second = Part::Name(y.as_str());
+                let second = Side::Variable(y.as_str());
                 return Some(Apart {
                     first,
                     on,
@@ -151,7 +171,7 @@ fn apart_of_sides<'a>(spot: &Spot<'_, 'a>) -> Option<Apart<'a>> {
     if on.is(&other) {
         return None;
     }
-    let second = Part::Words("the right side");
+    let second = Side::Right;
     Some(Apart {
         first,
         on,
@@ -188,27 +208,20 @@ pub(crate) fn mismatch(alloc: Global, spot: &Spot) -> Result<Said, AllocError> {
     if let Some(x) = held_in(spot) {
         return mended_by(
             alloc,
-            &[Part::Around(
-                "`current` holds a variable that is on a clock, and ",
-                x,
-                " is on the base clock.",
-            )],
+            "`current` holds a variable that is on a clock, and @ is on the base clock.",
+            &[Part::Name(x)],
             "Leave out the `current`.",
         );
     }
     match apart_in(spot) {
         Some(found) => mended_by(
             alloc,
+            "Two clocks are joined: @ is on @, @ is on @.",
             &[
-                Part::Words("Two clocks are joined: "),
-                found.first,
-                Part::Words(" is on "),
-                Part::Clock(found.on),
-                Part::Words(", "),
-                found.second,
-                Part::Words(" is on "),
-                Part::Clock(found.other),
-                Part::Words("."),
+                side_part(found.first, found.on),
+                Part::Clock(found.on, Told::Clock),
+                side_part(found.second, found.other),
+                Part::Clock(found.other, Told::Clock),
             ],
             mend_of(spot.error),
         ),
@@ -268,13 +281,11 @@ fn said_of_no_clock<'a>(
 ) -> Result<Said, AllocError> {
     mended_by(
         alloc,
+        "@ stands here as a clock of type @, and is of type @.",
         &[
             Part::Name(found.variable),
-            Part::Words(" stands here as a clock of type "),
             Part::Type(program, found.wanted),
-            Part::Words(", and is of type "),
             Part::Type(program, found.found),
-            Part::Words("."),
         ],
         "Name a `bool`, or name a variable of an enumeration with one of its names, as `A(x)`.",
     )
@@ -309,11 +320,8 @@ fn chain_of<'a>(
 fn said_of_chain<'a>(alloc: Global, names: &'a [&'a str]) -> Result<Said, AllocError> {
     mended_by(
         alloc,
-        &[
-            Part::Words("Whoever goes from variable to clock never comes to the base clock: "),
-            Part::Names(names),
-            Part::Words(" .."),
-        ],
+        "Whoever goes from variable to clock never comes to the base clock: @ ..",
+        &[Part::Names(names)],
         "Declare one of them without a clock.",
     )
 }
@@ -360,11 +368,11 @@ fn said_of_call<'a>(
 ) -> Result<Said, AllocError> {
     mended_by(
         alloc,
+        "The main node @ is called here, and its output @ is on @.",
         &[
-            Part::Around("The main node ", main, " is called here, and its output "),
-            Part::Around("", output.name.as_str(), " is on "),
-            Part::Clock(declared_clock(output)),
-            Part::Words("."),
+            Part::Name(main),
+            Part::Name(output.name.as_str()),
+            Part::Clock(declared_clock(output), Told::Clock),
         ],
         mend_of(error),
     )
@@ -390,13 +398,12 @@ pub(crate) fn clocked_parameter<'a>(
 ) -> Result<Said, AllocError> {
     mended_by(
         alloc,
+        "The @ @ of node @ is on @; inputs, and outputs of all but the main node, are on the base clock.",
         &[
-            Part::Words("The "),
             Part::Words(role_at(node, declared.byte)),
-            Part::Of(" ", declared.name.as_str(), node.name.as_str()),
-            Part::Words(" is on "),
-            Part::Clock(declared_clock(declared)),
-            Part::Words("; inputs, and outputs of all but the main node, are on the base clock."),
+            Part::Name(declared.name.as_str()),
+            Part::Name(node.name.as_str()),
+            Part::Clock(declared_clock(declared), Told::Clock),
         ],
         "Declare it without a clock, and sample it inside by `when`; a node that is given samples lives on their clock as a whole.",
     )
@@ -414,15 +421,13 @@ pub(crate) fn hidden(
     let variable = clock.variable.as_str();
     say(
         alloc,
+        "The output @ is on the clock `@`, and @ is a local, which nobody outside sees.",
         &[
-            Part::Around("The output ", declared.name.as_str(), " is on the clock `"),
-            Part::Short(ClockRef::of(clock)),
-            Part::Around(
-                "`, and ",
-                variable,
-                " is a local, which nobody outside sees.",
-            ),
+            Part::Name(declared.name.as_str()),
+            Part::Clock(ClockRef::of(clock), Told::Short),
+            Part::Name(variable),
         ],
-        &[Part::Around("Make ", variable, " an output too.")],
+        "Make @ an output too.",
+        &[Part::Name(variable)],
     )
 }

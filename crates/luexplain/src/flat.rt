@@ -144,11 +144,8 @@ fn said_of_names<'a>(alloc: Global, names: &'a [&'a str]) -> Result<Said, AllocE
     }
     mended_by(
         alloc,
-        &[
-            Part::Words("A value can't depend on itself at one instant: "),
-            Part::Circle(names, "reads"),
-            Part::Words("."),
-        ],
+        "A value can't depend on itself at one instant: @.",
+        &[Part::Circle(names, "reads")],
         mend,
     )
 }
@@ -263,10 +260,10 @@ fn said_of_fault(
     };
     mended_by(
         alloc,
+        "The equation of @ has no value at instant @, which is line @@",
         &[
-            Part::Around("The equation of ", variable, " has no value at instant "),
+            Part::Name(variable),
             Part::Number(instant),
-            Part::Words(", which is line "),
             Part::Number(instant + 2),
             Part::Words(fault),
         ],

@@ -78,12 +78,11 @@ fn said_of_twice(
 ) -> Result<Said, AllocError> {
     mended_by(
         alloc,
+        "The name of the @ @ is taken: line @ declares it too.",
         &[
-            Part::Words("The name of the "),
             Part::Words(twice.of),
-            Part::Around(" ", twice.name, " is taken: line "),
+            Part::Name(twice.name),
             Part::Number(line_of(text, twice.first)),
-            Part::Words(" declares it too."),
         ],
         mend_of(error),
     )
@@ -251,7 +250,8 @@ fn near_node<'a>(program: &'a Program, name: &str) -> Option<&'a str> {
 /// How to mend a name that isn't known, where there may be one that is spelled nearly so.
 pub(crate) fn mend_name<'a>(
     alloc: Global,
-    what: &[Part],
+    what: &str,
+    parts: &[Part],
     near: Option<&'a str>,
     mend: &'a str,
 ) -> Result<Said, AllocError> {
@@ -259,9 +259,11 @@ pub(crate) fn mend_name<'a>(
         Some(name) => say(
             alloc,
             what,
-            &[Part::Around("Did you mean ", name, "? "), Part::Words(mend)],
+            parts,
+            "Did you mean @? @",
+            &[Part::Name(name), Part::Words(mend)],
         ),
-        None => mended_by(alloc, what, mend),
+        None => mended_by(alloc, what, parts, mend),
     }
 }
 
@@ -274,14 +276,8 @@ fn said_of_unknown<'a>(
     match unknown {
         Unknown::Variable(name) => mend_name(
             alloc,
-            &[
-                Part::Around("", name, " is no variable of node "),
-                Part::Around(
-                    "",
-                    scope.node().name.as_str(),
-                    ", and no name of an enumeration.",
-                ),
-            ],
+            "@ is no variable of node @, and no name of an enumeration.",
+            &[Part::Name(name), Part::Name(scope.node().name.as_str())],
             match near_variable(scope, name) {
                 None => near_label(program, name),
                 found => found,
@@ -290,13 +286,15 @@ fn said_of_unknown<'a>(
         ),
         Unknown::Label(name) => mend_name(
             alloc,
-            &[Part::Around("", name, " is no name of an enumeration.")],
+            "@ is no name of an enumeration.",
+            &[Part::Name(name)],
             near_label(program, name),
             "Spell it as in its type, or declare it there.",
         ),
         Unknown::Type(name) => mend_name(
             alloc,
-            &[Part::Around("", name, " is no type of the program.")],
+            "@ is no type of the program.",
+            &[Part::Name(name)],
             near_type(program, name),
             "The types are `int`, `bool` and those that the program declares.",
         ),
@@ -332,7 +330,8 @@ pub(crate) fn unknown_node(alloc: Global, spot: &Spot) -> Result<Said, AllocErro
             if spot.catalog.find(f.as_str()).is_none() {
                 return mend_name(
                     alloc,
-                    &[Part::Around("", f.as_str(), " is no node of the program.")],
+                    "@ is no node of the program.",
+                    &[Part::Name(f.as_str())],
                     near_node(spot.catalog.program(), f.as_str()),
                     mend_of(spot.error),
                 );
@@ -350,11 +349,11 @@ pub(crate) fn undefined<'a>(
 ) -> Result<Said, AllocError> {
     mended_by(
         alloc,
+        "The @ @ of node @ has no equation.",
         &[
-            Part::Words("The "),
             Part::Words(role_at(node, declared.byte)),
-            Part::Of(" ", declared.name.as_str(), node.name.as_str()),
-            Part::Words(" has no equation."),
+            Part::Name(declared.name.as_str()),
+            Part::Name(node.name.as_str()),
         ],
         "Write the equation, or take back the declaration; what comes from outside is an input.",
     )
@@ -406,24 +405,20 @@ pub(crate) fn defined_twice(alloc: Global, text: &[u8], spot: &Spot) -> Result<S
     match defined_in(alloc, spot)? {
         Some(Defined::Input(name)) => mended_by(
             alloc,
-            &[
-                Part::Around("", name, " is an input of node "),
-                Part::Around("", node, ", and an input has no equation."),
-            ],
+            "@ is an input of node @, and an input has no equation.",
+            &[Part::Name(name), Part::Name(node)],
             "Take the equation back, or give its value another name.",
         ),
         Some(Defined::Here(name)) => mended_by(
             alloc,
-            &[Part::Around("", name, " stands twice on the left side.")],
+            "@ stands twice on the left side.",
+            &[Part::Name(name)],
             "Give each value a variable of its own.",
         ),
         Some(Defined::Before(name, byte)) => mended_by(
             alloc,
-            &[
-                Part::Around("", name, " has an equation already, in line "),
-                Part::Number(line_of(text, byte)),
-                Part::Words("."),
-            ],
+            "@ has an equation already, in line @.",
+            &[Part::Name(name), Part::Number(line_of(text, byte))],
             "Say it all in one equation: it holds at every instant, and is no step that is done.",
         ),
         None => usual(alloc, spot.error),
@@ -454,11 +449,8 @@ fn said_of_calls<'a>(
 ) -> Result<Said, AllocError> {
     mended_by(
         alloc,
-        &[
-            Part::Words("A node can't call itself: "),
-            Part::Circle(names, "calls"),
-            Part::Words("."),
-        ],
+        "A node can't call itself: @.",
+        &[Part::Circle(names, "calls")],
         mend_of(error),
     )
 }
@@ -487,14 +479,15 @@ pub(crate) fn no_main<'a>(
     let nodes = program.nodes.as_slice();
     let near = near_node(program, main);
     let mend = "Name the main node with `--main`, or call it so.";
-    if nodes.is_empty() {
-        let none = Part::Around("No node is called ", main, ": there is none.");
-        return mend_name(alloc, &[none], near, mend);
-    }
-    let before = Part::Around("No node is called ", main, "; there are ");
+    let what = if nodes.is_empty() {
+        "No node is called @: there is none."
+    } else {
+        "No node is called @; there are @."
+    };
     mend_name(
         alloc,
-        &[before, Part::Nodes(nodes), Part::Words(".")],
+        what,
+        &[Part::Name(main), Part::Nodes(nodes)],
         near,
         mend,
     )

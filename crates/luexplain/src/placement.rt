@@ -144,23 +144,27 @@ fn said_of_key(alloc: Global, blamed: Blamed) -> Result<Said, AllocError> {
     match blamed {
         Blamed::Unknown(key) => mend_name(
             alloc,
-            &[Part::Around("", key, " is no key of a placement.")],
+            "@ is no key of a placement.",
+            &[Part::Name(key)],
             near_key(key),
             "The keys are `version`, `sites`, `capacity`, `default` and the table `place`, in which the variables have their entries.",
         ),
         Blamed::Value(key) => mended_by(
             alloc,
-            &[Part::Around("The value of ", key, fault_of_value(key))],
+            "The value of @@",
+            &[Part::Name(key), Part::Words(fault_of_value(key))],
             mend_of_value(key),
         ),
         Blamed::Entry(key) => mended_by(
             alloc,
-            &[Part::Around("The entry of ", key, fault_of_value("default"))],
+            "The entry of @@",
+            &[Part::Name(key), Part::Words(fault_of_value("default"))],
             mend_of_value("default"),
         ),
         Blamed::BadName(name) => mended_by(
             alloc,
-            &[Part::Around("", name, " is no name of a site.")],
+            "@ is no name of a site.",
+            &[Part::Name(name)],
             "A name of a site has letters, digits and `_`, at most 32 in all, and doesn't begin with a digit.",
         ),
         _ => in_words(
@@ -186,29 +190,26 @@ fn said_of_sites(alloc: Global, blamed: Blamed) -> Result<Said, AllocError> {
         ),
         Blamed::Sites(count) => mended_by(
             alloc,
-            &[
-                Part::Words("The placement has "),
-                Part::Count(count, "site"),
-                Part::Words(", and there may be from 1 to 16."),
-            ],
+            "The placement has @, and there may be from 1 to 16.",
+            &[Part::Count(count, "site")],
             "Name each site that variables stand at, and no others.",
         ),
         Blamed::Twice(Holder::Entry(key), name) => mended_by(
             alloc,
-            &[
-                Part::Around("", name, " stands twice in the entry of "),
-                Part::Around("", key, "."),
-            ],
+            "@ stands twice in the entry of @.",
+            &[Part::Name(name), Part::Name(key)],
             mend_of(&PlaceError::DuplicateSite),
         ),
         Blamed::Twice(Holder::Default, name) => mended_by(
             alloc,
-            &[Part::Around("", name, " stands twice in `default`.")],
+            "@ stands twice in `default`.",
+            &[Part::Name(name)],
             mend_of(&PlaceError::DuplicateSite),
         ),
         Blamed::Twice(Holder::Sites, name) => mended_by(
             alloc,
-            &[Part::Around("", name, " stands twice in `sites`.")],
+            "@ stands twice in `sites`.",
+            &[Part::Name(name)],
             mend_of(&PlaceError::DuplicateSite),
         ),
         _ => in_words(
@@ -229,32 +230,21 @@ fn said_of_variable<'a>(
     match blamed {
         Blamed::Variable(name, near) => mend_name(
             alloc,
-            &[
-                Part::Around("", name, " is no input, output or local of the main node "),
-                Part::Around("", main, "."),
-            ],
+            "@ is no input, output or local of the main node @.",
+            &[Part::Name(name), Part::Name(main)],
             near,
             mend,
         ),
         Blamed::Unplaced(name) => mended_by(
             alloc,
-            &[Part::Around(
-                "",
-                name,
-                ", a variable of the main node, has no entry in `place`, and there is no `default`.",
-            )],
+            "@, a variable of the main node, has no entry in `place`, and there is no `default`.",
+            &[Part::Name(name)],
             mend,
         ),
         Blamed::Apart(first, second) => mended_by(
             alloc,
-            &[
-                Part::Around("", first, " and "),
-                Part::Around(
-                    "",
-                    second,
-                    " come of one call, and stand at different sites.",
-                ),
-            ],
+            "@ and @ come of one call, and stand at different sites.",
+            &[Part::Name(first), Part::Name(second)],
             mend,
         ),
         _ => in_words(alloc, "A variable is refused.", mend),
@@ -276,7 +266,8 @@ fn said_of_blamed<'a>(
         }
         Blamed::Foreign(_, name, near) => mend_name(
             alloc,
-            &[Part::Around("", name, " isn't one of `sites`.")],
+            "@ isn't one of `sites`.",
+            &[Part::Name(name)],
             near,
             mend,
         ),
@@ -295,11 +286,8 @@ fn said_of_text(alloc: Global, e: &toml::de::Error) -> Result<Found, AllocError>
     };
     let said = mended_by(
         alloc,
-        &[
-            Part::Words("The placement is no TOML text from here on: "),
-            Part::Words(e.message()),
-            Part::Words("."),
-        ],
+        "The placement is no TOML text from here on: @.",
+        &[Part::Words(e.message())],
         mend_of(&PlaceError::NotToml),
     )?;
     Ok(Found {
@@ -354,13 +342,8 @@ fn found_at(
     let said = match str::from_utf8(text) {
         Ok(source) if source.len() > LONGEST_PLACEMENT => mended_by(
             alloc,
-            &[
-                Part::Words("The text has "),
-                Part::Number(source.len()),
-                Part::Words(" bytes, and a placement has at most "),
-                Part::Number(LONGEST_PLACEMENT),
-                Part::Words("."),
-            ],
+            "The text has @ bytes, and a placement has at most @.",
+            &[Part::Number(source.len()), Part::Number(LONGEST_PLACEMENT)],
             "Leave out comments, and entries that say what `default` says.",
         )?,
         Ok(source) => return found_in(alloc, source, program, main, error),

@@ -13,21 +13,32 @@ pub(crate) struct Said {
     pub(crate) mend: String,
 }
 
-/// A sentence on what is wrong and one on how to mend it, by their parts.
-pub(crate) fn say(alloc: Global, what: &[Part], mend: &[Part]) -> Result<Said, AllocError> {
-    let what = sentence(alloc, what)?;
-    let mend = sentence(alloc, mend)?;
+/// A sentence on what is wrong and one on how to mend it, each by its words, which have an `@` for each of its parts.
+pub(crate) fn say(
+    alloc: Global,
+    what: &str,
+    parts: &[Part],
+    mend: &str,
+    mend_parts: &[Part],
+) -> Result<Said, AllocError> {
+    let what = sentence(alloc, what, parts)?;
+    let mend = sentence(alloc, mend, mend_parts)?;
     Ok(Said { what, mend })
 }
 
-/// What is wrong, by the parts of the sentence, and these words on how to mend it.
-pub(crate) fn mended_by(alloc: Global, what: &[Part], mend: &str) -> Result<Said, AllocError> {
-    say(alloc, what, &[Part::Words(mend)])
+/// What is wrong, by the words of the sentence and its parts, and these words on how to mend it.
+pub(crate) fn mended_by(
+    alloc: Global,
+    what: &str,
+    parts: &[Part],
+    mend: &str,
+) -> Result<Said, AllocError> {
+    say(alloc, what, parts, mend, &[])
 }
 
 /// These words on what is wrong, and on how to mend it.
 pub(crate) fn in_words(alloc: Global, what: &str, mend: &str) -> Result<Said, AllocError> {
-    mended_by(alloc, &[Part::Words(what)], mend)
+    mended_by(alloc, what, &[], mend)
 }
 
 /// The line of a file's path, which stands for the whole of it.

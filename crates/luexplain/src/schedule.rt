@@ -25,22 +25,15 @@ fn said_of_schedule(alloc: Global, text: &[u8], error: &ScheduleError) -> Result
             };
             mended_by(
                 alloc,
-                &[
-                    Part::Bytes(found),
-                    Part::Words(" is no turn, no blank and no line feed."),
-                ],
+                "@ is no turn, no blank and no line feed.",
+                &[Part::Bytes(found)],
                 "Write a letter for each turn, `0` to `9` and `a` to `f` for the sites 0 to 15, and between them blanks and line feeds alone.",
             )
         }
         ScheduleError::LongSchedule => mended_by(
             alloc,
-            &[
-                Part::Words("The schedule has "),
-                Part::Number(text.len()),
-                Part::Words(" bytes, and may have "),
-                Part::Number(LONGEST_SCHEDULE),
-                Part::Words("."),
-            ],
+            "The schedule has @ bytes, and may have @.",
+            &[Part::Number(text.len()), Part::Number(LONGEST_SCHEDULE)],
             "Write the turns that matter, and let `--finish` take the others.",
         ),
         ScheduleError::OutOfMemory => usual(alloc, &StatError::OutOfMemory),

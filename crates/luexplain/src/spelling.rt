@@ -16,7 +16,7 @@ pub(crate) fn put_sign(text: &mut String, sign: PatternRef) -> Result<(), AllocE
 }
 
 /// `c`, `not c` or `A(c)`, by the variable and the pattern.
-fn put_on(text: &mut String, name: &str, sign: PatternRef) -> Result<(), AllocError> {
+pub(crate) fn put_on(text: &mut String, name: &str, sign: PatternRef) -> Result<(), AllocError> {
     match sign {
         PatternRef::Truth(true) => put_cut(text, name),
         PatternRef::Truth(false) => {

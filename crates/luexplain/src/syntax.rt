@@ -71,12 +71,14 @@ fn said_of_token(alloc: Global, rest: &[u8]) -> Result<Said, AllocError> {
         ),
         [first, ..] if is_word(*first) || is_sign(*first) => mended_by(
             alloc,
-            &[token, Part::Words(" can't stand here.")],
+            "@ can't stand here.",
+            &[token],
             "What is missing often belongs before it, as the `;` of an equation; a keyword is no name.",
         ),
         _ => mended_by(
             alloc,
-            &[token, Part::Words(" begins no name, number or sign.")],
+            "@ begins no name, number or sign.",
+            &[token],
             "Leave it out; a comment begins with `--`.",
         ),
     }
@@ -88,11 +90,8 @@ fn said_of_syntax(alloc: Global, text: &[u8], error: &SynError) -> Result<Said, 
         SynError::Syntax { byte } => said_of_token(alloc, from_byte(text, *byte)),
         SynError::NumberTooLarge { byte } => mended_by(
             alloc,
-            &[
-                Part::Words("The number "),
-                Part::Bytes(token_of(from_byte(text, *byte))),
-                Part::Words(" is above 9223372036854775807, the greatest `int`."),
-            ],
+            "The number @ is above 9223372036854775807, the greatest `int`.",
+            &[Part::Bytes(token_of(from_byte(text, *byte)))],
             "Choose a coarser unit, here and in the table.",
         ),
         SynError::NotAscii => in_words(
@@ -102,13 +101,8 @@ fn said_of_syntax(alloc: Global, text: &[u8], error: &SynError) -> Result<Said, 
         ),
         SynError::TooLong if text.len() > LONGEST_PROGRAM => mended_by(
             alloc,
-            &[
-                Part::Words("The text has "),
-                Part::Number(text.len()),
-                Part::Words(" bytes, and a program has at most "),
-                Part::Number(LONGEST_PROGRAM),
-                Part::Words("."),
-            ],
+            "The text has @ bytes, and a program has at most @.",
+            &[Part::Number(text.len()), Part::Number(LONGEST_PROGRAM)],
             "Leave out what says nothing, and nodes that nothing calls.",
         ),
         SynError::TooLong => in_words(

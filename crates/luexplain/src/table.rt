@@ -83,11 +83,8 @@ fn bad_header(alloc: Global, text: &[u8], inputs: &[Declaration]) -> Result<Foun
     let byte = shared_front(text, header.as_bytes());
     let said = mended_by(
         alloc,
-        &[Part::Around(
-            "The first line isn't the header ",
-            header.as_str(),
-            " with a line feed at its end; it differs from here on.",
-        )],
+        "The first line isn't the header @ with a line feed at its end; it differs from here on.",
+        &[Part::Name(header.as_str())],
         "Write the names of the inputs in order of declaration, with `,` between them and no blanks.",
     )?;
     Ok(Found { byte, said })
@@ -114,14 +111,11 @@ fn bad_row(
     }
     let said = mended_by(
         alloc,
+        "The line has @, and the table has @: @.",
         &[
-            Part::Words("The line has "),
             Part::Count(count_of(row, b',').saturating_add(1), "field"),
-            Part::Words(", and the table has "),
             Part::Count(inputs.len(), "column"),
-            Part::Words(": "),
             Part::Variables(inputs),
-            Part::Words("."),
         ],
         "Write a value for each input at every instant.",
     )?;
@@ -215,31 +209,31 @@ fn said_of_value<'a>(
     wrong: &Wrong<'a>,
 ) -> Result<Said, AllocError> {
     let kind = wrong.input.kind;
-    let what = [
+    let what = "@ in the column @ is no value of type @.";
+    let parts = [
         Part::Bytes(wrong.field),
-        Part::Around(
-            " in the column ",
-            wrong.input.name.as_str(),
-            " is no value of type ",
-        ),
+        Part::Name(wrong.input.name.as_str()),
         Part::Type(program, kind),
-        Part::Words("."),
     ];
     match kind {
         Kind::Int => mended_by(
             alloc,
-            &what,
+            what,
+            &parts,
             "Write a whole number from -9223372036854775808 to 9223372036854775807, without blanks, `+` or zeros before it.",
         ),
-        Kind::Bool => mended_by(alloc, &what, "Write `true` or `false`, without blanks."),
+        Kind::Bool => mended_by(
+            alloc,
+            what,
+            &parts,
+            "Write `true` or `false`, without blanks.",
+        ),
         Kind::Enum(place, _) => say(
             alloc,
-            &what,
-            &[
-                Part::Words("Write one of "),
-                Part::Labels(labels_at(program, place)),
-                Part::Words(", without blanks."),
-            ],
+            what,
+            &parts,
+            "Write one of @, without blanks.",
+            &[Part::Labels(labels_at(program, place))],
         ),
     }
 }
@@ -271,14 +265,11 @@ fn bad_value(
 fn too_long(alloc: Global, text: &[u8]) -> Result<Said, AllocError> {
     mended_by(
         alloc,
+        "The table has @ bytes and @; it may have @ bytes, and a header and 1000000 lines.",
         &[
-            Part::Words("The table has "),
             Part::Number(text.len()),
-            Part::Words(" bytes and "),
             Part::Count(count_of(text, b'\n'), "line"),
-            Part::Words("; it may have "),
             Part::Number(LONGEST_TABLE),
-            Part::Words(" bytes, and a header and 1000000 lines."),
         ],
         "Try the program at a part of the table.",
     )

@@ -7,17 +7,47 @@ use crate::words::Part;
 use lulist::Name;
 use lustat_scope::{Catalog, Scope};
 use lusyn_tokens::{infix_token, prefix_token};
-use lutree::{Expr, Infix, Kind, Prefix};
+use lutree::{Declaration, Expr, Infix, Kind, Prefix};
 use lutype::{asked_kind, kind_of_result, kind_of_unary};
 use std::alloc::{AllocError, Global};
 
 /// Two things that have to be of one type and aren't, with their types.
 #[derive(Clone, Copy)]
 struct Clash<'a> {
-    first: Part<'a>,
+    first: Side<'a>,
     wanted: Kind,
-    second: Part<'a>,
+    second: Side<'a>,
     found: Kind,
+}
+
+/// What is of a type.
+#[derive(Clone, Copy)]
+enum Side<'a> {
+    Value(&'a Expr),
+    /// What the operator takes that is spelled so.
+    Operand(&'a str),
+    /// The condition of an `if`.
+    Condition,
+    /// An input of the node of this name.
+    Input(&'a Declaration, &'a Name),
+    /// An output of the node of this name.
+    Output(&'a Declaration, &'a Name),
+    Variable(&'a Name),
+    /// The right side of an equation.
+    Right,
+}
+
+/// How what is of a type is told in a sentence.
+fn side_part(side: Side<'_>) -> Part<'_> {
+    match side {
+        Side::Value(e) => Part::Value(e),
+        Side::Operand(sign) => Part::Around("what ", sign, " takes"),
+        Side::Condition => Part::Words("the condition of an `if`"),
+        Side::Input(input, f) => Part::Of("the input ", &input.name, f),
+        Side::Output(output, f) => Part::Of("the output ", &output.name, f),
+        Side::Variable(x) => Part::Name(x.as_str()),
+        Side::Right => Part::Words("the right side"),
+    }
 }
 
 /// The type that an expression has if it has one, by its form.
@@ -46,7 +76,7 @@ fn kind_of(catalog: &Catalog, scope: &Scope, e: &Expr) -> Option<Kind> {
 /// An expression that isn't of the type that something else has.
 fn clash_with<'a>(
     spot: &Spot<'_, 'a>,
-    first: Part<'a>,
+    first: Side<'a>,
     wanted: Kind,
     e: &'a Expr,
 ) -> Option<Clash<'a>> {
@@ -54,7 +84,7 @@ fn clash_with<'a>(
     if found == wanted {
         return None;
     }
-    let second = Part::Value(e);
+    let second = Side::Value(e);
     Some(Clash {
         first,
         wanted,
@@ -66,7 +96,7 @@ fn clash_with<'a>(
 /// Two expressions of two types.
 fn clash_of_two<'a>(spot: &Spot<'_, 'a>, a: &'a Expr, b: &'a Expr) -> Option<Clash<'a>> {
     let kind = kind_of(spot.catalog, spot.scope, a)?;
-    clash_with(spot, Part::Value(a), kind, b)
+    clash_with(spot, Side::Value(a), kind, b)
 }
 
 /// An argument that isn't of the type of its input.
@@ -81,8 +111,7 @@ fn clash_of_arguments<'a>(
         .iter()
         .zip(arguments)
     {
-        let side = Part::Of("the input ", input.name.as_str(), f.as_str());
-        let found = clash_with(spot, side, input.kind, e);
+        let found = clash_with(spot, Side::Input(input, f), input.kind, e);
         if found.is_some() {
             return found;
         }
@@ -94,14 +123,12 @@ fn clash_of_arguments<'a>(
 fn clash_at<'a>(spot: &Spot<'_, 'a>, e: &'a Expr) -> Option<Clash<'a>> {
     match e {
         Expr::Unary(Prefix::Data(op), a) => {
-            let sign = prefix_token(Prefix::Data(*op)).text();
-            let side = Part::Around("what ", sign, " takes");
+            let side = Side::Operand(prefix_token(Prefix::Data(*op)).text());
             clash_with(spot, side, kind_of_unary(*op), a)
         }
         Expr::Binary(Infix::Data(op), a, b) => match asked_kind(*op) {
             Some(asked) => {
-                let sign = infix_token(Infix::Data(*op)).text();
-                let side = Part::Around("what ", sign, " takes");
+                let side = Side::Operand(infix_token(Infix::Data(*op)).text());
                 match clash_with(spot, side, asked, a) {
                     None => clash_with(spot, side, asked, b),
                     found => found,
@@ -111,8 +138,7 @@ fn clash_at<'a>(spot: &Spot<'_, 'a>, e: &'a Expr) -> Option<Clash<'a>> {
         },
         Expr::Binary(_, a, b) => clash_of_two(spot, a, b),
         Expr::If(c, a, b) => {
-            let side = Part::Words("the condition of an `if`");
-            match clash_with(spot, side, Kind::Bool, c) {
+            match clash_with(spot, Side::Condition, Kind::Bool, c) {
                 None => clash_of_two(spot, a, b),
                 found => found,
             }
@@ -136,14 +162,14 @@ fn clash_at<'a>(spot: &Spot<'_, 'a>, e: &'a Expr) -> Option<Clash<'a>> {
 fn clash_of_variable<'a>(
     scope: &Scope<'a>,
     x: &'a Name,
-    second: Part<'a>,
+    second: Side<'a>,
     found: Kind,
 ) -> Option<Clash<'a>> {
     let wanted = scope.kind(x.as_str())?;
     if wanted == found {
         return None;
     }
-    let first = Part::Name(x.as_str());
+    let first = Side::Variable(x);
     Some(Clash {
         first,
         wanted,
@@ -157,7 +183,7 @@ fn clash_of_sides<'a>(spot: &Spot<'_, 'a>) -> Option<Clash<'a>> {
     let left = spot.equation.left.as_slice();
     if let Expr::Call(f, _) = &spot.equation.right {
         for (x, output) in left.iter().zip(called(spot.catalog, f)?.outputs.as_slice()) {
-            let side = Part::Of("the output ", output.name.as_str(), f.as_str());
+            let side = Side::Output(output, f);
             let found = clash_of_variable(spot.scope, x, side, output.kind);
             if found.is_some() {
                 return found;
@@ -166,12 +192,7 @@ fn clash_of_sides<'a>(spot: &Spot<'_, 'a>) -> Option<Clash<'a>> {
         return None;
     }
     let kind = kind_of(spot.catalog, spot.scope, &spot.equation.right)?;
-    clash_of_variable(
-        spot.scope,
-        left.first()?,
-        Part::Words("the right side"),
-        kind,
-    )
+    clash_of_variable(spot.scope, left.first()?, Side::Right, kind)
 }
 
 /// What doesn't agree in an equation: first in its right side, then between its sides.
@@ -200,16 +221,12 @@ pub(crate) fn mismatch(alloc: Global, spot: &Spot) -> Result<Said, AllocError> {
     let program = spot.catalog.program();
     mended_by(
         alloc,
+        "The types don't agree: @ is of type @, @ is of type @.",
         &[
-            Part::Words("The types don't agree: "),
-            clash.first,
-            Part::Words(" is of type "),
+            side_part(clash.first),
             Part::Type(program, clash.wanted),
-            Part::Words(", "),
-            clash.second,
-            Part::Words(" is of type "),
+            side_part(clash.second),
             Part::Type(program, clash.found),
-            Part::Words("."),
         ],
         mend,
     )

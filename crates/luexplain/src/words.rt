@@ -2,7 +2,8 @@
 
 use crate::find::type_at_place;
 use crate::place::put_shown;
-use crate::spelling::{put_clock, put_sign, spelled};
+use crate::spelling::{put_on, put_sign, spelled};
+use lulist::Name;
 use lustat_scope::{ClockRef, PatternRef};
 use lutree::{Declaration, DeclaredName, Expr, Kind, Node, Program};
 use std::alloc::{AllocError, Global};
@@ -12,6 +13,19 @@ const QUOTED: usize = 60;
 
 /// How many of several names are told.
 const TOLD: usize = 8;
+
+/// What is told of a clock.
+#[derive(Clone, Copy)]
+pub(crate) enum Told {
+    /// The base clock, or the clock `c`.
+    Clock,
+    /// The clock in short: `c`, `not c` or `A(c)`.
+    Short,
+    /// Its pattern.
+    Sign,
+    /// The branch of a merge on its variable that has its pattern.
+    Branch,
+}
 
 /// A part of a sentence. What is quoted stands between backticks, and is cut where it is long.
 #[derive(Clone, Copy)]
@@ -23,7 +37,7 @@ pub(crate) enum Part<'a> {
     /// A quoted name, with words before it and behind it.
     Around(&'a str, &'a str, &'a str),
     /// Words, a quoted name, and the quoted name of its node.
-    Of(&'a str, &'a str, &'a str),
+    Of(&'a str, &'a Name, &'a Name),
     /// Quoted bytes.
     Bytes(&'a [u8]),
     /// A quoted expression in its canonical form.
@@ -34,14 +48,8 @@ pub(crate) enum Part<'a> {
     Count(usize, &'a str),
     /// The name of a type of a program.
     Type(&'a Program, Kind),
-    /// The pattern of a clock.
-    Sign(PatternRef<'a>),
-    /// A clock in short: `c`, `not c` or `A(c)`.
-    Short(ClockRef<'a>),
-    /// The base clock, or the clock `c`.
-    Clock(ClockRef<'a>),
-    /// The branch of a merge on this variable that has this pattern.
-    Branch(&'a str, PatternRef<'a>),
+    /// A clock, and what is told of it.
+    Clock(ClockRef<'a>, Told),
     /// Names with commas between them; of many the first alone, and how many more there are.
     Names(&'a [&'a str]),
     /// The same of the names of an enumeration.
@@ -187,14 +195,22 @@ fn put_type(text: &mut String, program: &Program, kind: Kind) -> Result<(), Allo
     }
 }
 
-fn put_on_clock(text: &mut String, clock: ClockRef) -> Result<(), AllocError> {
-    match clock {
-        ClockRef::Base => text.push_str("the base clock"),
-        clock => {
+/// What is told of the clock with this variable and this pattern.
+fn put_on_clock(
+    text: &mut String,
+    name: &str,
+    sign: PatternRef,
+    told: Told,
+) -> Result<(), AllocError> {
+    match told {
+        Told::Clock => {
             text.push_str("the clock `")?;
-            put_clock(text, clock)?;
+            put_on(text, name, sign)?;
             text.push('`')
         }
+        Told::Short => put_on(text, name, sign),
+        Told::Sign => put_sign(text, sign),
+        Told::Branch => put_branch(text, name, sign),
     }
 }
 
@@ -216,16 +232,14 @@ fn put_one(text: &mut String, alloc: Global, part: Part) -> Result<(), AllocErro
         Part::Name(name) => put_quoted(text, name.as_bytes()),
         Part::Around(before, name, behind) => put_around(text, before, name, behind),
         Part::Of(before, name, node) => {
-            put_around(text, before, name, " of node ")?;
-            put_quoted(text, node.as_bytes())
+            put_around(text, before, name.as_str(), " of node ")?;
+            put_quoted(text, node.as_str().as_bytes())
         }
         Part::Bytes(bytes) => put_quoted(text, bytes),
         Part::Value(e) => put_value(text, alloc, e),
         Part::Type(program, kind) => put_type(text, program, kind),
-        Part::Sign(sign) => put_sign(text, sign),
-        Part::Short(clock) => put_clock(text, clock),
-        Part::Clock(clock) => put_on_clock(text, clock),
-        Part::Branch(variable, sign) => put_branch(text, variable, sign),
+        Part::Clock(ClockRef::Base, _) => text.push_str("the base clock"),
+        Part::Clock(ClockRef::On(name, sign), told) => put_on_clock(text, name, sign, told),
         _ => Ok(()),
     }
 }
@@ -244,11 +258,17 @@ fn put_part(text: &mut String, alloc: Global, part: Part) -> Result<(), AllocErr
     }
 }
 
-/// A sentence of these parts.
-pub(crate) fn sentence(alloc: Global, parts: &[Part]) -> Result<String, AllocError> {
+/// A sentence of these words, with the parts in turn in the places of `@`.
+pub(crate) fn sentence(alloc: Global, words: &str, parts: &[Part]) -> Result<String, AllocError> {
     let mut text = String::new(alloc);
-    for part in parts {
-        put_part(&mut text, alloc, *part)?;
+    let mut next = 0_usize;
+    for byte in words.as_bytes() {
+        if *byte != b'@' {
+            text.push(*byte as char)?;
+        } else if let Some(part) = parts.get(next) {
+            put_part(&mut text, alloc, *part)?;
+            next = next.saturating_add(1);
+        }
     }
     Ok(text)
 }

@@ -50,6 +50,11 @@ pub started_on : {W H B : Type 0} (f : W → List B) (h : H → List B) (ws more
 started_on f h ws more w left rest x all e next same was =
     ap (λ ps. ps ++ flat_map h rest) (flat_push f ws more w e ∙ ap (λ ps. flat_map f ws ++ ps) same) ∙ append_assoc (flat_map f ws) (h x) (flat_map h rest) ∙ ap (λ hs. flat_map f ws ++ flat_map h hs) (sym next) ∙ was
 
+-- the same for one thread a station
+pub thread_started : {W B : Type 0} (f : W → B) (ws more : List W) (w : W) (left rest : List B) (x : B) (all : List B) → more ≡ ws ++ w ∷ [] → left ≡ x ∷ rest → f w ≡ x → map f ws ++ left ≡ all → map f more ++ rest ≡ all
+thread_started f ws more w left rest x all e next same was =
+    ap (λ vs. map f vs ++ rest) e ∙ ap (λ bs. bs ++ rest) (map-append f ws (w ∷ [])) ∙ append_assoc (map f ws) (f w ∷ []) rest ∙ ap (λ b. map f ws ++ b ∷ rest) same ∙ ap (λ bs. map f ws ++ bs) (sym next) ∙ was
+
 -- ---- reports
 
 pub report_place : (s : StationAt) (r : SiteAt) → ReportsFor s r → place_of r ≡ place_of s.at

@@ -223,16 +223,16 @@ fn start<'s, E, R: Wait + Sync, G: Gate>(
 {
     let Hand { seats, reports } = hand;
     let promise = ReportsOf(Snapshot::of(&seats));
-    match scope.spawn_with(
-        promise,
-        move || -> Vec<SiteReport>
-            requires { (vec_len seats ≤ vec_capacity reports) × (vec_len reports ≡ 0) }
-            ensures { AreReportsOf seats.items result.items }
-        { serve(rt, seats, gate, reports) },
-    ) {
-        Ok(worker) => Ok(worker),
-        Err(_) => Err(RunError::NoThread),
-    }
+    scope
+        .spawn_with(
+            promise,
+            move || -> Vec<SiteReport>
+                requires { (vec_len seats ≤ vec_capacity reports) × (vec_len reports ≡ 0) }
+                ensures { AreReportsOf seats.items result.items }
+            { serve(rt, seats, gate, reports) },
+        )
+        .ok()
+        .ok_or(RunError::NoThread)
 }
 
 fn deal_to(shares: &mut Vec<Vec<Seat>>, to: usize, seat: Seat) -> Result<(), AllocError>

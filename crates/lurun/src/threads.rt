@@ -97,15 +97,15 @@ fn start<'s, E, R: Wait + Sync, G: Gate>(
     ensures { IfOk result (λ h. h.promise.0.value ≡ station) }
 {
     let promise = ReportOf(Snapshot::of(&station));
-    match scope.spawn_with(
-        promise,
-        move || -> SiteReport
-            ensures { ReportsFor station result }
-        { serve(rt, station, gate) },
-    ) {
-        Ok(child) => Ok(child),
-        Err(_) => Err(RunError::NoThread),
-    }
+    scope
+        .spawn_with(
+            promise,
+            move || -> SiteReport
+                ensures { ReportsFor station result }
+            { serve(rt, station, gate) },
+        )
+        .ok()
+        .ok_or(RunError::NoThread)
 }
 
 /// Starts a thread for each station, up to the first that is refused: false there, and the stations that are left are dropped,

@@ -1,12 +1,14 @@
-//! Runs on threads and by crews, with gates that hold items back, with stations that are missing or whose links lead nowhere, and
+//! What links pass, and runs on threads and by crews, with gates that hold items back, with stations that are missing or whose links lead nowhere, and
 //! sites that stop before an item: lines of standard input, with what each comes to. README.md has the form of the lines.
 #![tactic(auto)]
 
 mod driver;
 mod gates;
+mod links;
 mod parties;
 mod runs;
 
+use crate::links::put_passed;
 use crate::parties::put_driven;
 use crate::runs::{put_outputs, put_run};
 use luplace::Job;
@@ -14,6 +16,7 @@ use lurun::collect;
 use lusdist_commands::jobs::job_for;
 use lusdist_shell::RealFiles;
 use std::io;
+use std::rt::Clock;
 use std::sync::Wait;
 use std::thread::Threads;
 
@@ -41,8 +44,8 @@ fn take_job<R: Threads + Wait + Sync>(
     }
 }
 
-/// Writes what a line comes to.
-fn take_line<R: Threads + Wait + Sync>(
+/// Writes what a line of a job's files comes to.
+fn take_files<R: Threads + Wait + Sync>(
     threads: &R,
     rt: &HostRuntime,
     line: &str,
@@ -53,6 +56,18 @@ fn take_line<R: Threads + Wait + Sync>(
         return println!(rt; "! no job");
     };
     take_job(threads, rt, &job, line)
+}
+
+/// Writes what a line comes to.
+fn take_line<R: Threads + Wait + Sync + Clock + Print>(
+    threads: &R,
+    rt: &HostRuntime,
+    line: &str,
+) -> io::Result<()> {
+    match word(line, 0) {
+        "ring" | "channel" => put_passed(threads, rt.alloc(), line),
+        _ => take_files(threads, rt, line),
+    }
 }
 
 fn main(rt: HostRuntime) -> io::Result<()> {

@@ -18,7 +18,7 @@ pub fn page_of(alloc: Global, word: &str) -> Result<Option<&'static str>, AllocE
 }
 
 /// A line for each code, with its name.
-#[tactic(auto, unfolding(crate::specs::Pages::pages))]
+#[tactic(auto, unfolding(crate::specs::Pages::files, crate::specs::Pages::texts, crate::specs::Pages::names, crate::specs::Pages::clocks, crate::specs::Pages::starts, crate::specs::Pages::placements, crate::specs::Pages::tables, crate::specs::Pages::schedules, crate::specs::Pages::runs))]
 pub fn all_codes() -> &'static str
     ensures { result.now ≡ listing }
 {

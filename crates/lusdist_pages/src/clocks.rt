@@ -1,5 +1,8 @@
 //! The pages on clocks, which `tools/faults` makes from docs/FAULTS.md.
 
+ghost use Rattle.std.specs.Prelude.{◌≡◌, option_map};
+ghost use Rattle.lusdist_pages.specs.Pages.{text_among, clocks};
+
 /// The page of `E20 ClockMismatch`.
 pub const E20: &str = "E20 ClockMismatch
 
@@ -116,3 +119,17 @@ Make the clock an output:
       y = x when big;
     tel
 ";
+
+/// The page of a code, where it is one of these.
+#[tactic(auto, unfolding(crate::specs::Pages::clocks))]
+pub fn page(code: &str) -> Option<&'static str>
+    ensures { option_map (λ s. s.now) result ≡ text_among clocks code.now }
+{
+    match code {
+        "E20" => Some(E20),
+        "E21" => Some(E21),
+        "E22" => Some(E22),
+        "E23" => Some(E23),
+        _ => None,
+    }
+}

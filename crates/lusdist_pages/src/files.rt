@@ -1,5 +1,8 @@
 //! The pages on words and files, which `tools/faults` makes from docs/FAULTS.md.
 
+ghost use Rattle.std.specs.Prelude.{◌≡◌, option_map};
+ghost use Rattle.lusdist_pages.specs.Pages.{text_among, files};
+
 /// The page of `F01 CannotRead`.
 pub const F01: &str = "F01 CannotRead
 
@@ -39,3 +42,15 @@ written, since its folder isn't there, for instance: the file is as it was, or
 has a beginning of the dump. Nothing went to the output, and a fault that the
 evaluation would tell isn't told.
 ";
+
+/// The page of a code, where it is one of these.
+#[tactic(auto, unfolding(crate::specs::Pages::files))]
+pub fn page(code: &str) -> Option<&'static str>
+    ensures { option_map (λ s. s.now) result ≡ text_among files code.now }
+{
+    match code {
+        "F01" => Some(F01),
+        "F02" => Some(F02),
+        _ => None,
+    }
+}

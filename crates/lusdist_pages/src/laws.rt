@@ -6,7 +6,7 @@ ghost use Rattle.lusdist_pages.specs.Pages.{pages};
 ghost use Rattle.lusdist_pages.specs.Titles.{begins_with_title};
 
 /// Each page begins with its code and its name.
-#[tactic(auto, unfolding(crate::specs::Pages::pages))]
+#[tactic(auto, unfolding(crate::specs::Pages::files, crate::specs::Pages::texts, crate::specs::Pages::names, crate::specs::Pages::clocks, crate::specs::Pages::starts, crate::specs::Pages::placements, crate::specs::Pages::tables, crate::specs::Pages::schedules, crate::specs::Pages::runs))]
 pub fn titles_law()
     ensures { list_all begins_with_title pages ≡ true }
 {}

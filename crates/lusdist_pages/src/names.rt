@@ -1,5 +1,8 @@
 //! The pages on names and types, which `tools/faults` makes from docs/FAULTS.md.
 
+ghost use Rattle.std.specs.Prelude.{◌≡◌, option_map};
+ghost use Rattle.lusdist_pages.specs.Pages.{text_among, names};
+
 /// The page of `E10 DuplicateName`.
 pub const E10: &str = "E10 DuplicateName
 
@@ -290,3 +293,23 @@ Say what comes in the mode that has no branch:
       power = merge mode (Idle -> 0) (Heating -> level when Heating(mode)) (Error -> 0);
     tel
 ";
+
+/// The page of a code, where it is one of these.
+#[tactic(auto, unfolding(crate::specs::Pages::names))]
+pub fn page(code: &str) -> Option<&'static str>
+    ensures { option_map (λ s. s.now) result ≡ text_among names code.now }
+{
+    match code {
+        "E10" => Some(E10),
+        "E11" => Some(E11),
+        "E12" => Some(E12),
+        "E13" => Some(E13),
+        "E14" => Some(E14),
+        "E15" => Some(E15),
+        "E16" => Some(E16),
+        "E17" => Some(E17),
+        "E18" => Some(E18),
+        "E19" => Some(E19),
+        _ => None,
+    }
+}

@@ -1,5 +1,8 @@
 //! The pages on placements, which `tools/faults` makes from docs/FAULTS.md.
 
+ghost use Rattle.std.specs.Prelude.{◌≡◌, option_map};
+ghost use Rattle.lusdist_pages.specs.Pages.{text_among, placements};
+
 /// The page of `P01 NotToml`.
 pub const P01: &str = "P01 NotToml
 
@@ -228,3 +231,21 @@ elsewhere):
     $ lusdist plan p.lus p.toml
     {\"capacity\":16,\"flows\":[{\"clock\":\"\",\"name\":\"x\",\"site\":\"tank\",\"type\":\"int\"},{\"clock\":\"\",\"name\":\"a\",\"site\":\"tank\",\"type\":\"int\"},{\"clock\":\"\",\"name\":\"b\",\"site\":\"tank\",\"type\":\"int\"}],\"links\":[],\"sites\":[\"tank\",\"panel\"]}
 ";
+
+/// The page of a code, where it is one of these.
+#[tactic(auto, unfolding(crate::specs::Pages::placements))]
+pub fn page(code: &str) -> Option<&'static str>
+    ensures { option_map (λ s. s.now) result ≡ text_among placements code.now }
+{
+    match code {
+        "P01" => Some(P01),
+        "P02" => Some(P02),
+        "P03" => Some(P03),
+        "P04" => Some(P04),
+        "P05" => Some(P05),
+        "P06" => Some(P06),
+        "P07" => Some(P07),
+        "P08" => Some(P08),
+        _ => None,
+    }
+}

@@ -1,5 +1,8 @@
 //! The pages on values and the machine, which `tools/faults` makes from docs/FAULTS.md.
 
+ghost use Rattle.std.specs.Prelude.{◌≡◌, option_map};
+ghost use Rattle.lusdist_pages.specs.Pages.{text_among, runs};
+
 /// The page of `R1 Fault`.
 pub const R1: &str = "R1 Fault overflow
 
@@ -126,3 +129,17 @@ The system refused to start a thread of a run. It says nothing of the texts.
 with a small number, close other programs, or take `replay --finish`, which
 starts none and tells the same outputs.
 ";
+
+/// The page of a code, where it is one of these.
+#[tactic(auto, unfolding(crate::specs::Pages::runs))]
+pub fn page(code: &str) -> Option<&'static str>
+    ensures { option_map (λ s. s.now) result ≡ text_among runs code.now }
+{
+    match code {
+        "R1" => Some(R1),
+        "R2" => Some(R2),
+        "R3" => Some(R3),
+        "R4" => Some(R4),
+        _ => None,
+    }
+}

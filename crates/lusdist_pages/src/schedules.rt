@@ -1,5 +1,8 @@
 //! The pages on schedules, which `tools/faults` makes from docs/FAULTS.md.
 
+ghost use Rattle.std.specs.Prelude.{◌≡◌, option_map};
+ghost use Rattle.lusdist_pages.specs.Pages.{text_among, schedules};
+
 /// The page of `S01 BadSchedule`.
 pub const S01: &str = "S01 BadSchedule
 
@@ -77,3 +80,15 @@ until no site can do anything more. With a file `s.txt`:
     site panel ended
     output y 6
 ";
+
+/// The page of a code, where it is one of these.
+#[tactic(auto, unfolding(crate::specs::Pages::schedules))]
+pub fn page(code: &str) -> Option<&'static str>
+    ensures { option_map (λ s. s.now) result ≡ text_among schedules code.now }
+{
+    match code {
+        "S01" => Some(S01),
+        "S02" => Some(S02),
+        _ => None,
+    }
+}

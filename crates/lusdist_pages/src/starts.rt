@@ -1,5 +1,8 @@
 //! The pages on initialisation and the program as a whole, which `tools/faults` makes from docs/FAULTS.md.
 
+ghost use Rattle.std.specs.Prelude.{◌≡◌, option_map};
+ghost use Rattle.lusdist_pages.specs.Pages.{text_among, starts};
+
 /// The page of `E30 MaybeNil`.
 pub const E30: &str = "E30 MaybeNil
 
@@ -129,3 +132,17 @@ a local in place of a second call:
     y
     1024
 ";
+
+/// The page of a code, where it is one of these.
+#[tactic(auto, unfolding(crate::specs::Pages::starts))]
+pub fn page(code: &str) -> Option<&'static str>
+    ensures { option_map (λ s. s.now) result ≡ text_among starts code.now }
+{
+    match code {
+        "E30" => Some(E30),
+        "E31" => Some(E31),
+        "E40" => Some(E40),
+        "E50" => Some(E50),
+        _ => None,
+    }
+}

@@ -1,5 +1,8 @@
 //! The pages on tables, which `tools/faults` makes from docs/FAULTS.md.
 
+ghost use Rattle.std.specs.Prelude.{◌≡◌, option_map};
+ghost use Rattle.lusdist_pages.specs.Pages.{text_among, tables};
+
 /// The page of `T01 BadHeader`.
 pub const T01: &str = "T01 BadHeader
 
@@ -128,3 +131,17 @@ Try the program at a part of the table, such as the file `t.csv` that `head -n
     5
     5
 ";
+
+/// The page of a code, where it is one of these.
+#[tactic(auto, unfolding(crate::specs::Pages::tables))]
+pub fn page(code: &str) -> Option<&'static str>
+    ensures { option_map (λ s. s.now) result ≡ text_among tables code.now }
+{
+    match code {
+        "T01" => Some(T01),
+        "T02" => Some(T02),
+        "T03" => Some(T03),
+        "T04" => Some(T04),
+        _ => None,
+    }
+}

@@ -1,5 +1,8 @@
 //! The pages on a program's text, which `tools/faults` makes from docs/FAULTS.md.
 
+ghost use Rattle.std.specs.Prelude.{◌≡◌, option_map};
+ghost use Rattle.lusdist_pages.specs.Pages.{text_among, texts};
+
 /// The page of `E01 Syntax`.
 pub const E01: &str = "E01 Syntax
 
@@ -143,3 +146,18 @@ Cut the expression, and give its parts to locals. With 300 times `x` in `a = x
     y
     3000
 ";
+
+/// The page of a code, where it is one of these.
+#[tactic(auto, unfolding(crate::specs::Pages::texts))]
+pub fn page(code: &str) -> Option<&'static str>
+    ensures { option_map (λ s. s.now) result ≡ text_among texts code.now }
+{
+    match code {
+        "E01" => Some(E01),
+        "E02" => Some(E02),
+        "E03" => Some(E03),
+        "E04" => Some(E04),
+        "E05" => Some(E05),
+        _ => None,
+    }
+}

@@ -9,6 +9,7 @@
 //!   tells why there are no words.
 #![tactic(auto)]
 
+mod argument;
 mod command;
 mod files;
 mod progress;

@@ -327,14 +327,16 @@ fn request_in<'a>(matches: &ArgMatches<'a>) -> Request<'a>
     ensures found { IsFoundIn (subcommand_rows_of matches.now) result }
     ensures few { HasFewWorkers result }
 {
-    match matches.subcommand() {
-        Some((name, found)) if name == "check" => Request::Check(check_in(found)),
-        Some((name, found)) if name == "eval" => Request::Eval(eval_in(found)),
-        Some((name, found)) if name == "plan" => Request::Plan(plan_in(found)),
-        Some((name, found)) if name == "replay" => Request::Replay(replay_in(found)),
-        Some((name, found)) if name == "run" => Request::Run(run_in(found)),
-        Some((_, found)) => Request::Explain(explain_in(found)),
-        None => unreachable!(),
+    let Some((name, found)) = matches.subcommand() else {
+        unreachable!();
+    };
+    match name {
+        "check" => Request::Check(check_in(found)),
+        "eval" => Request::Eval(eval_in(found)),
+        "plan" => Request::Plan(plan_in(found)),
+        "replay" => Request::Replay(replay_in(found)),
+        "run" => Request::Run(run_in(found)),
+        _ => Request::Explain(explain_in(found)),
     }
 }
 

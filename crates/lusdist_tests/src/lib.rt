@@ -1,7 +1,8 @@
 //! What only code can show of whole calls and of runs at several sites: the tests of `lusdist_shell`, `lusdist_commands`,
-//! `lusdist_plain` and `luplace`, as far as they need code; whole commands over files are cases of `lusdist_rows`.
+//! `lusdist_plain`, `luplace` and `luplace_file`, as far as they need code; whole commands over files are cases of `lusdist_rows`.
 //!
 //! - `calls`: output that can't be written, files without memory, words that can't be read, and the lines of refused memory.
+//! - `placements`, `long_placements`: what texts of placements are read as, and such of many entries.
 //! - `counters`: the plain programs of `lusdist_plain`, and what a site is handed, by hand.
 //! - `schedules`: all schedules of eight turns over three sites, against the plain programs.
 //!
@@ -12,5 +13,9 @@
 mod calls;
 #[cfg(test)]
 mod counters;
+#[cfg(test)]
+mod long_placements;
+#[cfg(test)]
+mod placements;
 #[cfg(test)]
 mod schedules;

@@ -1,0 +1,133 @@
+//! The arguments of the commands.
+
+ghost use Rattle.std.specs.Prelude.{◌≡◌, false};
+ghost use Rattle.clap.specs.Words.{rule_of};
+ghost use Rattle.lusdist_shell.specs.CommandLine.{path_rule, main_rule, flag_rule, instant_rule, vcd_rule, workers_rule, code_rule};
+ghost use Rattle.lusdist_shell.specs.Arguments.{rule_in};
+
+use clap::builder::ValueParser;
+use clap::{Arg, ArgAction};
+use std::alloc::Global;
+
+/// The fewest workers that may serve the sites.
+const FEWEST_WORKERS: u64 = 1;
+
+/// The most workers that may serve the sites.
+const MOST_WORKERS: u64 = 16;
+
+/// The last instant that a table may have.
+const LAST_INSTANT: u64 = 999_999;
+
+/// An argument of a command: what it is, and its name and its help where they aren't always the same.
+#[derive(Clone, Copy)]
+pub enum Argument<'a> {
+    /// The name of the main node.
+    Main,
+    /// A path that must be given.
+    Path { name: &'a str, help: &'a str },
+    /// A flag, which is given or not.
+    Flag { name: &'a str, help: &'a str },
+    /// An instant of a chart.
+    Instant { name: &'a str, help: &'a str },
+    /// The file that a dump goes into.
+    Vcd { help: &'a str },
+    /// How many threads serve the sites.
+    Workers,
+    /// The code of a page, which may be left out.
+    Code,
+}
+
+/// A path that must be given.
+fn path<'a>(alloc: Global, name: &'a str, help: &'a str) -> Arg<'a>
+    ensures rule { rule_of result ≡ path_rule name.entry.now }
+    ensures local { result.global ≡ false }
+{
+    Arg::new(alloc, name)
+        .required(true)
+        .action(ArgAction::Set)
+        .help(help)
+}
+
+/// The name of the main node.
+fn main_name<'a>(alloc: Global) -> Arg<'a>
+    ensures rule { rule_of result ≡ main_rule }
+    ensures local { result.global ≡ false }
+{
+    Arg::new(alloc, "main")
+        .long("main")
+        .value_name("NAME")
+        .default_value("main")
+        .help("The name of the main node")
+}
+
+/// A flag, which is given or not.
+fn flag<'a>(alloc: Global, name: &'a str, help: &'a str) -> Arg<'a>
+    ensures rule { rule_of result ≡ flag_rule name.entry.now }
+    ensures local { result.global ≡ false }
+{
+    Arg::new(alloc, name)
+        .long(name)
+        .action(ArgAction::SetTrue)
+        .help(help)
+}
+
+/// An instant of a chart.
+fn instant<'a>(alloc: Global, name: &'a str, help: &'a str) -> Arg<'a>
+    ensures rule { rule_of result ≡ instant_rule name.entry.now }
+    ensures local { result.global ≡ false }
+{
+    Arg::new(alloc, name)
+        .long(name)
+        .value_name("T")
+        .value_parser(ValueParser::Unsigned(0, LAST_INSTANT))
+        .help(help)
+}
+
+/// The file that a dump goes into.
+fn vcd<'a>(alloc: Global, help: &'a str) -> Arg<'a>
+    ensures rule { rule_of result ≡ vcd_rule }
+    ensures local { result.global ≡ false }
+{
+    Arg::new(alloc, "vcd")
+        .long("vcd")
+        .value_name("FILE")
+        .help(help)
+}
+
+/// How many threads serve the sites.
+fn workers<'a>(alloc: Global) -> Arg<'a>
+    ensures rule { rule_of result ≡ workers_rule }
+    ensures local { result.global ≡ false }
+{
+    Arg::new(alloc, "workers")
+        .long("workers")
+        .value_name("W")
+        .value_parser(ValueParser::Unsigned(FEWEST_WORKERS, MOST_WORKERS))
+        .help("How many threads serve the sites, 1 to 16; without it each site has its own")
+}
+
+/// The code of a page, which may be left out.
+fn code<'a>(alloc: Global) -> Arg<'a>
+    ensures rule { rule_of result ≡ code_rule }
+    ensures local { result.global ≡ false }
+{
+    Arg::new(alloc, "CODE")
+        .action(ArgAction::Set)
+        .help("The code, such as E20; without it all codes are listed")
+}
+
+/// An argument, as the parser takes it.
+pub fn argument_of<'a>(alloc: Global, argument: Argument<'a>) -> Arg<'a>
+    ensures rule { rule_of result ≡ rule_in argument.entry }
+    ensures local { result.global ≡ false }
+{
+    match argument {
+        Argument::Main => main_name(alloc),
+        Argument::Path { name, help } => path(alloc, name, help),
+        Argument::Flag { name, help } => flag(alloc, name, help),
+        Argument::Instant { name, help } => instant(alloc, name, help),
+        Argument::Vcd { help } => vcd(alloc, help),
+        Argument::Workers => workers(alloc),
+        Argument::Code => code(alloc),
+    }
+}
