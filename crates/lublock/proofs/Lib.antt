@@ -1,10 +1,10 @@
-pub mod Words
-pub mod Rights
-pub mod Frames
-pub mod Written
-pub mod Steps
-pub mod Standing
-pub mod Renewing
-pub mod Showing
-pub mod Running
-pub mod Answered
+mod Words
+mod Rights
+mod Frames
+mod Written
+mod Steps
+mod Standing
+mod Renewing
+mod Showing
+mod Running
+mod Answered

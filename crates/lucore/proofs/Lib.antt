@@ -1,3 +1,3 @@
-pub mod RankOrders
-pub mod Whole
-pub mod Told
+mod RankOrders
+mod Whole
+mod Told

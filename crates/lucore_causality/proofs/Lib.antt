@@ -1,10 +1,10 @@
-pub mod Graph
-pub mod Owning
-pub mod Makes
-pub mod Expressions
-pub mod Nodes
+mod Graph
+mod Owning
+mod Makes
+mod Expressions
+mod Nodes
 pub mod ToSource
-pub mod Places
-pub mod Placing
-pub mod Instances
+mod Places
+mod Placing
+mod Instances
 pub mod ToFlat

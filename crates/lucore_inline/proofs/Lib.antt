@@ -1,11 +1,11 @@
-pub mod Walking
-pub mod Forms
-pub mod Named
-pub mod Fit
-pub mod Views
-pub mod Gather
-pub mod Found
-pub mod Owned
-pub mod Reaching
-pub mod Building
-pub mod Growing
+mod Walking
+mod Forms
+mod Named
+mod Fit
+mod Views
+mod Gather
+mod Found
+mod Owned
+mod Reaching
+mod Building
+mod Growing

@@ -1,24 +1,24 @@
 pub mod Each
-pub mod Open
+mod Open
 pub mod Names
 pub mod Well
 pub mod Spots
 pub mod ToSource
 pub mod Roots
-pub mod Instances
+mod Instances
 pub mod ByCalls
 pub mod Facts
-pub mod NodeToSource
-pub mod ToFlat
+mod NodeToSource
+mod ToFlat
 pub mod NodeToFlat
 pub mod Static
 pub mod NodeStatic
-pub mod Gate
+mod Gate
 pub mod Whole
 pub mod Same
 pub mod Closed
 pub mod Counting
-pub mod Nodes
+mod Nodes
 pub mod There
-pub mod SourceFaults
+mod SourceFaults
 pub mod NodeFaults

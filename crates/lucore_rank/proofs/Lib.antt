@@ -1,9 +1,9 @@
-pub mod Deciding
-pub mod Counts
-pub mod Reading
+mod Deciding
+mod Counts
+mod Reading
 pub mod Orders
-pub mod Walks
-pub mod Stepping
-pub mod Cycles
-pub mod Heaps
-pub mod Free
+mod Walks
+mod Stepping
+mod Cycles
+mod Heaps
+mod Free

@@ -1,4 +1,4 @@
-pub mod Capped
-pub mod Alike
-pub mod Formed
-pub mod Counting
+mod Capped
+mod Alike
+mod Formed
+mod Counting

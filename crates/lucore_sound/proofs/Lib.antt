@@ -1,14 +1,14 @@
-pub mod Types
-pub mod Fitting
-pub mod Parts
-pub mod Walks
-pub mod Expressions
-pub mod Ruling
-pub mod Variables
-pub mod Nodes
+mod Types
+mod Fitting
+mod Parts
+mod Walks
+mod Expressions
+mod Ruling
+mod Variables
+mod Nodes
 pub mod Roles
-pub mod Programs
-pub mod Near
-pub mod Owners
+mod Programs
+mod Near
+mod Owners
 pub mod Flats
-pub mod FlowTypes
+mod FlowTypes

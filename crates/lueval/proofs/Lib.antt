@@ -1,14 +1,14 @@
-pub mod Ageing
+mod Ageing
 pub mod Answering
-pub mod Keeping
+mod Keeping
 pub mod Lines
 pub mod Moved
 pub mod Listing
 pub mod Named
-pub mod Noting
+mod Noting
 pub mod Reading
-pub mod Seeing
+mod Seeing
 pub mod Spans
 pub mod Steps
 pub mod Told
-pub mod Unders
+mod Unders

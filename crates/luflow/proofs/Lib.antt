@@ -1,5 +1,5 @@
 pub mod Solutions
-pub mod Tidy
+mod Tidy
 pub mod TidyStreams
 pub mod Faults
 pub mod Tidied
@@ -7,6 +7,6 @@ pub mod FaultsFound
 pub mod Worked
 pub mod Vectors
 pub mod Fitting
-pub mod Columns
+mod Columns
 pub mod Patterns
-pub mod Merges
+mod Merges

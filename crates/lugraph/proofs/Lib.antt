@@ -1,12 +1,12 @@
-pub mod Places
+mod Places
 pub mod Marks
-pub mod Stepping
+mod Stepping
 pub mod Ordering
-pub mod Either
-pub mod Bounds
-pub mod Grouping
-pub mod Leaving
-pub mod Going
-pub mod LinkRows
-pub mod Entering
-pub mod Reaching
+mod Either
+mod Bounds
+mod Grouping
+mod Leaving
+mod Going
+mod LinkRows
+mod Entering
+mod Reaching

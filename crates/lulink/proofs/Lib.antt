@@ -1,5 +1,5 @@
-pub mod Crosses
-pub mod Steps
-pub mod Ends
-pub mod Waits
+mod Crosses
+mod Steps
+mod Ends
+mod Waits
 pub mod Closing

@@ -1,5 +1,5 @@
 pub mod OwnColumns
-pub mod Marked
-pub mod Linked
-pub mod Planned
-pub mod Sited
+mod Marked
+mod Linked
+mod Planned
+mod Sited

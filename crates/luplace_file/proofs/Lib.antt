@@ -1,5 +1,5 @@
-pub mod Walks
-pub mod Differing
-pub mod Numbers
-pub mod Drafted
-pub mod LawfulLemmas
+mod Walks
+mod Differing
+mod Numbers
+mod Drafted
+mod LawfulLemmas

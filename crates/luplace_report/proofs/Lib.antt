@@ -1,6 +1,6 @@
-pub mod Added
-pub mod Causes
-pub mod Edges
-pub mod Items
-pub mod Plain
-pub mod Ranges
+mod Added
+mod Causes
+mod Edges
+mod Items
+mod Plain
+mod Ranges

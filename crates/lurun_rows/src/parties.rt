@@ -127,26 +127,30 @@ fn drive<R: Threads + Wait + Sync>(
     Ok(driven(threads, sites, feeders, takers, plain, most))
 }
 
-/// Writes what both sites leave, and what the second took from each link.
-fn put_left(rt: &HostRuntime, one: &Left, two: &Left, plain: Plain<'_>) -> io::Result<()> {
-    put_report(rt, &one.0, one.1)?;
-    put_report(rt, &two.0, two.1)?;
-    put_taken(rt, plain.first, takes_in(plain.script, two.1, 0))?;
-    put_taken(rt, plain.second, takes_in(plain.script, two.1, 1))
-}
-
-/// Writes what two reports tell together.
-fn put_both(rt: &HostRuntime, job: &Job, one: SiteReport, two: SiteReport) -> io::Result<()> {
-    let mut reports = Vec::with_capacity(rt.alloc(), 2)?;
-    reports.push_reserved(one);
-    reports.push_reserved(two);
-    put_outputs(rt, job, collect(rt.alloc(), reports))
+/// Writes what both sites leave, after so many items each, and what the second took from each link.
+fn put_left(
+    rt: &HostRuntime,
+    reports: &[SiteReport],
+    counts: (usize, usize),
+    plain: Plain<'_>,
+) -> io::Result<()> {
+    for (report, count) in reports.iter().zip([counts.0, counts.1]) {
+        put_report(rt, report, count)?;
+    }
+    put_taken(rt, plain.first, takes_in(plain.script, counts.1, 0))?;
+    put_taken(rt, plain.second, takes_in(plain.script, counts.1, 1))
 }
 
 /// Writes what two sites leave, and what both reports tell together.
-fn put_all(rt: &HostRuntime, job: &Job, one: Left, two: Left, plain: Plain<'_>) -> io::Result<()> {
-    put_left(rt, &one, &two, plain)?;
-    put_both(rt, job, one.0, two.0)
+fn put_all(
+    rt: &HostRuntime,
+    job: &Job,
+    reports: Vec<SiteReport>,
+    counts: (usize, usize),
+    plain: Plain<'_>,
+) -> io::Result<()> {
+    put_left(rt, &reports, counts, plain)?;
+    put_outputs(rt, job, collect(rt.alloc(), reports))
 }
 
 /// Drives the two sites of a job up to the numbers of items that a line tells, by what the plain programs say, and writes what both leave.
@@ -161,8 +165,12 @@ fn put_sites<R: Threads + Wait + Sync>(
     requires plain { IsPlain job.now 1 plain.script.now plain.first.now plain.second.now }
 {
     let most = (number(line, 4) as usize, number(line, 5) as usize);
+    let mut reports = Vec::with_capacity(rt.alloc(), 2)?;
     let (one, two) = drive(threads, rt.alloc(), job, plain, most)?;
-    put_all(rt, job, one, two, plain)
+    let counts = (one.1, two.1);
+    reports.push_reserved(one.0);
+    reports.push_reserved(two.0);
+    put_all(rt, job, reports, counts, plain)
 }
 
 /// The lists of the first two links of a job.

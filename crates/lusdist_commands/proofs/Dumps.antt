@@ -22,22 +22,23 @@ use Rattle.luweave_text.specs.Waves.{site_dump, AreOutputSignals}
 use Rattle.lusdist_shell.specs.declared.request.EvalRequest.{EvalRequest}
 use Rattle.lusdist_shell.specs.declared.request.ReplayRequest.{ReplayRequest}
 use Rattle.lusdist_shell.specs.declared.request.RunRequest.{RunRequest}
-use Rattle.lusdist_commands.specs.declared.stop.Stop.{Stop}
-use Rattle.lusdist_commands.specs.declared.stop.Stop.TheVariants.{CannotRead, CannotWrite, NotAscii, Syntax, Rules, Flat, Place, Table, Schedule, Fault, LinkLost, NoThread, OutOfMemory, Mistaken}
+use Rattle.lusdist_stop.specs.declared.stop.Stop.{Stop}
+use Rattle.lusdist_stop.specs.declared.stop.Stop.TheVariants.{CannotRead, CannotWrite, NotAscii, Syntax, Rules, Flat, Place, Table, Schedule, Fault, LinkLost, NoThread, OutOfMemory, Mistaken}
 use Rattle.lusdist_commands.specs.Asked.{IsAskedFor, IsFlatAt, IsJobFor, IsTableAt}
 use Rattle.lusdist_commands.specs.Evaluated.{IsNoFault}
-use Rattle.lusdist_commands.specs.Filed.{IsFiledAt, IsUnfiledAt, IsUnwritten}
+use Rattle.lusdist_stop.specs.Files.{IsFiledAt, IsUnfiledAt, IsUnwritten}
 use Rattle.lusdist_commands.specs.Waved.{replay_path, run_path, run_dump, AreRunWaves, IsRunDumped, IsRunFiled, IsWorldFiled, IsWorldDumped, IsWaved, AreWaved, AreSignalsTrue, IsReplayFiled, IsReplayDumped}
 use Rattle.lusdist_commands.specs.Ran.{IsStopOfRun}
 use Rattle.lusdist_commands.specs.Refused.{IsPlaceRefused}
-use Rattle.lusdist_commands.specs.Stopped.{HasNoFlat, IsEvalStopped, IsReplayStopped, IsRunStopped, IsScheduleRefused, StopsAtJob, StopsAtPlan, StopsAtProgram, StopsAtTable}
+use Rattle.lusdist_commands.specs.Stopped.{HasNoFlat, IsEvalStopped, IsReplayStopped, IsRunStopped, IsScheduleRefused, StopsAtJob, StopsAtPlan, StopsAtProgram, StopsAtSchedule, StopsAtTable}
 use Rattle.lusdist_commands.specs.Stopped.HasNoFlat.{unspelled, unruled}
 use Rattle.lusdist_commands.specs.Stopped.StopsAtProgram.{program_unread, program_refused}
 use Rattle.lusdist_commands.specs.Stopped.StopsAtTable.{no_table, bad_table}
 use Rattle.lusdist_commands.specs.Stopped.IsEvalStopped.{eval_unread, eval_table}
 use Rattle.lusdist_commands.specs.Stopped.StopsAtPlan.{no_program, place_unread, place_refused}
 use Rattle.lusdist_commands.specs.Stopped.StopsAtJob.{no_plan, table_unread, table_refused}
-use Rattle.lusdist_commands.specs.Stopped.IsReplayStopped.{replay_unwritten, replay_memory}
+use Rattle.lusdist_commands.specs.Stopped.StopsAtSchedule.{no_schedule, bad_schedule}
+use Rattle.lusdist_commands.specs.Stopped.IsReplayStopped.{replay_unread, replay_schedule, replay_unwritten, replay_memory}
 use Rattle.lusdist_commands.specs.Stopped.IsRunStopped.{run_unwritten, run_memory}
 use Rattle.lusdist_commands.proofs.Outcomes.{unread_none, program_none, table_none, told_none}
 use Rattle.lusdist_commands.proofs.Ran.{outputs_are, run_stop}
@@ -48,7 +49,7 @@ use Rattle.lusdist_commands.proofs.Tellings.{output_true}
 place_none : (flat : FlatProgram) (bytes : List ℕ) (stop : Stop) → IsPlaceRefused flat bytes stop → IsNoFault stop
 place_none flat bytes stop h = (λ name instant kind e. subst (IsPlaceRefused flat bytes) e h, λ there e. subst (IsPlaceRefused flat bytes) e h)
 
-pub schedule_none : (bytes : List ℕ) (stop : Stop) → IsScheduleRefused bytes stop → IsNoFault stop
+schedule_none : (bytes : List ℕ) (stop : Stop) → IsScheduleRefused bytes stop → IsNoFault stop
 schedule_none bytes stop h = (λ name instant kind e. subst (IsScheduleRefused bytes) e h, λ there e. subst (IsScheduleRefused bytes) e h)
 
 flat_none : (bytes main : List ℕ) (stop : Stop) → HasNoFlat bytes main stop → IsNoFault stop
@@ -62,6 +63,15 @@ at_program_none gives path main stop (program_refused program given none) = flat
 pub at_table_none : (gives : List ℕ → Option (List ℕ) → Type 0) (path : List ℕ) (flat : FlatProgram) (stop : Stop) → StopsAtTable gives path flat stop → IsNoFault stop
 at_table_none gives path flat stop (no_table unread) = unread_none gives path stop unread
 at_table_none gives path flat stop (bad_table table given refused) = table_none flat.types (inputs_of flat.variables) table stop refused
+
+pub at_schedule_none : (gives : List ℕ → Option (List ℕ) → Type 0) (path : List ℕ) (stop : Stop) → StopsAtSchedule gives path stop → IsNoFault stop
+at_schedule_none gives path stop (no_schedule unread) = unread_none gives path stop unread
+at_schedule_none gives path stop (bad_schedule schedule given refused) = schedule_none schedule stop refused
+
+-- a replay that stops at its schedule
+pub stops_at_schedule : (gives : List ℕ → Option (List ℕ) → Type 0) (request : ReplayRequest) (job : Run) (stop : Stop) → IsJobFor gives request.program.now request.place.now request.table.now request.main.now job → StopsAtSchedule gives request.schedule.now stop → IsReplayStopped gives request stop
+stops_at_schedule gives request job stop is (no_schedule unread) = replay_unread job is unread
+stops_at_schedule gives request job stop is (bad_schedule schedule given refused) = replay_schedule job schedule is given refused
 
 -- an evaluation that stops at its table
 pub stops_at_table : (gives : List ℕ → Option (List ℕ) → Type 0) (request : EvalRequest) (flat : FlatProgram) (stop : Stop) → IsFlatAt gives request.program.now request.main.now flat → StopsAtTable gives request.table.now flat stop → IsEvalStopped gives request stop

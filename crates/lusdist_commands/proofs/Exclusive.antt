@@ -49,20 +49,21 @@ use Rattle.lusdist_shell.specs.declared.request.ReplayRequest.{ReplayRequest}
 use Rattle.lusdist_shell.specs.declared.request.Request.{Request}
 use Rattle.lusdist_shell.specs.declared.request.RunRequest.{RunRequest}
 use Rattle.lusdist_shell.specs.declared.request.Request.TheVariants.{Check, Eval, Plan, Replay, Run as AsksRun, Explain}
-use Rattle.lusdist_commands.specs.declared.stop.Stop.{Stop}
-use Rattle.lusdist_commands.specs.declared.stop.Stop.TheVariants.{CannotRead, CannotWrite, NotAscii, Syntax, Rules, Flat, Place as BadPlace, Table as BadTable, Schedule, Fault, LinkLost, NoThread, OutOfMemory, Mistaken}
+use Rattle.lusdist_stop.specs.declared.stop.Stop.{Stop}
+use Rattle.lusdist_stop.specs.declared.stop.Stop.TheVariants.{CannotRead, CannotWrite, NotAscii, Syntax, Rules, Flat, Place as BadPlace, Table as BadTable, Schedule, Fault, LinkLost, NoThread, OutOfMemory, Mistaken}
 use Rattle.lusdist_commands.specs.Asked.{HasFlat, IsPlanOfText, IsJobFor, IsChecked, IsPlanned, IsReplayed, IsRan, IsAnswer}
 use Rattle.lusdist_commands.specs.Evaluated.{IsPosedBy, IsEvaluated, IsFaultOf, IsFaultTold}
 use Rattle.lusdist_commands.specs.Refused.{IsToldOf, IsProgramRefused, IsTableRefused, IsPlaceRefused}
 use Rattle.lusdist_commands.specs.Refused.IsToldOf.{rule, flat}
 use Rattle.lusdist_commands.specs.Explained.{code_in, explanation, IsExplainStopped}
 use Rattle.lusdist_commands.specs.Explained.IsExplainStopped.{explain_unknown, explain_memory}
-use Rattle.lusdist_commands.specs.Stopped.{IsUnread, IsScheduleRefused, HasNoFlat, StopsAtProgram, StopsAtPlan, StopsAtJob, IsCheckStopped, IsEvalRefused, IsEvalStopped, IsPlanStopped, IsReplayStopped, IsRunFault, IsRunStopped, IsRequestStopped}
+use Rattle.lusdist_stop.specs.Files.{IsUnread}
+use Rattle.lusdist_commands.specs.Stopped.{IsScheduleRefused, HasNoFlat, StopsAtProgram, StopsAtPlan, StopsAtJob, IsCheckStopped, IsEvalRefused, IsEvalStopped, IsPlanStopped, IsReplayStopped, IsRunFault, IsRunStopped, IsRequestStopped}
 use Rattle.lusdist_commands.specs.Stopped.HasNoFlat.{unspelled, unruled}
 use Rattle.lusdist_commands.specs.Stopped.StopsAtProgram.{program_unread, program_refused}
 use Rattle.lusdist_commands.specs.Stopped.StopsAtPlan.{no_program, place_unread, place_refused}
 use Rattle.lusdist_commands.specs.Stopped.IsCheckStopped.{check_program, check_memory}
-use Rattle.lusdist_commands.specs.Mistakes.{mistake_in}
+use Rattle.lusdist_stop.specs.Mistakes.{mistake_in}
 use Rattle.lusdist_commands.specs.Stopped.IsEvalRefused.{eval_mistaken, eval_stopped}
 use Rattle.lusdist_commands.specs.Stopped.IsEvalStopped.{eval_program, eval_unread, eval_table, eval_fault, eval_unwritten, eval_memory}
 use Rattle.lusdist_commands.specs.Stopped.IsPlanStopped.{plan_files, plan_memory}
@@ -351,10 +352,10 @@ module _ (gives : List ℕ → Option (List ℕ) → Type 0) (settled : HasOneTe
   module _ (request : ReplayRequest) (text : List ℕ) (stop : Stop) (is : IsReplayed gives request text) where
     replay_outcome : IsReplayStopped gives request stop → SaysNothing stop
     replay_outcome (replay_job at) = job_memory_of request.program.now request.place.now request.table.now request.main.now is.job stop is.asked_for.job_for at
-    replay_outcome (replay_unread job job_is unread) = unread_memory request.schedule.now is.asked_for.schedule stop is.asked_for.schedule_given unread
+    replay_outcome (replay_unread job job_is unread) = unread_memory request.schedule.now is.asked_for.schedule_is.schedule stop is.asked_for.schedule_is.given unread
     replay_outcome (replay_schedule job turns job_is schedule_given refused) =
-        let asked = is.asked_for in
-        let same = one_of request.schedule.now turns asked.schedule schedule_given asked.schedule_given in
+        let asked = is.asked_for.schedule_is in
+        let same = one_of request.schedule.now turns asked.schedule schedule_given asked.given in
         schedule_memory asked.schedule is.turns stop asked.turns_are (subst (λ b. IsScheduleRefused b stop) same refused)
     replay_outcome (replay_unwritten path asks job turns asked e) = memory_is stop (CannotWrite path) e tt
     replay_outcome (replay_memory e) = memory_is stop OutOfMemory e tt

@@ -1,13 +1,13 @@
-pub mod Worlds
-pub mod AskedFor
-pub mod HasOutputs
-pub mod Outcomes
-pub mod Spelled
-pub mod Tellings
-pub mod Replays
-pub mod Exclusive
-pub mod Ends
-pub mod OneStatus
-pub mod Ran
-pub mod OneRefusal
-pub mod Dumps
+mod Worlds
+mod AskedFor
+mod HasOutputs
+mod Outcomes
+mod Spelled
+mod Tellings
+mod Replays
+mod Exclusive
+mod Ends
+mod OneStatus
+mod Ran
+mod OneRefusal
+mod Dumps

@@ -60,18 +60,19 @@ use Rattle.lusdist_shell.specs.declared.request.ReplayRequest.{ReplayRequest}
 use Rattle.lusdist_shell.specs.declared.request.Request.{Request}
 use Rattle.lusdist_shell.specs.declared.request.RunRequest.{RunRequest}
 use Rattle.lusdist_shell.specs.declared.request.Request.TheVariants.{Check, Eval, Plan, Replay, Run as AsksRun, Explain}
-use Rattle.lusdist_commands.specs.declared.stop.Stop.{Stop}
-use Rattle.lusdist_commands.specs.declared.stop.Stop.TheVariants.{CannotRead, CannotWrite, NotAscii, Syntax, Rules, Flat, Place as BadPlace, Table as BadTable, Schedule, Fault, LinkLost, NoThread, OutOfMemory, Mistaken}
+use Rattle.lusdist_stop.specs.declared.stop.Stop.{Stop}
+use Rattle.lusdist_stop.specs.declared.stop.Stop.TheVariants.{CannotRead, CannotWrite, NotAscii, Syntax, Rules, Flat, Place as BadPlace, Table as BadTable, Schedule, Fault, LinkLost, NoThread, OutOfMemory, Mistaken}
 use Rattle.lusdist_commands.specs.Evaluated.{IsFaultOf, IsFaultTold}
 use Rattle.lusdist_commands.specs.Refused.{IsToldOf, IsProgramRefused, IsPlaceRefused, IsTableRefused}
 use Rattle.lusdist_commands.specs.Refused.IsToldOf.{rule, flat}
-use Rattle.lusdist_commands.specs.Stopped.{IsUnread, IsScheduleRefused, HasNoFlat, StopsAtProgram, StopsAtPlan, StopsAtJob, IsEvalRefused, IsEvalStopped, IsReplayStopped, IsRunStopped, IsRequestStopped}
+use Rattle.lusdist_stop.specs.Files.{IsUnread}
+use Rattle.lusdist_commands.specs.Stopped.{IsScheduleRefused, HasNoFlat, StopsAtProgram, StopsAtPlan, StopsAtJob, IsEvalRefused, IsEvalStopped, IsReplayStopped, IsRunStopped, IsRequestStopped}
 use Rattle.lusdist_commands.specs.Stopped.HasNoFlat.{unspelled, unruled}
 use Rattle.lusdist_commands.specs.Stopped.StopsAtProgram.{program_unread, program_refused}
 use Rattle.lusdist_commands.specs.Stopped.StopsAtPlan.{no_program, place_unread, place_refused}
 use Rattle.lusdist_commands.specs.Stopped.IsCheckStopped.{check_program, check_memory}
-use Rattle.lusdist_commands.specs.declared.mistake.Mistake.{Mistake}
-use Rattle.lusdist_commands.specs.Mistakes.{mistake_in}
+use Rattle.lusdist_stop.specs.declared.mistake.Mistake.{Mistake}
+use Rattle.lusdist_stop.specs.Mistakes.{mistake_in}
 use Rattle.lusdist_commands.specs.Stopped.IsEvalRefused.{eval_mistaken, eval_stopped}
 use Rattle.lusdist_commands.specs.Stopped.IsEvalStopped.{eval_program, eval_unread, eval_table, eval_fault, eval_unwritten, eval_memory}
 use Rattle.lusdist_commands.specs.Stopped.IsPlanStopped.{plan_files, plan_memory}
@@ -81,7 +82,7 @@ use Rattle.lusdist_commands.specs.Stopped.IsRunStopped.{run_job, run_fault, run_
 use Rattle.lusdist_commands.specs.Exact.{HasOneText, SaysNothing, IsFaultOfRun}
 use Rattle.lusdist_commands.specs.Explained.{code_in, IsExplainStopped}
 use Rattle.lusdist_commands.specs.Explained.IsExplainStopped.{explain_unknown, explain_memory}
-use Rattle.lusdist_commands.specs.declared.mistake.Mistake.TheVariants.{UnknownCode}
+use Rattle.lusdist_stop.specs.declared.mistake.Mistake.TheVariants.{UnknownCode}
 use Rattle.lusdist_commands.proofs.Exclusive.{memory_is, none_some, text_memory, rules_memory, one_of, flats_one, flats_same}
 use Rattle.lusdist_commands.proofs.OneStatus.{never, past_program, past_table, fault_past, past_plan, replay_past, run_past}
 

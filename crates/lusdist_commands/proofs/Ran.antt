@@ -28,8 +28,8 @@ use Rattle.lurun.specs.Answers.{IsRunAnswer}
 use Rattle.lurun.specs.Reports.{AreComplete, AreOutputsOf as AreRunOutputs, HasOutput}
 use Rattle.lurun.specs.Stations.{StationAt, sites_at}
 use Rattle.lusdist_shell.specs.declared.request.RunRequest.{RunRequest}
-use Rattle.lusdist_commands.specs.declared.stop.Stop.{Stop}
-use Rattle.lusdist_commands.specs.declared.stop.Stop.TheVariants.{CannotRead, CannotWrite, NotAscii, Syntax, Rules, Flat, Place, Table, Schedule, Fault, LinkLost, NoThread, OutOfMemory, Mistaken}
+use Rattle.lusdist_stop.specs.declared.stop.Stop.{Stop}
+use Rattle.lusdist_stop.specs.declared.stop.Stop.TheVariants.{CannotRead, CannotWrite, NotAscii, Syntax, Rules, Flat, Place, Table, Schedule, Fault, LinkLost, NoThread, OutOfMemory, Mistaken}
 use Rattle.lusdist_commands.specs.Asked.{IsJobFor, IsRan}
 use Rattle.lusdist_commands.specs.Evaluated.{AreOutputsOf}
 use Rattle.lusdist_commands.specs.Ran.{IsRunError, IsStopOfRun, IsRunTable}

@@ -94,12 +94,16 @@ pub record IsJobFor (gives : List ℕ → Option (List ℕ) → Type 0) (path pl
   pub table_given : gives table_path (Some table)
   pub job_is : IsJobOf program place table main job
 
+-- the turns of the schedule that the file of a path gave
+pub record AreTurnsAt (gives : List ℕ → Option (List ℕ) → Type 0) (path turns : List ℕ) : Type 0 where
+  pub schedule : List ℕ
+  pub given : gives path (Some schedule)
+  pub turns_are : schedule_of schedule ≡ Ok turns
+
 -- a job and its turns are those of texts that the files of a request gave
 pub record IsAskedFor (gives : List ℕ → Option (List ℕ) → Type 0) (request : ReplayRequest) (job : Run) (turns : List ℕ) : Type 0 where
   pub job_for : IsJobFor gives request.program.now request.place.now request.table.now request.main.now job
-  pub schedule : List ℕ
-  pub schedule_given : gives request.schedule.now (Some schedule)
-  pub turns_are : schedule_of schedule ≡ Ok turns
+  pub schedule_is : AreTurnsAt gives request.schedule.now turns
 
 -- The world that a job's turns make of its new sites. Where it is to be finished, more turns follow until none moves any more, and no others.
 pub record IsWorldOf (job : Run) (turns : List ℕ) (finish : Bool) (world : Progress) : Type 0 where

@@ -21,10 +21,10 @@ use Rattle.luchart.specs.Chronogram.{chart_text}
 use Rattle.luchart.specs.Dump.{dump_text}
 use Rattle.luflow.specs.Faults.{IsFault}
 use Rattle.lusdist_shell.specs.declared.request.EvalRequest.{EvalRequest}
-use Rattle.lusdist_commands.specs.Filed.{IsFiledAt, IsUnfiledAt, IsUnwritten}
-use Rattle.lusdist_commands.specs.Mistakes.{mistake_in}
-use Rattle.lusdist_commands.specs.declared.stop.Stop.{Stop}
-use Rattle.lusdist_commands.specs.declared.stop.Stop.TheVariants.{CannotWrite, Fault, OutOfMemory}
+use Rattle.lusdist_stop.specs.Files.{IsFiledAt, IsUnfiledAt, IsUnwritten}
+use Rattle.lusdist_stop.specs.Mistakes.{mistake_in}
+use Rattle.lusdist_stop.specs.declared.stop.Stop.{Stop}
+use Rattle.lusdist_stop.specs.declared.stop.Stop.TheVariants.{CannotWrite, Fault, OutOfMemory}
 
 -- The program that a text spells, with its flat program and the table that another text says, which fits it and isn't too long.
 -- At that table the program has one meaning.

@@ -8,11 +8,11 @@ use Rattle.lutab.specs.declared.error.TabError.TheVariants as tab
 use Rattle.lusdist_shell.specs.declared.schedule.ScheduleError.TheVariants as schedule
 use Rattle.lusdist_shell.specs.declared.request.Request.{Request}
 use Rattle.lusdist_shell.specs.declared.request.Request.TheVariants.{Run as AsksRun}
-use Rattle.lusdist_commands.specs.declared.stop.Stop.{Stop}
-use Rattle.lusdist_commands.specs.declared.stop.Stop.TheVariants.{CannotWrite, Syntax, Rules, Flat, Place, Table, Schedule, Fault, LinkLost, NoThread, OutOfMemory}
+use Rattle.lusdist_stop.specs.declared.stop.Stop.{Stop}
+use Rattle.lusdist_stop.specs.declared.stop.Stop.TheVariants.{CannotWrite, Syntax, Rules, Flat, Place, Table, Schedule, Fault, LinkLost, NoThread, OutOfMemory}
 use Rattle.lusdist_commands.specs.Asked.{IsAnswer}
 use Rattle.lusdist_commands.specs.Stopped.{IsRequestStopped}
-use Rattle.lusdist_commands.specs.Statuses.{status_of}
+use Rattle.lusdist_stop.specs.Statuses.{status_of}
 
 -- each file has one text, or none
 abbrev pub HasOneText : (List ℕ → Option (List ℕ) → Type 0) → Type 0

@@ -3,9 +3,9 @@ use Rattle.std.specs.Prelude.{◌≡◌, ℕ, List, map, Option, Some, None, opt
 use Rattle.std.specs.Char.{to_ascii_uppercase}
 use Rattle.lusdist_pages.specs.Pages.{page_of, listing}
 use Rattle.lusdist_shell.specs.declared.request.ExplainRequest.{ExplainRequest}
-use Rattle.lusdist_commands.specs.declared.mistake.Mistake.TheVariants.{UnknownCode}
-use Rattle.lusdist_commands.specs.declared.stop.Stop.{Stop}
-use Rattle.lusdist_commands.specs.declared.stop.Stop.TheVariants.{Mistaken, OutOfMemory}
+use Rattle.lusdist_stop.specs.declared.mistake.Mistake.TheVariants.{UnknownCode}
+use Rattle.lusdist_stop.specs.declared.stop.Stop.{Stop}
+use Rattle.lusdist_stop.specs.declared.stop.Stop.TheVariants.{Mistaken, OutOfMemory}
 
 -- the code that a request asks for, as it was written
 abbrev pub code_in : ExplainRequest → Option (List ℕ)

@@ -1,13 +1,9 @@
-pub mod Statuses
-pub mod Mistakes
 pub mod Explained
 pub mod Asked
 pub mod Refused
 pub mod Stopped
-pub mod Filed
 pub mod Evaluated
 pub mod TellingText
-pub mod Lines
 pub mod Waved
 pub mod Left
 pub mod Reasons

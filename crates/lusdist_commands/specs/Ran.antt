@@ -8,8 +8,8 @@ use Rattle.lurun.specs.declared.error.RunError.{RunError}
 use Rattle.lurun.specs.declared.error.RunError.TheVariants as run
 use Rattle.lurun.specs.Reports.{AreOutputsOf}
 use Rattle.lutab.specs.Outputs.{output_text}
-use Rattle.lusdist_commands.specs.declared.stop.Stop.{Stop}
-use Rattle.lusdist_commands.specs.declared.stop.Stop.TheVariants.{Fault, LinkLost, NoThread, OutOfMemory}
+use Rattle.lusdist_stop.specs.declared.stop.Stop.{Stop}
+use Rattle.lusdist_stop.specs.declared.stop.Stop.TheVariants.{Fault, LinkLost, NoThread, OutOfMemory}
 
 -- why a run of all sites of a job has no outputs: a fault at which one of them stopped, or something that says nothing of the job
 abbrev pub IsRunError : Run → RunError → Type 0

@@ -9,9 +9,9 @@ use Rattle.lusdist_shell.specs.declared.request.Request.{Request}
 use Rattle.lusdist_shell.specs.declared.request.Request.TheVariants.{Check, Eval, Plan, Replay, Run, Explain}
 use Rattle.lusdist_shell.specs.declared.sink.Sink.{Sink}
 use Rattle.lusdist_shell.specs.Sinks.{HasPut}
-use Rattle.lusdist_commands.specs.Lines.{line_of}
-use Rattle.lusdist_commands.specs.declared.stop.Stop.{Stop}
-use Rattle.lusdist_commands.specs.declared.stop.Stop.TheVariants.{NotAscii, Syntax, Rules, Place, Table, Schedule}
+use Rattle.lusdist_stop.specs.Lines.{line_of}
+use Rattle.lusdist_stop.specs.declared.stop.Stop.{Stop}
+use Rattle.lusdist_stop.specs.declared.stop.Stop.TheVariants.{NotAscii, Syntax, Rules, Place, Table, Schedule}
 
 -- whether a request asks why a text is refused
 abbrev pub asks_why : Request → Bool

@@ -20,8 +20,8 @@ use Rattle.luplace_file.specs.Placement.{placement_of}
 use Rattle.luplace.specs.Placing.{refusal}
 use Rattle.lutab.specs.declared.error.TabError.TheVariants as table
 use Rattle.lutab.specs.Table.{IsRefused as IsRefusedTable}
-use Rattle.lusdist_commands.specs.declared.stop.Stop.{Stop}
-use Rattle.lusdist_commands.specs.declared.stop.Stop.TheVariants.{NotAscii, Syntax, Rules, Flat, Place as PlaceStop, Table}
+use Rattle.lusdist_stop.specs.declared.stop.Stop.{Stop}
+use Rattle.lusdist_stop.specs.declared.stop.Stop.TheVariants.{NotAscii, Syntax, Rules, Flat, Place as PlaceStop, Table}
 
 -- A rule that the program breaks, where all rules of the stages before it are kept: of its own stage the fault of the least byte, at equal bytes of the
 -- least number, each at its place, as a program in memory with this tree and these places has them. Or, of a program that keeps all rules, why it has

@@ -19,11 +19,12 @@ use Rattle.lusdist_shell.specs.declared.request.RunRequest.{RunRequest}
 use Rattle.lusdist_shell.specs.declared.request.Request.{Request}
 use Rattle.lusdist_shell.specs.declared.request.Request.TheVariants.{Check, Eval, Plan, Replay, Run as AsksRun, Explain}
 use Rattle.lusdist_shell.specs.Request.{IsAskedBy}
-use Rattle.lusdist_commands.specs.declared.stop.Stop.{Stop}
-use Rattle.lusdist_commands.specs.declared.stop.Stop.TheVariants.{CannotRead, CannotWrite, Schedule, Fault, LinkLost, NoThread, OutOfMemory, Mistaken}
-use Rattle.lusdist_commands.specs.declared.mistake.Mistake.{Mistake}
-use Rattle.lusdist_commands.specs.Mistakes.{mistake_in}
-use Rattle.lusdist_commands.specs.Statuses.{status_of}
+use Rattle.lusdist_stop.specs.declared.stop.Stop.{Stop}
+use Rattle.lusdist_stop.specs.declared.stop.Stop.TheVariants.{CannotRead, CannotWrite, Schedule, Fault, LinkLost, NoThread, OutOfMemory, Mistaken}
+use Rattle.lusdist_stop.specs.declared.mistake.Mistake.{Mistake}
+use Rattle.lusdist_stop.specs.Files.{IsUnread}
+use Rattle.lusdist_stop.specs.Mistakes.{mistake_in}
+use Rattle.lusdist_stop.specs.Statuses.{status_of}
 use Rattle.luflow.specs.Variables.{variable_name}
 use Rattle.lusource.specs.Source.{SourceStreams, IsSourceSolution}
 use Rattle.lusource.specs.Faults.{IsSourceFault}
@@ -33,12 +34,6 @@ use Rattle.lusdist_commands.specs.Evaluated.{IsFaultOf, IsPosedBy, wave_path}
 use Rattle.lusdist_commands.specs.Waved.{replay_path, run_path}
 use Rattle.lusdist_commands.specs.Explained.{code_in, IsExplainStopped}
 use Rattle.lusdist_commands.specs.Refused.{IsToldOf, IsProgramRefused, IsPlaceRefused, IsTableRefused}
-
--- the file of this path can't be read, or memory ran out
-abbrev pub IsUnread : (List ℕ → Option (List ℕ) → Type 0) → List ℕ → Stop → Type 0
-IsUnread gives path (CannotRead name) = (name ≡ path) × gives path None
-IsUnread gives path OutOfMemory = Unit {0}
-IsUnread gives path _ = ⊥
 
 -- the bytes of a schedule's file are refused so
 abbrev pub IsScheduleRefused : List ℕ → Stop → Type 0
@@ -54,6 +49,11 @@ pub data HasNoFlat (bytes main : List ℕ) (stop : Stop) : Type 0 where
 pub data StopsAtTable (gives : List ℕ → Option (List ℕ) → Type 0) (path : List ℕ) (flat : FlatProgram) (stop : Stop) : Type 0 where
   no_table : IsUnread gives path stop → StopsAtTable gives path flat stop
   bad_table : (table : List ℕ) → gives path (Some table) → IsTableRefused flat.types (inputs_of flat.variables) table stop → StopsAtTable gives path flat stop
+
+-- It stops at the schedule of this path: it can't be read, or is none.
+pub data StopsAtSchedule (gives : List ℕ → Option (List ℕ) → Type 0) (path : List ℕ) (stop : Stop) : Type 0 where
+  no_schedule : IsUnread gives path stop → StopsAtSchedule gives path stop
+  bad_schedule : (schedule : List ℕ) → gives path (Some schedule) → IsScheduleRefused schedule stop → StopsAtSchedule gives path stop
 
 -- A call stops at the program of this path: it can't be read, or has no flat program from this main node.
 pub data StopsAtProgram (gives : List ℕ → Option (List ℕ) → Type 0) (path main : List ℕ) (stop : Stop) : Type 0 where

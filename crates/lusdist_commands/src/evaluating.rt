@@ -8,13 +8,12 @@ ghost use Rattle.lutab.specs.Outputs.{shown_of};
 ghost use Rattle.lusdist_commands.specs.Evaluated.{AreEvaluated, HasNoFaultBefore, IsFiled, IsShown, AreShownBefore, IsShownTo, IsStopped, IsStopFor, IsUnfiled, shown_text, wave_text};
 ghost use Rattle.lueval.specs.declared.error.EvalError.TheVariants.{Fault};
 
-use crate::filing::file_text;
-use crate::stop::Stop;
 use lublock::block_outputs;
 use luchart::{chronogram, cut, dump};
 use lueval::{EvalError, whole_columns};
 use luflow::{FaultKind, Flat, Inputs, Outputs};
 use lusdist_shell::{EvalRequest, Files};
+use lusdist_stop::{Stop, file_text};
 use lutab::{shown_kinds, write_columns};
 use std::alloc::{AllocError, Global};
 

@@ -3,11 +3,10 @@
 ghost use Rattle.std.specs.Prelude.{◌≡◌, IfOk, IfErr, Some, string_bytes};
 ghost use Rattle.lusdist_commands.specs.Explained.{code_in, explanation, IsExplainStopped};
 
-use crate::mistake::Mistake;
-use crate::stop::Stop;
 use lulist::Name;
 use lusdist_pages::{all_codes, page_of};
 use lusdist_shell::ExplainRequest;
+use lusdist_stop::{Mistake, Stop};
 use std::alloc::Global;
 
 /// The page of a code, whose letter may be small.

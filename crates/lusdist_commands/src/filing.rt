@@ -1,48 +1,20 @@
 //! Dumps, each into the file that a request names.
 
-ghost use Rattle.std.specs.Prelude.{◌≡◌, ◌⊎◌, IfOk, IfErr, OnOk, Some, string_bytes, option_map, List, ℕ};
+ghost use Rattle.std.specs.Prelude.{◌≡◌, IfOk, IfErr, OnOk, Some, string_bytes, option_map, List, ℕ};
 ghost use Rattle.luchart.specs.Signals.{Signal};
 ghost use Rattle.luweave_text.specs.Waves.{site_dump, AreOutputSignals};
-ghost use Rattle.lusdist_commands.specs.Filed.{IsFiledAt, IsUnfiledAt};
+ghost use Rattle.lusdist_stop.specs.Files.{IsFiledAt, IsUnfiledAt};
 ghost use Rattle.lusdist_commands.specs.Waved.{IsWorldDumped, IsWorldFiled, replay_path, run_dump, run_path};
-ghost use Rattle.lusdist_commands.specs.declared.stop.Stop.TheVariants.{CannotWrite, OutOfMemory};
 
-use crate::stop::Stop;
 use luchart::signal::signals_of;
 use luflow::Outputs;
-use lulist::Name;
 use luplace::Plan;
 use lusdist_shell::{Files, ReplayRequest, RunRequest};
+use lusdist_stop::{Stop, file_text};
 use lutab::shown_kinds;
 use luweave::World;
 use luweave_text::{dump_by_site, output_signals};
 use std::alloc::{AllocError, Global};
-
-/// The stop for a file that can't be written.
-fn unwritten(alloc: Global, path: &str) -> Stop
-    ensures { (result ≡ OutOfMemory) ⊎ (result ≡ CannotWrite path.now) }
-{
-    match Name::from_text(alloc, path) {
-        Ok(path) => Stop::CannotWrite { path },
-        Err(_) => Stop::OutOfMemory,
-    }
-}
-
-/// Writes a dump into the file of this path.
-pub(crate) fn file_text<F: Files>(
-    alloc: Global,
-    files: &F,
-    path: &str,
-    text: &str,
-) -> Result<(), Stop>
-    ensures filed { OnOk result (F.takes files.now path.now (Some text.now)) }
-    ensures stopped { IfErr result (IsUnfiledAt (F.takes files.now) (Some path.now)) }
-{
-    match files.write(path, text.as_bytes()) {
-        Ok(()) => Ok(()),
-        Err(_) => Err(unwritten(alloc, path)),
-    }
-}
 
 /// The dump of the whole outputs of a plan's program, whose main node has this name.
 fn run_dump(alloc: Global, main: &str, plan: &Plan, outputs: &Outputs) -> Result<String, AllocError>

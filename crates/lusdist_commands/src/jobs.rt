@@ -6,10 +6,10 @@ ghost use Rattle.lusdist_commands.specs.Asked.{IsJobFor};
 ghost use Rattle.lusdist_commands.specs.Stopped.{StopsAtJob};
 
 use crate::planning::planned;
-use crate::sources::{job_of, read};
-use crate::stop::Stop;
+use crate::sources::job_of;
 use luplace::Job;
 use lusdist_shell::Files;
+use lusdist_stop::{Stop, read};
 use std::alloc::Global;
 
 /// The job of the program, the placement and the table at three paths, which are read and refused in this order.

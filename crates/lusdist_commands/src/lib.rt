@@ -8,7 +8,7 @@
 //!   threads.
 //! - `filing`: dumps, each into the file that a request names.
 //! - [`explaining`]: a page of the manual. `reasons`: what is told of a refusal behind its line.
-//! - [`Stop`]: why a call stops, and with which status; [`Mistake`]: what is wrong with words that the command line takes.
+//! - [`Stop`], [`Mistake`] of `lusdist_stop`: why a call stops.
 //! - [`laws`]: a call has one outcome, one refusal and one status.
 //!
 //! It is a library, so that it is checked without the linking of a program; `lusdist` is its `main`.
@@ -19,14 +19,11 @@ pub mod explaining;
 mod filing;
 pub mod jobs;
 pub mod laws;
-mod mistake;
 pub mod planning;
 mod reasons;
 pub mod running;
 mod serve;
 pub mod sources;
-mod stop;
 
-pub use mistake::Mistake;
+pub use lusdist_stop::{Mistake, Stop};
 pub use serve::{replayed, serve_words};
-pub use stop::Stop;

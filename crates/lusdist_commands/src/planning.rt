@@ -4,12 +4,13 @@ ghost use Rattle.std.specs.Prelude.{◌≡◌, [], ◌∷◌, ◌++◌, IfOk, If
 ghost use Rattle.luplace_report.specs.Report.{report_text};
 ghost use Rattle.lusdist_commands.specs.Asked.{IsPlanFor, plan_text};
 ghost use Rattle.lusdist_commands.specs.Stopped.{StopsAtPlan};
+ghost use Rattle.lusdist_stop.specs.declared.stop.Stop.TheVariants.{OutOfMemory};
 
-use crate::sources::{flat_at, plan_of, read};
-use crate::stop::Stop;
+use crate::sources::{flat_at, plan_of};
 use luplace::Plan;
 use luplace_report::{report_dot, report_json, report_table};
 use lusdist_shell::{Files, PlanForm};
+use lusdist_stop::{Stop, read};
 use std::alloc::{AllocError, Global};
 
 /// The plan of the program and the placement at two paths, which are read and refused in this order.
@@ -40,8 +41,8 @@ fn report_line(alloc: Global, plan: &Plan) -> Result<String, AllocError>
     Ok(text)
 }
 
-/// A plan as a report, a table or a graph.
-pub fn plan_text(alloc: Global, plan: &Plan, form: PlanForm) -> Result<String, AllocError>
+/// A plan in a form.
+fn formed(alloc: Global, plan: &Plan, form: PlanForm) -> Result<String, AllocError>
     ensures { IfOk result (λ text. string_bytes text ≡ plan_text form plan.now) }
 {
     match form {
@@ -49,4 +50,12 @@ pub fn plan_text(alloc: Global, plan: &Plan, form: PlanForm) -> Result<String, A
         PlanForm::Table => report_table(alloc, plan),
         PlanForm::Graph => report_dot(alloc, plan),
     }
+}
+
+/// A plan as a report, a table or a graph.
+pub fn plan_text(alloc: Global, plan: &Plan, form: PlanForm) -> Result<String, Stop>
+    ensures text { IfOk result (λ text. string_bytes text ≡ plan_text form plan.now) }
+    ensures memory { IfErr result (λ stop. stop ≡ OutOfMemory) }
+{
+    Ok(formed(alloc, plan, form)?)
 }

@@ -6,16 +6,16 @@ ghost use Rattle.lurun.specs.Reports.{AreOutputsOf};
 ghost use Rattle.lusdist_shell.specs.Request.{AreFew};
 ghost use Rattle.lutab.specs.Outputs.{output_text};
 ghost use Rattle.lusdist_commands.specs.Ran.{IsRunError, IsRunTable, IsStopOfRun};
-ghost use Rattle.lusdist_commands.specs.Filed.{IsFiledAt, IsUnfiledAt};
+ghost use Rattle.lusdist_stop.specs.Files.{IsFiledAt, IsUnfiledAt};
 ghost use Rattle.lusdist_commands.specs.Waved.{AreRunWaves, run_dump, run_path};
 
 use crate::evaluating::fault_stop;
 use crate::filing::file_run;
-use crate::stop::Stop;
 use luflow::Outputs;
 use luplace::{Job, Plan};
 use lurun::{Gate, RunError, run_crew, run_threads, stations};
 use lusdist_shell::{Files, Progress, RunRequest};
+use lusdist_stop::Stop;
 use lutab::write_outputs;
 use std::alloc::Global;
 use std::sync::Wait;

@@ -12,30 +12,29 @@ ghost use Rattle.lusdist_commands.specs.Asked.{IsAskedFor, IsWorldOf, AreNotesOf
 ghost use Rattle.luflow.specs.Sound.{IsFit};
 ghost use Rattle.luflow.specs.Variables.{outputs_of};
 ghost use Rattle.lusdist_commands.specs.Evaluated.{IsDumped, IsDumpedTo, IsEvaluated, IsNoFault, IsPosedBy};
-ghost use Rattle.lusdist_commands.specs.Filed.{IsUnfiledAt, IsUnwritten};
+ghost use Rattle.lusdist_stop.specs.Files.{IsUnfiledAt, IsUnwritten};
 ghost use Rattle.lusdist_commands.specs.Waved.{AreWaved, IsReplayDumped, IsRunDumped, replay_path};
 ghost use Rattle.lusdist_commands.specs.Stopped.{IsCheckStopped, IsEvalRefused, IsEvalStopped, IsPlanStopped, IsReplayStopped, IsRunStopped, IsRequestStopped, IsRefusal};
-ghost use Rattle.lusdist_commands.specs.Mistakes.{mistake_in};
+ghost use Rattle.lusdist_stop.specs.Mistakes.{mistake_in};
 ghost use Rattle.lusdist_commands.specs.Left.{AreFiled, AreFiledTo, IsEnded, IsCallEnded};
-ghost use Rattle.lusdist_commands.specs.declared.stop.Stop.{Stop};
-ghost use Rattle.lusdist_commands.specs.declared.stop.Stop.TheVariants.{OutOfMemory};
+ghost use Rattle.lusdist_stop.specs.declared.stop.Stop.{Stop};
+ghost use Rattle.lusdist_stop.specs.declared.stop.Stop.TheVariants.{OutOfMemory};
 
 use crate::evaluating::evaluation;
 use crate::explaining::explained;
 use crate::filing::file_world;
 use crate::jobs::job_for;
-use crate::mistake::mistake_in;
 use crate::planning::{plan_text, planned};
 use crate::reasons::put_refusal;
 use crate::running::run_table;
-use crate::sources::{flat_at, flattened, inputs_at, program_of, read, turns_of};
-use crate::stop::Stop;
+use crate::sources::{flat_at, flattened, inputs_at, program_of, turns_at};
 use luflow::{Flat, Inputs};
 use luplace::Job;
 use lusdist_shell::{
     CheckRequest, EvalRequest, Files, PlanRequest, Progress, ReplayRequest, Request, RunRequest,
-    Sink, TurnsForm, parse, put_mistake, put_notes, put_out,
+    Sink, TurnsForm, parse, put_mistake,
 };
+use lusdist_stop::{Said, Stop, mistake_in, put_said, read};
 use lusyn::print_program;
 use luweave::{World, new_sites, replay};
 use luweave_text::{TraceForm, text_of_world, trace};
@@ -63,8 +62,7 @@ fn job_and_turns<F: Files>(
         request.table,
         request.main,
     )?;
-    let schedule = read(alloc, files, request.schedule)?;
-    let turns = turns_of(alloc, &schedule)?;
+    let turns = turns_at(alloc, files, request.schedule)?;
     Ok((job, turns))
 }
 
@@ -124,22 +122,6 @@ fn noted(
             Ok((world, String::new(alloc)))
         }
     }
-}
-
-/// What a call prints: its answer, and the notes beside it.
-#[derive(Drop)]
-struct Said {
-    text: String,
-    notes: String,
-}
-
-/// An answer without notes.
-fn plain(alloc: Global, text: String) -> Said
-    ensures text { result.text ≡ text }
-    ensures notes { string_bytes result.notes ≡ [] }
-{
-    let notes = String::new(alloc);
-    Said { text, notes }
 }
 
 /// What a replay of a job prints. The file of its dump is written first, where the request asks for one.
@@ -254,8 +236,7 @@ fn plan_answer<F: Files>(alloc: Global, request: PlanRequest<'_>, files: &F) -> 
     ensures stopped { IfErr result (IsPlanStopped (F.gives files.now) request.entry) }
 {
     let plan = planned(alloc, files, request.program, request.place, request.main)?;
-    let text = plan_text(alloc, &plan, request.form)?;
-    Ok(text)
+    plan_text(alloc, &plan, request.form)
 }
 
 /// What a run prints: the table of the outputs of the program, which its sites gave together.
@@ -304,32 +285,13 @@ fn answer<R: Threads + Wait + Sync, F: Files, P: Progress>(
         request.entry) }
 {
     match request {
-        Request::Check(request) => Ok(plain(alloc, check_text(alloc, request, files)?)),
-        Request::Eval(request) => Ok(plain(alloc, eval_text(alloc, request, files)?)),
-        Request::Plan(request) => Ok(plain(alloc, plan_answer(alloc, request, files)?)),
+        Request::Check(request) => Ok(Said::plain(alloc, check_text(alloc, request, files)?)),
+        Request::Eval(request) => Ok(Said::plain(alloc, eval_text(alloc, request, files)?)),
+        Request::Plan(request) => Ok(Said::plain(alloc, plan_answer(alloc, request, files)?)),
         Request::Replay(request) => replay_answer(alloc, request, files),
-        Request::Run(request) => Ok(plain(alloc, run_text(rt, alloc, request, files, progress)?)),
-        Request::Explain(request) => Ok(plain(alloc, explained(alloc, request)?)),
+        Request::Run(request) => Ok(Said::plain(alloc, run_text(rt, alloc, request, files, progress)?)),
+        Request::Explain(request) => Ok(Said::plain(alloc, explained(alloc, request)?)),
     }
-}
-
-/// Writes an answer to the output, and then its notes to the error stream. Answers the status: 0, or 3 where the output can't be
-/// written, which the error stream then tells, and no notes.
-fn put_said<W: Write, V: Write>(out: &mut Sink<W>, err: &mut Sink<V>, said: &Said) -> u8
-    ensures status { (result ≡ 0) ⊎ ((result ≡ 3) × (out.new.failed ≡ true)) }
-    ensures written { result ≡ 0 → Appends (W.contents out.old.writer) (W.contents out.new.writer)
-        (string_bytes said.now.text) }
-    ensures noted { result ≡ 0 → HasPut V.contents err.old err.new (string_bytes said.now.notes) }
-    ensures silent { result ≡ 0 → string_bytes said.now.notes ≡ [] → err.new ≡ err.old }
-    ensures beginning { HasBeginning W.contents out.old out.new (string_bytes said.now.text) }
-    ensures line { result ≡ 3 → HasLine V.contents err.old err.new (codes "F02 CannotWrite") }
-{
-    let status = put_out(out, err, said.text.as_bytes());
-    if status != 0 {
-        return status;
-    }
-    put_notes(err, said.notes.as_bytes());
-    0
 }
 
 /// Does what the words asked for.

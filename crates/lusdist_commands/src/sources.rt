@@ -1,6 +1,6 @@
 //! From the texts of the files to a plan, a job and its turns.
 
-ghost use Rattle.std.specs.Prelude.{◌≡◌, Some, IfOk, IfErr, IsUtf8, Ok, false};
+ghost use Rattle.std.specs.Prelude.{◌≡◌, IfOk, IfErr, IsUtf8, Ok, false};
 ghost use Rattle.lutree.specs.Places.{places_view};
 ghost use Rattle.lutree.specs.Tree.{program_view};
 ghost use Rattle.lucore.specs.Result.{IsFlatOf};
@@ -12,36 +12,21 @@ ghost use Rattle.luflow.specs.Tables.{Fits};
 ghost use Rattle.luflow.specs.Variables.{inputs_of};
 ghost use Rattle.luworld.specs.Runs.{IsRun};
 ghost use Rattle.lutab.specs.Table.{IsTextOf, is_too_long};
-ghost use Rattle.lusdist_commands.specs.Asked.{HasFlat, IsFlatAt, IsPlanOfText, IsTableAt};
+ghost use Rattle.lusdist_commands.specs.Asked.{AreTurnsAt, HasFlat, IsFlatAt, IsPlanOfText, IsTableAt};
 ghost use Rattle.lusdist_commands.specs.Refused.{IsToldOf, IsProgramRefused, IsPlaceRefused, IsTableRefused};
-ghost use Rattle.lusdist_commands.specs.Stopped.{IsUnread, HasNoFlat, IsScheduleRefused, StopsAtProgram, StopsAtTable};
+ghost use Rattle.lusdist_commands.specs.Stopped.{HasNoFlat, IsScheduleRefused, StopsAtProgram, StopsAtSchedule, StopsAtTable};
 
-use crate::stop::Stop;
 use lucore::flatten;
 use luflow::{Flat, Inputs};
-use lulist::Name;
 use luplace::{Job, Plan};
 use luplace_file::{PlaceError, read_place};
-use lusdist_shell::{Files, ReadError, read_schedule, text_of};
+use lusdist_shell::{Files, read_schedule, text_of};
+use lusdist_stop::{Stop, read};
 use lustat::check;
 use lusyn::read_program;
 use lutab::{TabError, read_inputs};
 use lutree::Program;
 use std::alloc::Global;
-
-/// The bytes of the file at the path.
-pub fn read<F: Files>(alloc: Global, files: &F, path: &str) -> Result<Vec<u8>, Stop>
-    ensures given { IfOk result (λ bytes. F.gives files.now path.now (Some bytes.items)) }
-    ensures unread { IfErr result (IsUnread (F.gives files.now) path.now) }
-{
-    match files.read(alloc, path) {
-        Ok(bytes) => Ok(bytes),
-        Err(ReadError::OutOfMemory) => Err(Stop::OutOfMemory),
-        Err(ReadError::CannotRead) => Err(Stop::CannotRead {
-            path: Name::from_text(alloc, path)?,
-        }),
-    }
-}
 
 /// The program that the bytes of a program's file spell.
 pub fn program_of(alloc: Global, bytes: &[u8]) -> Result<Program, Stop>
@@ -174,4 +159,13 @@ pub fn turns_of(alloc: Global, bytes: &[u8]) -> Result<Vec<u8>, Stop>
         Ok(turns) => Ok(turns),
         Err(e) => Err(Stop::Schedule(e)),
     }
+}
+
+/// The turns of the schedule in the file at the path.
+pub fn turns_at<F: Files>(alloc: Global, files: &F, path: &str) -> Result<Vec<u8>, Stop>
+    ensures turns { IfOk result (λ turns. AreTurnsAt (F.gives files.now) path.now turns.items) }
+    ensures stopped { IfErr result (StopsAtSchedule (F.gives files.now) path.now) }
+{
+    let bytes = read(alloc, files, path)?;
+    turns_of(alloc, &bytes)
 }

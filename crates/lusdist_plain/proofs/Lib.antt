@@ -1,5 +1,5 @@
-pub mod Places
-pub mod Ranges
-pub mod FilledCells
+mod Places
+mod Ranges
+mod FilledCells
 pub mod Scripted
-pub mod AllScripts
+mod AllScripts

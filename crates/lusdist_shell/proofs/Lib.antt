@@ -1,3 +1,3 @@
-pub mod ScheduleSteps
-pub mod NoHelp
-pub mod CommandLemmas
+mod ScheduleSteps
+mod NoHelp
+mod CommandLemmas

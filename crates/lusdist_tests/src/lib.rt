@@ -1,12 +1,23 @@
-//! What only code can show of whole calls and of runs at several sites: the tests of `lusdist_shell`, `lusdist_commands`,
-//! `lusdist_plain`, `luplace` and `luplace_file`, as far as they need code; whole commands over files are cases of `lusdist_rows`.
+//! What only code can show: tests alone. Whole commands over files are cases of `lusdist_rows`.
+//!
+//! Of plain data, graphs, stages alone, flat programs and the evaluator:
+//!
+//! - `lists`: `lulist`.
+//! - `graph`: `lugraph`.
+//! - `stages`: clocks and initialisation of texts that the stage before refuses, and of programs that no text has.
+//! - `flats`: what a program that keeps all rules lends, and flat lists with their ranks and owners (`lustat`, `lucore`).
+//! - `operators`: values of one flow at one instant (`lueval`).
+//! - `streams`: tables that fit a program, its streams and outputs (`luflow`, `lueval`).
+//! - `values`: lists of values (`luflow`).
+//!
+//! Of whole calls and of runs at several sites:
 //!
 //! - `calls`: output that can't be written, files without memory, words that can't be read, and the lines of refused memory.
 //! - `placements`, `long_placements`: what texts of placements are read as, and such of many entries.
 //! - `counters`: the plain programs of `lusdist_plain`, and what a site is handed, by hand.
 //! - `schedules`: all schedules of eight turns over three sites, against the plain programs.
 //!
-//! Expected counts, messages and answers are worked out by hand, by the rules of the language and of the texts.
+//! What is expected is worked out by hand, by the rules of the language, of the layout and of the texts.
 #![tactic(auto)]
 
 #[cfg(test)]
@@ -14,8 +25,22 @@ mod calls;
 #[cfg(test)]
 mod counters;
 #[cfg(test)]
+mod flats;
+#[cfg(test)]
+mod graph;
+#[cfg(test)]
+mod lists;
+#[cfg(test)]
 mod long_placements;
+#[cfg(test)]
+mod operators;
 #[cfg(test)]
 mod placements;
 #[cfg(test)]
 mod schedules;
+#[cfg(test)]
+mod stages;
+#[cfg(test)]
+mod streams;
+#[cfg(test)]
+mod values;

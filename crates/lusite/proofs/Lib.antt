@@ -1,22 +1,22 @@
 pub mod Machine
-pub mod Desks
+mod Desks
 pub mod Told
-pub mod Offers
+mod Offers
 pub mod Turns
-pub mod Starts
+mod Starts
 pub mod Outputs
-pub mod FaultsTold
+mod FaultsTold
 pub mod Ranges
-pub mod Passed
-pub mod Carried
-pub mod Widths
-pub mod Sifted
-pub mod Skips
-pub mod Moves
-pub mod Held
-pub mod Spread
-pub mod Rows
-pub mod Posts
-pub mod Counting
-pub mod Drawn
-pub mod Instants
+mod Passed
+mod Carried
+mod Widths
+mod Sifted
+mod Skips
+mod Moves
+mod Held
+mod Spread
+mod Rows
+mod Posts
+mod Counting
+mod Drawn
+mod Instants

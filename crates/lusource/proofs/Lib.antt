@@ -1,4 +1,4 @@
-pub mod Instances
+mod Instances
 pub mod Meanings
-pub mod FaultVectors
-pub mod FaultPaths
+mod FaultVectors
+mod FaultPaths

@@ -1,3 +1,3 @@
-pub mod Telling
-pub mod First
+mod Telling
+mod First
 pub mod Same

@@ -1,9 +1,9 @@
-pub mod Sourcing
-pub mod Spreading
-pub mod Leasts
-pub mod Telling
-pub mod Lent
-pub mod Starting
-pub mod Equations
+mod Sourcing
+mod Spreading
+mod Leasts
+mod Telling
+mod Lent
+mod Starting
+mod Equations
 pub mod Rowing
-pub mod Steps
+mod Steps

@@ -1,9 +1,9 @@
-pub mod Held
-pub mod Named
-pub mod Anchored
-pub mod Lent
-pub mod Chaining
-pub mod Uncalled
-pub mod Places
-pub mod Branched
-pub mod Steps
+mod Held
+mod Named
+mod Anchored
+mod Lent
+mod Chaining
+mod Uncalled
+mod Places
+mod Branched
+mod Steps

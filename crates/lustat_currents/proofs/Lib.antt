@@ -1,3 +1,3 @@
-pub mod Beginning
-pub mod Tabled
-pub mod Naming
+mod Beginning
+mod Tabled
+mod Naming

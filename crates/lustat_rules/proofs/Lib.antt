@@ -1,16 +1,16 @@
 pub mod Fitting
 pub mod Raising
-pub mod Worked
-pub mod OneNode
+mod Worked
+mod OneNode
 pub mod Sampler
-pub mod Delayed
-pub mod Once
+mod Delayed
+mod Once
 pub mod Calling
-pub mod Rounds
+mod Rounds
 pub mod Judging
-pub mod Classed
+mod Classed
 pub mod Stages
-pub mod Switch
-pub mod Enumerated
+mod Switch
+mod Enumerated
 pub mod Agreeing
-pub mod Merging
+mod Merging

@@ -1,4 +1,4 @@
 pub mod Declared
 pub mod Keeping
 pub mod Placed
-pub mod Labelled
+mod Labelled

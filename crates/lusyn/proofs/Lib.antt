@@ -1,6 +1,6 @@
-pub mod Again
-pub mod Limits
-pub mod Whole
+mod Again
+mod Limits
+mod Whole
 pub mod Exclusive
 pub mod Places
 pub mod OneRefusal

@@ -1,18 +1,18 @@
-pub mod Tables
+mod Tables
 pub mod Pieces
-pub mod SoundExpressions
+mod SoundExpressions
 pub mod SoundDeclarations
 pub mod SoundPrograms
-pub mod CompletePieces
-pub mod CompleteExpressions
-pub mod CompleteDeclarations
+mod CompletePieces
+mod CompleteExpressions
+mod CompleteDeclarations
 pub mod CompletePrograms
 pub mod Printed
-pub mod Examples
-pub mod Local
-pub mod LocalExpressions
+mod Examples
+mod Local
+mod LocalExpressions
 pub mod LocalPrograms
-pub mod Viable
-pub mod ViableExpressions
+mod Viable
+mod ViableExpressions
 pub mod ViablePrograms
 pub mod Plain

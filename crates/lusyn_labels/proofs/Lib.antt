@@ -1,6 +1,6 @@
-pub mod Names
+mod Names
 pub mod Bare
-pub mod Once
-pub mod Tables
-pub mod Changed
-pub mod Operands
+mod Once
+mod Tables
+mod Changed
+mod Operands

@@ -1,5 +1,5 @@
 pub mod Pieces
-pub mod ScanningLemmas
-pub mod Cuts
-pub mod Runs
+mod ScanningLemmas
+mod Cuts
+mod Runs
 pub mod Whole

@@ -1,7 +1,7 @@
-pub mod Atoms
-pub mod Loops
+mod Atoms
+mod Loops
 pub mod Whole
-pub mod Placing
-pub mod PlacingPieces
-pub mod PlacingNodes
-pub mod PlacingTypes
+mod Placing
+mod PlacingPieces
+mod PlacingNodes
+mod PlacingTypes

@@ -1,14 +1,14 @@
-pub mod Joined
-pub mod Operands
-pub mod Pieces
-pub mod Longest
-pub mod Wholes
-pub mod Cut
-pub mod Peaks
-pub mod Sizes
-pub mod Narrow
+mod Joined
+mod Operands
+mod Pieces
+mod Longest
+mod Wholes
+mod Cut
+mod Peaks
+mod Sizes
+mod Narrow
 pub mod ReadBack
 pub mod Bare
-pub mod Branches
-pub mod Types
-pub mod Vectors
+mod Branches
+mod Types
+mod Vectors

@@ -1,11 +1,11 @@
-pub mod Values
-pub mod Lines
-pub mod Joins
-pub mod Fields
-pub mod Reached
-pub mod Headers
-pub mod Plain
+mod Values
+mod Lines
+mod Joins
+mod Fields
+mod Reached
+mod Headers
+mod Plain
 pub mod Told
 pub mod Texts
-pub mod Rowwise
-pub mod Written
+mod Rowwise
+mod Written

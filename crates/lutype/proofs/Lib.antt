@@ -1,13 +1,13 @@
-pub mod Forms
-pub mod Lookups
-pub mod Fit
-pub mod Defining
-pub mod Places
-pub mod Standing
-pub mod Told
+mod Forms
+mod Lookups
+mod Fit
+mod Defining
+mod Places
+mod Standing
+mod Told
 pub mod CallPlaces
-pub mod CallsPushed
+mod CallsPushed
 pub mod CallWays
-pub mod Branches
-pub mod NameAt
-pub mod Steps
+mod Branches
+mod NameAt
+mod Steps

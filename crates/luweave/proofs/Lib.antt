@@ -1,6 +1,6 @@
-pub mod Worlds
-pub mod Moving
-pub mod Endings
-pub mod Headlines
-pub mod Finishing
+mod Worlds
+mod Moving
+mod Endings
+mod Headlines
+mod Finishing
 pub mod NewSites

@@ -1,3 +1,3 @@
 pub mod Texts
-pub mod Lines
-pub mod Signals
+mod Lines
+mod Signals

@@ -2,18 +2,18 @@ pub mod Counts
 pub mod Steps
 pub mod Runs
 pub mod Ends
-pub mod Totals
-pub mod Turns
+mod Totals
+mod Turns
 pub mod Parts
 pub mod Wired
-pub mod Listed
-pub mod Passing
-pub mod Whole
+mod Listed
+mod Passing
+mod Whole
 pub mod Enabled
 pub mod Left
-pub mod Exact
-pub mod Items
-pub mod Example
+mod Exact
+mod Items
+mod Example
 pub mod Ended
 pub mod Rounds
 pub mod Cuts
@@ -22,6 +22,6 @@ pub mod Outlines
 pub mod Cursor
 pub mod Fitting
 pub mod PassedWhole
-pub mod WorkedPlans
-pub mod WorkedChains
+mod WorkedPlans
+mod WorkedChains
 pub mod Remaining

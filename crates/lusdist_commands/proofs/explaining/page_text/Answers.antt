@@ -1,7 +1,7 @@
 use Rattle.std.proofs.Common.{ℕ, List, Option, Bor, refl, sym, ap, ◌∙◌}
 use Rattle.std.specs.Prelude.{option_map}
-use Rattle.lusdist_commands.specs.declared.mistake.Mistake.TheVariants.{UnknownCode}
-use Rattle.lusdist_commands.specs.declared.stop.Stop.TheVariants.{Mistaken}
+use Rattle.lusdist_stop.specs.declared.mistake.Mistake.TheVariants.{UnknownCode}
+use Rattle.lusdist_stop.specs.declared.stop.Stop.TheVariants.{Mistaken}
 use Rattle.lusdist_commands.specs.Explained.IsExplainStopped.{explain_unknown}
 use Rattle.lusdist_commands.proofs.explaining.page_text.Goals as goal
 

@@ -2,8 +2,8 @@
 use Rattle.std.specs.Prelude.{ℕ, List, ◌++◌, codes, Option, Some, None, nat_lt, if◌then◌else◌}
 use Rattle.std.specs.Fmt.{decimal}
 use Rattle.lusdist_shell.specs.declared.request.EvalRequest.{EvalRequest}
-use Rattle.lusdist_commands.specs.declared.mistake.Mistake.{Mistake}
-use Rattle.lusdist_commands.specs.declared.mistake.Mistake.TheVariants.{UnknownCode, NoChart, Backwards}
+use Rattle.lusdist_stop.specs.declared.mistake.Mistake.{Mistake}
+use Rattle.lusdist_stop.specs.declared.mistake.Mistake.TheVariants.{UnknownCode, NoChart, Backwards}
 
 -- the line, without the line feed that ends it
 abbrev pub line_of : Mistake → List ℕ

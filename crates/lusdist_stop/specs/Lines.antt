@@ -8,9 +8,9 @@ use Rattle.lucore.specs.Lines.{line_of as flat_line}
 use Rattle.luplace_file.specs.Lines.{line_of as place_line}
 use Rattle.lutab.specs.Lines.{line_of as table_line}
 use Rattle.lusdist_shell.specs.Lines.{line_of as schedule_line}
-use Rattle.lusdist_commands.specs.Mistakes.{line_of as mistake_line}
-use Rattle.lusdist_commands.specs.declared.stop.Stop.{Stop}
-use Rattle.lusdist_commands.specs.declared.stop.Stop.TheVariants.{CannotRead, CannotWrite, NotAscii, Syntax, Rules, Flat, Place, Table, Schedule, Fault, LinkLost, NoThread, OutOfMemory, Mistaken}
+use Rattle.lusdist_stop.specs.Mistakes.{line_of as mistake_line}
+use Rattle.lusdist_stop.specs.declared.stop.Stop.{Stop}
+use Rattle.lusdist_stop.specs.declared.stop.Stop.TheVariants.{CannotRead, CannotWrite, NotAscii, Syntax, Rules, Flat, Place, Table, Schedule, Fault, LinkLost, NoThread, OutOfMemory, Mistaken}
 
 -- a code and a name, and what there is to tell; without the line feed that ends the line
 abbrev pub line_of : Stop → List ℕ

@@ -1,7 +1,7 @@
 //! Why a call stops.
 
 ghost use Rattle.std.specs.Prelude.{◌≡◌};
-ghost use Rattle.lusdist_commands.specs.Statuses.{status_of};
+ghost use Rattle.lusdist_stop.specs.Statuses.{status_of};
 
 use crate::mistake::Mistake;
 use lucore::CoreError;
@@ -60,7 +60,7 @@ pub enum Stop {
 
 impl fmt::Display for Stop {
     ghost use Rattle.std.specs.Prelude.{Some};
-    ghost use Rattle.lusdist_commands.specs.Lines.{line_of};
+    ghost use Rattle.lusdist_stop.specs.Lines.{line_of};
 
     ghost output = { λ stop. Some (line_of stop) };
 
@@ -90,7 +90,7 @@ impl fmt::Display for Stop {
 
 impl From<AllocError> for Stop {
     ghost use Rattle.std.specs.Prelude.{◌≡◌};
-    ghost use Rattle.lusdist_commands.specs.declared.stop.Stop.TheVariants.{OutOfMemory};
+    ghost use Rattle.lusdist_stop.specs.declared.stop.Stop.TheVariants.{OutOfMemory};
 
     ghost from_gives = { λ _ e. e ≡ OutOfMemory };
 

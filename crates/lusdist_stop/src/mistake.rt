@@ -1,7 +1,7 @@
 //! What is wrong with words that the command line takes.
 
 ghost use Rattle.std.specs.Prelude.{◌≡◌};
-ghost use Rattle.lusdist_commands.specs.Mistakes.{chartless, unordered, backwards, mistake_in};
+ghost use Rattle.lusdist_stop.specs.Mistakes.{chartless, unordered, backwards, mistake_in};
 
 use lulist::Name;
 use lusdist_shell::EvalRequest;
@@ -21,7 +21,7 @@ pub enum Mistake {
 
 impl fmt::Display for Mistake {
     ghost use Rattle.std.specs.Prelude.{Some};
-    ghost use Rattle.lusdist_commands.specs.Mistakes.{line_of};
+    ghost use Rattle.lusdist_stop.specs.Mistakes.{line_of};
 
     ghost output = { λ mistake. Some (line_of mistake) };
 

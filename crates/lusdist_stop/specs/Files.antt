@@ -1,7 +1,13 @@
--- A dump in its file.
+-- The files that a call reads and writes, and what a stop says of them.
 use Rattle.std.specs.Prelude.{◌≡◌, ℕ, List, Option, Some, None}
-use Rattle.lusdist_commands.specs.declared.stop.Stop.{Stop}
-use Rattle.lusdist_commands.specs.declared.stop.Stop.TheVariants.{CannotWrite, OutOfMemory}
+use Rattle.lusdist_stop.specs.declared.stop.Stop.{Stop}
+use Rattle.lusdist_stop.specs.declared.stop.Stop.TheVariants.{CannotRead, CannotWrite, OutOfMemory}
+
+-- the file of this path can't be read, or memory ran out
+abbrev pub IsUnread : (List ℕ → Option (List ℕ) → Type 0) → List ℕ → Stop → Type 0
+IsUnread gives path (CannotRead name) = (name ≡ path) × gives path None
+IsUnread gives path OutOfMemory = Unit {0}
+IsUnread gives path _ = ⊥
 
 -- where a dump is wanted in the file of a path, this one was written into it
 abbrev pub IsFiledAt : (List ℕ → Option (List ℕ) → Type 0) → Option (List ℕ) → List ℕ → Type 0

@@ -1,0 +1,4 @@
+pub mod Statuses
+pub mod Mistakes
+pub mod Lines
+pub mod Files
