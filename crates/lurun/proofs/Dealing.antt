@@ -1,16 +1,24 @@
 -- Stations go to workers, and reports come back: each once.
-use Rattle.std.proofs.Common.{◌≡◌, ℕ, zero, suc, ◌<◌, List, [], ◌∷◌, ◌++◌, length, map, Some, get_or, set, sym, ap, ◌∙◌, subst, ap₂, append_assoc, append-nil}
+use Rattle.std.proofs.Common.{◌≡◌, ℕ, zero, suc, ◌<◌, List, [], ◌∷◌, ◌++◌, length, map, Some, All, get_or, set, sym, ap, ◌∙◌, subst, ap₂, append_assoc, append-nil}
 use Rattle.std.specs.Prelude.{slice_get, slice_set, flat_map, swap_remove}
 use Rattle.std.specs.List.Sorted.{IsPermutation}
 use Rattle.std.specs.Option.{option_map}
 use Rattle.std.proofs.lemmas.List.{length-map, map-append, map-set, set-get_or}
 use Rattle.std.proofs.lemmas.Option.{get_or_from_slice_get, slice_get-map}
 use Rattle.std.proofs.lemmas.List.Concat.{flat_map-append}
+use Rattle.std.proofs.lemmas.List.Elements.{All-push, All-same, All-head, All-tail}
 use Rattle.std.proofs.lemmas.List.Sorted.{IsPermutation-refl, IsPermutation-sym, IsPermutation-trans, IsPermutation-middle, IsPermutation-append_left, IsPermutation-append_right, IsPermutation-pop_more, IsPermutation-swap_remove, IsPermutation-map, length_permutation}
 use Rattle.luworld.specs.Runs.{Run}
 use Rattle.lusite.specs.Sites.{SiteAt}
 use Rattle.lurun.specs.Stations.{StationAt, AreReportsOf, IsSameSite, ReportsFor, place_of, places}
-use Rattle.lurun.proofs.Told.{same_one}
+use Rattle.lurun_reports.proofs.Lists.{same_one}
+
+-- a fact of each element, as a list grows at its end or loses its head
+pub after_push : {A : Type 0} (P : A → Type 0) (xs ys : List A) (x : A) → ys ≡ xs ++ x ∷ [] → All P xs → P x → All P ys
+after_push P xs ys x e all p = All-same P ys _ e (All-push P xs x all p)
+
+pub after_next : {A : Type 0} (P : A → Type 0) (xs rest : List A) (x : A) → xs ≡ x ∷ rest → All P xs → P x × All P rest
+after_next P xs rest x e all = let h = All-same P (x ∷ rest) xs (sym e) all in (All-head P x rest h, All-tail P x rest h)
 
 module _ {A B : Type 0} (f : A → List B) where
   -- one more share

@@ -1,11 +1,7 @@
-pub mod Told
-pub mod Columns
-pub mod Acts
-pub mod Moves
-pub mod Endings
-pub mod Named
-pub mod Rearranged
-pub mod Dealing
-pub mod Answers
-pub mod Benches
-pub mod Crosses
+mod Acts
+mod Moves
+mod Rearranged
+mod Dealing
+mod Answers
+mod Benches
+mod Crosses

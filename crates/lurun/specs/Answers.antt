@@ -3,9 +3,9 @@ use Rattle.std.specs.Prelude.{◌⊎◌, ℕ, List, Result, MatchResult}
 use Rattle.luflow.specs.Tables.{OutputColumn}
 use Rattle.luworld.specs.Runs.{Run, NoFault}
 use Rattle.lusite.specs.Machine.{IsFaultAt}
-use Rattle.lurun.specs.declared.error.RunError.{RunError}
-use Rattle.lurun.specs.declared.error.RunError.TheVariants.{Fault, OutOfMemory, LinkLost, NoThread, WrongReports}
-use Rattle.lurun.specs.Reports.{AreComplete, AreIncomplete, AreOutputsOf, HasOutput}
+use Rattle.lurun_reports.specs.declared.error.RunError.{RunError}
+use Rattle.lurun_reports.specs.declared.error.RunError.TheVariants.{Fault, OutOfMemory, LinkLost, NoThread, WrongReports}
+use Rattle.lurun_reports.specs.Reports.{AreComplete, AreIncomplete, AreOutputsOf, HasOutput}
 use Rattle.lurun.specs.Stations.{StationAt, sites_at}
 
 -- Why a run has no outputs: a fault at which one of its sites stopped, or a site that was left before its end, and there is a

@@ -1,4 +1,3 @@
-pub mod Reports
 pub mod Answers
 pub mod Stations
 pub mod Inside

@@ -8,14 +8,13 @@ ghost use Rattle.lurun.specs.Stations.{AreOf, AreReportsOf, IsSameSite, Moves, R
 ghost use Rattle.lurun.specs.Crew.{HasRoom, dealt, held, is_done};
 ghost use Rattle.lurun.specs.Hands.{promised};
 
-use crate::collecting::collect;
 use crate::ends::work_one;
-use crate::error::RunError;
 use crate::gate::{Gate, call, call_last};
 use crate::station::Station;
 use crate::tries::{Tried, offer_one, poll_one};
 use luflow::Outputs;
 use lulink::{Rx, Tx};
+use lurun_reports::{RunError, collect};
 use lusite::{Next, Site, SiteReport};
 use std::alloc::{AllocError, Global};
 use std::marker::Model;

@@ -3,7 +3,7 @@
 ghost use Rattle.std.specs.Prelude.{◌≡◌, ◌<◌, ◌≤◌, ◌+◌, IfOk, OnOk, length, slice_get, Some};
 ghost use Rattle.luworld.specs.Needs.{sites_of};
 ghost use Rattle.lurun.specs.declared.making.Bench.{Bench};
-ghost use Rattle.lurun.specs.Reports.{AreComplete};
+ghost use Rattle.lurun_reports.specs.Reports.{AreComplete};
 ghost use Rattle.lurun.specs.Stations.{AreStations, AreOf, sites_at, sender_at, receiver_at};
 ghost use Rattle.lurun.specs.Making.{IsBench, AreBenches, IsSenderAdded, IsReceiverAdded};
 

@@ -6,13 +6,12 @@ ghost use Rattle.lurun.specs.Answers.{IsRunAnswer};
 ghost use Rattle.lurun.specs.Stations.{AreOf, AreReportsOf, Fits, IsSameSite, Moves, ReportsFor};
 ghost use Rattle.lurun.specs.Workers.{promised};
 
-use crate::collecting::collect;
 use crate::ends::{put_one, take_one, work_one};
-use crate::error::RunError;
 use crate::gate::{Gate, call, call_last};
 use crate::station::Station;
 use luflow::Outputs;
 use lulink::{Rx, Tx};
+use lurun_reports::{RunError, collect};
 use lusite::{Next, Site, SiteReport};
 use std::alloc::Global;
 use std::snapshot::Snapshot;

@@ -16,7 +16,7 @@ use Rattle.lusource.specs.Source.{SourceStreams, IsSourceSolution}
 use Rattle.lumeaning.specs.Meaning.{IsMeant}
 use Rattle.lumeaning.specs.Telling.{OutputTold}
 use Rattle.lutab.specs.Table.{IsTextOf, is_too_long}
-use Rattle.lurun.specs.Reports.{AreOutputsOf as AreRunOutputs}
+use Rattle.lurun_reports.specs.Reports.{AreOutputsOf as AreRunOutputs}
 use Rattle.luchart.specs.Signals.{Signal}
 use Rattle.luweave_text.specs.Waves.{site_dump, AreOutputSignals}
 use Rattle.lusdist_shell.specs.declared.request.EvalRequest.{EvalRequest}

@@ -22,10 +22,10 @@ use Rattle.std.proofs.lemmas.Option.{slice_get_within}
 use Rattle.lusource.specs.Faults.{IsSourceFault}
 use Rattle.lusite.specs.declared.next.Fault.{Fault as SiteFault}
 use Rattle.lusite.specs.Machine.{IsFaultAt}
-use Rattle.lurun.specs.declared.error.RunError.{RunError}
-use Rattle.lurun.specs.declared.error.RunError.TheVariants as run
+use Rattle.lurun_reports.specs.declared.error.RunError.{RunError}
+use Rattle.lurun_reports.specs.declared.error.RunError.TheVariants as run
 use Rattle.lurun.specs.Answers.{IsRunAnswer}
-use Rattle.lurun.specs.Reports.{AreComplete, AreOutputsOf as AreRunOutputs, HasOutput}
+use Rattle.lurun_reports.specs.Reports.{AreComplete, AreOutputsOf as AreRunOutputs, HasOutput}
 use Rattle.lurun.specs.Stations.{StationAt, sites_at}
 use Rattle.lusdist_shell.specs.declared.request.RunRequest.{RunRequest}
 use Rattle.lusdist_stop.specs.declared.stop.Stop.{Stop}

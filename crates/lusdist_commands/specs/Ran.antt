@@ -4,9 +4,9 @@ use Rattle.luflow.specs.Tables.{OutputColumn}
 use Rattle.luflow.specs.Variables.{variable_name}
 use Rattle.luworld.specs.Runs.{Run}
 use Rattle.lusite.specs.Machine.{IsFaultAt}
-use Rattle.lurun.specs.declared.error.RunError.{RunError}
-use Rattle.lurun.specs.declared.error.RunError.TheVariants as run
-use Rattle.lurun.specs.Reports.{AreOutputsOf}
+use Rattle.lurun_reports.specs.declared.error.RunError.{RunError}
+use Rattle.lurun_reports.specs.declared.error.RunError.TheVariants as run
+use Rattle.lurun_reports.specs.Reports.{AreOutputsOf}
 use Rattle.lutab.specs.Outputs.{output_text}
 use Rattle.lusdist_stop.specs.declared.stop.Stop.{Stop}
 use Rattle.lusdist_stop.specs.declared.stop.Stop.TheVariants.{Fault, LinkLost, NoThread, OutOfMemory}

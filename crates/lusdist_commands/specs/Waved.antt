@@ -9,7 +9,7 @@ use Rattle.luworld.specs.Needs.{Distribution}
 use Rattle.luworld.specs.Runs.{Run}
 use Rattle.luworld.specs.Progress.{Progress, IsBeginning}
 use Rattle.lumeaning.specs.Telling.{main_marks}
-use Rattle.lurun.specs.Reports.{AreOutputsOf as AreRunOutputs}
+use Rattle.lurun_reports.specs.Reports.{AreOutputsOf as AreRunOutputs}
 use Rattle.lutab.specs.Outputs.{output_kinds}
 use Rattle.luchart.specs.Signals.{Signal, signals_of}
 use Rattle.luweave.specs.Headline.{IsFaithful}

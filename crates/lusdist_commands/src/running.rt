@@ -2,7 +2,7 @@
 
 ghost use Rattle.std.specs.Prelude.{◌≡◌, ◌<◌, ◌⊎◌, length, IfOk, IfErr, OnOk, MatchResult, string_bytes};
 ghost use Rattle.luflow.specs.Variables.{outputs_of};
-ghost use Rattle.lurun.specs.Reports.{AreOutputsOf};
+ghost use Rattle.lurun_reports.specs.Reports.{AreOutputsOf};
 ghost use Rattle.lusdist_shell.specs.Request.{AreFew};
 ghost use Rattle.lutab.specs.Outputs.{output_text};
 ghost use Rattle.lusdist_commands.specs.Ran.{IsRunError, IsRunTable, IsStopOfRun};

@@ -3,7 +3,7 @@ use Rattle.std.specs.List.Sorted.{IsPermutation}
 use Rattle.std.specs.Vec.Iter.{into_iter_items}
 use Rattle.lurun.specs.Stations.{StationAt}
 use Rattle.lurun.specs.Crew.{dealt}
-use Rattle.lurun.proofs.Told.{empty_list}
+use Rattle.lurun_reports.proofs.Lists.{empty_list}
 use Rattle.lurun.proofs.Dealing.{nothing_dealt, dealt_on}
 use Rattle.lurun.proofs.crew.deal.Goals as goal
 

@@ -1,6 +1,6 @@
 use Rattle.std.proofs.Common.{◌<◌, length, rules, Vec, Global}
 use Rattle.lurun.specs.Stations.{StationAt}
-use Rattle.lurun.proofs.Told.{got_at}
+use Rattle.lurun_reports.proofs.Lists.{got_at}
 use Rattle.lurun.proofs.Dealing.{one_dealt}
 use Rattle.lurun.proofs.crew.deal_to.Goals as goal
 

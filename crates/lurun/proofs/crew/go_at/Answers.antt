@@ -1,5 +1,5 @@
 use Rattle.std.proofs.Common.{◌<◌, length, rules}
-use Rattle.lurun.proofs.Told.{got_at}
+use Rattle.lurun_reports.proofs.Lists.{got_at}
 use Rattle.lurun.proofs.Dealing.{seat_kept}
 use Rattle.lurun.proofs.crew.go_at.Goals as goal
 

@@ -3,8 +3,8 @@ use Rattle.std.specs.Vec.Iter.{into_iter_items}
 use Rattle.lurun.specs.declared.crew.Hand.{Hand}
 use Rattle.lurun.specs.Crew.{HasRoom, dealt, held}
 use Rattle.lurun.specs.Stations.{StationAt}
-use Rattle.lurun.proofs.Told.{after_push, empty_list}
-use Rattle.lurun.proofs.Dealing.{started_on}
+use Rattle.lurun_reports.proofs.Lists.{empty_list}
+use Rattle.lurun.proofs.Dealing.{after_push, started_on}
 use Rattle.lurun.proofs.crew.hands_of.Goals as goal
 
 pub loop-seats-preserved-then-not-is_empty : goal.loop-seats-preserved-then-not-is_empty

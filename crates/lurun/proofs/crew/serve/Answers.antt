@@ -1,6 +1,6 @@
 use Rattle.std.proofs.Common.{◌≡◌, length, map, rules, ap}
 use Rattle.lurun.specs.Stations.{place_of, places}
-use Rattle.lurun.proofs.Told.{empty_list}
+use Rattle.lurun_reports.proofs.Lists.{empty_list}
 use Rattle.lurun.proofs.Dealing.{nothing_dealt, report_moved}
 use Rattle.std.proofs.Common.{refl}
 use Rattle.lurun.proofs.crew.serve.Goals as goal

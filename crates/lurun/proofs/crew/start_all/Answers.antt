@@ -6,8 +6,7 @@ use Rattle.lurun.specs.declared.crew.Hand.{Hand}
 use Rattle.lurun.specs.declared.crew.ReportsOf.{ReportsOf}
 use Rattle.lurun.specs.Crew.{HasRoom, held}
 use Rattle.lurun.specs.Stations.{StationAt}
-use Rattle.lurun.proofs.Told.{after_next}
-use Rattle.lurun.proofs.Dealing.{started_on}
+use Rattle.lurun.proofs.Dealing.{after_next, started_on}
 use Rattle.lurun.proofs.crew.start_all.Goals as goal
 
 pub loop-hand-preserved : goal.loop-hand-preserved

@@ -4,7 +4,7 @@ use Rattle.luworld.specs.Needs.{Distribution, sites_of}
 use Rattle.lurun.specs.Stations.{IsStationOf}
 use Rattle.lurun.specs.Making.{IsBench}
 use Rattle.lurun.proofs.Benches.{new_station}
-use Rattle.lurun.proofs.Told.{pushed_at}
+use Rattle.lurun_reports.proofs.Lists.{pushed_at}
 use Rattle.lurun.proofs.Rearranged.{stations_of, stations_complete}
 use Rattle.lurun.proofs.making.stations.Goals as goal
 
