@@ -76,7 +76,7 @@ fn printed<R: Threads + Wait + Sync, F: Files>(
 }
 
 /// The text of a file.
-fn text_in<F: Files>(alloc: Global, files: &F, path: &str) -> Result<String, AllocError> {
+pub fn text_in<F: Files>(alloc: Global, files: &F, path: &str) -> Result<String, AllocError> {
     let Ok(bytes) = files.read(alloc, path) else {
         return Ok(String::new(alloc));
     };

@@ -1,10 +1,12 @@
-//! What the program answers to whole commands. The input is a transcript of cases with no answers in it, and the output is
-//! the same transcript with what each command answers; README.md has the form of its lines.
+//! What the program answers to whole commands, and what is printed of texts. The input is a transcript of cases with no answers
+//! in it, and the output is the same transcript with what each of them answers; README.md has the form of its lines.
 #![tactic(auto)]
 
 mod driver;
+mod printing;
 
 use crate::driver::{put_tried, words_of};
+use crate::printing::put_printed;
 use lusdist_commands::serve_words;
 use lusdist_shell::{Files, ReadError, RealFiles, Silent, Sink, WriteError, text_of};
 use std::alloc::{AllocError, Global};
@@ -117,7 +119,7 @@ fn add_more(
     Ok(())
 }
 
-/// Writes what a command wrote to its output: whole, or how long it is and how it ends.
+/// Writes an output: whole, or how long it is and how it ends.
 fn put_output(rt: &HostRuntime, out: &[u8]) -> io::Result<()> {
     if out.len() <= LONGEST {
         return rt.stdout().write_all(out);
@@ -181,6 +183,7 @@ fn take_line<R: Threads + Wait + Sync>(
         "more" => add_more(rt.alloc(), case, name.parse().unwrap_or(0), text)?,
         "$" => put_answer(threads, rt, case, rest)?,
         "@" => put_tried(threads, rt, case, text, name.parse().unwrap_or(0))?,
+        "~" => put_printed(rt, case, rest)?,
         _ => {}
     }
     Ok(())
