@@ -289,7 +289,10 @@ fn answer<R: Threads + Wait + Sync, F: Files, P: Progress>(
         Request::Eval(request) => Ok(Said::plain(alloc, eval_text(alloc, request, files)?)),
         Request::Plan(request) => Ok(Said::plain(alloc, plan_answer(alloc, request, files)?)),
         Request::Replay(request) => replay_answer(alloc, request, files),
-        Request::Run(request) => Ok(Said::plain(alloc, run_text(rt, alloc, request, files, progress)?)),
+        Request::Run(request) => Ok(Said::plain(
+            alloc,
+            run_text(rt, alloc, request, files, progress)?,
+        )),
         Request::Explain(request) => Ok(Said::plain(alloc, explained(alloc, request)?)),
     }
 }

@@ -4,7 +4,7 @@ use Rattle.lusdist_commands.proofs.Dumps.{at_job_none, at_schedule_none, stops_a
 use Rattle.lusdist_commands.proofs.serve.job_and_turns.Goals as goal
 
 pub returns-clause-asked : goal.returns-clause-asked
-returns-clause-asked g c = record { job_for = c.in_ok-job.ensures.job; schedule_is = c.in_ok-turns.ensures.turns; }
+returns-clause-asked g c = record { job_for = c.in_ok-job.ensures.job; schedule_is = c.in_ok-turns.ensures.turns }
 
 pub returns-in_err-job-clause-stopped : goal.returns-in_err-job-clause-stopped
 returns-in_err-job-clause-stopped g c =
