@@ -9,7 +9,7 @@ use crate::pieces::{put_copies, put_right};
 use crate::signal::{Signal, status_at};
 use luflow::{Datum, Status};
 use lulist::Name;
-use lutab::put_datum;
+use lutab_writing::put_datum;
 use lutree::Kind;
 use std::alloc::AllocError;
 

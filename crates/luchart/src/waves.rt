@@ -9,7 +9,7 @@ ghost use Rattle.luchart.specs.Dump.{all_changes, binary, change, changes, closi
 use crate::signal::{Signal, instants_of, signals_of, status_at};
 use luflow::{Datum, Enum, Outputs, Status};
 use lulist::Name;
-use lutab::put_datum;
+use lutab_writing::put_datum;
 use lutree::Kind;
 use std::alloc::{AllocError, Global};
 use std::io::Write;

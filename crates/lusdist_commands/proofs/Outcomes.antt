@@ -36,7 +36,7 @@ use Rattle.lusdist_stop.specs.declared.stop.Stop.TheVariants.{CannotRead, Cannot
 use Rattle.lusdist_commands.specs.Evaluated.{AreEvaluated, AreVariablesAt, AreVariablesOf, HasNoFaultBefore, IsColumnOf, IsDumped, IsDumpedBefore, IsDumpedTo, IsFiled, IsNoFault, IsShown, AreShownBefore, IsStopFor, shown_text, wave_text, IsPosed, IsPosedBy, IsShownTo, IsStopped, IsFaultTold, IsUnfiled, wave_path}
 use Rattle.lutree.specs.Places.{ProgramPlaces}
 use Rattle.luflow.specs.declared.variable.Enum.{Enum}
-use Rattle.lutab.specs.Outputs.{shown_of}
+use Rattle.lutab_writing.specs.Outputs.{shown_of}
 use Rattle.lusdist_commands.specs.Refused.{IsToldOf, IsProgramRefused, IsTableRefused}
 use Rattle.lusdist_commands.specs.Refused.IsToldOf.{rule, flat as told_flat}
 use Rattle.lusdist_stop.specs.Files.{IsUnread}

@@ -39,7 +39,7 @@ use Rattle.luweave_text.specs.Traced.{IsTraced}
 use Rattle.luweave_text.specs.declared.form.TraceForm.TheVariants as traces
 use Rattle.lusdist_commands.specs.TellingText.{telling_text, IsToldBy}
 use Rattle.luflow.specs.Tables.{Fits, OutputColumn}
-use Rattle.lutab.specs.Outputs.{output_text}
+use Rattle.lutab_writing.specs.Outputs.{output_text}
 use Rattle.lusdist_commands.specs.Evaluated.{AreOutputsOf, IsEvaluated}
 use Rattle.lusdist_commands.specs.Explained.{code_in, explanation}
 

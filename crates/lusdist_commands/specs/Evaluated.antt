@@ -16,7 +16,7 @@ use Rattle.lusyn.specs.Texts.{SpellsText}
 use Rattle.lucore.specs.Result.{IsFlatOf}
 use Rattle.lueval.specs.Whole.{IsFirstFault, HasNoFault}
 use Rattle.lutab.specs.Table.{IsTextOf, is_too_long}
-use Rattle.lutab.specs.Outputs.{shown_of, kinds_of, column_text}
+use Rattle.lutab_writing.specs.Outputs.{shown_of, kinds_of, column_text}
 use Rattle.luchart.specs.Chronogram.{chart_text}
 use Rattle.luchart.specs.Dump.{dump_text}
 use Rattle.luflow.specs.Faults.{IsFault}

@@ -7,7 +7,7 @@ use Rattle.lusite.specs.Machine.{IsFaultAt}
 use Rattle.lurun_reports.specs.declared.error.RunError.{RunError}
 use Rattle.lurun_reports.specs.declared.error.RunError.TheVariants as run
 use Rattle.lurun_reports.specs.Reports.{AreOutputsOf}
-use Rattle.lutab.specs.Outputs.{output_text}
+use Rattle.lutab_writing.specs.Outputs.{output_text}
 use Rattle.lusdist_stop.specs.declared.stop.Stop.{Stop}
 use Rattle.lusdist_stop.specs.declared.stop.Stop.TheVariants.{Fault, LinkLost, NoThread, OutOfMemory}
 

@@ -10,7 +10,7 @@ use Rattle.luworld.specs.Runs.{Run}
 use Rattle.luworld.specs.Progress.{Progress, IsBeginning}
 use Rattle.lumeaning.specs.Telling.{main_marks}
 use Rattle.lurun_reports.specs.Reports.{AreOutputsOf as AreRunOutputs}
-use Rattle.lutab.specs.Outputs.{output_kinds}
+use Rattle.lutab_writing.specs.Outputs.{output_kinds}
 use Rattle.luchart.specs.Signals.{Signal, signals_of}
 use Rattle.luweave.specs.Headline.{IsFaithful}
 use Rattle.luweave_text.specs.Waves.{site_dump, AreOutputSignals}

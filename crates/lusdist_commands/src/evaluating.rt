@@ -4,7 +4,7 @@ ghost use Rattle.std.specs.Prelude.{◌≡◌, ◌<◌, ◌≤◌, ◌⊎◌, If
 ghost use Rattle.luflow.specs.Sound.{IsFit};
 ghost use Rattle.luflow.specs.Variables.{outputs_of};
 ghost use Rattle.lueval.specs.Whole.{HasNoFault, IsAnswer};
-ghost use Rattle.lutab.specs.Outputs.{shown_of};
+ghost use Rattle.lutab_writing.specs.Outputs.{shown_of};
 ghost use Rattle.lusdist_commands.specs.Evaluated.{AreEvaluated, HasNoFaultBefore, IsFiled, IsShown, AreShownBefore, IsShownTo, IsStopped, IsStopFor, IsUnfiled, shown_text, wave_text};
 ghost use Rattle.lueval.specs.declared.error.EvalError.TheVariants.{Fault};
 

@@ -4,7 +4,7 @@ ghost use Rattle.std.specs.Prelude.{◌≡◌, ◌<◌, ◌⊎◌, length, IfOk,
 ghost use Rattle.luflow.specs.Variables.{outputs_of};
 ghost use Rattle.lurun_reports.specs.Reports.{AreOutputsOf};
 ghost use Rattle.lusdist_shell.specs.Request.{AreFew};
-ghost use Rattle.lutab.specs.Outputs.{output_text};
+ghost use Rattle.lutab_writing.specs.Outputs.{output_text};
 ghost use Rattle.lusdist_commands.specs.Ran.{IsRunError, IsRunTable, IsStopOfRun};
 ghost use Rattle.lusdist_stop.specs.Files.{IsFiledAt, IsUnfiledAt};
 ghost use Rattle.lusdist_commands.specs.Waved.{AreRunWaves, run_dump, run_path};

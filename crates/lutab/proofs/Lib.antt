@@ -1,6 +1,5 @@
 mod Values
 mod Lines
-mod Joins
 mod Fields
 mod Reached
 mod Headers
@@ -8,4 +7,3 @@ mod Plain
 pub mod Told
 pub mod Texts
 mod Rowwise
-mod Written

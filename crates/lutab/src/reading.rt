@@ -13,9 +13,9 @@ ghost use Rattle.lutab.specs.Filling.{AreEmptyOf, ReadsColumns, ReadsText};
 
 use crate::error::TabError;
 use crate::rows::read_rows;
-use crate::writing::put_comma;
 use luflow::{Enum, Flat, Inputs, Values, Variable};
 use lulimits::limits::{LONGEST_TABLE, MOST_INSTANTS};
+use lutab_writing::put_comma;
 use lutree::Kind;
 use std::alloc::{AllocError, Global};
 

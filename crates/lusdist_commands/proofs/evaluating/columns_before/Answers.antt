@@ -3,7 +3,7 @@ use Rattle.luflow.specs.Program.{Table}
 use Rattle.luflow.specs.Sound.{IsFit}
 use Rattle.lueval.specs.declared.error.EvalError.TheVariants.{Fault}
 use Rattle.lueval.specs.Whole.{IsAnswer}
-use Rattle.lutab.specs.Outputs.{shown_of}
+use Rattle.lutab_writing.specs.Outputs.{shown_of}
 use Rattle.luchart.proofs.CutLaws.{fit}
 use Rattle.lusdist_commands.specs.Evaluated.{AreEvaluated}
 use Rattle.lusdist_commands.proofs.Outcomes.{are_before, cut_fine}

@@ -12,10 +12,10 @@ use Rattle.luflow.specs.declared.variable.Enum.{Enum}
 use Rattle.luflow.specs.declared.data.Status.{Status}
 use Rattle.luflow.specs.declared.data.Status.TheVariants.{Absent}
 use Rattle.luflow.specs.Tables.{OutputColumn, AreOutputs, output_view, outputs_view}
-use Rattle.lutab.specs.Text.{comma_before, status_text, line_text}
-use Rattle.lutab.specs.Outputs.{names_in, statuses_from, statuses_at, names_text, lines_of, lines_text}
-use Rattle.lutab.specs.Buffers.{cell_view, cells_view, stretch_of}
-use Rattle.lutab.proofs.Joins.{join_push}
+use Rattle.lutab_writing.specs.Text.{comma_before, status_text, line_text}
+use Rattle.lutab_writing.specs.Outputs.{names_in, statuses_from, statuses_at, names_text, lines_of, lines_text}
+use Rattle.lutab_writing.specs.Buffers.{cell_view, cells_view, stretch_of}
+use Rattle.lutab_writing.proofs.Joins.{join_push}
 
 -- the status that was read is the one that the text spells
 pub same_status : (cells : List (Vec Status Global)) (i k : ℕ) (o : Vec Status Global) (s : Status) → All (λ x. k < vec_len x) cells → i < length cells → s ≡ get_or (get_or cells i o).items k s → s ≡ get_or (get_or cells i o).items k Absent

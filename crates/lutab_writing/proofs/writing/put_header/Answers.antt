@@ -1,8 +1,8 @@
 use Rattle.std.proofs.Common.{ap, ◌∙◌, ◌++◌, List, ℕ}
 use Rattle.std.specs.String.{string_bytes}
 use Rattle.luflow.specs.Tables.{output_view}
-use Rattle.lutab.proofs.Joins.{viewed_behind}
-use Rattle.lutab.proofs.writing.put_header.Goals as goal
+use Rattle.lutab_writing.proofs.Joins.{viewed_behind}
+use Rattle.lutab_writing.proofs.writing.put_header.Goals as goal
 
 pub loop-i-preserved : goal.loop-i-preserved
 loop-i-preserved c =

@@ -2,7 +2,7 @@
 use Rattle.std.proofs.Common.{◌≡◌, ℕ, ◌+◌, ◌<◌, List, [], ◌∷◌, ◌++◌, length, get_or, take, refl, sym, ap, ◌∙◌, append_assoc, arith, map}
 use Rattle.std.specs.List.{join_with_byte}
 use Rattle.std.proofs.lemmas.List.{map_more, length-map, length-take-le}
-use Rattle.lutab.specs.Text.{comma_before}
+use Rattle.lutab_writing.specs.Text.{comma_before}
 
 pub join_push : (fs : List (List ℕ)) (x : List ℕ) → join_with_byte 44 (fs ++ x ∷ []) ≡ join_with_byte 44 fs ++ (comma_before (length fs) ++ x)
 join_push [] x = refl

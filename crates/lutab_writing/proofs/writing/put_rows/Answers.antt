@@ -5,11 +5,11 @@ use Rattle.std.specs.declared.alloc.Global.{Global}
 use Rattle.std.specs.String.{string_bytes}
 use Rattle.luflow.specs.declared.data.Status.{Status}
 use Rattle.luflow.specs.Tables.{outputs_view}
-use Rattle.lutab.specs.Text.{line_text}
-use Rattle.lutab.specs.Outputs.{statuses_at, lines_text}
-use Rattle.lutab.specs.Buffers.{cells_view}
-use Rattle.lutab.proofs.Written.{parts_long, same_line, line_more}
-use Rattle.lutab.proofs.writing.put_rows.Goals as goal
+use Rattle.lutab_writing.specs.Text.{line_text}
+use Rattle.lutab_writing.specs.Outputs.{statuses_at, lines_text}
+use Rattle.lutab_writing.specs.Buffers.{cells_view}
+use Rattle.lutab_writing.proofs.Written.{parts_long, same_line, line_more}
+use Rattle.lutab_writing.proofs.writing.put_rows.Goals as goal
 
 pub put_row-requires : goal.put_row-requires
 put_row-requires c =

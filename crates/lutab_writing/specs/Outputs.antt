@@ -9,7 +9,7 @@ use Rattle.luflow.specs.Program.{FlatProgram}
 use Rattle.luflow.specs.Tables.{OutputColumn}
 use Rattle.luflow.specs.Types.{names_of}
 use Rattle.luflow.specs.Variables.{outputs_of}
-use Rattle.lutab.specs.Text.{status_text, line_text}
+use Rattle.lutab_writing.specs.Text.{status_text, line_text}
 
 -- the main variables that a text shows, in order of declaration: all of them, or the outputs alone
 abbrev pub shown_of : Bool → List Variable → List Variable

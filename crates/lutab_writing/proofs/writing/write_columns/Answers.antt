@@ -4,8 +4,8 @@ use Rattle.std.specs.declared.string.String.{String}
 use Rattle.std.specs.declared.alloc.Global.{Global}
 use Rattle.luflow.specs.declared.data.Status.{Status}
 use Rattle.luflow.specs.Tables.{AreOutputs}
-use Rattle.lutab.proofs.Written.{all_long}
-use Rattle.lutab.proofs.writing.write_columns.Goals as goal
+use Rattle.lutab_writing.proofs.Written.{all_long}
+use Rattle.lutab_writing.proofs.writing.write_columns.Goals as goal
 
 pub write_lines-requires : goal.write_lines-requires
 write_lines-requires c =

@@ -4,9 +4,9 @@ ghost use Rattle.std.specs.Prelude.{◌≡◌, ◌<◌, ◌≤◌, ◌-◌, ◌+
 ghost use Rattle.luflow.specs.Tables.{outputs_view};
 ghost use Rattle.luflow.specs.Types.{names_of};
 ghost use Rattle.luflow.specs.Variables.{is_output, outputs_of};
-ghost use Rattle.lutab.specs.Text.{comma_before, datum_text, status_text, line_text};
-ghost use Rattle.lutab.specs.Outputs.{names_in, output_kinds, kinds_of, shown_of, statuses_at, names_text, lines_text, column_text, output_text};
-ghost use Rattle.lutab.specs.Buffers.{cells_view, stretch_of};
+ghost use Rattle.lutab_writing.specs.Text.{comma_before, datum_text, status_text, line_text};
+ghost use Rattle.lutab_writing.specs.Outputs.{names_in, output_kinds, kinds_of, shown_of, statuses_at, names_text, lines_text, column_text, output_text};
+ghost use Rattle.lutab_writing.specs.Buffers.{cells_view, stretch_of};
 
 use itoa::Buffer;
 use luflow::{Datum, Enum, Flat, Outputs, Role, Status, Variable, name_of, names_of};

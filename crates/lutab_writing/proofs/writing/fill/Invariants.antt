@@ -1,7 +1,7 @@
 use Rattle.std.proofs.Common.{◌≡◌, ◌-◌, length, map, take}
 use Rattle.luflow.specs.Tables.{outputs_view}
-use Rattle.lutab.specs.Buffers.{cells_view, stretch_of}
-use Rattle.lutab.proofs.writing.fill.Given as goal
+use Rattle.lutab_writing.specs.Buffers.{cells_view, stretch_of}
+use Rattle.lutab_writing.proofs.writing.fill.Given as goal
 
 -- the parts of the first outputs are filled
 abbrev pub invariant-loop-i : goal.invariant-loop-i

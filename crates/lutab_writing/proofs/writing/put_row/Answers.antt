@@ -3,9 +3,9 @@ use Rattle.std.specs.declared.vec.Vec.{Vec}
 use Rattle.std.specs.declared.alloc.Global.{Global}
 use Rattle.std.specs.String.{string_bytes}
 use Rattle.luflow.specs.declared.data.Status.{Status}
-use Rattle.lutab.specs.Text.{status_text}
-use Rattle.lutab.proofs.Written.{same_status, statuses_behind}
-use Rattle.lutab.proofs.writing.put_row.Goals as goal
+use Rattle.lutab_writing.specs.Text.{status_text}
+use Rattle.lutab_writing.proofs.Written.{same_status, statuses_behind}
+use Rattle.lutab_writing.proofs.writing.put_row.Goals as goal
 
 pub loop-i-preserved : goal.loop-i-preserved
 loop-i-preserved c =
