@@ -1,8 +1,3 @@
-mod Words
-mod Rights
-mod Frames
-mod Written
-mod Steps
 mod Standing
 mod Renewing
 mod Showing

@@ -6,12 +6,13 @@ use Rattle.luflow.specs.declared.data.Datum.TheVariants.{Nil}
 use Rattle.luflow.specs.Program.{FlatProgram, Table}
 use Rattle.luflow.specs.Streams.{Streams, Broken}
 use Rattle.luflow.proofs.Solutions.{some_at, all_at}
-use Rattle.lublock.specs.declared.span.Span.{Span}
+use Rattle.lublock_forms.specs.declared.span.Span.{Span}
 use Rattle.lublock.specs.declared.board.Board.{Board}
 use Rattle.luflow.specs.declared.form.Form.{Form}
 use Rattle.luflow.specs.Solution.{IsSolution}
-use Rattle.lublock.specs.Blocks.{Holds, IsRight, IsSolved, SolvesAt, datum_at}
-use Rattle.lublock.specs.Machine.{block_of, upto_of, known_of, was_of, StandsOn, IsAfter, IsDone}
+use Rattle.lublock_forms.specs.Blocks.{Holds, IsRight, IsSolved, SolvesAt, datum_at}
+use Rattle.lublock.specs.Boards.{StandsOn, IsAfter}
+use Rattle.lublock_forms.specs.Machine.{block_of, upto_of, known_of, was_of, IsDone}
 use Rattle.luflow.specs.declared.data.Status.{Status}
 use Rattle.lublock.specs.Shown.{Column, AllNear, AreKept, AreNear, IsNear, IsReady, IsRightBlock, StandsAt}
 

@@ -21,12 +21,12 @@ use Rattle.luflow.specs.Flats.{IsFlat}
 use Rattle.luflow.proofs.TidyStreams.{tidy}
 use Rattle.lueval.specs.Frames.{has_value}
 use Rattle.lueval.proofs.Spans.{slice_get_front, slice_get_last}
-use Rattle.lublock.specs.Blocks.{datum_at, Holds, once, once_true, since, IsRight}
+use Rattle.lublock_forms.specs.Blocks.{datum_at, Holds, once, once_true, since, IsRight}
 use Rattle.lublock_rows.specs.Rows.{word_in}
-use Rattle.lublock.specs.Machine.{block_of, row_of}
+use Rattle.lublock_forms.specs.Machine.{block_of, row_of}
 use Rattle.lublock.specs.Shown.{Column, IsAdded, present_at, status_in, seen_in, slow_at, first_of, IsShown, IsNear, AreNear}
-use Rattle.lublock.proofs.Steps.{get_other, get_same, len_set, same_place}
-use Rattle.lublock.specs.declared.span.Span.{Span}
+use Rattle.lublock_forms.proofs.Steps.{get_other, get_same, len_set, same_place}
+use Rattle.lublock_forms.specs.declared.span.Span.{Span}
 
 pub ok_weaker : {X E : Type 0} (P Q : X → Type 0) (r : Result X E) → ((x : X) → P x → Q x) → IfOk r P → IfOk r Q
 ok_weaker P Q (Ok x) f h = f x h

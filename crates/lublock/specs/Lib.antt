@@ -1,3 +1,2 @@
-pub mod Blocks
-pub mod Machine
+pub mod Boards
 pub mod Shown

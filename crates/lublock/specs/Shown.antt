@@ -17,9 +17,9 @@ use Rattle.luflow.specs.Streams.{Mark, Known, Broken, Streams}
 use Rattle.luflow.specs.Solution.{IsSolution}
 use Rattle.lueval.specs.Frames.{has_value}
 use Rattle.lublock.specs.declared.board.Board.{Board}
-use Rattle.lublock.specs.Blocks.{Begins, IsRight, datum_at, once}
+use Rattle.lublock_forms.specs.Blocks.{Begins, IsRight, datum_at, once}
 use Rattle.lublock_rows.specs.Rows.{word_in}
-use Rattle.lublock.specs.Machine.{block_of, row_of, upto_of, known_of}
+use Rattle.lublock_forms.specs.Machine.{block_of, row_of, upto_of, known_of}
 
 abbrev pub Column : Type 0
 Column = Vec Status Global

@@ -5,12 +5,13 @@ ghost use Rattle.luflow.specs.Streams.{Streams};
 ghost use Rattle.luflow.specs.Program.{FlatProgram, Table, flows_of};
 ghost use Rattle.luflow.specs.Solution.{IsSolution};
 ghost use Rattle.luflow.specs.Sound.{IsFit};
-ghost use Rattle.lublock.specs.Blocks.{IsRight, IsSolved};
-ghost use Rattle.lublock.specs.Machine.{IsWhole, StandsOn, StandsStill, block_of};
+ghost use Rattle.lublock_forms.specs.Blocks.{IsRight, IsSolved};
+ghost use Rattle.lublock.specs.Boards.{StandsOn, StandsStill};
+ghost use Rattle.lublock_forms.specs.Machine.{IsWhole, block_of};
 
 use crate::board::Board;
 use crate::closing::closes;
-use crate::span::Span;
+use lublock_forms::span::Span;
 use lublock_plan::{Back, Cycle, Pace, Plan, Step};
 use luflow::{Flat, Inputs};
 use std::alloc::Global;

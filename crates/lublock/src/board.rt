@@ -4,12 +4,13 @@ ghost use Rattle.std.specs.Prelude.{◌≡◌, ◌<◌, ◌||◌, ℕ, suc, leng
 ghost use Rattle.luflow.specs.Program.{FlatProgram, Table, flow_at};
 ghost use Rattle.luflow.specs.declared.form.Flow.{Flow};
 ghost use Rattle.lublock_rows.specs.Rows.{Keeps, word_in};
-ghost use Rattle.lublock.specs.Machine.{IsAfter, IsConstant, IsCount, IsLike, StandsStill, WritesForm, row_of, ticks_of, upto_of, was_of, known_of};
+ghost use Rattle.lublock.specs.Boards.{IsAfter, StandsStill};
+ghost use Rattle.lublock_forms.specs.Machine.{IsConstant, IsCount, IsLike, WritesForm, row_of, ticks_of, upto_of, was_of, known_of};
 
-use crate::clocked::ticks_at;
-use crate::forms::{clock_at, flow_of, kind_at, read};
-use crate::solve::solve_form;
-use crate::span::Span;
+use lublock_forms::clocked::ticks_at;
+use lublock_forms::forms::{clock_at, flow_of, kind_at, read};
+use lublock_forms::solve::solve_form;
+use lublock_forms::span::Span;
 use lublock_rows::clocks::count;
 use lublock_rows::rows::put;
 use luflow::{Clock, Datum, Flat, Flow, Form, Inputs};

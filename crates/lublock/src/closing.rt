@@ -2,9 +2,9 @@
 
 ghost use Rattle.std.specs.Prelude.{◌≡◌, ◌<◌, ℕ, suc, true};
 ghost use Rattle.lublock_rows.specs.Rows.{word_in};
-ghost use Rattle.lublock.specs.Machine.{AllClose, ClosesAt, IsClosed, row_of};
+ghost use Rattle.lublock_forms.specs.Machine.{AllClose, ClosesAt, IsClosed, row_of};
 
-use crate::span::Span;
+use lublock_forms::span::Span;
 use luflow::{Flat, Form};
 
 /// The row of a flow.

@@ -1,9 +1,9 @@
 use Rattle.std.proofs.Common.{rules, List, ℤ, subst}
 use Rattle.std.specs.Prelude.{Vec}
 use Rattle.std.specs.declared.alloc.Global.{Global}
-use Rattle.lublock.specs.declared.span.Span.{Span}
-use Rattle.lublock.specs.Machine.{IsCount, IsLike}
-use Rattle.lublock.proofs.Steps.{counted_more, like_count, got}
+use Rattle.lublock_forms.specs.declared.span.Span.{Span}
+use Rattle.lublock_forms.specs.Machine.{IsCount, IsLike}
+use Rattle.lublock_forms.proofs.Steps.{counted_more, like_count, got}
 use Rattle.lublock.proofs.board.Board.count.Goals as goal
 
 pub returns-in-Some-ticks_like-clause-stands : goal.returns-in-Some-ticks_like-clause-stands

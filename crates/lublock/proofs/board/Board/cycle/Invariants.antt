@@ -1,6 +1,6 @@
 use Rattle.std.proofs.Common.{◌≡◌, ℕ, length}
 use Rattle.luflow.specs.Program.{Table}
-use Rattle.lublock.specs.Machine.{StandsStill}
+use Rattle.lublock.specs.Boards.{StandsStill}
 use Rattle.lublock.proofs.board.Board.cycle.Given as goal
 
 abbrev pub invariant-loop-pace : goal.invariant-loop-pace

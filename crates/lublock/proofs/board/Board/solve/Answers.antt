@@ -1,10 +1,10 @@
 use Rattle.std.proofs.Common.{rules, List, ℤ, subst, ap, ◌∙◌}
 use Rattle.std.specs.Prelude.{Vec}
 use Rattle.std.specs.declared.alloc.Global.{Global}
-use Rattle.lublock.specs.declared.span.Span.{Span}
+use Rattle.lublock_forms.specs.declared.span.Span.{Span}
 use Rattle.lublock_rows.specs.Rows.{word_in}
-use Rattle.lublock.specs.Machine.{WritesForm}
-use Rattle.lublock.proofs.Steps.{put_back, solved_more, got, row_got, upto_got}
+use Rattle.lublock_forms.specs.Machine.{WritesForm}
+use Rattle.lublock_forms.proofs.Steps.{put_back, solved_more, got, row_got, upto_got}
 use Rattle.lublock.proofs.board.Board.solve.Goals as goal
 
 pub returns-then-len-to-clause-stands : goal.returns-then-len-to-clause-stands

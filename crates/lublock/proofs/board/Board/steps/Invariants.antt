@@ -1,5 +1,5 @@
 use Rattle.std.proofs.Common.{◌≡◌, length}
-use Rattle.lublock.specs.Machine.{StandsStill}
+use Rattle.lublock.specs.Boards.{StandsStill}
 use Rattle.lublock.proofs.board.Board.steps.Given as goal
 
 abbrev pub invariant-loop-step : goal.invariant-loop-step

@@ -1,7 +1,7 @@
 use Rattle.std.proofs.Common.{rules, ◌<◌, length, List, ℤ, subst, sym, ap}
 use Rattle.lublock_rows.specs.Rows.{Keeps}
-use Rattle.lublock.specs.Machine.{row_there}
-use Rattle.lublock.proofs.Steps.{got, supposed_more}
+use Rattle.lublock_forms.specs.Machine.{row_there}
+use Rattle.lublock_forms.proofs.Steps.{got, supposed_more}
 use Rattle.lublock.proofs.board.Board.suppose.Goals as goal
 
 pub returns-clause-stands : goal.returns-clause-stands

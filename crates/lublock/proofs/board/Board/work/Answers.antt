@@ -1,8 +1,8 @@
 use Rattle.std.proofs.Common.{◌∙◌, List, ℤ, subst}
 use Rattle.std.specs.Prelude.{All, Vec}
 use Rattle.std.specs.declared.alloc.Global.{Global}
-use Rattle.lublock.specs.declared.span.Span.{Span}
-use Rattle.lublock.specs.Machine.{AllClose, IsWhole}
+use Rattle.lublock_forms.specs.declared.span.Span.{Span}
+use Rattle.lublock_forms.specs.Machine.{AllClose, IsWhole}
 use Rattle.lublock.proofs.Standing.{whole_right, whole_solved, not_false}
 use Rattle.lublock.proofs.board.Board.work.Goals as goal
 

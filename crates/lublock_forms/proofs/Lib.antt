@@ -1,0 +1,5 @@
+mod Words
+pub mod Rights
+mod Frames
+mod Written
+pub mod Steps
