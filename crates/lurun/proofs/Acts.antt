@@ -9,7 +9,7 @@ use Rattle.std.proofs.lemmas.List.FromFn.{get_or-range_with_len, length-range_wi
 use Rattle.std.proofs.lemmas.List.{map-set, set-get_or}
 use Rattle.std.proofs.lemmas.Option.{slice_get_within, get_or_from_slice_get, slice_get-map}
 use Rattle.std.proofs.lemmas.Bool.{cases_eq, cases_lt}
-use Rattle.lusite.proofs.Machine.{slice_get-set_same, slice_get-set_other}
+use Rattle.lusite_program.proofs.Written.{slice_get-set_same, slice_get-set_other}
 use Rattle.luworld.specs.World.{Item}
 use Rattle.luworld.specs.Runs.{Run, streams_of, script}
 use Rattle.luworld.proofs.Counts.{count_yes, count_no}

@@ -10,8 +10,8 @@ use Rattle.luflow.proofs.Solutions.{some_at}
 use Rattle.luworld.specs.declared.link.Link.{Link}
 use Rattle.luworld.specs.Needs.{Distribution, sites_of, home, IsPlan, links_of_variable, is_linked}
 use Rattle.luworld.specs.Runs.{Run, Fits}
-use Rattle.lusite.proofs.Machine.{slice_get-set_same, slice_get-set_other}
-use Rattle.lusite.proofs.Ranges.{filter_more}
+use Rattle.lusite_program.proofs.Written.{slice_get-set_same, slice_get-set_other}
+use Rattle.lusite_program.proofs.Ranges.{filter_more}
 use Rattle.lulink.specs.Views.{SenderView, ReceiverView}
 use Rattle.lurun.specs.declared.making.Bench.{Bench}
 use Rattle.lurun.specs.Stations.{sender_at, receiver_at, sent_below, taken_below, sent_links, taken_links, IsUnusedSender, IsUnusedReceiver, IsNewStation}

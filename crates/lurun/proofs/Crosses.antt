@@ -7,14 +7,14 @@ use Rattle.lulist.proofs.name.Name.TheSendSync as name
 use Rattle.luflow.proofs.data.Datum.TheSendSync as datum
 use Rattle.luflow.proofs.data.Status.TheSendSync as status
 use Rattle.lueval.proofs.cell.Cell.TheSendSync as cell
-use Rattle.lusite.proofs.program.Post.TheSendSync as post
+use Rattle.lusite_program.proofs.program.Post.TheSendSync as post
 use Rattle.lusite.proofs.next.Fault.TheSendSync as fault
 use Rattle.lulink.proofs.sender.Tx.TheSendSync as tx
 use Rattle.lulink.proofs.receiver.Rx.TheSendSync as rx
 use Rattle.luplace.specs.contracts.job.SiteInputs as SiteInputs
 use Rattle.luplace.specs.contracts.job.SiteInputs.TheInside as inputs
-use Rattle.lusite.specs.contracts.program.SiteProgram as SiteProgram
-use Rattle.lusite.specs.contracts.program.SiteProgram.TheInside as program
+use Rattle.lusite_program.specs.contracts.program.SiteProgram as SiteProgram
+use Rattle.lusite_program.specs.contracts.program.SiteProgram.TheInside as program
 use Rattle.lusite.specs.contracts.desk.Desk as Desk
 use Rattle.lusite.specs.contracts.site.Site as Site
 use Rattle.lusite.specs.contracts.site.Site.TheInside as site

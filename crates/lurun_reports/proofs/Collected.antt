@@ -19,11 +19,11 @@ use Rattle.luworld.specs.Runs.{Run, IsJob, HasNoStop, outputs_of, streams_of, sc
 use Rattle.lumeaning.proofs.Sources.{same_marks}
 use Rattle.lusite.specs.Sites.{SiteAt}
 use Rattle.lusite.specs.Logs.{IsOutput}
-use Rattle.lusite.specs.Programs.{output_names}
+use Rattle.lusite_program.specs.Programs.{output_names}
 use Rattle.lurun_reports.specs.Reports.{AreToldOf, is_of, is_one, are_complete, AreComplete, HasEnded, IsToldBySome, OneTells, NoneTells, AreColumns, AreOutputsOf, AreCollected, TellNothing}
 use Rattle.luflow.proofs.Solutions.{some_at}
 use Rattle.lusite.proofs.Told.{first_len}
-use Rattle.lusite.proofs.Outputs.{output_there}
+use Rattle.lusite_program.proofs.Posts.{output_there}
 use Rattle.lurun_reports.proofs.Lists.{all_at, all_from, same_elements}
 use Rattle.lurun_reports.proofs.Endings.{no_fault}
 use Rattle.lurun_reports.proofs.Named.{names_are}

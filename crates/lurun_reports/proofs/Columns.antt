@@ -11,7 +11,7 @@ use Rattle.luflow.specs.Tables.{OutputColumn, output_view, outputs_view}
 use Rattle.luflow.proofs.Solutions.{some_at}
 use Rattle.lusite.specs.Sites.{SiteAt}
 use Rattle.lusite.specs.Logs.{IsOutput}
-use Rattle.lusite.proofs.Machine.{slice_get-set_same, slice_get-set_other}
+use Rattle.lusite_program.proofs.Written.{slice_get-set_same, slice_get-set_other}
 use Rattle.lurun_reports.specs.Reports.{IsToldBySome, OneTells, NoneTells, AreColumns, IsFilled, later}
 use Rattle.lurun_reports.proofs.Lists.{slice_left, slice_seam, pushed_at, same_one}
 

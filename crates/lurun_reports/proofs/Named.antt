@@ -6,7 +6,7 @@ use Rattle.std.specs.Option.{option_map}
 use Rattle.luflow.specs.declared.variable.Variable.{Variable}
 use Rattle.luflow.specs.Variables.{is_output, is_output_of, outputs_of, variable_name}
 use Rattle.luworld.specs.Needs.{Distribution}
-use Rattle.lusite.specs.Programs.{output_names}
+use Rattle.lusite_program.specs.Programs.{output_names}
 
 module _ {X : Type 0} (name : ℕ → List ℕ) (is : ℕ → Bool) (name_of : X → List ℕ) (is_it : X → Bool) where
   abbrev Numbered : ℕ → List X → Type 0

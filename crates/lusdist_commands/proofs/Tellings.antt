@@ -36,7 +36,7 @@ use Rattle.lusite.specs.Machine.{IsStanding, IsFaultAt}
 use Rattle.lusite.specs.declared.report.Standing.{Standing}
 use Rattle.lusite.specs.declared.report.Standing.TheVariants.{Ended, Faulted, Cut}
 use Rattle.luworld.proofs.Fitting.{fits}
-use Rattle.lusite.proofs.Outputs.{output_there}
+use Rattle.lusite_program.proofs.Posts.{output_there}
 use Rattle.luweave.specs.Headline.{IsFaithful}
 use Rattle.luweave_text.specs.WorldText.{body_text, site_name, site_line, standing_text, line_of, AreSiteLines, NoSites, OneSiteMore, AreOutputLines, NoVariables, NoOutput, OneOutputMore, IsWorldText}
 use Rattle.lusdist_commands.specs.TellingText.{link_text, ending_text, site_text, output_text, telling_text, link_told, link_there, links_told, ending_of, IsSiteTold, IsOutputTold, IsToldBy}

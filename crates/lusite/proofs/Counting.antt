@@ -9,8 +9,8 @@ use Rattle.lueval.specs.declared.cell.Cell.{Cell}
 use Rattle.lueval.specs.declared.cell.Cell.TheVariants.{Absent, Nil, Truth, Number, Name}
 use Rattle.lueval.specs.Cells.{is_absent, newest}
 use Rattle.lusite.specs.Machine.{more_of}
-use Rattle.lusite.proofs.Machine.{slice_get-set_same, slice_get-set_other}
-use Rattle.lusite.proofs.Spread.{all_get}
+use Rattle.lusite_program.proofs.Written.{slice_get-set_same, slice_get-set_other}
+use Rattle.lusite_program.proofs.Spread.{all_get}
 
 -- the first k are what this makes of what is shown and of what they were, and the others are as they were
 pub record AreRenewed (Y : Type 0) (next : Cell → Y → Y) (shown : List Cell) (before now : List Y) (k : ℕ) : Type 0 where

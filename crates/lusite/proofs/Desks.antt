@@ -9,12 +9,11 @@ use Rattle.luworld.specs.Runs.{streams_of, knows, cell, items_before}
 use Rattle.lueval.specs.declared.kernel.Past.{Past}
 use Rattle.lusite.specs.declared.desk.Desk.{Desk}
 use Rattle.lueval.specs.Frames.{later}
-use Rattle.std.specs.Prelude.{unwrap_or}
 use Rattle.luflow.specs.Program.{flow_at, flows_of}
-use Rattle.luplace.proofs.OwnColumns.{map_range}
-use Rattle.lusite.specs.Programs.{SitePlan, part_of, part_at, no_part}
+use Rattle.lusite_program.specs.Programs.{part_of, part_at}
 use Rattle.lusite.specs.Machine.{is_faulted, Stands, StandsAt, IsSet, IsReadyAt, Ready, cell_size, cell_size_of, done_of, shown_of, pasts_of}
 use Rattle.lusite.proofs.Machine.{there, stands_pass, stands_tick, size_here}
+use Rattle.lusite_program.proofs.Posts.{part_there}
 
 -- the facts of a desk that goes on, about its job
 pub record Going (a : Desk) : Type 0 where
@@ -25,12 +24,6 @@ pub record Going (a : Desk) : Type 0 where
 pub going : (a : Desk) → IsSet a → StandsAt a → (is_faulted a) ≡ false → Going a
 going a set st go =
     record { set = set; stands = subst (λ (b : Bool). Stands a.inputs.job a.inputs.site (shown_of a) (pasts_of a) a.instant a.place a.step b) go st; goes = go }
-
--- a site's part in a flow of its plan
-pub part_there : (p : SitePlan) (i : ℕ) → i < flows_of p.plan.flat → part_at p i ≡ part_of p.plan p.site i
-part_there p i l =
-    let e : 0 + i ≡ i = omega arith in
-    ap (λ o. unwrap_or o no_part) (map_range (part_of p.plan p.site) 0 (flows_of p.plan.flat) i l) ∙ ap (part_of p.plan p.site) e
 
 pub part_here : (a : Desk) (i : ℕ) → IsSet a → i < flows_of a.inputs.job.plan.flat → part_at a.program i ≡ part_of a.inputs.job.plan a.inputs.site i
 part_here a i set li =

@@ -1,5 +1,5 @@
 -- How the machine of one site goes on.
-use Rattle.std.proofs.Common.{◌≡◌, ◌≢◌, ℕ, zero, suc, ◌+◌, ◌<◌, ◌≤◌, inl, inr, Bool, true, false, cond, List, [], ◌∷◌, ◌++◌, length, take, set, get_or, map, Option, Some, None, refl, sym, ap, ap₂, ◌∙◌, subst, arith, add-one}
+use Rattle.std.proofs.Common.{◌≡◌, ◌≢◌, ℕ, suc, ◌+◌, ◌<◌, ◌≤◌, inl, inr, Bool, true, false, cond, List, [], ◌∷◌, ◌++◌, length, take, set, get_or, map, Option, Some, None, refl, sym, ap, ap₂, ◌∙◌, subst, arith, add-one}
 use Rattle.std.specs.Prelude.{slice_get, slice_index, All, Contains, not, ◌||◌, nat_lt, is_some}
 use Rattle.std.proofs.lemmas.List.{length-set, length-map, take_all}
 use Rattle.std.proofs.lemmas.List.Elements.{All-get_or}
@@ -16,7 +16,7 @@ use Rattle.lueval.specs.declared.kernel.Past.{Past}
 use Rattle.luflow.specs.Streams.{Mark, Known, Streams, clock_at, either, ticked, newer, before, is_value, truth_in}
 use Rattle.luflow.specs.declared.form.Outcome.{Outcome}
 use Rattle.luflow.specs.declared.form.Outcome.TheVariants.{Gives, Faults, Stuck}
-use Rattle.lusite.specs.Programs.{part_of}
+use Rattle.lusite_program.specs.Programs.{part_of}
 use Rattle.luflow.specs.Values.{value_at, under}
 use Rattle.luworld.specs.Outline.{stops}
 use Rattle.luflow.specs.Program.{Table, flow_at, flows_of, clock_reads, form_reads}
@@ -27,22 +27,11 @@ use Rattle.luflow.specs.Messages.{presents, once_if}
 use Rattle.luworld.proofs.Outlines.{cell_is}
 use Rattle.lueval.specs.Frames.{later, IsShown, IsPast}
 use Rattle.lusite.specs.Machine.{Stands, in_cell, clock_there, cell_size_of}
+use Rattle.lusite_program.proofs.Written.{slice_get-set_same, slice_get-set_other}
 use Rattle.luflow.proofs.Solutions.{IsSolution-solution, place_of, place_in, flow_there, all_right}
 use Rattle.lueval.proofs.Reading.{clock_read as machine_clock}
 use Rattle.luworld.proofs.Cursor.{item_at, before_next_flow, before_next_instant, before_end, before_step}
 use Rattle.luworld.specs.Needs.{stands}
-
-pub slice_get-set_other : {X : Type 0} (xs : List X) (i r : ℕ) (x : X) → r ≢ i → slice_get (set xs i x) r ≡ slice_get xs r
-slice_get-set_other [] i r x ne = refl
-slice_get-set_other (y ∷ xs) zero zero x ne = absurd (ne refl)
-slice_get-set_other (y ∷ xs) zero (suc r) x ne = refl
-slice_get-set_other (y ∷ xs) (suc i) zero x ne = refl
-slice_get-set_other (y ∷ xs) (suc i) (suc r) x ne = slice_get-set_other xs i r x (λ e. ne (ap suc e))
-
-pub slice_get-set_same : {X : Type 0} (xs : List X) (i : ℕ) (x : X) → i < length xs → slice_get (set xs i x) i ≡ Some x
-slice_get-set_same [] i x l = absurd (omega arith)
-slice_get-set_same (y ∷ xs) zero x l = refl
-slice_get-set_same (y ∷ xs) (suc i) x l = slice_get-set_same xs i x (omega arith)
 
 none_size : (c : Option Bool) (n : ℕ) → 0 ≡ in_cell (is_open c) false true n false
 none_size None n = refl

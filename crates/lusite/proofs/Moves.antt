@@ -19,12 +19,14 @@ use Rattle.lusite.specs.declared.next.Next.TheVariants.{Local, Put, Take, Faulte
 use Rattle.luflow.specs.declared.data.Datum.{Datum}
 use Rattle.luflow.specs.declared.message.Body.TheVariants.{Value, Close}
 use Rattle.lusite.specs.Machine.{is_faulted, Stands, IsSet, done_of, cell_size, offered, offered_at, offered_part, offered_own, count_kept, datum_shown, shown_of, pasts_of}
-use Rattle.lusite.specs.Logs.{LogView, IsLogged}
-use Rattle.lusite.specs.Programs.{SitePlan, ranks_of, places_of, rank_at, part_at, parts_of, no_part, knows_in}
-use Rattle.lusite.proofs.Carried.{filter_same}
+use Rattle.lusite_program.specs.Logs.{LogView, IsLogged}
+use Rattle.lusite_program.specs.Programs.{SitePlan, ranks_of, places_of, rank_at, part_at, parts_of, no_part, knows_in}
+use Rattle.lusite_program.proofs.Carried.{filter_same}
 use Rattle.luworld.proofs.Cursor.{before_next_instant}
-use Rattle.lusite.proofs.Desks.{Going, part_there, pass_desk, tick_desk, no_step}
-use Rattle.lusite.proofs.Skips.{AreUnknown, stands_skip, logged_skip, before_skip, rank_le, rank_in, rank_next, unknown_first, unknown_next, places_has}
+use Rattle.lusite.proofs.Desks.{Going, pass_desk, tick_desk, no_step}
+use Rattle.lusite_program.proofs.Posts.{part_there}
+use Rattle.lusite.proofs.Skips.{stands_skip, logged_skip, before_skip}
+use Rattle.lusite_program.proofs.Ranks.{AreUnknown, rank_le, rank_in, rank_next, unknown_first, unknown_next, places_has}
 
 -- the ranks that the parts tell are those of the flows that the site knows
 pub ranks_found : (plan : Distribution) (s : ℕ) → IsOrdered plan.flat → filter (λ p. knows_in (unwrap_or (slice_get (parts_of plan s) (slice_index plan.flat.order p)) no_part)) (range_with_len 0 (length plan.flat.order)) ≡ ranks_of plan s

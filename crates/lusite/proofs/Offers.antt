@@ -38,12 +38,11 @@ use Rattle.lueval.proofs.Reading.{Holds, value_read}
 use Rattle.lusite.specs.declared.next.Next.{Next}
 use Rattle.lusite.specs.declared.next.Next.TheVariants.{Local, Take, Put, Ended, Faulted}
 use Rattle.lusite.specs.declared.desk.Desk.{Desk}
-use Rattle.lusite.specs.Programs.{part_of}
+use Rattle.lusite_program.specs.Programs.{part_of}
 use Rattle.lusite.specs.Machine.{is_faulted, Stands, StandsAt, IsSet, IsReadyAt, Ready, Over, Computes, outcome_of, count_kept, datum_shown, offered_own, offered_part, offered_at, offered, done_of, IsNext, shown_of, pasts_of}
 use Rattle.lusite.proofs.Machine.{there, equation, reads_shown, next_item, ended, script_take}
 use Rattle.lusite.proofs.Desks.{Going, going, part_here, here_in}
 use Rattle.lusite.proofs.Told.{lt-false}
-use Rattle.std.proofs.lemmas.List.Elements.{All-weaker}
 
 -- the items of a cell, by their kind
 open_items : (k : Option Bool) (xs : List Item) → 0 < length (cond (is_open k) xs []) → (k ≡ Some true) × (cond (is_open k) xs [] ≡ xs)

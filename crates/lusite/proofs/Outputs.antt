@@ -1,7 +1,6 @@
 -- What a site tells of its outputs.
-use Rattle.std.proofs.Common.{◌≡◌, ℕ, zero, suc, ◌+◌, ◌<◌, ◌≤◌, inl, inr, Bool, true, false, cond, List, [], ◌∷◌, length, map, filter, nat_eq, Option, None, Some, refl, sym, ap, ◌∙◌, subst, arith}
+use Rattle.std.proofs.Common.{◌≡◌, ℕ, ◌+◌, ◌<◌, ◌≤◌, inl, inr, Bool, true, false, cond, List, [], length, map, nat_eq, Option, None, Some, refl, sym, ap, ◌∙◌, subst, arith}
 use Rattle.std.specs.Prelude.{slice_get, slice_index, ◌&&◌, nat_lt}
-use Rattle.std.specs.List.{range_with_len}
 use Rattle.std.proofs.lemmas.Bool.{cases_lt, eq-eqb, ne_eqb}
 use Rattle.std.proofs.lemmas.Option.{slice_get_within, get_or_from_slice_get}
 use Rattle.luworld.proofs.Outlines.{bool_cases}
@@ -12,14 +11,16 @@ use Rattle.luflow.proofs.Solutions.{some_at, place_in}
 use Rattle.luworld.specs.Needs.{Distribution, home, stands}
 use Rattle.luworld.specs.Runs.{streams_of, cell, script, outputs_of}
 use Rattle.lusite.specs.declared.desk.Desk.{Desk}
-use Rattle.lusite.specs.declared.program.Part.{Part}
+use Rattle.lusite_program.specs.declared.program.Part.{Part}
 use Rattle.lusite.specs.Machine.{is_faulted, IsSet, StandsAt, IsReadyAt, Ready, Over, done_of}
-use Rattle.lusite.specs.Logs.{add_if, IsOutput, IsRow, IsLoggedAt, is_wanted, passed_to, view_items, logs_of, log_at, told_at}
-use Rattle.lusite.specs.Programs.{is_home, reports_output}
+use Rattle.lusite.specs.Logs.{IsOutput, IsLoggedAt, passed_to, logs_of, log_at, told_at}
+use Rattle.lusite_program.specs.Logs.{add_if, IsRow, is_wanted, view_items}
+use Rattle.lusite_program.specs.Programs.{is_home, reports_output}
 use Rattle.luworld.specs.Progress.{IsFirst}
 use Rattle.lusite.proofs.Desks.{Going, going, part_here}
 use Rattle.lusite.proofs.Offers.{Here, hand_next}
-use Rattle.lusite.proofs.Told.{lt-false, both, first_len}
+use Rattle.lusite.proofs.Told.{lt-false, first_len}
+use Rattle.lusite_program.proofs.Posts.{both, output_there}
 use Rattle.lusite.proofs.Passed.{told, told_passed, passed_told}
 use Rattle.luflow.specs.Variables.{is_output_of}
 
@@ -45,19 +46,6 @@ within_all t n b le = elim (cases_lt t n) [
   | inl l ↦ let z = one_at_most (nat_lt t n && b) in omega (arith, z, l)
   | inr g ↦ let z = none_late t n b g in omega (arith, z, le)
 ]
-
--- an element of a filtered range
-filtered : (p : ℕ → Bool) (a n k i : ℕ) → slice_get (filter p (range_with_len a n)) k ≡ Some i → (i < a + n) × (p i ≡ true)
-filtered p a zero k i e = absurd cc
-filtered p a (suc n) k i e = go (p a) refl k e (filtered p (a + 1) n)
-  where
-    go : (b : Bool) → p a ≡ b → (k : ℕ) → slice_get (cond b (a ∷ filter p (range_with_len (a + 1) n)) (filter p (range_with_len (a + 1) n))) k ≡ Some i → ((k i : ℕ) → slice_get (filter p (range_with_len (a + 1) n)) k ≡ Some i → (i < a + 1 + n) × (p i ≡ true)) → (i < a + suc n) × (p i ≡ true)
-    go true e zero is rest = let same : Some a ≡ Some i = is in let x : a ≡ i = cc in (omega (arith, x), ap p (sym x) ∙ e)
-    go true e (suc k) is rest = let w = rest k i is in (let l = w.0 in omega (arith, l), w.1)
-    go false e k is rest = let w = rest k i is in (let l = w.0 in omega (arith, l), w.1)
-
-pub output_there : (plan : Distribution) (k i : ℕ) → slice_get (outputs_of plan) k ≡ Some i → (i < length plan.flat.variables) × (is_output_of plan.flat i ≡ true)
-output_there plan k i e = let w = filtered (is_output_of plan.flat) 0 (length plan.flat.variables) k i e in (let l = w.0 in omega (arith, l), w.1)
 
 -- what a site tells of an output
 pub output_is : (a : Desk) → IsSet a → StandsAt a → IsLoggedAt a → (is_faulted a ≡ false → IsReadyAt a) → (k : ℕ) (xs : List Status) → xs ≡ log_at a (slice_get (outputs_of a.program.plan) k) → IsOutput a.inputs.job a.inputs.site (done_of a) k xs

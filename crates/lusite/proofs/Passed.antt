@@ -14,10 +14,12 @@ use Rattle.luworld.proofs.Outlines.{bool_cases, cell_is}
 use Rattle.luworld.proofs.Cursor.{before_next_flow, before_next_instant}
 use Rattle.lusite.specs.declared.desk.Desk.{Desk}
 use Rattle.lusite.specs.Machine.{is_faulted, IsSet, StandsAt, IsReadyAt, Ready, Over, done_of}
-use Rattle.lusite.specs.Logs.{add_if, passed_to}
+use Rattle.lusite.specs.Logs.{passed_to}
+use Rattle.lusite_program.specs.Logs.{add_if}
 use Rattle.luworld.specs.Progress.{lead, IsPassed}
 use Rattle.lusite.proofs.Machine.{there}
-use Rattle.lusite.proofs.Told.{and_parts, both}
+use Rattle.lusite.proofs.Told.{and_parts}
+use Rattle.lusite_program.proofs.Posts.{both}
 
 -- ---- items without a stop
 

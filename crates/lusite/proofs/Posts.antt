@@ -1,130 +1,40 @@
 -- What the machine of a site has of its flows.
-use Rattle.std.proofs.Common.{◌≡◌, ◌≢◌, ℕ, zero, suc, ◌+◌, ◌<◌, ◌≤◌, ◌*◌, ◌^◌, inl, inr, Bool, true, false, List, [], ◌∷◌, ◌++◌, length, map, set, get_or, Option, Some, None, refl, sym, ap, ap₂, ◌∙◌, subst, arith}
-use Rattle.std.specs.List.{range_with_len}
-use Rattle.std.proofs.lemmas.List.FromFn.{length-range_with_len}
+use Rattle.std.proofs.Common.{◌≡◌, ℕ, ◌+◌, ◌<◌, inl, inr, Bool, true, false, List, [], length, set, get_or, Option, Some, None, refl, sym, ap, ap₂, ◌∙◌, subst, arith}
 use Rattle.std.specs.Prelude.{slice_get, slice_index, unwrap_or, not, ◌||◌, nat_lt, is_some, All}
-use Rattle.std.proofs.lemmas.Option.{same_Some, slice_get-get_or, slice_get-map, get_or_from_slice_get}
-use Rattle.std.specs.Option.{option_map}
+use Rattle.std.proofs.lemmas.Option.{same_Some, slice_get-get_or, get_or_from_slice_get}
 use Rattle.std.proofs.lemmas.Bool.{cases_lt}
-use Rattle.std.proofs.lemmas.List.{length-append, length-map, map-append}
-use Rattle.std.proofs.lemmas.List.Elements.{All-get_or}
 use Rattle.luflow.specs.declared.data.Datum.{Datum}
 use Rattle.luflow.specs.declared.form.Clock.{Clock}
 use Rattle.luflow.specs.declared.form.Clock.TheVariants.{Base, On}
 use Rattle.luflow.specs.declared.form.Flow.{Flow}
 use Rattle.luflow.specs.declared.form.Form.TheVariants.{Input}
 use Rattle.luflow.specs.declared.form.Outcome.{Outcome}
-use Rattle.luflow.specs.Program.{flow_at, flows_of, column_of, places, reads, clock_reads, IsOrdered}
+use Rattle.luflow.specs.Program.{flow_at, flows_of, column_of, places, clock_reads, IsOrdered}
 use Rattle.luflow.specs.Values.{View, value_of}
 use Rattle.luflow.proofs.Solutions.{first_of_all, some_at}
-use Rattle.luflow.specs.Variables.{is_output_of}
-use Rattle.luworld.specs.Needs.{Distribution, IsPlan, home, stands}
-use Rattle.luworld.specs.Runs.{is_open, knows, link_into, outputs_of, sends}
-use Rattle.luworld.proofs.Fitting.{fits}
+use Rattle.luworld.specs.Needs.{Distribution, stands}
+use Rattle.luworld.specs.Runs.{is_open, knows}
 use Rattle.lueval.specs.Cells.{clock_of, statuses, view_of}
 use Rattle.lueval.specs.Frames.{clock_in, value_there, datum_there, last_in, ticked_in, latest, view_in}
 use Rattle.lueval.specs.Moving.{moved_clock, moved_form}
-use Rattle.lueval.specs.Operations.{IsLonger, form_of}
-use Rattle.lueval.proofs.Lines.{few_branches}
+use Rattle.lueval.specs.Operations.{form_of}
 use Rattle.lueval.proofs.Moved.{IsSeen, value_moved}
-use Rattle.lueval.proofs.Spans.{form_same, inside_more, slice_get_front}
-use Rattle.lusite.specs.declared.program.Part.{Part}
-use Rattle.lusite.specs.declared.program.Post.{Post}
+use Rattle.lusite_program.specs.declared.program.Part.{Part}
+use Rattle.lusite_program.specs.declared.program.Post.{Post}
 use Rattle.lusite.specs.declared.desk.Desk.{Desk}
-use Rattle.lusite.specs.Programs.{SitePlan, part_of, part_at, ranks_of, places_of, AreNumbers, IsPost, ArePosts}
+use Rattle.lusite_program.specs.Programs.{SitePlan, part_of, part_at, ranks_of, places_of, IsPost, ArePosts}
 use Rattle.lusite.specs.Widths.{width, width_of}
 use Rattle.lusite.specs.Machine.{in_cell, clock_there, cell_size, shown_of, pasts_of, pasts_in, outcome_of, Computes, IsSet}
-use Rattle.lusite.proofs.Desks.{part_there}
+use Rattle.lusite_program.proofs.Posts.{part_there, place_below}
 use Rattle.lusite.proofs.Held.{view_same}
-use Rattle.lusite.proofs.Machine.{slice_get-set_same, slice_get-set_other}
 use Rattle.lusite.proofs.Moves.{ordered_here, place_over, place_within, rank_here}
-use Rattle.lusite.proofs.Outputs.{output_there}
 use Rattle.lusite.proofs.Rows.{row_here, shown_row, past_row}
-use Rattle.lusite.proofs.Skips.{places_has, rank_in, rank_known}
-use Rattle.lusite.proofs.Widths.{filter_short, sends_short}
+use Rattle.lusite_program.proofs.Ranks.{places_has, rank_in, rank_known}
 
 -- a flow that has items is present, or closes
 pub begun_size : (open' own early : Bool) (outs : ℕ) (into : Bool) → 0 < in_cell open' own early outs into → in_cell true own early outs into ≡ in_cell open' own early outs into
 begun_size true own early outs into l = refl
 begun_size false own early outs into l = absurd (omega (arith, l))
-
--- one more at the end of a list
-pushed : {A : Type 0} (P : ℕ → A → Type 0) (xs : List A) (y : A) → P (length xs) y → ((k : ℕ) (x : A) → slice_get xs k ≡ Some x → P k x) → (k : ℕ) (x : A) → slice_get (xs ++ y ∷ []) k ≡ Some x → P k x
-pushed P [] y here each zero x e = subst (P 0) (same_Some y x e) here
-pushed P [] y here each (suc k) x e = absurd cc
-pushed P (z ∷ xs) y here each zero x e = each zero x e
-pushed P (z ∷ xs) y here each (suc k) x e = pushed (λ n. P (suc n)) xs y here (λ j w h. each (suc j) w h) k x e
-
--- more behind a list changes nothing of it
-index_front : (xs ys : List ℕ) (i : ℕ) → i < length xs → slice_index (xs ++ ys) i ≡ slice_index xs i
-index_front xs ys i l =
-    let w = some_at xs i l in
-    get_or_from_slice_get (xs ++ ys) i w.0 0 (slice_get_front xs ys i l ∙ w.1) ∙ sym (get_or_from_slice_get xs i w.0 0 w.1)
-
--- branches and links of other flows behind its own change nothing for a flow
-longer_post : (plan : Distribution) (s : ℕ) (old new links more : List ℕ) (p : ℕ) (post : Post) → IsLonger old new → IsPost plan s old links p post → IsPost plan s new (links ++ more) p post
-longer_post plan s old new links more p post longer is = record {
-  numbers = is.numbers;
-  numbered = is.numbered;
-  flow = is.flow;
-  there = is.there;
-  place = is.place;
-  form = ap (λ xs. form_of xs post.line.operation) longer.is ∙ form_same old longer.more post.line.operation is.inside ∙ is.form;
-  inside = inside_more old new post.line.operation longer is.inside;
-  clock = is.clock;
-  owner = is.owner;
-  own = is.own;
-  told = is.told;
-  from = is.from;
-  outs = is.outs;
-  linked = let n = length-append links more in let w = is.linked in omega (arith, n, w);
-  to = λ j l. index_front links more (post.first + j) (let w = is.linked in omega (arith, w, l)) ∙ is.to j l;
-}
-
--- they stay behind where each is put elsewhere
-pub longer_moved : (f : ℕ → ℕ) (old new : List ℕ) → IsLonger old new → IsLonger (map f old) (map f new)
-longer_moved f old new longer = record {
-  more = map f longer.more;
-  is = ap (map f) longer.is ∙ map-append f old longer.more;
-  few = let n = length-map longer.more f in let few = longer.few in omega (arith, n, few);
-}
-
-pub posts_more : (plan : Distribution) (s : ℕ) (old new links more : List ℕ) (posts posts' : List Post) (k rank : ℕ) (post : Post) → IsLonger old new → posts' ≡ posts ++ post ∷ [] → length posts ≡ k → slice_get (ranks_of plan s) k ≡ Some rank → IsPost plan s new (links ++ more) rank post → ((j p : ℕ) (x : Post) → slice_get (ranks_of plan s) j ≡ Some p → slice_get posts j ≡ Some x → IsPost plan s old links p x) → (j p : ℕ) (x : Post) → slice_get (ranks_of plan s) j ≡ Some p → slice_get posts' j ≡ Some x → IsPost plan s new (links ++ more) p x
-posts_more plan s old new links more posts posts' k rank post longer is len there last each j p x ep ex =
-    let P : ℕ → Post → Type 0 = λ i y. (q : ℕ) → slice_get (ranks_of plan s) i ≡ Some q → IsPost plan s new (links ++ more) q y in
-    let here : P (length posts) post = λ q eq. subst (λ (r : ℕ). IsPost plan s new (links ++ more) r post) (same_Some rank q (sym there ∙ ap (slice_get (ranks_of plan s)) (sym len) ∙ eq)) last in
-    pushed P posts post here (λ i y ey q eq. longer_post plan s old new links more q y longer (each i q y eq ey)) j x (ap (λ (ys : List Post). slice_get ys j) (sym is) ∙ ex) p ep
-
--- a site has few flows, so their merges have few branches
-pub few_posts : (plan : Distribution) (s k : ℕ) (ranks branches : List ℕ) → IsPlan plan → ranks ≡ ranks_of plan s → k < length ranks → length branches ≤ k * 255 → length branches < 2 ^ 32
-few_posts plan s k ranks branches is_plan e l h =
-    let short = filter_short (λ p. knows plan s (slice_index plan.flat.order p)) (range_with_len 0 (length plan.flat.order)) in
-    let n = length-range_with_len 0 (length plan.flat.order) in
-    let m = ap length e in
-    few_branches plan.flat branches k is_plan.flat_is (omega (arith, short, n, m, l)) h
-
--- a flow goes out by few links
-pub few_sends : (plan : Distribution) (s i : ℕ) → IsPlan plan → length (sends plan s i) ≤ 65536
-few_sends plan s i is_plan =
-    let n = sends_short plan s i in
-    let few = (fits plan is_plan).few_links in
-    omega (arith, n, few)
-
--- the flow of a number, and its rank
-pub row_rank : (plan : Distribution) (s k rank : ℕ) → slice_get (ranks_of plan s) k ≡ Some rank → slice_get (places_of plan s) k ≡ Some (slice_index plan.flat.order rank)
-row_rank plan s k rank e = slice_get-map (slice_index plan.flat.order) (ranks_of plan s) k ∙ ap (option_map (slice_index plan.flat.order)) e
-
--- the site's part in it
-pub part_rank : (plan : Distribution) (s k rank : ℕ) (parts : List Part) (d : Part) → parts ≡ map (part_of plan s) (places_of plan s) → slice_get (ranks_of plan s) k ≡ Some rank → get_or parts k d ≡ part_of plan s (slice_index plan.flat.order rank)
-part_rank plan s k rank parts d e there =
-    get_or_from_slice_get parts k (part_of plan s (slice_index plan.flat.order rank)) d
-    (ap (λ (ps : List Part). slice_get ps k) e ∙ slice_get-map (part_of plan s) (places_of plan s) k ∙ ap (option_map (part_of plan s)) (row_rank plan s k rank there))
-
--- a rank of the site's own
-pub rank_below : (plan : Distribution) (s k : ℕ) (ranks : List ℕ) → ranks ≡ ranks_of plan s → k < length ranks → (slice_get (ranks_of plan s) k ≡ Some (slice_index ranks k)) × (slice_index ranks k < length plan.flat.order)
-rank_below plan s k ranks e l =
-    let there : slice_get (ranks_of plan s) k ≡ Some (slice_index ranks k) = ap (λ (rs : List ℕ). slice_get rs k) (sym e) ∙ slice_get-get_or ranks k 0 l in
-    (there, rank_in (record { plan = plan; site = s }) k (slice_index ranks k) there)
 
 -- a flow of the site's own is at hand
 pub row_within : (a : Desk) → IsSet a → a.place < length a.inputs.job.plan.flat.order → a.row < length (places_of a.program.plan a.program.site)
@@ -135,43 +45,6 @@ row_within a set lp = elim (cases_lt a.row (length (places_of a.program.plan a.p
       let same = ap (λ (q : Distribution). length q.flat.order) set.plan_is in
       absurd (omega (arith, over, same, lp))
 ]
-
--- the number of one flow more is noted at its place
-pub number_noted : (places numbers : List ℕ) (k : ℕ) → ((i j : ℕ) → i < j → j < length places → slice_index places i ≢ slice_index places j) → k < length places → slice_index places k < length numbers → ((j i : ℕ) → j < k → slice_get places j ≡ Some i → slice_get numbers i ≡ Some j) → (j i : ℕ) → j < k + 1 → slice_get places j ≡ Some i → slice_get (set numbers (slice_index places k) k) i ≡ Some j
-number_noted places numbers k once lk within done j i l e =
-    let at = get_or_from_slice_get places j i 0 e in
-    elim (cases_lt j k) [
-      | inl lt ↦ slice_get-set_other numbers (slice_index places k) i k (λ same. once j k lt lk (at ∙ same)) ∙ done j i lt e
-      | inr ge ↦
-          let here : j ≡ k = omega (arith, l, ge) in
-          let place : i ≡ slice_index places k = sym at ∙ ap (slice_index places) here in
-          ap (slice_get (set numbers (slice_index places k) k)) place ∙ slice_get-set_same numbers (slice_index places k) k within ∙ ap Some (sym here)
-    ]
-
--- a site knows few flows, each at one place
-pub few_places : (plan : Distribution) (s : ℕ) → IsPlan plan → length (places_of plan s) < 65536
-few_places plan s is_plan =
-    let short = filter_short (λ p. knows plan s (slice_index plan.flat.order p)) (range_with_len 0 (length plan.flat.order)) in
-    let n = length-range_with_len 0 (length plan.flat.order) in
-    let m = length-map (ranks_of plan s) (slice_index plan.flat.order) in
-    let count = is_plan.flat_is.ranked.count in
-    let r = length-map plan.flat.flows reads in
-    let few = is_plan.flat_is.few in
-    omega (arith, short, n, m, count, r, few)
-
-pub few_ranks : (plan : Distribution) (s : ℕ) (ranks : List ℕ) → IsPlan plan → ranks ≡ ranks_of plan s → length ranks ≤ 4096
-few_ranks plan s ranks is_plan e =
-    let short = filter_short (λ p. knows plan s (slice_index plan.flat.order p)) (range_with_len 0 (length plan.flat.order)) in
-    let n = length-range_with_len 0 (length plan.flat.order) in
-    let count = is_plan.flat_is.ranked.count in
-    let r = length-map plan.flat.flows reads in
-    let few = is_plan.flat_is.few in
-    let m = ap length e in
-    omega (arith, short, n, m, count, r, few)
-
--- the place of a rank's flow
-pub place_below : (plan : Distribution) (p : ℕ) → IsOrdered plan.flat → p < length plan.flat.order → slice_index plan.flat.order p < flows_of plan.flat
-place_below plan p ordered lp = All-get_or (λ j. j < flows_of plan.flat) plan.flat.order p 0 lp ordered.only_flows
 
 module _ (a : Desk) (set_up : IsSet a) (post : Post) (branches links : List ℕ) (is : IsPost a.program.plan a.program.site branches links a.place post) (l : a.row < length (places_of a.program.plan a.program.site)) where
   abbrev i : ℕ
@@ -308,19 +181,3 @@ pub row_width : (p : SitePlan) → IsOrdered p.plan.flat → (early : Bool) (bra
 row_width p ordered early branches links posts are k d n lk e =
     let rank = some_at (ranks_of p.plan p.site) k (let m = are.len in omega (arith, m, lk)) in
     (rank.0, rank.1, e ∙ post_width p ordered early k rank.0 branches links (get_or posts k d) (are.each k rank.0 (get_or posts k d) rank.1 (slice_get-get_or posts k d lk)) rank.1)
-
--- a flow that stands at its home has a number there
-pub number_home : (plan : Distribution) (s i : ℕ) (numbers : List ℕ) → IsPlan plan → AreNumbers plan s numbers → i < flows_of plan.flat → home plan i ≡ s → slice_get (places_of plan s) (slice_index numbers i) ≡ Some i
-number_home plan s i numbers is_plan are li e =
-    let ordered = is_plan.flat_is.ordered in
-    let stands_here : stands plan i s ≡ true = subst (λ (h : ℕ). stands plan i h ≡ true) e ((fits plan is_plan).stands_home i li) in
-    let w = places_has (record { plan = plan; site = s }) ordered i li (ap (λ b. b || is_some (link_into plan s i)) stands_here) in
-    let here : slice_get (places_of plan s) w.0 ≡ Some i = slice_get-get_or (places_of plan s) w.0 0 w.1 ∙ ap Some w.2 in
-    ap (slice_get (places_of plan s)) (get_or_from_slice_get numbers i w.0 0 (are w.0 i here)) ∙ here
-
--- the place of an output
-pub output_within : (plan : Distribution) (k i : ℕ) → IsPlan plan → slice_get (outputs_of plan) k ≡ Some i → (i < flows_of plan.flat) × (is_output_of plan.flat i ≡ true)
-output_within plan k i is_plan e =
-    let first = (fits plan is_plan).variables_first in
-    let w = output_there plan k i e in
-    (let l = w.0 in omega (arith, first, l), w.1)

@@ -9,7 +9,7 @@ use Rattle.luflow.specs.declared.data.Status.{Status}
 use Rattle.luflow.specs.declared.data.Status.TheVariants.{Absent, Present}
 use Rattle.luflow.specs.declared.message.Body.{Body}
 use Rattle.luflow.specs.declared.message.Body.TheVariants.{Value, Close}
-use Rattle.luflow.specs.Program.{flows_of, IsOrdered}
+use Rattle.luflow.specs.Program.{flows_of}
 use Rattle.luflow.proofs.Solutions.{some_at}
 use Rattle.lueval.specs.declared.kernel.Past.{Past}
 use Rattle.lueval.specs.declared.cell.Cell.{Cell}
@@ -17,28 +17,20 @@ use Rattle.lueval.specs.declared.cell.Cell.TheVariants as cells
 use Rattle.lueval.specs.Cells.{status_of, statuses}
 use Rattle.lueval.specs.Frames.{datum_in, datum_there}
 use Rattle.lusite.specs.declared.desk.Desk.{Desk}
-use Rattle.lusite.specs.Spread.{put_at}
-use Rattle.lusite.specs.Programs.{SitePlan, places_of}
-use Rattle.lusite.specs.Logs.{Log, LogView, log_view, no_log, logs_in, logs_of, IsNoted}
+use Rattle.lusite_program.specs.Spread.{put_at}
+use Rattle.lusite_program.specs.Programs.{places_of}
+use Rattle.lusite.specs.Logs.{logs_of}
+use Rattle.lusite_program.specs.Logs.{Log, LogView, log_view, no_log, logs_in, IsNoted}
 use Rattle.lusite.specs.Machine.{IsSet, past_of, pasts_in, shown_in, kept_in, shown_of, pasts_of, count_kept, datum_shown, with_body}
 use Rattle.lusite.proofs.Held.{pasts_len, count_same, counts_few, counts_all}
 use Rattle.lusite.proofs.Moves.{ordered_here}
-use Rattle.lusite.proofs.Skips.{places_once, places_in, place_here}
-use Rattle.lusite.proofs.Spread.{AreOnce, put_len, put_has, put_same, put_set, spread_all}
+use Rattle.lusite_program.proofs.OutputLogs.{logs_row}
+use Rattle.lusite_program.proofs.Ranks.{places_once, places_in, place_here}
+use Rattle.lusite_program.proofs.Spread.{AreOnce, put_len, put_has, put_same, put_set, spread_all}
 
 -- what is left as it was is shown as it was
 pub left_same : (a : Desk) (xs : List Cell) → statuses xs ≡ statuses a.shown.items → shown_in a.program xs ≡ shown_of a
 left_same a xs e = ap (λ ys. put_at (replicate (flows_of a.program.plan.flat) Absent) (places_of a.program.plan a.program.site) ys) e
-
--- the log of a flow, by its number and by its place
-pub logs_row : (p : SitePlan) (all : List Log) → IsOrdered p.plan.flat → length all ≡ length (places_of p.plan p.site) → (k i : ℕ) → slice_get (places_of p.plan p.site) k ≡ Some i → slice_get (logs_in p all) i ≡ slice_get (map log_view all) k
-logs_row p all ordered len k i e =
-    let ps = places_of p.plan p.site in
-    let n = length-replicate (flows_of p.plan.flat) no_log in
-    let m = length-map all log_view in
-    let l = places_in p ordered k (slice_get_within ps k i e) in
-    let same = get_or_from_slice_get ps k i 0 e in
-    put_same (replicate (flows_of p.plan.flat) no_log) ps (map log_view all) k i (places_once p ordered) (m ∙ len) (omega (arith, l, same, n)) e
 
 module _ (a : Desk) (set_up : IsSet a) where
   abbrev rows : List ℕ

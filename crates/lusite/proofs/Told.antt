@@ -15,13 +15,15 @@ use Rattle.luflow.specs.Program.{flows_of}
 use Rattle.luflow.specs.Messages.{marks}
 use Rattle.luworld.specs.Needs.{Distribution, stands, home}
 use Rattle.luworld.specs.Runs.{Run, streams_of, knows, IsJob, link_into}
-use Rattle.lusite.specs.Logs.{LogView, logs_of, add_if, IsRow, IsLogged, IsLoggedAt, is_wanted, is_noted, passed_to, IsNoted}
+use Rattle.lusite.specs.Logs.{logs_of, IsLoggedAt, is_noted, passed_to}
+use Rattle.lusite_program.specs.Logs.{LogView, add_if, IsRow, IsLogged, is_wanted, IsNoted}
 use Rattle.luworld.specs.Progress.{IsFirst}
 use Rattle.lusite.specs.Machine.{Stands, is_faulted, shown_of, pasts_of}
 use Rattle.lusite.specs.declared.desk.Desk.{Desk}
-use Rattle.lusite.specs.declared.program.Part.{Part}
-use Rattle.lusite.proofs.Machine.{slice_get-set_same, slice_get-set_other}
+use Rattle.lusite_program.specs.declared.program.Part.{Part}
+use Rattle.lusite_program.proofs.Written.{slice_get-set_same, slice_get-set_other}
 use Rattle.lusite.proofs.Desks.{Going, no_step, part_here, here_in, place_in_job, flow_same}
+use Rattle.lusite_program.proofs.Posts.{both}
 use Rattle.luflow.specs.Variables.{is_output_of}
 
 pub lt-false : (m n : ℕ) → n ≤ m → nat_lt m n ≡ false
@@ -34,10 +36,6 @@ marks_more s t =
 
 pub first_len : (job : Run) (i : ℕ) (xs : List Status) (m : ℕ) → IsFirst job i xs m → length xs ≡ m
 first_len job i xs m e = sym (length-map xs Known) ∙ ap length e ∙ length-map (range_with_len 0 m) (streams_of job i) ∙ length-range_with_len 0 m
-
-pub both : (a b : Bool) → a ≡ true → b ≡ true → (a && b) ≡ true
-both true b ea eb = eb
-both false b ea eb = absurd (false≢true ea)
 
 pub and_parts : (a b : Bool) → (a && b) ≡ true → (a ≡ true) × (b ≡ true)
 and_parts true b h = (refl, h)

@@ -35,7 +35,8 @@ use Rattle.luworld.proofs.Messages.{message_at, no_message_at}
 use Rattle.lusite.specs.declared.next.Fault.{Fault}
 use Rattle.lusite.specs.declared.desk.Desk.{Desk}
 use Rattle.lusite.specs.Machine.{is_faulted, IsFaultAt, Stands, IsSet, StandsAt, IsReadyAt, Ready, Over, Computes, done_of, IsLocalNext, IsPutNext, IsTakeNext, with_body, shown_of, pasts_of}
-use Rattle.lusite.proofs.Machine.{stops_at, script_take, there, equation, stands_step, stands_stop, slice_get-set_same, slice_get-set_other}
+use Rattle.lusite.proofs.Machine.{stops_at, script_take, there, equation, stands_step, stands_stop}
+use Rattle.lusite_program.proofs.Written.{slice_get-set_same, slice_get-set_other}
 use Rattle.lusite.proofs.Desks.{Going, going, here_in, flow_same}
 use Rattle.lusite.proofs.Told.{lt-false}
 use Rattle.lusite.proofs.Offers.{AtHand, ComputeAt, PutEarly, PutLate, TakeEarly, TakeLate, at_hand, Here, WorksOut, hand_next, computed_is, link_is, known_of_link, into_is, take_no, own_early, own_late, taken_late}

@@ -1,5 +1,5 @@
 -- What is left of a site, by how many items each flow has.
-use Rattle.std.proofs.Common.{◌≡◌, ℕ, zero, suc, ◌+◌, ◌-◌, ◌*◌, ◌<◌, ◌≤◌, inl, inr, Bool, true, false, cond, List, [], ◌∷◌, ◌++◌, length, map, filter, drop, Option, Some, None, refl, sym, ap, ap₂, ◌∙◌, subst, arith, nat_eq}
+use Rattle.std.proofs.Common.{◌≡◌, ℕ, zero, suc, ◌+◌, ◌-◌, ◌*◌, ◌<◌, ◌≤◌, inl, inr, Bool, true, false, cond, List, [], ◌∷◌, ◌++◌, length, map, drop, Option, Some, None, refl, sym, ap, ap₂, ◌∙◌, subst, arith, nat_eq}
 use Rattle.std.specs.Prelude.{slice_get, slice_index, nat_lt, is_some, sum_by, unwrap_or, ◌&&◌, ◌||◌}
 use Rattle.std.specs.List.{range_with_len, list_any}
 use Rattle.std.proofs.Math.Seq.{drop-cons}
@@ -14,42 +14,25 @@ use Rattle.luflow.specs.Program.{flows_of, reads, IsOrdered}
 use Rattle.luflow.proofs.Solutions.{some_at, IsSolution-solution}
 use Rattle.lueval.proofs.Steps.{fault_broken}
 use Rattle.luflow.specs.Streams.{is_broken}
-use Rattle.luworld.specs.Needs.{Distribution, stands, home}
+use Rattle.luworld.specs.Needs.{Distribution, stands}
 use Rattle.luworld.specs.World.{Item, Compute, Puts, Takes}
 use Rattle.luworld.specs.Outline.{Outline, Cell, cells, size, left_in, left_after, faulted_after, is_break, stops, NoStop, compute_items, message_items, flow_items}
-use Rattle.luworld.specs.Runs.{Run, IsRun, IsJob, streams_of, knows, outline, script, cell, items_before, sends, link_into, listed, carriers, carried, HasNoStop}
+use Rattle.luworld.specs.Runs.{Run, IsRun, IsJob, streams_of, knows, outline, script, cell, items_before, sends, link_into, listed, HasNoStop}
 use Rattle.luworld.proofs.Outlines.{message_is, broken_is}
 use Rattle.luworld.proofs.Remaining.{cell_of, row, later, left_here, left_over, later_size, later_none, sum_drop_same, size_map}
-use Rattle.lusite.specs.declared.program.Part.{Part}
+use Rattle.lusite_program.specs.declared.program.Part.{Part}
 use Rattle.lusite.specs.declared.next.Fault.{Fault}
 use Rattle.lusite.specs.declared.desk.Desk.{Desk}
-use Rattle.lusite.specs.Programs.{SitePlan, part_of, parts_of, no_part, ranks_of, places_of, rank_at}
+use Rattle.lusite_program.specs.Programs.{SitePlan, part_of, parts_of, no_part, ranks_of, places_of, rank_at}
 use Rattle.lusite.specs.Machine.{in_cell, is_faulted, Stands, IsSet, StandsAt, IsReadyAt, Ready, Over, TellsFault, done_of, shown_of, pasts_of}
 use Rattle.lusite.specs.Widths.{width_of, width, widths}
 use Rattle.lusite.proofs.Machine.{ended}
-use Rattle.lusite.proofs.Desks.{Going, part_here, part_there}
-use Rattle.lusite.proofs.Skips.{AreUnknown, rank_in, rank_next, rank_le, unknown_first, unknown_next}
+use Rattle.lusite_program.proofs.Posts.{filter_short, sends_short, part_there}
+use Rattle.lusite.proofs.Desks.{Going, part_here}
+use Rattle.lusite_program.proofs.Ranks.{AreUnknown, rank_in, rank_next, rank_le, unknown_first, unknown_next}
 use Rattle.lusite.proofs.Offers.{Here, hand_next}
 
 -- a width is small
-pub filter_short : (p : ℕ → Bool) (xs : List ℕ) → length (filter p xs) ≤ length xs
-filter_short p [] = omega arith
-filter_short p (x ∷ xs) = go (p x) (filter_short p xs)
-  where
-    go : (b : Bool) → length (filter p xs) ≤ length xs → length (cond b (x ∷ filter p xs) (filter p xs)) ≤ length (x ∷ xs)
-    go true h = omega (arith, h)
-    go false h = omega (arith, h)
-
-pub sends_short : (plan : Distribution) (s i : ℕ) → length (sends plan s i) ≤ length plan.links
-sends_short plan s i = go (nat_eq (home plan i) s)
-  where
-    go : (b : Bool) → length (cond b (carriers plan i) []) ≤ length plan.links
-    go true =
-        let a = filter_short (λ l. nat_eq (carried plan l) i) (range_with_len 0 (length plan.links)) in
-        let b = length-range_with_len 0 (length plan.links) in
-        omega (arith, a, b)
-    go false = omega arith
-
 width_few : (part : Part) (early : Bool) → width_of part early ≤ length part.to + 1
 width_few part early = go part.own early (is_some part.from)
   where

@@ -1,6 +1,3 @@
-pub mod Spread
-pub mod Programs
-pub mod Carriers
 pub mod Machine
 pub mod Logs
 pub mod Sites

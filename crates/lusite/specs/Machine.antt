@@ -28,10 +28,10 @@ use Rattle.lusite.specs.declared.next.Next.TheVariants.{Local, Take, Put, Ended,
 use Rattle.lusite.specs.declared.next.Fault.{Fault}
 use Rattle.lusite.specs.declared.report.Standing.{Standing}
 use Rattle.lusite.specs.declared.report.Standing.TheVariants.{Ended as StandsEnded, Faulted as StandsFaulted, Cut}
-use Rattle.lusite.specs.declared.program.Part.{Part}
+use Rattle.lusite_program.specs.declared.program.Part.{Part}
 use Rattle.lusite.specs.declared.desk.Desk.{Desk}
-use Rattle.lusite.specs.Programs.{SitePlan, part_at, places_of, rank_at}
-use Rattle.lusite.specs.Spread.{spread}
+use Rattle.lusite_program.specs.Programs.{SitePlan, part_at, places_of, rank_at}
+use Rattle.lusite_program.specs.Spread.{spread}
 
 abbrev pub is_faulted : Desk → Bool
 is_faulted a = is_some a.fault

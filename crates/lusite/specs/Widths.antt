@@ -1,7 +1,7 @@
 -- How many items a flow has at a site where it is present.
 use Rattle.std.specs.Prelude.{ℕ, Bool, true, List, length, is_some, sum_by}
-use Rattle.lusite.specs.declared.program.Part.{Part}
-use Rattle.lusite.specs.Programs.{SitePlan, part_at}
+use Rattle.lusite_program.specs.declared.program.Part.{Part}
+use Rattle.lusite_program.specs.Programs.{SitePlan, part_at}
 use Rattle.lusite.specs.Machine.{in_cell}
 
 -- at an instant of the table, or at the close

@@ -4,11 +4,11 @@ ghost use Rattle.std.specs.Prelude.{◌≡◌, ◌≤◌, drop, false, is_some, 
 ghost use Rattle.luworld.specs.Outline.{left_after};
 ghost use Rattle.luworld.specs.Runs.{IsRun, outline, streams_of};
 ghost use Rattle.lusite.specs.Machine.{IsSet, StandsAt, IsReadyAt, in_cell, is_faulted, done_of};
-ghost use Rattle.lusite.specs.Programs.{places_of, rank_at};
+ghost use Rattle.lusite_program.specs.Programs.{places_of, rank_at};
 ghost use Rattle.lusite.specs.Widths.{widths, most_width, most_left};
 
 use crate::desk::Desk;
-use crate::program::Post;
+use lusite_program::Post;
 
 /// How many items a flow has where it is present: at an instant of the table, or at the close.
 fn width(post: &Post, early: bool) -> usize

@@ -5,19 +5,14 @@
 //! - [`SiteReport`], [`Standing`]: what a site leaves.
 #![tactic(auto)]
 
-mod carriers;
 mod desk;
 mod left;
-mod logs;
 mod next;
-mod program;
-mod projecting;
 mod report;
 mod site;
 
 pub use luflow::{Body, Datum, Msg, Status};
-pub use next::{Fault, LinkNo, Next};
-pub use program::SiteProgram;
-pub use projecting::project;
+pub use lusite_program::{LinkNo, SiteProgram, project};
+pub use next::{Fault, Next};
 pub use report::{SiteReport, Standing};
 pub use site::Site;

@@ -1,9 +1,7 @@
 //! What a site does next, and how it fails.
 
 use luflow::{FaultKind, Msg};
-
-/// The number of a link, from 0.
-pub type LinkNo = usize;
+use lusite_program::LinkNo;
 
 /// What a site does next.
 #[derive(Clone, Copy, Debug, Drop, PartialEq, Eq)]

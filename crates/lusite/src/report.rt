@@ -1,9 +1,10 @@
 //! What a site leaves.
 
 ghost use Rattle.std.specs.Prelude.{◌≡◌, ℕ, true, IfOk, length, slice_get};
-ghost use Rattle.lusite.specs.Logs.{IsOutput, row_items};
+ghost use Rattle.lusite.specs.Logs.{IsOutput};
+ghost use Rattle.lusite_program.specs.Logs.{row_items};
 ghost use Rattle.lusite.specs.Machine.{IsNext, IsStanding};
-ghost use Rattle.lusite.specs.Programs.{output_names, reports_output};
+ghost use Rattle.lusite_program.specs.Programs.{output_names, reports_output};
 ghost use Rattle.luworld.specs.Needs.{sites_of};
 ghost use Rattle.luworld.specs.Runs.{IsJob, outputs_of};
 

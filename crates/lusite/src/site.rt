@@ -6,19 +6,18 @@ ghost use Rattle.lueval.specs.declared.cell.Cell.TheVariants.{Absent};
 ghost use Rattle.luworld.specs.Needs.{sites_of};
 ghost use Rattle.luworld.specs.Outline.{left_after};
 ghost use Rattle.luworld.specs.Runs.{IsJob, IsRun, outline, outputs_of, streams_of};
-ghost use Rattle.lusite.specs.Logs.{IsOutput, IsNewRow, Log, row_items};
+ghost use Rattle.lusite.specs.Logs.{IsOutput};
 ghost use Rattle.lusite.specs.Machine.{IsAtInstant, IsNext, IsLocalNext, IsPutNext, IsTakeNext, IsFaultAt};
-ghost use Rattle.lusite.specs.Programs.{part_of, places_of, output_names, reports_output};
 ghost use Rattle.lusite.specs.Widths.{most_left};
+ghost use Rattle.lusite_program.specs.Logs.{IsNewRow, row_items};
+ghost use Rattle.lusite_program.specs.Programs.{output_names, part_of, places_of, reports_output};
 
 use crate::desk::Desk;
-use crate::logs::drawn;
 use crate::next::{Fault, Next};
-use crate::program::SiteProgram;
-use lueval::Cell;
 use luflow::{Msg, Status};
 use lulist::Name;
 use luplace::SiteInputs;
+use lusite_program::{Held, SiteProgram, drawn, new_held};
 use std::alloc::{AllocError, Global};
 use std::marker::Model;
 
@@ -38,67 +37,47 @@ impl Model for Site {
     ghost invariant = { λ a. IsSite a.desk };
 }
 
-fn new_row(alloc: Global, wanted: bool, instants: u32) -> Result<Vec<Status>, AllocError>
-    ensures { IfOk result (λ x. IsNewRow wanted instants x) }
+/// The site's machine at the start of its script, from what a new site holds.
+fn begun(program: SiteProgram, inputs: SiteInputs, held: Held) -> Site
+    requires job { IsJob inputs.job }
+    requires plan_is { program.plan ≡ inputs.job.plan }
+    requires site_is { program.site ≡ inputs.site }
+    requires shown { held.shown.items ≡ replicate (length (places_of program.plan program.site))
+        Absent }
+    requires lasts { held.lasts.items ≡ replicate (length (places_of program.plan program.site))
+        Absent }
+    requires counts { held.counts.items ≡ replicate (length (places_of program.plan program.site))
+        0 }
+    requires len { length held.logs.items ≡ length (places_of program.plan program.site) }
+    requires each { (k i : ℕ) → slice_get (places_of program.plan program.site) k ≡ Some i
+        → ForSome (slice_get held.logs.items k) (λ y. IsNewRow (part_of program.plan program.site
+        i).told inputs.job.inputs.instants y) }
+    ensures job { result.job ≡ inputs.job }
+    ensures site { result.site ≡ inputs.site }
+    ensures done { result.done ≡ 0 }
 {
-    let room = if wanted { instants as usize } else { 0 };
-    Ok(Vec::with_capacity(alloc, room)?)
-}
-
-/// Empty logs with room for all statuses of the site's outputs.
-fn new_logs(
-    alloc: Global,
-    program: &SiteProgram,
-    instants: u32,
-) -> Result<Vec<Vec<Status>>, AllocError>
-    ensures len { IfOk result (λ x. length x.items
-        ≡ length (places_of program.now.plan program.now.site)) }
-    ensures each { IfOk result (λ x. (k i : ℕ) → slice_get (places_of program.now.plan
-        program.now.site) k ≡ Some i → ForSome (slice_get x.items k)
-        (λ y. IsNewRow (part_of program.now.plan program.now.site i).told instants y)) }
-{
-    let (posts, _, _) = program.code();
-    let mut logs = Vec::with_capacity(alloc, posts.len())?;
-    for k in 0..posts.len() {
-        let row = new_row(alloc, posts[k].told, instants)?;
-        logs.push_reserved(row);
-    }
-    Ok(logs)
-}
-
-/// What a site holds: cells for each flow that it computes or takes, and the logs.
-struct Held {
-    shown: Vec<Cell>,
-    lasts: Vec<Cell>,
-    counts: Vec<u32>,
-    logs: Vec<Vec<Status>>,
-}
-
-/// What a new site holds: nothing is shown, no flow was present, and there is room for what is told.
-fn new_held(alloc: Global, program: &SiteProgram, instants: u32) -> Result<Held, AllocError>
-    ensures shown { IfOk result (λ x. x.shown.items
-        ≡ replicate (length (places_of program.now.plan program.now.site)) Absent) }
-    ensures lasts { IfOk result (λ x. x.lasts.items
-        ≡ replicate (length (places_of program.now.plan program.now.site)) Absent) }
-    ensures counts { IfOk result (λ x. x.counts.items
-        ≡ replicate (length (places_of program.now.plan program.now.site)) 0) }
-    ensures len { IfOk result (λ x. length x.logs.items
-        ≡ length (places_of program.now.plan program.now.site)) }
-    ensures each { IfOk result (λ x. (k i : ℕ) → slice_get (places_of program.now.plan
-        program.now.site) k ≡ Some i → ForSome (slice_get x.logs.items k)
-        (λ y. IsNewRow (part_of program.now.plan program.now.site i).told instants y)) }
-{
-    let rows = program.places().len();
-    let shown = Vec::from_elem(alloc, Cell::Absent, rows)?;
-    let lasts = Vec::from_elem(alloc, Cell::Absent, rows)?;
-    let counts = Vec::from_elem(alloc, 0, rows)?;
-    let logs = new_logs(alloc, program, instants)?;
-    Ok(Held {
+    let Held {
         shown,
         lasts,
         counts,
         logs,
-    })
+    } = held;
+    let place = program.rank(0);
+    let mut desk = Desk {
+        program,
+        inputs,
+        shown,
+        lasts,
+        counts,
+        logs,
+        instant: 0,
+        row: 0,
+        place,
+        step: 0,
+        fault: None,
+    };
+    desk.settle();
+    Site { desk }
 }
 
 impl Site {
@@ -111,28 +90,8 @@ impl Site {
         ensures site { IfOk result (λ x. x.site ≡ inputs.site) }
         ensures done { IfOk result (λ x. x.done ≡ 0) }
     {
-        let Held {
-            shown,
-            lasts,
-            counts,
-            logs,
-        } = new_held(alloc, &program, inputs.instants())?;
-        let place = program.rank(0);
-        let mut desk = Desk {
-            program,
-            inputs,
-            shown,
-            lasts,
-            counts,
-            logs,
-            instant: 0,
-            row: 0,
-            place,
-            step: 0,
-            fault: None,
-        };
-        desk.settle();
-        Ok(Site { desk })
+        let held = new_held(alloc, &program, inputs.instants())?;
+        Ok(begun(program, inputs, held))
     }
 
     /// The number of the site, from 0. Takes no memory.

@@ -9,7 +9,7 @@ use Rattle.lusource.specs.Source.{SourceStreams}
 use Rattle.lumeaning.specs.Meaning.{IsMeant, NoneBreaks, source_list}
 use Rattle.lumeaning.proofs.Sources.{same_list, same_marks, none_breaks}
 use Rattle.lusite.specs.Sites.{SiteAt}
-use Rattle.lusite.proofs.Outputs.{output_there}
+use Rattle.lusite_program.proofs.Posts.{output_there}
 use Rattle.luweave.specs.declared.lane.Lane.{Lane}
 use Rattle.luweave.specs.Worlds.{IsWorld, dones_of}
 use Rattle.luworld.specs.Progress.{IsCollected, IsBeginning, AllEnded}

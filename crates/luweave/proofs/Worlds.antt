@@ -24,7 +24,7 @@ use Rattle.lusite.specs.Sites.{SiteAt}
 use Rattle.luweave.specs.Worlds.{IsLaneAt, IsLane, IsWorld, dones_of, more, room_in, room_of, some_in, some_of, IsPutInto, IsTakeFrom, IsNewSite, IsNewLane, IsNewWorld, IsUnstuck, IsOnlyEnd}
 use Rattle.luworld.specs.Progress.{IsBeginning, Progress}
 use Rattle.luflow.proofs.Solutions.{some_at}
-use Rattle.lusite.proofs.Machine.{slice_get-set_same, slice_get-set_other}
+use Rattle.lusite_program.proofs.Written.{slice_get-set_same, slice_get-set_other}
 use Rattle.luworld.proofs.Outlines.{bool_cases, is_wired, is_outline, no_break}
 use Rattle.lusite.proofs.Turns.{link_there}
 use Rattle.luworld.proofs.Messages.{lists_short}

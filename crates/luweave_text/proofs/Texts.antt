@@ -7,7 +7,7 @@ use Rattle.luflow.specs.declared.data.Status.{Status}
 use Rattle.luworld.specs.Runs.{outputs_of}
 use Rattle.luworld.proofs.Rounds.{range_more, one_more}
 use Rattle.luworld.specs.declared.link.Link.{Link}
-use Rattle.lusite.proofs.Ranges.{filter_more}
+use Rattle.lusite_program.proofs.Ranges.{filter_more}
 use Rattle.luworld.specs.Progress.{Progress, IsCollected}
 use Rattle.luweave_text.specs.WorldText.{AreOutputLines, NoOutput, OneOutputMore, output_line, links_text, line_of}
 use Rattle.luflow.specs.Types.{variable_names}

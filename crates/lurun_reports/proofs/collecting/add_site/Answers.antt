@@ -3,7 +3,8 @@ use Rattle.std.specs.Prelude.{slice_get}
 use Rattle.std.specs.Vec.Iter.{into_iter_items}
 use Rattle.std.proofs.lemmas.List.{length-map}
 use Rattle.luflow.specs.Tables.{outputs_view, output_view}
-use Rattle.lusite.specs.Logs.{IsOutput, Log, row_items}
+use Rattle.lusite.specs.Logs.{IsOutput}
+use Rattle.lusite_program.specs.Logs.{Log, row_items}
 use Rattle.lurun_reports.proofs.Lists.{empty_list}
 use Rattle.lurun_reports.proofs.Columns.{none_moved, one_moved, all_moved}
 use Rattle.lurun_reports.proofs.collecting.add_site.Goals as goal

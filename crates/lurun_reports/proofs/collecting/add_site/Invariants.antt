@@ -1,7 +1,8 @@
 use Rattle.std.proofs.Common.{ℕ, ◌+◌, slice_get}
 use Rattle.std.specs.Vec.Iter.{into_iter_items}
 use Rattle.luflow.specs.Tables.{outputs_view}
-use Rattle.lusite.specs.Logs.{IsOutput, row_items}
+use Rattle.lusite.specs.Logs.{IsOutput}
+use Rattle.lusite_program.specs.Logs.{row_items}
 use Rattle.lurun_reports.proofs.Columns.{AreMoved}
 use Rattle.lurun_reports.proofs.collecting.add_site.Given as goal
 

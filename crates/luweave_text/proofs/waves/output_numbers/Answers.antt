@@ -1,6 +1,6 @@
 use Rattle.std.proofs.Common.{ℕ, Bool, List, [], ◌∷◌, ◌++◌, cond, sym, ap₂, ◌∙◌}
 use Rattle.luflow.specs.Variables.{is_output_of}
-use Rattle.lusite.proofs.Ranges.{filter_more}
+use Rattle.lusite_program.proofs.Ranges.{filter_more}
 use Rattle.luweave_text.proofs.waves.output_numbers.Goals as goal
 
 pub loop-v-preserved : goal.loop-v-preserved

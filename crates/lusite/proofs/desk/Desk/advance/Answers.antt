@@ -1,7 +1,7 @@
 use Rattle.std.proofs.Common.{◌≡◌, ◌<◌, slice_index, ap, length, arith, sym, ◌∙◌}
 use Rattle.luworld.specs.Needs.{Distribution}
 use Rattle.lusite.specs.Machine.{cell_size, Over}
-use Rattle.lusite.specs.Programs.{places_of}
+use Rattle.lusite_program.specs.Programs.{places_of}
 use Rattle.lusite.proofs.Desks.{going, size_desk, ready_desk, full_desk, no_step}
 use Rattle.lusite.proofs.Moves.{place_within, place_over}
 use Rattle.std.proofs.lemmas.Bool.{ltb-true}

@@ -2,7 +2,7 @@ use Rattle.std.proofs.Common.{arith}
 use Rattle.std.proofs.lemmas.List.{length-map}
 use Rattle.std.proofs.lemmas.Option.{slice_get-get_or}
 use Rattle.std.specs.Prelude.{slice_index}
-use Rattle.lusite.specs.Programs.{ranks_of}
+use Rattle.lusite_program.specs.Programs.{ranks_of}
 use Rattle.lusite.proofs.Moves.{rank_here}
 use Rattle.lusite.proofs.desk.Desk.here.Goals as goal
 

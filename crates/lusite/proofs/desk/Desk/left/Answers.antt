@@ -1,7 +1,7 @@
 use Rattle.std.proofs.Common.{◌≡◌, ap, ap₂, sym, ◌∙◌, arith, ◌+◌, ◌-◌, ◌*◌, ℕ, Bool, true, false, drop}
 use Rattle.lusite.specs.declared.desk.Desk.{Desk}
 use Rattle.lusite.specs.Machine.{IsSet}
-use Rattle.lusite.specs.Programs.{rank_at}
+use Rattle.lusite_program.specs.Programs.{rank_at}
 use Rattle.lusite.specs.Widths.{widths}
 use Rattle.lusite.proofs.Desks.{going}
 use Rattle.lusite.proofs.Widths.{desk_early, desk_late, widths_first}

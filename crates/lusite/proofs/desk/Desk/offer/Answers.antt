@@ -2,7 +2,7 @@ use Rattle.std.proofs.Common.{◌≡◌, ◌<◌, false, ap, length, arith, refl
 use Rattle.std.specs.Prelude.{slice_index, unwrap_or}
 use Rattle.lusite.specs.declared.next.Next.TheVariants.{Take}
 use Rattle.lusite.specs.Machine.{is_faulted}
-use Rattle.lusite.specs.Programs.{places_of}
+use Rattle.lusite_program.specs.Programs.{places_of}
 use Rattle.lusite.proofs.Moves.{offered_own_here, offered_take_here}
 use Rattle.lusite.proofs.Posts.{own_is, from_is}
 use Rattle.lusite.proofs.desk.Desk.offer.Goals as goal

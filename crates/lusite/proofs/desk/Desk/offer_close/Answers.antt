@@ -5,7 +5,7 @@ use Rattle.lusite.proofs.Moves.{offered_close}
 use Rattle.lusite.proofs.Posts.{outs_is, sent_is}
 use Rattle.lusite.proofs.Rows.{count_row}
 use Rattle.lusite.proofs.Told.{lt-false}
-use Rattle.lusite.specs.Programs.{part_at}
+use Rattle.lusite_program.specs.Programs.{part_at}
 use Rattle.lusite.proofs.desk.Desk.offer_close.Goals as goal
 
 pub returns : goal.returns

@@ -9,7 +9,7 @@ use Rattle.lusite.specs.Machine.{count_kept, pasts_of}
 use Rattle.lusite.proofs.Moves.{offered_value}
 use Rattle.lusite.proofs.Posts.{outs_is, place_is, sent_is}
 use Rattle.lusite.proofs.Rows.{count_row, datum_row}
-use Rattle.lusite.specs.Programs.{part_at}
+use Rattle.lusite_program.specs.Programs.{part_at}
 use Rattle.lusite.proofs.desk.Desk.offer_value.Goals as goal
 
 pub returns : goal.returns

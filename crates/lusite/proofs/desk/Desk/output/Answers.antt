@@ -2,8 +2,8 @@ use Rattle.std.proofs.Common.{◌≡◌, List, length, None, Some, ap, sym, subs
 use Rattle.std.specs.Prelude.{slice_get}
 use Rattle.std.proofs.lemmas.Bool.{ltb-true}
 use Rattle.std.proofs.lemmas.Option.{none-some, slice_get-get_or, slice_get_past}
-use Rattle.lusite.specs.Logs.{Log, row_items}
-use Rattle.lusite.specs.Programs.{Reports}
+use Rattle.lusite_program.specs.Logs.{Log, row_items}
+use Rattle.lusite_program.specs.Programs.{Reports}
 use Rattle.lusite.proofs.Drawn.{desk_untold, desk_told}
 use Rattle.lusite.proofs.Passed.{lt_no}
 use Rattle.lusite.proofs.desk.Desk.output.Goals as goal

@@ -2,7 +2,8 @@ use Rattle.std.proofs.Common.{◌≡◌, ℕ, ap, ◌∙◌, sym, subst, arith}
 use Rattle.std.specs.Prelude.{slice_index, not}
 use Rattle.luflow.specs.declared.data.Status.TheVariants.{Absent}
 use Rattle.luworld.specs.Runs.{streams_of, items_before}
-use Rattle.lusite.specs.Logs.{is_noted, logs_in, IsLogged}
+use Rattle.lusite.specs.Logs.{is_noted}
+use Rattle.lusite_program.specs.Logs.{logs_in, IsLogged}
 use Rattle.lusite.proofs.Told.{none_yet, note_room, note_pass, absent_no, absent_is, absent_yes}
 use Rattle.lusite.proofs.Desks.{going, pass_desk}
 use Rattle.lusite.proofs.Moves.{pass_next, logged_next, next_above}

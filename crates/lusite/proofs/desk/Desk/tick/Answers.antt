@@ -6,8 +6,9 @@ use Rattle.luworld.specs.Runs.{streams_of, items_before}
 use Rattle.lueval.specs.declared.kernel.Past.{Past}
 use Rattle.lueval.specs.declared.cell.Cell.{Cell}
 use Rattle.lusite.specs.Machine.{Stands, is_faulted, shown_of, pasts_of, kept_in}
-use Rattle.lusite.specs.Logs.{IsLogged, logs_of}
-use Rattle.lusite.specs.Programs.{places_of}
+use Rattle.lusite.specs.Logs.{logs_of}
+use Rattle.lusite_program.specs.Logs.{IsLogged}
+use Rattle.lusite_program.specs.Programs.{places_of}
 use Rattle.lusite.proofs.Desks.{going}
 use Rattle.lusite.proofs.Held.{aged_pasts}
 use Rattle.lusite.proofs.Moves.{tick_next, tick_done, logged_first}

@@ -1,7 +1,7 @@
 use Rattle.std.proofs.Common.{◌≤◌, length, arith}
 use Rattle.std.specs.Prelude.{slice_index}
 use Rattle.std.proofs.lemmas.List.{length-map}
-use Rattle.lusite.specs.Programs.{ranks_of}
+use Rattle.lusite_program.specs.Programs.{ranks_of}
 use Rattle.lusite.proofs.Moves.{ordered_here}
 use Rattle.lusite.proofs.Posts.{row_width}
 use Rattle.lusite.proofs.Widths.{width_short, rows_short, widths_row, widths_last}

@@ -1,5 +1,5 @@
 use Rattle.std.proofs.Common.{◌≡◌, ◌+◌, ◌*◌, ◌≤◌, drop}
-use Rattle.lusite.specs.Programs.{rank_at}
+use Rattle.lusite_program.specs.Programs.{rank_at}
 use Rattle.lusite.specs.Widths.{widths}
 use Rattle.lusite.proofs.desk.Desk.widths.Given as goal
 

@@ -11,7 +11,7 @@ use Rattle.luworld.specs.World.{Compute}
 use Rattle.lusite.specs.declared.next.Fault.{Fault}
 use Rattle.lueval.specs.Cells.{statuses}
 use Rattle.lusite.specs.Machine.{Stands, Computes, IsFaultAt, is_faulted, pasts_of}
-use Rattle.lusite.specs.Logs.{log_view, logs_in, IsNoted}
+use Rattle.lusite_program.specs.Logs.{log_view, logs_in, IsNoted}
 use Rattle.lusite.proofs.Desks.{going}
 use Rattle.lusite.proofs.Held.{gives_datum}
 use Rattle.lusite.proofs.Posts.{row_within}

@@ -3,7 +3,8 @@ use Rattle.std.specs.Prelude.{slice_get}
 use Rattle.luworld.specs.Runs.{outputs_of}
 use Rattle.lusite.specs.declared.desk.Desk.{Desk}
 use Rattle.lusite.specs.Sites.{SiteAt, IsSite, site_at}
-use Rattle.lusite.specs.Logs.{IsOutput, Log, log_at, row_items}
+use Rattle.lusite.specs.Logs.{IsOutput, log_at}
+use Rattle.lusite_program.specs.Logs.{Log, row_items}
 use Rattle.lusite.proofs.Outputs.{output_is}
 use Rattle.lusite.proofs.site.Site.into_outputs.Goals as goal
 

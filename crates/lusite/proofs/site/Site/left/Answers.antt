@@ -1,6 +1,6 @@
 use Rattle.std.proofs.Common.{◌≡◌, ◌∙◌, sym, subst}
 use Rattle.luworld.specs.Outline.{left_after}
-use Rattle.luworld.specs.Runs.{outline, streams_of}
+use Rattle.luworld.specs.Runs.{IsRun, outline, streams_of}
 use Rattle.lusite.specs.Sites.{SiteAt}
 use Rattle.lusite.proofs.Widths.{desk_faulted}
 use Rattle.lusite.proofs.site.Site.left.Goals as goal
@@ -11,3 +11,20 @@ returns-then-is_some-clause-left c =
     let i = c.self.invariant in
     let P : SiteAt → Type 0 = λ v. 0 ≡ left_after (outline v.job (streams_of v.job)) v.site v.done in
     subst P c.self.view_is (sym (desk_faulted a c.site-run.ensures.run i.set i.stands i.tells (sym c.is_some.ensures ∙ c.if-is_some.true)))
+
+pub returns-then-is_some-clause-run : goal.returns-then-is_some-clause-run
+returns-then-is_some-clause-run c = subst (λ (v : SiteAt). IsRun v.job) c.self.view_is c.site-run.ensures.run
+
+pub left-requires : goal.left-requires
+left-requires c =
+    let i = c.self.invariant in
+    let goes = sym c.is_some.ensures ∙ c.if-is_some.false in
+    record { run = c.site-run.ensures.run; set = i.set; stands = i.stands; going = goes; ready = i.ready goes }
+
+pub returns-clause-left : goal.returns-clause-left
+returns-clause-left c =
+    let P : SiteAt → Type 0 = λ v. c.left.result ≡ left_after (outline v.job (streams_of v.job)) v.site v.done in
+    subst P c.self.view_is c.left.ensures.left
+
+pub returns-clause-run : goal.returns-clause-run
+returns-clause-run c = subst (λ (v : SiteAt). IsRun v.job) c.self.view_is c.site-run.ensures.run

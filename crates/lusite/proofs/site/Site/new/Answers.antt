@@ -1,107 +1,16 @@
-use Rattle.std.proofs.Common.{◌≡◌, ℕ, ◌<◌, true, false, length, replicate, Some, sym, ap, ap₂, ◌∙◌, subst, arith}
-use Rattle.std.proofs.lemmas.Option.{slice_get-get_or, slice_get-map}
-use Rattle.std.proofs.lemmas.List.{length-replicate}
-use Rattle.lueval.specs.declared.cell.Cell.TheVariants.{Absent}
-use Rattle.luflow.specs.declared.data.Status.TheVariants as status
-use Rattle.lueval.specs.Cells.{statuses}
-use Rattle.luflow.specs.Program.{flows_of, IsOrdered}
-use Rattle.luworld.proofs.Cursor.{before_start}
-use Rattle.luworld.specs.Needs.{Distribution}
-use Rattle.luworld.specs.Runs.{Run, IsRun, IsJob, knows, link_into, streams_of, items_before}
-use Rattle.luworld.proofs.Fitting.{job_of_run}
+use Rattle.std.proofs.Common.{◌≡◌, ℕ, subst}
 use Rattle.luplace.specs.SiteTables.{SiteTable}
-use Rattle.std.specs.Prelude.{slice_get, ◌||◌, is_some}
-use Rattle.std.specs.Option.{option_map}
-use Rattle.luflow.proofs.Solutions.{some_at}
-use Rattle.lusite.specs.Logs.{IsLogged, log_view, logs_in}
-use Rattle.lusite.proofs.Rows.{logs_row}
-use Rattle.lusite.specs.Spread.{put_at}
-use Rattle.lusite.specs.Machine.{Stands, past_of, pasts_in, shown_in, kept_in}
-use Rattle.lusite.proofs.Spread.{put_none}
-use Rattle.lusite.proofs.Held.{new_statuses, new_pasts}
-use Rattle.lusite.specs.Programs.{part_of, places_of, rank_at}
-use Rattle.lusite.proofs.Skips.{stands_skip, before_skip, logged_skip, places_has}
-use Rattle.lusite.proofs.Moves.{start_next}
-use Rattle.lusite.proofs.Starts.{stands_start}
-use Rattle.lusite.proofs.Told.{logged_new, none_yet, wanted_known}
-use Rattle.lusite.proofs.Machine.{there}
+use Rattle.luworld.specs.Runs.{Run, IsRun, IsJob}
+use Rattle.luworld.proofs.Fitting.{job_of_run}
+use Rattle.lusite_program.specs.Logs.{IsNewRow}
+use Rattle.lusite_program.specs.Programs.{part_of}
 use Rattle.lusite.proofs.site.Site.new.Goals as goal
 
 run_ok : (x : SiteTable) (job : Run) (site : ℕ) → record { job = job; site = site } ≡ x → IsRun job → IsJob x.job
 run_ok x job site e run = job_of_run x.job (subst (λ (y : SiteTable). IsRun y.job) e run)
 
-pub settle-requires-clause-set : goal.settle-requires-clause-set
-settle-requires-clause-set c =
-    let m = length (places_of c.args.program.plan c.args.program.site) in
-    let held = c.in_ok-shown.field-0 in
-    let es : held.shown.items ≡ replicate m Absent = c.in_ok-shown.ensures.shown in
-    let el : held.lasts.items ≡ replicate m Absent = c.in_ok-shown.ensures.lasts in
-    let en : held.counts.items ≡ replicate m 0 = c.in_ok-shown.ensures.counts in
-    record {
-      is_job = run_ok c.args.inputs c.inputs.inside.job.value c.inputs.inside.site c.inputs.view_is c.inputs.invariant.is_run;
-      plan_is = c.requires.plan_is;
-      site_is = c.requires.site_is;
-      rank_is = c.rank-place.ensures;
-      shown_fit = ap length es ∙ length-replicate m Absent;
-      lasts_fit = ap length el ∙ length-replicate m Absent;
-      pasts_fit = ap length el ∙ length-replicate m Absent ∙ sym (ap length en ∙ length-replicate m 0);
-      logs_fit = c.in_ok-shown.ensures.len;
-      row_in = omega arith;
-    }
+pub begun-requires-clause-job : goal.begun-requires-clause-job
+begun-requires-clause-job c = run_ok c.args.inputs c.inputs.inside.job.value c.inputs.inside.site c.inputs.view_is c.inputs.invariant.is_run
 
-pub settle-requires-clause-stands : goal.settle-requires-clause-stands
-settle-requires-clause-stands c =
-    let job = c.args.inputs.job in
-    let program = c.args.program in
-    let n : flows_of program.plan.flat ≡ flows_of job.plan.flat = ap (λ (q : Distribution). flows_of q.flat) c.requires.plan_is in
-    let places = places_of program.plan program.site in
-    let m = length places in
-    let held = c.in_ok-shown.field-0 in
-    let es : held.shown.items ≡ replicate m Absent = c.in_ok-shown.ensures.shown in
-    let el : held.lasts.items ≡ replicate m Absent = c.in_ok-shown.ensures.lasts in
-    let en : held.counts.items ≡ replicate m 0 = c.in_ok-shown.ensures.counts in
-    let s = c.args.inputs.site in
-    let shown = shown_in program held.shown.items in
-    let pasts = kept_in program held.lasts.items held.counts.items in
-    let none = past_of Absent 0 in
-    let st = stands_start job s shown pasts
-    (ap (λ xs. put_at (replicate (flows_of program.plan.flat) status.Absent) places xs) (ap statuses es ∙ new_statuses m) ∙ put_none (flows_of program.plan.flat) status.Absent places m ∙ ap (λ k. replicate k status.Absent) n)
-    (ap (λ xs. put_at (replicate (flows_of program.plan.flat) none) places xs) (ap₂ pasts_in el en ∙ new_pasts m) ∙ put_none (flows_of program.plan.flat) none places m ∙ ap (λ k. replicate k none) n) in
-    let at = start_next program job s c.requires.plan_is c.requires.site_is in
-    let ok = run_ok c.args.inputs c.inputs.inside.job.value c.inputs.inside.site c.inputs.view_is c.inputs.invariant.is_run in
-    subst (λ (p : ℕ). Stands job s shown pasts 0 p 0 false) (sym c.rank-place.ensures)
-    (stands_skip job s ok shown pasts 0 0 (rank_at program 0) st (omega arith) at.0 at.1)
-
-pub returns-clause-done : goal.returns-clause-done
-returns-clause-done c =
-    let job = c.args.inputs.job in
-    let s = c.args.inputs.site in
-    let at = start_next c.args.program job s c.requires.plan_is c.requires.site_is in
-    let ok = run_ok c.args.inputs c.inputs.inside.job.value c.inputs.inside.site c.inputs.view_is c.inputs.invariant.is_run in
-    c.settle.ensures.done
-    ∙ ap (λ p. items_before job (streams_of job) s 0 p 0) c.rank-place.ensures
-    ∙ before_skip job s ok 0 0 (rank_at c.args.program 0) (omega arith) at.0 at.1
-    ∙ before_start job (streams_of job) s
-
-pub settle-requires-clause-logged : goal.settle-requires-clause-logged
-settle-requires-clause-logged c =
-    let job = c.args.inputs.job in
-    let s = c.args.inputs.site in
-    let p = c.args.program in
-    let logs = c.in_ok-shown.field-0.logs.items in
-    let e = c.in_ok-shown.ensures in
-    let at = start_next p job s c.requires.plan_is c.requires.site_is in
-    let ok = run_ok c.args.inputs c.inputs.inside.job.value c.inputs.inside.site c.inputs.view_is c.inputs.invariant.is_run in
-    let ordered = subst (λ (q : Distribution). IsOrdered q.flat) (sym c.requires.plan_is) ok.is_plan.ordered in
-    none_yet job s (logs_in p logs) 0 c.rank-place.result true
-    (subst (λ (r : ℕ). IsLogged job s (logs_in p logs) 0 r) (sym c.rank-place.ensures)
-    (logged_skip job s ok (logs_in p logs) 0 0 (rank_at p 0) (omega arith) at.1
-    (logged_new job s (logs_in p logs) (λ q lq. (there job s ok q lq).2)
-    (λ i li wanted.
-    let known : knows p.plan p.site i ≡ true = ap₂ (λ q k. knows q k i) c.requires.plan_is c.requires.site_is ∙ ap (λ b. b || is_some (link_into job.plan s i)) (wanted_known job s i ok li wanted) in
-    let w = places_has p ordered i (subst (λ (q : Distribution). i < flows_of q.flat) (sym c.requires.plan_is) li) known in
-    let here : slice_get (places_of p.plan p.site) w.0 ≡ Some i = slice_get-get_or (places_of p.plan p.site) w.0 0 w.1 ∙ ap Some w.2 in
-    let y = some_at logs w.0 (let n = e.len in let l = w.1 in omega (arith, l, n)) in
-    let told = ap₂ (λ q k. (part_of q k i).told) c.requires.plan_is c.requires.site_is ∙ wanted in
-    let new = e.each w.0 i here y.0 y.1 in
-    (log_view y.0, logs_row p logs ordered e.len w.0 i here ∙ slice_get-map log_view logs w.0 ∙ ap (option_map log_view) y.1, new.empty, let room = new.room told in omega (arith, room, c.instants.ensures))))))
+pub begun-requires-clause-each : goal.begun-requires-clause-each
+begun-requires-clause-each c k i there y at = subst (λ (n : ℕ). IsNewRow (part_of c.args.program.plan c.args.program.site i).told n y) c.instants.ensures (c.in_ok-held.ensures.each k i there y at)

@@ -1,6 +1,6 @@
 use Rattle.std.proofs.Common.{◌≡◌, ◌∙◌, subst}
 use Rattle.lusite.specs.Sites.{SiteAt}
-use Rattle.lusite.specs.Programs.{reports_output}
+use Rattle.lusite_program.specs.Programs.{reports_output}
 use Rattle.lusite.proofs.Outputs.{reports_is}
 use Rattle.lusite.proofs.site.Site.reports_output.Goals as goal
 

@@ -1,0 +1,8 @@
+pub mod Written
+pub mod Ranges
+mod Sifted
+pub mod Ranks
+pub mod Carried
+pub mod Spread
+pub mod Posts
+pub mod OutputLogs

@@ -1,0 +1,4 @@
+pub mod Spread
+pub mod Programs
+pub mod Carriers
+pub mod Logs

@@ -1,0 +1,172 @@
+//! What of a plan a site runs.
+
+ghost use Rattle.std.specs.Prelude.{◌≡◌, ℕ, ◌+◌, ◌<◌, length, slice_get, slice_index, unwrap_or, List, Option};
+ghost use Rattle.luworld.specs.Needs.{IsPlan, sites_of};
+ghost use Rattle.luworld.specs.Runs.{outputs_of};
+ghost use Rattle.lusite_program.specs.Programs.{output_names, places_of, rank_at, ArePosts, Reports};
+
+use lueval::Line;
+use lulist::{Name, Row};
+use luplace::Plan;
+use std::marker::Model;
+use std::snapshot::Snapshot;
+
+/// The number of a link, from 0.
+pub type LinkNo = usize;
+
+/// A site's part in one flow.
+#[derive(Drop)]
+pub struct Part {
+    /// Whether the site computes the flow.
+    pub own: bool,
+    /// Whether the site reports the flow, as an output.
+    pub told: bool,
+    /// The link by which the site takes the flow.
+    pub from: Option<LinkNo>,
+    /// The links by which the site sends the flow, in order.
+    pub to: Row<LinkNo>,
+}
+
+/// A flow that a site computes or takes, as the site's machine has it.
+#[derive(Clone, Copy, Drop)]
+pub struct Post {
+    /// The flow, with its number among these flows in order of rank in place of its place; so are its operands and its clock's variable.
+    pub line: Line,
+    /// The number of the main variable in whose equation the flow stands.
+    pub owner: usize,
+    /// Whether the site computes the flow.
+    pub own: bool,
+    /// Whether the site reports the flow, as an output.
+    pub told: bool,
+    /// The link by which the site takes the flow.
+    pub from: Option<LinkNo>,
+    /// Where the links by which the site sends the flow begin in the list of all of these.
+    pub first: u32,
+    /// By how many links the site sends the flow.
+    pub outs: u32,
+}
+
+/// What of a plan a site runs: the flows that it computes or takes, in order of rank, and its part in each. It keeps, for contracts
+/// alone, which plan it is of.
+#[derive(Drop)]
+pub struct SiteProgram {
+    pub(crate) site: u8,
+    /// How many flows the whole program has.
+    pub(crate) end: usize,
+    /// The ranks of the flows that the site computes or takes, in order.
+    pub(crate) ranks: Row<usize>,
+    /// The places of these flows, in order of rank.
+    pub(crate) places: Row<usize>,
+    /// These flows, in order of rank.
+    pub(crate) posts: Row<Post>,
+    /// The numbers of the branches of the merges among them.
+    pub(crate) branches: Row<u16>,
+    /// The links by which the site sends flows, those of one flow side by side.
+    pub(crate) links: Row<LinkNo>,
+    /// For each main output the number of its flow, where the site reports it.
+    pub(crate) told: Row<Option<usize>>,
+    pub(crate) sites: u8,
+    pub(crate) names: Row<Name>,
+    pub(crate) plan: Snapshot<Plan>,
+}
+
+impl Model for SiteProgram {
+    ghost use Rattle.lusite_program.specs.Programs.{SitePlan, IsProgram};
+
+    ghost Value = { SitePlan };
+
+    ghost view = { λ a. record { plan = a.plan.value; site = a.site } };
+
+    ghost invariant = { λ a. IsProgram a.plan.value a.site a.end a.ranks a.places a.branches a.links
+        a.posts a.told a.sites a.names };
+}
+
+/// Link number j of those by which the site sends a flow, among those of all its flows.
+#[inline(always)]
+pub fn link_of(post: &Post, links: &[LinkNo], j: usize) -> LinkNo
+    ensures { (to : List ℕ) → post.now.outs ≡ length to
+        → ((i : ℕ) → i < post.now.outs → slice_index links.now (post.now.first + i)
+        ≡ slice_index to i) → result ≡ slice_index to j }
+{
+    if j >= post.outs as usize {
+        return 0;
+    }
+    match links.get(post.first as usize + j) {
+        Some(link) => *link,
+        None => 0,
+    }
+}
+
+/// The number that is told of output k, if one is.
+fn number_of(told: &[Option<usize>], k: usize) -> Option<usize>
+    ensures { result ≡ unwrap_or (slice_get told.now k) Option.None }
+{
+    match told.get(k) {
+        Some(number) => *number,
+        None => None,
+    }
+}
+
+impl SiteProgram {
+    /// The places of the flows that the site computes or takes, in order of rank.
+    pub fn places(&self) -> &[usize]
+        ensures { result.now ≡ places_of self.now.plan self.now.site }
+    {
+        self.places.as_slice()
+    }
+
+    /// The flows that the site computes or takes, in order of rank, as its machine has them, the numbers of the branches of the
+    /// merges among them, and the links by which the site sends them.
+    #[inline(always)]
+    pub fn code(&self) -> (&[Post], &[u16], &[LinkNo])
+        ensures { ArePosts self.now.plan self.now.site result.1.now result.2.now result.0.now }
+    {
+        (
+            self.posts.as_slice(),
+            self.branches.as_slice(),
+            self.links.as_slice(),
+        )
+    }
+
+    /// The rank of flow number k of those that the site computes or takes; behind the last the number of all flows.
+    pub fn rank(&self, k: usize) -> usize
+        ensures { result ≡ rank_at self.now k }
+    {
+        match self.ranks.as_slice().get(k) {
+            Some(rank) => *rank,
+            None => self.end,
+        }
+    }
+
+    /// How many main outputs there are.
+    pub fn outputs(&self) -> usize
+        ensures count { result ≡ length (outputs_of self.now.plan) }
+        ensures plan { IsPlan self.now.plan }
+    {
+        self.told.as_slice().len()
+    }
+
+    /// The number, among the flows that the site computes or takes, of that which is output k, where the site reports it.
+    pub fn reported(&self, k: usize) -> Option<usize>
+        ensures there { (i : ℕ) → slice_get (outputs_of self.now.plan) k ≡ Option.Some i
+            → Reports self.now.plan self.now.site i result }
+        ensures beyond { slice_get (outputs_of self.now.plan) k ≡ Option.None
+            → result ≡ Option.None }
+    {
+        number_of(self.told.as_slice(), k)
+    }
+
+    /// The number of sites of the plan, 1 to 16.
+    pub fn sites(&self) -> u8
+        ensures { result ≡ sites_of self.now.plan }
+    {
+        self.sites
+    }
+
+    /// The names of the main outputs, in order of declaration.
+    pub fn names(&self) -> &[Name]
+        ensures { result.now ≡ output_names self.now.plan }
+    {
+        self.names.as_slice()
+    }
+}
