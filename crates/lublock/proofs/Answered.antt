@@ -18,11 +18,11 @@ use Rattle.luflow.specs.Tables.{OutputColumn, AreOutputs}
 use Rattle.luflow.specs.Variables.{is_output, outputs_of}
 use Rattle.luflow.proofs.Solutions.{IsSolution-solution, some_at}
 use Rattle.luflow.proofs.TidyStreams.{tidy}
-use Rattle.lueval.specs.Outputs.{outputs_in}
-use Rattle.lueval.specs.Steps.{lists_of}
+use Rattle.lueval_lines.specs.Outputs.{outputs_in}
+use Rattle.lueval_lines.specs.Columns.{lists_of}
 use Rattle.lueval.specs.Whole.{AreWholeOutputs, HasNoFault}
 use Rattle.lueval.proofs.Listing.{outputs_of_columns, sound_columns}
-use Rattle.lueval.proofs.Steps.{fault_broken}
+use Rattle.lueval_lines.proofs.Faults.{fault_broken}
 use Rattle.lublock.specs.Shown.{Column, IsNear, IsRun, first_for, first_of}
 use Rattle.lublock.proofs.Showing.{exact_near}
 

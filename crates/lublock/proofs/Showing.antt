@@ -19,8 +19,8 @@ use Rattle.luflow.specs.Solution.{IsSolution}
 use Rattle.luflow.specs.Sound.{IsFit, IsTidyMark, ClockFits}
 use Rattle.luflow.specs.Flats.{IsFlat}
 use Rattle.luflow.proofs.TidyStreams.{tidy}
-use Rattle.lueval.specs.Frames.{has_value}
-use Rattle.lueval.proofs.Spans.{slice_get_front, slice_get_last}
+use Rattle.lueval_lines.specs.Frames.{has_value}
+use Rattle.lueval_lines.proofs.Spans.{slice_get_front, slice_get_last}
 use Rattle.lublock_forms.specs.Blocks.{datum_at, Holds, once, once_true, since, IsRight}
 use Rattle.lublock_rows.specs.Rows.{word_in}
 use Rattle.lublock_forms.specs.Machine.{block_of, row_of}

@@ -15,7 +15,7 @@ use Rattle.luflow.specs.Program.{FlatProgram, Table, flow_at, flows_of}
 use Rattle.luflow.specs.Variables.{is_output}
 use Rattle.luflow.specs.Streams.{Mark, Known, Broken, Streams}
 use Rattle.luflow.specs.Solution.{IsSolution}
-use Rattle.lueval.specs.Frames.{has_value}
+use Rattle.lueval_lines.specs.Frames.{has_value}
 use Rattle.lublock.specs.declared.board.Board.{Board}
 use Rattle.lublock_forms.specs.Blocks.{Begins, IsRight, datum_at, once}
 use Rattle.lublock_rows.specs.Rows.{word_in}

@@ -5,7 +5,7 @@ ghost use Rattle.luflow.specs.declared.data.Status.{Status};
 ghost use Rattle.luflow.specs.Streams.{is_value};
 ghost use Rattle.luflow.specs.Sound.{IsFit};
 ghost use Rattle.lublock_forms.specs.Machine.{row_of};
-ghost use Rattle.lueval.specs.Frames.{has_value};
+ghost use Rattle.lueval_lines.specs.Frames.{has_value};
 ghost use Rattle.lublock_forms.specs.Blocks.{datum_at};
 ghost use Rattle.luflow.specs.Variables.{is_output};
 ghost use Rattle.lublock.specs.Shown.{AllNear, IsAdded, IsRightBlock, IsShown, first_of, present_at, slow_at};

@@ -4,10 +4,10 @@ use Rattle.std.specs.Prelude.{◌⊎◌, slice_get, slice_index}
 use Rattle.std.proofs.lemmas.Bool.{cases_lt, cases_eq}
 use Rattle.std.proofs.lemmas.List.{length-set}
 use Rattle.std.proofs.lemmas.Option.{same_Some, slice_get_within}
-use Rattle.lueval.specs.declared.cell.Cell.{Cell}
-use Rattle.lueval.specs.Cells.{newest}
-use Rattle.lueval.proofs.Seeing.{newest_twice}
-use Rattle.lueval.proofs.Steps.{slice_get-set_other, slice_get-set_same}
+use Rattle.lueval_lines.specs.declared.cell.Cell.{Cell}
+use Rattle.lueval_lines.specs.Cells.{newest}
+use Rattle.lueval_lines.proofs.Seeing.{newest_twice}
+use Rattle.lueval_lines.proofs.Spans.{slice_get-set_other, slice_get-set_same}
 
 -- those of rank below k are new, and the others may be
 pub record AreAged (looked : List ℕ) (shown before now : List Cell) (k : ℕ) : Type 0 where

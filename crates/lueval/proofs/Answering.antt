@@ -22,18 +22,19 @@ use Rattle.luflow.specs.Sound.{IsFit}
 use Rattle.luflow.proofs.Solutions.{IsSolution-solution, solutions_same}
 use Rattle.luflow.proofs.FaultsFound.{is_fault}
 use Rattle.luflow.proofs.Tidied.{keeps_types}
-use Rattle.lueval.specs.declared.cell.Cell.{Cell}
-use Rattle.lueval.specs.declared.cell.Cell.TheVariants as cell
-use Rattle.lueval.specs.declared.cell.Answer.{Answer}
-use Rattle.lueval.specs.declared.cell.Answer.TheVariants as answer
-use Rattle.lueval.specs.declared.line.Line.{Line}
+use Rattle.lueval_lines.specs.declared.cell.Cell.{Cell}
+use Rattle.lueval_lines.specs.declared.cell.Cell.TheVariants as cell
+use Rattle.lueval_lines.specs.declared.cell.Answer.{Answer}
+use Rattle.lueval_lines.specs.declared.cell.Answer.TheVariants as answer
+use Rattle.lueval_lines.specs.declared.line.Line.{Line}
 use Rattle.lueval.specs.declared.machine.Machine.{Machine}
-use Rattle.lueval.specs.Frames.{clock_in}
-use Rattle.lueval.specs.Cells.{status_of, statuses, outcome_of, given_at, view_of, clock_of, IsLine}
+use Rattle.lueval_lines.specs.Frames.{clock_in}
+use Rattle.lueval_lines.specs.Cells.{status_of, statuses, outcome_of, given_at, view_of, clock_of, IsLine}
 use Rattle.lueval.specs.Whole.{AreStreams, AreMeant, HasNoFault, IsFirstFault, KeepsAllTypes}
 use Rattle.lueval.specs.Steps.{Stands, StandsAt, Computes}
-use Rattle.lueval.proofs.Seeing.{statuses_set}
-use Rattle.lueval.proofs.Steps.{fault_broken, fault_same, none_before, clock_here, value_here, not_stuck, step_absent, step_gives}
+use Rattle.lueval_lines.proofs.Seeing.{statuses_set}
+use Rattle.lueval_lines.proofs.Faults.{fault_broken, fault_same}
+use Rattle.lueval.proofs.Steps.{none_before, clock_here, value_here, not_stuck, step_absent, step_gives}
 
 pub one_solution : (flat : FlatProgram) (inputs : Table) → IsFlat flat → HasOneSolution flat inputs
 one_solution flat inputs is_flat = record {

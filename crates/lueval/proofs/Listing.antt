@@ -19,14 +19,15 @@ use Rattle.luflow.specs.Variables.{is_output, outputs_of}
 use Rattle.luflow.specs.Solution.{solution}
 use Rattle.luflow.specs.Flats.{IsFlat}
 use Rattle.luflow.proofs.Solutions.{IsSolution-solution, solutions_same}
-use Rattle.lueval.specs.declared.columns.Wanted.TheVariants.{Outputs}
-use Rattle.lueval.specs.declared.columns.Notes.{Notes}
-use Rattle.lueval.specs.Outputs.{outputs_in}
+use Rattle.lueval_lines.specs.declared.columns.Wanted.TheVariants.{All as AllOf, Outputs}
+use Rattle.lueval_lines.specs.declared.columns.Notes.{Notes}
+use Rattle.lueval_lines.specs.Outputs.{outputs_in}
 use Rattle.lueval.specs.Whole.{AreStreams, AreWholeOutputs}
-use Rattle.lueval.specs.Steps.{Column, lists_of, is_wanted, AreWhole}
+use Rattle.lueval_lines.specs.Columns.{Column, items_of, lists_of, is_wanted, AreAllKept, AreColumns}
+use Rattle.lueval.specs.Steps.{AreWhole}
 use Rattle.lueval.proofs.Answering.{meant}
-use Rattle.lueval.proofs.Noting.{from_map, column_at, map_same}
-use Rattle.lueval.proofs.Told.{are_outputs}
+use Rattle.lueval_lines.proofs.Noting.{from_map, column_at, every_column, map_same}
+use Rattle.lueval_lines.proofs.Told.{are_outputs}
 
 abbrev status_in : Mark → Status
 status_in (Known s) = s
@@ -59,6 +60,18 @@ place_there : {X : Type 0} (f : ℕ → X) (a c v : ℕ) → v < c → slice_get
 place_there f a zero v l = absurd (omega (arith, l))
 place_there f a (suc c) zero l = let z : a ≡ a + 0 = omega arith in ap (λ k. Some (f k)) z
 place_there f a (suc c) (suc v) l = let z : (a + 1) + v ≡ a + suc v = omega arith in place_there f (a + 1) c v (omega (arith, l)) ∙ ap (λ k. Some (f k)) z
+
+-- all columns are the streams of each solution
+pub whole_streams : (flat : FlatProgram) (inputs : Table) (kept : List ℕ) (columns : List Column) → IsFlat flat → AreAllKept AllOf flat.variables kept → length columns ≡ length flat.variables → AreColumns inputs (solution flat inputs) kept columns inputs.instants → AreStreams flat inputs (lists_of columns)
+whole_streams flat inputs kept columns is_flat all len are =
+    record {
+      count = length-map columns items_of ∙ len;
+      each = λ σ sol v statuses there.
+          let w = from_map columns (slice_get columns v) v statuses refl there in
+          let lv : v < flows_of flat = let l = slice_get_within columns v w.0 w.1 in let m = is_flat.variables_first in omega (arith, len) in
+          ap (map Known) (sym w.2) ∙ (every_column inputs (solution flat inputs) flat.variables kept columns inputs.instants v w.0 all len are w.1).known
+          ∙ map_same (solution flat inputs v) (σ v) 0 inputs.instants (λ t. solutions_same flat inputs (solution flat inputs) σ is_flat.ordered (IsSolution-solution flat inputs is_flat.ordered) sol v t lv);
+    }
 
 -- in a solution that nothing breaks
 module _ (flat : FlatProgram) (inputs : Table) (is_flat : IsFlat flat) (sound : (r u : ℕ) → r < flows_of flat → u < inputs.instants → solution flat inputs r u ≢ Broken) where

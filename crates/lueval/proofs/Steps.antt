@@ -1,5 +1,5 @@
 -- One step of the evaluator, and what it keeps.
-use Rattle.std.proofs.Common.{◌≡◌, ◌≢◌, ℕ, zero, suc, ◌+◌, ◌<◌, inl, inr, Bool, true, false, List, [], ◌∷◌, length, take, set, get_or, Option, Some, subst, refl, sym, ap, ap₂, ◌∙◌, arith, add-one}
+use Rattle.std.proofs.Common.{◌≡◌, ◌≢◌, ℕ, ◌+◌, ◌<◌, inl, inr, Bool, true, false, List, [], length, take, set, get_or, Option, Some, subst, refl, sym, ap, ap₂, ◌∙◌, arith, add-one}
 use Rattle.std.specs.Prelude.{slice_get, slice_index, All, Contains, unwrap_or, nat_lt}
 use Rattle.std.proofs.lemmas.List.Elements.{All-weaker, All-get_or}
 use Rattle.std.proofs.lemmas.List.{length-set}
@@ -10,42 +10,30 @@ use Rattle.luflow.specs.declared.data.Status.{Status}
 use Rattle.luflow.specs.declared.data.Status.TheVariants.{Absent, Present}
 use Rattle.luflow.specs.declared.form.Clock.{Clock}
 use Rattle.luflow.specs.declared.form.Clock.TheVariants.{Base, On}
-use Rattle.luflow.specs.declared.form.Form.{Form}
 use Rattle.luflow.specs.declared.form.Flow.{Flow}
 use Rattle.luflow.specs.declared.form.FaultKind.{FaultKind}
-use Rattle.luflow.specs.declared.form.Outcome.TheVariants.{Gives, Faults, Stuck}
+use Rattle.luflow.specs.declared.form.Outcome.TheVariants.{Gives, Stuck}
 use Rattle.luflow.specs.Program.{FlatProgram, Table, flow_at, flows_of, places, clock_reads, form_reads, reads}
-use Rattle.luflow.specs.Operators.{single_of, double_of}
-use Rattle.luflow.specs.Streams.{Mark, Known, Broken, Streams, datum_of, is_value, truth_in, clock_at, ticked, before}
-use Rattle.luflow.specs.Values.{on_one, on_two, value_of, value_at, under}
-use Rattle.luflow.specs.Solution.{says, clock_of_flow, IsSolution}
-use Rattle.luflow.specs.Faults.{IsFaultOn, OnUnary, OnBinary, IsFault}
+use Rattle.luflow.specs.Streams.{Mark, Known, Broken, Streams, is_value, truth_in, clock_at, ticked, before}
+use Rattle.luflow.specs.Values.{value_of, value_at, under}
+use Rattle.luflow.specs.Solution.{clock_of_flow, IsSolution}
+use Rattle.luflow.specs.Faults.{IsFault}
 use Rattle.luflow.specs.Sound.{IsFit}
 use Rattle.luflow.specs.Flats.{IsFlat}
-use Rattle.luflow.proofs.Solutions.{first_of_all, second_of_all, all_left, all_right, place_of, place_in, flow_there, clock-same, solutions_same}
-use Rattle.luflow.proofs.Faults.{fault_value, fault_value_one}
+use Rattle.luflow.proofs.Solutions.{first_of_all, all_left, all_right, place_of, place_in, flow_there}
 use Rattle.luflow.proofs.Tidied.{stuck_broken}
-use Rattle.lueval.specs.declared.cell.Cell.{Cell}
-use Rattle.lueval.specs.declared.cell.Cell.TheVariants as cell
-use Rattle.lueval.specs.Frames.{clock_in, IsShown}
-use Rattle.lueval.specs.Cells.{status_of, statuses, given_at, view_of, looks_back, newest, AreLooked}
+use Rattle.lueval_lines.specs.declared.cell.Cell.{Cell}
+use Rattle.lueval_lines.specs.declared.cell.Cell.TheVariants as cell
+use Rattle.lueval_lines.specs.Frames.{clock_in, IsShown}
+use Rattle.lueval_lines.specs.Cells.{status_of, statuses, given_at, view_of, looks_back, newest, AreLooked, IsLast}
 use Rattle.lueval.specs.Whole.{IsEarlier}
-use Rattle.lueval.specs.Steps.{AreShown, Stands, IsLast}
-use Rattle.lueval.proofs.Reading.{clock_read}
-use Rattle.lueval.proofs.Lines.{looked_inside}
-use Rattle.lueval.proofs.Seeing.{value_seen, cell_shown, last_newest, tick_newest}
-
-pub slice_get-set_other : {X : Type 0} (xs : List X) (i r : ℕ) (x : X) → r ≢ i → slice_get (set xs i x) r ≡ slice_get xs r
-slice_get-set_other [] i r x ne = refl
-slice_get-set_other (y ∷ xs) zero zero x ne = absurd (ne refl)
-slice_get-set_other (y ∷ xs) zero (suc r) x ne = refl
-slice_get-set_other (y ∷ xs) (suc i) zero x ne = refl
-slice_get-set_other (y ∷ xs) (suc i) (suc r) x ne = slice_get-set_other xs i r x (λ e. ne (ap suc e))
-
-pub slice_get-set_same : {X : Type 0} (xs : List X) (i : ℕ) (x : X) → i < length xs → slice_get (set xs i x) i ≡ Some x
-slice_get-set_same [] i x l = absurd (omega arith)
-slice_get-set_same (y ∷ xs) zero x l = refl
-slice_get-set_same (y ∷ xs) (suc i) x l = slice_get-set_same xs i x (omega arith)
+use Rattle.lueval_lines.specs.Columns.{AreShown}
+use Rattle.lueval.specs.Steps.{Stands}
+use Rattle.lueval_lines.proofs.Reading.{clock_read}
+use Rattle.lueval_lines.proofs.Faults.{equation, fault_broken, fault_within}
+use Rattle.lueval_lines.proofs.Lines.{looked_inside}
+use Rattle.lueval_lines.proofs.Spans.{slice_get-set_other, slice_get-set_same}
+use Rattle.lueval_lines.proofs.Seeing.{value_seen, cell_shown, last_newest, tick_newest}
 
 known_sound : (s : Status) (m : Mark) → m ≡ Known s → m ≢ Broken
 known_sound s m e h = cc
@@ -63,42 +51,7 @@ clock_there inputs σ shown (On c d) t h =
 known_clock : (k o : Option Bool) (b : Bool) → k ≡ o → k ≡ Some b → k ≡ Some (unwrap_or o false)
 known_clock k o b e h = h ∙ ap (λ (o : Option Bool). Some (unwrap_or o false)) (sym h ∙ e)
 
--- an operator that is a fault has that fault for its value
-fault_on : (inputs : Table) (σ : Streams) (k : Clock) (t : ℕ) (form : Form) (kind : FaultKind) → IsFaultOn σ t form kind → value_at inputs σ k form t ≡ Faults kind
-fault_on inputs σ k t _ _ (OnBinary op a b x y kind ea eb f) = ap₂ (λ m n. on_two (double_of op) (datum_of m) (datum_of n)) ea eb ∙ fault_value op x y kind f
-fault_on inputs σ k t _ _ (OnUnary op a x kind ea f) = ap (λ m. on_one (single_of op) (datum_of m)) ea ∙ fault_value_one op x kind f
-
--- where operands are the same, so are faults
-fault_moves : (σ σ' : Streams) (t : ℕ) (form : Form) (kind : FaultKind) → All (λ r. σ r t ≡ σ' r t) (places form) → IsFaultOn σ t form kind → IsFaultOn σ' t form kind
-fault_moves σ σ' t _ _ same (OnBinary op a b x y kind ea eb f) =
-    OnBinary op a b x y kind (sym (first_of_all (λ r. σ r t ≡ σ' r t) a (b ∷ []) same) ∙ ea) (sym (second_of_all (λ r. σ r t ≡ σ' r t) a b [] same) ∙ eb) f
-fault_moves σ σ' t _ _ same (OnUnary op a x kind ea f) = OnUnary op a x kind (sym (first_of_all (λ r. σ r t ≡ σ' r t) a [] same) ∙ ea) f
-
 module _ (flat : FlatProgram) (inputs : Table) (σ : Streams) (is_flat : IsFlat flat) (fit : IsFit flat inputs) (sol : IsSolution flat inputs σ) where
-  equation : (i t : ℕ) (flow : Flow) → flow_at flat i ≡ Some flow → σ i t ≡ under (clock_at inputs σ flow.clock t) (value_at inputs σ flow.clock flow.form t)
-  equation i t flow is = sol i t (slice_get_within flat.flows i flow is) ∙ ap (λ o. says inputs σ o t) is
-
-  -- a fault breaks its flow
-  pub fault_broken : (i t : ℕ) (kind : FaultKind) → IsFault flat inputs σ i t kind → σ i t ≡ Broken
-  fault_broken i t kind f = equation i t f.flow f.there ∙ ap₂ under f.clock (fault_on inputs σ f.flow.clock t f.flow.form kind f.fault)
-
-  fault_within : (i t : ℕ) (kind : FaultKind) → IsFault flat inputs σ i t kind → i < flows_of flat
-  fault_within i t kind f = slice_get_within flat.flows i f.flow f.there
-
-  same_at : (σ' : Streams) → IsSolution flat inputs σ' → (t r : ℕ) → r < flows_of flat → σ r t ≡ σ' r t
-  same_at σ' sol' t r l = solutions_same flat inputs σ σ' is_flat.ordered sol sol' r t l
-
-  -- a fault in one solution is a fault in each
-  pub fault_same : (σ' : Streams) → IsSolution flat inputs σ' → (i t : ℕ) (kind : FaultKind) → IsFault flat inputs σ i t kind → IsFault flat inputs σ' i t kind
-  fault_same σ' sol' i t kind f =
-      let all = λ (xs : List ℕ) (h : All (λ r. r < flows_of flat) xs). All-weaker (λ r. r < flows_of flat) (λ r. σ r t ≡ σ' r t) (same_at σ' sol' t) xs h in
-      record {
-        flow = f.flow;
-        there = f.there;
-        clock = sym (clock-same inputs σ σ' f.flow.clock t (all (clock_reads f.flow.clock) (is_flat.ordered.clocks_in i f.flow f.there))) ∙ f.clock;
-        fault = fault_moves σ σ' t f.flow.form kind (all (places f.flow.form) (is_flat.ordered.places_in i f.flow f.there)) f.fault;
-      }
-
   module _ (shown : List Status) (lasts : List Cell) (t p : ℕ) (stands : Stands flat inputs σ shown lasts t p) where
     read_now : (r : ℕ) → Contains (take p flat.order) r → IsShown σ shown t r
     read_now r c = let w = place_of flat.order p r c in subst (λ (i : ℕ). IsShown σ shown t i) w.3 (stands.now w.0 w.1 w.2)
@@ -155,19 +108,19 @@ module _ (flat : FlatProgram) (inputs : Table) (σ : Streams) (is_flat : IsFlat 
     pub step_absent : (i : ℕ) (flow : Flow) → p < length flat.order → i ≡ slice_index flat.order p → flow_at flat i ≡ Some flow → t < inputs.instants → unwrap_or (clock_in shown flow.clock) false ≡ false → Stands flat inputs σ (set shown i Absent) lasts t (p + 1)
     step_absent i flow lp e is lt off =
         let k = clock_here i flow lp e is lt ∙ ap (λ b. Some b) off in
-        advance i flow Absent lp e is (equation i t flow is ∙ ap (λ q. under q (value_at inputs σ flow.clock flow.form t)) k)
+        advance i flow Absent lp e is (equation flat inputs σ is_flat fit sol i t flow is ∙ ap (λ q. under q (value_at inputs σ flow.clock flow.form t)) k)
 
     pub step_gives : (i : ℕ) (flow : Flow) (d : Datum) → p < length flat.order → i ≡ slice_index flat.order p → flow_at flat i ≡ Some flow → clock_at inputs σ flow.clock t ≡ Some true → value_at inputs σ flow.clock flow.form t ≡ Gives d → Stands flat inputs σ (set shown i (Present d)) lasts t (p + 1)
-    step_gives i flow d lp e is on v = advance i flow (Present d) lp e is (equation i t flow is ∙ ap₂ under on v)
+    step_gives i flow d lp e is on v = advance i flow (Present d) lp e is (equation flat inputs σ is_flat fit sol i t flow is ∙ ap₂ under on v)
 
     -- there is no fault before where the evaluator stands
     pub none_before : (u q i : ℕ) (kind : FaultKind) → slice_get flat.order q ≡ Some i → IsEarlier u q t p → IsFault flat inputs σ i u kind → ⊥
-    none_before u q i kind there (inl l) f = stands.sound i u (fault_within i u kind f) l (fault_broken i u kind f)
+    none_before u q i kind there (inl l) f = stands.sound i u (fault_within flat inputs σ is_flat fit sol i u kind f) l (fault_broken flat inputs σ is_flat fit sol i u kind f)
     none_before u q i kind there (inr h) f =
         let lq = slice_get_within flat.order q i there in
         let e : slice_index flat.order q ≡ i = get_or_from_slice_get flat.order q i 0 there in
         let w = stands.now q h.1 lq in
-        let b : σ i t ≡ Broken = subst (λ (v : ℕ). σ i v ≡ Broken) h.0 (fault_broken i u kind f) in
+        let b : σ i t ≡ Broken = subst (λ (v : ℕ). σ i v ≡ Broken) h.0 (fault_broken flat inputs σ is_flat fit sol i u kind f) in
         known_sound w.status (σ (slice_index flat.order q) t) w.is (ap (λ (j : ℕ). σ j t) e ∙ b)
 
   module _ (shown : List Cell) (lasts : List Cell) (t : ℕ) (stands : Stands flat inputs σ (statuses shown) lasts t (length flat.order)) where
@@ -191,7 +144,7 @@ module _ (flat : FlatProgram) (inputs : Table) (σ : Streams) (is_flat : IsFlat 
             cell = newest c.0 old.cell;
             there = subst (λ (k : ℕ). slice_get lasts' k ≡ Some (newest c.0 old.cell)) w.2 (each w.0 c.0 old.cell w.1 (ap (slice_get shown) w.2 ∙ c.1) (ap (slice_get lasts) w.2 ∙ old.there));
             last = last_newest (σ r t) c.0 old.cell (before (σ r) t) known old.last;
-            ticks = tick_newest (clock_of_flow inputs σ (flow_at flat r) t) (ticked (clock_of_flow inputs σ (flow_at flat r)) t) (value_at inputs σ fl.0.clock fl.0.form t) (σ r t) c.0 old.cell known (equation r t fl.0 fl.1 ∙ ap (λ k. under k (value_at inputs σ fl.0.clock fl.0.form t)) (sym clock)) old.ticks;
+            ticks = tick_newest (clock_of_flow inputs σ (flow_at flat r) t) (ticked (clock_of_flow inputs σ (flow_at flat r)) t) (value_at inputs σ fl.0.clock fl.0.form t) (σ r t) c.0 old.cell known (equation flat inputs σ is_flat fit sol r t fl.0 fl.1 ∙ ap (λ k. under k (value_at inputs σ fl.0.clock fl.0.form t)) (sym clock)) old.ticks;
           })
         where
           flow_there_at : (i : ℕ) → i < flows_of flat → (flow : Flow) × (flow_at flat i ≡ Some flow)

@@ -1,114 +1,26 @@
 -- Where the whole evaluator stands.
-use Rattle.std.specs.Prelude.{◌≡◌, ◌≢◌, ℕ, ◌<◌, ◌≤◌, Bool, true, false, List, [], ◌∷◌, ◌++◌, map, length, All as Each, Contains, Some, slice_get, slice_index, slice_set, vec_capacity, Vec}
-use Rattle.std.specs.declared.alloc.Global.{Global}
+use Rattle.std.specs.Prelude.{◌≡◌, ◌≢◌, ℕ, ◌<◌, List, length, All as Each, Some, slice_index}
 use Rattle.luflow.specs.declared.data.Status.{Status}
 use Rattle.luflow.specs.declared.form.Flow.{Flow}
-use Rattle.luflow.specs.declared.variable.Variable.{Variable}
-use Rattle.luflow.specs.declared.variable.Role.{Role}
-use Rattle.luflow.specs.declared.variable.Role.TheVariants.{Input, Output, Local}
 use Rattle.luflow.specs.Program.{FlatProgram, Table, flow_at, flows_of}
-use Rattle.luflow.specs.Streams.{Known, Broken, Streams, ticked, before}
-use Rattle.luflow.specs.Messages.{marks}
+use Rattle.luflow.specs.Streams.{Broken, Streams}
 use Rattle.luflow.specs.Values.{value_of}
-use Rattle.luflow.specs.Solution.{solution, clock_of_flow}
-use Rattle.lueval.specs.declared.cell.Cell.{Cell}
-use Rattle.lueval.specs.declared.cell.Cell.TheVariants.{Absent}
-use Rattle.lueval.specs.declared.cell.Answer.{Answer}
-use Rattle.lueval.specs.declared.line.Line.{Line}
-use Rattle.lueval.specs.declared.columns.Wanted.{Wanted}
-use Rattle.lueval.specs.declared.columns.Wanted.TheVariants.{All, Outputs}
-use Rattle.lueval.specs.declared.columns.Notes.{Notes}
+use Rattle.luflow.specs.Solution.{solution}
+use Rattle.lueval_lines.specs.declared.cell.Cell.{Cell}
+use Rattle.lueval_lines.specs.declared.cell.Cell.TheVariants.{Absent}
+use Rattle.lueval_lines.specs.declared.cell.Answer.{Answer}
+use Rattle.lueval_lines.specs.declared.line.Line.{Line}
+use Rattle.lueval_lines.specs.declared.columns.Wanted.{Wanted}
+use Rattle.lueval_lines.specs.declared.columns.Notes.{Notes}
 use Rattle.lueval.specs.declared.machine.Machine.{Machine}
-use Rattle.lueval.specs.Frames.{IsShown}
-use Rattle.lueval.specs.Operations.{form_of}
-use Rattle.lueval.specs.Cells.{statuses, outcome_of, last_of, ticks_of, given_at, view_of, looks_back}
-
--- the column of one main variable
-abbrev pub Column : Type 0
-Column = Vec Status Global
-
-abbrev pub items_of : Column → List Status
-items_of column = column.items
-
-abbrev pub lists_of : List Column → List (List Status)
-lists_of columns = map items_of columns
-
--- whether the stream of a variable of this role is kept
-abbrev pub is_wanted : Wanted → Role → Bool
-is_wanted All Input = true
-is_wanted All Output = true
-is_wanted All Local = true
-is_wanted Outputs Input = false
-is_wanted Outputs Output = true
-is_wanted Outputs Local = false
-
--- numbers of variables below this, in order
-pub record AreKept (count : ℕ) (kept : List ℕ) : Type 0 where
-  pub inside : Each (λ v. v < count) kept
-  pub ascending : (j k : ℕ) → j < k → k < length kept → slice_index kept j < slice_index kept k
-
--- the stream of the variable of this number is wanted
-pub record IsWantedAt (wanted : Wanted) (variables : List Variable) (v : ℕ) : Type 0 where
-  pub variable : Variable
-  pub there : slice_get variables v ≡ Some variable
-  pub role : is_wanted wanted variable.role ≡ true
-
--- no number of another variable is among them
-abbrev pub AreOnlyWanted : Wanted → List Variable → List ℕ → Type 0
-AreOnlyWanted wanted variables kept = Each (λ v. IsWantedAt wanted variables v) kept
-
--- the number of each variable whose stream is wanted is among them
-abbrev pub AreAllKept : Wanted → List Variable → List ℕ → Type 0
-AreAllKept wanted variables kept = (v : ℕ) (x : Variable) → slice_get variables v ≡ Some x → is_wanted wanted x.role ≡ true → Contains kept v
-
--- a column of no status, with room for all
-pub record IsEmpty (instants : ℕ) (column : Column) : Type 0 where
-  pub empty : column.items ≡ []
-  pub room : instants ≤ vec_capacity column
-
-pub record AreEmpty (count : ℕ) (kept : List ℕ) (instants : ℕ) (columns : List Column) : Type 0 where
-  pub len : length columns ≡ count
-  pub each : (k : ℕ) (column : Column) → k < length kept → slice_get columns (slice_index kept k) ≡ Some column → IsEmpty instants column
-
-pub record AreNew (variables : List Variable) (instants : ℕ) (notes : Notes) : Type 0 where
-  pub kept : AreKept (length variables) notes.kept.items
-  pub columns : AreEmpty (length variables) notes.kept.items instants notes.columns.items
-
--- the first t statuses of main variable v, with room for all
-pub record IsColumn (inputs : Table) (σ : Streams) (t v : ℕ) (column : Column) : Type 0 where
-  pub known : map Known column.items ≡ marks (σ v) t
-  pub room : inputs.instants ≤ vec_capacity column
-
--- the columns of those that are kept
-abbrev pub AreColumns : Table → Streams → List ℕ → List Column → ℕ → Type 0
-AreColumns inputs σ kept columns t = (k : ℕ) (column : Column) → k < length kept → slice_get columns (slice_index kept k) ≡ Some column → IsColumn inputs σ t (slice_index kept k) column
-
--- column v, that was x, has one status more
-pub record IsLonger (columns : List Column) (v : ℕ) (x : Column) (status : Status) (columns' : List Column) : Type 0 where
-  pub row : Column
-  pub is : columns' ≡ slice_set columns v row
-  pub items : row.items ≡ x.items ++ status ∷ []
-  pub capacity : vec_capacity row ≡ vec_capacity x
-
--- flow i has rank p
-pub record IsRanked (flat : FlatProgram) (p i : ℕ) (flow : Flow) : Type 0 where
-  pub place : i ≡ slice_index flat.order p
-  pub there : flow_at flat i ≡ Some flow
+use Rattle.lueval_lines.specs.Frames.{IsShown}
+use Rattle.lueval_lines.specs.Operations.{form_of}
+use Rattle.lueval_lines.specs.Cells.{statuses, outcome_of, given_at, view_of, looks_back, IsLast}
+use Rattle.lueval_lines.specs.Columns.{AreAllKept, AreColumns}
 
 -- the value of a line whose branches are among these, from the table and what the machine holds
 abbrev pub Computes : Table → Machine → ℕ → List ℕ → Line → Answer → Type 0
 Computes inputs machine t branches line answer = outcome_of answer ≡ value_of (form_of branches line.operation) (view_of (given_at inputs t) (statuses machine.shown.items) machine.lasts.items line.place)
-
--- every flow is shown as it is at t
-abbrev pub AreShown : Streams → List Status → ℕ → Type 0
-AreShown σ shown t = (i : ℕ) → i < length shown → IsShown σ shown t i
-
--- what is kept of flow r is its past at t
-pub record IsLast (flat : FlatProgram) (inputs : Table) (σ : Streams) (lasts : List Cell) (t r : ℕ) : Type 0 where
-  pub cell : Cell
-  pub there : slice_get lasts r ≡ Some cell
-  pub last : before (σ r) t ≡ Some (last_of cell)
-  pub ticks : ticked (clock_of_flow inputs σ (flow_at flat r)) t ≡ Some (ticks_of cell)
 
 -- all before instant t is computed, and at t the flows of rank below p
 pub record Stands (flat : FlatProgram) (inputs : Table) (σ : Streams) (shown : List Status) (lasts : List Cell) (t p : ℕ) : Type 0 where

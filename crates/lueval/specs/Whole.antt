@@ -14,9 +14,9 @@ use Rattle.luflow.specs.Faults.{IsFault}
 use Rattle.luflow.specs.FlatLaws.{KeepsTypes}
 use Rattle.lusource.specs.Source.{SourceStreams, IsSourceSolution}
 use Rattle.lusource.specs.Agreement.{Agrees}
-use Rattle.lueval.specs.Outputs.{outputs_in, columns_in}
-use Rattle.lueval.specs.declared.error.EvalError.{EvalError}
-use Rattle.lueval.specs.declared.error.EvalError.TheVariants.{Fault, OutOfMemory}
+use Rattle.lueval_lines.specs.Outputs.{outputs_in, columns_in}
+use Rattle.lueval_lines.specs.declared.error.EvalError.{EvalError}
+use Rattle.lueval_lines.specs.declared.error.EvalError.TheVariants.{Fault, OutOfMemory}
 
 -- for each main variable a list: the statuses that it has in the solution, one for each instant of the table
 pub record AreStreams (flat : FlatProgram) (inputs : Table) (streams : List (List Status)) : Type 0 where

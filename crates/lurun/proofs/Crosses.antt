@@ -6,7 +6,7 @@ use Rattle.lulist.proofs.row.Row.TheSendSync as row
 use Rattle.lulist.proofs.name.Name.TheSendSync as name
 use Rattle.luflow.proofs.data.Datum.TheSendSync as datum
 use Rattle.luflow.proofs.data.Status.TheSendSync as status
-use Rattle.lueval.proofs.cell.Cell.TheSendSync as cell
+use Rattle.lueval_lines.proofs.cell.Cell.TheSendSync as cell
 use Rattle.lusite_program.proofs.program.Post.TheSendSync as post
 use Rattle.lusite.proofs.next.Fault.TheSendSync as fault
 use Rattle.lulink.proofs.sender.Tx.TheSendSync as tx

@@ -25,10 +25,10 @@ use Rattle.luflow.specs.Variables.{inputs_of, outputs_of, is_output}
 use Rattle.lusyn.specs.Texts.{SpellsText}
 use Rattle.lucore.specs.Result.{IsFlatOf}
 use Rattle.lueval.specs.Whole.{AreStreams, AreWholeColumns, AreWholeOutputs, HasNoFault, IsFirstFault}
-use Rattle.lueval.specs.declared.error.EvalError.{EvalError}
-use Rattle.lueval.specs.Outputs.{outputs_in, columns_in}
-use Rattle.lueval.proofs.Told.{Pairs, names, stream_at}
-use Rattle.lueval.proofs.Named.{names as all_names, stream_at as all_at}
+use Rattle.lueval_lines.specs.declared.error.EvalError.{EvalError}
+use Rattle.lueval_lines.specs.Outputs.{outputs_in, columns_in}
+use Rattle.lueval_lines.proofs.Told.{Pairs, names, stream_at}
+use Rattle.lueval_lines.proofs.Named.{names as all_names, stream_at as all_at}
 use Rattle.lutab.specs.Table.{IsTextOf, is_too_long}
 use Rattle.lusdist_shell.specs.declared.request.EvalRequest.{EvalRequest}
 use Rattle.lusdist_stop.specs.declared.stop.Stop.{Stop}

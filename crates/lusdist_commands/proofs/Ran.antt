@@ -17,7 +17,7 @@ use Rattle.luflow.specs.Tables.{OutputColumn}
 use Rattle.luflow.proofs.Solutions.{IsSolution-solution}
 use Rattle.luworld.specs.Runs.{Run, NoFault, streams_of}
 use Rattle.lueval.specs.Whole.{HasNoFault}
-use Rattle.lueval.proofs.Steps.{fault_broken, fault_same}
+use Rattle.lueval_lines.proofs.Faults.{fault_broken, fault_same}
 use Rattle.std.proofs.lemmas.Option.{slice_get_within}
 use Rattle.lusource.specs.Faults.{IsSourceFault}
 use Rattle.lusite.specs.declared.next.Fault.{Fault as SiteFault}

@@ -12,7 +12,7 @@ ghost use Rattle.lusdist_plain.specs.Grids.{held};
 
 use crate::grid::Grid;
 use crate::mark::Mark;
-use lueval::{choice, double, single};
+use lueval_lines::{choice, double, single};
 use luflow::{Clock, Datum, Flow, Form, Inputs, Outcome, Status};
 use lutree::{BinaryOperator, UnaryOperator};
 

@@ -5,9 +5,9 @@ use Rattle.std.proofs.lemmas.Bool.{cases_lt, cases_eq, false≢true}
 use Rattle.std.proofs.lemmas.List.{length-set}
 use Rattle.std.proofs.lemmas.Option.{same_Some, slice_get_within, slice_get-get_or}
 use Rattle.luflow.proofs.Solutions.{some_at}
-use Rattle.lueval.specs.declared.cell.Cell.{Cell}
-use Rattle.lueval.specs.declared.cell.Cell.TheVariants.{Absent, Nil, Truth, Number, Name}
-use Rattle.lueval.specs.Cells.{is_absent, newest}
+use Rattle.lueval_lines.specs.declared.cell.Cell.{Cell}
+use Rattle.lueval_lines.specs.declared.cell.Cell.TheVariants.{Absent, Nil, Truth, Number, Name}
+use Rattle.lueval_lines.specs.Cells.{is_absent, newest}
 use Rattle.lusite.specs.Machine.{more_of}
 use Rattle.lusite_program.proofs.Written.{slice_get-set_same, slice_get-set_other}
 use Rattle.lusite_program.proofs.Spread.{all_get}

@@ -6,9 +6,9 @@ use Rattle.luflow.specs.declared.data.Status.{Status}
 use Rattle.luflow.specs.declared.data.Status.TheVariants.{Absent}
 use Rattle.luworld.specs.Needs.{Distribution}
 use Rattle.luworld.specs.Runs.{streams_of, knows, cell, items_before}
-use Rattle.lueval.specs.declared.kernel.Past.{Past}
+use Rattle.lueval_lines.specs.declared.kernel.Past.{Past}
 use Rattle.lusite.specs.declared.desk.Desk.{Desk}
-use Rattle.lueval.specs.Frames.{later}
+use Rattle.lueval_lines.specs.Frames.{later}
 use Rattle.luflow.specs.Program.{flow_at, flows_of}
 use Rattle.lusite_program.specs.Programs.{part_of, part_at}
 use Rattle.lusite.specs.Machine.{is_faulted, Stands, StandsAt, IsSet, IsReadyAt, Ready, cell_size, cell_size_of, done_of, shown_of, pasts_of}

@@ -9,11 +9,11 @@ use Rattle.luflow.specs.declared.data.Status.TheVariants as status
 use Rattle.luflow.specs.declared.form.Outcome.TheVariants as outcome
 use Rattle.luflow.specs.Values.{View, gives}
 use Rattle.luflow.proofs.Solutions.{some_at}
-use Rattle.lueval.specs.declared.kernel.Past.{Past}
-use Rattle.lueval.specs.declared.cell.Cell.{Cell}
-use Rattle.lueval.specs.declared.cell.Cell.TheVariants.{Absent, Nil, Truth, Number, Name}
-use Rattle.lueval.specs.Cells.{status_of, statuses, held, newest, view_of, last_in as last_cell, ticked_in as ticked_cell}
-use Rattle.lueval.specs.Frames.{datum_in, latest, last_in, ticked_in, view_in, later}
+use Rattle.lueval_lines.specs.declared.kernel.Past.{Past}
+use Rattle.lueval_lines.specs.declared.cell.Cell.{Cell}
+use Rattle.lueval_lines.specs.declared.cell.Cell.TheVariants.{Absent, Nil, Truth, Number, Name}
+use Rattle.lueval_lines.specs.Cells.{status_of, statuses, held, newest, view_of, last_in as last_cell, ticked_in as ticked_cell}
+use Rattle.lueval_lines.specs.Frames.{datum_in, latest, last_in, ticked_in, view_in, later}
 use Rattle.lusite.specs.Machine.{past_of, pasts_in, more_of, count_kept}
 
 pub statuses_set : (xs : List Cell) (i : ℕ) (c : Cell) → statuses (set xs i c) ≡ set (statuses xs) i (status_of c)

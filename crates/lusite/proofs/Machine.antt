@@ -12,7 +12,7 @@ use Rattle.luflow.specs.declared.form.Clock.{Clock}
 use Rattle.luflow.specs.declared.form.Clock.TheVariants.{Base, On}
 use Rattle.luflow.specs.declared.form.Flow.{Flow}
 use Rattle.luworld.specs.Runs.{Run, streams_of, knows, link_into, listed, cell, endless, script, outline, is_open, IsFree, HasNoStop, items_before, IsJob, Fits, sends}
-use Rattle.lueval.specs.declared.kernel.Past.{Past}
+use Rattle.lueval_lines.specs.declared.kernel.Past.{Past}
 use Rattle.luflow.specs.Streams.{Mark, Known, Streams, clock_at, either, ticked, newer, before, is_value, truth_in}
 use Rattle.luflow.specs.declared.form.Outcome.{Outcome}
 use Rattle.luflow.specs.declared.form.Outcome.TheVariants.{Gives, Faults, Stuck}
@@ -25,11 +25,11 @@ use Rattle.luworld.specs.World.{Item, Compute, Puts, Takes}
 use Rattle.luworld.proofs.Cuts.{cut_at, cut_free, no_stop_more, cut_stops, stop_not, cut_take}
 use Rattle.luflow.specs.Messages.{presents, once_if}
 use Rattle.luworld.proofs.Outlines.{cell_is}
-use Rattle.lueval.specs.Frames.{later, IsShown, IsPast}
+use Rattle.lueval_lines.specs.Frames.{later, IsShown, IsPast}
 use Rattle.lusite.specs.Machine.{Stands, in_cell, clock_there, cell_size_of}
 use Rattle.lusite_program.proofs.Written.{slice_get-set_same, slice_get-set_other}
 use Rattle.luflow.proofs.Solutions.{IsSolution-solution, place_of, place_in, flow_there, all_right}
-use Rattle.lueval.proofs.Reading.{clock_read as machine_clock}
+use Rattle.lueval_lines.proofs.Reading.{clock_read as machine_clock}
 use Rattle.luworld.proofs.Cursor.{item_at, before_next_flow, before_next_instant, before_end, before_step}
 use Rattle.luworld.specs.Needs.{stands}
 

@@ -14,11 +14,11 @@ use Rattle.luflow.specs.Values.{View, value_of}
 use Rattle.luflow.proofs.Solutions.{first_of_all, some_at}
 use Rattle.luworld.specs.Needs.{Distribution, stands}
 use Rattle.luworld.specs.Runs.{is_open, knows}
-use Rattle.lueval.specs.Cells.{clock_of, statuses, view_of}
-use Rattle.lueval.specs.Frames.{clock_in, value_there, datum_there, last_in, ticked_in, latest, view_in}
-use Rattle.lueval.specs.Moving.{moved_clock, moved_form}
-use Rattle.lueval.specs.Operations.{form_of}
-use Rattle.lueval.proofs.Moved.{IsSeen, value_moved}
+use Rattle.lueval_lines.specs.Cells.{clock_of, statuses, view_of}
+use Rattle.lueval_lines.specs.Frames.{clock_in, value_there, datum_there, last_in, ticked_in, latest, view_in}
+use Rattle.lueval_lines.specs.Moving.{moved_clock, moved_form}
+use Rattle.lueval_lines.specs.Operations.{form_of}
+use Rattle.lueval_lines.proofs.Moved.{IsSeen, value_moved}
 use Rattle.lusite_program.specs.declared.program.Part.{Part}
 use Rattle.lusite_program.specs.declared.program.Post.{Post}
 use Rattle.lusite.specs.declared.desk.Desk.{Desk}

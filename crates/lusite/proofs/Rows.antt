@@ -11,11 +11,11 @@ use Rattle.luflow.specs.declared.message.Body.{Body}
 use Rattle.luflow.specs.declared.message.Body.TheVariants.{Value, Close}
 use Rattle.luflow.specs.Program.{flows_of}
 use Rattle.luflow.proofs.Solutions.{some_at}
-use Rattle.lueval.specs.declared.kernel.Past.{Past}
-use Rattle.lueval.specs.declared.cell.Cell.{Cell}
-use Rattle.lueval.specs.declared.cell.Cell.TheVariants as cells
-use Rattle.lueval.specs.Cells.{status_of, statuses}
-use Rattle.lueval.specs.Frames.{datum_in, datum_there}
+use Rattle.lueval_lines.specs.declared.kernel.Past.{Past}
+use Rattle.lueval_lines.specs.declared.cell.Cell.{Cell}
+use Rattle.lueval_lines.specs.declared.cell.Cell.TheVariants as cells
+use Rattle.lueval_lines.specs.Cells.{status_of, statuses}
+use Rattle.lueval_lines.specs.Frames.{datum_in, datum_there}
 use Rattle.lusite.specs.declared.desk.Desk.{Desk}
 use Rattle.lusite_program.specs.Spread.{put_at}
 use Rattle.lusite_program.specs.Programs.{places_of}

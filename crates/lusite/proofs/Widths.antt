@@ -12,7 +12,7 @@ use Rattle.std.proofs.lemmas.Option.{slice_get_within, slice_get_past, get_or_fr
 use Rattle.std.proofs.lemmas.Bool.{cases_lt, lt-ltb, le-ltb, eq-eqb, ne_eqb, false≢true}
 use Rattle.luflow.specs.Program.{flows_of, reads, IsOrdered}
 use Rattle.luflow.proofs.Solutions.{some_at, IsSolution-solution}
-use Rattle.lueval.proofs.Steps.{fault_broken}
+use Rattle.lueval_lines.proofs.Faults.{fault_broken}
 use Rattle.luflow.specs.Streams.{is_broken}
 use Rattle.luworld.specs.Needs.{Distribution, stands}
 use Rattle.luworld.specs.World.{Item, Compute, Puts, Takes}

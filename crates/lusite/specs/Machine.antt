@@ -18,11 +18,11 @@ use Rattle.luflow.specs.Faults.{IsFault}
 use Rattle.luworld.specs.World.{Compute, Puts, Takes, puts_before, takes_before}
 use Rattle.luworld.specs.Needs.{stands}
 use Rattle.luworld.specs.Runs.{Run, IsJob, knows, cell, endless, script, system_of, is_open, HasNoStop, IsFree, items_before, link_list, streams_of}
-use Rattle.lueval.specs.declared.kernel.Past.{Past}
-use Rattle.lueval.specs.declared.cell.Cell.{Cell}
-use Rattle.lueval.specs.declared.cell.Cell.TheVariants as cells
-use Rattle.lueval.specs.Cells.{statuses, last_of, ticks_of, is_absent}
-use Rattle.lueval.specs.Frames.{clock_in, datum_in, view_in, IsShown, IsPast}
+use Rattle.lueval_lines.specs.declared.kernel.Past.{Past}
+use Rattle.lueval_lines.specs.declared.cell.Cell.{Cell}
+use Rattle.lueval_lines.specs.declared.cell.Cell.TheVariants as cells
+use Rattle.lueval_lines.specs.Cells.{statuses, last_of, ticks_of, is_absent}
+use Rattle.lueval_lines.specs.Frames.{clock_in, datum_in, view_in, IsShown, IsPast}
 use Rattle.lusite.specs.declared.next.Next.{Next}
 use Rattle.lusite.specs.declared.next.Next.TheVariants.{Local, Take, Put, Ended, Faulted}
 use Rattle.lusite.specs.declared.next.Fault.{Fault}

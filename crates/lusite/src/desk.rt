@@ -7,15 +7,15 @@ ghost use Rattle.luflow.specs.Program.{flow_at, column_of};
 ghost use Rattle.luworld.specs.Needs.{stands};
 ghost use Rattle.luworld.specs.Runs.{outputs_of};
 ghost use Rattle.luflow.specs.declared.data.Status.{Status as AnyStatus};
-ghost use Rattle.lueval.specs.Cells.{status_of, statuses, held, newest, outcome_of, clock_of};
-ghost use Rattle.lueval.specs.Frames.{clock_in};
-ghost use Rattle.lueval.specs.Operations.{form_of};
+ghost use Rattle.lueval_lines.specs.Cells.{status_of, statuses, held, newest, outcome_of, clock_of};
+ghost use Rattle.lueval_lines.specs.Frames.{clock_in};
+ghost use Rattle.lueval_lines.specs.Operations.{form_of};
 ghost use Rattle.lusite_program.specs.Programs.{part_at, places_of, IsPost};
 ghost use Rattle.lusite.specs.Logs.{IsLoggedAt, is_noted, log_at, told_at};
 ghost use Rattle.lusite.specs.Machine.{IsSet, StandsAt, IsSameRun, IsReadyAt, TellsFault, Computes, done_of, rest_of, cell_size, in_cell, shown_of, more_of, offered_own, offered, with_body, is_faulted, IsLocalNext, IsPutNext, IsTakeNext};
 
 use crate::next::{Fault, Next};
-use lueval::{
+use lueval_lines::{
     Answer, Cell, Line, cell_at, cell_of, column_of, is_absent, is_datum, is_on, status, value_with,
 };
 use luflow::{Body, Datum, Form, Msg, Status};

@@ -2,7 +2,7 @@
 
 ghost use Rattle.std.specs.Prelude.{◌≡◌, ◌↔◌, ℕ, ◌+◌, ◌<◌, ◌≤◌, IfOk, IfSome, IsSome, List, length, replicate, Some, slice_get};
 ghost use Rattle.std.specs.Option.{ForSome};
-ghost use Rattle.lueval.specs.declared.cell.Cell.TheVariants.{Absent};
+ghost use Rattle.lueval_lines.specs.declared.cell.Cell.TheVariants.{Absent};
 ghost use Rattle.luworld.specs.Needs.{sites_of};
 ghost use Rattle.luworld.specs.Outline.{left_after};
 ghost use Rattle.luworld.specs.Runs.{IsJob, IsRun, outline, outputs_of, streams_of};

@@ -15,9 +15,9 @@ use Rattle.luworld.specs.Needs.{Distribution, IsPlan, home, stands}
 use Rattle.luworld.specs.Runs.{knows, link_into, outputs_of, sends, carriers, carried}
 use Rattle.luworld.proofs.Fitting.{fits}
 use Rattle.luplace.proofs.OwnColumns.{map_range}
-use Rattle.lueval.specs.Operations.{IsLonger, form_of}
-use Rattle.lueval.proofs.Lines.{few_branches}
-use Rattle.lueval.proofs.Spans.{form_same, inside_more, slice_get_front}
+use Rattle.lueval_lines.specs.Operations.{IsLonger, form_of}
+use Rattle.lueval_lines.proofs.Lines.{few_branches}
+use Rattle.lueval_lines.proofs.Spans.{form_same, inside_more, slice_get_front}
 use Rattle.lusite_program.specs.declared.program.Part.{Part}
 use Rattle.lusite_program.specs.declared.program.Post.{Post}
 use Rattle.lusite_program.specs.Programs.{SitePlan, part_of, part_at, no_part, ranks_of, places_of, AreNumbers, IsPost}

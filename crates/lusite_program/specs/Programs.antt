@@ -7,9 +7,9 @@ use Rattle.luworld.specs.Runs.{link_into, sends, outputs_of, knows}
 use Rattle.luflow.specs.declared.variable.Variable.{Variable}
 use Rattle.std.specs.Option.{option_map}
 use Rattle.luflow.specs.declared.form.Flow.{Flow}
-use Rattle.lueval.specs.Cells.{clock_of}
-use Rattle.lueval.specs.Moving.{moved_clock, moved_form}
-use Rattle.lueval.specs.Operations.{form_of, IsInside}
+use Rattle.lueval_lines.specs.Cells.{clock_of}
+use Rattle.lueval_lines.specs.Moving.{moved_clock, moved_form}
+use Rattle.lueval_lines.specs.Operations.{form_of, IsInside}
 use Rattle.lusite_program.specs.declared.program.Part.{Part}
 use Rattle.lusite_program.specs.declared.program.Post.{Post}
 use Rattle.luflow.specs.Variables.{is_output_of, is_output, variable_name}

@@ -2,12 +2,12 @@
 
 ghost use Rattle.std.specs.Prelude.{◌≡◌, ℕ, IfOk, length, replicate, Some, slice_get};
 ghost use Rattle.std.specs.Option.{ForSome};
-ghost use Rattle.lueval.specs.declared.cell.Cell.TheVariants.{Absent};
+ghost use Rattle.lueval_lines.specs.declared.cell.Cell.TheVariants.{Absent};
 ghost use Rattle.lusite_program.specs.Logs.{IsNewRow};
 ghost use Rattle.lusite_program.specs.Programs.{part_of, places_of};
 
 use crate::program::SiteProgram;
-use lueval::Cell;
+use lueval_lines::Cell;
 use luflow::Status;
 use std::alloc::{AllocError, Global};
 

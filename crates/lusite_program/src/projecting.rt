@@ -9,11 +9,11 @@ ghost use Rattle.lusite_program.specs.Carriers.{HasSources};
 ghost use Rattle.lusite_program.specs.Programs.{part_of, ranks_of, places_of, AreNumbers, IsPost, ArePosts, AreReported, Reports, output_names, role_at};
 ghost use Rattle.luflow.specs.Program.{flows_of};
 ghost use Rattle.luflow.specs.Variables.{is_output_of, is_output, variable_name};
-ghost use Rattle.lueval.specs.Operations.{IsLonger};
+ghost use Rattle.lueval_lines.specs.Operations.{IsLonger};
 
 use crate::carriers::{Carriers, carriers_of, take_row};
 use crate::program::{LinkNo, Part, Post, SiteProgram};
-use lueval::{line_of, moved_branches, moved_line};
+use lueval_lines::{line_of, moved_branches, moved_line};
 use luflow::{Flat, Role, Variable};
 use lulist::{Name, Row};
 use luplace::Plan;

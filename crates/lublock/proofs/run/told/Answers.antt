@@ -1,8 +1,8 @@
 use Rattle.std.proofs.Common.{◌∙◌, List, subst, sym, ap}
 use Rattle.luflow.specs.declared.variable.Variable.{Variable}
 use Rattle.luflow.specs.Tables.{AreOutputs}
-use Rattle.lueval.specs.Steps.{lists_of}
-use Rattle.lueval.specs.Outputs.{outputs_in}
+use Rattle.lueval_lines.specs.Columns.{lists_of}
+use Rattle.lueval_lines.specs.Outputs.{outputs_in}
 use Rattle.lublock.proofs.Answered.{told_outputs, told_sound}
 use Rattle.lublock.proofs.run.told.Goals as goal
 

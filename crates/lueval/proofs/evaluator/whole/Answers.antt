@@ -1,9 +1,10 @@
 use Rattle.std.proofs.Common.{◌≡◌, length, subst, sym}
 use Rattle.lueval.specs.Whole.{AreStreams, AreMeant}
-use Rattle.lueval.specs.Steps.{Column, lists_of}
+use Rattle.lueval_lines.specs.Columns.{Column, lists_of}
 use Rattle.std.specs.Prelude.{All}
 use Rattle.luflow.specs.Solution.{solution}
-use Rattle.lueval.proofs.Noting.{whole_streams, columns_even}
+use Rattle.lueval_lines.proofs.Noting.{columns_even}
+use Rattle.lueval.proofs.Listing.{whole_streams}
 use Rattle.lueval.proofs.Answering.{one_solution, all_types, meant}
 use Rattle.lueval.proofs.evaluator.whole.Goals as goal
 

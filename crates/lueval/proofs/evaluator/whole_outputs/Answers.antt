@@ -1,8 +1,8 @@
 use Rattle.std.proofs.Common.{◌∙◌, List, subst, sym, ap}
 use Rattle.luflow.specs.declared.variable.Variable.{Variable}
 use Rattle.luflow.specs.Tables.{AreOutputs}
-use Rattle.lueval.specs.Steps.{lists_of}
-use Rattle.lueval.specs.Outputs.{outputs_in}
+use Rattle.lueval_lines.specs.Columns.{lists_of}
+use Rattle.lueval_lines.specs.Outputs.{outputs_in}
 use Rattle.lueval.proofs.Answering.{one_solution, all_types}
 use Rattle.lueval.proofs.Listing.{whole_outputs, sound_outputs}
 use Rattle.lueval.proofs.evaluator.whole_outputs.Goals as goal

@@ -2,8 +2,8 @@ use Rattle.std.proofs.Common.{◌≡◌, ◌<◌, ◌+◌, length, set, get_or, 
 use Rattle.std.specs.Prelude.{slice_get, slice_index}
 use Rattle.std.proofs.lemmas.List.Elements.{All-get_or}
 use Rattle.std.proofs.lemmas.Option.{slice_get-get_or}
-use Rattle.lueval.specs.declared.cell.Cell.{Cell}
-use Rattle.lueval.specs.declared.cell.Cell.TheVariants.{Absent}
+use Rattle.lueval_lines.specs.declared.cell.Cell.{Cell}
+use Rattle.lueval_lines.specs.declared.cell.Cell.TheVariants.{Absent}
 use Rattle.lueval.proofs.Ageing.{AreAged, aged_more}
 use Rattle.lueval.proofs.machine.age.Goals as goal
 

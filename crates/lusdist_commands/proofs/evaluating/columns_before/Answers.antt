@@ -1,7 +1,7 @@
 use Rattle.std.proofs.Common.{subst, sym}
 use Rattle.luflow.specs.Program.{Table}
 use Rattle.luflow.specs.Sound.{IsFit}
-use Rattle.lueval.specs.declared.error.EvalError.TheVariants.{Fault}
+use Rattle.lueval_lines.specs.declared.error.EvalError.TheVariants.{Fault}
 use Rattle.lueval.specs.Whole.{IsAnswer}
 use Rattle.lutab_writing.specs.Outputs.{shown_of}
 use Rattle.luchart.proofs.CutLaws.{fit}

@@ -1,5 +1,5 @@
 use Rattle.std.proofs.Common.{subst}
-use Rattle.lueval.specs.declared.error.EvalError.TheVariants.{Fault}
+use Rattle.lueval_lines.specs.declared.error.EvalError.TheVariants.{Fault}
 use Rattle.lueval.specs.Whole.{IsAnswer}
 use Rattle.lutab_writing.specs.Outputs.{shown_of}
 use Rattle.lusdist_commands.proofs.Outcomes.{shown_whole, unfiled_stop, unfiled_shown}

@@ -1,9 +1,9 @@
 use Rattle.std.proofs.Common.{ℕ, ◌+◌, List, get_or, sym, subst, arith}
 use Rattle.std.proofs.lemmas.Option.{slice_get-get_or, slice_get_within}
 use Rattle.luflow.proofs.Solutions.{some_at}
-use Rattle.lueval.specs.declared.cell.Cell.{Cell}
-use Rattle.lueval.specs.declared.cell.Cell.TheVariants.{Absent}
-use Rattle.lueval.specs.Cells.{newest}
+use Rattle.lueval_lines.specs.declared.cell.Cell.{Cell}
+use Rattle.lueval_lines.specs.declared.cell.Cell.TheVariants.{Absent}
+use Rattle.lueval_lines.specs.Cells.{newest}
 use Rattle.lusite.specs.Machine.{more_of}
 use Rattle.lusite.proofs.Counting.{AreRenewed, renewed_none, renewed_more, low_here, all_low}
 use Rattle.lusite.proofs.desk.age.Goals as goal

@@ -1,6 +1,6 @@
 use Rattle.std.proofs.Common.{ℕ}
-use Rattle.lueval.specs.declared.cell.Cell.{Cell}
-use Rattle.lueval.specs.Cells.{newest}
+use Rattle.lueval_lines.specs.declared.cell.Cell.{Cell}
+use Rattle.lueval_lines.specs.Cells.{newest}
 use Rattle.lusite.specs.Machine.{more_of}
 use Rattle.lusite.proofs.Counting.{AreRenewed}
 use Rattle.lusite.proofs.desk.age.Given as goal

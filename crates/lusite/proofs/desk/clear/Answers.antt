@@ -1,4 +1,4 @@
-use Rattle.lueval.specs.declared.cell.Cell.TheVariants.{Absent}
+use Rattle.lueval_lines.specs.declared.cell.Cell.TheVariants.{Absent}
 use Rattle.lusite.proofs.Held.{statuses_set}
 use Rattle.lusite.proofs.desk.clear.Goals as goal
 

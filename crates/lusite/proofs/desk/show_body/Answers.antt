@@ -1,6 +1,6 @@
 use Rattle.std.proofs.Common.{set, ap, sym, ◌∙◌}
 use Rattle.luflow.specs.declared.data.Status.{Status}
-use Rattle.lueval.specs.Cells.{statuses}
+use Rattle.lueval_lines.specs.Cells.{statuses}
 use Rattle.lusite.specs.Machine.{with_body}
 use Rattle.lusite.proofs.Held.{held_status}
 use Rattle.lusite.proofs.desk.show_body.Goals as goal

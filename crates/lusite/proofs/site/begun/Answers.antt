@@ -1,9 +1,9 @@
 use Rattle.std.proofs.Common.{◌≡◌, ℕ, ◌<◌, true, false, length, replicate, Some, sym, ap, ap₂, ◌∙◌, subst, arith}
 use Rattle.std.proofs.lemmas.Option.{slice_get-get_or, slice_get-map}
 use Rattle.std.proofs.lemmas.List.{length-replicate}
-use Rattle.lueval.specs.declared.cell.Cell.TheVariants.{Absent}
+use Rattle.lueval_lines.specs.declared.cell.Cell.TheVariants.{Absent}
 use Rattle.luflow.specs.declared.data.Status.TheVariants as status
-use Rattle.lueval.specs.Cells.{statuses}
+use Rattle.lueval_lines.specs.Cells.{statuses}
 use Rattle.luflow.specs.Program.{flows_of, IsOrdered}
 use Rattle.luworld.proofs.Cursor.{before_start}
 use Rattle.luworld.specs.Needs.{Distribution}

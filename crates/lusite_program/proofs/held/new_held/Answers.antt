@@ -1,5 +1,5 @@
 use Rattle.std.proofs.Common.{◌∙◌, length, replicate, ap, rules}
-use Rattle.lueval.specs.declared.cell.Cell.TheVariants.{Absent}
+use Rattle.lueval_lines.specs.declared.cell.Cell.TheVariants.{Absent}
 use Rattle.lusite_program.proofs.held.new_held.Goals as goal
 
 pub returns-clause-shown : goal.returns-clause-shown

@@ -2,9 +2,9 @@ use Rattle.std.proofs.Common.{◌≡◌, ℕ, ◌+◌, ◌++◌, List, length, l
 use Rattle.std.specs.Prelude.{slice_index}
 use Rattle.std.proofs.lemmas.List.{get_or-append-add, length-map}
 use Rattle.luflow.specs.Program.{FlatProgram, flow_at}
-use Rattle.lueval.specs.Cells.{IsLine}
-use Rattle.lueval.specs.Moving.{moved_clock, moved_form}
-use Rattle.lueval.specs.Operations.{IsInside}
+use Rattle.lueval_lines.specs.Cells.{IsLine}
+use Rattle.lueval_lines.specs.Moving.{moved_clock, moved_form}
+use Rattle.lueval_lines.specs.Operations.{IsInside}
 use Rattle.lusite_program.specs.declared.program.Part.{Part}
 use Rattle.lusite_program.proofs.Posts.{few_sends}
 use Rattle.lusite_program.proofs.projecting.post.Goals as goal

@@ -1,13 +1,10 @@
-use Rattle.std.proofs.Common.{◌<◌, ℕ, List, false, length, sym, ap, ◌∙◌, subst, refl, arith}
-use Rattle.std.specs.Prelude.{unwrap_or}
+use Rattle.std.proofs.Common.{◌<◌, ℕ, length, sym, ◌∙◌, subst, refl, arith}
 use Rattle.std.proofs.lemmas.Option.{slice_get_within}
 use Rattle.std.proofs.lemmas.List.{length-map}
-use Rattle.lueval.specs.declared.cell.Answer.{Answer}
-use Rattle.lueval.specs.declared.cell.Answer.TheVariants as answer
-use Rattle.lueval.specs.declared.cell.Cell.{Cell}
+use Rattle.lueval_lines.specs.declared.cell.Answer.{Answer}
+use Rattle.lueval_lines.specs.declared.cell.Answer.TheVariants as answer
 use Rattle.lueval.specs.Whole.{IsFirstFault}
-use Rattle.lueval.specs.Frames.{clock_in}
-use Rattle.lueval.specs.Cells.{status_of, statuses, clock_of}
+use Rattle.lueval_lines.specs.Cells.{status_of}
 use Rattle.lueval.specs.Steps.{Computes}
 use Rattle.lueval.proofs.Answering.{absent_next, gives_next, never_stuck, first_fault}
 use Rattle.lueval.proofs.machine.Machine.step.Goals as goal
@@ -19,11 +16,11 @@ index_mut-requires c =
     let n = c.requires.stands.shown_len in
     let m = length-map c.args.self.now.shown.items status_of in omega (arith, l, n, m)
 
-pub returns-then-not-is_on-clause-ok : goal.returns-then-not-is_on-clause-ok
-returns-then-not-is_on-clause-ok c =
+pub returns-then-not-here-clause-ok : goal.returns-then-not-here-clause-ok
+returns-then-not-here-clause-ok c =
     let r = c.requires in
     let line = r.lines.each c.args.p c.line_at-line.result.now c.line_at-line.ensures in
-    let off = sym c.if-not-is_on.true ∙ c.is_on.ensures ∙ ap (λ (xs : List Cell). unwrap_or (clock_in (statuses xs) (clock_of c.line_at-line.result.now.clock)) false) c.deref.ensures.value in
+    let off = sym c.if-not-here.true ∙ c.here.ensures in
     let lp : c.args.p < length c.args.flat.now.order = let n = r.lines.len in let l = r.place in omega (arith, n, l) in
     absent_next c.args.flat.now c.args.inputs.now c.args.self.now c.args.t c.args.branches.now c.args.p c.line_at-line.result.now r.flat r.fit r.stands lp r.instant line off
 
@@ -43,7 +40,7 @@ pub unreachable-requires : goal.unreachable-requires
 unreachable-requires c =
     let r = c.requires in
     let line = r.lines.each c.args.p c.line_at-line.result.now c.line_at-line.ensures in
-    let on = sym c.if-not-is_on.false ∙ c.is_on.ensures ∙ ap (λ (xs : List Cell). unwrap_or (clock_in (statuses xs) (clock_of c.line_at-line.result.now.clock)) false) c.deref.ensures.value in
+    let on = sym c.if-not-here.false ∙ c.here.ensures in
     let lp : c.args.p < length c.args.flat.now.order = let n = r.lines.len in let l = r.place in omega (arith, n, l) in
     let now = subst (λ (a : Answer). Computes c.args.inputs.now c.args.self.now c.args.t c.args.branches.now c.line_at-line.result.now a) c.in-Stuck.is c.compute.ensures in
     never_stuck c.args.flat.now c.args.inputs.now c.args.self.now c.args.t c.args.branches.now c.args.p c.line_at-line.result.now r.flat r.fit r.stands lp r.instant line answer.Stuck refl on now
@@ -52,7 +49,7 @@ pub returns-in-Gives-clause-ok : goal.returns-in-Gives-clause-ok
 returns-in-Gives-clause-ok c =
     let r = c.requires in
     let line = r.lines.each c.args.p c.line_at-line.result.now c.line_at-line.ensures in
-    let on = sym c.if-not-is_on.false ∙ c.is_on.ensures ∙ ap (λ (xs : List Cell). unwrap_or (clock_in (statuses xs) (clock_of c.line_at-line.result.now.clock)) false) c.deref.ensures.value in
+    let on = sym c.if-not-here.false ∙ c.here.ensures in
     let lp : c.args.p < length c.args.flat.now.order = let n = r.lines.len in let l = r.place in omega (arith, n, l) in
     let now = subst (λ (a : Answer). Computes c.args.inputs.now c.args.self.now c.args.t c.args.branches.now c.line_at-line.result.now a) c.in-Gives.is c.compute.ensures in
     gives_next c.args.flat.now c.args.inputs.now c.args.self.now c.args.t c.args.branches.now c.args.p c.line_at-line.result.now r.flat r.fit r.stands lp r.instant line c.in-Gives.cell on now
@@ -61,7 +58,7 @@ pub returns-in-Faults-clause-err : goal.returns-in-Faults-clause-err
 returns-in-Faults-clause-err c σ sol =
     let r = c.requires in
     let line = r.lines.each c.args.p c.line_at-line.result.now c.line_at-line.ensures in
-    let on = sym c.if-not-is_on.false ∙ c.is_on.ensures ∙ ap (λ (xs : List Cell). unwrap_or (clock_in (statuses xs) (clock_of c.line_at-line.result.now.clock)) false) c.deref.ensures.value in
+    let on = sym c.if-not-here.false ∙ c.here.ensures in
     let lp : c.args.p < length c.args.flat.now.order = let n = r.lines.len in let l = r.place in omega (arith, n, l) in
     let now = subst (λ (a : Answer). Computes c.args.inputs.now c.args.self.now c.args.t c.args.branches.now c.line_at-line.result.now a) c.in-Faults.is c.compute.ensures in
     subst (λ (n : ℕ). IsFirstFault c.args.flat.now c.args.inputs.now σ n c.args.t c.in-Faults.kind) (sym c.variable_of.ensures)

@@ -1,9 +1,9 @@
 use Rattle.std.proofs.Common.{◌≡◌, ℕ, List, true, refl, ap₂, sym, subst, ◌∙◌}
 use Rattle.luflow.specs.Values.{value_of}
 use Rattle.luworld.specs.Needs.{stands}
-use Rattle.lueval.specs.declared.cell.Cell.{Cell}
-use Rattle.lueval.specs.Cells.{held, statuses, view_of}
-use Rattle.lueval.specs.Operations.{form_of}
+use Rattle.lueval_lines.specs.declared.cell.Cell.{Cell}
+use Rattle.lueval_lines.specs.Cells.{held, statuses, view_of}
+use Rattle.lueval_lines.specs.Operations.{form_of}
 use Rattle.lusite.proofs.Desks.{flow_same}
 use Rattle.lusite.proofs.Posts.{computes_is}
 use Rattle.lusite.proofs.desk.Desk.compute.Goals as goal

@@ -2,9 +2,9 @@ use Rattle.std.proofs.Common.{◌≡◌, ℕ, List, ap, ap₂, sym, ◌∙◌, a
 use Rattle.std.specs.Prelude.{slice_get, slice_index, unwrap_or}
 use Rattle.std.proofs.lemmas.Bool.{lt-ltb, ne_eqb}
 use Rattle.luflow.specs.declared.data.Datum.TheVariants.{Nil}
-use Rattle.lueval.specs.declared.cell.Cell.{Cell}
-use Rattle.lueval.specs.Cells.{statuses}
-use Rattle.lueval.specs.Frames.{datum_in}
+use Rattle.lueval_lines.specs.declared.cell.Cell.{Cell}
+use Rattle.lueval_lines.specs.Cells.{statuses}
+use Rattle.lueval_lines.specs.Frames.{datum_in}
 use Rattle.lusite.specs.Machine.{count_kept, pasts_of}
 use Rattle.lusite.proofs.Moves.{offered_value}
 use Rattle.lusite.proofs.Posts.{outs_is, place_is, sent_is}

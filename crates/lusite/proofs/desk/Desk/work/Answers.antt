@@ -9,7 +9,7 @@ use Rattle.luflow.specs.Program.{flow_at}
 use Rattle.luflow.specs.Values.{gives}
 use Rattle.luworld.specs.World.{Compute}
 use Rattle.lusite.specs.declared.next.Fault.{Fault}
-use Rattle.lueval.specs.Cells.{statuses}
+use Rattle.lueval_lines.specs.Cells.{statuses}
 use Rattle.lusite.specs.Machine.{Stands, Computes, IsFaultAt, is_faulted, pasts_of}
 use Rattle.lusite_program.specs.Logs.{log_view, logs_in, IsNoted}
 use Rattle.lusite.proofs.Desks.{going}

@@ -1,0 +1,11 @@
+pub mod Faults
+mod Keeping
+pub mod Lines
+pub mod Moved
+pub mod Named
+pub mod Noting
+pub mod Reading
+pub mod Seeing
+pub mod Spans
+pub mod Told
+mod Unders
