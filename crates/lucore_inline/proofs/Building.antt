@@ -8,7 +8,7 @@ use Rattle.lutree.specs.Tree.{NodeTree, ProgramTree}
 use Rattle.luflow.specs.declared.form.Flow.{Flow}
 use Rattle.lustat_rules.specs.Naming.{Call, calls_in, called_by, node_place, IsCallOrder}
 use Rattle.lugraph.specs.Search.{Has}
-use Rattle.lutype.proofs.CallPlaces.{found_in}
+use Rattle.lutype_calls.proofs.CallPlaces.{found_in}
 use Rattle.lucore_list.specs.Layout.{list_at, list_of, node_flows, node_owners, AreLists}
 use Rattle.lucore_list.proofs.Names.{all_of}
 use Rattle.lucore_list.proofs.Same.{nodes_same, called_in}

@@ -9,9 +9,9 @@ use Rattle.lustat_rules.specs.Naming.{called_by, node_place}
 use Rattle.lugraph.specs.Graph.{Graph, row_of, items_of}
 use Rattle.lugraph.specs.Search.{Has}
 use Rattle.lugraph.specs.Reach.{link, IsWithin, IsReached, along}
-use Rattle.lutype.specs.CallGraph.{places_called}
-use Rattle.lutype.proofs.CallPlaces.{means, found_of}
-use Rattle.lutype.proofs.CallWays.{AreRows}
+use Rattle.lutype_calls.specs.CallGraph.{places_called}
+use Rattle.lutype_calls.proofs.CallPlaces.{means, found_of}
+use Rattle.lutype_calls.proofs.CallWays.{AreRows}
 use Rattle.lucore_list.proofs.Names.{contains_at, contains_get, all_of}
 use Rattle.lucore_inline.specs.Listed.{links_from, AreClosed}
 

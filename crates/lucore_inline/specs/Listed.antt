@@ -6,7 +6,7 @@ use Rattle.lugraph.specs.Graph.{Graph}
 use Rattle.lugraph.specs.Search.{Has}
 use Rattle.lugraph.specs.declared.link.Link.{Link}
 use Rattle.lugraph.specs.Reach.{link}
-use Rattle.lutype.specs.CallGraph.{places_called}
+use Rattle.lutype_calls.specs.CallGraph.{places_called}
 use Rattle.lustat_rules.specs.Scope.{node_called}
 use Rattle.lucore_list.specs.Layout.{AreLists, node_flows, node_owners, main_variables, types_of}
 use Rattle.lucore_inline.specs.declared.laying.Laid.{Laid}

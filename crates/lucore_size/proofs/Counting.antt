@@ -8,7 +8,7 @@ use Rattle.std.proofs.lemmas.Option.{slice_get_within, get_or_from_slice_get}
 use Rattle.lutree.specs.Tree.{NodeTree, ProgramTree}
 use Rattle.lustat_rules.specs.Naming.{called_by, node_place, IsCallOrder}
 use Rattle.lustat_rules.specs.Accepted.{Rule, Keeps}
-use Rattle.lutype.proofs.CallPlaces.{means}
+use Rattle.lutype_calls.proofs.CallPlaces.{means}
 use Rattle.lucore_list.specs.Sizes.{size_at, size_of, node_size, AreSizes}
 use Rattle.lucore_list.proofs.Counting as counting
 use Rattle.lucore_size.specs.Counted.{capped, AreCounted, IsTooLarge, IsTooLong}

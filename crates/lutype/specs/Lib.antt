@@ -1,10 +1,2 @@
-pub mod Forms
-pub mod Asked
-pub mod CallRules
-pub mod PartRules
-pub mod Starts
-pub mod Tables
 pub mod Named
-pub mod CallGraph
-pub mod CallAnswer
 pub mod First

@@ -5,33 +5,17 @@ ghost use Rattle.lutree.specs.declared.program.Node.{Node};
 ghost use Rattle.lutree.specs.Tree.{program_view};
 ghost use Rattle.lustat_rules.specs.Accepted.{IsNamed};
 ghost use Rattle.lustat_rules.specs.Told.{Tells};
-ghost use Rattle.lustat_rules.specs.Faults.{lesser_of};
 ghost use Rattle.lutype.specs.First.{IsToldFirst};
 ghost use Rattle.lutype.specs.Named.{AreInOrder};
 
-use crate::order::{CallOrder, call_order};
 use crate::search::least_fault;
 use crate::typed::Typed;
-use lustat_rules::{StatError, is_told_before};
+use lustat_rules::StatError;
 use lustat_scope::Catalog;
 use lutree::Program;
+use lutype_calls::{CallOrder, call_order};
+use lutype_faults::with_recursion;
 use std::alloc::Global;
-
-/// Of a fault, if there is one, and that of recursion the one that is told.
-fn with_recursion(found: Option<StatError>, recursion: StatError) -> StatError
-    ensures { Some result ≡ lesser_of found (Some recursion) }
-{
-    match found {
-        None => recursion,
-        Some(fault) => {
-            if is_told_before(&recursion, &fault) {
-                recursion
-            } else {
-                fault
-            }
-        }
-    }
-}
 
 /// The place of a node's name in the text.
 fn byte_of_node(catalog: &Catalog, place: usize) -> usize

@@ -2,15 +2,15 @@
 
 ghost use Rattle.std.specs.Prelude.{◌≡◌, IfOk};
 ghost use Rattle.lustat_rules.specs.Faults.{IsJudged, TypeFault, TypeKept, NameFault, NameKept, NodeFault, NodeKept, DeclarationFault, DeclarationKept, EquationFault, EquationKept, IsFault, AreKept};
-ghost use Rattle.lutype.specs.Asked.{is_asked};
+ghost use Rattle.lutype_faults.specs.Asked.{is_asked};
 
-use crate::defined::Definitions;
-use crate::faults::{
-    declaration_fault, equation_fault, label_fault, name_fault, program_fault, type_fault,
-};
 use lustat_rules::{StatError, lesser};
 use lustat_scope::{Catalog, Scope, Stage};
 use lutree::{Declaration, DeclaredName, Equation, TypeDeclaration};
+use lutype_faults::{
+    declaration_fault, equation_fault, label_fault, name_fault, program_fault, type_fault,
+};
+use lutype_rules::Definitions;
 use std::alloc::{AllocError, Global};
 
 // The rules of names and types at the places of a program, with the name of its main node. The tests of a node share its definitions.

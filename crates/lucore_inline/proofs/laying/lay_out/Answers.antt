@@ -2,7 +2,7 @@ use Rattle.std.proofs.Common.{◌≡◌, ◌∙◌, sym, subst}
 use Rattle.std.specs.Prelude.{slice_get, Some}
 use Rattle.std.proofs.lemmas.Option.{same_Some, slice_get_within, none-some}
 use Rattle.lutree.specs.Tree.{ProgramTree, program_view}
-use Rattle.lutype.proofs.CallPlaces.{means}
+use Rattle.lutype_calls.proofs.CallPlaces.{means}
 use Rattle.lucore_list.proofs.Names.{placed}
 use Rattle.lucore_inline.proofs.laying.lay_out.Goals as goal
 

@@ -3,7 +3,7 @@ use Rattle.lutree.specs.Tree.{program_view}
 use Rattle.lugraph.specs.Search.{Has}
 use Rattle.lugraph.specs.declared.link.Link.{Link}
 use Rattle.lugraph.specs.Reach.{IsWithin, IsReached, start}
-use Rattle.lutype.proofs.CallWays.{are_rows}
+use Rattle.lutype_calls.proofs.CallWays.{are_rows}
 use Rattle.lucore_inline.specs.Listed.{links_from}
 use Rattle.lucore_inline.proofs.Reaching.{within, closed}
 use Rattle.lucore_inline.proofs.needed.needed_by.Goals as goal

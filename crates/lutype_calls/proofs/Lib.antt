@@ -1,0 +1,3 @@
+pub mod CallPlaces
+mod CallsPushed
+pub mod CallWays

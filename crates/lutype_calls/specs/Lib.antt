@@ -1,0 +1,2 @@
+pub mod CallGraph
+pub mod CallAnswer

@@ -1,0 +1,7 @@
+mod Forms
+mod Lookups
+mod Fit
+mod Defining
+mod Branches
+mod NameAt
+mod Steps
