@@ -13,7 +13,7 @@ use crate::parties::put_driven;
 use crate::runs::{put_outputs, put_run};
 use luplace::Job;
 use lurun::collect;
-use lusdist_commands::jobs::job_for;
+use lusdist_answers::jobs::job_for;
 use lusdist_shell::RealFiles;
 use std::io;
 use std::rt::Clock;

@@ -1,13 +1,1 @@
-mod Worlds
-mod AskedFor
-mod HasOutputs
-mod Outcomes
-mod Spelled
-mod Tellings
-mod Replays
-mod Exclusive
 mod Ends
-mod OneStatus
-mod Ran
-mod OneRefusal
-mod Dumps

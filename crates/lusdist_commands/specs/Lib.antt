@@ -1,11 +1,2 @@
-pub mod Explained
-pub mod Asked
-pub mod Refused
-pub mod Stopped
-pub mod Evaluated
-pub mod TellingText
-pub mod Waved
 pub mod Left
 pub mod Reasons
-pub mod Exact
-pub mod Ran

@@ -5,11 +5,11 @@ ghost use Rattle.lusdist_commands.specs.Reasons.{asks_why, program_path, place_p
 ghost use Rattle.lusdist_stop.specs.declared.stop.Stop.TheVariants as stops;
 ghost use Rattle.lucore.specs.declared.error.CoreError.TheVariants as flats;
 
-use crate::sources::program_of;
 use lucore::CoreError;
 use luexplain::{of_cycle, of_fault, of_place, of_rule, of_schedule, of_size, of_syntax, of_table};
 use luflow::FaultKind;
 use luplace_file::PlaceError;
+use lusdist_answers::sources::program_of;
 use lusdist_shell::{Files, Request, ScheduleError, Sink};
 use lusdist_stop::{Stop, read};
 use lustat_rules::StatError;

@@ -6,9 +6,9 @@ ghost use Rattle.std.specs.Prelude.{◌<◌, length};
 ghost use Rattle.luflow.specs.Variables.{outputs_of};
 
 use luplace::Job;
-use lusdist_commands::evaluating::evaluation;
-use lusdist_commands::jobs::job_for;
-use lusdist_commands::{Stop, replayed};
+use lusdist_answers::evaluating::evaluation;
+use lusdist_answers::jobs::job_for;
+use lusdist_answers::{Stop, replayed};
 use lusdist_shell::{EvalRequest, Files, ReadError, WriteError};
 use luweave_text::text_of_world;
 use std::alloc::Global;

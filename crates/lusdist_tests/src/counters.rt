@@ -3,8 +3,8 @@
 
 use luflow::{Body, Datum, Msg, Status};
 use luplace::{Job, SiteInputs};
-use lusdist_commands::Stop;
-use lusdist_commands::sources::{flat_of, job_of, plan_of};
+use lusdist_answers::Stop;
+use lusdist_answers::sources::{flat_of, job_of, plan_of};
 use lusdist_plain::{Item, Mark, Marks, list_of_link, marks_of, script_of, world_after};
 use std::alloc::{AllocError, Global};
 use std::test::Fail;

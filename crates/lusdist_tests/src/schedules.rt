@@ -7,7 +7,7 @@ use crate::counters::job;
 use luflow::{Msg, Status};
 use lulist::Row;
 use luplace::Job;
-use lusdist_commands::{Stop, replayed};
+use lusdist_answers::{Stop, replayed};
 use lusdist_plain::{Item, Mark, Marks, list_of_link, marks_of, scripts_of, world_by};
 use luweave::World;
 use std::alloc::{AllocError, Global};

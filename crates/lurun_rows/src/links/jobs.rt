@@ -1,8 +1,8 @@
 //! A job of two sites, of which the first sends its input to the second: its link carries 0, 1, 2 and so on.
 
 use luplace::{Job, Plan};
-use lusdist_commands::Stop;
-use lusdist_commands::sources::{flat_of, job_of, plan_of};
+use lusdist_answers::Stop;
+use lusdist_answers::sources::{flat_of, job_of, plan_of};
 use std::alloc::{AllocError, Global};
 
 const PROGRAM: &[u8] = b"node main(x: int) returns (y: int); let y = x + 1; tel";

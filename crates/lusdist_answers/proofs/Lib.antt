@@ -1,0 +1,12 @@
+pub mod Worlds
+mod AskedFor
+mod HasOutputs
+mod Outcomes
+mod Spelled
+mod Tellings
+mod Replays
+mod Exclusive
+mod OneStatus
+mod Ran
+mod OneRefusal
+mod Dumps

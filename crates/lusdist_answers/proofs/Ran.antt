@@ -1,0 +1,131 @@
+-- What a run of a job gives, in the words of the program that was asked for.
+use Rattle.std.proofs.Common.{◌≡◌, ℕ, ◌<◌, List, length, false, Option, Some, Result, Ok, Err, IfOk, MatchResult, refl, sym, ap, ◌∙◌, subst, inl, inr}
+use Rattle.std.specs.Prelude.{IsUtf8}
+use Rattle.luflow.specs.Tables.{Fits}
+use Rattle.luflow.specs.Variables.{inputs_of}
+use Rattle.luflow.specs.Sound.{IsFit}
+use Rattle.luworld.specs.Needs.{Distribution}
+use Rattle.luworld.specs.Runs.{IsRun}
+use Rattle.lutab.specs.Table.{IsTextOf, is_too_long}
+use Rattle.lusdist_answers.specs.Asked.{IsPlanFor}
+use Rattle.lusdist_answers.proofs.AskedFor.{job_is}
+use Rattle.luflow.specs.declared.form.FaultKind.{FaultKind}
+use Rattle.luflow.specs.Flats.{IsFlat}
+use Rattle.luflow.specs.Streams.{Broken, is_broken}
+use Rattle.luflow.specs.Solution.{solution}
+use Rattle.luflow.specs.Tables.{OutputColumn}
+use Rattle.luflow.proofs.Solutions.{IsSolution-solution}
+use Rattle.luworld.specs.Runs.{Run, NoFault, streams_of}
+use Rattle.lueval.specs.Whole.{HasNoFault}
+use Rattle.lueval_lines.proofs.Faults.{fault_broken, fault_same}
+use Rattle.std.proofs.lemmas.Option.{slice_get_within}
+use Rattle.lusource.specs.Faults.{IsSourceFault}
+use Rattle.lusite.specs.declared.next.Fault.{Fault as SiteFault}
+use Rattle.lusite.specs.Machine.{IsFaultAt}
+use Rattle.lurun_reports.specs.declared.error.RunError.{RunError}
+use Rattle.lurun_reports.specs.declared.error.RunError.TheVariants as run
+use Rattle.lurun.specs.Answers.{IsRunAnswer}
+use Rattle.lurun_reports.specs.Reports.{AreComplete, AreOutputsOf as AreRunOutputs, HasOutput}
+use Rattle.lurun.specs.Stations.{StationAt, sites_at}
+use Rattle.lusdist_shell.specs.declared.request.RunRequest.{RunRequest}
+use Rattle.lusdist_stop.specs.declared.stop.Stop.{Stop}
+use Rattle.lusdist_stop.specs.declared.stop.Stop.TheVariants.{CannotRead, CannotWrite, NotAscii, Syntax, Rules, Flat, Place, Table, Schedule, Fault, LinkLost, NoThread, OutOfMemory, Mistaken}
+use Rattle.lusdist_answers.specs.Asked.{IsJobFor, IsRan}
+use Rattle.lusdist_answers.specs.Evaluated.{AreOutputsOf}
+use Rattle.lusdist_answers.specs.Ran.{IsRunError, IsStopOfRun, IsRunTable}
+use Rattle.lusdist_answers.specs.Stopped.{IsRunFault, IsRunStopped}
+use Rattle.lusdist_answers.specs.Stopped.IsRunStopped.{run_fault, run_lost, run_thread, run_memory}
+use Rattle.lusdist_answers.proofs.Tellings.{owner_of}
+
+-- the job of a plan and a table that the files give
+pub job_found : (gives : List ℕ → Option (List ℕ) → Type 0) (path place_path table_path main : List ℕ) (plan : Distribution) (table : List ℕ) → IsPlanFor gives path place_path main plan → gives table_path (Some table) → (result : Result Run Stop)
+    → IfOk result (λ job. job.plan ≡ plan) → IfOk result (λ job. IsTextOf plan.flat.types (inputs_of plan.flat.variables) job.inputs table) → IfOk result (λ _. is_too_long table ≡ false) → IfOk result (λ _. IsUtf8 table) → IfOk result (λ job. Fits plan.flat job.inputs) → IfOk result IsRun
+    → IfOk result (IsJobFor gives path place_path table_path main)
+job_found gives path place_path table_path main plan table found given (Ok job) same text short utf8 fits run =
+    record {
+      program = found.program;
+      place = found.place;
+      table = table;
+      program_given = found.program_given;
+      place_given = found.place_given;
+      table_given = given;
+      job_is = job_is found.program found.place table main plan job found.flat found.plan_of same text short utf8 fits run;
+    }
+job_found gives path place_path table_path main plan table found given (Err e) same text short utf8 fits run = tt
+
+-- what all stations of a job answer
+pub answer_is : (job : Run) (stations : List StationAt) (result : Result (List OutputColumn) RunError) → AreComplete job (sites_at stations) → HasOutput job → IsRunAnswer job stations result → MatchResult result (AreRunOutputs job) (IsRunError job)
+answer_is job stations (Ok outputs) complete some h = h.1
+answer_is job stations (Err (run.Fault variable instant kind)) complete some h = h.1
+answer_is job stations (Err run.OutOfMemory) complete some h = tt
+answer_is job stations (Err run.LinkLost) complete some h = tt
+answer_is job stations (Err run.NoThread) complete some h = tt
+answer_is job stations (Err run.WrongReports) complete some (inl never) = cc
+answer_is job stations (Err run.WrongReports) complete some (inr never) = never.1 some
+
+-- the variable of a fault at which a site stopped is one of the program's
+pub owner_inside : (job : Run) (site variable instant : ℕ) (kind : FaultKind) → IsFlat job.plan.flat → IsFaultAt job site (record { variable = variable; instant = instant; kind = kind }) → variable < length job.plan.flat.variables
+owner_inside job site variable instant kind is at =
+    let owner = owner_of job site (record { variable = variable; instant = instant; kind = kind }) is at in
+    subst (λ v. v < length job.plan.flat.variables) owner.is owner.inside
+
+-- where no flow breaks, no operator is a fault
+no_fault_of : (job : Run) → IsFlat job.plan.flat → IsFit job.plan.flat job.inputs → NoFault job → HasNoFault job.plan.flat job.inputs
+no_fault_of job is fit none σ solves i t kind early fault =
+    let own = IsSolution-solution job.plan.flat job.inputs is.ordered in
+    let same = fault_same job.plan.flat job.inputs σ is fit solves (streams_of job) own i t kind fault in
+    let broken = fault_broken job.plan.flat job.inputs (streams_of job) is fit own i t kind same in
+    let whole = none i t (slice_get_within job.plan.flat.flows i fault.flow fault.there) early in
+    let bad : is_broken Broken ≡ false = ap is_broken (sym broken) ∙ whole in
+    absurd cc
+
+module _ (gives : List ℕ → Option (List ℕ) → Type 0) (request : RunRequest) (job : Run) (asked : IsJobFor gives request.program.now request.place.now request.table.now request.main.now job) where
+  pub outputs_are : (outputs : List OutputColumn) → AreRunOutputs job outputs → AreOutputsOf asked.job_is.flat.tree request.main.now job.plan.flat job.inputs outputs
+  outputs_are outputs are =
+      let source = asked.job_is.flat.flat_is in
+      let fine = no_fault_of job source.is_flat asked.job_is.is_run.fit are.no_fault in
+      record {
+        named = are.named;
+        streams = λ σ solves. are.source σ (asked.job_is.is_meant σ solves);
+        no_fault = fine;
+        no_source_fault = λ σ solves name t kind early fault.
+            let own = IsSolution-solution job.plan.flat job.inputs source.is_flat.ordered in
+            let found = source.all_faults job.inputs σ (solution job.plan.flat job.inputs) solves own name t kind fault in
+            fine (solution job.plan.flat job.inputs) own found.0 t kind early found.1;
+      }
+
+  pub is_ran : (text : List ℕ) → IsRunTable job text → IsRan gives request text
+  is_ran text table = record { job = job; asked_for = asked; outputs = table.outputs; are_outputs = outputs_are table.outputs table.are_outputs; text_is = table.text_is }
+
+  fault_is : (name : List ℕ) (instant : ℕ) (kind : FaultKind) → IsStopOfRun job (Fault name instant kind) → IsRunFault gives request name instant kind
+  fault_is name instant kind (variable, site, named, at) =
+      let source = asked.job_is.flat.flat_is in
+      let fault : SiteFault = record { variable = variable; instant = instant; kind = kind } in
+      let owner = owner_of job site fault source.is_flat at in
+      record {
+        job = job;
+        asked_for = asked;
+        site = site;
+        variable = variable;
+        stopped = at;
+        named = named;
+        source = λ σ solves.
+            subst (λ n. IsSourceFault asked.job_is.flat.tree request.main.now job.inputs σ n instant kind) (owner.named ∙ sym named)
+            (source.faults job.inputs σ (streams_of job) solves (IsSolution-solution job.plan.flat job.inputs source.is_flat.ordered) at.place owner.number instant kind owner.variable at.is owner.owner owner.there);
+      }
+
+  pub run_stop : (stop : Stop) → IsStopOfRun job stop → IsRunStopped gives request stop
+  run_stop (CannotRead path) h = absurd h
+  run_stop (CannotWrite path) h = absurd h
+  run_stop NotAscii h = absurd h
+  run_stop (Syntax e) h = absurd h
+  run_stop (Rules e) h = absurd h
+  run_stop (Flat e) h = absurd h
+  run_stop (Place e) h = absurd h
+  run_stop (Table e) h = absurd h
+  run_stop (Schedule e) h = absurd h
+  run_stop (Fault name instant kind) h = run_fault name instant kind refl (fault_is name instant kind h)
+  run_stop LinkLost h = run_lost job asked refl
+  run_stop NoThread h = run_thread job asked refl
+  run_stop (Mistaken mistake) h = absurd h
+  run_stop OutOfMemory h = run_memory refl

@@ -1,0 +1,44 @@
+use Rattle.std.proofs.lemmas.Result.{err_from_is_err_and}
+use Rattle.lusdist_answers.proofs.HasOutputs.{some_output}
+use Rattle.lusdist_answers.proofs.Dumps.{at_program_none, at_table_none, stops_at_table}
+use Rattle.lusdist_answers.proofs.Outcomes.{posed}
+use Rattle.lusdist_answers.specs.Stopped.IsEvalStopped.{eval_program}
+use Rattle.lusdist_answers.proofs.answering.posed.Goals as goal
+
+pub returns-clause-posed : goal.returns-clause-posed
+returns-clause-posed g c =
+    let at = c.in_ok-flat.ensures.flat in
+    let here = c.in_ok-inputs.ensures.table in
+    record {
+      program = at.program;
+      table = here.table;
+      program_given = at.given;
+      table_given = here.given;
+      tree = at.flat_is.tree;
+      posed = posed at.program c.args.request.main.now here.table at.flat_is.tree c.in_ok-flat.flat c.in_ok-inputs.inputs at.flat_is.spelled at.flat_is.flat_is here.text here.short here.utf8 here.fits;
+    }
+
+pub returns-clause-some : goal.returns-clause-some
+returns-clause-some g c =
+    let at = c.in_ok-flat.ensures.flat in
+    some_output at.program c.args.request.main.now at.flat_is.tree c.in_ok-flat.flat at.flat_is.spelled at.flat_is.flat_is
+
+pub returns-in_err-flat-clause-stopped : goal.returns-in_err-flat-clause-stopped
+returns-in_err-flat-clause-stopped g c =
+    let p = err_from_is_err_and c.from_residual.result c.from_residual.ensures.1 in
+    rw (p.1, p.2) (eval_program c.in_err-flat.ensures.stopped)
+
+pub returns-in_err-inputs-clause-stopped : goal.returns-in_err-inputs-clause-stopped
+returns-in_err-inputs-clause-stopped g c =
+    let p = err_from_is_err_and c.from_residual-in_err-inputs.result c.from_residual-in_err-inputs.ensures.1 in
+    rw (p.1, p.2) (stops_at_table (g.F.Files.gives c.args.files.now) c.args.request c.in_ok-flat.flat _ c.in_ok-flat.ensures.flat c.in_err-inputs.ensures.stopped)
+
+pub returns-in_err-flat-clause-no_fault : goal.returns-in_err-flat-clause-no_fault
+returns-in_err-flat-clause-no_fault g c =
+    let p = err_from_is_err_and c.from_residual.result c.from_residual.ensures.1 in
+    rw (p.1, p.2) (at_program_none (g.F.Files.gives c.args.files.now) c.args.request.program.now c.args.request.main.now _ c.in_err-flat.ensures.stopped)
+
+pub returns-in_err-inputs-clause-no_fault : goal.returns-in_err-inputs-clause-no_fault
+returns-in_err-inputs-clause-no_fault g c =
+    let p = err_from_is_err_and c.from_residual-in_err-inputs.result c.from_residual-in_err-inputs.ensures.1 in
+    rw (p.1, p.2) (at_table_none (g.F.Files.gives c.args.files.now) c.args.request.table.now c.in_ok-flat.flat _ c.in_err-inputs.ensures.stopped)

@@ -1,0 +1,28 @@
+use Rattle.std.proofs.lemmas.Result.{err_from_is_err_and}
+use Rattle.lusdist_answers.specs.Stopped.IsReplayStopped.{replay_job}
+use Rattle.lusdist_answers.proofs.Dumps.{at_job_none, at_schedule_none, stops_at_schedule}
+use Rattle.lusdist_answers.proofs.replaying.job_and_turns.Goals as goal
+
+pub returns-clause-asked : goal.returns-clause-asked
+returns-clause-asked g c = record { job_for = c.in_ok-job.ensures.job; schedule_is = c.in_ok-turns.ensures.turns }
+
+pub returns-in_err-job-clause-stopped : goal.returns-in_err-job-clause-stopped
+returns-in_err-job-clause-stopped g c =
+    let p = err_from_is_err_and c.from_residual.result c.from_residual.ensures.1 in
+    rw (p.1, p.2) (replay_job c.in_err-job.ensures.stopped)
+
+pub returns-in_err-turns-clause-stopped : goal.returns-in_err-turns-clause-stopped
+returns-in_err-turns-clause-stopped g c =
+    let p = err_from_is_err_and c.from_residual-in_err-turns.result c.from_residual-in_err-turns.ensures.1 in
+    rw (p.1, p.2) (stops_at_schedule (g.F.Files.gives c.args.files.now) c.args.request c.in_ok-job.job _ c.in_ok-job.ensures.job c.in_err-turns.ensures.stopped)
+
+pub returns-in_err-job-clause-no_write : goal.returns-in_err-job-clause-no_write
+returns-in_err-job-clause-no_write g c =
+    let p = err_from_is_err_and c.from_residual.result c.from_residual.ensures.1 in
+    let request = c.args.request in
+    rw (p.1, p.2) (at_job_none (g.F.Files.gives c.args.files.now) request.program.now request.place.now request.table.now request.main.now _ c.in_err-job.ensures.stopped)
+
+pub returns-in_err-turns-clause-no_write : goal.returns-in_err-turns-clause-no_write
+returns-in_err-turns-clause-no_write g c =
+    let p = err_from_is_err_and c.from_residual-in_err-turns.result c.from_residual-in_err-turns.ensures.1 in
+    rw (p.1, p.2) (at_schedule_none (g.F.Files.gives c.args.files.now) c.args.request.schedule.now _ c.in_err-turns.ensures.stopped)

@@ -1,0 +1,16 @@
+use Rattle.std.proofs.Common.{ℕ, List, refl, subst}
+use Rattle.lutree.specs.declared.program.Program.{Program}
+use Rattle.lutree.specs.Tree.{program_view}
+use Rattle.lucore.specs.Result.{Refuses}
+use Rattle.lusdist_answers.specs.Refused.IsToldOf.{rule, flat}
+use Rattle.lusdist_answers.proofs.sources.flattened.Goals as goal
+
+pub returns-in-Err-clause-told : goal.returns-in-Err-clause-told
+returns-in-Err-clause-told c = rule c.in-Err.e c.args.program.now refl c.in-Err.ensures.told refl refl c.in-Err.ensures.first
+
+pub returns-clause-told : goal.returns-clause-told
+returns-clause-told c =
+    let e = c.in-Err-flatten.e in
+    let checked = c.in-Ok.checked in
+    let same = subst (λ (g : Program). Refuses (program_view g) checked.main e) c.in-Ok.ensures.program c.in-Err-flatten.ensures.refuses in
+    flat e refl c.in-Ok.ensures.accepted (subst (λ (name : List ℕ). Refuses (program_view c.args.program.now) name e) c.in-Ok.ensures.main same)

@@ -1,0 +1,21 @@
+use Rattle.std.proofs.Common.{Some, List, ℕ, sym, subst}
+use Rattle.std.proofs.lemmas.Result.{err_from_is_err_and, IfOk-weaker, IfErr-weaker}
+use Rattle.lusdist_answers.specs.Stopped.StopsAtSchedule.{no_schedule, bad_schedule}
+use Rattle.lusdist_answers.proofs.sources.turns_at.Goals as goal
+
+pub returns-clause-turns : goal.returns-clause-turns
+returns-clause-turns g c =
+    let gives = g.F.Files.gives c.args.files.now in
+    let given = subst (λ (b : List ℕ). gives c.args.path.now (Some b)) (sym c.deref.ensures.value) c.in_ok-bytes.ensures.given in
+    IfOk-weaker c.turns_of.result _ _ (λ turns h. record { schedule = c.deref.result.now; given = given; turns_are = h }) c.turns_of.ensures.turns
+
+pub returns-clause-stopped : goal.returns-clause-stopped
+returns-clause-stopped g c =
+    let gives = g.F.Files.gives c.args.files.now in
+    let given = subst (λ (b : List ℕ). gives c.args.path.now (Some b)) (sym c.deref.ensures.value) c.in_ok-bytes.ensures.given in
+    IfErr-weaker c.turns_of.result _ _ (λ stop h. bad_schedule c.deref.result.now given h) c.turns_of.ensures.refused
+
+pub returns-in_err-bytes-clause-stopped : goal.returns-in_err-bytes-clause-stopped
+returns-in_err-bytes-clause-stopped g c =
+    let p = err_from_is_err_and c.from_residual.result c.from_residual.ensures.1 in
+    rw (p.1, p.2) (no_schedule c.in_err-bytes.ensures.unread)

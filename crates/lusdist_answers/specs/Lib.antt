@@ -1,0 +1,9 @@
+pub mod Explained
+pub mod Asked
+pub mod Refused
+pub mod Stopped
+pub mod Evaluated
+pub mod TellingText
+pub mod Waved
+pub mod Exact
+pub mod Ran

@@ -1,0 +1,28 @@
+//! What holds of the definitions, as contracts of functions that do nothing.
+
+ghost use Rattle.lusdist_answers.specs.Exact.{HasOneOutcome, HasOneStatus, HasOneRefusal};
+
+use lusdist_shell::Files;
+
+/// Where each file has one text or none, what has an answer isn't refused, unless by a stop that says nothing of the
+/// files; and what is refused has no answer.
+pub fn one_outcome_law<F: Files>(files: &F)
+    ensures { HasOneOutcome (F.gives files.now) }
+{
+    let _ = files;
+}
+
+/// Two refusals of one request have one status, where each file has one text or none and neither says nothing of them.
+pub fn one_status_law<F: Files>(files: &F)
+    ensures { HasOneStatus (F.gives files.now) }
+{
+    let _ = files;
+}
+
+/// Two refusals of one request are the same, where each file has one text or none, neither says nothing of them, and they are
+/// no faults of a run on threads.
+pub fn one_refusal_law<F: Files>(files: &F)
+    ensures { HasOneRefusal (F.gives files.now) }
+{
+    let _ = files;
+}

@@ -1,0 +1,27 @@
+//! What each command answers, from the files that it names: what is printed and dumped, or why it stops.
+//!
+//! - [`answering`]: what a check, an evaluation, a plan and a run print; [`replaying`]: what a replay prints.
+//! - [`sources`]: from the texts of the files to a program, its flat program, a plan, a job, its turns, a table.
+//! - [`jobs`]: the job of a program, a placement and a table.
+//! - [`planning`]: the plan of a program at a placement, and its texts.
+//! - [`evaluating`]: the main variables of a program at a table, as a table or as a chart; [`running`]: the table of its outputs, made by its sites on
+//!   threads.
+//! - `filing`: dumps, each into the file that a request names.
+//! - [`explaining`]: a page of the manual.
+//! - [`Stop`], [`Mistake`] of `lusdist_stop`: why a call stops.
+//! - [`laws`]: a call has one outcome, one refusal and one status.
+#![tactic(auto)]
+
+pub mod answering;
+pub mod evaluating;
+pub mod explaining;
+mod filing;
+pub mod jobs;
+pub mod laws;
+pub mod planning;
+pub mod replaying;
+pub mod running;
+pub mod sources;
+
+pub use lusdist_stop::{Mistake, Stop};
+pub use replaying::replayed;

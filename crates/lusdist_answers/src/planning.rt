@@ -1,0 +1,61 @@
+//! The plan of a program at a placement.
+
+ghost use Rattle.std.specs.Prelude.{◌≡◌, [], ◌∷◌, ◌++◌, IfOk, IfErr, string_bytes};
+ghost use Rattle.luplace_report.specs.Report.{report_text};
+ghost use Rattle.lusdist_answers.specs.Asked.{IsPlanFor, plan_text};
+ghost use Rattle.lusdist_answers.specs.Stopped.{StopsAtPlan};
+ghost use Rattle.lusdist_stop.specs.declared.stop.Stop.TheVariants.{OutOfMemory};
+
+use crate::sources::{flat_at, plan_of};
+use luplace::Plan;
+use luplace_report::{report_dot, report_json, report_table};
+use lusdist_shell::{Files, PlanForm};
+use lusdist_stop::{Stop, read};
+use std::alloc::{AllocError, Global};
+
+/// The plan of the program and the placement at two paths, which are read and refused in this order.
+pub fn planned<F: Files>(
+    alloc: Global,
+    files: &F,
+    program: &str,
+    place: &str,
+    main: &str,
+) -> Result<Plan, Stop>
+    ensures plan { IfOk result (IsPlanFor (F.gives files.now) program.now place.now main.now) }
+    ensures stopped { IfErr result (StopsAtPlan (F.gives files.now) program.now place.now
+        main.now) }
+{
+    let flat = flat_at(alloc, files, program, main)?;
+    let place_bytes = read(alloc, files, place)?;
+    let plan = plan_of(alloc, flat, &place_bytes)?;
+    let _flat = plan.flat();
+    Ok(plan)
+}
+
+/// The report of a plan, on a line.
+fn report_line(alloc: Global, plan: &Plan) -> Result<String, AllocError>
+    ensures { IfOk result (λ text. string_bytes text ≡ report_text plan.now ++ 10 ∷ []) }
+{
+    let mut text = report_json(alloc, plan)?;
+    text.push('\n')?;
+    Ok(text)
+}
+
+/// A plan in a form.
+fn formed(alloc: Global, plan: &Plan, form: PlanForm) -> Result<String, AllocError>
+    ensures { IfOk result (λ text. string_bytes text ≡ plan_text form plan.now) }
+{
+    match form {
+        PlanForm::Report => report_line(alloc, plan),
+        PlanForm::Table => report_table(alloc, plan),
+        PlanForm::Graph => report_dot(alloc, plan),
+    }
+}
+
+/// A plan as a report, a table or a graph.
+pub fn plan_text(alloc: Global, plan: &Plan, form: PlanForm) -> Result<String, Stop>
+    ensures text { IfOk result (λ text. string_bytes text ≡ plan_text form plan.now) }
+    ensures memory { IfErr result (λ stop. stop ≡ OutOfMemory) }
+{
+    Ok(formed(alloc, plan, form)?)
+}

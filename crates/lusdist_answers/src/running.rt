@@ -1,0 +1,146 @@
+//! A run of a job on threads.
+
+ghost use Rattle.std.specs.Prelude.{◌≡◌, ◌<◌, ◌⊎◌, length, IfOk, IfErr, OnOk, MatchResult, string_bytes};
+ghost use Rattle.luflow.specs.Variables.{outputs_of};
+ghost use Rattle.lurun_reports.specs.Reports.{AreOutputsOf};
+ghost use Rattle.lusdist_shell.specs.Request.{AreFew};
+ghost use Rattle.lutab_writing.specs.Outputs.{output_text};
+ghost use Rattle.lusdist_answers.specs.Ran.{IsRunError, IsRunTable, IsStopOfRun};
+ghost use Rattle.lusdist_stop.specs.Files.{IsFiledAt, IsUnfiledAt};
+ghost use Rattle.lusdist_answers.specs.Waved.{AreRunWaves, run_dump, run_path};
+
+use crate::evaluating::fault_stop;
+use crate::filing::file_run;
+use luflow::Outputs;
+use luplace::{Job, Plan};
+use lurun::{Gate, RunError, run_crew, run_threads, stations};
+use lusdist_shell::{Files, Progress, RunRequest};
+use lusdist_stop::Stop;
+use lutab::write_outputs;
+use std::alloc::Global;
+use std::sync::Wait;
+use std::thread::Threads;
+
+/// The gate that holds nothing back. It hands on how far a site has come, where somebody asked for that.
+#[derive(Drop)]
+struct Open<'p, P> {
+    progress: Option<&'p P>,
+}
+
+impl<'p, P: Progress> Gate for Open<'p, P> {
+    fn before(&self, _site: u8, _step: u64) {}
+
+    fn at(&self, site: u8, instant: u32) {
+        if let Some(progress) = self.progress {
+            progress.reach(site, instant);
+        }
+    }
+}
+
+/// The gate for a run of a job: it tells the progress where that is given.
+fn gate_for<'p, P: Progress>(job: &Job, progress: Option<&'p P>) -> Open<'p, P> {
+    if let Some(progress) = progress {
+        progress.begin(job.plan().sites().len(), job.instants());
+    }
+    Open { progress }
+}
+
+/// The outputs of a job that is run by so many workers, or with a thread for each site.
+fn outputs_of_run<R: Threads + Wait + Sync, P: Progress>(
+    rt: &R,
+    alloc: Global,
+    job: &Job,
+    workers: Option<u8>,
+    progress: Option<&P>,
+) -> Result<Outputs, RunError>
+    requires few { AreFew workers }
+    requires some { 0 < length (outputs_of job.now.plan.flat.variables) }
+    ensures { MatchResult result (AreOutputsOf job.now) (IsRunError job.now) }
+{
+    let stations = stations(alloc, job)?;
+    let gate = gate_for(job, progress);
+    match workers {
+        Some(workers) => run_crew(rt, alloc, stations, workers, &gate),
+        None => run_threads(rt, alloc, stations, &gate),
+    }
+}
+
+/// The stop for a run that has no outputs.
+fn stop_of(alloc: Global, job: &Job, error: RunError) -> Stop
+    requires { IsRunError job.now error }
+    ensures { IsStopOfRun job.now result }
+{
+    let flat = job.plan().flat();
+    match error {
+        RunError::Fault {
+            variable,
+            instant,
+            kind,
+        } => fault_stop(alloc, flat, variable, instant, kind),
+        RunError::OutOfMemory => Stop::OutOfMemory,
+        RunError::LinkLost => Stop::LinkLost,
+        RunError::NoThread => Stop::NoThread,
+        RunError::WrongReports => unreachable!(),
+    }
+}
+
+/// The outputs of a job that is run by so many workers, 1 to 16, or with a thread for each site; or why there are
+/// none. All its threads have ended when it returns. Where a progress is given, it is told how far the sites have come.
+fn run_outputs<R: Threads + Wait + Sync, P: Progress>(
+    rt: &R,
+    alloc: Global,
+    job: &Job,
+    workers: Option<u8>,
+    progress: Option<&P>,
+) -> Result<Outputs, Stop>
+    requires few { AreFew workers }
+    requires some { 0 < length (outputs_of job.now.plan.flat.variables) }
+    ensures outputs { IfOk result (AreOutputsOf job.now) }
+    ensures stopped { IfErr result (IsStopOfRun job.now) }
+{
+    match outputs_of_run(rt, alloc, job, workers, progress) {
+        Ok(outputs) => Ok(outputs),
+        Err(error) => Err(stop_of(alloc, job, error)),
+    }
+}
+
+/// The table of a run's outputs. The file of their dump is written first, where the request asks for one.
+fn told_outputs<F: Files>(
+    alloc: Global,
+    request: RunRequest<'_>,
+    files: &F,
+    plan: &Plan,
+    outputs: &Outputs,
+) -> Result<String, Stop>
+    ensures text { IfOk result (λ text. string_bytes text
+        ≡ output_text plan.now.flat outputs.now) }
+    ensures filed { OnOk result (IsFiledAt (F.takes files.now) (run_path request.entry)
+        (run_dump request.entry.main.now plan.now outputs.now)) }
+    ensures stopped { IfErr result (IsUnfiledAt (F.takes files.now) (run_path request.entry)) }
+{
+    let text = write_outputs(alloc, plan.flat(), outputs)?;
+    file_run(alloc, request, files, plan, outputs)?;
+    Ok(text)
+}
+
+/// The table of the outputs of a job that is run as a request asks for, or why there is none. The file of their dump is written first, where
+/// the request asks for one. All threads of the run have ended when it returns.
+pub fn run_table<R: Threads + Wait + Sync, F: Files, P: Progress>(
+    rt: &R,
+    alloc: Global,
+    request: RunRequest<'_>,
+    files: &F,
+    progress: &P,
+    job: &Job,
+) -> Result<String, Stop>
+    requires few { AreFew request.workers }
+    requires some { 0 < length (outputs_of job.now.plan.flat.variables) }
+    ensures text { IfOk result (λ text. IsRunTable job.now (string_bytes text)) }
+    ensures filed { OnOk result (AreRunWaves (F.takes files.now) request.entry job.now) }
+    ensures stopped { IfErr result (λ stop. IsStopOfRun job.now stop
+        ⊎ IsUnfiledAt (F.takes files.now) (run_path request.entry) stop) }
+{
+    let asked = request.progress.then_some(progress);
+    let outputs = run_outputs(rt, alloc, job, request.workers, asked)?;
+    told_outputs(alloc, request, files, job.plan(), &outputs)
+}
