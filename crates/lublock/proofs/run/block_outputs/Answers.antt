@@ -18,3 +18,6 @@ returns-in-Some-clause-tidy c = all_types c.args.flat.now c.args.inputs.now c.fl
 
 pub returns-in-Some-clause-no_fault : goal.returns-in-Some-clause-no_fault
 returns-in-Some-clause-no_fault c = on_ok (HasNoFault c.args.flat.now c.args.inputs.now) c.told.result (no_fault c.args.flat.now c.args.inputs.now c.in-Some.columns.items c.flows-flows.ensures.flat c.requires.fit (search rules))
+
+pub returns-in_default-clause-fault : goal.returns-in_default-clause-fault
+returns-in_default-clause-fault c = c.whole_outputs.ensures.fault

@@ -1,3 +1,4 @@
+use Rattle.std.proofs.lemmas.Grind.{common_steps}
 use Rattle.std.proofs.Common.{◌<◌, ◌^◌, [], length, ap, sym, refl, ◌∙◌, subst, inl, arith}
 use Rattle.luworld.specs.Runs.{Run}
 use Rattle.lulink.specs.Lists.{list_of}
@@ -66,3 +67,6 @@ invariant_of-rx c =
           }
           (s.3 ∙ e.2 ∙ sym (ap (λ x. x.shared.table_id) b)) (s.4 ∙ ap (λ (m : Holding). (seated Consumer m.0, [])) e.4) refl refl refl refl;
     }
+
+pub returns-clause-room : goal.returns-clause-room
+returns-clause-room c = grind (arith, common_steps)
