@@ -24,7 +24,7 @@ enum Number<'a> {
 fn wrong_in<'a>(spot: &Spot<'_, 'a>) -> Option<Number<'a>> {
     for e in spot.parts {
         if let Expr::Call(f, arguments) = *e {
-            if let Some(node) = called(spot.catalog, f) {
+            if let Some(node) = called(spot, f) {
                 let wanted = node.inputs.as_slice().len();
                 if arguments.len() != wanted {
                     return Some(Number::Arguments(f.as_str(), arguments.len(), wanted));
@@ -35,7 +35,7 @@ fn wrong_in<'a>(spot: &Spot<'_, 'a>) -> Option<Number<'a>> {
     if let [_, inner @ ..] = spot.parts {
         for e in inner {
             if let Expr::Call(f, _) = *e {
-                if let Some(node) = called(spot.catalog, f) {
+                if let Some(node) = called(spot, f) {
                     let values = node.outputs.as_slice().len();
                     if values != 1 {
                         return Some(Number::Inside(f.as_str(), values));
@@ -46,7 +46,7 @@ fn wrong_in<'a>(spot: &Spot<'_, 'a>) -> Option<Number<'a>> {
     }
     let left = spot.equation.left.as_slice().len();
     let right = match &spot.equation.right {
-        Expr::Call(f, _) => called(spot.catalog, f)?.outputs.as_slice().len(),
+        Expr::Call(f, _) => called(spot, f)?.outputs.as_slice().len(),
         _ => 1,
     };
     if left == right {

@@ -11,11 +11,10 @@ use lutree::{Node, Program};
 use std::alloc::{AllocError, Global};
 use toml::{Table, Value};
 
-/// What names sites: the array `sites`, `default`, or an entry of `place`.
+/// What names sites: the value of a key, `sites` or `default`, or an entry of `place`.
 #[derive(Clone, Copy)]
 pub(crate) enum Holder<'a> {
-    Sites,
-    Default,
+    Key(&'a str),
     Entry(&'a str),
 }
 
@@ -207,12 +206,12 @@ fn twice_in(alloc: Global, value: &Value) -> Result<Option<&str>, AllocError> {
 fn twice(alloc: Global, table: &Table) -> Result<Blamed<'_>, AllocError> {
     if let Some(value) = table.get("sites") {
         if let Some(name) = twice_in(alloc, value)? {
-            return Ok(Blamed::Twice(Holder::Sites, name));
+            return Ok(Blamed::Twice(Holder::Key("sites"), name));
         }
     }
     if let Some(value) = table.get("default") {
         if let Some(name) = twice_in(alloc, value)? {
-            return Ok(Blamed::Twice(Holder::Default, name));
+            return Ok(Blamed::Twice(Holder::Key("default"), name));
         }
     }
     if let Some(entries) = entries_of(table) {
@@ -254,31 +253,30 @@ fn foreign_among<'a>(sites: &[Value], values: &'a [Value]) -> Option<&'a str> {
     None
 }
 
-/// The name in a value that isn't one of `sites`, and one of these that is spelled nearly so.
-fn foreign_in<'a>(sites: &'a [Value], holder: Holder<'a>, value: &'a Value) -> Option<Blamed<'a>> {
-    let name = foreign_among(sites, values_of(value))?;
+/// One of `sites` that is spelled nearly as a name.
+fn near_site<'a>(sites: &'a [Value], name: &str) -> Option<&'a str> {
     for value in sites {
         let site = value.as_str().unwrap_or("");
         if is_near(site, name) {
-            return Some(Blamed::Foreign(holder, name, Some(site)));
+            return Some(site);
         }
     }
-    Some(Blamed::Foreign(holder, name, None))
+    None
 }
 
 /// `P03`: a name in `default` or in `place` that isn't one of `sites`.
 fn foreign(table: &Table) -> Option<Blamed<'_>> {
     let sites = values_of(table.get("sites")?);
     if let Some(value) = table.get("default") {
-        let found = foreign_in(sites, Holder::Default, value);
-        if found.is_some() {
-            return found;
+        if let Some(name) = foreign_among(sites, values_of(value)) {
+            let near = near_site(sites, name);
+            return Some(Blamed::Foreign(Holder::Key("default"), name, near));
         }
     }
     for (key, value) in entries_of(table)? {
-        let found = foreign_in(sites, Holder::Entry(key.as_str()), value);
-        if found.is_some() {
-            return found;
+        if let Some(name) = foreign_among(sites, values_of(value)) {
+            let near = near_site(sites, name);
+            return Some(Blamed::Foreign(Holder::Entry(key.as_str()), name, near));
         }
     }
     None
@@ -341,6 +339,16 @@ fn apart<'a>(table: &Table, node: &'a Node) -> Option<Blamed<'a>> {
     None
 }
 
+/// `P04`, `P05` and `P08`, by the scope of the main node.
+fn blamed_by<'a>(table: &'a Table, scope: &Scope<'a>, error: &PlaceError) -> Blamed<'a> {
+    let found = match error {
+        PlaceError::UnknownVariable => unknown_variable(table, scope),
+        PlaceError::Unplaced => unplaced(table, scope),
+        _ => apart(table, scope.node()),
+    };
+    found.unwrap_or(Blamed::Nothing)
+}
+
 /// `P04`, `P05` and `P08`, by the main node.
 fn blamed_in_node<'a>(
     alloc: Global,
@@ -349,12 +357,7 @@ fn blamed_in_node<'a>(
     error: &PlaceError,
 ) -> Result<Blamed<'a>, AllocError> {
     let scope = Scope::new(alloc, node)?;
-    let found = match error {
-        PlaceError::UnknownVariable => unknown_variable(table, &scope),
-        PlaceError::Unplaced => unplaced(table, &scope),
-        _ => apart(table, node),
-    };
-    Ok(found.unwrap_or(Blamed::Nothing))
+    Ok(blamed_by(table, &scope, error))
 }
 
 /// What of a placement is refused, by its table and the main node.

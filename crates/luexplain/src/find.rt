@@ -26,9 +26,9 @@ pub(crate) fn node_named<'a>(program: &'a Program, name: &str) -> Option<&'a Nod
     None
 }
 
-/// The node that a call means.
-pub(crate) fn called<'a>(catalog: &Catalog<'a>, f: &Name) -> Option<&'a Node> {
-    Some(catalog.find(f.as_str())?.node())
+/// The node that a call in an equation means.
+pub(crate) fn called<'a>(spot: &Spot<'_, 'a>, f: &Name) -> Option<&'a Node> {
+    Some(spot.catalog.find(f.as_str())?.node())
 }
 
 /// The type at a place.
@@ -108,23 +108,22 @@ pub(crate) fn push_parts<'e>(e: &'e Expr, parts: &mut Vec<&'e Expr>) -> Result<(
         push_parts(a, parts)?;
     }
     parts.push(e)?;
+    if let Expr::If(c, _, _) = e {
+        push_parts(c, parts)?;
+    }
+    if let Expr::Binary(_, a, _) | Expr::If(_, a, _) = e {
+        push_parts(a, parts)?;
+    }
     match e {
-        Expr::Unary(_, a) => push_parts(a, parts)?,
-        Expr::Binary(_, a, b) => {
-            push_parts(a, parts)?;
-            push_parts(b, parts)?;
-        }
-        Expr::If(c, a, b) => {
-            push_parts(c, parts)?;
-            push_parts(a, parts)?;
-            push_parts(b, parts)?;
+        Expr::Unary(_, last) | Expr::Binary(_, _, last) | Expr::If(_, _, last) => {
+            push_parts(last, parts)
         }
         Expr::Merge(_, _, all) | Expr::Call(_, all) => {
             for a in all {
                 push_parts(a, parts)?;
             }
+            Ok(())
         }
-        _ => {}
+        _ => Ok(()),
     }
-    Ok(())
 }

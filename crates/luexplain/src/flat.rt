@@ -24,24 +24,23 @@ fn push_place(scope: &Scope, name: &str, row: &mut Vec<usize>) -> Result<(), All
 
 /// The places of the variables that an expression reads at the same instant, behind those before. What a call is given is among
 /// them where `through` says so.
+#[cycle(reads)]
 fn push_reads(
     scope: &Scope,
     through: bool,
     e: &Expr,
     row: &mut Vec<usize>,
 ) -> Result<(), AllocError> {
+    if let Expr::If(c, _, _) = e {
+        push_reads(scope, through, c, row)?;
+    }
     match e {
         Expr::Number(_) | Expr::Truth(_) | Expr::Label(_) | Expr::Unary(Prefix::Pre, _) => Ok(()),
         Expr::Variable(x) | Expr::Current(x) => push_place(scope, x.as_str(), row),
         Expr::Unary(_, a) | Expr::Binary(Infix::FollowedBy, a, _) => {
             push_reads(scope, through, a, row)
         }
-        Expr::Binary(_, a, b) => {
-            push_reads(scope, through, a, row)?;
-            push_reads(scope, through, b, row)
-        }
-        Expr::If(c, a, b) => {
-            push_reads(scope, through, c, row)?;
+        Expr::Binary(_, a, b) | Expr::If(_, a, b) => {
             push_reads(scope, through, a, row)?;
             push_reads(scope, through, b, row)
         }
@@ -51,20 +50,25 @@ fn push_reads(
         }
         Expr::Merge(x, _, branches) => {
             push_place(scope, x.as_str(), row)?;
-            for branch in branches {
-                push_reads(scope, through, branch, row)?;
-            }
-            Ok(())
+            push_all_reads(scope, through, branches, row)
         }
-        Expr::Call(_, arguments) => {
-            if through {
-                for argument in arguments {
-                    push_reads(scope, through, argument, row)?;
-                }
-            }
-            Ok(())
-        }
+        Expr::Call(_, arguments) if through => push_all_reads(scope, through, arguments, row),
+        Expr::Call(_, _) => Ok(()),
     }
+}
+
+/// The same of several expressions.
+#[cycle(reads)]
+fn push_all_reads(
+    scope: &Scope,
+    through: bool,
+    all: &[Expr],
+    row: &mut Vec<usize>,
+) -> Result<(), AllocError> {
+    for e in all {
+        push_reads(scope, through, e, row)?;
+    }
+    Ok(())
 }
 
 /// Each variable on the left of an equation leads to its vertex.

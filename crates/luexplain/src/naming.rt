@@ -7,6 +7,7 @@ use crate::place::line_of;
 use crate::said::{Said, mended_by, say};
 use crate::usual::{mend_of, usual};
 use crate::words::Part;
+use lulist::Name;
 use lunames::Places;
 use lustat_rules::StatError;
 use lustat_scope::{Catalog, Scope};
@@ -130,60 +131,78 @@ pub(crate) fn duplicate_variable(
     )
 }
 
-/// A name that isn't known, by what it would have to be.
+/// What a name would have to be.
 #[derive(Clone, Copy)]
-enum Unknown<'a> {
-    Variable(&'a str),
-    Label(&'a str),
-    Type(&'a str),
+enum Wanted {
+    Variable,
+    Label,
+    Type,
 }
 
-/// The first that isn't known of a variable and of the names of an enumeration among some patterns.
-fn unknown_of<'a>(
-    catalog: &Catalog,
-    scope: &Scope,
-    variable: &'a str,
-    patterns: &'a [Pattern],
-) -> Option<Unknown<'a>> {
-    if scope.place(variable).is_none() {
-        return Some(Unknown::Variable(variable));
-    }
+/// A name that isn't known, and what it would have to be.
+#[derive(Clone, Copy)]
+struct Unknown<'a> {
+    name: &'a str,
+    wanted: Wanted,
+}
+
+/// The first name of an enumeration among some patterns that isn't known.
+fn unknown_label<'a>(catalog: &Catalog, patterns: &'a [Pattern]) -> Option<&'a str> {
     for pattern in patterns {
         if let Pattern::Label(label) = pattern {
             if !catalog.has_label(label.name.as_str()) {
-                return Some(Unknown::Label(label.name.as_str()));
+                return Some(label.name.as_str());
             }
         }
     }
     None
 }
 
+/// The variable that an expression names outside of its parts.
+fn variable_of(e: &Expr) -> Option<&str> {
+    match e {
+        Expr::Variable(x) | Expr::Current(x) => Some(x.as_str()),
+        Expr::When(_, clock) => Some(clock.variable.as_str()),
+        Expr::Merge(x, _, _) => Some(x.as_str()),
+        _ => None,
+    }
+}
+
+/// The patterns that an expression has outside of its parts.
+fn patterns_of(e: &Expr) -> &[Pattern] {
+    match e {
+        Expr::When(_, clock) => slice::from_ref(&clock.pattern),
+        Expr::Merge(_, patterns, _) => patterns.as_slice(),
+        _ => &[],
+    }
+}
+
+/// The first name of an enumeration outside of an expression's parts that isn't known.
+fn unknown_label_at<'a>(catalog: &Catalog, e: &'a Expr) -> Option<&'a str> {
+    match e {
+        Expr::Label(label) if !catalog.has_label(label.name.as_str()) => Some(label.name.as_str()),
+        _ => unknown_label(catalog, patterns_of(e)),
+    }
+}
+
 /// The first name of an equation that isn't known.
 fn unknown_in<'a>(spot: &Spot<'_, 'a>) -> Option<Unknown<'a>> {
-    let (catalog, scope) = (spot.catalog, spot.scope);
     for x in spot.equation.left.as_slice() {
-        let found = unknown_of(catalog, scope, x.as_str(), &[]);
-        if found.is_some() {
-            return found;
+        if spot.scope.place(x.as_str()).is_none() {
+            let (name, wanted) = (x.as_str(), Wanted::Variable);
+            return Some(Unknown { name, wanted });
         }
     }
     for e in spot.parts {
-        let found = match *e {
-            Expr::Variable(x) | Expr::Current(x) => unknown_of(catalog, scope, x.as_str(), &[]),
-            Expr::When(_, clock) => {
-                let asked = slice::from_ref(&clock.pattern);
-                unknown_of(catalog, scope, clock.variable.as_str(), asked)
+        if let Some(name) = variable_of(*e) {
+            if spot.scope.place(name).is_none() {
+                let wanted = Wanted::Variable;
+                return Some(Unknown { name, wanted });
             }
-            Expr::Merge(x, patterns, _) => {
-                unknown_of(catalog, scope, x.as_str(), patterns.as_slice())
-            }
-            Expr::Label(label) if !catalog.has_label(label.name.as_str()) => {
-                Some(Unknown::Label(label.name.as_str()))
-            }
-            _ => None,
-        };
-        if found.is_some() {
-            return found;
+        }
+        if let Some(name) = unknown_label_at(spot.catalog, *e) {
+            let wanted = Wanted::Label;
+            return Some(Unknown { name, wanted });
         }
     }
     None
@@ -197,12 +216,19 @@ fn unknown_declared_in<'a>(
 ) -> Option<Unknown<'a>> {
     if let Some(name) = &declared.type_name {
         if catalog.type_place(name.as_str()).is_none() {
-            return Some(Unknown::Type(name.as_str()));
+            let (name, wanted) = (name.as_str(), Wanted::Type);
+            return Some(Unknown { name, wanted });
         }
     }
     let clock = declared.clock.as_ref()?;
-    let asked = slice::from_ref(&clock.pattern);
-    unknown_of(catalog, scope, clock.variable.as_str(), asked)
+    let name = clock.variable.as_str();
+    if scope.place(name).is_none() {
+        let wanted = Wanted::Variable;
+        return Some(Unknown { name, wanted });
+    }
+    let name = unknown_label(catalog, slice::from_ref(&clock.pattern))?;
+    let wanted = Wanted::Label;
+    Some(Unknown { name, wanted })
 }
 
 /// A variable of a node that is spelled nearly so.
@@ -267,38 +293,52 @@ pub(crate) fn mend_name<'a>(
     }
 }
 
+/// A name that is spelled nearly as one that isn't known, and that may stand for it.
+fn near_unknown<'a>(
+    program: &'a Program,
+    scope: &Scope<'a>,
+    unknown: Unknown<'a>,
+) -> Option<&'a str> {
+    match unknown.wanted {
+        Wanted::Variable => match near_variable(scope, unknown.name) {
+            None => near_label(program, unknown.name),
+            found => found,
+        },
+        Wanted::Label => near_label(program, unknown.name),
+        Wanted::Type => near_type(program, unknown.name),
+    }
+}
+
+/// How a name is told that isn't known; of a variable its node too.
 fn said_of_unknown<'a>(
     alloc: Global,
     program: &'a Program,
     scope: &Scope<'a>,
     unknown: Unknown<'a>,
 ) -> Result<Said, AllocError> {
-    match unknown {
-        Unknown::Variable(name) => mend_name(
-            alloc,
+    let (what, mend) = match unknown.wanted {
+        Wanted::Variable => (
             "@ is no variable of node @, and no name of an enumeration.",
-            &[Part::Name(name), Part::Name(scope.node().name.as_str())],
-            match near_variable(scope, name) {
-                None => near_label(program, name),
-                found => found,
-            },
             "Spell the name as it is declared, or declare it; what another node knows has to come as an argument.",
         ),
-        Unknown::Label(name) => mend_name(
-            alloc,
+        Wanted::Label => (
             "@ is no name of an enumeration.",
-            &[Part::Name(name)],
-            near_label(program, name),
             "Spell it as in its type, or declare it there.",
         ),
-        Unknown::Type(name) => mend_name(
-            alloc,
+        Wanted::Type => (
             "@ is no type of the program.",
-            &[Part::Name(name)],
-            near_type(program, name),
             "The types are `int`, `bool` and those that the program declares.",
         ),
-    }
+    };
+    let node = scope.node().name.as_str();
+    let near = near_unknown(program, scope, unknown);
+    mend_name(
+        alloc,
+        what,
+        &[Part::Name(unknown.name), Part::Name(node)],
+        near,
+        mend,
+    )
 }
 
 /// `E11` of an equation.
@@ -370,39 +410,47 @@ enum Defined<'a> {
     Before(&'a str, usize),
 }
 
-/// The first variable that an equation may not define: by itself, or because one before it does.
-fn defined_in<'a>(alloc: Global, spot: &Spot<'_, 'a>) -> Result<Option<Defined<'a>>, AllocError> {
-    let left = spot.equation.left.as_slice();
+/// The names on the left of an equation, by their places.
+fn places_of<'a>(alloc: Global, left: &'a [Name]) -> Result<Places<'a>, AllocError> {
     let mut names = Vec::new(alloc);
     for x in left {
         names.push(x.as_str())?;
     }
-    let places = Places::new(alloc, names)?;
-    for (i, x) in left.iter().enumerate() {
+    Places::new(alloc, names)
+}
+
+/// The first variable that an equation may not define: by itself, or because one before it does. `places` are those of the names that it defines.
+fn defined_in<'a>(spot: &Spot<'_, 'a>, places: &Places) -> Option<Defined<'a>> {
+    for (i, x) in spot.equation.left.as_slice().iter().enumerate() {
         if spot.scope.is_input(x.as_str()) {
-            return Ok(Some(Defined::Input(x.as_str())));
+            return Some(Defined::Input(x.as_str()));
         }
         if places.find(x.as_str()) != Some(i) {
-            return Ok(Some(Defined::Here(x.as_str())));
+            return Some(Defined::Here(x.as_str()));
         }
     }
     for other in spot.scope.node().equations.as_slice() {
         if other.byte == spot.equation.byte {
-            return Ok(None);
+            return None;
         }
         for x in other.left.as_slice() {
             if places.has(x.as_str()) {
-                return Ok(Some(Defined::Before(x.as_str(), other.byte)));
+                return Some(Defined::Before(x.as_str(), other.byte));
             }
         }
     }
-    Ok(None)
+    None
 }
 
-/// `E16`
-pub(crate) fn defined_twice(alloc: Global, text: &[u8], spot: &Spot) -> Result<Said, AllocError> {
+/// `E16`, by the places of the names that the equation defines.
+fn said_of_defined(
+    alloc: Global,
+    text: &[u8],
+    spot: &Spot,
+    places: &Places,
+) -> Result<Said, AllocError> {
     let node = spot.scope.node().name.as_str();
-    match defined_in(alloc, spot)? {
+    match defined_in(spot, places) {
         Some(Defined::Input(name)) => mended_by(
             alloc,
             "@ is an input of node @, and an input has no equation.",
@@ -423,6 +471,12 @@ pub(crate) fn defined_twice(alloc: Global, text: &[u8], spot: &Spot) -> Result<S
         ),
         None => usual(alloc, spot.error),
     }
+}
+
+/// `E16`
+pub(crate) fn defined_twice(alloc: Global, text: &[u8], spot: &Spot) -> Result<Said, AllocError> {
+    let places = places_of(alloc, spot.equation.left.as_slice())?;
+    said_of_defined(alloc, text, spot, &places)
 }
 
 /// The nodes on a way from one back to itself, each calling the next.

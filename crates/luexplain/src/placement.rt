@@ -6,8 +6,7 @@ ghost use Rattle.luexplain.specs.Texts.{IsToldSomewhere};
 use crate::blame::{Blamed, Holder, blamed_in};
 use crate::naming::mend_name;
 use crate::near::is_near;
-use crate::place::where_in;
-use crate::said::{Said, in_words, mended_by, told, whole};
+use crate::said::{Found, Said, in_words, mended_by, told_of};
 use crate::sought::{entry_in, key_in, text_behind};
 use crate::words::Part;
 use lulimits::limits::LONGEST_PLACEMENT;
@@ -63,18 +62,10 @@ fn mend_of(error: &PlaceError) -> &'static str {
     }
 }
 
-/// What is said, and the byte at which it stands; none where it is of the whole.
-#[derive(Drop)]
-struct Found {
-    byte: Option<usize>,
-    said: Said,
-}
-
 /// Where what names sites stands.
 fn holder_byte(text: &[u8], holder: Holder) -> Option<usize> {
     match holder {
-        Holder::Sites => key_in(text, "sites"),
-        Holder::Default => key_in(text, "default"),
+        Holder::Key(key) => key_in(text, key),
         Holder::Entry(key) => entry_in(text, key),
     }
 }
@@ -200,16 +191,10 @@ fn said_of_sites(alloc: Global, blamed: Blamed) -> Result<Said, AllocError> {
             &[Part::Name(name), Part::Name(key)],
             mend_of(&PlaceError::DuplicateSite),
         ),
-        Blamed::Twice(Holder::Default, name) => mended_by(
+        Blamed::Twice(Holder::Key(key), name) => mended_by(
             alloc,
-            "@ stands twice in `default`.",
-            &[Part::Name(name)],
-            mend_of(&PlaceError::DuplicateSite),
-        ),
-        Blamed::Twice(Holder::Sites, name) => mended_by(
-            alloc,
-            "@ stands twice in `sites`.",
-            &[Part::Name(name)],
+            "@ stands twice in @.",
+            &[Part::Name(name), Part::Name(key)],
             mend_of(&PlaceError::DuplicateSite),
         ),
         _ => in_words(
@@ -369,8 +354,5 @@ pub fn of_place(
     ensures { IfOk result (IsToldSomewhere path.now text.now) }
 {
     let found = found_at(alloc, text, program, main, error)?;
-    match found.byte {
-        Some(byte) => told(where_in(alloc, path, text, byte)?, &found.said),
-        None => told(whole(alloc, path)?, &found.said),
-    }
+    told_of(alloc, path, text, &found)
 }

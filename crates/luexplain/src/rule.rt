@@ -20,6 +20,24 @@ use lustat_scope::{Catalog, Scope};
 use lutree::{Declaration, Equation, Program};
 use std::alloc::{AllocError, Global};
 
+/// What is said of a rule that an equation breaks, by its parts too.
+fn said_of_spot(alloc: Global, text: &[u8], main: &str, spot: &Spot) -> Result<Said, AllocError> {
+    match spot.error {
+        StatError::UnknownName { .. } => unknown_name(alloc, spot),
+        StatError::UnknownNode { .. } => unknown_node(alloc, spot),
+        StatError::TypeMismatch { .. } => typing::mismatch(alloc, spot),
+        StatError::WrongArity { .. } => wrong_arity(alloc, spot),
+        StatError::DefinedTwice { .. } => defined_twice(alloc, text, spot),
+        StatError::BadMerge { .. } => bad_merge(alloc, spot),
+        StatError::ClockMismatch { .. } => clocks::mismatch(alloc, spot),
+        StatError::NotAClock { .. } => no_clock_inside(alloc, spot),
+        StatError::ClockedParameter { .. } => clocked_call(alloc, spot, main),
+        StatError::MaybeNil { .. } => maybe_nil(alloc, spot),
+        StatError::CurrentMayBeNil { .. } => current_nil(alloc, spot),
+        _ => usual(alloc, spot.error),
+    }
+}
+
 /// What is said of a rule that an equation breaks.
 fn said_of_equation<'a>(
     alloc: Global,
@@ -39,20 +57,7 @@ fn said_of_equation<'a>(
         equation,
         parts: parts.as_slice(),
     };
-    match error {
-        StatError::UnknownName { .. } => unknown_name(alloc, &spot),
-        StatError::UnknownNode { .. } => unknown_node(alloc, &spot),
-        StatError::TypeMismatch { .. } => typing::mismatch(alloc, &spot),
-        StatError::WrongArity { .. } => wrong_arity(alloc, &spot),
-        StatError::DefinedTwice { .. } => defined_twice(alloc, text, &spot),
-        StatError::BadMerge { .. } => bad_merge(alloc, &spot),
-        StatError::ClockMismatch { .. } => clocks::mismatch(alloc, &spot),
-        StatError::NotAClock { .. } => no_clock_inside(alloc, &spot),
-        StatError::ClockedParameter { .. } => clocked_call(alloc, &spot, main),
-        StatError::MaybeNil { .. } => maybe_nil(alloc, &spot),
-        StatError::CurrentMayBeNil { .. } => current_nil(alloc, &spot),
-        _ => usual(alloc, error),
-    }
+    said_of_spot(alloc, text, main, &spot)
 }
 
 /// What is said of a rule that a declaration breaks.

@@ -1,8 +1,10 @@
 //! What is told: a place, what is wrong, and how to mend it.
 
 ghost use Rattle.std.specs.Prelude.{◌≡◌, ◌++◌, codes, IfOk, string_bytes};
+ghost use Rattle.luexplain.specs.Texts.{IsToldSomewhere};
 ghost use Rattle.luexplain.specs.Told.{IsTold};
 
+use crate::place::where_in;
 use crate::words::{Part, sentence};
 use std::alloc::{AllocError, Global};
 
@@ -11,6 +13,13 @@ use std::alloc::{AllocError, Global};
 pub(crate) struct Said {
     pub(crate) what: String,
     pub(crate) mend: String,
+}
+
+/// What is said, and the byte at which it stands; none where it is of the whole.
+#[derive(Drop)]
+pub(crate) struct Found {
+    pub(crate) byte: Option<usize>,
+    pub(crate) said: Said,
 }
 
 /// A sentence on what is wrong and one on how to mend it, each by its words, which have an `@` for each of its parts.
@@ -60,4 +69,19 @@ pub(crate) fn told(place: String, said: &Said) -> Result<String, AllocError>
     text.push_str(said.mend.as_str())?;
     text.push('\n')?;
     Ok(text)
+}
+
+/// What is said, behind its place.
+pub(crate) fn told_of(
+    alloc: Global,
+    path: &str,
+    text: &[u8],
+    found: &Found,
+) -> Result<String, AllocError>
+    ensures { IfOk result (IsToldSomewhere path.now text.now) }
+{
+    match found.byte {
+        Some(byte) => told(where_in(alloc, path, text, byte)?, &found.said),
+        None => told(whole(alloc, path)?, &found.said),
+    }
 }

@@ -3,7 +3,7 @@
 use crate::words::put_cut;
 use lustat_scope::{ClockRef, PatternRef};
 use lusyn_tokens::{binding_of, infix_token, prefix_token};
-use lutree::{Expr, Pattern};
+use lutree::{Condition, Expr, Infix, Pattern, Prefix};
 use std::alloc::{AllocError, Global};
 
 /// `true`, `false` or a name of an enumeration.
@@ -51,6 +51,41 @@ fn level_of(e: &Expr) -> u8 {
     }
 }
 
+/// An expression of one word, or of two.
+fn put_word(text: &mut String, e: &Expr) -> Result<(), AllocError> {
+    match e {
+        Expr::Number(n) => write!(text, "{}", n.value()),
+        Expr::Truth(true) => text.push_str("true"),
+        Expr::Truth(false) => text.push_str("false"),
+        Expr::Label(label) => text.push_str(label.name.as_str()),
+        Expr::Variable(x) => text.push_str(x.as_str()),
+        Expr::Current(x) => {
+            text.push_str("current ")?;
+            text.push_str(x.as_str())
+        }
+        _ => Ok(()),
+    }
+}
+
+/// What stands before an operand, and a blank.
+fn put_prefix(text: &mut String, op: Prefix) -> Result<(), AllocError> {
+    text.push_str(prefix_token(op).text())?;
+    text.push(' ')
+}
+
+/// What stands between two operands, and blanks around it.
+fn put_infix(text: &mut String, op: Infix) -> Result<(), AllocError> {
+    text.push(' ')?;
+    text.push_str(infix_token(op).text())?;
+    text.push(' ')
+}
+
+/// ` when c`
+fn put_condition(text: &mut String, condition: &Condition) -> Result<(), AllocError> {
+    text.push_str(" when ")?;
+    put_clock(text, ClockRef::of(condition))
+}
+
 /// An expression in a place that asks for this level, in parentheses where it binds less tightly.
 #[cycle(spelling)]
 fn put_operand(text: &mut String, e: &Expr, least: u8) -> Result<(), AllocError> {
@@ -62,90 +97,69 @@ fn put_operand(text: &mut String, e: &Expr, least: u8) -> Result<(), AllocError>
     text.push(')')
 }
 
+/// An expression behind words.
+#[cycle(spelling)]
+fn put_behind(text: &mut String, words: &str, e: &Expr) -> Result<(), AllocError> {
+    text.push_str(words)?;
+    put_expr(text, e)
+}
+
 /// An expression.
 #[cycle(spelling)]
 fn put_expr(text: &mut String, e: &Expr) -> Result<(), AllocError> {
     match e {
-        Expr::Number(n) => write!(text, "{}", n.value()),
-        Expr::Truth(true) => text.push_str("true"),
-        Expr::Truth(false) => text.push_str("false"),
-        Expr::Label(label) => text.push_str(label.name.as_str()),
-        Expr::Variable(x) => text.push_str(x.as_str()),
-        Expr::Current(x) => {
-            text.push_str("current ")?;
-            text.push_str(x.as_str())
-        }
         Expr::Unary(op, a) => {
-            text.push_str(prefix_token(*op).text())?;
-            text.push(' ')?;
+            put_prefix(text, *op)?;
             put_operand(text, a, 8)
         }
         Expr::Binary(op, a, b) => {
             let binding = binding_of(*op);
             put_operand(text, a, binding.left)?;
-            text.push(' ')?;
-            text.push_str(infix_token(*op).text())?;
-            text.push(' ')?;
+            put_infix(text, *op)?;
             put_operand(text, b, binding.right)
         }
         Expr::If(c, a, b) => {
-            text.push_str("if ")?;
-            put_expr(text, c)?;
-            text.push_str(" then ")?;
-            put_expr(text, a)?;
-            text.push_str(" else ")?;
-            put_expr(text, b)
+            put_behind(text, "if ", c)?;
+            put_behind(text, " then ", a)?;
+            put_behind(text, " else ", b)
         }
         Expr::When(a, condition) => {
             put_operand(text, a, 9)?;
-            text.push_str(" when ")?;
-            put_clock(text, ClockRef::of(condition))
+            put_condition(text, condition)
         }
         Expr::Merge(x, patterns, branches) => {
-            text.push_str("merge ")?;
-            text.push_str(x.as_str())?;
-            put_branches(text, patterns.as_slice(), branches)
+            put_merge(text, x.as_str(), patterns.as_slice(), branches)
         }
-        Expr::Call(f, arguments) => {
-            text.push_str(f.as_str())?;
-            text.push('(')?;
-            put_arguments(text, arguments)?;
-            text.push(')')
-        }
+        Expr::Call(f, arguments) => put_call(text, f.as_str(), arguments),
+        _ => put_word(text, e),
     }
 }
 
-/// `a, b`
+/// `f(a, b)`
 #[cycle(spelling)]
-fn put_arguments(text: &mut String, arguments: &[Expr]) -> Result<(), AllocError> {
-    match arguments {
-        [] => Ok(()),
-        [first, others @ ..] => {
-            put_expr(text, first)?;
-            for other in others {
-                text.push_str(", ")?;
-                put_expr(text, other)?;
-            }
-            Ok(())
-        }
+fn put_call(text: &mut String, f: &str, arguments: &[Expr]) -> Result<(), AllocError> {
+    text.push_str(f)?;
+    text.push('(')?;
+    for (i, argument) in arguments.iter().enumerate() {
+        put_behind(text, if i > 0 { ", " } else { "" }, argument)?;
     }
+    text.push(')')
 }
 
-/// ` (A -> a) (B -> b)`
+/// `merge x (A -> a) (B -> b)`
 #[cycle(spelling)]
-fn put_branches(
+fn put_merge(
     text: &mut String,
+    x: &str,
     patterns: &[Pattern],
     values: &[Expr],
 ) -> Result<(), AllocError> {
-    for (i, value) in values.iter().enumerate() {
-        let Some(pattern) = patterns.get(i) else {
-            return Ok(());
-        };
+    text.push_str("merge ")?;
+    text.push_str(x)?;
+    for (pattern, value) in patterns.iter().zip(values) {
         text.push_str(" (")?;
         put_sign(text, PatternRef::of(pattern))?;
-        text.push_str(" -> ")?;
-        put_expr(text, value)?;
+        put_behind(text, " -> ", value)?;
         text.push(')')?;
     }
     Ok(())

@@ -6,8 +6,7 @@ ghost use Rattle.luexplain.specs.Texts.{IsToldSomewhere};
 use crate::bytes::{from_byte, length_before};
 use crate::find::{node_named, type_at_place};
 use crate::near::shared_front;
-use crate::place::where_in;
-use crate::said::{Said, in_words, mended_by, say, told, whole};
+use crate::said::{Found, Said, in_words, mended_by, say, told_of};
 use crate::usual::usual;
 use crate::words::Part;
 use lulimits::limits::LONGEST_TABLE;
@@ -16,13 +15,6 @@ use lutab::TabError;
 use lutree::{Declaration, DeclaredName, Kind, Program};
 use std::alloc::{AllocError, Global};
 use std::str;
-
-/// What is said, and the byte at which it stands.
-#[derive(Drop)]
-struct Found {
-    byte: usize,
-    said: Said,
-}
 
 /// Where the byte stands behind so many separators; the length where there are fewer.
 fn behind(bytes: &[u8], separator: u8, count: usize) -> usize {
@@ -77,7 +69,10 @@ fn bad_header(alloc: Global, text: &[u8], inputs: &[Declaration]) -> Result<Foun
             "Write the table in ASCII.",
         )?;
         let byte = e.valid_up_to();
-        return Ok(Found { byte, said });
+        return Ok(Found {
+            byte: Some(byte),
+            said,
+        });
     }
     let header = header_of(alloc, inputs)?;
     let byte = shared_front(text, header.as_bytes());
@@ -87,7 +82,10 @@ fn bad_header(alloc: Global, text: &[u8], inputs: &[Declaration]) -> Result<Foun
         &[Part::Name(header.as_str())],
         "Write the names of the inputs in order of declaration, with `,` between them and no blanks.",
     )?;
-    Ok(Found { byte, said })
+    Ok(Found {
+        byte: Some(byte),
+        said,
+    })
 }
 
 /// `T02`
@@ -107,7 +105,10 @@ fn bad_row(
             "End each line with a line feed, the last one too.",
         )?;
         let byte = text.len();
-        return Ok(Found { byte, said });
+        return Ok(Found {
+            byte: Some(byte),
+            said,
+        });
     }
     let said = mended_by(
         alloc,
@@ -120,7 +121,10 @@ fn bad_row(
         "Write a value for each input at every instant.",
     )?;
     let byte = start.saturating_add(behind(row, b',', inputs.len()));
-    Ok(Found { byte, said })
+    Ok(Found {
+        byte: Some(byte),
+        said,
+    })
 }
 
 /// Whether a field is an `int`: digits with no zero before them, and perhaps a `-`.
@@ -254,11 +258,17 @@ fn bad_value(
             "A field of this line is no value of its type.",
             "Write a value of the type of its input.",
         )?;
-        return Ok(Found { byte, said });
+        return Ok(Found {
+            byte: Some(byte),
+            said,
+        });
     };
     let said = said_of_value(alloc, program, &wrong)?;
     let byte = byte.saturating_add(wrong.offset);
-    Ok(Found { byte, said })
+    Ok(Found {
+        byte: Some(byte),
+        said,
+    })
 }
 
 /// `T04`
@@ -273,6 +283,24 @@ fn too_long(alloc: Global, text: &[u8]) -> Result<Said, AllocError> {
         ],
         "Try the program at a part of the table.",
     )
+}
+
+/// What is said of a table that is refused.
+fn found_in(
+    alloc: Global,
+    text: &[u8],
+    program: &Program,
+    inputs: &[Declaration],
+    error: &TabError,
+) -> Result<Found, AllocError> {
+    let said = match error {
+        TabError::BadHeader => return bad_header(alloc, text, inputs),
+        TabError::BadRow { line } => return bad_row(alloc, text, inputs, *line),
+        TabError::BadValue { line } => return bad_value(alloc, text, program, inputs, *line),
+        TabError::TooLong => too_long(alloc, text)?,
+        TabError::OutOfMemory => usual(alloc, &StatError::OutOfMemory)?,
+    };
+    Ok(Found { byte: None, said })
 }
 
 /// What a person is told of a table that is refused: its place, what is wrong, and how to mend it. `text` is the text of the file of this path,
@@ -295,15 +323,6 @@ pub fn of_table(
         Some(node) => node.inputs.as_slice(),
         None => &[],
     };
-    let found = match error {
-        TabError::BadHeader => bad_header(alloc, text, inputs)?,
-        TabError::BadRow { line } => bad_row(alloc, text, inputs, *line)?,
-        TabError::BadValue { line } => bad_value(alloc, text, program, inputs, *line)?,
-        TabError::TooLong => return told(whole(alloc, path)?, &too_long(alloc, text)?),
-        TabError::OutOfMemory => return told(
-            whole(alloc, path)?,
-            &usual(alloc, &StatError::OutOfMemory)?,
-        ),
-    };
-    told(where_in(alloc, path, text, found.byte)?, &found.said)
+    let found = found_in(alloc, text, program, inputs, error)?;
+    told_of(alloc, path, text, &found)
 }

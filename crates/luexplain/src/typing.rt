@@ -5,7 +5,6 @@ use crate::said::{Said, mended_by};
 use crate::usual::usual;
 use crate::words::Part;
 use lulist::Name;
-use lustat_scope::{Catalog, Scope};
 use lusyn_tokens::{infix_token, prefix_token};
 use lutree::{Declaration, Expr, Infix, Kind, Prefix};
 use lutype::{asked_kind, kind_of_result, kind_of_unary};
@@ -51,22 +50,22 @@ fn side_part(side: Side<'_>) -> Part<'_> {
 }
 
 /// The type that an expression has if it has one, by its form.
-fn kind_of(catalog: &Catalog, scope: &Scope, e: &Expr) -> Option<Kind> {
+fn kind_of(spot: &Spot, e: &Expr) -> Option<Kind> {
     match e {
         Expr::Number(_) => Some(Kind::Int),
         Expr::Truth(_) => Some(Kind::Bool),
         Expr::Label(label) => Some(label.kind),
-        Expr::Variable(x) | Expr::Current(x) => scope.kind(x.as_str()),
+        Expr::Variable(x) | Expr::Current(x) => spot.scope.kind(x.as_str()),
         Expr::Unary(Prefix::Data(op), _) => Some(kind_of_unary(*op)),
         Expr::Binary(Infix::Data(op), _, _) => Some(kind_of_result(*op)),
-        Expr::Unary(Prefix::Pre, a) | Expr::When(a, _) => kind_of(catalog, scope, a),
-        Expr::Binary(Infix::Arrow | Infix::FollowedBy, a, _) => kind_of(catalog, scope, a),
-        Expr::If(_, a, _) => kind_of(catalog, scope, a),
+        Expr::Unary(_, a) | Expr::Binary(_, a, _) | Expr::If(_, a, _) | Expr::When(a, _) => {
+            kind_of(spot, a)
+        }
         Expr::Merge(_, _, branches) => match branches.as_slice() {
-            [first, ..] => kind_of(catalog, scope, first),
+            [first, ..] => kind_of(spot, first),
             [] => None,
         },
-        Expr::Call(f, _) => match called(catalog, f)?.outputs.as_slice() {
+        Expr::Call(f, _) => match called(spot, f)?.outputs.as_slice() {
             [output, ..] => Some(output.kind),
             [] => None,
         },
@@ -80,7 +79,7 @@ fn clash_with<'a>(
     wanted: Kind,
     e: &'a Expr,
 ) -> Option<Clash<'a>> {
-    let found = kind_of(spot.catalog, spot.scope, e)?;
+    let found = kind_of(spot, e)?;
     if found == wanted {
         return None;
     }
@@ -95,7 +94,7 @@ fn clash_with<'a>(
 
 /// Two expressions of two types.
 fn clash_of_two<'a>(spot: &Spot<'_, 'a>, a: &'a Expr, b: &'a Expr) -> Option<Clash<'a>> {
-    let kind = kind_of(spot.catalog, spot.scope, a)?;
+    let kind = kind_of(spot, a)?;
     clash_with(spot, Side::Value(a), kind, b)
 }
 
@@ -105,12 +104,7 @@ fn clash_of_arguments<'a>(
     f: &'a Name,
     arguments: &'a [Expr],
 ) -> Option<Clash<'a>> {
-    for (input, e) in called(spot.catalog, f)?
-        .inputs
-        .as_slice()
-        .iter()
-        .zip(arguments)
-    {
+    for (input, e) in called(spot, f)?.inputs.as_slice().iter().zip(arguments) {
         let found = clash_with(spot, Side::Input(input, f), input.kind, e);
         if found.is_some() {
             return found;
@@ -160,12 +154,12 @@ fn clash_at<'a>(spot: &Spot<'_, 'a>, e: &'a Expr) -> Option<Clash<'a>> {
 
 /// A variable on the left that isn't of the type of something on the right.
 fn clash_of_variable<'a>(
-    scope: &Scope<'a>,
+    spot: &Spot<'_, 'a>,
     x: &'a Name,
     second: Side<'a>,
     found: Kind,
 ) -> Option<Clash<'a>> {
-    let wanted = scope.kind(x.as_str())?;
+    let wanted = spot.scope.kind(x.as_str())?;
     if wanted == found {
         return None;
     }
@@ -182,17 +176,17 @@ fn clash_of_variable<'a>(
 fn clash_of_sides<'a>(spot: &Spot<'_, 'a>) -> Option<Clash<'a>> {
     let left = spot.equation.left.as_slice();
     if let Expr::Call(f, _) = &spot.equation.right {
-        for (x, output) in left.iter().zip(called(spot.catalog, f)?.outputs.as_slice()) {
+        for (x, output) in left.iter().zip(called(spot, f)?.outputs.as_slice()) {
             let side = Side::Output(output, f);
-            let found = clash_of_variable(spot.scope, x, side, output.kind);
+            let found = clash_of_variable(spot, x, side, output.kind);
             if found.is_some() {
                 return found;
             }
         }
         return None;
     }
-    let kind = kind_of(spot.catalog, spot.scope, &spot.equation.right)?;
-    clash_of_variable(spot.scope, left.first()?, Side::Right, kind)
+    let kind = kind_of(spot, &spot.equation.right)?;
+    clash_of_variable(spot, left.first()?, Side::Right, kind)
 }
 
 /// What doesn't agree in an equation: first in its right side, then between its sides.

@@ -1,3 +1,4 @@
 mod Beginning
 mod Tabled
 mod Naming
+mod Steps

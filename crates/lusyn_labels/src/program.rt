@@ -10,7 +10,7 @@ ghost use Rattle.lusyn_labels.specs.Known.{types_of};
 use crate::labels::Labels;
 use crate::trees::{resolve_declarations, resolve_equations};
 use lulist::Row;
-use lutree::{Node, Program};
+use lutree::{Node, Program, TypeDeclaration};
 use std::alloc::{AllocError, Global};
 use std::mem;
 
@@ -46,6 +46,21 @@ fn resolve_nodes(
     Ok(Row::new(items))
 }
 
+/// The nodes with their names resolved by these types.
+fn resolve_by(
+    alloc: Global,
+    types: &[TypeDeclaration],
+    nodes: Row<Node>,
+) -> Result<Row<Node>, AllocError>
+    requires { AreFew (types_view types.now) }
+    ensures trees { IfOk result (λ found. map node_view found
+        ≡ map (resolved_node (types_view types.now)) (map node_view nodes)) }
+    ensures places { IfOk result (λ found. map node_places found ≡ map node_places nodes) }
+{
+    let labels = Labels::new(alloc, types)?;
+    resolve_nodes(alloc, &labels, nodes)
+}
+
 /// The program with its names resolved by its types. It takes memory for a table of their names and for each name that is found to
 /// be one of an enumeration, and none where there are no types.
 pub fn resolve(alloc: Global, program: Program) -> Result<Program, AllocError>
@@ -58,8 +73,6 @@ pub fn resolve(alloc: Global, program: Program) -> Result<Program, AllocError>
         return Ok(program);
     }
     let Program { types, nodes } = program;
-    let labels = Labels::new(alloc, types.as_slice())?;
-    let nodes = resolve_nodes(alloc, &labels, nodes)?;
-    drop(labels);
+    let nodes = resolve_by(alloc, types.as_slice(), nodes)?;
     Ok(Program { types, nodes })
 }

@@ -1,9 +1,9 @@
 //! Expressions, declarations and equations, changed where they lie.
 
-ghost use Rattle.std.specs.Prelude.{◌≡◌, map, IfOk};
+ghost use Rattle.std.specs.Prelude.{◌≡◌, None, map, IfOk};
 ghost use Rattle.lutree.specs.Tree.{view, views, trees_of, declaration_view, declarations_view, equation_view};
 ghost use Rattle.lutree.specs.Places.{declaration_places, equation_places};
-ghost use Rattle.lusyn_labels.specs.Resolved.{resolved_kind, resolved_pattern, resolved_condition, resolved_clock, resolved_tree, resolved_trees, resolved_declaration, resolved_equation};
+ghost use Rattle.lusyn_labels.specs.Resolved.{label_of, resolved_kind, resolved_pattern, resolved_condition, resolved_clock, resolved_tree, resolved_trees, resolved_declaration, resolved_equation};
 ghost use Rattle.lusyn_labels.specs.Known.{types_of};
 
 use crate::labels::Labels;
@@ -61,6 +61,29 @@ fn taken(alloc: Global, name: &mut Name) -> Name
     mem::replace(name, Name::new(String::new(alloc)))
 }
 
+/// What this name stands for, where one of the types has it. The name is then taken from its place.
+fn found_label(
+    alloc: Global,
+    labels: &Labels<'_>,
+    name: &mut Name,
+) -> Result<Option<Label>, AllocError>
+    ensures found { IfOk result (λ found. found ≡ label_of (types_of labels.now) name.old) }
+    ensures stays { IfOk result (λ found. found ≡ None → name.new ≡ name.old) }
+{
+    let Some((kind, number)) = labels.find(name.as_str()) else {
+        return Ok(None);
+    };
+    let name = SharedName::new(alloc, taken(alloc, name))?;
+    Ok(Some(Label { name, kind, number }))
+}
+
+/// Puts an expression in the place of another, which is dropped here, once for the proof.
+fn put(e: &mut Expr, new: Expr)
+    ensures { e.new ≡ new }
+{
+    *e = new;
+}
+
 /// An expression, where it lies. It is gone into by recursion, so the stack has to hold as many calls as it is nested.
 #[cycle(resolving)]
 pub(crate) fn resolve_expr(
@@ -71,34 +94,33 @@ pub(crate) fn resolve_expr(
     ensures { IfOk result (λ _. view e.new ≡ resolved_tree (types_of labels.now) (view e.old)) }
 {
     match e {
-        Expr::Number(_) | Expr::Truth(_) | Expr::Label(_) | Expr::Current(_) => {}
+        Expr::Number(_) | Expr::Truth(_) | Expr::Label(_) | Expr::Current(_) => Ok(()),
         Expr::Variable(name) => {
-            if let Some((kind, number)) = labels.find(name.as_str()) {
-                let name = SharedName::new(alloc, taken(alloc, name))?;
-                *e = Expr::Label(Label { name, kind, number });
+            if let Some(label) = found_label(alloc, labels, name)? {
+                put(e, Expr::Label(label));
             }
+            Ok(())
         }
-        Expr::Unary(_, a) => resolve_operand(alloc, labels, a)?,
+        Expr::Unary(_, a) => resolve_operand(alloc, labels, a),
         Expr::Binary(_, a, b) => {
             resolve_operand(alloc, labels, a)?;
-            resolve_operand(alloc, labels, b)?;
+            resolve_operand(alloc, labels, b)
         }
         Expr::If(a, b, c) => {
             resolve_operand(alloc, labels, a)?;
             resolve_operand(alloc, labels, b)?;
-            resolve_operand(alloc, labels, c)?;
+            resolve_operand(alloc, labels, c)
         }
         Expr::When(a, condition) => {
-            resolve_operand(alloc, labels, a)?;
             resolve_condition(labels, condition);
+            resolve_operand(alloc, labels, a)
         }
         Expr::Merge(_, patterns, branches) => {
             resolve_branches(alloc, labels, patterns);
-            resolve_all(alloc, labels, branches)?;
+            resolve_all(alloc, labels, branches)
         }
-        Expr::Call(_, arguments) => resolve_all(alloc, labels, arguments)?,
+        Expr::Call(_, arguments) => resolve_all(alloc, labels, arguments),
     }
-    Ok(())
 }
 
 #[cycle(resolving)]

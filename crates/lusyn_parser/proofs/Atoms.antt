@@ -4,7 +4,8 @@ use Rattle.std.specs.Result.{is_ok}
 use Rattle.std.proofs.lemmas.Bool.{lt-leb, le-leb}
 use Rattle.lutree.specs.declared.expr.Condition.{Condition}
 use Rattle.lutree.specs.declared.expr.Infix.{Infix}
-use Rattle.lutree.specs.Tree.{Tree}
+use Rattle.lutree.specs.declared.expr.Expr.{Expr}
+use Rattle.lutree.specs.Tree.{Tree, view}
 use Rattle.lutree.specs.Tree as t
 use Rattle.lusyn_tokens.specs.declared.token.Fixed.TheVariants as f
 use Rattle.lusyn_tokens.specs.Tokens.{Tok, identifier, number, fixed}
@@ -67,6 +68,14 @@ alone-false least depth ts h = h.stays (expr depth) depth (t.truth false)
 
 abbrev the_ok : Tree → Result Tree (List Tok)
 the_ok e = Ok e
+
+-- an operand that lies in memory of its own is the same operand
+pub binary-of : (op : Infix) (kept found : Expr) (other all : Tree) → kept ≡ found → the_ok (t.binary op (view kept) other) ≡ Ok all
+    → the_ok (t.binary op (view found) other) ≡ Ok all
+binary-of op kept found other all e h = let of : Expr → Result Tree (List Tok) = λ x. the_ok (t.binary op (view x) other) in ap of (sym e) ∙ h
+
+pub when-of : (kept found : Expr) (c : Condition) (all : Tree) → kept ≡ found → all ≡ t.when (view kept) c → the_ok (t.when (view found) c) ≡ Ok all
+when-of kept found c all e h = let of : Expr → Result Tree (List Tok) = λ x. the_ok (t.when (view x) c) in ap of (sym e) ∙ ap the_ok (sym h)
 
 -- an operator after an operand, and how reading goes on behind it
 module _ (read : Reader) (turns less least at : ℕ) (found : Tree) (op : Infix) (ts rest : List Tok) (more : turns ≡ suc less) (is : operator op ≡ next ts) (past : rest ≡ tail ts) where

@@ -5,3 +5,5 @@ mod Placing
 mod PlacingPieces
 mod PlacingNodes
 mod PlacingTypes
+mod Prefixes
+mod Signs

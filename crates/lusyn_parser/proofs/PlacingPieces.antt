@@ -223,6 +223,12 @@ defines_equation n ls at end next q old new x e h more here =
           ∙ ap (λ (us : List ℕ). equation_places old ++ us) (sym (one_equation n ls at end next q e h));
     }
 
+pub defines_ended : (n : ℕ) (ls : List Lexeme) (at end : ℕ) (answer : Result ℕ Stop) (q : EquationTree) (old new : List Equation) (x : Equation) → equation n (ahead ls at) ≡ Ok (q, ahead ls end)
+    → Gives ls (ahead ls) answer (after f.Semicolon (ahead ls end)) → new ≡ old ++ x ∷ [] → x.byte ≡ first (from ls at)
+    → IfOk answer (λ next. Defines ls at next (equation_places old) (equation_places new))
+defines_ended n ls at end (Ok next) q old new x e h more here = defines_equation n ls at end next q old new x e h more here
+defines_ended n ls at end (Err stop) q old new x e h more here = tt
+
 pub defines_along : (ls : List Lexeme) (at mid next : ℕ) (a b c : List ℕ) → Defines ls at mid a b → Defines ls mid next b c → Defines ls at next a c
 defines_along ls at mid next a b c h k = record { same = k.same ∙ h.same }
 

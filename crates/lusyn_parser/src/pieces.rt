@@ -4,6 +4,8 @@ ghost use Rattle.std.specs.Prelude.{◌≡◌, ◌∷◌, ◌++◌, [], IfOk, dr
 ghost use Rattle.std.specs.Result.{IfErr};
 ghost use Rattle.lusyn_grammar.specs.Grammar.{bare_label, truths};
 ghost use Rattle.lusyn_grammar.specs.Grammar as grammar;
+ghost use Rattle.lutree.specs.Tree.{view};
+ghost use Rattle.lutree.specs.Tree as t;
 ghost use Rattle.lusyn_parser.specs.Gives.{names_view, type_view};
 ghost use Rattle.lusyn_tokens.specs.Tokens.{located};
 ghost use Rattle.lusyn_parser.specs.Refused.{place};
@@ -83,13 +85,18 @@ pub(crate) fn boxed(alloc: Global, a: Expr) -> Result<Box<Expr>, Stop>
     Ok(Box::new(alloc, a)?)
 }
 
-/// The two expressions, each in memory of its own.
-pub(crate) fn boxes(alloc: Global, a: Expr, b: Expr) -> Result<(Box<Expr>, Box<Expr>), Stop>
-    ensures ok { IfOk result (λ x. (x.0.value ≡ a) × (x.1.value ≡ b)) }
-    ensures err { IfErr result (λ e. e ≡ Stop.OutOfMemory) }
+/// `if test then a else b`
+pub(crate) fn choice_of(test: Box<Expr>, a: Box<Expr>, b: Box<Expr>) -> Expr
+    ensures { view result ≡ t.choice (view test.value) (view a.value) (view b.value) }
 {
-    let a = boxed(alloc, a)?;
-    Ok((a, boxed(alloc, b)?))
+    Expr::If(test, a, b)
+}
+
+/// `a when clock`
+pub(crate) fn when(a: Box<Expr>, clock: Condition) -> Expr
+    ensures { view result ≡ t.when (view a.value) clock }
+{
+    Expr::When(a, clock)
 }
 
 /// The patterns of a merge with a branch for each truth.
@@ -99,14 +106,6 @@ pub(crate) fn truths(alloc: Global) -> Result<Box<Row<Pattern>>, Stop>
 {
     let patterns = vec![in alloc; Pattern::Truth(true), Pattern::Truth(false)]?;
     Ok(Box::new(alloc, Row::new(patterns))?)
-}
-
-/// These two expressions alone.
-pub(crate) fn pair(alloc: Global, a: Expr, b: Expr) -> Result<Vec<Expr>, Stop>
-    ensures ok { IfOk result (λ found. found.items ≡ a ∷ b ∷ []) }
-    ensures err { IfErr result (λ e. e ≡ Stop.OutOfMemory) }
-{
-    Ok(vec![in alloc; a, b]?)
 }
 
 /// Puts a pattern with this name behind others.
@@ -124,6 +123,27 @@ fn push_value(values: &mut Vec<Expr>, value: Expr) -> Result<(), Stop>
     ensures err { IfErr result (λ e. e ≡ Stop.OutOfMemory) }
 {
     Ok(values.push(value)?)
+}
+
+/// This expression, with room for one more behind it.
+pub(crate) fn first_of_two(alloc: Global, a: Expr) -> Result<Vec<Expr>, Stop>
+    ensures ok { IfOk result (λ found. found.items ≡ a ∷ []) }
+    ensures err { IfErr result (λ e. e ≡ Stop.OutOfMemory) }
+{
+    let mut found = Vec::with_capacity(alloc, 2)?;
+    push_value(&mut found, a)?;
+    Ok(found)
+}
+
+/// The expression that was put first, and another behind it.
+pub(crate) fn both_of(first: Vec<Expr>, b: Expr) -> Result<Vec<Expr>, Stop>
+    ensures ok { (a : Expr) → first.items ≡ a ∷ []
+        → IfOk result (λ found. found.items ≡ a ∷ b ∷ []) }
+    ensures err { IfErr result (λ e. e ≡ Stop.OutOfMemory) }
+{
+    let mut found = first;
+    push_value(&mut found, b)?;
+    Ok(found)
 }
 
 /// Puts the name of a branch and its value behind those of others.

@@ -14,8 +14,8 @@ ghost use Rattle.lusyn_parser.specs.Gives.{Gives, GivesPlace, EndsOperand, atom,
 
 use crate::error::Stop;
 use crate::pieces::{
-    Branch, Next, Operand, bare_label, boxed, boxes, byte_of, operand_of, pair, parted, plain,
-    truths,
+    Branch, Next, Operand, bare_label, both_of, boxed, byte_of, choice_of, first_of_two,
+    operand_of, parted, plain, truths, when,
 };
 use lulist::{Name, Number, Row, SharedName};
 use lusyn_tokens::{Fixed, Lexeme, Token, binding_of, infix_of, prefix_of};
@@ -210,33 +210,18 @@ impl<'t> Reader<'t> {
         Ok(Expr::Unary(op, boxed(self.alloc, a)?))
     }
 
-    fn binary(&self, op: Infix, a: Expr, b: Expr) -> Result<Expr, Stop>
-        ensures { Gives self.now.tokens.now view result (Ok (t.binary op (view a) (view b))) }
+    fn binary(&self, op: Infix, a: Box<Expr>, b: Expr) -> Result<Expr, Stop>
+        ensures { Gives self.now.tokens.now view result (Ok (t.binary op (view a.value) (view b))) }
     {
-        let (a, b) = boxes(self.alloc, a, b)?;
-        Ok(Expr::Binary(op, a, b))
+        Ok(Expr::Binary(op, a, boxed(self.alloc, b)?))
     }
 
-    fn choice_of(&self, test: Expr, a: Expr, b: Expr) -> Result<Expr, Stop>
-        ensures { Gives self.now.tokens.now view result
-            (Ok (t.choice (view test) (view a) (view b))) }
-    {
-        let (a, b) = boxes(self.alloc, a, b)?;
-        Ok(Expr::If(boxed(self.alloc, test)?, a, b))
-    }
-
-    fn when(&self, a: Expr, clock: Condition) -> Result<Expr, Stop>
-        ensures { Gives self.now.tokens.now view result (Ok (t.when (view a) clock)) }
-    {
-        Ok(Expr::When(boxed(self.alloc, a)?, clock))
-    }
-
-    /// The merge on this variable with a branch for each truth.
-    fn both(&self, variable: SharedName, a: Expr, b: Expr) -> Result<Expr, Stop>
-        ensures { Gives self.now.tokens.now view result
+    /// The merge on this variable with a branch for each truth: the one that was put first, and another behind it.
+    fn both(&self, variable: SharedName, first: Vec<Expr>, b: Expr) -> Result<Expr, Stop>
+        ensures { (a : Expr) → first.items ≡ a ∷ [] → Gives self.now.tokens.now view result
             (Ok (t.merge variable truths (t.more (view a) (t.more (view b) t.none)))) }
     {
-        let branches = pair(self.alloc, a, b)?;
+        let branches = both_of(first, b)?;
         Ok(Expr::Merge(variable, truths(self.alloc)?, branches))
     }
 
@@ -247,6 +232,17 @@ impl<'t> Reader<'t> {
     {
         let (patterns, branches) = parted(self.alloc, found)?;
         Ok(Expr::Merge(variable, patterns, branches))
+    }
+
+    /// What was read, as an operand of this level.
+    fn operand(&self, level: u8, read: Result<(Expr, usize), Stop>) -> Result<Operand, Stop>
+        ensures operand { (told : reading.Read t.Tree) → Gives self.now.tokens.now
+            (λ x. (view x.0, ahead self.now.tokens.now x.1)) read told
+            → Gives self.now.tokens.now (operand_view self.now.tokens.now) result
+            (reading.at_level level told) }
+        ensures within { (at : ℕ) → IfOk read (λ x. at ≤ x.1) → IfOk result (λ x. at ≤ x.next) }
+    {
+        Ok(operand_of(level, read?))
     }
 
     /// What was read, and the closing parenthesis after it.
@@ -322,7 +318,8 @@ impl<'t> Reader<'t> {
     }
 }
 
-/// Expressions. A depth bounds how deeply they are nested.
+/// Expressions. A depth bounds how deeply they are nested. An operand is put in memory of its own before what follows it is read:
+/// what is dropped where that fails is then a box and not an expression of eleven forms, each of which the proof would go through.
 impl<'t> Reader<'t> {
     /// An expression of this level or above, and the place after it.
     #[cycle(parser)]
@@ -359,28 +356,28 @@ impl<'t> Reader<'t> {
         ensures within { IfOk result (λ x. at ≤ x.next) }
     {
         match self.token(at) {
-            Some(Token::Name(name)) => Ok(operand_of(10, self.named(depth, name, at + 1)?)),
+            Some(Token::Name(name)) => self.operand(10, self.named(depth, name, at + 1)),
             Some(Token::Number(n)) => {
                 Ok(operand_of(10, (Expr::Number(Number::at_most(n)), at + 1)))
             },
             Some(Token::Fixed(Fixed::True)) => Ok(operand_of(10, (Expr::Truth(true), at + 1))),
             Some(Token::Fixed(Fixed::False)) => Ok(operand_of(10, (Expr::Truth(false), at + 1))),
-            Some(Token::Fixed(Fixed::Merge)) => Ok(operand_of(10, self.merge(depth, at + 1)?)),
+            Some(Token::Fixed(Fixed::Merge)) => self.operand(10, self.merge(depth, at + 1)),
             Some(Token::Fixed(Fixed::Open)) => {
                 let inner = self.expr(depth, 0, at + 1)?;
-                Ok(operand_of(10, self.closed(inner)?))
+                self.operand(10, self.closed(inner))
             }
             Some(Token::Fixed(Fixed::If)) => {
                 if least > 0 {
                     return Err(Stop::Refused(at));
                 }
-                Ok(operand_of(0, self.choice(depth, at + 1)?))
+                self.operand(0, self.choice(depth, at + 1))
             }
             Some(Token::Fixed(Fixed::Current)) => {
                 if least > 8 {
                     return Err(Stop::Refused(at));
                 }
-                Ok(operand_of(8, self.current(at + 1)?))
+                self.operand(8, self.current(at + 1))
             }
             Some(Token::Fixed(fixed)) => {
                 let Some(op) = prefix_of(fixed) else {
@@ -407,6 +404,17 @@ impl<'t> Reader<'t> {
         self.expr(depth, 0, next)
     }
 
+    /// An expression behind this token, which has to stand here, in memory of its own.
+    #[cycle(parser)]
+    fn part(&self, depth: usize, wanted: Fixed, at: usize) -> Result<(Box<Expr>, usize), Stop>
+        ensures expr { Reads self.now.tokens.now at (λ a. view a.value) result
+            (λ ts. reading.◌>>=◌ (reading.after wanted ts) (reading.expr depth 0)) }
+        ensures within { IfOk result (λ x. at ≤ x.1) }
+    {
+        let (found, next) = self.behind(depth, wanted, at)?;
+        Ok((boxed(self.alloc, found)?, next))
+    }
+
     /// The expression of a branch of `merge`, behind its arrow, and the parenthesis that closes the branch.
     #[cycle(parser)]
     #[tactic(auto, unfolding(lusyn_grammar::specs::Reading::inside))]
@@ -428,9 +436,10 @@ impl<'t> Reader<'t> {
         ensures within { IfOk result (λ x. at ≤ x.1) }
     {
         let (test, next) = self.expr(depth, 0, at)?;
-        let (first, next) = self.behind(depth, Fixed::Then, next)?;
-        let (second, next) = self.behind(depth, Fixed::Else, next)?;
-        Ok((self.choice_of(test, first, second)?, next))
+        let test = boxed(self.alloc, test)?;
+        let (first, next) = self.part(depth, Fixed::Then, next)?;
+        let (second, next) = self.part(depth, Fixed::Else, next)?;
+        Ok((choice_of(test, first, second), next))
     }
 
     /// A branch of `merge`, with the truth that it begins with.
@@ -460,6 +469,7 @@ impl<'t> Reader<'t> {
         ensures within { IfOk result (λ x. at ≤ x.1) }
     {
         let (first, next) = self.arrowed(depth, at)?;
+        let first = first_of_two(self.alloc, first)?;
         let (second, next) = self.branch(depth, Fixed::False, next)?;
         Ok((self.both(variable, first, second)?, next))
     }
@@ -633,8 +643,9 @@ impl<'t> Reader<'t> {
                     if binding.left > level {
                         return Ok((found, next));
                     }
+                    let left = boxed(self.alloc, found)?;
                     let (right, after) = self.expr(depth, binding.right, next + 1)?;
-                    found = self.binary(op, found, right)?;
+                    found = self.binary(op, left, right)?;
                     level = binding.level;
                     next = after;
                     continue;
@@ -646,8 +657,9 @@ impl<'t> Reader<'t> {
                     if level < 9 {
                         return Ok((found, next));
                     }
+                    let sampled = boxed(self.alloc, found)?;
                     let (clock, after) = self.condition(next + 1)?;
-                    found = self.when(found, clock)?;
+                    found = when(sampled, clock);
                     level = 9;
                     next = after;
                     continue;
@@ -661,6 +673,18 @@ impl<'t> Reader<'t> {
 
 /// Equations.
 impl<'t> Reader<'t> {
+    /// A name as a row of its own.
+    fn name_alone(&self, at: usize) -> Result<(Row<Name>, usize), Stop>
+        ensures name { Reads self.now.tokens.now at (λ a. a) result
+            (λ ts. reading.◌>>=◌ (reading.name ts) (λ x. Ok (x.0 ∷ [], x.1))) }
+        ensures place { IfOk result (λ x. place self.now.end (from self.now.tokens.now at)
+            ≡ first (from self.now.tokens.now at)) }
+        ensures within { IfOk result (λ x. x.1 ≡ at + 1) }
+    {
+        let (name, next) = self.name(at)?;
+        Ok((Row::new(vec![in self.alloc; name]?), next))
+    }
+
     /// `ident "=" expr`
     #[tactic(auto, unfolding(lusyn_grammar::specs::Reading::single))]
     fn single(&self, at: usize) -> Result<(Equation, usize), Stop>
@@ -670,9 +694,8 @@ impl<'t> Reader<'t> {
         ensures within { IfOk result (λ x. at < x.1) }
     {
         let byte = self.byte(at);
-        let (name, next) = self.name(at)?;
+        let (left, next) = self.name_alone(at)?;
         let (right, next) = self.behind(self.bound(), Fixed::Equal, next)?;
-        let left = Row::new(vec![in self.alloc; name]?);
         Ok((Equation { left, right, byte }, next))
     }
 
@@ -705,6 +728,16 @@ impl<'t> Reader<'t> {
         Ok((found, self.after(Fixed::Close, next)?))
     }
 
+    /// The same names without their places.
+    fn tuple_left(&self, at: usize) -> Result<(Row<Name>, usize), Stop>
+        ensures names { Reads self.now.tokens.now at (λ a. a) result
+            (reading.tuple_names (suc (length self.now.tokens.now))) }
+        ensures within { IfOk result (λ x. at < x.1) }
+    {
+        let (names, next) = self.tuple_names(at)?;
+        Ok((plain(self.alloc, names.as_slice())?, next))
+    }
+
     /// After the parenthesis that opens the names: `ident "," ident { "," ident } ")" "=" call`
     #[tactic(auto, unfolding(lusyn_grammar::specs::Reading::tuple))]
     fn tuple(&self, at: usize, byte: usize) -> Result<(Equation, usize), Stop>
@@ -713,10 +746,9 @@ impl<'t> Reader<'t> {
         ensures place { IfOk result (λ x. x.0.byte ≡ byte) }
         ensures within { IfOk result (λ x. at < x.1) }
     {
-        let (names, next) = self.tuple_names(at)?;
+        let (left, next) = self.tuple_left(at)?;
         let next = self.after(Fixed::Equal, next)?;
         let (right, next) = self.call(next)?;
-        let left = plain(self.alloc, names.as_slice())?;
         Ok((Equation { left, right, byte }, next))
     }
 
@@ -743,9 +775,8 @@ impl<'t> Reader<'t> {
         ensures within { IfOk result (λ next. at < next) }
     {
         let (equation, next) = self.equation(at)?;
-        let next = self.after(Fixed::Semicolon, next)?;
         found.push(equation)?;
-        Ok(next)
+        self.after(Fixed::Semicolon, next)
     }
 
     fn begins_equation(&self, at: usize) -> bool

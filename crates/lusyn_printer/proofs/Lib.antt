@@ -12,3 +12,4 @@ pub mod Bare
 mod Branches
 mod Types
 mod Vectors
+mod Steps

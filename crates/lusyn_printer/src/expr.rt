@@ -1,11 +1,12 @@
 //! Expressions.
 
-ghost use Rattle.std.specs.Prelude.{◌≡◌, ◌++◌, ◌≤◌, IfOk, map, string_bytes};
+ghost use Rattle.std.specs.Prelude.{◌≡◌, ◌++◌, ◌≤◌, IfOk, codes, map, string_bytes};
 ghost use Rattle.lutree.specs.Tree.{view, views, trees_of};
 ghost use Rattle.lusyn_grammar.specs.Printing.{written, writtens, placed, bare_pattern};
 ghost use Rattle.lusyn_printer.specs.Canonical.{expression, operands, further, branches, branch_text, pattern_text, when_text};
 
-use crate::levels::{level_of, prefix_text, put_infix};
+use crate::levels::{level_of, put_infix, put_prefix};
+use lulist::{Name, SharedName};
 use lusyn_tokens::binding_of;
 use lutree::{Condition, Expr, Pattern};
 use std::alloc::AllocError;
@@ -50,6 +51,33 @@ fn put_pattern(text: &mut String, pattern: &Pattern) -> Result<(), AllocError>
     }
 }
 
+/// `current x`
+fn put_current(text: &mut String, x: &Name) -> Result<(), AllocError>
+    ensures { IfOk result (λ _. string_bytes text.new ≡ string_bytes text.old
+        ++ (codes "current " ++ x.now)) }
+{
+    text.push_str("current ")?;
+    text.push_str(x.as_str())
+}
+
+/// What a merge on this variable begins with: `merge x`
+fn put_merge(text: &mut String, x: &SharedName) -> Result<(), AllocError>
+    ensures { IfOk result (λ _. string_bytes text.new ≡ string_bytes text.old
+        ++ (codes "merge " ++ x.now)) }
+{
+    text.push_str("merge ")?;
+    text.push_str(x.as_str())
+}
+
+/// What a call of this node begins with: `f(`
+fn put_called(text: &mut String, f: &Name) -> Result<(), AllocError>
+    ensures { IfOk result (λ _. string_bytes text.new ≡ string_bytes text.old
+        ++ (f.now ++ codes "(")) }
+{
+    text.push_str(f.as_str())?;
+    text.push('(')
+}
+
 /// An expression in a place that asks for this level, in parentheses where it binds less tightly.
 #[cycle(printing)]
 fn put_operand(text: &mut String, e: &Expr, least: u8) -> Result<(), AllocError>
@@ -75,13 +103,9 @@ pub(crate) fn put_expr(text: &mut String, e: &Expr) -> Result<(), AllocError>
         Expr::Truth(truth) => write!(text, "{truth}"),
         Expr::Label(label) => text.push_str(label.name.as_str()),
         Expr::Variable(x) => text.push_str(x.as_str()),
-        Expr::Current(x) => {
-            text.push_str("current ")?;
-            text.push_str(x.as_str())
-        }
+        Expr::Current(x) => put_current(text, x),
         Expr::Unary(op, a) => {
-            text.push_str(prefix_text(*op))?;
-            text.push(' ')?;
+            put_prefix(text, *op)?;
             put_operand(text, a, 8)
         }
         Expr::Binary(op, a, b) => {
@@ -103,13 +127,11 @@ pub(crate) fn put_expr(text: &mut String, e: &Expr) -> Result<(), AllocError>
             put_when(text, condition)
         }
         Expr::Merge(x, patterns, branches) => {
-            text.push_str("merge ")?;
-            text.push_str(x.as_str())?;
+            put_merge(text, x)?;
             put_branches(text, patterns.as_slice(), branches)
         }
         Expr::Call(f, arguments) => {
-            text.push_str(f.as_str())?;
-            text.push_str("(")?;
+            put_called(text, f)?;
             put_operands(text, arguments)?;
             text.push_str(")")
         }

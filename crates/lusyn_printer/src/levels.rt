@@ -23,11 +23,13 @@ pub(crate) fn level_of(e: &Expr) -> u8
     }
 }
 
-/// The spelling of an operator before its operand.
-pub(crate) fn prefix_text(op: Prefix) -> &'static str
-    ensures { result.now ≡ text_of (prefix_token op) }
+/// An operator before its operand, with a space after it.
+pub(crate) fn put_prefix(text: &mut String, op: Prefix) -> Result<(), AllocError>
+    ensures { IfOk result (λ _. string_bytes text.new ≡ string_bytes text.old
+        ++ (text_of (prefix_token op) ++ codes " ")) }
 {
-    prefix_token(op).text()
+    text.push_str(prefix_token(op).text())?;
+    text.push(' ')
 }
 
 /// An operator between its operands, with a space before it and after it.

@@ -14,7 +14,10 @@ abbrev pub decreases-behind : goal.decreases-behind
 decreases-behind l = 2 ^ 66 * l.depth + 1
 
 abbrev pub decreases-choice : goal.decreases-choice
-decreases-choice l = 2 ^ 66 * l.depth + 2
+decreases-choice l = 2 ^ 66 * l.depth + 3
+
+abbrev pub decreases-part : goal.decreases-part
+decreases-part l = 2 ^ 66 * l.depth + 2
 
 abbrev pub decreases-arrowed : goal.decreases-arrowed
 decreases-arrowed l = 2 ^ 66 * l.depth + 2

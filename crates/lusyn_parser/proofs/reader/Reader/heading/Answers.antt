@@ -1,3 +1,6 @@
+use Rattle.lusyn_grammar.specs.Reading.{heading}
+use Rattle.std.proofs.Common.{arith}
+use Rattle.std.proofs.lemmas.Grind.{common_steps}
 use Rattle.std.proofs.Common.{suc, length}
 use Rattle.lusyn_parser.proofs.PlacingNodes.{heading_places}
 use Rattle.lusyn_parser.proofs.reader.Reader.heading.Goals as goal
@@ -11,3 +14,7 @@ returns-clause-places c =
     c.in_ok-next-3.ensures.after c.in_ok-next-4.ensures.after c.in_ok-next-5.ensures.after
     c.in_ok-outputs.ensures.declarations c.in_ok-outputs.ensures.places c.in_ok-next-6.ensures.after
     c.past_semicolon.ensures.past
+
+pub returns-clause-heading : goal.returns-clause-heading
+unfolding heading
+returns-clause-heading c = grind (arith, common_steps)

@@ -1,6 +1,5 @@
 use Rattle.std.proofs.Common.{◌∙◌}
-use Rattle.lusyn_parser.proofs.PlacingPieces.{name_first}
 use Rattle.lusyn_parser.proofs.reader.Reader.single.Goals as goal
 
 pub returns-clause-place : goal.returns-clause-place
-returns-clause-place c = c.byte-byte.ensures ∙ name_first c.args.self.now.tokens.now c.args.at c.in_ok-name.next c.args.self.now.end c.in_ok-name.name c.in_ok-name.ensures.name
+returns-clause-place c = c.byte-byte.ensures ∙ c.in_ok-left.ensures.place
