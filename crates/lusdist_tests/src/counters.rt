@@ -1,36 +1,19 @@
 //! The plain programs of `lusdist_plain` at two counters that feed each other, each at a site of its own, with a step of 1 and with
 //! one so large that the second sum has no value; and what a site is handed.
 
-use crate::flats::flat_of;
-use luflow::{Body, Datum, Inputs, Msg, Status};
-use luplace::{Job, Plan, SiteInputs};
-use luplace_file::read_place;
+use luflow::{Body, Datum, Msg, Status};
+use luplace::{Job, SiteInputs};
+use lusdist_answers::Stop;
+use lusdist_answers::sources::{flat_of, job_of, plan_of};
 use lusdist_plain::{Item, Mark, Marks, list_of_link, marks_of, script_of, world_after};
-use lutab::{TabError, read_inputs};
 use std::alloc::{AllocError, Global};
 use std::test::Fail;
 
-/// The plan of these texts.
-fn plan(alloc: Global, program: &str, place: &str) -> Result<Plan, Fail> {
-    let place = read_place(alloc, place)?;
-    let flat = flat_of(alloc, program)?;
-    Ok(Plan::make(alloc, flat, &place)?)
-}
-
-/// The job of a plan and a table that fits its program.
-fn job_of(plan: Plan, inputs: Inputs) -> Result<Job, TabError> {
-    if inputs.fits(plan.flat()) {
-        Ok(Job::new(plan, inputs))
-    } else {
-        Err(TabError::BadHeader)
-    }
-}
-
 /// The job of these texts.
-pub(crate) fn job(alloc: Global, program: &str, place: &str, table: &str) -> Result<Job, Fail> {
-    let plan = plan(alloc, program, place)?;
-    let inputs = read_inputs(alloc, plan.flat(), table)?;
-    Ok(job_of(plan, inputs)?)
+pub(crate) fn job(alloc: Global, program: &str, place: &str, table: &str) -> Result<Job, Stop> {
+    let flat = flat_of(alloc, program.as_bytes(), "main")?;
+    let plan = plan_of(alloc, flat, place.as_bytes())?;
+    job_of(alloc, plan, table.as_bytes())
 }
 
 /// A flow, and its first marks.
@@ -187,7 +170,7 @@ fn is_counted(alloc: Global, job: &Job, counted: &Counted) -> Result<bool, Alloc
 const TWO_SITES: &str = "sites = [\"A\", \"B\"]\ncapacity = 1\n[place]\na = \"A\"\nb = \"B\"\n";
 
 /// Whether they say so of a program at two sites.
-fn is_counted_at_two(alloc: Global, counted: &Counted) -> Result<bool, Fail> {
+fn is_counted_at_two(alloc: Global, counted: &Counted) -> Result<bool, Stop> {
     let job = job(alloc, counted.program, TWO_SITES, "\n\n\n\n")?;
     Ok(is_counted(alloc, &job, counted)?)
 }
@@ -229,7 +212,7 @@ fn is_handed(alloc: Global, job: &Job) -> Result<bool, AllocError> {
 }
 
 /// The same, of a copy at another site.
-fn is_copy_handed(alloc: Global) -> Result<bool, Fail> {
+fn is_copy_handed(alloc: Global) -> Result<bool, Stop> {
     let program = "node main(x: int) returns (y: int); let y = x; tel";
     let place = "sites = [\"A\", \"B\"]\n[place]\nx = \"A\"\ny = \"B\"\n";
     let job = job(alloc, program, place, "x\n5\n7\n")?;

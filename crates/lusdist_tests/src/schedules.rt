@@ -7,8 +7,9 @@ use crate::counters::job;
 use luflow::{Msg, Status};
 use lulist::Row;
 use luplace::Job;
+use lusdist_answers::{Stop, replayed};
 use lusdist_plain::{Item, Mark, Marks, list_of_link, marks_of, scripts_of, world_by};
-use luweave::{World, new_sites, replay};
+use luweave::World;
 use std::alloc::{AllocError, Global};
 use std::test::Fail;
 
@@ -131,7 +132,7 @@ fn world_agrees(
     scripts: &[Row<Item>],
     turns: &[u8],
     world: &World,
-) -> Result<bool, AllocError>
+) -> Result<bool, Stop>
     requires scripts { AreScripts job.now scripts.now }
     requires world { world.now.job ≡ job.now }
 {
@@ -146,11 +147,10 @@ fn agrees(
     plain: &Plain,
     scripts: &[Row<Item>],
     turns: &[u8],
-) -> Result<bool, AllocError>
+) -> Result<bool, Stop>
     requires { AreScripts job.now scripts.now }
 {
-    let sites = new_sites(alloc, job)?;
-    let world = replay(alloc, job.plan(), sites, turns)?;
+    let world = replayed(alloc, job, turns, false)?;
     world_agrees(alloc, job, plain, scripts, turns, &world)
 }
 
@@ -161,7 +161,7 @@ fn all_agree_after(
     plain: &Plain,
     scripts: &[Row<Item>],
     first: &[u8],
-) -> Result<bool, AllocError>
+) -> Result<bool, Stop>
     requires { AreScripts job.now scripts.now }
 {
     for number in 0..6_561 {
@@ -177,12 +177,7 @@ fn all_agree_after(
 const FIRST: &[&[u8]] = &[&[], &[0, 0, 0, 0, 0, 1, 1, 1, 1, 1, 2, 2, 2, 2, 2]];
 
 /// Whether that is so behind each of these beginnings.
-fn all_agree(
-    alloc: Global,
-    job: &Job,
-    plain: &Plain,
-    scripts: &[Row<Item>],
-) -> Result<bool, AllocError>
+fn all_agree(alloc: Global, job: &Job, plain: &Plain, scripts: &[Row<Item>]) -> Result<bool, Stop>
     requires { AreScripts job.now scripts.now }
 {
     for first in FIRST {
@@ -194,21 +189,21 @@ fn all_agree(
 }
 
 /// The same, by the scripts of a job.
-fn all_agree_by(alloc: Global, job: &Job, plain: &Plain) -> Result<bool, AllocError> {
+fn all_agree_by(alloc: Global, job: &Job, plain: &Plain) -> Result<bool, Stop> {
     let scripts = scripts_of(alloc, job)?;
     all_agree(alloc, job, plain, &scripts)
 }
 
 /// The same, of a job.
-fn all_agree_of(alloc: Global, job: &Job) -> Result<bool, AllocError> {
+fn all_agree_of(alloc: Global, job: &Job) -> Result<bool, Stop> {
     let plain = plain_of(alloc, job)?;
     all_agree_by(alloc, job, &plain)
 }
 
 /// The same, of a ring of three sites.
-fn all_agree_in_ring(alloc: Global) -> Result<bool, Fail> {
+fn all_agree_in_ring(alloc: Global) -> Result<bool, Stop> {
     let job = job(alloc, RING, THREE_SITES, "\n\n\n")?;
-    Ok(all_agree_of(alloc, &job)?)
+    all_agree_of(alloc, &job)
 }
 
 #[test]
