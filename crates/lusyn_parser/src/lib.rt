@@ -4,7 +4,8 @@
 //! tells by a [`ParseError`] the first token with which no program goes on.
 //!
 //! - `pieces`: what is handed on while tokens are read.
-//! - `reader`: from tokens to expressions and equations.
+//! - `reader`: from tokens to expressions.
+//! - `equations`: from tokens to equations.
 //! - `declarations`: from tokens to types and declarations.
 //! - `nodes`: from tokens to nodes and programs.
 //! - `error`: why tokens are refused.
@@ -14,6 +15,7 @@
 #![tactic(auto)]
 
 mod declarations;
+mod equations;
 mod error;
 mod nodes;
 mod pieces;
