@@ -101,7 +101,8 @@ fn solve_into(
 
 /// Where no block was yet.
 fn fresh() -> Span
-    ensures { result ≡ record { ticks = 0; upto = 0; was = false; known = false; supposed = false } }
+    ensures { result
+        ≡ record { ticks = 0; upto = 0; was = false; known = false; supposed = false } }
 {
     Span {
         ticks: 0,
@@ -115,8 +116,8 @@ fn fresh() -> Span
 impl Board {
     /// A board before the first block, with room for blocks of so many instants.
     pub fn new(alloc: Global, flows: usize, instants: usize) -> Result<Board, AllocError>
-        ensures { IfOk result (λ board. board.spans.items
-            ≡ replicate flows (record { ticks = 0; upto = 0; was = false; known = false; supposed = false })) }
+        ensures { IfOk result (λ board. board.spans.items ≡ replicate flows
+            (record { ticks = 0; upto = 0; was = false; known = false; supposed = false })) }
     {
         let mut rows = Vec::with_capacity(alloc, flows)?;
         for _r in 0..flows {

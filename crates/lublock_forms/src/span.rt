@@ -1,7 +1,7 @@
 //! How far a flow has come in a block.
 
 /// How far a flow has come in a block.
-#[derive(Clone, Copy, Debug, Drop)]
+#[derive(Clone, Copy, Drop)]
 pub struct Span {
     /// The ticks of its clock in the block, where they are counted.
     pub ticks: usize,

@@ -12,7 +12,7 @@ const MOST_STEPS: usize = 16_777_216;
 
 /// What is done at a time: all ticks of one flow, which has the clock of another that was counted before it, or of itself; or, for the cycle of
 /// this number, what its `pre`s give.
-#[derive(Clone, Copy, Debug, Drop)]
+#[derive(Clone, Copy, Drop)]
 pub enum Step {
     Column(usize, usize),
     Cycle(usize),

@@ -312,7 +312,8 @@ fn write<O: Double>(
             requires x { m + 1 < length x.now }
             requires y { m + 1 < length y.now }
             ensures { result.1 ≡ false → (u : Kind) → O.fits u ≡ true
-                → IsDouble O.op u (word_in x.entry.now (suc m)) (word_in y.entry.now (suc m)) result.0 }
+                → IsDouble O.op u (word_in x.entry.now (suc m)) (word_in y.entry.now (suc m))
+                result.0 }
         { O::word(at(x, m), at(y, m)) },
     )
 }
@@ -424,7 +425,8 @@ fn write_names(
     requires y { to < length y.now }
     ensures len { length row.new ≡ length row.old }
     ensures kept { Keeps from row.old row.new }
-    ensures words { result ≡ false → AreDoubles op (Kind.Enum place size) from to x.now y.now row.new }
+    ensures words { result ≡ false
+        → AreDoubles op (Kind.Enum place size) from to x.now y.now row.new }
 {
     match op {
         BinaryOperator::Equal => write::<Alike>(Kind::Enum(place, size), row, x, y, from, to),

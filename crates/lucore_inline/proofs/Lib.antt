@@ -2,7 +2,6 @@ mod Walking
 mod Forms
 mod Named
 mod Fit
-mod Views
 mod Gather
 mod Found
 mod Owned

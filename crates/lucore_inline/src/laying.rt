@@ -123,7 +123,8 @@ fn laid_at(
     requires inside { place < length (program_view catalog.now).nodes }
     ensures list { IfOk result (λ laid. ForSome (slice_get (program_view catalog.now).nodes place)
         (λ n. IsNodeList (program_view catalog.now) n laid.flows.items laid.owners.items)) }
-    ensures variables { IfOk result (λ laid. ForSome (slice_get (program_view catalog.now).nodes place)
+    ensures variables { IfOk result (λ laid. ForSome
+        (slice_get (program_view catalog.now).nodes place)
         (λ n. laid.variables.items ≡ main_variables n)) }
     ensures types { IfOk result (λ laid. laid.types.items ≡ types_of (program_view catalog.now)) }
 {

@@ -3,26 +3,15 @@ use Rattle.std.proofs.Common.{◌≡◌, ◌<◌, ◌+◌, ◌-◌, ℕ, List, [
 use Rattle.std.specs.Prelude.{Box}
 use Rattle.std.specs.Global.{Global}
 use Rattle.std.proofs.lemmas.List.{take_more}
-use Rattle.lutree.specs.declared.expr.Infix.{Infix}
 use Rattle.lutree.specs.declared.expr.Expr.{Expr}
 use Rattle.lutree.specs.declared.expr.Expr.TheVariants as variant
-use Rattle.lutree.specs.declared.expr.Expr.TheOpen.{Expr-F}
-use Rattle.lutree.specs.declared.expr.Expr.TheFolds.{fold-roll-Expr}
 use Rattle.lutree.specs.declared.program.Equation.{Equation}
-use Rattle.lutree.specs.Tree.{Tree, EquationTree, ProgramTree, view, view_step, views, trees_of, equation_view}
+use Rattle.lutree.specs.Tree.{Tree, EquationTree, ProgramTree, view, views, trees_of, equation_view}
 use Rattle.lutree.specs.Tree as tree
 use Rattle.lucore_list.specs.Sizes.{root_size, made_size, all_size, equations_size}
 use Rattle.lucore_size.specs.Counted.{capped}
 use Rattle.lucore_size.proofs.Capped.{capped_left, summed}
 use Rattle.lucore_size.proofs.Alike.{inside, made_is, inside_is}
-
--- EXPRESSIONS BY THEIR FORM
-
-pub viewed-Binary : (op : Infix) (a b : Box Expr Global) → view (variant.Binary op a b) ≡ tree.binary op (view a.value) (view b.value)
-viewed-Binary op a b = ap view (sym (variant.rolls-Binary op a b)) ∙ fold-roll-Expr Tree view_step (Expr-F.Binary op a b)
-
-pub viewed-If : (c a b : Box Expr Global) → view (variant.If c a b) ≡ tree.choice (view c.value) (view a.value) (view b.value)
-viewed-If c a b = ap view (sym (variant.rolls-If c a b)) ∙ fold-roll-Expr Tree view_step (Expr-F.If c a b)
 
 module _ (p : ProgramTree) (s : List ℕ) where
   -- the inner flows and the root

@@ -9,7 +9,7 @@ use crate::line::LineClock;
 use luflow::{Datum, FaultKind, Outcome, Status};
 
 /// A flow at one instant.
-#[derive(Clone, Copy, Debug, Drop, PartialEq, Eq)]
+#[derive(Clone, Copy, Drop)]
 pub enum Cell {
     /// The flow's clock is false.
     Absent,
@@ -24,7 +24,7 @@ pub enum Cell {
 }
 
 /// What a flow's value is where its clock is true.
-#[derive(Clone, Copy, Debug, Drop, PartialEq, Eq)]
+#[derive(Clone, Copy, Drop)]
 pub enum Answer {
     /// The value of a present cell; an absent one stands for none.
     Gives(Cell),

@@ -11,7 +11,7 @@ use luflow::{Flat, Inputs, Role, Status, Variable};
 use std::alloc::{AllocError, Global};
 
 /// Which main variables' streams are kept.
-#[derive(Clone, Copy, Debug, Drop, PartialEq, Eq)]
+#[derive(Clone, Copy, Drop)]
 pub enum Wanted {
     All,
     Outputs,

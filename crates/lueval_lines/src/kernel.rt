@@ -8,7 +8,7 @@ use crate::operators::{choice, double, single};
 use luflow::{Clock, Datum, Form, Outcome, Status};
 
 /// What is kept of a flow from the instants before: its last value, whether its clock was true, and how often it was present.
-#[derive(Clone, Copy, Debug, Drop, PartialEq, Eq)]
+#[derive(Clone, Copy, Drop, PartialEq, Eq)]
 pub struct Past {
     /// The last present value, nil before the first.
     pub last: Datum,

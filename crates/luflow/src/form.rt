@@ -132,7 +132,7 @@ impl fmt::Display for FaultKind {
 
 /// What a flow's value is where its clock is true: a datum, a fault of its own operator, or neither, where an operand
 /// gives none.
-#[derive(Clone, Copy, Debug, Drop, PartialEq, Eq)]
+#[derive(Clone, Copy, Drop, PartialEq, Eq)]
 pub enum Outcome {
     Gives(Datum),
     Faults(FaultKind),

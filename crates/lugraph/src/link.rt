@@ -8,7 +8,7 @@ ghost use Rattle.lugraph.specs.ReachStates.{HasRows};
 use std::alloc::{AllocError, Global};
 
 /// A link from one number to another.
-#[derive(Clone, Copy, Debug)]
+#[derive(Clone, Copy)]
 pub struct Link {
     pub from: usize,
     pub to: usize,

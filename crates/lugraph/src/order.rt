@@ -10,7 +10,7 @@ use crate::search::Search;
 use std::alloc::{AllocError, Global};
 
 /// What [`order_of`] finds.
-#[derive(Debug, Drop)]
+#[derive(Drop)]
 pub enum Order {
     /// All vertices, each once, and each behind those that it points to.
     Sorted(Vec<usize>),

@@ -9,7 +9,7 @@ use std::rc::Rc;
 
 /// A text that never changes and may have several owners, such as the name of the variable that many clocks name. It lies in memory
 /// once, however many they are. A contract sees its bytes, as those of a [`Name`].
-#[derive(Debug, Drop)]
+#[derive(Drop)]
 pub struct SharedName {
     name: Rc<Name>,
 }

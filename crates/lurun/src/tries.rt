@@ -12,7 +12,7 @@ use lulink::{Offer, Rx, Tx};
 use lusite::{LinkNo, Next, Site};
 
 /// What came of a try.
-#[derive(Clone, Copy, Debug, Drop, PartialEq, Eq)]
+#[derive(Clone, Copy, Drop)]
 pub enum Tried {
     /// The item is done.
     Done,

@@ -155,7 +155,7 @@ pub fn put_passed<R: Threads + Wait + Sync + Clock + Print>(
         return Ok(());
     };
     match job_of_numbers(alloc, task.instants) {
-        Ok(job) => tell(rt, alloc, &job, task),
-        Err(_) => println!(rt; "! no job"),
+        Some(job) => tell(rt, alloc, &job, task),
+        None => println!(rt; "! no job"),
     }
 }

@@ -44,18 +44,23 @@ fn take_job<R: Threads + Wait + Sync>(
     }
 }
 
+/// The job of a line's files; `None` where they are none.
+fn job_at(rt: &HostRuntime, line: &str) -> Option<Job> {
+    let files = RealFiles::new(rt);
+    let (program, place, table) = (word(line, 1), word(line, 2), word(line, 3));
+    job_for(rt.alloc(), &files, program, place, table, "main").ok()
+}
+
 /// Writes what a line of a job's files comes to.
 fn take_files<R: Threads + Wait + Sync>(
     threads: &R,
     rt: &HostRuntime,
     line: &str,
 ) -> io::Result<()> {
-    let files = RealFiles::new(rt);
-    let (program, place, table) = (word(line, 1), word(line, 2), word(line, 3));
-    let Ok(job) = job_for(rt.alloc(), &files, program, place, table, "main") else {
-        return println!(rt; "! no job");
-    };
-    take_job(threads, rt, &job, line)
+    match job_at(rt, line) {
+        Some(job) => take_job(threads, rt, &job, line),
+        None => println!(rt; "! no job"),
+    }
 }
 
 /// Writes what a line comes to.

@@ -122,8 +122,8 @@ fn drive<R: Threads + Wait + Sync>(
     requires two { 1 < sites_of job.now.plan }
     requires plain { IsPlain job.now 1 plain.script.now plain.first.now plain.second.now }
 {
-    let sites = both_sites(alloc, job)?;
     let (feeders, takers) = all_ends(alloc, job, plain.first, plain.second)?;
+    let sites = both_sites(alloc, job)?;
     Ok(driven(threads, sites, feeders, takers, plain, most))
 }
 

@@ -22,7 +22,7 @@ use luweave_text::{TraceForm, text_of_world, trace};
 use std::alloc::Global;
 
 /// The job of the files that a replay asks for, and its turns. They are read and refused in the order of the words.
-pub fn job_and_turns<F: Files>(
+fn job_and_turns<F: Files>(
     alloc: Global,
     request: ReplayRequest<'_>,
     files: &F,

@@ -1,7 +1,7 @@
 //! Items of scripts.
 
 /// What a site does next.
-#[derive(Clone, Copy, Debug, Drop, PartialEq, Eq)]
+#[derive(Clone, Copy, Drop, PartialEq, Eq)]
 pub enum Item {
     /// Computes a flow at an instant.
     Compute { flow: usize, instant: u32 },

@@ -8,7 +8,7 @@ use lulist::Row;
 use std::marker::Model;
 
 /// What a flow has at an instant: a status, or nothing where a fault has reached it.
-#[derive(Clone, Copy, Debug, Drop, PartialEq, Eq)]
+#[derive(Clone, Copy, Drop, PartialEq, Eq)]
 pub enum Mark {
     Known(Status),
     Broken,

@@ -17,7 +17,7 @@ use Rattle.lunames.proofs.Sought.{at}
 use Rattle.lustat_classes.specs.Assigned.{place_of, class_at, assigned, LeftsKnown, IsCaused}
 use Rattle.lustat_classes.specs.Sources.{zero_classes}
 use Rattle.lustat_classes.specs.Linked.{links_in, AreStarts}
-use Rattle.lustat_classes.proofs.Lent.{same_some}
+use Rattle.lustat_scope.proofs.Lent.{same_some}
 use Rattle.lustat_classes.proofs.Sourcing as sourcing
 use Rattle.lustat_classes.proofs.Spreading.{reads_back, writes_back, links_there, links_back}
 

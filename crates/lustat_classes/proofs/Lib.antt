@@ -2,8 +2,7 @@ mod Sourcing
 mod Spreading
 mod Leasts
 mod Telling
-mod Lent
 mod Starting
 mod Equations
 pub mod Rowing
-mod Steps
+mod Pushed

@@ -11,7 +11,7 @@ use Rattle.lugraph.proofs.Marks.{same_or_not}
 use Rattle.lustat_classes.specs.Assigned.{assigned, class_at, place_of}
 use Rattle.lustat_classes.specs.Sources.{zero_classes}
 use Rattle.lustat_classes.specs.Linked.{AreStarts}
-use Rattle.lustat_classes.proofs.Lent.{same_some}
+use Rattle.lustat_scope.proofs.Lent.{same_some}
 
 same_or : (p q r s : Bool) → p ≡ q → r ≡ s → (p || r) ≡ (q || s)
 same_or p q r s e f = ap (λ x. x || r) e ∙ ap (λ x. q || x) f

@@ -1,8 +1,7 @@
 -- Where a node has no classes, by equation.
 use Rattle.std.specs.Prelude.{ℕ, List, [], ◌∷◌, ◌++◌, map, Some, None, IsTrue, All, Contains}
 use Rattle.std.specs.Borrow.{Bor}
-use Rattle.lutree.specs.declared.program.Declaration.{Declaration}
-use Rattle.lutree.specs.Tree.{DeclarationTree, EquationTree, NodeTree, declaration_view}
+use Rattle.lutree.specs.Tree.{DeclarationTree, EquationTree, NodeTree}
 use Rattle.lustat_rules.specs.Scope.{Clock, declarations_of, IsInput, IsOutput}
 use Rattle.lustat_rules.specs.Clocks.{clocks_in}
 use Rattle.lustat_rules.specs.Classes.{Classes, is_one, NeedsMet, Meets, HasClasses, IsLeast}
@@ -30,10 +29,6 @@ sampler_names (q ∷ qs) = clocks_in q.right ++ sampler_names qs
 -- the variables of a node that clocks name: the clocks of declarations, and `when` and `merge`
 abbrev pub clock_variables : NodeTree → List (List ℕ)
 clock_variables n = clock_names (declarations_of n) ++ sampler_names n.equations
-
--- declarations that are lent
-abbrev pub lent_view : List (Bor Declaration) → List DeclarationTree
-lent_view = map (λ d. declaration_view d.now)
 
 -- a variable is no input and no output, and no clock names it
 pub record IsFree (n : NodeTree) (x : List ℕ) : Type 0 where

@@ -4,7 +4,8 @@ ghost use Rattle.std.specs.Prelude.{◌≡◌, ◌↔◌, ◌++◌, ◌∷◌, [
 ghost use Rattle.lutree.specs.Tree.{equation_view, node_view, view, views, trees_of};
 ghost use Rattle.lustat_rules.specs.Clocks.{clocks_in, clocks_in_all};
 ghost use Rattle.lustat_classes.specs.Assigned.{assigned};
-ghost use Rattle.lustat_classes.specs.Judged.{spelled, clock_names_of, clock_names, sampler_names, clock_variables, lent_view, IsFree, KeepsClasses};
+ghost use Rattle.lustat_scope.specs.Lent.{lent_view};
+ghost use Rattle.lustat_classes.specs.Judged.{spelled, clock_names_of, clock_names, sampler_names, clock_variables, IsFree, KeepsClasses};
 
 use crate::class::{is_one, needs_met};
 use lulist::Name;
@@ -156,7 +157,8 @@ fn are_free(scope: &Scope, named: &Places, names: &[Name]) -> bool
 pub fn keeps_classes(scope: &Scope, classes: &[bool], named: &Places, equation: &Equation) -> bool
     requires { named.now ≡ clock_variables (node_view scope.now) }
     ensures { IsTrue result
-        ↔ KeepsClasses (assigned (node_view scope.now) classes.now) (node_view scope.now) (equation_view equation.now) }
+        ↔ KeepsClasses (assigned (node_view scope.now) classes.now) (node_view scope.now)
+        (equation_view equation.now) }
 {
     if !needs_met(scope, classes, &equation.right) {
         return false;

@@ -19,7 +19,7 @@ use lutree::{Declaration, DeclaredName, Equation, TypeDeclaration};
 use std::alloc::{AllocError, Global};
 
 /// What [`initialise`] finds.
-#[derive(Debug, Drop)]
+#[derive(Drop)]
 pub enum Initialised {
     /// The classes of each node, in order of text: for each a mark by place of declaration, true for class 1. Behind the marks of a
     /// node's variables stand others.

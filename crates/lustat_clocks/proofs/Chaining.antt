@@ -16,7 +16,7 @@ use Rattle.lustat_scope.proofs.Declared.{first_at_place}
 use Rattle.lunames.proofs.Sought.{at}
 use Rattle.lustat_scope.specs.ClockRefs.{place_before}
 use Rattle.lustat_clocks.specs.Chains.{AreBased, AreClocked}
-use Rattle.lustat_clocks.proofs.Lent.{same_some}
+use Rattle.lustat_scope.proofs.Lent.{same_some}
 
 -- ONE MORE DECLARATION
 

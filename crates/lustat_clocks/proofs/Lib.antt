@@ -1,9 +1,7 @@
 mod Held
 mod Named
 mod Anchored
-mod Lent
 mod Chaining
 mod Uncalled
 mod Places
 mod Branched
-mod Steps

@@ -1,8 +1,6 @@
 -- Chains of clocks, by place of declaration.
-use Rattle.std.specs.Prelude.{◌≡◌, ◌↔◌, ◌<◌, ℕ, Bool, List, Some, None, slice_get, map, Contains}
-use Rattle.std.specs.Borrow.{Bor}
-use Rattle.lutree.specs.declared.program.Declaration.{Declaration}
-use Rattle.lutree.specs.Tree.{DeclarationTree, NodeTree, declaration_view}
+use Rattle.std.specs.Prelude.{◌≡◌, ◌↔◌, ◌<◌, ℕ, Bool, List, Some, None, slice_get, Contains}
+use Rattle.lutree.specs.Tree.{DeclarationTree, NodeTree}
 use Rattle.lustat_rules.specs.Scope.{declarations_of}
 use Rattle.lustat_rules.specs.Clocks.{Ends}
 use Rattle.lugraph.specs.Search.{Has}
@@ -13,10 +11,6 @@ use Rattle.lugraph.specs.Reach.{link}
 -- marks of those declarations whose clocks end at the base clock
 abbrev pub MarksEnds : NodeTree → List Bool → Type 0
 MarksEnds n marks = (i : ℕ) (d : DeclarationTree) → slice_get (declarations_of n) i ≡ Some d → Has marks i ↔ Ends n d.clock
-
--- declarations that are lent
-abbrev pub lent_view : List (Bor Declaration) → List DeclarationTree
-lent_view = map (λ d. declaration_view d.now)
 
 -- the declaration at a place has no clock
 abbrev pub IsBased : List DeclarationTree → ℕ → Type 0

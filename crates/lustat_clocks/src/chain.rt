@@ -6,7 +6,8 @@ ghost use Rattle.lustat_rules.specs.Scope.{declarations_of, kind_of};
 ghost use Rattle.lustat_rules.specs.Parts.{EachPart, EachPartOf};
 ghost use Rattle.lustat_rules.specs.Clocks.{pattern_kind, IsTypedClock, CanMerge, NamesClocks, IsClock, ClocksAreTyped};
 ghost use Rattle.lugraph.specs.Search.{Has};
-ghost use Rattle.lustat_clocks.specs.Chains.{MarksEnds, lent_view, AreBased, AreClocked};
+ghost use Rattle.lustat_scope.specs.Lent.{lent_view};
+ghost use Rattle.lustat_clocks.specs.Chains.{MarksEnds, AreBased, AreClocked};
 ghost use Rattle.lustat_scope.specs.ClockRefs.{place_before};
 
 use lugraph::{Link, reached};

@@ -24,7 +24,8 @@ struct ClockStage<'r, 'a> {
     catalog: &'r Catalog<'a>,
     main: &'r str,
     unclocked: bool,
-    ghost tells: { IsTrue unclocked ↔ IfSome (node_called (program_view catalog.now) main.now) HasUnclockedOutputs } by { Prim.hlevel props },
+    ghost tells: { IsTrue unclocked
+        ↔ IfSome (node_called (program_view catalog.now) main.now) HasUnclockedOutputs } by { Prim.hlevel props },
 }
 
 impl<'r, 'a> Stage<'a> for ClockStage<'r, 'a> {

@@ -1,4 +1,3 @@
 mod Beginning
 mod Tabled
 mod Naming
-mod Steps

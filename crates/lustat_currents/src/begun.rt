@@ -11,7 +11,7 @@ use lutree::{Equation, Expr, Infix, Pattern};
 use std::alloc::{AllocError, Global};
 
 /// A variable that an equation defines alone, and the pattern whose constant the equation begins with.
-#[derive(Clone, Copy, Debug)]
+#[derive(Clone, Copy)]
 pub struct Beginning<'a> {
     name: &'a str,
     pattern: PatternRef<'a>,

@@ -2,3 +2,4 @@ pub mod Declared
 pub mod Keeping
 pub mod Placed
 mod Labelled
+pub mod Lent

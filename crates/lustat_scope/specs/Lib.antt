@@ -3,3 +3,4 @@ pub mod ClockRefs
 pub mod Tables
 pub mod Catalogs
 pub mod Stages
+pub mod Lent

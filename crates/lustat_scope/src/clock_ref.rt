@@ -6,7 +6,7 @@ ghost use Rattle.lustat_scope.specs.ClockRefs.{the_pattern, the_clock};
 use lutree::{Condition, Label, Pattern};
 
 /// A pattern, lent.
-#[derive(Clone, Copy, Debug)]
+#[derive(Clone, Copy)]
 pub enum PatternRef<'a> {
     Truth(bool),
     Label(&'a Label),
@@ -43,7 +43,7 @@ impl<'a> PatternRef<'a> {
 }
 
 /// A clock, lent: the base clock of the node, or a variable with a pattern.
-#[derive(Clone, Copy, Debug)]
+#[derive(Clone, Copy)]
 pub enum ClockRef<'a> {
     Base,
     On(&'a str, PatternRef<'a>),
@@ -74,7 +74,7 @@ impl<'a> ClockRef<'a> {
 
 /// A clock, lent, and where its variable is declared first in a node; no place where it has no variable, or none that is declared.
 /// Places are compared in place of names, however long those are.
-#[derive(Clone, Copy, Debug)]
+#[derive(Clone, Copy)]
 pub struct PlacedClock<'a> {
     pub clock: ClockRef<'a>,
     pub place: Option<usize>,

@@ -240,8 +240,8 @@ fn nodes_fault<'a, S: Stage<'a>>(
 ) -> Result<Option<StatError>, AllocError>
     requires { (S.program stage.now).nodes ≡ scopes.now }
     ensures { IfOk result (IsJudged
-        (FaultAmong scopes.now (BrokenInside (S.breaks_node stage.now) (S.breaks_declaration stage.now)
-        (S.breaks_equation stage.now)))
+        (FaultAmong scopes.now (BrokenInside (S.breaks_node stage.now)
+        (S.breaks_declaration stage.now) (S.breaks_equation stage.now)))
         (KeptAmong scopes.now (KeptInside (S.keeps_node stage.now) (S.keeps_declaration stage.now)
         (S.keeps_equation stage.now)))) }
 {

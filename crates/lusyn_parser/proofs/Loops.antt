@@ -8,12 +8,11 @@ use Rattle.std.specs.Prelude.{Vec, Box}
 use Rattle.std.specs.Global.{Global}
 use Rattle.lutree.specs.declared.expr.Expr.{Expr}
 use Rattle.lutree.specs.declared.expr.Expr.TheVariants as variant
-use Rattle.lutree.specs.declared.expr.Expr.TheOpen.{Expr-F}
-use Rattle.lutree.specs.declared.expr.Expr.TheFolds.{fold-roll-Expr}
 use Rattle.lutree.specs.declared.expr.Pattern.{Pattern}
 use Rattle.lutree.specs.declared.expr.Pattern.TheVariants as patterns
-use Rattle.lutree.specs.Tree.{Tree, DeclarationTree, NodeTree, view, views, trees_of, view_step}
+use Rattle.lutree.specs.Tree.{Tree, DeclarationTree, NodeTree, view, views, trees_of}
 use Rattle.lutree.specs.Tree as t
+use Rattle.lutree.proofs.Views.{viewed-Merge}
 use Rattle.lusyn_tokens.specs.declared.token.Fixed.{Fixed}
 use Rattle.lusyn_tokens.specs.declared.token.Fixed.TheVariants as f
 use Rattle.lusyn_tokens.specs.declared.token.Lexeme.{Lexeme}
@@ -247,4 +246,4 @@ merged-all v found boxed es labels values =
     let trees : views es.items ≡ map (λ (b : Branch). view b.value) found = ap views values ∙ map_of_map view (λ (b : Branch). b.value) found in
     ap (λ (qs : List Pattern). read_as (t.merge v qs (trees_of (map (λ b. b.1) (branches_view found))))) (map_of_map (λ (b : List ℕ × Tree). patterns.Label (bare_label b.0)) branch_view found ∙ sym labels)
     ∙ ap (λ (values : List Tree). read_as (t.merge v boxed.value (trees_of values))) (map_of_map (λ (b : List ℕ × Tree). b.1) branch_view found ∙ sym trees)
-    ∙ ap read_as (sym (ap view (sym (variant.rolls-Merge v boxed es)) ∙ fold-roll-Expr Tree view_step (Expr-F.Merge v boxed es)))
+    ∙ ap read_as (sym (viewed-Merge v boxed es))

@@ -16,7 +16,7 @@ pub enum ParseError {
 }
 
 /// Why reading stops.
-#[derive(Debug, Drop)]
+#[derive(Drop)]
 pub(crate) enum Stop {
     /// At the token with this index no program goes on.
     Refused(usize),

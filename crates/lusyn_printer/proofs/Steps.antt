@@ -5,15 +5,14 @@ use Rattle.std.specs.Prelude.{Box, Vec}
 use Rattle.std.specs.Global.{Global}
 use Rattle.lutree.specs.declared.expr.Expr.{Expr}
 use Rattle.lutree.specs.declared.expr.Expr.TheVariants as variant
-use Rattle.lutree.specs.declared.expr.Expr.TheOpen.{Expr-F}
-use Rattle.lutree.specs.declared.expr.Expr.TheFolds.{fold-roll-Expr}
 use Rattle.lutree.specs.declared.expr.Prefix.{Prefix}
 use Rattle.lutree.specs.declared.expr.Infix.{Infix}
 use Rattle.lutree.specs.declared.expr.Pattern.{Pattern}
 use Rattle.lutree.specs.declared.expr.Pattern.TheVariants as patterns
 use Rattle.lutree.specs.declared.expr.Condition.{Condition}
-use Rattle.lutree.specs.Tree.{Tree, view, views, view_step, trees_of}
+use Rattle.lutree.specs.Tree.{Tree, view, views, trees_of}
 use Rattle.lutree.specs.Tree as t
+use Rattle.lutree.proofs.Views.{viewed-Unary, viewed-Binary, viewed-If, viewed-When, viewed-Merge, viewed-Call}
 use Rattle.lusyn_tokens.specs.Tokens.{text_of, prefix_token, infix_token, left, right}
 use Rattle.lusyn_grammar.specs.Printing.{written, writtens, placed, bare_pattern}
 use Rattle.lusyn_printer.specs.Canonical.{expression, operands, branches, pattern_text, when_text}
@@ -55,7 +54,7 @@ at least x = expression (placed least (written (view x)))
 
 pub unary_text : (op : Prefix) (a : Box Expr Global) (e x : Expr) → e ≡ variant.Unary op a → x ≡ a.value → operand e ≡ (text_of (prefix_token op) ++ codes " ") ++ at 8 x
 unary_text op a e x is there =
-    seen e _ (t.unary op (view a.value)) is (ap view (sym (variant.rolls-Unary op a)) ∙ fold-roll-Expr Tree view_step (Expr-F.Unary op a))
+    seen e _ (t.unary op (view a.value)) is (viewed-Unary op a)
     ∙ ap (λ (y : Expr). (text_of (prefix_token op) ++ codes " ") ++ at 8 y) (sym there)
 
 around : (first space sign last : List ℕ) → first ++ space ++ sign ++ space ++ last ≡ (first ++ (space ++ sign ++ space)) ++ last
@@ -65,7 +64,7 @@ pub binary_text : (op : Infix) (a b : Box Expr Global) (e x y : Expr) (l r : ℕ
     → operand e ≡ (at l x ++ (codes " " ++ text_of (infix_token op) ++ codes " ")) ++ at r y
 binary_text op a b e x y l r is l_is r_is there beside =
     let between = codes " " ++ text_of (infix_token op) ++ codes " " in
-    seen e _ (t.binary op (view a.value) (view b.value)) is (ap view (sym (variant.rolls-Binary op a b)) ∙ fold-roll-Expr Tree view_step (Expr-F.Binary op a b))
+    seen e _ (t.binary op (view a.value) (view b.value)) is (viewed-Binary op a b)
     ∙ around (at (left op) a.value) (codes " ") (text_of (infix_token op)) (at (right op) b.value)
     ∙ ap (λ (n : ℕ). (at n a.value ++ between) ++ at (right op) b.value) (sym l_is)
     ∙ ap (λ (n : ℕ). (at l a.value ++ between) ++ at n b.value) (sym r_is)
@@ -78,7 +77,7 @@ at_any x = ap expression (placed_anywhere (written (view x)))
 pub choice_text : (a b c : Box Expr Global) (e x y z : Expr) → e ≡ variant.If a b c → x ≡ a.value → y ≡ b.value → z ≡ c.value
     → operand e ≡ ((((codes "if " ++ operand x) ++ codes " then ") ++ operand y) ++ codes " else ") ++ operand z
 choice_text a b c e x y z is first second third =
-    seen e _ (t.choice (view a.value) (view b.value) (view c.value)) is (ap view (sym (variant.rolls-If a b c)) ∙ fold-roll-Expr Tree view_step (Expr-F.If a b c))
+    seen e _ (t.choice (view a.value) (view b.value) (view c.value)) is (viewed-If a b c)
     ∙ ap (λ (text : List ℕ). codes "if " ++ text ++ codes " then " ++ at 0 b.value ++ codes " else " ++ at 0 c.value) (at_any a.value ∙ ap operand (sym first))
     ∙ ap (λ (text : List ℕ). codes "if " ++ operand x ++ codes " then " ++ text ++ codes " else " ++ at 0 c.value) (at_any b.value ∙ ap operand (sym second))
     ∙ ap (λ (text : List ℕ). codes "if " ++ operand x ++ codes " then " ++ operand y ++ codes " else " ++ text) (at_any c.value ∙ ap operand (sym third))
@@ -89,19 +88,19 @@ pattern_bare (patterns.Label l) x = refl
 
 pub when_written : (a : Box Expr Global) (c : Condition) (e x : Expr) → e ≡ variant.When a c → x ≡ a.value → operand e ≡ at 9 x ++ when_text c
 when_written a c e x is there =
-    seen e _ (t.when (view a.value) c) is (ap view (sym (variant.rolls-When a c)) ∙ fold-roll-Expr Tree view_step (Expr-F.When a c))
+    seen e _ (t.when (view a.value) c) is (viewed-When a c)
     ∙ ap (λ (text : List ℕ). at 9 a.value ++ (codes " when " ++ text)) (pattern_bare c.pattern c.variable)
     ∙ ap (λ (y : Expr). at 9 y ++ when_text c) (sym there)
 
 pub merge_text : (x : List ℕ) (ps : Box (List Pattern) Global) (vs : Vec Expr Global) (e : Expr) (labels : List Pattern) (values : List Expr)
     → e ≡ variant.Merge x ps vs → labels ≡ ps.value → values ≡ vs.items → operand e ≡ (codes "merge " ++ x) ++ branches (writtens (trees_of (views values))) (map bare_pattern labels)
 merge_text x ps vs e labels values is told given =
-    seen e _ (t.merge x ps.value (trees_of (views vs.items))) is (ap view (sym (variant.rolls-Merge x ps vs)) ∙ fold-roll-Expr Tree view_step (Expr-F.Merge x ps vs))
+    seen e _ (t.merge x ps.value (trees_of (views vs.items))) is (viewed-Merge x ps vs)
     ∙ ap (λ (qs : List Pattern). codes "merge " ++ x ++ branches (writtens (trees_of (views vs.items))) (map bare_pattern qs)) (sym told)
     ∙ ap (λ (us : List Expr). codes "merge " ++ x ++ branches (writtens (trees_of (views us))) (map bare_pattern labels)) (sym given)
 
 pub call_text : (f : List ℕ) (vs : Vec Expr Global) (e : Expr) (values : List Expr) → e ≡ variant.Call f vs → values ≡ vs.items
     → operand e ≡ ((f ++ codes "(") ++ operands (writtens (trees_of (views values)))) ++ codes ")"
 call_text f vs e values is given =
-    seen e _ (t.call f (trees_of (views vs.items))) is (ap view (sym (variant.rolls-Call f vs)) ∙ fold-roll-Expr Tree view_step (Expr-F.Call f vs))
+    seen e _ (t.call f (trees_of (views vs.items))) is (viewed-Call f vs)
     ∙ ap (λ (us : List Expr). f ++ codes "(" ++ operands (writtens (trees_of (views us))) ++ codes ")") (sym given)

@@ -6,7 +6,7 @@ ghost use Rattle.lusyn_tokens.specs.Tokens as tokens;
 use lutree::{BinaryOperator, Infix, Prefix, UnaryOperator};
 
 /// A token with one spelling: a keyword or a sign.
-#[derive(Clone, Copy, Debug, PartialEq, Eq)]
+#[derive(Clone, Copy, PartialEq, Eq)]
 pub enum Fixed {
     /// `node`
     Node,
@@ -258,7 +258,7 @@ pub fn infix_of(fixed: Fixed) -> Option<Infix>
 }
 
 /// How tightly an operator between two operands binds, and how tightly they have to.
-#[derive(Clone, Copy, Debug)]
+#[derive(Clone, Copy)]
 pub struct Binding {
     /// The level of the operator with its operands, 1 to 7.
     pub level: u8,
@@ -311,7 +311,7 @@ pub fn binding_of(op: Infix) -> Binding
 }
 
 /// A token, without its place.
-#[derive(Clone, Copy, Debug)]
+#[derive(Clone, Copy)]
 pub enum Token<'t> {
     /// An identifier.
     Name(&'t str),
@@ -321,7 +321,7 @@ pub enum Token<'t> {
 }
 
 /// A token, and the place of its first byte in the text.
-#[derive(Clone, Copy, Debug)]
+#[derive(Clone, Copy)]
 pub struct Lexeme<'t> {
     pub token: Token<'t>,
     pub place: usize,

@@ -4,7 +4,7 @@ use crate::program::Kind;
 use lulist::{Name, Number, Row, SharedName};
 
 /// An operator on data that stands before its one operand.
-#[derive(Clone, Copy, Debug, PartialEq, Eq)]
+#[derive(Clone, Copy, PartialEq, Eq)]
 pub enum UnaryOperator {
     /// `-`
     Minus,
@@ -13,7 +13,7 @@ pub enum UnaryOperator {
 }
 
 /// An operator on data that stands between its two operands.
-#[derive(Clone, Copy, Debug, PartialEq, Eq)]
+#[derive(Clone, Copy, PartialEq, Eq)]
 pub enum BinaryOperator {
     /// `+`
     Add,
@@ -48,7 +48,7 @@ pub enum BinaryOperator {
 }
 
 /// What stands before an operand.
-#[derive(Clone, Copy, Debug, PartialEq, Eq)]
+#[derive(Clone, Copy)]
 pub enum Prefix {
     /// An operator on data, applied at each instant.
     Data(UnaryOperator),
@@ -57,7 +57,7 @@ pub enum Prefix {
 }
 
 /// What stands between two operands.
-#[derive(Clone, Copy, Debug, PartialEq, Eq)]
+#[derive(Clone, Copy)]
 pub enum Infix {
     /// An operator on data, applied at each instant.
     Data(BinaryOperator),
@@ -68,7 +68,7 @@ pub enum Infix {
 }
 
 /// A name of an enumeration, and what it stands for in its program.
-#[derive(Debug, Drop)]
+#[derive(Drop)]
 pub struct Label {
     pub name: SharedName,
     /// Its type: an enumeration, and one without names where no type of the program has this name.
@@ -78,7 +78,7 @@ pub struct Label {
 }
 
 /// The value of a clock's variable at which the clock is true.
-#[derive(Debug, Drop)]
+#[derive(Drop)]
 pub enum Pattern {
     /// `true` or `false`.
     Truth(bool),
@@ -88,7 +88,7 @@ pub enum Pattern {
 
 /// A clock: the variable `c` with the pattern `true` is written `c`, with `false` it is written `not c`, and with the name `A`
 /// of an enumeration `A(c)`.
-#[derive(Debug, Drop)]
+#[derive(Drop)]
 pub struct Condition {
     pub variable: SharedName,
     pub pattern: Pattern,

@@ -15,7 +15,7 @@ pub enum Kind {
 }
 
 /// A name of an enumeration where it is declared.
-#[derive(Debug, Drop)]
+#[derive(Drop)]
 pub struct DeclaredName {
     pub name: Name,
     /// The place of the name's first byte in the text, counted from 0.
@@ -33,7 +33,7 @@ pub struct TypeDeclaration {
 }
 
 /// One declared variable. A text that declares several names at once has as many declarations.
-#[derive(Debug, Drop)]
+#[derive(Drop)]
 pub struct Declaration {
     pub name: Name,
     /// Its type; an enumeration without names where its type has a name that no type of the program has.

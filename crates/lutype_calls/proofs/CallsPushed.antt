@@ -10,11 +10,10 @@ use Rattle.lutree.specs.declared.expr.Infix.{Infix}
 use Rattle.lutree.specs.declared.expr.Pattern.{Pattern}
 use Rattle.lutree.specs.declared.expr.Expr.{Expr}
 use Rattle.lutree.specs.declared.expr.Expr.TheVariants as variant
-use Rattle.lutree.specs.declared.expr.Expr.TheOpen.{Expr-F}
-use Rattle.lutree.specs.declared.expr.Expr.TheFolds.{fold-roll-Expr}
 use Rattle.lutree.specs.declared.program.Equation.{Equation}
 use Rattle.lutree.specs.declared.program.Node.{Node}
-use Rattle.lutree.specs.Tree.{Tree, EquationTree, ProgramTree, view, view_step, views, trees_of, list_of, equation_view, node_view}
+use Rattle.lutree.specs.Tree.{Tree, EquationTree, ProgramTree, view, views, trees_of, list_of, equation_view, node_view}
+use Rattle.lutree.proofs.Views.{viewed-Binary, viewed-If, viewed-Merge, viewed-Call}
 use Rattle.lustat_rules.specs.Naming.{Call, calls_in, calls_in_all, called_by}
 use Rattle.lutype_calls.specs.CallGraph.{names_called, places_called}
 
@@ -29,20 +28,20 @@ found_joined look cs ds =
 -- the calls of an expression, by its form
 
 pub calls-Binary : (op : Infix) (a b : Box Expr Global) → calls_in (view (variant.Binary op a b)) ≡ calls_in (view a.value) ++ calls_in (view b.value)
-calls-Binary op a b = ap calls_in (ap view (sym (variant.rolls-Binary op a b)) ∙ fold-roll-Expr Tree view_step (Expr-F.Binary op a b))
+calls-Binary op a b = ap calls_in (viewed-Binary op a b)
 
 pub calls-Merge : (c : List ℕ) (ps : Box (List Pattern) Global) (es : Vec Expr Global) → calls_in (view (variant.Merge c ps es)) ≡ calls_in_all (trees_of (views es.items))
-calls-Merge c ps es = ap calls_in (ap view (sym (variant.rolls-Merge c ps es)) ∙ fold-roll-Expr Tree view_step (Expr-F.Merge c ps es))
+calls-Merge c ps es = ap calls_in (viewed-Merge c ps es)
 
 pub calls-If : (c a b : Box Expr Global) → calls_in (view (variant.If c a b)) ≡ calls_in (view c.value) ++ (calls_in (view a.value) ++ calls_in (view b.value))
-calls-If c a b = ap calls_in (ap view (sym (variant.rolls-If c a b)) ∙ fold-roll-Expr Tree view_step (Expr-F.If c a b))
+calls-If c a b = ap calls_in (viewed-If c a b)
 
 -- one call
 abbrev pub call_of : List ℕ → List Expr → Call
 call_of f es = record { node = f; arguments = length (list_of (trees_of (views es))) }
 
 pub calls-Call : (f : List ℕ) (es : Vec Expr Global) → calls_in (view (variant.Call f es)) ≡ calls_in_all (trees_of (views es.items)) ++ call_of f es.items ∷ []
-calls-Call f es = ap calls_in (ap view (sym (variant.rolls-Call f es)) ∙ fold-roll-Expr Tree view_step (Expr-F.Call f es))
+calls-Call f es = ap calls_in (viewed-Call f es)
 
 -- what is pushed for calls, and then for others
 pub pushed_both : (look : List ℕ → Option ℕ) (row one two : List ℕ) (cs ds : List Call) → one ≡ row ++ found_for look cs → two ≡ one ++ found_for look ds →

@@ -12,7 +12,7 @@ use lustat_scope::Catalog;
 use std::alloc::{AllocError, Global};
 
 /// What [`call_order`] finds. Nodes are told by their places in order of text, from 0.
-#[derive(Debug, Drop)]
+#[derive(Drop)]
 pub enum CallOrder {
     /// All nodes, each once, and each behind those that it calls.
     Sorted(Vec<usize>),

@@ -4,4 +4,3 @@ mod Fit
 mod Defining
 mod Branches
 mod NameAt
-mod Steps

@@ -12,7 +12,7 @@ use lustat_scope::Catalog;
 use lutree::{Equation, Expr};
 
 /// What is asked of a call.
-#[derive(Clone, Copy, Debug)]
+#[derive(Clone, Copy)]
 pub enum CallRule {
     /// It is of a node.
     Known,
@@ -64,8 +64,10 @@ fn calls_keep(catalog: &Catalog, rule: CallRule, e: &Expr) -> bool
 #[cycle(calls)]
 fn whole_call_keeps(catalog: &Catalog, rule: CallRule, name: &str, arguments: &[Expr]) -> bool
     ensures { IsTrue result ↔ (EachCallOf (CallKeeps (program_view catalog.now) rule)
-        (trees_of (views arguments.now)) × CallKeeps (program_view catalog.now) rule
-        (record { node = name.now; arguments = length (list_of (trees_of (views arguments.now))) })) }
+        (trees_of (views arguments.now)) × CallKeeps (program_view catalog.now) rule (record {
+          node = name.now;
+          arguments = length (list_of (trees_of (views arguments.now)));
+        })) }
 {
     all_calls_keep(catalog, rule, arguments) && call_keeps(catalog, rule, name, arguments.len())
 }

@@ -14,7 +14,7 @@ use lustat_scope::{Catalog, Scope};
 use lutree::{Condition, Equation, Expr, Label, Pattern};
 
 /// What is asked of the parts of an expression that speak of enumerations.
-#[derive(Clone, Copy, Debug)]
+#[derive(Clone, Copy)]
 pub enum PartRule {
     /// Names of enumerations are known.
     Known,

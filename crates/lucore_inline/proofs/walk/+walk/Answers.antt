@@ -19,7 +19,7 @@ use Rattle.lucore_list.specs.Layout.Root.{own, at}
 use Rattle.lustat_scope.specs.ClockRefs.{placed_view}
 use Rattle.lucore_inline.specs.Walks.{IsWalked, root_view, plain, flow_on, prefix_form, prefix_kind, kinds_of}
 use Rattle.lucore_moved.specs.Operands.{places_of}
-use Rattle.lucore_inline.proofs.Views.{viewed-Number, viewed-Truth, viewed-Variable, viewed-Current, viewed-Call, viewed-Unary, viewed-Binary, viewed-If, viewed-When, viewed-Merge, viewed-Label}
+use Rattle.lutree.proofs.Views.{viewed-Number, viewed-Truth, viewed-Variable, viewed-Current, viewed-Call, viewed-Unary, viewed-Binary, viewed-If, viewed-When, viewed-Merge, viewed-Label}
 use Rattle.lucore_inline.proofs.Forms.{AreMade, none_made, argument_made, argument_typed, BranchesAreMade, no_branches, branch_made, operand_is, operand_typed, formed, number_is, truth_is, variable_is, current_is, unary_is, binary_is, choice_is, when_is, merge_is, label_is, prefix_typed, infix_typed, choice_typed}
 use Rattle.lucore_inline.proofs.Walking.{IsMade}
 use Rattle.lucore_inline.proofs.walk.+walk.Goals as goal

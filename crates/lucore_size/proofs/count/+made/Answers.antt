@@ -5,7 +5,8 @@ use Rattle.lutree.specs.Tree as tree
 use Rattle.lucore_list.specs.Sizes.{made_size}
 use Rattle.lucore_size.specs.Counted.{capped, further}
 use Rattle.lucore_size.proofs.Capped.{capped_left, summed}
-use Rattle.lucore_size.proofs.Formed.{viewed-Binary, viewed-If, rooted, operand, inner_of, argument_counted}
+use Rattle.lutree.proofs.Views.{viewed-Binary, viewed-If}
+use Rattle.lucore_size.proofs.Formed.{rooted, operand, inner_of, argument_counted}
 use Rattle.lucore_size.proofs.count.+made.Goals as goal
 
 pub all_made-loop-a-preserved : goal.all_made-loop-a-preserved

@@ -2,7 +2,8 @@ use Rattle.std.proofs.Common.{sym, subst, ◌↔◌, IsTrue}
 use Rattle.lutree.specs.Tree.{Tree, view, node_view}
 use Rattle.lustat_rules.specs.Classes.{NeedsMet, AllReady}
 use Rattle.lustat_classes.specs.Assigned.{assigned}
-use Rattle.lustat_classes.proofs.Steps.{of_four_forms, viewed-If, of_form, of_lent, both_held, both_failed, triple_held, triple_failed, viewed-When, viewed-Merge, viewed-Call, of_list}
+use Rattle.lutree.proofs.Views.{viewed-If, viewed-When, viewed-Merge, viewed-Call}
+use Rattle.lutree.proofs.Tests.{of_four_forms, of_form, of_lent, both_held, both_failed, triple_held, triple_failed, of_list}
 use Rattle.lustat_classes.proofs.class.+needs.Goals as goal
 use Rattle.lustat_classes.proofs.class.+needs.Goals.{needs_met-then-needs_met-3, needs_met-else-needs_met-3}
 

@@ -5,7 +5,8 @@ use Rattle.lutree.specs.declared.expr.Expr.{Expr}
 use Rattle.lutree.specs.Tree.{view, views, trees_of}
 use Rattle.lustat_rules.specs.Clocks.{clocks_in, clocks_in_all}
 use Rattle.lustat_classes.specs.Judged.{spelled}
-use Rattle.lustat_classes.proofs.Steps.{viewed-Binary, viewed-If, viewed-When, viewed-Merge, pushed_both, pushed_more, pushed_all}
+use Rattle.lutree.proofs.Views.{viewed-Binary, viewed-If, viewed-When, viewed-Merge}
+use Rattle.lustat_classes.proofs.Pushed.{pushed_both, pushed_more, pushed_all}
 use Rattle.lustat_classes.proofs.judge.+samplers.Goals as goal
 
 pub push_samplers-returns-in_ok-push_samplers-in-Binary : goal.push_samplers-returns-in_ok-push_samplers-in-Binary

@@ -5,7 +5,7 @@ use Rattle.lutree.specs.declared.program.Node.{Node}
 use Rattle.lutree.specs.Tree.{equation_view, node_view}
 use Rattle.lustat_rules.specs.Scope.{declarations_of}
 use Rattle.lustat_classes.specs.Judged.{spelled, clock_names, sampler_names, clock_variables}
-use Rattle.lustat_classes.proofs.Lent.{same_lent}
+use Rattle.lustat_scope.proofs.Lent.{same_lent}
 use Rattle.lustat_classes.proofs.judge.clocks_named.Goals as goal
 
 pub returns : goal.returns

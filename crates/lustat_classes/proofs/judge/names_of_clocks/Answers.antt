@@ -5,8 +5,9 @@ use Rattle.std.specs.Global.{Global}
 use Rattle.std.specs.Option.{option_copied, option_to_list}
 use Rattle.std.proofs.lemmas.List.{append-nil, map-append}
 use Rattle.lutree.specs.declared.program.Declaration.{Declaration}
-use Rattle.lustat_classes.specs.Judged.{spelled, clock_names_of, clock_names, lent_view}
-use Rattle.lustat_classes.proofs.Steps.{pushed_more, pushed_all}
+use Rattle.lustat_scope.specs.Lent.{lent_view}
+use Rattle.lustat_classes.specs.Judged.{spelled, clock_names_of, clock_names}
+use Rattle.lustat_classes.proofs.Pushed.{pushed_more, pushed_all}
 use Rattle.lustat_classes.proofs.judge.names_of_clocks.Goals as goal
 use Rattle.lustat_classes.proofs.judge.names_of_clocks.Goals.{in-Some+in_ok-push, in_default}
 

@@ -1,5 +1,6 @@
 use Rattle.std.proofs.Common.{◌≡◌, ◌++◌, drop}
-use Rattle.lustat_classes.specs.Judged.{spelled, clock_names, lent_view}
+use Rattle.lustat_scope.specs.Lent.{lent_view}
+use Rattle.lustat_classes.specs.Judged.{spelled, clock_names}
 use Rattle.lustat_classes.proofs.judge.names_of_clocks.Given as goal
 
 abbrev pub invariant-loop-d : goal.invariant-loop-d

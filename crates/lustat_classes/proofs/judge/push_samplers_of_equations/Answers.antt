@@ -3,7 +3,7 @@ use Rattle.lutree.specs.declared.program.Equation.{Equation}
 use Rattle.lutree.specs.Tree.{view, equation_view}
 use Rattle.lustat_rules.specs.Clocks.{clocks_in}
 use Rattle.lustat_classes.specs.Judged.{spelled, sampler_names}
-use Rattle.lustat_classes.proofs.Steps.{pushed_more, pushed_all}
+use Rattle.lustat_classes.proofs.Pushed.{pushed_more, pushed_all}
 use Rattle.lustat_classes.proofs.judge.push_samplers_of_equations.Goals as goal
 
 pub loop-q-preserved : goal.loop-q-preserved

@@ -9,7 +9,7 @@ use Rattle.lugraph.specs.Search.{Has}
 use Rattle.lugraph.specs.Reach.{IsWithin, IsReached}
 use Rattle.lustat_classes.specs.Assigned.{assigned, IsCaused}
 use Rattle.lustat_classes.specs.Linked.{links_in}
-use Rattle.lustat_classes.proofs.Lent.{same_lent, length_lent}
+use Rattle.lustat_scope.proofs.Lent.{same_lent, length_lent}
 use Rattle.lustat_classes.proofs.Leasts.{length_views, found, starts_inside, links_within}
 use Rattle.lustat_classes.proofs.least.least_classes.Goals as goal
 

@@ -2,7 +2,7 @@ use Rattle.std.proofs.Common.{◌+◌, List, map, refl}
 use Rattle.lutree.specs.declared.program.Equation.{Equation}
 use Rattle.lutree.specs.Tree.{node_view, equation_view}
 use Rattle.lustat_classes.specs.Linked.{links_in}
-use Rattle.lustat_classes.proofs.Steps.{pushed_all, linked_more}
+use Rattle.lustat_classes.proofs.Pushed.{pushed_all, linked_more}
 use Rattle.lustat_classes.proofs.least.links_of.Goals as goal
 
 pub loop-i-preserved : goal.loop-i-preserved

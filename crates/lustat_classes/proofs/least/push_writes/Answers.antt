@@ -2,7 +2,7 @@ use Rattle.std.proofs.Common.{◌≡◌, ◌++◌, ℕ, List, refl, subst}
 use Rattle.lutree.specs.Tree.{node_view}
 use Rattle.lustat_classes.specs.Assigned.{place_of}
 use Rattle.lustat_classes.specs.Linked.{write_link, writes_in}
-use Rattle.lustat_classes.proofs.Steps.{pushed_more, pushed_all}
+use Rattle.lustat_classes.proofs.Pushed.{pushed_more, pushed_all}
 use Rattle.lustat_classes.proofs.least.push_writes.Goals as goal
 
 pub loop-x-preserved : goal.loop-x-preserved

@@ -2,7 +2,8 @@ use Rattle.std.proofs.Common.{sym, subst, ◌↔◌, IsTrue}
 use Rattle.lutree.specs.Tree.{Tree, view, node_view, views, trees_of}
 use Rattle.lustat_rules.specs.Parts.{EachPart, EachPartOf}
 use Rattle.lustat_rules.specs.Clocks.{NamesClocks, IsTypedClock}
-use Rattle.lustat_clocks.proofs.Steps.{of_five_forms, viewed-Binary, viewed-If, viewed-When, of_form, of_lent, both_held, both_failed, triple_held, triple_failed, viewed-Unary, viewed-Call, of_list, list_more, list_failed, list_held}
+use Rattle.lutree.proofs.Views.{viewed-Binary, viewed-If, viewed-When, viewed-Unary, viewed-Call}
+use Rattle.lutree.proofs.Tests.{of_five_forms, of_form, of_lent, both_held, both_failed, triple_held, triple_failed, of_list, list_more, list_failed, list_held}
 use Rattle.lustat_clocks.proofs.chain.+clocks.Goals as goal
 use Rattle.lustat_clocks.proofs.chain.+clocks.Goals.{names_clocks_inside-then-names_clocks_inside-2, names_clocks_inside-else-names_clocks_inside-2}
 

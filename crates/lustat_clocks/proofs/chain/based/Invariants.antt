@@ -1,4 +1,5 @@
-use Rattle.lustat_clocks.specs.Chains.{lent_view, AreBased}
+use Rattle.lustat_scope.specs.Lent.{lent_view}
+use Rattle.lustat_clocks.specs.Chains.{AreBased}
 use Rattle.lustat_clocks.proofs.chain.based.Given as goal
 
 abbrev pub invariant-loop-i : goal.invariant-loop-i

@@ -6,7 +6,7 @@ use Rattle.lustat_rules.specs.Scope.{declarations_of}
 use Rattle.lugraph.specs.declared.link.Link.{Link}
 use Rattle.lugraph.specs.Reach.{IsWithin, IsReached}
 use Rattle.lustat_clocks.specs.Chains.{AreBased, AreClocked, MarksEnds}
-use Rattle.lustat_clocks.proofs.Lent.{same_lent, length_lent}
+use Rattle.lustat_scope.proofs.Lent.{same_lent, length_lent}
 use Rattle.lustat_clocks.proofs.Chaining.{ends, reaches, within, starts_within}
 use Rattle.lustat_clocks.proofs.chain.chain_ends.Goals as goal
 

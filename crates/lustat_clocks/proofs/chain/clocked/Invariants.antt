@@ -1,5 +1,6 @@
 use Rattle.lutree.specs.Tree.{node_view}
-use Rattle.lustat_clocks.specs.Chains.{lent_view, AreClocked}
+use Rattle.lustat_scope.specs.Lent.{lent_view}
+use Rattle.lustat_clocks.specs.Chains.{AreClocked}
 use Rattle.lustat_clocks.proofs.chain.clocked.Given as goal
 
 abbrev pub invariant-loop-i : goal.invariant-loop-i

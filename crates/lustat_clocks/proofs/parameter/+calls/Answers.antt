@@ -1,7 +1,8 @@
 use Rattle.std.proofs.Common.{sym, subst, ◌↔◌, IsTrue}
 use Rattle.lutree.specs.Tree.{Tree, view, Trees, views, trees_of}
 use Rattle.lustat_clocks.specs.Named.{EachCall, EachCallOfAll, IsOther}
-use Rattle.lustat_clocks.proofs.Steps.{of_five_forms, viewed-Binary, viewed-If, of_form, of_lent, both_held, both_failed, triple_held, triple_failed, viewed-Unary, viewed-When, viewed-Merge, of_list, list_more, list_failed, list_held, viewed-Call}
+use Rattle.lutree.proofs.Views.{viewed-Binary, viewed-If, viewed-Unary, viewed-When, viewed-Merge, viewed-Call}
+use Rattle.lutree.proofs.Tests.{of_five_forms, of_form, of_lent, both_held, both_failed, triple_held, triple_failed, of_list, list_more, list_failed, list_held}
 use Rattle.lustat_clocks.proofs.parameter.+calls.Goals as goal
 use Rattle.lustat_clocks.proofs.parameter.+calls.Goals.{calls_no-then-calls_no-2, calls_no-else-calls_no-2}
 

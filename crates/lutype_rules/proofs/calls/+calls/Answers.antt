@@ -5,7 +5,8 @@ use Rattle.lustat_rules.specs.Naming.{Call}
 use Rattle.lutype_rules.specs.Forms.{EachCall, EachCallOf}
 use Rattle.lutype_rules.specs.CallRules.{CallKeeps}
 use Rattle.lutype_rules.proofs.Forms.{call_step}
-use Rattle.lutype_rules.proofs.Steps.{of_five_forms, viewed-Binary, viewed-If, of_form, of_lent, both_held, both_failed, three_held, three_failed, list_more, list_failed, list_held, viewed-Merge, viewed-Call, of_list}
+use Rattle.lutree.proofs.Views.{viewed-Binary, viewed-If, viewed-Merge, viewed-Call}
+use Rattle.lutree.proofs.Tests.{of_five_forms, of_form, of_lent, both_held, both_failed, three_held, three_failed, list_more, list_failed, list_held, of_list}
 use Rattle.lutype_rules.proofs.calls.+calls.Goals as goal
 use Rattle.lutype_rules.proofs.calls.+calls.Goals.{calls_keep-then-calls_keep-2, calls_keep-else-calls_keep-2}
 

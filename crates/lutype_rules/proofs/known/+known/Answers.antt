@@ -2,7 +2,8 @@ use Rattle.std.proofs.Common.{sym, subst, ◌↔◌, IsTrue}
 use Rattle.lutree.specs.Tree.{Tree, view, views, trees_of, node_view}
 use Rattle.lustat_rules.specs.Scope.{IsVariable}
 use Rattle.lutype_rules.specs.Forms.{EachName, EachNameOf}
-use Rattle.lutype_rules.proofs.Steps.{of_three_forms, viewed-Merge, viewed-Binary, viewed-If, viewed-When, of_form, of_lent, both_held, both_failed, three_held, three_failed, viewed-Unary, viewed-Call, of_list, list_more, list_failed, list_held}
+use Rattle.lutree.proofs.Views.{viewed-Merge, viewed-Binary, viewed-If, viewed-When, viewed-Unary, viewed-Call}
+use Rattle.lutree.proofs.Tests.{of_three_forms, of_form, of_lent, both_held, both_failed, three_held, three_failed, of_list, list_more, list_failed, list_held}
 use Rattle.lutype_rules.proofs.known.+known.Goals as goal
 use Rattle.lutype_rules.proofs.known.+known.Goals.{expr_is_known-then-expr_is_known-2, expr_is_known-else-expr_is_known-2}
 

@@ -6,7 +6,8 @@ use Rattle.lustat_rules.specs.Parts.{Part, EachPart, EachPartOf}
 use Rattle.lustat_rules.specs.Parts as part
 use Rattle.lutype_rules.specs.PartRules.{PartKeeps}
 use Rattle.lutype_rules.proofs.Forms.{merge_step, merge_fails}
-use Rattle.lutype_rules.proofs.Steps.{of_four_forms, viewed-Binary, viewed-If, viewed-When, of_form, of_lent, both_held, both_failed, triple_held, triple_failed, viewed-Label, viewed-Unary, viewed-Call, of_list, list_more, list_failed, list_held, viewed-Merge}
+use Rattle.lutree.proofs.Views.{viewed-Binary, viewed-If, viewed-When, viewed-Label, viewed-Unary, viewed-Call, viewed-Merge}
+use Rattle.lutree.proofs.Tests.{of_unlabelled_forms, of_form, of_lent, both_held, both_failed, triple_held, triple_failed, of_list, list_more, list_failed, list_held}
 use Rattle.lutype_rules.proofs.parts.+parts.Goals as goal
 use Rattle.lutype_rules.proofs.parts.+parts.Goals.{parts_keep-then-parts_keep-2, parts_keep-else-parts_keep-2}
 
@@ -71,16 +72,16 @@ parts_keep-returns-else-parts_keep-4 t c =
     of_form Q c.parts_keep-in-When.result c.args.e.now _ _ c.in-When.is (viewed-When c.in-When.a c.in-When.c) (both_failed (Q (view c.in-When.a.value)) (PartKeeps (program_view c.args.catalog.now) (node_view c.args.scope.now) c.args.rule (part.clock c.in-When.c)) c.parts_keep-in-When.result c.if-parts_keep-4.false first)
 
 pub parts_keep-returns-in-Number : goal.parts_keep-returns-in-Number
-parts_keep-returns-in-Number t c = of_four_forms (EachPart (PartKeeps (program_view c.args.catalog.now) (node_view c.args.scope.now) c.args.rule)) c.args.e.now c.in-Number.is (λ _. tt) (λ _. tt) (λ _. tt) (λ _. tt)
+parts_keep-returns-in-Number t c = of_unlabelled_forms (EachPart (PartKeeps (program_view c.args.catalog.now) (node_view c.args.scope.now) c.args.rule)) c.args.e.now c.in-Number.is (λ _. tt) (λ _. tt) (λ _. tt) (λ _. tt)
 
 pub parts_keep-returns-in-Number-2 : goal.parts_keep-returns-in-Number-2
-parts_keep-returns-in-Number-2 t c = of_four_forms (EachPart (PartKeeps (program_view c.args.catalog.now) (node_view c.args.scope.now) c.args.rule)) c.args.e.now c.in-Number.is (λ _. tt) (λ _. tt) (λ _. tt) (λ _. tt)
+parts_keep-returns-in-Number-2 t c = of_unlabelled_forms (EachPart (PartKeeps (program_view c.args.catalog.now) (node_view c.args.scope.now) c.args.rule)) c.args.e.now c.in-Number.is (λ _. tt) (λ _. tt) (λ _. tt) (λ _. tt)
 
 pub parts_keep-returns-in-Number-3 : goal.parts_keep-returns-in-Number-3
-parts_keep-returns-in-Number-3 t c = of_four_forms (EachPart (PartKeeps (program_view c.args.catalog.now) (node_view c.args.scope.now) c.args.rule)) c.args.e.now c.in-Number.is (λ _. tt) (λ _. tt) (λ _. tt) (λ _. tt)
+parts_keep-returns-in-Number-3 t c = of_unlabelled_forms (EachPart (PartKeeps (program_view c.args.catalog.now) (node_view c.args.scope.now) c.args.rule)) c.args.e.now c.in-Number.is (λ _. tt) (λ _. tt) (λ _. tt) (λ _. tt)
 
 pub parts_keep-returns-in-Number-4 : goal.parts_keep-returns-in-Number-4
-parts_keep-returns-in-Number-4 t c = of_four_forms (EachPart (PartKeeps (program_view c.args.catalog.now) (node_view c.args.scope.now) c.args.rule)) c.args.e.now c.in-Number.is (λ _. tt) (λ _. tt) (λ _. tt) (λ _. tt)
+parts_keep-returns-in-Number-4 t c = of_unlabelled_forms (EachPart (PartKeeps (program_view c.args.catalog.now) (node_view c.args.scope.now) c.args.rule)) c.args.e.now c.in-Number.is (λ _. tt) (λ _. tt) (λ _. tt) (λ _. tt)
 
 pub parts_keep-returns-in-Unary : goal.parts_keep-returns-in-Unary
 parts_keep-returns-in-Unary t c =

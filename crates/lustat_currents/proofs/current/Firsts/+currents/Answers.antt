@@ -1,7 +1,8 @@
 use Rattle.std.proofs.Common.{sym, subst, ◌↔◌, IsTrue}
 use Rattle.lutree.specs.Tree.{Tree, view, views, trees_of, node_view}
 use Rattle.lustat_currents.specs.Currents.{EachCurrent, EachCurrentOfAll, IsStarted}
-use Rattle.lustat_currents.proofs.Steps.{of_four_forms, viewed-Binary, viewed-If, of_form, of_lent, both_held, both_failed, triple_held, triple_failed, viewed-Unary, viewed-When, viewed-Merge, of_list, list_more, list_failed, list_held, viewed-Call}
+use Rattle.lutree.proofs.Views.{viewed-Binary, viewed-If, viewed-Unary, viewed-When, viewed-Merge, viewed-Call}
+use Rattle.lutree.proofs.Tests.{of_four_forms, of_form, of_lent, both_held, both_failed, triple_held, triple_failed, of_list, list_more, list_failed, list_held}
 use Rattle.lustat_currents.proofs.current.Firsts.+currents.Goals as goal
 use Rattle.lustat_currents.proofs.current.Firsts.+currents.Goals.{all_start-then-all_start-2, all_start-else-all_start-2}
 

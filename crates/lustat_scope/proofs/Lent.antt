@@ -10,7 +10,7 @@ use Rattle.lutree.specs.Tree.{declaration_view, declarations_view, node_view}
 use Rattle.lustat_rules.specs.Scope.{declarations_of}
 use Rattle.lustat_rules.specs.Faults.{declared_in}
 use Rattle.lustat_scope.proofs.Declared.{view_of_declared}
-use Rattle.lustat_clocks.specs.Chains.{lent_view}
+use Rattle.lustat_scope.specs.Lent.{lent_view}
 
 pub same_some : {X : Type 0} (x y : X) → Some x ≡ Some y → x ≡ y
 same_some x y e = ap (λ o. unwrap_or o x) e

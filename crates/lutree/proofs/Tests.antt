@@ -1,56 +1,15 @@
--- Tests of an expression by tests of its parts, in turn.
-use Rattle.std.proofs.Common.{◌≡◌, ◌∙◌, ◌↔◌, Bool, true, false, IsTrue, sym, ap, subst, true≢false, ℕ, List, refl, ◌⊎◌, inl, inr, ◌+◌, ◌<◌, ◌≤◌, length, drop, get_or}
-use Rattle.std.specs.Prelude.{Box, Vec}
-use Rattle.std.specs.Global.{Global}
+-- Tests of an expression by tests of its parts, in turn: of what is asked of it as a tree, where a test has done what it says of
+-- each part. Each law is one step of such a test.
+use Rattle.std.proofs.Common.{◌≡◌, ◌∙◌, ◌↔◌, ℕ, Bool, true, false, List, IsTrue, sym, ap, subst, true≢false, refl, ◌⊎◌, inl, inr, ◌+◌, ◌<◌, ◌≤◌, length, drop, get_or}
 use Rattle.std.proofs.lemmas.List.{at_drop_more, at_drop_all}
-use Rattle.lutree.specs.declared.expr.Prefix.{Prefix}
-use Rattle.lutree.specs.declared.expr.Infix.{Infix}
-use Rattle.lutree.specs.declared.expr.Condition.{Condition}
 use Rattle.lutree.specs.declared.expr.Label.{Label}
-use Rattle.lutree.specs.declared.expr.Pattern.{Pattern}
 use Rattle.lutree.specs.declared.expr.Expr.{Expr}
 use Rattle.lutree.specs.declared.expr.Expr.TheVariants as variant
-use Rattle.lutree.specs.declared.expr.Expr.TheOpen.{Expr-F}
-use Rattle.lutree.specs.declared.expr.Expr.TheFolds.{fold-roll-Expr}
-use Rattle.lutree.specs.Tree.{Tree, Trees, view, views, trees_of, view_step}
+use Rattle.lutree.specs.Tree.{Tree, Trees, view, views, trees_of}
 use Rattle.lutree.specs.Tree as tree
+use Rattle.lutree.proofs.Views.{viewed-Number, viewed-Truth, viewed-Label, viewed-Variable, viewed-Current}
 
--- EXPRESSIONS IN MEMORY, BY THEIR FORM
-
-pub viewed-Unary : (op : Prefix) (a : Box Expr Global) → view (variant.Unary op a) ≡ tree.unary op (view a.value)
-viewed-Unary op a = ap view (sym (variant.rolls-Unary op a)) ∙ fold-roll-Expr Tree view_step (Expr-F.Unary op a)
-
-pub viewed-Binary : (op : Infix) (a b : Box Expr Global) → view (variant.Binary op a b) ≡ tree.binary op (view a.value) (view b.value)
-viewed-Binary op a b = ap view (sym (variant.rolls-Binary op a b)) ∙ fold-roll-Expr Tree view_step (Expr-F.Binary op a b)
-
-pub viewed-If : (c a b : Box Expr Global) → view (variant.If c a b) ≡ tree.choice (view c.value) (view a.value) (view b.value)
-viewed-If c a b = ap view (sym (variant.rolls-If c a b)) ∙ fold-roll-Expr Tree view_step (Expr-F.If c a b)
-
-pub viewed-When : (a : Box Expr Global) (c : Condition) → view (variant.When a c) ≡ tree.when (view a.value) c
-viewed-When a c = ap view (sym (variant.rolls-When a c)) ∙ fold-roll-Expr Tree view_step (Expr-F.When a c)
-
-pub viewed-Number : (n : ℕ) → view (variant.Number n) ≡ tree.number n
-viewed-Number n = ap view (sym (variant.rolls-Number n)) ∙ fold-roll-Expr Tree view_step (Expr-F.Number n)
-
-pub viewed-Truth : (b : Bool) → view (variant.Truth b) ≡ tree.truth b
-viewed-Truth b = ap view (sym (variant.rolls-Truth b)) ∙ fold-roll-Expr Tree view_step (Expr-F.Truth b)
-
-pub viewed-Label : (x : Label) → view (variant.Label x) ≡ tree.label x
-viewed-Label x = ap view (sym (variant.rolls-Label x)) ∙ fold-roll-Expr Tree view_step (Expr-F.Label x)
-
-pub viewed-Variable : (x : List ℕ) → view (variant.Variable x) ≡ tree.variable x
-viewed-Variable x = ap view (sym (variant.rolls-Variable x)) ∙ fold-roll-Expr Tree view_step (Expr-F.Variable x)
-
-pub viewed-Current : (x : List ℕ) → view (variant.Current x) ≡ tree.current x
-viewed-Current x = ap view (sym (variant.rolls-Current x)) ∙ fold-roll-Expr Tree view_step (Expr-F.Current x)
-
-pub viewed-Merge : (c : List ℕ) (ps : Box (List Pattern) Global) (branches : Vec Expr Global) → view (variant.Merge c ps branches) ≡ tree.merge c ps.value (trees_of (views branches.items))
-viewed-Merge c ps branches = ap view (sym (variant.rolls-Merge c ps branches)) ∙ fold-roll-Expr Tree view_step (Expr-F.Merge c ps branches)
-
-pub viewed-Call : (f : List ℕ) (arguments : Vec Expr Global) → view (variant.Call f arguments) ≡ tree.call f (trees_of (views arguments.items))
-viewed-Call f arguments = ap view (sym (variant.rolls-Call f arguments)) ∙ fold-roll-Expr Tree view_step (Expr-F.Call f arguments)
-
--- TESTS
+-- BY ITS FORM
 
 -- a test of an expression is one of its form
 pub of_form : (Q : Tree → Type 0) (r : Bool) (e f : Expr) (t : Tree) → e ≡ f → view f ≡ t → (IsTrue r ↔ Q t) → IsTrue r ↔ Q (view e)
@@ -69,18 +28,42 @@ pub nothing_asked : (Q : Tree → Type 0) (e f : Expr) (t : Tree) → e ≡ f �
 nothing_asked Q e f t same form holds = of_form Q true e f t same form (λ _. holds, λ _. refl)
 
 -- nothing is asked of numbers, truths and labels
-pub of_three_forms : (Q : Tree → Type 0) (e : Expr) → (((x : ℕ) × (e ≡ variant.Number x)) ⊎ (((x : Bool) × (e ≡ variant.Truth x)) ⊎ ((x : Label) × (e ≡ variant.Label x)))) → ((x : ℕ) → Q (tree.number x)) → ((x : Bool) → Q (tree.truth x)) → ((x : Label) → Q (tree.label x)) → IsTrue true ↔ Q (view e)
+pub of_three_forms : (Q : Tree → Type 0) (e : Expr)
+    → (((x : ℕ) × (e ≡ variant.Number x)) ⊎ (((x : Bool) × (e ≡ variant.Truth x)) ⊎ ((x : Label) × (e ≡ variant.Label x))))
+    → ((x : ℕ) → Q (tree.number x)) → ((x : Bool) → Q (tree.truth x)) → ((x : Label) → Q (tree.label x)) → IsTrue true ↔ Q (view e)
 of_three_forms Q e (inl w) ask_number _ _ = nothing_asked Q e (variant.Number w.0) (tree.number w.0) w.1 (viewed-Number w.0) (ask_number w.0)
 of_three_forms Q e (inr (inl w)) _ ask_truth _ = nothing_asked Q e (variant.Truth w.0) (tree.truth w.0) w.1 (viewed-Truth w.0) (ask_truth w.0)
 of_three_forms Q e (inr (inr w)) _ _ ask_label = nothing_asked Q e (variant.Label w.0) (tree.label w.0) w.1 (viewed-Label w.0) (ask_label w.0)
 
+-- nothing is asked of numbers, truths, labels and variables
+pub of_four_forms : (Q : Tree → Type 0) (e : Expr)
+    → (((x : ℕ) × (e ≡ variant.Number x)) ⊎ (((x : Bool) × (e ≡ variant.Truth x)) ⊎ (((x : Label) × (e ≡ variant.Label x)) ⊎ ((x : List ℕ) × (e ≡ variant.Variable x)))))
+    → ((x : ℕ) → Q (tree.number x)) → ((x : Bool) → Q (tree.truth x)) → ((x : Label) → Q (tree.label x)) → ((x : List ℕ) → Q (tree.variable x)) → IsTrue true ↔ Q (view e)
+of_four_forms Q e (inl w) ask_number _ _ _ = nothing_asked Q e (variant.Number w.0) (tree.number w.0) w.1 (viewed-Number w.0) (ask_number w.0)
+of_four_forms Q e (inr (inl w)) _ ask_truth _ _ = nothing_asked Q e (variant.Truth w.0) (tree.truth w.0) w.1 (viewed-Truth w.0) (ask_truth w.0)
+of_four_forms Q e (inr (inr (inl w))) _ _ ask_label _ = nothing_asked Q e (variant.Label w.0) (tree.label w.0) w.1 (viewed-Label w.0) (ask_label w.0)
+of_four_forms Q e (inr (inr (inr w))) _ _ _ ask_variable = nothing_asked Q e (variant.Variable w.0) (tree.variable w.0) w.1 (viewed-Variable w.0) (ask_variable w.0)
+
+-- nothing is asked of numbers, truths, variables and what is current of them
+pub of_unlabelled_forms : (Q : Tree → Type 0) (e : Expr)
+    → (((x : ℕ) × (e ≡ variant.Number x)) ⊎ (((x : Bool) × (e ≡ variant.Truth x)) ⊎ (((x : List ℕ) × (e ≡ variant.Variable x)) ⊎ ((x : List ℕ) × (e ≡ variant.Current x)))))
+    → ((x : ℕ) → Q (tree.number x)) → ((x : Bool) → Q (tree.truth x)) → ((x : List ℕ) → Q (tree.variable x)) → ((x : List ℕ) → Q (tree.current x)) → IsTrue true ↔ Q (view e)
+of_unlabelled_forms Q e (inl w) ask_number _ _ _ = nothing_asked Q e (variant.Number w.0) (tree.number w.0) w.1 (viewed-Number w.0) (ask_number w.0)
+of_unlabelled_forms Q e (inr (inl w)) _ ask_truth _ _ = nothing_asked Q e (variant.Truth w.0) (tree.truth w.0) w.1 (viewed-Truth w.0) (ask_truth w.0)
+of_unlabelled_forms Q e (inr (inr (inl w))) _ _ ask_variable _ = nothing_asked Q e (variant.Variable w.0) (tree.variable w.0) w.1 (viewed-Variable w.0) (ask_variable w.0)
+of_unlabelled_forms Q e (inr (inr (inr w))) _ _ _ ask_current = nothing_asked Q e (variant.Current w.0) (tree.current w.0) w.1 (viewed-Current w.0) (ask_current w.0)
+
 -- nothing is asked of numbers, truths, labels, variables and what is current of them
-pub of_five_forms : (Q : Tree → Type 0) (e : Expr) → (((x : ℕ) × (e ≡ variant.Number x)) ⊎ (((x : Bool) × (e ≡ variant.Truth x)) ⊎ (((x : Label) × (e ≡ variant.Label x)) ⊎ (((x : List ℕ) × (e ≡ variant.Variable x)) ⊎ ((x : List ℕ) × (e ≡ variant.Current x)))))) → ((x : ℕ) → Q (tree.number x)) → ((x : Bool) → Q (tree.truth x)) → ((x : Label) → Q (tree.label x)) → ((x : List ℕ) → Q (tree.variable x)) → ((x : List ℕ) → Q (tree.current x)) → IsTrue true ↔ Q (view e)
+pub of_five_forms : (Q : Tree → Type 0) (e : Expr)
+    → (((x : ℕ) × (e ≡ variant.Number x)) ⊎ (((x : Bool) × (e ≡ variant.Truth x)) ⊎ (((x : Label) × (e ≡ variant.Label x)) ⊎ (((x : List ℕ) × (e ≡ variant.Variable x)) ⊎ ((x : List ℕ) × (e ≡ variant.Current x))))))
+    → ((x : ℕ) → Q (tree.number x)) → ((x : Bool) → Q (tree.truth x)) → ((x : Label) → Q (tree.label x)) → ((x : List ℕ) → Q (tree.variable x)) → ((x : List ℕ) → Q (tree.current x)) → IsTrue true ↔ Q (view e)
 of_five_forms Q e (inl w) ask_number _ _ _ _ = nothing_asked Q e (variant.Number w.0) (tree.number w.0) w.1 (viewed-Number w.0) (ask_number w.0)
 of_five_forms Q e (inr (inl w)) _ ask_truth _ _ _ = nothing_asked Q e (variant.Truth w.0) (tree.truth w.0) w.1 (viewed-Truth w.0) (ask_truth w.0)
 of_five_forms Q e (inr (inr (inl w))) _ _ ask_label _ _ = nothing_asked Q e (variant.Label w.0) (tree.label w.0) w.1 (viewed-Label w.0) (ask_label w.0)
 of_five_forms Q e (inr (inr (inr (inl w)))) _ _ _ ask_variable _ = nothing_asked Q e (variant.Variable w.0) (tree.variable w.0) w.1 (viewed-Variable w.0) (ask_variable w.0)
 of_five_forms Q e (inr (inr (inr (inr w)))) _ _ _ _ ask_current = nothing_asked Q e (variant.Current w.0) (tree.current w.0) w.1 (viewed-Current w.0) (ask_current w.0)
+
+-- OF SEVERAL PARTS
 
 -- of two parts the first holds, or it fails
 pub both_held : (A B : Type 0) (a b : Bool) → a ≡ true → (IsTrue a ↔ A) → (IsTrue b ↔ B) → IsTrue b ↔ (A × B)
@@ -90,6 +73,13 @@ pub both_failed : (A B : Type 0) (a : Bool) → a ≡ false → (IsTrue a ↔ A)
 both_failed A B a failed first = (λ h. absurd (true≢false (sym h ∙ failed)), λ h. first.1 h.0)
 
 -- of three parts the first two hold, or one of them fails
+pub three_held : (A B C : Type 0) (a b : Bool) → a ≡ true → (IsTrue a ↔ (A × B)) → (IsTrue b ↔ C) → IsTrue b ↔ (A × (B × C))
+three_held A B C a b held two last = (λ h. ((two.0 held).0, ((two.0 held).1, last.0 h)), λ h. last.1 h.1.1)
+
+pub three_failed : (A B C : Type 0) (a : Bool) → a ≡ false → (IsTrue a ↔ (A × B)) → IsTrue a ↔ (A × (B × C))
+three_failed A B C a failed two = (λ h. absurd (true≢false (sym h ∙ failed)), λ h. two.1 (h.0, h.1.0))
+
+-- likewise of three parts side by side
 pub triple_held : (A B C : Type 0) (a b : Bool) → a ≡ true → (IsTrue a ↔ (A × B)) → (IsTrue b ↔ C) → IsTrue b ↔ (A × B × C)
 triple_held A B C a b held two last = (λ h. ((two.0 held).0, (two.0 held).1, last.0 h), λ h. last.1 h.2)
 
