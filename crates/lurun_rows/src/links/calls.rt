@@ -20,23 +20,37 @@ pub fn expect(is_so: bool, what: &'static str) -> Result<(), &'static str> {
     if is_so { Ok(()) } else { Err(what) }
 }
 
-/// A link of one message is filled, emptied and filled again; then its sender leaves.
-pub fn fill_and_leave<R: Wait, S: Sends, D: Receives>(
+/// A link of one message is filled, emptied and filled again.
+fn fill<R: Wait, S: Sends, D: Receives>(
     rt: &R,
-    mut tx: Feeder<'_, S>,
-    mut rx: D,
+    tx: &mut Feeder<'_, S>,
+    rx: &mut D,
 ) -> Result<(), &'static str> {
     expect(tx.offer(rt) == Some(Offer::Done), "0 is put")?;
     expect(tx.offer(rt) == Some(Offer::Full(ONE)), "1 comes back")?;
     expect(rx.polls(rt) == Some(ZERO), "0 is taken")?;
     expect(rx.polls(rt) == None, "nothing is there")?;
     expect(tx.offer(rt) == Some(Offer::Done), "1 is put")?;
-    expect(!rx.is_alone(), "the sender is there")?;
-    let Feeder { tx, .. } = tx;
-    tx.leaves();
+    expect(!rx.is_alone(), "the sender is there")
+}
+
+/// Its last message is taken after its sender has left.
+fn empty<R: Wait, D: Receives>(rt: &R, rx: &mut D) -> Result<(), &'static str> {
     expect(rx.is_alone(), "the sender has left")?;
     expect(rx.takes(rt) == Ok(ONE), "1 is taken")?;
     expect(rx.takes(rt) == Err(TakeError::Gone), "nothing is left")
+}
+
+/// A link of one message is filled, emptied and filled again; then its sender leaves, and it is emptied.
+pub fn fill_and_leave<R: Wait, S: Sends, D: Receives>(
+    rt: &R,
+    mut tx: Feeder<'_, S>,
+    mut rx: D,
+) -> Result<(), &'static str> {
+    fill(rt, &mut tx, &mut rx)?;
+    let Feeder { tx, .. } = tx;
+    tx.leaves();
+    empty(rt, &mut rx)
 }
 
 /// The receiver of a link of one message leaves before anything is put.
