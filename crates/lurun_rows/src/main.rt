@@ -1,20 +1,24 @@
-//! What links pass, and runs on threads and by crews, with gates that hold items back, with stations that are missing or whose links lead nowhere, and
-//! sites that stop before an item: lines of standard input, with what each comes to. README.md has the form of the lines.
+//! What links pass, and runs on threads and by crews, with gates that hold items back, with stations that are missing or whose links lead nowhere, sites
+//! that stop before an item, and what the plain programs say: lines of standard input, with what each comes to. README.md has the form of the lines.
 #![tactic(auto)]
 
+mod counters;
 mod driver;
 mod gates;
+mod jobs;
 mod links;
 mod parties;
 mod runs;
+mod schedules;
 
+use crate::counters::{are_all_counted, is_copy_handed};
+use crate::jobs::job_at;
 use crate::links::put_passed;
 use crate::parties::put_driven;
 use crate::runs::{put_outputs, put_run};
+use crate::schedules::all_agree_in_ring;
 use luplace::Job;
 use lurun::collect;
-use lusdist_answers::jobs::job_for;
-use lusdist_shell::RealFiles;
 use std::io;
 use std::rt::Clock;
 use std::sync::Wait;
@@ -44,13 +48,6 @@ fn take_job<R: Threads + Wait + Sync>(
     }
 }
 
-/// The job of a line's files; `None` where they are none.
-fn job_at(rt: &HostRuntime, line: &str) -> Option<Job> {
-    let files = RealFiles::new(rt);
-    let (program, place, table) = (word(line, 1), word(line, 2), word(line, 3));
-    job_for(rt.alloc(), &files, program, place, table, "main").ok()
-}
-
 /// Writes what a line of a job's files comes to.
 fn take_files<R: Threads + Wait + Sync>(
     threads: &R,
@@ -63,6 +60,11 @@ fn take_files<R: Threads + Wait + Sync>(
     }
 }
 
+/// Writes whether something is so.
+fn put_so(rt: &HostRuntime, is_so: bool) -> io::Result<()> {
+    println!(rt; "{}", if is_so { "= so" } else { "! not so" })
+}
+
 /// Writes what a line comes to.
 fn take_line<R: Threads + Wait + Sync + Clock + Print>(
     threads: &R,
@@ -71,6 +73,9 @@ fn take_line<R: Threads + Wait + Sync + Clock + Print>(
 ) -> io::Result<()> {
     match word(line, 0) {
         "ring" | "channel" => put_passed(threads, rt.alloc(), line),
+        "counters" => put_so(rt, are_all_counted(rt.alloc())),
+        "inputs" => put_so(rt, is_copy_handed(rt.alloc()).unwrap_or(false)),
+        "schedules" => put_so(rt, all_agree_in_ring(rt.alloc()).unwrap_or(false)),
         _ => take_files(threads, rt, line),
     }
 }

@@ -3,9 +3,11 @@
 #![tactic(auto)]
 
 mod driver;
+mod paper;
 mod printing;
 
 use crate::driver::{put_tried, words_of};
+use crate::paper::Paper;
 use crate::printing::put_printed;
 use lusdist_commands::serve_words;
 use lusdist_shell::{Files, ReadError, RealFiles, Silent, Sink, WriteError, text_of};
@@ -18,6 +20,9 @@ use std::thread::Threads;
 
 /// The longest output that is written whole, in bytes.
 const LONGEST: usize = 65_536;
+
+/// The name of a file that finds no memory.
+const NO_MEMORY: &str = "no_memory";
 
 /// The files of a case: the newest text of a name, or else a real file.
 #[derive(Drop)]
@@ -52,6 +57,7 @@ impl Files for Case<'_> {
     fn read(&self, alloc: Global, path: &str) -> Result<Vec<u8>, ReadError> {
         match self.texts.iter().rev().find(|file| file.0.as_str() == path) {
             Some(file) => Vec::from_slice(alloc, &file.1).map_err(|_| ReadError::OutOfMemory),
+            None if path == NO_MEMORY => Err(ReadError::OutOfMemory),
             None => self.real.read(alloc, path),
         }
     }
@@ -140,15 +146,17 @@ fn put_written(rt: &HostRuntime, case: &Case<'_>) -> io::Result<()> {
     Ok(())
 }
 
-/// Writes what a command answers: its output, behind `! ` what went to the error stream, and behind `= ` its status.
+/// Writes what a command answers: its output, behind `! ` what went to the error stream, and behind `= ` its status. Where `is_full`
+/// says so, its output takes nothing.
 fn put_answer<R: Threads + Wait + Sync>(
     threads: &R,
     rt: &HostRuntime,
     case: &Case<'_>,
     line: &str,
+    is_full: bool,
 ) -> io::Result<()> {
     let words = words_of(rt.alloc(), line)?;
-    let mut out = Sink::new(Vec::new(rt.alloc()));
+    let mut out = Sink::new(Paper::new(rt.alloc(), is_full));
     let mut err = Sink::new(Vec::new(rt.alloc()));
     let status = serve_words(
         threads,
@@ -159,7 +167,7 @@ fn put_answer<R: Threads + Wait + Sync>(
         &mut out,
         &mut err,
     );
-    put_output(rt, out.writer())?;
+    put_output(rt, out.writer().bytes())?;
     put_written(rt, case)?;
     if !err.writer().is_empty() {
         print!(rt; "! ")?;
@@ -181,7 +189,7 @@ fn take_line<R: Threads + Wait + Sync>(
         "#" => case.texts.clear(),
         "file" => add_file(rt.alloc(), case, name, text)?,
         "more" => add_more(rt.alloc(), case, name.parse().unwrap_or(0), text)?,
-        "$" => put_answer(threads, rt, case, rest)?,
+        "$" | "%" => put_answer(threads, rt, case, rest, mark == "%")?,
         "@" => put_tried(threads, rt, case, text, name.parse().unwrap_or(0))?,
         "~" => put_printed(rt, case, rest)?,
         _ => {}

@@ -10,20 +10,16 @@
 //! - `streams`: tables that fit a program, its streams and outputs (`luflow`, `lueval`).
 //! - `values`: lists of values (`luflow`).
 //!
-//! Of whole calls and of runs at several sites:
+//! Of calls and placements:
 //!
-//! - `calls`: output that can't be written, files without memory, words that can't be read, and the lines of refused memory.
+//! - `calls`: words that can't be read, errors that can't be written, and the lines of refused memory.
 //! - `placements`, `long_placements`: what texts of placements are read as, and such of many entries.
-//! - `counters`: the plain programs of `lusdist_plain`, and what a site is handed, by hand.
-//! - `schedules`: all schedules of eight turns over three sites, against the plain programs.
 //!
 //! What is expected is worked out by hand, by the rules of the language, of the layout and of the texts.
 #![tactic(auto)]
 
 #[cfg(test)]
 mod calls;
-#[cfg(test)]
-mod counters;
 #[cfg(test)]
 mod flats;
 #[cfg(test)]
@@ -36,8 +32,6 @@ mod long_placements;
 mod operators;
 #[cfg(test)]
 mod placements;
-#[cfg(test)]
-mod schedules;
 #[cfg(test)]
 mod stages;
 #[cfg(test)]

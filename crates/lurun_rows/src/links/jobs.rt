@@ -1,8 +1,7 @@
 //! A job of two sites, of which the first sends its input to the second: its link carries 0, 1, 2 and so on.
 
-use luplace::{Job, Plan};
-use lusdist_answers::Stop;
-use lusdist_answers::sources::{flat_of, job_of, plan_of};
+use crate::jobs::job_of_texts;
+use luplace::Job;
 use std::alloc::{AllocError, Global};
 
 const PROGRAM: &str = "node main(x: int) returns (y: int); let y = x + 1; tel";
@@ -19,20 +18,8 @@ fn table_of(alloc: Global, instants: u32) -> Result<String, AllocError> {
     Ok(table)
 }
 
-/// The plan of the two sites.
-fn plan_of_two(alloc: Global) -> Result<Plan, Stop> {
-    let flat = flat_of(alloc, PROGRAM.as_bytes(), "main")?;
-    plan_of(alloc, flat, TWO_SITES.as_bytes())
-}
-
-/// The job over a table.
-fn job_over(alloc: Global, table: &str) -> Result<Job, Stop> {
-    let plan = plan_of_two(alloc)?;
-    job_of(alloc, plan, table.as_bytes())
-}
-
 /// The job over so many instants; `None` where there is no memory for it.
 pub fn job_of_numbers(alloc: Global, instants: u32) -> Option<Job> {
     let table = table_of(alloc, instants).ok()?;
-    job_over(alloc, table.as_str()).ok()
+    job_of_texts(alloc, PROGRAM, TWO_SITES, table.as_str()).ok()
 }

@@ -1,20 +1,12 @@
 //! The plain programs of `lusdist_plain` at two counters that feed each other, each at a site of its own, with a step of 1 and with
 //! one so large that the second sum has no value; and what a site is handed.
 
+use crate::jobs::job_of_texts;
 use luflow::{Body, Datum, Msg, Status};
 use luplace::{Job, SiteInputs};
 use lusdist_answers::Stop;
-use lusdist_answers::sources::{flat_of, job_of, plan_of};
 use lusdist_plain::{Item, Mark, Marks, list_of_link, marks_of, script_of, world_after};
 use std::alloc::{AllocError, Global};
-use std::test::Fail;
-
-/// The job of these texts.
-pub(crate) fn job(alloc: Global, program: &str, place: &str, table: &str) -> Result<Job, Stop> {
-    let flat = flat_of(alloc, program.as_bytes(), "main")?;
-    let plan = plan_of(alloc, flat, place.as_bytes())?;
-    job_of(alloc, plan, table.as_bytes())
-}
 
 /// A flow, and its first marks.
 type FlowMarks = (usize, &'static [Mark]);
@@ -171,20 +163,18 @@ const TWO_SITES: &str = "sites = [\"A\", \"B\"]\ncapacity = 1\n[place]\na = \"A\
 
 /// Whether they say so of a program at two sites.
 fn is_counted_at_two(alloc: Global, counted: &Counted) -> Result<bool, Stop> {
-    let job = job(alloc, counted.program, TWO_SITES, "\n\n\n\n")?;
+    let job = job_of_texts(alloc, counted.program, TWO_SITES, "\n\n\n\n")?;
     Ok(is_counted(alloc, &job, counted)?)
 }
 
-#[test]
-fn counters_count_until_a_fault(rt: HostRuntime) -> Result<(), Fail> {
+/// Whether they say so of both programs.
+pub fn are_all_counted(alloc: Global) -> bool {
     for counted in COUNTED {
-        assert!(rt;
-            is_counted_at_two(rt.alloc(), counted)?,
-            "{}",
-            counted.program
-        );
+        if !is_counted_at_two(alloc, counted).unwrap_or(false) {
+            return false;
+        }
     }
-    Ok(())
+    true
 }
 
 /// Whether the first of two sites has the column of the input over both instants, and the second has none.
@@ -212,15 +202,9 @@ fn is_handed(alloc: Global, job: &Job) -> Result<bool, AllocError> {
 }
 
 /// The same, of a copy at another site.
-fn is_copy_handed(alloc: Global) -> Result<bool, Stop> {
+pub fn is_copy_handed(alloc: Global) -> Result<bool, Stop> {
     let program = "node main(x: int) returns (y: int); let y = x; tel";
     let place = "sites = [\"A\", \"B\"]\n[place]\nx = \"A\"\ny = \"B\"\n";
-    let job = job(alloc, program, place, "x\n5\n7\n")?;
+    let job = job_of_texts(alloc, program, place, "x\n5\n7\n")?;
     Ok(is_handed(alloc, &job)?)
-}
-
-#[test]
-fn a_site_has_the_columns_of_its_own_inputs_alone(rt: HostRuntime) -> Result<(), Fail> {
-    assert!(rt; is_copy_handed(rt.alloc())?);
-    Ok(())
 }

@@ -3,7 +3,7 @@
 ghost use Rattle.std.specs.Prelude.{◌≡◌};
 ghost use Rattle.lusdist_plain.specs.Scripts.{AreScripts};
 
-use crate::counters::job;
+use crate::jobs::job_of_texts;
 use luflow::{Msg, Status};
 use lulist::Row;
 use luplace::Job;
@@ -11,7 +11,6 @@ use lusdist_answers::{Stop, replayed};
 use lusdist_plain::{Item, Mark, Marks, list_of_link, marks_of, scripts_of, world_by};
 use luweave::World;
 use std::alloc::{AllocError, Global};
-use std::test::Fail;
 
 /// Three counters in a ring.
 const RING: &str =
@@ -201,13 +200,7 @@ fn all_agree_of(alloc: Global, job: &Job) -> Result<bool, Stop> {
 }
 
 /// The same, of a ring of three sites.
-fn all_agree_in_ring(alloc: Global) -> Result<bool, Stop> {
-    let job = job(alloc, RING, THREE_SITES, "\n\n\n")?;
+pub fn all_agree_in_ring(alloc: Global) -> Result<bool, Stop> {
+    let job = job_of_texts(alloc, RING, THREE_SITES, "\n\n\n")?;
     all_agree_of(alloc, &job)
-}
-
-#[test]
-fn every_schedule_of_eight_turns(rt: HostRuntime) -> Result<(), Fail> {
-    assert!(rt; all_agree_in_ring(rt.alloc())?);
-    Ok(())
 }

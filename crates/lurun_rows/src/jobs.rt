@@ -1,0 +1,23 @@
+//! Jobs of texts, and of a line's files.
+
+use crate::word;
+use luplace::Job;
+use lusdist_answers::Stop;
+use lusdist_answers::jobs::job_for;
+use lusdist_answers::sources::{flat_of, job_of, plan_of};
+use lusdist_shell::RealFiles;
+use std::alloc::Global;
+
+/// The job of these texts.
+pub fn job_of_texts(alloc: Global, program: &str, place: &str, table: &str) -> Result<Job, Stop> {
+    let flat = flat_of(alloc, program.as_bytes(), "main")?;
+    let plan = plan_of(alloc, flat, place.as_bytes())?;
+    job_of(alloc, plan, table.as_bytes())
+}
+
+/// The job of a line's files; `None` where they are none.
+pub fn job_at(rt: &HostRuntime, line: &str) -> Option<Job> {
+    let files = RealFiles::new(rt);
+    let (program, place, table) = (word(line, 1), word(line, 2), word(line, 3));
+    job_for(rt.alloc(), &files, program, place, table, "main").ok()
+}
