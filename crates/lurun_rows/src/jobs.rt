@@ -8,14 +8,18 @@ use lusdist_answers::sources::{flat_of, job_of, plan_of};
 use lusdist_shell::RealFiles;
 use std::alloc::Global;
 
-/// The job of these texts.
-pub fn job_of_texts(alloc: Global, program: &str, place: &str, table: &str) -> Result<Job, Stop> {
+fn read_job(alloc: Global, program: &str, place: &str, table: &str) -> Result<Job, Stop> {
     let flat = flat_of(alloc, program.as_bytes(), "main")?;
     let plan = plan_of(alloc, flat, place.as_bytes())?;
     job_of(alloc, plan, table.as_bytes())
 }
 
-/// The job of a line's files; `None` where they are none.
+/// The job of these texts; `None` where they are refused.
+pub fn job_of_texts(alloc: Global, program: &str, place: &str, table: &str) -> Option<Job> {
+    read_job(alloc, program, place, table).ok()
+}
+
+/// The job of a line's files; `None` where they are refused.
 pub fn job_at(rt: &HostRuntime, line: &str) -> Option<Job> {
     let files = RealFiles::new(rt);
     let (program, place, table) = (word(line, 1), word(line, 2), word(line, 3));

@@ -74,8 +74,8 @@ fn take_line<R: Threads + Wait + Sync + Clock + Print>(
     match word(line, 0) {
         "ring" | "channel" => put_passed(threads, rt.alloc(), line),
         "counters" => put_so(rt, are_all_counted(rt.alloc())),
-        "inputs" => put_so(rt, is_copy_handed(rt.alloc()).unwrap_or(false)),
-        "schedules" => put_so(rt, all_agree_in_ring(rt.alloc()).unwrap_or(false)),
+        "inputs" => put_so(rt, is_copy_handed(rt.alloc())),
+        "schedules" => put_so(rt, all_agree_in_ring(rt.alloc())),
         _ => take_files(threads, rt, line),
     }
 }

@@ -200,7 +200,9 @@ fn all_agree_of(alloc: Global, job: &Job) -> Result<bool, Stop> {
 }
 
 /// The same, of a ring of three sites.
-pub fn all_agree_in_ring(alloc: Global) -> Result<bool, Stop> {
-    let job = job_of_texts(alloc, RING, THREE_SITES, "\n\n\n")?;
-    all_agree_of(alloc, &job)
+pub fn all_agree_in_ring(alloc: Global) -> bool {
+    match job_of_texts(alloc, RING, THREE_SITES, "\n\n\n") {
+        Some(job) => all_agree_of(alloc, &job).unwrap_or(false),
+        None => false,
+    }
 }

@@ -97,17 +97,18 @@ const TEXTS: &[(Stage, &str, StatError)] = &[
 ];
 
 /// Whether a stage tells this fault of a text.
-fn tells_of_text(alloc: Global, stage: Stage, text: &str, fault: StatError) -> Result<bool, Fail> {
-    let program = read_program(alloc, text)?;
-    Ok(tells(alloc, stage, &program, Some(fault))?)
+fn tells_of_text(alloc: Global, stage: Stage, text: &str, fault: StatError) -> bool {
+    match read_program(alloc, text) {
+        Ok(program) => tells(alloc, stage, &program, Some(fault)).unwrap_or(false),
+        Err(_) => false,
+    }
 }
 
 #[test]
-fn a_stage_alone_judges_what_an_earlier_one_refuses(rt: HostRuntime) -> Result<(), Fail> {
+fn a_stage_alone_judges_what_an_earlier_one_refuses(rt: HostRuntime) {
     for (stage, text, fault) in TEXTS {
-        assert!(rt; tells_of_text(rt.alloc(), *stage, text, *fault)?, "{text}");
+        assert!(rt; tells_of_text(rt.alloc(), *stage, text, *fault), "{text}");
     }
-    Ok(())
 }
 
 /// What stands right of an equation without variables.
@@ -288,13 +289,14 @@ fn are_meant(alloc: Global, program: &Program) -> Result<bool, AllocError> {
 }
 
 /// The same of a text.
-fn are_meant_in(alloc: Global, text: &str) -> Result<bool, Fail> {
-    let program = read_program(alloc, text)?;
-    Ok(are_meant(alloc, &program)?)
+fn are_meant_in(alloc: Global, text: &str) -> bool {
+    match read_program(alloc, text) {
+        Ok(program) => are_meant(alloc, &program).unwrap_or(false),
+        Err(_) => false,
+    }
 }
 
 #[test]
-fn names_mean_what_stands_first(rt: HostRuntime) -> Result<(), Fail> {
-    assert!(rt; are_meant_in(rt.alloc(), TWICE)?);
-    Ok(())
+fn names_mean_what_stands_first(rt: HostRuntime) {
+    assert!(rt; are_meant_in(rt.alloc(), TWICE));
 }

@@ -68,9 +68,11 @@ fn is_answer_at(alloc: Global, flat: &Flat, table: Table, want: Want) -> Result<
 }
 
 /// The same of a text.
-fn is_answered(alloc: Global, text: &str, table: Table, want: Want) -> Result<bool, Fail> {
-    let flat = flat_of(alloc, text)?;
-    Ok(is_answer_at(alloc, &flat, table, want)?)
+fn is_answered(alloc: Global, text: &str, table: Table, want: Want) -> bool {
+    match flat_of(alloc, text) {
+        Some(flat) => is_answer_at(alloc, &flat, table, want).unwrap_or(false),
+        None => false,
+    }
 }
 
 const FIRST: Status = Status::Present(Datum::Name(0));
@@ -126,11 +128,10 @@ const ANSWERS: &[(&str, Table, Want)] = &[
 ];
 
 #[test]
-fn a_program_has_its_streams_or_its_first_fault(rt: HostRuntime) -> Result<(), Fail> {
+fn a_program_has_its_streams_or_its_first_fault(rt: HostRuntime) {
     for (text, table, want) in ANSWERS {
-        assert!(rt; is_answered(rt.alloc(), text, *table, *want)?, "{text}");
+        assert!(rt; is_answered(rt.alloc(), text, *table, *want), "{text}");
     }
-    Ok(())
 }
 
 const SAMPLES: &str =
@@ -172,17 +173,18 @@ fn fits_so(
 }
 
 /// The same of the program above.
-fn fits_samples(alloc: Global, table: Table, want: Option<bool>) -> Result<bool, Fail> {
-    let flat = flat_of(alloc, SAMPLES)?;
-    Ok(fits_so(alloc, &flat, table, want)?)
+fn fits_samples(alloc: Global, table: Table, want: Option<bool>) -> bool {
+    match flat_of(alloc, SAMPLES) {
+        Some(flat) => fits_so(alloc, &flat, table, want).unwrap_or(false),
+        None => false,
+    }
 }
 
 #[test]
-fn a_table_fits_by_its_names_and_its_types(rt: HostRuntime) -> Result<(), Fail> {
+fn a_table_fits_by_its_names_and_its_types(rt: HostRuntime) {
     for (table, want) in TABLES {
-        assert!(rt; fits_samples(rt.alloc(), *table, *want)?, "{table:?}");
+        assert!(rt; fits_samples(rt.alloc(), *table, *want), "{table:?}");
     }
-    Ok(())
 }
 
 /// Outputs `y` with these statuses, where they are outputs.
@@ -233,18 +235,15 @@ fn is_written_of(
 }
 
 /// The same of a program.
-fn is_written(
-    alloc: Global,
-    program: &str,
-    columns: &[&[Status]],
-    text: &str,
-) -> Result<bool, Fail> {
-    let flat = flat_of(alloc, program)?;
-    Ok(is_written_of(alloc, &flat, columns, text)?)
+fn is_written(alloc: Global, program: &str, columns: &[&[Status]], text: &str) -> bool {
+    match flat_of(alloc, program) {
+        Some(flat) => is_written_of(alloc, &flat, columns, text).unwrap_or(false),
+        None => false,
+    }
 }
 
 #[test]
-fn nil_is_written_too(rt: HostRuntime) -> Result<(), Fail> {
+fn nil_is_written_too(rt: HostRuntime) {
     let columns = [[NIL, Status::Absent, NO].as_slice(), &[ZERO, NIL, YES]];
     let text = "y,y\nnil,0\n-,nil\nfalse,true\n";
     assert!(rt;
@@ -253,13 +252,12 @@ fn nil_is_written_too(rt: HostRuntime) -> Result<(), Fail> {
             "node main(x: int) returns (y: int; b: bool); let y = x; b = true; tel",
             &columns,
             text
-        )?
+        )
     );
-    Ok(())
 }
 
 #[test]
-fn names_are_written_as_their_types_spell_them(rt: HostRuntime) -> Result<(), Fail> {
+fn names_are_written_as_their_types_spell_them(rt: HostRuntime) {
     let program =
         "type t = enum { Up, Down }; type u = enum { Left, Right }; node main(m: t; n: u) returns (y: t; z: u); let y = m; z = n; tel";
     let columns = [
@@ -267,6 +265,5 @@ fn names_are_written_as_their_types_spell_them(rt: HostRuntime) -> Result<(), Fa
         &[SECOND, NIL, FIRST],
     ];
     let text = "y,y\nUp,Right\n-,nil\nDown,Left\n";
-    assert!(rt; is_written(rt.alloc(), program, &columns, text)?);
-    Ok(())
+    assert!(rt; is_written(rt.alloc(), program, &columns, text));
 }

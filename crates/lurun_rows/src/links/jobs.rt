@@ -21,5 +21,5 @@ fn table_of(alloc: Global, instants: u32) -> Result<String, AllocError> {
 /// The job over so many instants; `None` where there is no memory for it.
 pub fn job_of_numbers(alloc: Global, instants: u32) -> Option<Job> {
     let table = table_of(alloc, instants).ok()?;
-    job_of_texts(alloc, PROGRAM, TWO_SITES, table.as_str()).ok()
+    job_of_texts(alloc, PROGRAM, TWO_SITES, table.as_str())
 }
