@@ -2,19 +2,30 @@
 //! in it, and the output is the same transcript with what each of them answers; README.md has the form of its lines.
 #![tactic(auto)]
 
-mod driver;
+mod counters;
+mod driven;
+mod gates;
+mod jobs;
+mod lines;
+mod links;
 mod paper;
+mod parties;
 mod printing;
+mod runs;
+mod schedules;
+mod tries;
 
-use crate::driver::{put_tried, words_of};
+use crate::lines::put_line;
 use crate::paper::Paper;
 use crate::printing::put_printed;
+use crate::tries::{put_tried, words_of};
 use lusdist_commands::serve_words;
 use lusdist_shell::{Files, ReadError, RealFiles, Silent, Sink, WriteError, text_of};
 use std::alloc::{AllocError, Global};
 use std::cell::Cell;
 use std::io;
 use std::io::Write;
+use std::rt::Clock;
 use std::sync::Wait;
 use std::thread::Threads;
 
@@ -177,7 +188,7 @@ fn put_answer<R: Threads + Wait + Sync>(
 }
 
 /// Does what a line says.
-fn take_line<R: Threads + Wait + Sync>(
+fn take_line<R: Threads + Wait + Sync + Clock + Print>(
     threads: &R,
     rt: &HostRuntime,
     case: &mut Case<'_>,
@@ -192,6 +203,7 @@ fn take_line<R: Threads + Wait + Sync>(
         "$" | "%" => put_answer(threads, rt, case, rest, mark == "%")?,
         "@" => put_tried(threads, rt, case, text, name.parse().unwrap_or(0))?,
         "~" => put_printed(rt, case, rest)?,
+        "&" => put_line(threads, rt, case, rest)?,
         _ => {}
     }
     Ok(())

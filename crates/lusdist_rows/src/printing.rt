@@ -1,7 +1,7 @@
 //! What the reader and the printer alone make of a text, which need keep no static rule.
 
-use crate::driver::text_in;
 use crate::put_output;
+use crate::tries::text_in;
 use lusdist_shell::Files;
 use lusyn::{print_program, read_program};
 use std::alloc::{AllocError, Global};

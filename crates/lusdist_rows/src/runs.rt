@@ -1,7 +1,7 @@
 //! The stations of a job, or some of them, run as a line asks for.
 
 use crate::gates::{Seen, Watch};
-use crate::{number, word};
+use crate::lines::{number, word};
 use luplace::Job;
 use lurun::{Outputs, RunError, Station, run_crew, run_threads, stations};
 use lutab::write_outputs;

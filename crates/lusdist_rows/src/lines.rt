@@ -1,15 +1,4 @@
-//! What links pass, and runs on threads and by crews, with gates that hold items back, with stations that are missing or whose links lead nowhere, sites
-//! that stop before an item, and what the plain programs say: lines of standard input, with what each comes to. README.md has the form of the lines.
-#![tactic(auto)]
-
-mod counters;
-mod driver;
-mod gates;
-mod jobs;
-mod links;
-mod parties;
-mod runs;
-mod schedules;
+//! Lines of links and of jobs: what each comes to.
 
 use crate::counters::{are_all_counted, is_copy_handed};
 use crate::jobs::job_at;
@@ -19,6 +8,7 @@ use crate::runs::{put_outputs, put_run};
 use crate::schedules::all_agree_in_ring;
 use luplace::Job;
 use lurun::collect;
+use lusdist_shell::Files;
 use std::io;
 use std::rt::Clock;
 use std::sync::Wait;
@@ -35,7 +25,7 @@ pub fn number(line: &str, k: usize) -> u32 {
 }
 
 /// Writes what a line comes to, of a job.
-fn take_job<R: Threads + Wait + Sync>(
+fn put_of_job<R: Threads + Wait + Sync>(
     threads: &R,
     rt: &HostRuntime,
     job: &Job,
@@ -48,14 +38,15 @@ fn take_job<R: Threads + Wait + Sync>(
     }
 }
 
-/// Writes what a line of a job's files comes to.
-fn take_files<R: Threads + Wait + Sync>(
+/// Writes what a line comes to that names a job's files.
+fn put_of_files<R: Threads + Wait + Sync, F: Files>(
     threads: &R,
     rt: &HostRuntime,
+    files: &F,
     line: &str,
 ) -> io::Result<()> {
-    match job_at(rt, line) {
-        Some(job) => take_job(threads, rt, &job, line),
+    match job_at(rt.alloc(), files, line) {
+        Some(job) => put_of_job(threads, rt, &job, line),
         None => println!(rt; "! no job"),
     }
 }
@@ -66,9 +57,10 @@ fn put_so(rt: &HostRuntime, is_so: bool) -> io::Result<()> {
 }
 
 /// Writes what a line comes to.
-fn take_line<R: Threads + Wait + Sync + Clock + Print>(
+pub fn put_line<R: Threads + Wait + Sync + Clock + Print, F: Files>(
     threads: &R,
     rt: &HostRuntime,
+    files: &F,
     line: &str,
 ) -> io::Result<()> {
     match word(line, 0) {
@@ -76,15 +68,6 @@ fn take_line<R: Threads + Wait + Sync + Clock + Print>(
         "counters" => put_so(rt, are_all_counted(rt.alloc())),
         "inputs" => put_so(rt, is_copy_handed(rt.alloc())),
         "schedules" => put_so(rt, all_agree_in_ring(rt.alloc())),
-        _ => take_files(threads, rt, line),
+        _ => put_of_files(threads, rt, files, line),
     }
-}
-
-fn main(rt: HostRuntime) -> io::Result<()> {
-    for line in rt.lines(rt.alloc()) {
-        let line = line?;
-        println!(rt; "{line}")?;
-        take_line(&rt, &rt, line.as_str())?;
-    }
-    Ok(())
 }

@@ -1,7 +1,7 @@
 use Rattle.std.proofs.Common.{◌≡◌, subst, sym}
 use Rattle.lulink.specs.Lists.{list_of}
-use Rattle.lurun_rows.proofs.Counted.{given_at}
-use Rattle.lurun_rows.proofs.driver.next_of.Goals as goal
+use Rattle.lusdist_rows.proofs.Counted.{given_at}
+use Rattle.lusdist_rows.proofs.driven.next_of.Goals as goal
 
 pub returns-in-0 : goal.returns-in-0
 returns-in-0 c = λ job s p.

@@ -9,7 +9,7 @@ use Rattle.lulink.specs.Lists.{list_of}
 use Rattle.lusdist_plain.specs.declared.item.Item.{Item}
 use Rattle.lusdist_plain.specs.AsItem.{as_item}
 use Rattle.lusdist_plain.proofs.Scripted.{count_by-map}
-use Rattle.lurun_rows.specs.Driven.{IsGiven}
+use Rattle.lusdist_rows.specs.Driven.{IsGiven}
 
 counted : (job : Run) (s link n : ℕ) (items : List Item) → map as_item items ≡ script job (streams_of job) s
     → count_by (λ item. takes link (as_item item)) (take n items) ≡ takes_before (system_of job) link s n

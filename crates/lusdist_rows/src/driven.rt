@@ -7,7 +7,7 @@ ghost use Rattle.luworld.specs.Runs.{Run};
 ghost use Rattle.luworld.specs.World.{takes};
 ghost use Rattle.lulink.specs.Lists.{list_of};
 ghost use Rattle.lusdist_plain.specs.AsItem.{as_item};
-ghost use Rattle.lurun_rows.specs.Driven.{IsGiven, IsPlain};
+ghost use Rattle.lusdist_rows.specs.Driven.{IsGiven, IsPlain};
 
 use lulink::{Msg, Rx, Tx};
 use lusdist_plain::Item;

@@ -3,10 +3,10 @@
 ghost use Rattle.std.specs.Prelude.{◌≡◌, ◌<◌, IfOk};
 ghost use Rattle.luworld.specs.Needs.{sites_of};
 ghost use Rattle.lulink.specs.Lists.{list_of};
-ghost use Rattle.lurun_rows.specs.Driven.{IsPlain};
+ghost use Rattle.lusdist_rows.specs.Driven.{IsPlain};
 
-use crate::driver::{Feeder, Left, Plain, driven, takes_in};
-use crate::number;
+use crate::driven::{Feeder, Left, Plain, driven, takes_in};
+use crate::lines::number;
 use crate::runs::put_outputs;
 use lulink::{Body, Msg, Rx, open_link};
 use luplace::Job;

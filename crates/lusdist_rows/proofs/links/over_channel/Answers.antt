@@ -1,7 +1,7 @@
 use denote.Param.Send.{sendable}
 use Rattle.std.proofs.Crossing.{crosses}
 use Rattle.lulink_channel.proofs.Crosses.{tx_send, rx_send, tx_field_send, rx_field_send}
-use Rattle.lurun_rows.proofs.links.over_channel.Goals as goal
+use Rattle.lusdist_rows.proofs.links.over_channel.Goals as goal
 
 pub does-requires-send-S : goal.does-requires-send-S
 does-requires-send-S g c κs within = search (sendable, crosses, tx_send, tx_field_send) depth 20

@@ -1,11 +1,11 @@
 //! Jobs of texts, and of a line's files.
 
-use crate::word;
+use crate::lines::word;
 use luplace::Job;
 use lusdist_answers::Stop;
 use lusdist_answers::jobs::job_for;
 use lusdist_answers::sources::{flat_of, job_of, plan_of};
-use lusdist_shell::RealFiles;
+use lusdist_shell::Files;
 use std::alloc::Global;
 
 fn read_job(alloc: Global, program: &str, place: &str, table: &str) -> Result<Job, Stop> {
@@ -20,8 +20,7 @@ pub fn job_of_texts(alloc: Global, program: &str, place: &str, table: &str) -> O
 }
 
 /// The job of a line's files; `None` where they are refused.
-pub fn job_at(rt: &HostRuntime, line: &str) -> Option<Job> {
-    let files = RealFiles::new(rt);
+pub fn job_at<F: Files>(alloc: Global, files: &F, line: &str) -> Option<Job> {
     let (program, place, table) = (word(line, 1), word(line, 2), word(line, 3));
-    job_for(rt.alloc(), &files, program, place, table, "main").ok()
+    job_for(alloc, files, program, place, table, "main").ok()
 }
