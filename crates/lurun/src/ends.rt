@@ -1,4 +1,5 @@
 //! A site's items over the ends of its links.
+#![tactic(auto, using(std::proofs::lemmas::Grind::elements))]
 
 ghost use Rattle.std.specs.Prelude.{◌≡◌, ◌+◌, ◌<◌, IfSome, length, List, slice_get, Some};
 ghost use Rattle.lulink.specs.Views.{SenderView, ReceiverView, IsNextToPut};

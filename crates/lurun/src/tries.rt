@@ -1,4 +1,5 @@
 //! A site's items over the ends of its links, with no wait.
+#![tactic(auto, using(std::proofs::lemmas::Grind::elements))]
 
 ghost use Rattle.std.specs.Prelude.{◌≡◌, ◌<◌, length, List, slice_get, Some};
 ghost use Rattle.lulink.specs.Views.{SenderView, ReceiverView, IsNextToPut};

@@ -1,4 +1,5 @@
 //! Which sites may move.
+#![tactic(auto, using(std::proofs::lemmas::Grind::elements))]
 
 ghost use Rattle.std.specs.Prelude.{◌≡◌, ◌≢◌, ◌↔◌, ℕ, ◌<◌, length, slice_get, true, Some, None};
 ghost use Rattle.std.specs.Option.{ForSome};

@@ -1,4 +1,6 @@
 //! A link of the core: what was put, and how much of it was taken.
+#![tactic(auto, using(std::proofs::lemmas::Grind::elements))]
+
 ghost use Rattle.std.specs.Prelude.{◌≡◌, ℕ, ◌+◌, ◌<◌, ◌≤◌, ◌++◌, ◌∷◌, [], length, take, drop, slice_get, vec_capacity, Some};
 
 use luflow::Msg;

@@ -1,4 +1,5 @@
 //! What a site offers next, and whether the link of it lets the site go on.
+#![tactic(auto, using(std::proofs::lemmas::Grind::elements))]
 
 ghost use Rattle.std.specs.Prelude.{◌≡◌, ◌<◌, ◌≤◌, length, slice_get};
 ghost use Rattle.std.specs.Option.{ForSome};

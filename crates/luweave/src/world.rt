@@ -1,4 +1,6 @@
 //! All sites in one thread, by turns.
+#![tactic(auto, using(std::proofs::lemmas::Grind::elements))]
+
 ghost use Rattle.std.specs.Prelude.{◌≡◌, ℕ, ◌++◌, true, [], ◌+◌, ◌<◌, ◌≤◌, length, take, drop, slice_get, slice_set, slice_index, vec_capacity, List, Some, None, IfOk};
 ghost use Rattle.std.specs.Option.{ForSome};
 ghost use Rattle.lusite.specs.Machine.{IsLocalNext, IsPutNext, IsTakeNext};
