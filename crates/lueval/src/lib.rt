@@ -2,7 +2,7 @@
 //!
 //! - [`whole`], [`Streams`], [`EvalError`]: a program's only solution at a table, or its first fault; [`whole_outputs`]: its
 //!   outputs alone, in less memory; [`whole_columns`]: all its main variables by name.
-//! - All that is public of `lueval_lines` but its code and columns: `value`, `clock_now`, `kept`, the data operators, lines and cells.
+//! - All that is public of `lueval_lines` but its code and columns: the data operators, lines and cells.
 #![tactic(auto)]
 
 mod evaluator;
@@ -10,8 +10,8 @@ mod machine;
 
 pub use evaluator::{whole, whole_columns, whole_outputs};
 pub use lueval_lines::{
-    Answer, Cell, EvalError, Line, LineClock, Past, Streams, cell_at, cell_of, choice, clock_now,
-    column_of, datum_at, double, is_absent, is_datum, is_on, kept, line_of, moved_branches,
-    moved_line, newest, single, status, taken_outputs, value, value_with,
+    Answer, Cell, EvalError, Line, LineClock, Past, Streams, cell_at, cell_of, choice, column_of,
+    double, is_absent, is_datum, is_on, line_of, moved_branches, moved_line, newest, single,
+    status, taken_outputs, value_with,
 };
 pub use luflow::{Datum, Inputs, Outputs, Status};

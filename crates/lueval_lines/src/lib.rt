@@ -1,9 +1,8 @@
-//! One flow of a program: its value at one instant, the kernel that every machine of the distributor shares; the line that a machine
-//! runs for it; and the column of its stream.
+//! One flow of a program: the line that a machine of the distributor runs for it, its value at one instant, and the column of its
+//! stream.
 //!
 //! - [`single`], [`double`], [`choice`]: the data operators and `if`, on data.
-//! - [`value`], [`clock_now`], [`kept`]: a flow's value and clock from what a machine holds, and what it keeps afterwards.
-//! - [`Past`]: what is kept of a flow from the instants before.
+//! - [`Past`]: what is kept of a flow from the instants before, as contracts say it.
 //! - [`Cell`], [`Answer`], [`Line`]: a status in two words, what a flow's value is in such words, and a flow laid out for its machine;
 //!   [`line_of`], [`value_with`], [`is_on`], [`newest`]: how a line is made, its value, its clock, and what is kept of it. The
 //!   branches of merges stand in one list beside the lines. [`moved_line`], [`moved_branches`]: the same in a part of a program, whose
@@ -19,22 +18,22 @@ mod cell;
 mod columns;
 mod doubles;
 mod error;
-mod kernel;
 mod line;
 mod moving;
 pub mod operation;
 mod operators;
 mod outputs;
+mod past;
 mod streams;
 
 pub use answers::value_with;
 pub use cell::{Answer, Cell, cell_at, cell_of, is_absent, is_datum, is_on, newest, status};
 pub use columns::{Notes, Wanted, note};
 pub use error::EvalError;
-pub use kernel::{Past, clock_now, datum_at, kept, value};
 pub use line::{Code, Line, LineClock, column_of, line_at, line_of};
 pub use luflow::{Datum, Inputs, Outputs, Status};
 pub use moving::{moved_branches, moved_line};
 pub use operators::{choice, double, single};
 pub use outputs::taken_outputs;
+pub use past::Past;
 pub use streams::Streams;

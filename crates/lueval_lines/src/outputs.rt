@@ -1,7 +1,7 @@
 //! The main variables' streams by name: those of the outputs, and all.
 
 ghost use Rattle.std.specs.Prelude.{◌≡◌, ◌++◌, ◌∷◌, [], IfOk, OnOk, length};
-ghost use Rattle.luflow.specs.Tables.{output_view, outputs_view};
+ghost use Rattle.luflow.specs.Tables.{outputs_view};
 ghost use Rattle.luflow.specs.Variables.{is_output};
 ghost use Rattle.lueval_lines.specs.Columns.{lists_of};
 ghost use Rattle.lueval_lines.specs.Outputs.{output_in, outputs_in, columns_in};
@@ -17,55 +17,6 @@ fn is_output(role: Role) -> bool
         Role::Output => true,
         Role::Input | Role::Local => false,
     }
-}
-
-/// The name and the stream of a variable.
-fn named(
-    alloc: Global,
-    x: &Variable,
-    statuses: &[Status],
-) -> Result<(String, Vec<Status>), AllocError>
-    ensures { IfOk result (λ column. output_view column
-        ≡ record { name = x.now.name; statuses = statuses.now }) }
-{
-    let name = String::from_str(alloc, x.name.as_str())?;
-    let statuses = Vec::from_slice(alloc, statuses)?;
-    Ok((name, statuses))
-}
-
-/// Adds a variable's stream where the variable is an output.
-fn push_output(
-    alloc: Global,
-    outputs: &mut Vec<(String, Vec<Status>)>,
-    x: &Variable,
-    statuses: &[Status],
-) -> Result<(), AllocError>
-    ensures { OnOk result (outputs_view outputs.new.items ≡ outputs_view outputs.old.items
-        ++ output_in x.now statuses.now) }
-{
-    if is_output(x.role) {
-        let column = named(alloc, x, statuses)?;
-        outputs.push(column)?;
-        return Ok(());
-    }
-    Ok(())
-}
-
-/// The outputs by name, in order of declaration, each with its stream.
-pub fn output_columns(
-    alloc: Global,
-    variables: &[Variable],
-    columns: &[Vec<Status>],
-) -> Result<Vec<(String, Vec<Status>)>, AllocError>
-    requires { length variables.now ≡ length columns.now }
-    ensures { IfOk result (λ x. outputs_view x.items ≡ outputs_in variables.now
-        (lists_of columns.now)) }
-{
-    let mut outputs = Vec::new(alloc);
-    for v in 0..variables.len() {
-        push_output(alloc, &mut outputs, &variables[v], &columns[v])?;
-    }
-    Ok(outputs)
 }
 
 /// Takes the stream of a variable where the variable is an output.

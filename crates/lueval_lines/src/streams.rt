@@ -1,11 +1,10 @@
 //! The streams of a program's main variables.
 
 ghost use Rattle.std.specs.Prelude.{◌≡◌, ◌<◌, All, IfOk, length, slice_get, slice_index, Some};
-ghost use Rattle.luflow.specs.Variables.{outputs_of};
-ghost use Rattle.lueval_lines.specs.Outputs.{outputs_in, columns_in};
+ghost use Rattle.lueval_lines.specs.Outputs.{columns_in};
 ghost use Rattle.lueval_lines.specs.Columns.{lists_of};
 
-use crate::outputs::{output_columns, taken_columns};
+use crate::outputs::taken_columns;
 use luflow::{Flat, Outputs, Status};
 use std::alloc::{AllocError, Global};
 use std::marker::Model;
@@ -49,22 +48,6 @@ impl Streams {
         self.columns[variable].as_slice()
     }
 
-    /// The outputs of the program, by name, in order of declaration, each with its stream.
-    ///
-    /// # Errors
-    ///
-    /// `AllocError` where memory ran out.
-    pub fn outputs(&self, alloc: Global, flat: &Flat) -> Result<Outputs, AllocError>
-        requires count { length self.now ≡ length flat.now.variables }
-        requires some { 0 < length (outputs_of flat.now.variables) }
-        ensures { IfOk result (λ outputs. outputs ≡ outputs_in flat.now.variables self.now) }
-    {
-        let columns = output_columns(alloc, flat.variables(), self.columns.as_slice())?;
-        match Outputs::new(columns) {
-            Some(outputs) => Ok(outputs),
-            None => unreachable!(),
-        }
-    }
     /// All main variables of the program, by name, in order of declaration, each with its stream, of which none is copied.
     ///
     /// # Errors

@@ -1,8 +1,8 @@
 //! The program `lusdist`: it checks one Lustre program, evaluates it, spreads it over several sites, runs them on threads, and
-//! replays a run turn by turn. What it does stands in the library `lusdist_commands`.
+//! replays a run turn by turn. What it does stands in the library `lusdist_answers`.
 #![tactic(auto)]
 
-use lusdist_commands::serve_words;
+use lusdist_answers::serve_words;
 use lusdist_shell::{Meter, RealFiles, Sink, put_unread};
 use std::process::ExitCode;
 use std::{env, io};

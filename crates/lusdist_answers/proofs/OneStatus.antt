@@ -19,26 +19,26 @@ use Rattle.lusdist_shell.specs.declared.request.Request.TheVariants.{Check, Eval
 use Rattle.lusdist_stop.specs.declared.stop.Stop.{Stop}
 use Rattle.lusdist_stop.specs.declared.stop.Stop.TheVariants.{CannotRead, CannotWrite, NotAscii, Syntax, Rules, Flat, Place, Table, Schedule, Fault, LinkLost, NoThread, OutOfMemory, Mistaken}
 use Rattle.lusdist_stop.specs.Statuses.{status_of}
-use Rattle.lusdist_answers.specs.Asked.{HasFlat, IsPlanFor, IsJobFor}
-use Rattle.lusdist_answers.specs.Evaluated.{IsFaultOf}
-use Rattle.lusdist_answers.specs.Refused.{IsToldOf, IsProgramRefused, IsPlaceRefused, IsTableRefused}
-use Rattle.lusdist_answers.specs.Refused.IsToldOf.{rule, flat}
+use Rattle.lusdist_meaning.specs.Asked.{HasFlat, IsPlanFor, IsJobFor}
+use Rattle.lusdist_meaning.specs.Evaluated.{IsFaultOf}
+use Rattle.lusdist_meaning.specs.Refused.{IsToldOf, IsProgramRefused, IsPlaceRefused, IsTableRefused}
+use Rattle.lusdist_meaning.specs.Refused.IsToldOf.{rule, flat}
 use Rattle.lusdist_stop.specs.Files.{IsUnread}
-use Rattle.lusdist_answers.specs.Stopped.{IsScheduleRefused, HasNoFlat, StopsAtProgram, StopsAtPlan, StopsAtJob, IsEvalRefused, IsEvalStopped, IsReplayStopped, IsRunStopped, IsRequestStopped}
-use Rattle.lusdist_answers.specs.Stopped.HasNoFlat.{unspelled, unruled}
-use Rattle.lusdist_answers.specs.Stopped.StopsAtProgram.{program_unread, program_refused}
-use Rattle.lusdist_answers.specs.Stopped.StopsAtPlan.{no_program, place_unread, place_refused}
-use Rattle.lusdist_answers.specs.Stopped.IsCheckStopped.{check_program, check_memory}
+use Rattle.lusdist_meaning.specs.Stopped.{IsScheduleRefused, HasNoFlat, StopsAtProgram, StopsAtPlan, StopsAtJob, IsEvalRefused, IsEvalStopped, IsReplayStopped, IsRunStopped, IsRequestStopped}
+use Rattle.lusdist_meaning.specs.Stopped.HasNoFlat.{unspelled, unruled}
+use Rattle.lusdist_meaning.specs.Stopped.StopsAtProgram.{program_unread, program_refused}
+use Rattle.lusdist_meaning.specs.Stopped.StopsAtPlan.{no_program, place_unread, place_refused}
+use Rattle.lusdist_meaning.specs.Stopped.IsCheckStopped.{check_program, check_memory}
 use Rattle.lusdist_stop.specs.Mistakes.{mistake_in}
-use Rattle.lusdist_answers.specs.Stopped.IsEvalRefused.{eval_mistaken, eval_stopped}
-use Rattle.lusdist_answers.specs.Stopped.IsEvalStopped.{eval_program, eval_unread, eval_table, eval_fault, eval_unwritten, eval_memory}
-use Rattle.lusdist_answers.specs.Stopped.IsPlanStopped.{plan_files, plan_memory}
-use Rattle.lusdist_answers.specs.Stopped.StopsAtJob.{no_plan, table_unread, table_refused}
-use Rattle.lusdist_answers.specs.Stopped.IsReplayStopped.{replay_job, replay_unread, replay_schedule, replay_unwritten, replay_memory}
-use Rattle.lusdist_answers.specs.Stopped.IsRunStopped.{run_job, run_fault, run_lost, run_thread, run_unwritten, run_memory}
-use Rattle.lusdist_answers.specs.Exact.{HasOneText, SaysNothing}
-use Rattle.lusdist_answers.specs.Explained.{code_in, IsExplainStopped}
-use Rattle.lusdist_answers.specs.Explained.IsExplainStopped.{explain_unknown, explain_memory}
+use Rattle.lusdist_meaning.specs.Stopped.IsEvalRefused.{eval_mistaken, eval_stopped}
+use Rattle.lusdist_meaning.specs.Stopped.IsEvalStopped.{eval_program, eval_unread, eval_table, eval_fault, eval_unwritten, eval_memory}
+use Rattle.lusdist_meaning.specs.Stopped.IsPlanStopped.{plan_files, plan_memory}
+use Rattle.lusdist_meaning.specs.Stopped.StopsAtJob.{no_plan, table_unread, table_refused}
+use Rattle.lusdist_meaning.specs.Stopped.IsReplayStopped.{replay_job, replay_unread, replay_schedule, replay_unwritten, replay_memory}
+use Rattle.lusdist_meaning.specs.Stopped.IsRunStopped.{run_job, run_fault, run_lost, run_thread, run_unwritten, run_memory}
+use Rattle.lusdist_meaning.specs.Exact.{HasOneText, SaysNothing}
+use Rattle.lusdist_meaning.specs.Explained.{code_in, IsExplainStopped}
+use Rattle.lusdist_meaning.specs.Explained.IsExplainStopped.{explain_unknown, explain_memory}
 use Rattle.lusdist_answers.proofs.Exclusive.{memory_is, none_some, unread_memory, program_memory, plan_memory_of, job_memory_of, refused_memory, posed_flat}
 
 -- ---- the status of a stop by what it is of

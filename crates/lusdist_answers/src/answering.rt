@@ -2,13 +2,13 @@
 
 ghost use Rattle.std.specs.Prelude.{◌≡◌, ◌<◌, length, IfOk, IfErr, None, OnOk, string_bytes};
 ghost use Rattle.lusdist_shell.specs.Request.{AreFew};
-ghost use Rattle.lusdist_answers.specs.Asked.{IsRan, IsChecked, IsPlanned};
+ghost use Rattle.lusdist_meaning.specs.Asked.{IsRan, IsChecked, IsPlanned};
 ghost use Rattle.luflow.specs.Sound.{IsFit};
 ghost use Rattle.luflow.specs.Variables.{outputs_of};
-ghost use Rattle.lusdist_answers.specs.Evaluated.{IsDumped, IsDumpedTo, IsEvaluated, IsNoFault, IsPosedBy};
+ghost use Rattle.lusdist_meaning.specs.Evaluated.{IsDumped, IsDumpedTo, IsEvaluated, IsNoFault, IsPosedBy};
 ghost use Rattle.lusdist_stop.specs.Files.{IsUnwritten};
-ghost use Rattle.lusdist_answers.specs.Waved.{IsRunDumped};
-ghost use Rattle.lusdist_answers.specs.Stopped.{IsCheckStopped, IsEvalRefused, IsEvalStopped, IsPlanStopped, IsRunStopped};
+ghost use Rattle.lusdist_meaning.specs.Waved.{IsRunDumped};
+ghost use Rattle.lusdist_meaning.specs.Stopped.{IsCheckStopped, IsEvalRefused, IsEvalStopped, IsPlanStopped, IsRunStopped};
 ghost use Rattle.lusdist_stop.specs.Mistakes.{mistake_in};
 ghost use Rattle.lusdist_stop.specs.declared.stop.Stop.{Stop};
 

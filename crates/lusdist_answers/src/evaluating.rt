@@ -5,7 +5,7 @@ ghost use Rattle.luflow.specs.Sound.{IsFit};
 ghost use Rattle.luflow.specs.Variables.{outputs_of};
 ghost use Rattle.lueval.specs.Whole.{HasNoFault, IsAnswer};
 ghost use Rattle.lutab_writing.specs.Outputs.{shown_of};
-ghost use Rattle.lusdist_answers.specs.Evaluated.{AreEvaluated, HasNoFaultBefore, IsFiled, IsShown, AreShownBefore, IsShownTo, IsStopped, IsStopFor, IsUnfiled, shown_text, wave_text};
+ghost use Rattle.lusdist_meaning.specs.Evaluated.{AreEvaluated, HasNoFaultBefore, IsFiled, IsShown, AreShownBefore, IsShownTo, IsStopped, IsStopFor, IsUnfiled, shown_text, wave_text};
 ghost use Rattle.lueval_lines.specs.declared.error.EvalError.TheVariants.{Fault};
 
 use lublock::block_outputs;

@@ -1,7 +1,7 @@
 //! A page of the manual.
 
 ghost use Rattle.std.specs.Prelude.{◌≡◌, IfOk, IfErr, Some, string_bytes};
-ghost use Rattle.lusdist_answers.specs.Explained.{code_in, explanation, IsExplainStopped};
+ghost use Rattle.lusdist_meaning.specs.Explained.{code_in, explanation, IsExplainStopped};
 
 use lulist::Name;
 use lusdist_pages::{all_codes, page_of};

@@ -4,7 +4,7 @@ ghost use Rattle.std.specs.Prelude.{◌≡◌, IfOk, IfErr, OnOk, Some, string_b
 ghost use Rattle.luchart.specs.Signals.{Signal};
 ghost use Rattle.luweave_text.specs.Waves.{site_dump, AreOutputSignals};
 ghost use Rattle.lusdist_stop.specs.Files.{IsFiledAt, IsUnfiledAt};
-ghost use Rattle.lusdist_answers.specs.Waved.{IsWorldDumped, IsWorldFiled, replay_path, run_dump, run_path};
+ghost use Rattle.lusdist_meaning.specs.Waved.{IsWorldDumped, IsWorldFiled, replay_path, run_dump, run_path};
 
 use luchart::signal::signals_of;
 use luflow::Outputs;

@@ -2,8 +2,8 @@
 
 ghost use Rattle.std.specs.Prelude.{◌<◌, length, IfOk, IfErr};
 ghost use Rattle.luflow.specs.Variables.{outputs_of};
-ghost use Rattle.lusdist_answers.specs.Asked.{IsJobFor};
-ghost use Rattle.lusdist_answers.specs.Stopped.{StopsAtJob};
+ghost use Rattle.lusdist_meaning.specs.Asked.{IsJobFor};
+ghost use Rattle.lusdist_meaning.specs.Stopped.{StopsAtJob};
 
 use crate::planning::planned;
 use crate::sources::job_of;

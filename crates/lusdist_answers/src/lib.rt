@@ -1,5 +1,6 @@
-//! What each command answers, from the files that it names: what is printed and dumped, or why it stops.
+//! The distributor: a call of the program by the files that its words name, and what each command answers from them: what is printed and dumped, or why it stops.
 //!
+//! - [`serve_words`]: a call, from its words to its exit status. How it ends stands in `lusdist_commands`, which is handed what each command answers.
 //! - [`answering`]: what a check, an evaluation, a plan and a run print; [`replaying`]: what a replay prints.
 //! - [`sources`]: from the texts of the files to a program, its flat program, a plan, a job, its turns, a table.
 //! - [`jobs`]: the job of a program, a placement and a table.
@@ -7,21 +8,24 @@
 //! - [`evaluating`]: the main variables of a program at a table, as a table or as a chart; [`running`]: the table of its outputs, made by its sites on
 //!   threads.
 //! - `filing`: dumps, each into the file that a request names.
-//! - [`explaining`]: a page of the manual.
+//! - [`explaining`]: a page of the manual. `reasons`: why a text is refused.
 //! - [`Stop`], [`Mistake`] of `lusdist_stop`: why a call stops.
 //! - [`laws`]: a call has one outcome, one refusal and one status.
 #![tactic(auto)]
 
 pub mod answering;
+mod distributor;
 pub mod evaluating;
 pub mod explaining;
 mod filing;
 pub mod jobs;
 pub mod laws;
 pub mod planning;
+mod reasons;
 pub mod replaying;
 pub mod running;
 pub mod sources;
 
+pub use distributor::serve_words;
 pub use lusdist_stop::{Mistake, Stop};
 pub use replaying::replayed;

@@ -2,8 +2,8 @@
 
 ghost use Rattle.std.specs.Prelude.{◌≡◌, [], ◌∷◌, ◌++◌, IfOk, IfErr, string_bytes};
 ghost use Rattle.luplace_report.specs.Report.{report_text};
-ghost use Rattle.lusdist_answers.specs.Asked.{IsPlanFor, plan_text};
-ghost use Rattle.lusdist_answers.specs.Stopped.{StopsAtPlan};
+ghost use Rattle.lusdist_meaning.specs.Asked.{IsPlanFor, plan_text};
+ghost use Rattle.lusdist_meaning.specs.Stopped.{StopsAtPlan};
 ghost use Rattle.lusdist_stop.specs.declared.stop.Stop.TheVariants.{OutOfMemory};
 
 use crate::sources::{flat_at, plan_of};

@@ -3,11 +3,11 @@
 ghost use Rattle.std.specs.Prelude.{◌≡◌, ◌<◌, ℕ, List, IfOk, IfErr, OnOk, string_bytes};
 ghost use Rattle.luweave.specs.Headline.{IsFaithful};
 ghost use Rattle.luweave_text.specs.Traced.{IsTraced};
-ghost use Rattle.lusdist_answers.specs.Asked.{IsAskedFor, IsWorldOf, AreNotesOf, IsPrinted, IsReplayed, IsNotedReplay};
-ghost use Rattle.lusdist_answers.specs.Evaluated.{IsNoFault};
+ghost use Rattle.lusdist_meaning.specs.Asked.{IsAskedFor, IsWorldOf, AreNotesOf, IsPrinted, IsReplayed, IsNotedReplay};
+ghost use Rattle.lusdist_meaning.specs.Evaluated.{IsNoFault};
 ghost use Rattle.lusdist_stop.specs.Files.{IsUnfiledAt, IsUnwritten};
-ghost use Rattle.lusdist_answers.specs.Waved.{AreWaved, IsReplayDumped, replay_path};
-ghost use Rattle.lusdist_answers.specs.Stopped.{IsReplayStopped};
+ghost use Rattle.lusdist_meaning.specs.Waved.{AreWaved, IsReplayDumped, replay_path};
+ghost use Rattle.lusdist_meaning.specs.Stopped.{IsReplayStopped};
 ghost use Rattle.lusdist_stop.specs.declared.stop.Stop.{Stop};
 ghost use Rattle.lusdist_stop.specs.declared.stop.Stop.TheVariants.{OutOfMemory};
 

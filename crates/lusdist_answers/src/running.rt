@@ -5,9 +5,9 @@ ghost use Rattle.luflow.specs.Variables.{outputs_of};
 ghost use Rattle.lurun_reports.specs.Reports.{AreOutputsOf};
 ghost use Rattle.lusdist_shell.specs.Request.{AreFew};
 ghost use Rattle.lutab_writing.specs.Outputs.{output_text};
-ghost use Rattle.lusdist_answers.specs.Ran.{IsRunError, IsRunTable, IsStopOfRun};
+ghost use Rattle.lusdist_meaning.specs.Ran.{IsRunError, IsRunTable, IsStopOfRun};
 ghost use Rattle.lusdist_stop.specs.Files.{IsFiledAt, IsUnfiledAt};
-ghost use Rattle.lusdist_answers.specs.Waved.{AreRunWaves, run_dump, run_path};
+ghost use Rattle.lusdist_meaning.specs.Waved.{AreRunWaves, run_dump, run_path};
 
 use crate::evaluating::fault_stop;
 use crate::filing::file_run;

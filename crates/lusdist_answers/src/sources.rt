@@ -12,9 +12,9 @@ ghost use Rattle.luflow.specs.Tables.{Fits};
 ghost use Rattle.luflow.specs.Variables.{inputs_of};
 ghost use Rattle.luworld.specs.Runs.{IsRun};
 ghost use Rattle.lutab.specs.Table.{IsTextOf, is_too_long};
-ghost use Rattle.lusdist_answers.specs.Asked.{AreTurnsAt, HasFlat, IsFlatAt, IsPlanOfText, IsTableAt};
-ghost use Rattle.lusdist_answers.specs.Refused.{IsToldOf, IsProgramRefused, IsPlaceRefused, IsTableRefused};
-ghost use Rattle.lusdist_answers.specs.Stopped.{HasNoFlat, IsScheduleRefused, StopsAtProgram, StopsAtSchedule, StopsAtTable};
+ghost use Rattle.lusdist_meaning.specs.Asked.{AreTurnsAt, HasFlat, IsFlatAt, IsPlanOfText, IsTableAt};
+ghost use Rattle.lusdist_meaning.specs.Refused.{IsToldOf, IsProgramRefused, IsPlaceRefused, IsTableRefused};
+ghost use Rattle.lusdist_meaning.specs.Stopped.{HasNoFlat, IsScheduleRefused, StopsAtProgram, StopsAtSchedule, StopsAtTable};
 
 use lucore::flatten;
 use luflow::{Flat, Inputs};

@@ -17,9 +17,9 @@ use Rattle.lusdist_shell.specs.declared.request.TurnsForm.TheVariants.{Nothing}
 use Rattle.lusdist_shell.specs.Request.{IsAskedBy}
 use Rattle.lusdist_stop.specs.declared.stop.Stop.{Stop}
 use Rattle.lusdist_stop.specs.declared.stop.Stop.TheVariants.{CannotRead, CannotWrite, NotAscii, Syntax, Rules, Flat, Place, Table, Schedule, Fault, LinkLost, NoThread, OutOfMemory, Mistaken}
-use Rattle.lusdist_answers.specs.Asked.{IsDone, AreNotes, AreNotesOf, AskForNoTrace}
+use Rattle.lusdist_meaning.specs.Asked.{IsDone, AreNotes, AreNotesOf, AskForNoTrace}
 use Rattle.lusdist_stop.specs.Statuses.{status_of}
-use Rattle.lusdist_answers.specs.Stopped.{IsRefusal}
+use Rattle.lusdist_meaning.specs.Stopped.{IsRefusal}
 use Rattle.lusdist_commands.specs.Left.{Streams, IsEnded, IsHelp}
 use Rattle.lusdist_commands.specs.Left.IsEnded.{answered, refused, unwritten}
 

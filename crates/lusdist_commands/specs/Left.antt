@@ -6,16 +6,16 @@ use Rattle.clap.specs.declared.error.kind.ErrorKind.{ErrorKind}
 use Rattle.clap.specs.declared.error.kind.ErrorKind.TheVariants.{DisplayHelp, DisplayVersion}
 use Rattle.lusdist_shell.specs.declared.request.Request.{Request}
 use Rattle.lusdist_shell.specs.declared.request.Request.TheVariants.{Eval, Replay, Run as AsksRun}
-use Rattle.lusdist_answers.specs.Evaluated.{IsDumped, IsDumpedTo}
+use Rattle.lusdist_meaning.specs.Evaluated.{IsDumped, IsDumpedTo}
 use Rattle.lusdist_stop.specs.Files.{IsUnwritten}
-use Rattle.lusdist_answers.specs.Waved.{IsReplayDumped, IsRunDumped}
+use Rattle.lusdist_meaning.specs.Waved.{IsReplayDumped, IsRunDumped}
 use Rattle.lusdist_shell.specs.declared.sink.Sink.{Sink}
 use Rattle.lusdist_shell.specs.Sinks.{HasPut, HasLine, HasBeginning}
 use Rattle.lusdist_shell.specs.CommandLine.{lusdist}
 use Rattle.lusdist_shell.specs.Request.{IsAskedBy}
 use Rattle.lusdist_stop.specs.declared.stop.Stop.{Stop}
-use Rattle.lusdist_answers.specs.Asked.{IsAnswer, AreNotes}
-use Rattle.lusdist_answers.specs.Stopped.{IsRequestStopped}
+use Rattle.lusdist_meaning.specs.Asked.{IsAnswer, AreNotes}
+use Rattle.lusdist_meaning.specs.Stopped.{IsRequestStopped}
 use Rattle.lusdist_stop.specs.Statuses.{status_of}
 use Rattle.lusdist_commands.specs.Reasons.{HasRefusal}
 

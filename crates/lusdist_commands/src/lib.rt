@@ -1,15 +1,17 @@
-//! Calls of the program: from the words of a command line and the files that they name to what is printed.
+//! Calls of the program: from the words of a command line to what is printed, by what each command answers.
 //!
-//! - [`serve_words`]: a call, from its words to its exit status.
+//! - [`serve_with`]: a call, from its words to its exit status.
+//! - [`Commands`]: what each command answers, and why a text is refused. `lusdist_answers` has it for files.
 //! - `reasons`: what is told of a refusal behind its line.
-//! - Of `lusdist_answers`, what each command answers from its files.
 //! - [`Stop`], [`Mistake`] of `lusdist_stop`: why a call stops.
 //!
-//! It is a library, so that it is checked without the linking of a program; `lusdist` is its `main`.
+//! It stands below what answers the commands, so that it is checked without all of that.
 #![tactic(auto)]
 
+mod commands;
 mod reasons;
 mod serve;
 
+pub use commands::Commands;
 pub use lusdist_stop::{Mistake, Stop};
-pub use serve::serve_words;
+pub use serve::serve_with;

@@ -1,253 +1,58 @@
 //! What is told of a refusal behind its line, where that is asked for.
 
-ghost use Rattle.std.specs.Prelude.{◌≡◌, IfOk, string_bytes};
-ghost use Rattle.lusdist_commands.specs.Reasons.{asks_why, program_path, place_path, table_path, schedule_path, blamed_path, IsReason, IsToldBehind, HasRefusal};
-ghost use Rattle.lusdist_stop.specs.declared.stop.Stop.TheVariants as stops;
-ghost use Rattle.lucore.specs.declared.error.CoreError.TheVariants as flats;
+ghost use Rattle.std.specs.Prelude.{◌≡◌, string_bytes};
+ghost use Rattle.lusdist_commands.specs.Reasons.{asks_why, IsToldBehind, HasRefusal};
 
-use lucore::CoreError;
-use luexplain::{of_cycle, of_fault, of_place, of_rule, of_schedule, of_size, of_syntax, of_table};
-use luflow::FaultKind;
-use luplace_file::PlaceError;
-use lusdist_answers::sources::program_of;
-use lusdist_shell::{Files, Request, ScheduleError, Sink};
-use lusdist_stop::{Stop, read};
-use lustat_rules::StatError;
-use lusyn::SynError;
-use lutab::TabError;
-use lutree::Program;
+use crate::commands::Commands;
+use lusdist_shell::{Request, Sink};
+use lusdist_stop::Stop;
 use std::alloc::Global;
 use std::io::Write;
 
-/// The paths that a request names, each empty where it names none, and whether it asks why a text is refused.
-#[derive(Clone, Copy)]
-struct Asked<'a> {
-    main: &'a str,
-    program: &'a str,
-    place: &'a str,
-    table: &'a str,
-    schedule: &'a str,
-    why: bool,
-}
-
-/// What a request names.
-fn asked_in<'a>(request: Request<'a>) -> Asked<'a>
-    ensures why { result.why ≡ asks_why request.entry }
-    ensures program { result.program.now ≡ program_path request.entry }
-    ensures place { result.place.now ≡ place_path request.entry }
-    ensures table { result.table.now ≡ table_path request.entry }
-    ensures schedule { result.schedule.now ≡ schedule_path request.entry }
+/// Whether a request asks why a text is refused.
+fn asks_why(request: Request<'_>) -> bool
+    ensures { result ≡ asks_why request.entry }
 {
-    let (main, program, why) = match request {
-        Request::Check(asked) => (asked.main, asked.program, asked.explain),
-        Request::Eval(asked) => (asked.main, asked.program, asked.explain),
-        Request::Plan(asked) => (asked.main, asked.program, asked.explain),
-        Request::Replay(asked) => (asked.main, asked.program, asked.explain),
-        Request::Run(asked) => (asked.main, asked.program, asked.explain),
-        Request::Explain(_) => ("", "", false),
-    };
-    let (place, table, schedule) = match request {
-        Request::Check(_) | Request::Explain(_) => ("", "", ""),
-        Request::Eval(asked) => ("", asked.table, ""),
-        Request::Plan(asked) => (asked.place, "", ""),
-        Request::Replay(asked) => (asked.place, asked.table, asked.schedule),
-        Request::Run(asked) => (asked.place, asked.table, ""),
-    };
-    Asked {
-        main,
-        program,
-        place,
-        table,
-        schedule,
-        why,
-    }
-}
-
-/// Why a text is no program.
-fn of_text<F: Files>(alloc: Global, files: &F, path: &str, error: &SynError) -> Result<String, Stop>
-    ensures { IfOk result (λ told. IsReason (F.gives files.now) path.now (stops.Syntax error.now)
-        (string_bytes told)) }
-{
-    let text = read(alloc, files, path)?;
-    Ok(of_syntax(alloc, path, &text, error)?)
-}
-
-/// Why a program's file isn't even text.
-fn of_bytes<F: Files>(alloc: Global, files: &F, path: &str) -> Result<String, Stop>
-    ensures { IfOk result (λ told. IsReason (F.gives files.now) path.now stops.NotAscii
-        (string_bytes told)) }
-{
-    let text = read(alloc, files, path)?;
-    Ok(of_syntax(alloc, path, &text, &SynError::NotAscii)?)
-}
-
-/// Which rule a program breaks.
-fn of_rules<F: Files>(
-    alloc: Global,
-    files: &F,
-    path: &str,
-    main: &str,
-    error: &StatError,
-) -> Result<String, Stop>
-    ensures { IfOk result (λ told. IsReason (F.gives files.now) path.now (stops.Rules error.now)
-        (string_bytes told)) }
-{
-    let text = read(alloc, files, path)?;
-    let program = program_of(alloc, &text)?;
-    Ok(of_rule(alloc, path, &text, &program, main, error)?)
-}
-
-/// Why a program has no flat program.
-fn of_flat<F: Files>(
-    alloc: Global,
-    files: &F,
-    path: &str,
-    main: &str,
-    error: &CoreError,
-) -> Result<String, Stop>
-    ensures { IfOk result (λ told. IsReason (F.gives files.now) path.now (stops.Flat error.now)
-        (string_bytes told)) }
-{
-    let text = read(alloc, files, path)?;
-    match error {
-        CoreError::Cycle { variable } => {
-            let program = program_of(alloc, &text)?;
-            Ok(of_cycle(alloc, path, &text, &program, main, variable.as_str())?)
-        }
-        CoreError::TooLarge => Ok(of_size(alloc, path)?),
-        CoreError::OutOfMemory => Err(Stop::OutOfMemory),
-    }
-}
-
-/// Where an operator has no value.
-fn of_value<F: Files>(
-    alloc: Global,
-    files: &F,
-    path: &str,
-    main: &str,
-    variable: &str,
-    instant: u32,
-    kind: FaultKind,
-) -> Result<String, Stop>
-    ensures { IfOk result (λ told. IsReason (F.gives files.now) path.now
-        (stops.Fault variable.now instant kind) (string_bytes told)) }
-{
-    let text = read(alloc, files, path)?;
-    let program = program_of(alloc, &text)?;
-    Ok(of_fault(alloc, path, &text, &program, main, variable, instant, kind)?)
-}
-
-/// The program of a file that is read again.
-fn program_at<F: Files>(alloc: Global, files: &F, path: &str) -> Result<Program, Stop> {
-    let text = read(alloc, files, path)?;
-    program_of(alloc, &text)
-}
-
-/// Why a placement is refused.
-fn of_placement<F: Files>(
-    alloc: Global,
-    files: &F,
-    asked: Asked<'_>,
-    error: &PlaceError,
-) -> Result<String, Stop>
-    ensures { IfOk result (λ told. IsReason (F.gives files.now) asked.entry.place.now
-        (stops.Place error.now) (string_bytes told)) }
-{
-    let program = program_at(alloc, files, asked.program)?;
-    let text = read(alloc, files, asked.place)?;
-    Ok(of_place(alloc, asked.place, &text, &program, asked.main, error)?)
-}
-
-/// Why a table is refused.
-fn of_inputs<F: Files>(
-    alloc: Global,
-    files: &F,
-    asked: Asked<'_>,
-    error: &TabError,
-) -> Result<String, Stop>
-    ensures { IfOk result (λ told. IsReason (F.gives files.now) asked.entry.table.now
-        (stops.Table error.now) (string_bytes told)) }
-{
-    let program = program_at(alloc, files, asked.program)?;
-    let text = read(alloc, files, asked.table)?;
-    Ok(of_table(alloc, asked.table, &text, &program, asked.main, error)?)
-}
-
-/// Why a schedule is refused.
-fn of_turns<F: Files>(
-    alloc: Global,
-    files: &F,
-    path: &str,
-    error: &ScheduleError,
-) -> Result<String, Stop>
-    ensures { IfOk result (λ told. IsReason (F.gives files.now) path.now
-        (stops.Schedule error.now) (string_bytes told)) }
-{
-    let text = read(alloc, files, path)?;
-    Ok(of_schedule(alloc, path, &text, error)?)
-}
-
-/// The reason of a stop; an error where no text is to blame, where its file can't be read again or isn't what it was, or where memory runs out.
-fn reason<F: Files>(
-    alloc: Global,
-    files: &F,
-    request: Request<'_>,
-    stop: &Stop,
-) -> Result<String, Stop>
-    ensures { IfOk result (λ told. IsReason (F.gives files.now)
-        (blamed_path request.entry stop.now) stop.now (string_bytes told)) }
-{
-    let asked = asked_in(request);
-    match stop {
-        Stop::NotAscii => of_bytes(alloc, files, asked.program),
-        Stop::Syntax(e) => of_text(alloc, files, asked.program, e),
-        Stop::Rules(e) => of_rules(alloc, files, asked.program, asked.main, e),
-        Stop::Flat(e) => of_flat(alloc, files, asked.program, asked.main, e),
-        Stop::Place(e) => of_placement(alloc, files, asked, e),
-        Stop::Table(e) => of_inputs(alloc, files, asked, e),
-        Stop::Schedule(e) => of_turns(alloc, files, asked.schedule, e),
-        Stop::Fault {
-            variable,
-            instant,
-            kind,
-        } => of_value(
-            alloc,
-            files,
-            asked.program,
-            asked.main,
-            variable.as_str(),
-            *instant,
-            *kind,
-        ),
-        _ => Err(Stop::OutOfMemory),
+    match request {
+        Request::Check(asked) => asked.explain,
+        Request::Eval(asked) => asked.explain,
+        Request::Plan(asked) => asked.explain,
+        Request::Replay(asked) => asked.explain,
+        Request::Run(asked) => asked.explain,
+        Request::Explain(_) => false,
     }
 }
 
 /// What is told behind the line of a stop: where the request asks for it, where the stop stands in the text that is to blame, what is wrong there, and how
 /// to mend it. The texts are read once more. Nothing where no text is to blame, where its file can't be read again, or where memory runs out.
-pub fn told_behind<F: Files>(alloc: Global, files: &F, request: Request<'_>, stop: &Stop) -> String
-    ensures { IsToldBehind (F.gives files.now) request.entry stop.now (string_bytes result) }
+pub fn told_behind<C: Commands>(
+    commands: &C,
+    alloc: Global,
+    request: Request<'_>,
+    stop: &Stop,
+) -> String
+    ensures { IsToldBehind (C.gives commands.now) request.entry stop.now (string_bytes result) }
 {
-    if !asked_in(request).why {
+    if !asks_why(request) {
         return String::new(alloc);
     }
-    match reason(alloc, files, request, stop) {
+    match commands.reason(alloc, request, stop) {
         Ok(told) => told,
         Err(_) => String::new(alloc),
     }
 }
 
 /// Writes a refusal to the error stream: its line, and what is told behind it. Where memory runs out for that, the line alone.
-pub fn put_refusal<F: Files, V: Write>(
+pub fn put_refusal<C: Commands, V: Write>(
+    commands: &C,
     alloc: Global,
-    files: &F,
     request: Request<'_>,
     stop: Stop,
     err: &mut Sink<V>,
 )
-    ensures { HasRefusal (F.gives files.now) request.entry stop V.contents err.old err.new }
+    ensures { HasRefusal (C.gives commands.now) request.entry stop V.contents err.old err.new }
 {
-    let told = told_behind(alloc, files, request, &stop);
+    let told = told_behind(commands, alloc, request, &stop);
     if told.is_empty() {
         err.put_line(stop);
         return;

@@ -5,65 +5,51 @@ ghost use Rattle.std.specs.Io.KnownBytes.{Appends};
 ghost use Rattle.clap.specs.Words.{takes};
 ghost use Rattle.lusdist_shell.specs.CommandLine.{lusdist};
 ghost use Rattle.lusdist_shell.specs.Request.{HasFewWorkers};
-ghost use Rattle.lusdist_answers.specs.Asked.{IsAnswer, AreNotes, AskForNoTrace, IsDone};
-ghost use Rattle.lusdist_answers.specs.Stopped.{IsRequestStopped, IsRefusal};
+ghost use Rattle.lusdist_meaning.specs.Asked.{IsAnswer, AreNotes, AskForNoTrace, IsDone};
+ghost use Rattle.lusdist_meaning.specs.Stopped.{IsRequestStopped, IsRefusal};
 ghost use Rattle.lusdist_commands.specs.Left.{AreFiled, AreFiledTo, IsEnded, IsCallEnded};
 ghost use Rattle.lusdist_stop.specs.declared.stop.Stop.{Stop};
 
+use crate::commands::Commands;
 use crate::reasons::put_refusal;
-use lusdist_answers::answering::{check_text, eval_text, plan_answer, run_text};
-use lusdist_answers::explaining::explained;
-use lusdist_answers::replaying::replay_answer;
-use lusdist_shell::{Files, Progress, Request, Sink, parse, put_mistake};
+use lusdist_shell::{Request, Sink, parse, put_mistake};
 use lusdist_stop::{Said, Stop, put_said};
 use std::alloc::Global;
 use std::io::Write;
-use std::sync::Wait;
-use std::thread::Threads;
 
 /// What the command that is asked for prints.
-fn answer<R: Threads + Wait + Sync, F: Files, P: Progress>(
-    rt: &R,
-    alloc: Global,
-    request: Request<'_>,
-    files: &F,
-    progress: &P,
-) -> Result<Said, Stop>
+fn answer<C: Commands>(commands: &C, alloc: Global, request: Request<'_>) -> Result<Said, Stop>
     requires { HasFewWorkers request }
-    ensures text { IfOk result (λ a. IsAnswer (F.gives files.now) request.entry
+    ensures text { IfOk result (λ a. IsAnswer (C.gives commands.now) request.entry
         (string_bytes a.text)) }
-    ensures notes { IfOk result (λ a. AreNotes (F.gives files.now) request.entry
+    ensures notes { IfOk result (λ a. AreNotes (C.gives commands.now) request.entry
         (string_bytes a.notes)) }
-    ensures filed { OnOk result (AreFiled (F.gives files.now) (F.takes files.now) request.entry) }
-    ensures stopped { IfErr result (IsRequestStopped (F.gives files.now) request.entry) }
-    ensures before { IfErr result (AreFiledTo (F.gives files.now) (F.takes files.now)
+    ensures filed { OnOk result (AreFiled (C.gives commands.now) (C.takes commands.now)
+        request.entry) }
+    ensures stopped { IfErr result (IsRequestStopped (C.gives commands.now) request.entry) }
+    ensures before { IfErr result (AreFiledTo (C.gives commands.now) (C.takes commands.now)
         request.entry) }
 {
     match request {
-        Request::Check(request) => Ok(Said::plain(alloc, check_text(alloc, request, files)?)),
-        Request::Eval(request) => Ok(Said::plain(alloc, eval_text(alloc, request, files)?)),
-        Request::Plan(request) => Ok(Said::plain(alloc, plan_answer(alloc, request, files)?)),
-        Request::Replay(request) => replay_answer(alloc, request, files),
-        Request::Run(request) => Ok(Said::plain(
-            alloc,
-            run_text(rt, alloc, request, files, progress)?,
-        )),
-        Request::Explain(request) => Ok(Said::plain(alloc, explained(alloc, request)?)),
+        Request::Check(request) => Ok(Said::plain(alloc, commands.check(alloc, request)?)),
+        Request::Eval(request) => Ok(Said::plain(alloc, commands.eval(alloc, request)?)),
+        Request::Plan(request) => Ok(Said::plain(alloc, commands.plan(alloc, request)?)),
+        Request::Replay(request) => commands.replay(alloc, request),
+        Request::Run(request) => Ok(Said::plain(alloc, commands.run(alloc, request)?)),
+        Request::Explain(request) => Ok(Said::plain(alloc, commands.explain(alloc, request)?)),
     }
 }
 
 /// Does what the words asked for.
-fn perform<R: Threads + Wait + Sync, F: Files, P: Progress, W: Write, V: Write>(
-    rt: &R,
+fn perform<C: Commands, W: Write, V: Write>(
+    commands: &C,
     alloc: Global,
     request: Request<'_>,
-    files: &F,
-    progress: &P,
     out: &mut Sink<W>,
     err: &mut Sink<V>,
 ) -> u8
     requires { HasFewWorkers request }
-    ensures { IsEnded (F.gives files.now) (F.takes files.now) request.entry result (record {
+    ensures { IsEnded (C.gives commands.now) (C.takes commands.now) request.entry result (record {
       out = out.old;
       out_after = out.new;
       err = err.old;
@@ -72,38 +58,27 @@ fn perform<R: Threads + Wait + Sync, F: Files, P: Progress, W: Write, V: Write>(
       held_err = V.contents;
     }) }
 {
-    match answer(rt, alloc, request, files, progress) {
+    match answer(commands, alloc, request) {
         Ok(found) => put_said(out, err, &found),
         Err(stop) => {
             let status = stop.status();
-            put_refusal(alloc, files, request, stop, err);
+            put_refusal(commands, alloc, request, stop, err);
             status
         }
     }
 }
 
-/// One call of the program, of which the first word is the program's name. Answers the exit status: 0 where it is done,
-/// also where a site of a replay faulted, and for help; 1 where a text is refused; 2 for a mistake in the words or a file that
-/// can't be read; 3 for a fault of an evaluation or a run, a run that was cut short, want of memory, or output or a dump that can't be
-/// written. A refusal is one line on the error stream, with its reason behind it where that is asked for; where a replay is asked to tell its turns, they are told there. A run waits for its threads; the other commands wait for nobody.
-///
-/// Where a dump is asked for, its file is written before the answer: of an evaluation that of the whole table, or, where it stops at a
-/// fault, of all instants before it; of a run that of the whole outputs, and none where it stops; of a replay that of the outputs as far as
-/// they were passed. Where it can't be written, that is told in place of the answer or the fault.
-///
-/// Where a run is asked to tell how far it has come, the progress is told, by the threads that serve the sites. It is handed the number
-/// of a site and an instant and nothing of the values; what it does with them isn't in the contract.
-pub fn serve_words<R: Threads + Wait + Sync, F: Files, P: Progress, W: Write, V: Write>(
-    rt: &R,
+/// One call of the program, by what its commands answer: `lusdist_answers::serve_words` hands it those of the distributor, and says there how a call ends.
+/// The first word is the program's name.
+pub fn serve_with<C: Commands, W: Write, V: Write>(
+    commands: &C,
     alloc: Global,
     words: &[String],
-    files: &F,
-    progress: &P,
     out: &mut Sink<W>,
     err: &mut Sink<V>,
 ) -> u8
     // With which status a call ends, and what it leaves in the two streams.
-    ensures ended { IsCallEnded (F.gives files.now) (F.takes files.now)
+    ensures ended { IsCallEnded (C.gives commands.now) (C.takes commands.now)
         (map string_bytes words.entry.now) result (record {
           out = out.old;
           out_after = out.new;
@@ -115,7 +90,7 @@ pub fn serve_words<R: Threads + Wait + Sync, F: Files, P: Progress, W: Write, V:
 
     // Where the command line takes the words and the call is done, the text that they ask for went to the output.
     ensures done { takes lusdist (map string_bytes words.entry.now) ≡ true → result ≡ 0
-        → (text : List ℕ) × IsDone (F.gives files.now) (map string_bytes words.entry.now) text
+        → (text : List ℕ) × IsDone (C.gives commands.now) (map string_bytes words.entry.now) text
         × Appends (W.contents out.old.writer) (W.contents out.new.writer) text }
 
     // Where a text or a file is refused, or the words are, nothing goes to the output.
@@ -123,16 +98,17 @@ pub fn serve_words<R: Threads + Wait + Sync, F: Files, P: Progress, W: Write, V:
 
     // Where a text is refused, it is for what the text says; and where words that the command line takes end with status 2, a
     // file can't be read, or no page has the code that is to be explained.
-    ensures text { result ≡ 1 → IsRefusal (F.gives files.now) (map string_bytes words.entry.now) 1 }
+    ensures text { result ≡ 1
+        → IsRefusal (C.gives commands.now) (map string_bytes words.entry.now) 1 }
     ensures file { takes lusdist (map string_bytes words.entry.now) ≡ true → result ≡ 2
-        → IsRefusal (F.gives files.now) (map string_bytes words.entry.now) 2 }
+        → IsRefusal (C.gives commands.now) (map string_bytes words.entry.now) 2 }
 
     // Where the call is done and no turns are to be told, nothing goes to the error stream.
     ensures silent { result ≡ 0 → AskForNoTrace (map string_bytes words.entry.now)
         → err.new ≡ err.old }
 {
     match parse(alloc, words) {
-        Ok(request) => perform(rt, alloc, request, files, progress, out, err),
+        Ok(request) => perform(commands, alloc, request, out, err),
         Err(mistake) => put_mistake(out, err, &mistake),
     }
 }

@@ -19,7 +19,7 @@ use crate::lines::put_line;
 use crate::paper::Paper;
 use crate::printing::put_printed;
 use crate::tries::{put_tried, words_of};
-use lusdist_commands::serve_words;
+use lusdist_answers::serve_words;
 use lusdist_shell::{Files, ReadError, RealFiles, Silent, Sink, WriteError, text_of};
 use std::alloc::{AllocError, Global};
 use std::cell::Cell;

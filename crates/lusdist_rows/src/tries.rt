@@ -1,6 +1,6 @@
 //! An example by many schedules at several capacities, and by several crews: each has to end as its evaluation does.
 
-use lusdist_commands::serve_words;
+use lusdist_answers::serve_words;
 use lusdist_shell::{Files, ReadError, Silent, Sink, WriteError, text_of};
 use std::alloc::{AllocError, Global};
 use std::io;

@@ -6,7 +6,7 @@
 //! - `graph`: `lugraph`.
 //! - `stages`: clocks and initialisation of texts that the stage before refuses, and of programs that no text has.
 //! - `flats`: what a program that keeps all rules lends, and flat lists with their ranks and owners (`lustat`, `lucore`).
-//! - `operators`: values of one flow at one instant (`lueval`).
+//! - `operators`: operators at data of the wrong types and at nil (`lueval`).
 //! - `streams`: tables that fit a program, its streams and outputs (`luflow`, `lueval`).
 //! - `values`: lists of values (`luflow`).
 //!

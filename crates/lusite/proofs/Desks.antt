@@ -6,7 +6,7 @@ use Rattle.luflow.specs.declared.data.Status.{Status}
 use Rattle.luflow.specs.declared.data.Status.TheVariants.{Absent}
 use Rattle.luworld.specs.Needs.{Distribution}
 use Rattle.luworld.specs.Runs.{streams_of, knows, cell, items_before}
-use Rattle.lueval_lines.specs.declared.kernel.Past.{Past}
+use Rattle.lueval_lines.specs.declared.past.Past.{Past}
 use Rattle.lusite.specs.declared.desk.Desk.{Desk}
 use Rattle.lueval_lines.specs.Frames.{later}
 use Rattle.luflow.specs.Program.{flow_at, flows_of}

@@ -9,7 +9,7 @@ use Rattle.luflow.specs.declared.data.Status.TheVariants as status
 use Rattle.luflow.specs.declared.form.Outcome.TheVariants as outcome
 use Rattle.luflow.specs.Values.{View, gives}
 use Rattle.luflow.proofs.Solutions.{some_at}
-use Rattle.lueval_lines.specs.declared.kernel.Past.{Past}
+use Rattle.lueval_lines.specs.declared.past.Past.{Past}
 use Rattle.lueval_lines.specs.declared.cell.Cell.{Cell}
 use Rattle.lueval_lines.specs.declared.cell.Cell.TheVariants.{Absent, Nil, Truth, Number, Name}
 use Rattle.lueval_lines.specs.Cells.{status_of, statuses, held, newest, view_of, last_in as last_cell, ticked_in as ticked_cell}

@@ -12,7 +12,7 @@ use Rattle.luflow.specs.declared.form.Clock.{Clock}
 use Rattle.luflow.specs.declared.form.Clock.TheVariants.{Base, On}
 use Rattle.luflow.specs.declared.form.Flow.{Flow}
 use Rattle.luworld.specs.Runs.{Run, streams_of, knows, link_into, listed, cell, endless, script, outline, is_open, IsFree, HasNoStop, items_before, IsJob, Fits, sends}
-use Rattle.lueval_lines.specs.declared.kernel.Past.{Past}
+use Rattle.lueval_lines.specs.declared.past.Past.{Past}
 use Rattle.luflow.specs.Streams.{Mark, Known, Streams, clock_at, either, ticked, newer, before, is_value, truth_in}
 use Rattle.luflow.specs.declared.form.Outcome.{Outcome}
 use Rattle.luflow.specs.declared.form.Outcome.TheVariants.{Gives, Faults, Stuck}

@@ -11,7 +11,7 @@ use Rattle.luflow.specs.Program.{flows_of, IsOrdered}
 use Rattle.luflow.proofs.Solutions.{some_at}
 use Rattle.luworld.specs.Needs.{Distribution}
 use Rattle.luworld.specs.Runs.{Run, streams_of, knows, items_before}
-use Rattle.lueval_lines.specs.declared.kernel.Past.{Past}
+use Rattle.lueval_lines.specs.declared.past.Past.{Past}
 use Rattle.lueval_lines.specs.Frames.{later}
 use Rattle.lusite.specs.declared.desk.Desk.{Desk}
 use Rattle.lusite.specs.declared.next.Next.{Next}

@@ -32,7 +32,7 @@ use Rattle.luworld.specs.Runs.{Run, Fits, streams_of, knows, sends, link_into, i
 use Rattle.luworld.proofs.Outlines.{bool_cases, cell_is, carrier_is, flow_of_carried, is_outline, shows_is}
 use Rattle.luworld.proofs.Cursor.{puts_done, takes_done}
 use Rattle.luworld.proofs.Messages.{newer_back, message_at, close_at}
-use Rattle.lueval_lines.specs.declared.kernel.Past.{Past}
+use Rattle.lueval_lines.specs.declared.past.Past.{Past}
 use Rattle.lueval_lines.specs.Frames.{datum_there, ticked_in, view_in, IsShown, IsPast}
 use Rattle.lueval_lines.proofs.Reading.{Holds, value_read}
 use Rattle.lusite.specs.declared.next.Next.{Next}

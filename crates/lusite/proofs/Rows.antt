@@ -11,7 +11,7 @@ use Rattle.luflow.specs.declared.message.Body.{Body}
 use Rattle.luflow.specs.declared.message.Body.TheVariants.{Value, Close}
 use Rattle.luflow.specs.Program.{flows_of}
 use Rattle.luflow.proofs.Solutions.{some_at}
-use Rattle.lueval_lines.specs.declared.kernel.Past.{Past}
+use Rattle.lueval_lines.specs.declared.past.Past.{Past}
 use Rattle.lueval_lines.specs.declared.cell.Cell.{Cell}
 use Rattle.lueval_lines.specs.declared.cell.Cell.TheVariants as cells
 use Rattle.lueval_lines.specs.Cells.{status_of, statuses}

@@ -10,7 +10,7 @@ use Rattle.luworld.specs.Needs.{stands}
 use Rattle.luworld.specs.Runs.{Run, IsJob, Fits, streams_of, knows, link_into, listed, sends, cell, is_open, items_before, IsFree, endless}
 use Rattle.luworld.proofs.Cursor.{before_next_flow}
 use Rattle.luworld.proofs.Outlines.{cell_is}
-use Rattle.lueval_lines.specs.declared.kernel.Past.{Past}
+use Rattle.lueval_lines.specs.declared.past.Past.{Past}
 use Rattle.lusite.specs.Machine.{Stands}
 use Rattle.lusite_program.specs.Logs.{LogView, add_if, IsRow, IsLogged}
 use Rattle.lusite.proofs.Machine.{there}

@@ -9,7 +9,7 @@ use Rattle.luflow.specs.declared.data.Datum.TheVariants.{Nil}
 use Rattle.luflow.specs.declared.data.Status.{Status}
 use Rattle.luflow.specs.declared.data.Status.TheVariants.{Absent}
 use Rattle.luworld.specs.Runs.{Run, streams_of, IsFree, endless}
-use Rattle.lueval_lines.specs.declared.kernel.Past.{Past}
+use Rattle.lueval_lines.specs.declared.past.Past.{Past}
 use Rattle.luflow.specs.Program.{flows_of}
 use Rattle.lusite.specs.Machine.{Stands}
 use Rattle.luworld.proofs.Cursor.{before_start}

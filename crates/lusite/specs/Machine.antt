@@ -18,7 +18,7 @@ use Rattle.luflow.specs.Faults.{IsFault}
 use Rattle.luworld.specs.World.{Compute, Puts, Takes, puts_before, takes_before}
 use Rattle.luworld.specs.Needs.{stands}
 use Rattle.luworld.specs.Runs.{Run, IsJob, knows, cell, endless, script, system_of, is_open, HasNoStop, IsFree, items_before, link_list, streams_of}
-use Rattle.lueval_lines.specs.declared.kernel.Past.{Past}
+use Rattle.lueval_lines.specs.declared.past.Past.{Past}
 use Rattle.lueval_lines.specs.declared.cell.Cell.{Cell}
 use Rattle.lueval_lines.specs.declared.cell.Cell.TheVariants as cells
 use Rattle.lueval_lines.specs.Cells.{statuses, last_of, ticks_of, is_absent}

@@ -5,7 +5,7 @@ use Rattle.lueval_lines.specs.declared.error.EvalError.TheVariants.{Fault}
 use Rattle.lueval.specs.Whole.{IsAnswer}
 use Rattle.lutab_writing.specs.Outputs.{shown_of}
 use Rattle.luchart.proofs.CutLaws.{fit}
-use Rattle.lusdist_answers.specs.Evaluated.{AreEvaluated}
+use Rattle.lusdist_meaning.specs.Evaluated.{AreEvaluated}
 use Rattle.lusdist_answers.proofs.Outcomes.{are_before, cut_fine}
 use Rattle.lusdist_answers.proofs.evaluating.columns_before.Goals as goal
 

@@ -3,7 +3,7 @@ use Rattle.std.specs.Prelude.{not, slice_index}
 use Rattle.std.proofs.lemmas.Option.{slice_get-get_or}
 use Rattle.luflow.specs.declared.data.Status.{Status}
 use Rattle.luworld.specs.Runs.{streams_of, items_before}
-use Rattle.lueval_lines.specs.declared.kernel.Past.{Past}
+use Rattle.lueval_lines.specs.declared.past.Past.{Past}
 use Rattle.lueval_lines.specs.declared.cell.Cell.{Cell}
 use Rattle.lusite.specs.Machine.{Stands, is_faulted, shown_of, pasts_of, kept_in}
 use Rattle.lusite.specs.Logs.{logs_of}

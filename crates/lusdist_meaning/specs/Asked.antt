@@ -37,11 +37,11 @@ use Rattle.lumeaning.specs.Telling.{Telling, IsTrueOf}
 use Rattle.luweave_text.specs.WorldText.{IsWorldText}
 use Rattle.luweave_text.specs.Traced.{IsTraced}
 use Rattle.luweave_text.specs.declared.form.TraceForm.TheVariants as traces
-use Rattle.lusdist_answers.specs.TellingText.{telling_text, IsToldBy}
+use Rattle.lusdist_meaning.specs.TellingText.{telling_text, IsToldBy}
 use Rattle.luflow.specs.Tables.{Fits, OutputColumn}
 use Rattle.lutab_writing.specs.Outputs.{output_text}
-use Rattle.lusdist_answers.specs.Evaluated.{AreOutputsOf, IsEvaluated}
-use Rattle.lusdist_answers.specs.Explained.{code_in, explanation}
+use Rattle.lusdist_meaning.specs.Evaluated.{AreOutputsOf, IsEvaluated}
+use Rattle.lusdist_meaning.specs.Explained.{code_in, explanation}
 
 -- the flat program, from this main node, of the program that a text spells
 pub record HasFlat (text main : List ℕ) (flat : FlatProgram) : Type 0 where

@@ -16,8 +16,8 @@ use Rattle.luweave.specs.Headline.{IsFaithful}
 use Rattle.luweave_text.specs.Waves.{site_dump, AreOutputSignals}
 use Rattle.lusdist_shell.specs.declared.request.ReplayRequest.{ReplayRequest}
 use Rattle.lusdist_shell.specs.declared.request.RunRequest.{RunRequest}
-use Rattle.lusdist_answers.specs.Asked.{IsAskedFor, IsJobFor, IsWorldOf}
-use Rattle.lusdist_answers.specs.Evaluated.{AreOutputsOf}
+use Rattle.lusdist_meaning.specs.Asked.{IsAskedFor, IsJobFor, IsWorldOf}
+use Rattle.lusdist_meaning.specs.Evaluated.{AreOutputsOf}
 
 -- the path of the file that a dump is asked to be written into
 abbrev pub run_path : RunRequest → Option (List ℕ)

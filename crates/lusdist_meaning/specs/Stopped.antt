@@ -29,11 +29,11 @@ use Rattle.luflow.specs.Variables.{variable_name}
 use Rattle.lusource.specs.Source.{SourceStreams, IsSourceSolution}
 use Rattle.lusource.specs.Faults.{IsSourceFault}
 use Rattle.lusite.specs.Machine.{IsFaultAt}
-use Rattle.lusdist_answers.specs.Asked.{HasFlat, IsPlanFor, IsJobFor, IsAskedFor}
-use Rattle.lusdist_answers.specs.Evaluated.{IsFaultOf, IsPosedBy, wave_path}
-use Rattle.lusdist_answers.specs.Waved.{replay_path, run_path}
-use Rattle.lusdist_answers.specs.Explained.{code_in, IsExplainStopped}
-use Rattle.lusdist_answers.specs.Refused.{IsToldOf, IsProgramRefused, IsPlaceRefused, IsTableRefused}
+use Rattle.lusdist_meaning.specs.Asked.{HasFlat, IsPlanFor, IsJobFor, IsAskedFor}
+use Rattle.lusdist_meaning.specs.Evaluated.{IsFaultOf, IsPosedBy, wave_path}
+use Rattle.lusdist_meaning.specs.Waved.{replay_path, run_path}
+use Rattle.lusdist_meaning.specs.Explained.{code_in, IsExplainStopped}
+use Rattle.lusdist_meaning.specs.Refused.{IsToldOf, IsProgramRefused, IsPlaceRefused, IsTableRefused}
 
 -- the bytes of a schedule's file are refused so
 abbrev pub IsScheduleRefused : List ℕ → Stop → Type 0

@@ -10,8 +10,8 @@ use Rattle.lusdist_shell.specs.declared.request.Request.{Request}
 use Rattle.lusdist_shell.specs.declared.request.Request.TheVariants.{Run as AsksRun}
 use Rattle.lusdist_stop.specs.declared.stop.Stop.{Stop}
 use Rattle.lusdist_stop.specs.declared.stop.Stop.TheVariants.{CannotWrite, Syntax, Rules, Flat, Place, Table, Schedule, Fault, LinkLost, NoThread, OutOfMemory}
-use Rattle.lusdist_answers.specs.Asked.{IsAnswer}
-use Rattle.lusdist_answers.specs.Stopped.{IsRequestStopped}
+use Rattle.lusdist_meaning.specs.Asked.{IsAnswer}
+use Rattle.lusdist_meaning.specs.Stopped.{IsRequestStopped}
 use Rattle.lusdist_stop.specs.Statuses.{status_of}
 
 -- each file has one text, or none

@@ -1,0 +1,220 @@
+//! Why a text is refused.
+
+ghost use Rattle.std.specs.Prelude.{◌≡◌, IfOk, string_bytes};
+ghost use Rattle.lusdist_commands.specs.Reasons.{program_path, place_path, table_path, schedule_path, blamed_path, IsReason};
+ghost use Rattle.lusdist_stop.specs.declared.stop.Stop.TheVariants as stops;
+ghost use Rattle.lucore.specs.declared.error.CoreError.TheVariants as flats;
+
+use crate::sources::program_of;
+use lucore::CoreError;
+use luexplain::{of_cycle, of_fault, of_place, of_rule, of_schedule, of_size, of_syntax, of_table};
+use luflow::FaultKind;
+use luplace_file::PlaceError;
+use lusdist_shell::{Files, Request, ScheduleError};
+use lusdist_stop::{Stop, read};
+use lustat_rules::StatError;
+use lusyn::SynError;
+use lutab::TabError;
+use lutree::Program;
+use std::alloc::Global;
+
+/// The paths that a request names, each empty where it names none, and its main node.
+#[derive(Clone, Copy)]
+struct Asked<'a> {
+    main: &'a str,
+    program: &'a str,
+    place: &'a str,
+    table: &'a str,
+    schedule: &'a str,
+}
+
+/// What a request names.
+fn asked_in<'a>(request: Request<'a>) -> Asked<'a>
+    ensures program { result.program.now ≡ program_path request.entry }
+    ensures place { result.place.now ≡ place_path request.entry }
+    ensures table { result.table.now ≡ table_path request.entry }
+    ensures schedule { result.schedule.now ≡ schedule_path request.entry }
+{
+    let (main, program) = match request {
+        Request::Check(asked) => (asked.main, asked.program),
+        Request::Eval(asked) => (asked.main, asked.program),
+        Request::Plan(asked) => (asked.main, asked.program),
+        Request::Replay(asked) => (asked.main, asked.program),
+        Request::Run(asked) => (asked.main, asked.program),
+        Request::Explain(_) => ("", ""),
+    };
+    let (place, table, schedule) = match request {
+        Request::Check(_) | Request::Explain(_) => ("", "", ""),
+        Request::Eval(asked) => ("", asked.table, ""),
+        Request::Plan(asked) => (asked.place, "", ""),
+        Request::Replay(asked) => (asked.place, asked.table, asked.schedule),
+        Request::Run(asked) => (asked.place, asked.table, ""),
+    };
+    Asked {
+        main,
+        program,
+        place,
+        table,
+        schedule,
+    }
+}
+
+/// Why a text is no program.
+fn of_text<F: Files>(alloc: Global, files: &F, path: &str, error: &SynError) -> Result<String, Stop>
+    ensures { IfOk result (λ told. IsReason (F.gives files.now) path.now (stops.Syntax error.now)
+        (string_bytes told)) }
+{
+    let text = read(alloc, files, path)?;
+    Ok(of_syntax(alloc, path, &text, error)?)
+}
+
+/// Why a program's file isn't even text.
+fn of_bytes<F: Files>(alloc: Global, files: &F, path: &str) -> Result<String, Stop>
+    ensures { IfOk result (λ told. IsReason (F.gives files.now) path.now stops.NotAscii
+        (string_bytes told)) }
+{
+    let text = read(alloc, files, path)?;
+    Ok(of_syntax(alloc, path, &text, &SynError::NotAscii)?)
+}
+
+/// Which rule a program breaks.
+fn of_rules<F: Files>(
+    alloc: Global,
+    files: &F,
+    path: &str,
+    main: &str,
+    error: &StatError,
+) -> Result<String, Stop>
+    ensures { IfOk result (λ told. IsReason (F.gives files.now) path.now (stops.Rules error.now)
+        (string_bytes told)) }
+{
+    let text = read(alloc, files, path)?;
+    let program = program_of(alloc, &text)?;
+    Ok(of_rule(alloc, path, &text, &program, main, error)?)
+}
+
+/// Why a program has no flat program.
+fn of_flat<F: Files>(
+    alloc: Global,
+    files: &F,
+    path: &str,
+    main: &str,
+    error: &CoreError,
+) -> Result<String, Stop>
+    ensures { IfOk result (λ told. IsReason (F.gives files.now) path.now (stops.Flat error.now)
+        (string_bytes told)) }
+{
+    let text = read(alloc, files, path)?;
+    match error {
+        CoreError::Cycle { variable } => {
+            let program = program_of(alloc, &text)?;
+            Ok(of_cycle(alloc, path, &text, &program, main, variable.as_str())?)
+        }
+        CoreError::TooLarge => Ok(of_size(alloc, path)?),
+        CoreError::OutOfMemory => Err(Stop::OutOfMemory),
+    }
+}
+
+/// Where an operator has no value.
+fn of_value<F: Files>(
+    alloc: Global,
+    files: &F,
+    path: &str,
+    main: &str,
+    variable: &str,
+    instant: u32,
+    kind: FaultKind,
+) -> Result<String, Stop>
+    ensures { IfOk result (λ told. IsReason (F.gives files.now) path.now
+        (stops.Fault variable.now instant kind) (string_bytes told)) }
+{
+    let text = read(alloc, files, path)?;
+    let program = program_of(alloc, &text)?;
+    Ok(of_fault(alloc, path, &text, &program, main, variable, instant, kind)?)
+}
+
+/// The program of a file that is read again.
+fn program_at<F: Files>(alloc: Global, files: &F, path: &str) -> Result<Program, Stop> {
+    let text = read(alloc, files, path)?;
+    program_of(alloc, &text)
+}
+
+/// Why a placement is refused.
+fn of_placement<F: Files>(
+    alloc: Global,
+    files: &F,
+    asked: Asked<'_>,
+    error: &PlaceError,
+) -> Result<String, Stop>
+    ensures { IfOk result (λ told. IsReason (F.gives files.now) asked.entry.place.now
+        (stops.Place error.now) (string_bytes told)) }
+{
+    let program = program_at(alloc, files, asked.program)?;
+    let text = read(alloc, files, asked.place)?;
+    Ok(of_place(alloc, asked.place, &text, &program, asked.main, error)?)
+}
+
+/// Why a table is refused.
+fn of_inputs<F: Files>(
+    alloc: Global,
+    files: &F,
+    asked: Asked<'_>,
+    error: &TabError,
+) -> Result<String, Stop>
+    ensures { IfOk result (λ told. IsReason (F.gives files.now) asked.entry.table.now
+        (stops.Table error.now) (string_bytes told)) }
+{
+    let program = program_at(alloc, files, asked.program)?;
+    let text = read(alloc, files, asked.table)?;
+    Ok(of_table(alloc, asked.table, &text, &program, asked.main, error)?)
+}
+
+/// Why a schedule is refused.
+fn of_turns<F: Files>(
+    alloc: Global,
+    files: &F,
+    path: &str,
+    error: &ScheduleError,
+) -> Result<String, Stop>
+    ensures { IfOk result (λ told. IsReason (F.gives files.now) path.now
+        (stops.Schedule error.now) (string_bytes told)) }
+{
+    let text = read(alloc, files, path)?;
+    Ok(of_schedule(alloc, path, &text, error)?)
+}
+
+/// The reason of a stop; an error where no text is to blame, where its file can't be read again or isn't what it was, or where memory runs out.
+pub fn reason<F: Files>(
+    alloc: Global,
+    files: &F,
+    request: Request<'_>,
+    stop: &Stop,
+) -> Result<String, Stop>
+    ensures { IfOk result (λ told. IsReason (F.gives files.now)
+        (blamed_path request.entry stop.now) stop.now (string_bytes told)) }
+{
+    let asked = asked_in(request);
+    match stop {
+        Stop::NotAscii => of_bytes(alloc, files, asked.program),
+        Stop::Syntax(e) => of_text(alloc, files, asked.program, e),
+        Stop::Rules(e) => of_rules(alloc, files, asked.program, asked.main, e),
+        Stop::Flat(e) => of_flat(alloc, files, asked.program, asked.main, e),
+        Stop::Place(e) => of_placement(alloc, files, asked, e),
+        Stop::Table(e) => of_inputs(alloc, files, asked, e),
+        Stop::Schedule(e) => of_turns(alloc, files, asked.schedule, e),
+        Stop::Fault {
+            variable,
+            instant,
+            kind,
+        } => of_value(
+            alloc,
+            files,
+            asked.program,
+            asked.main,
+            variable.as_str(),
+            *instant,
+            *kind,
+        ),
+        _ => Err(Stop::OutOfMemory),
+    }
+}
