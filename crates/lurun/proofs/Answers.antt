@@ -1,5 +1,5 @@
 -- What a run of stations answers, by what is collected of their reports.
-use Rattle.std.proofs.Common.{◌≡◌, List, Ok, Err, sym, ◌∙◌, subst, inl, inr}
+use Rattle.std.proofs.Common.{◌≡◌, ◌⊎◌, List, Ok, Err, sym, ◌∙◌, subst, inl, inr}
 use Rattle.std.specs.declared.result.Result.{Result}
 use Rattle.luflow.specs.Tables.{OutputColumn}
 use Rattle.luworld.specs.Runs.{Run}
@@ -8,7 +8,7 @@ use Rattle.lurun_reports.specs.declared.error.RunError.{RunError}
 use Rattle.lurun_reports.specs.declared.error.RunError.TheVariants.{Fault, OutOfMemory, LinkLost, NoThread, WrongReports}
 use Rattle.lurun.specs.Answers.{IsRunAnswer}
 use Rattle.lurun_reports.specs.Reports.{AreToldOf, AreComplete, IsCollected}
-use Rattle.lurun.specs.Stations.{StationAt, AreOf, AreReportsOf, sites_at}
+use Rattle.lurun_threads.specs.Stations.{StationAt, AreOf, AreReportsOf, sites_at}
 use Rattle.lusite.specs.Machine.{IsFaultAt}
 use Rattle.lurun_reports.proofs.Lists.{all_at}
 use Rattle.lurun.proofs.Rearranged.{told_of, complete_as}
@@ -31,3 +31,8 @@ module _ (job : Run) (stations : List StationAt) (reports : List SiteAt) (of : A
 
   pub run_answer : (result : Result (List OutputColumn) RunError) → ((j : Run) → AreToldOf j reports → IsCollected j reports result) → IsRunAnswer job stations result
   run_answer result collected = answer result (collected job (told_of job stations reports are of))
+
+-- a run that has no reports, for want of memory or of a thread, may answer that
+pub stopped : (job : Run) (stations : List StationAt) (error : RunError) → (error ≡ OutOfMemory) ⊎ (error ≡ NoThread) → IsRunAnswer job stations (Err error)
+stopped job stations error (inl is) = subst (λ (e : RunError). IsRunAnswer job stations (Err e)) (sym is) tt
+stopped job stations error (inr is) = subst (λ (e : RunError). IsRunAnswer job stations (Err e)) (sym is) tt

@@ -14,9 +14,9 @@ use Rattle.lusite_program.proofs.Written.{slice_get-set_same, slice_get-set_othe
 use Rattle.lusite_program.proofs.Ranges.{filter_more}
 use Rattle.lulink.specs.Views.{SenderView, ReceiverView}
 use Rattle.lurun.specs.declared.making.Bench.{Bench}
-use Rattle.lurun.specs.Stations.{sender_at, receiver_at, sent_below, taken_below, sent_links, taken_links, IsUnusedSender, IsUnusedReceiver, IsNewStation}
+use Rattle.lurun_threads.specs.Stations.{sender_at, receiver_at, sent_below, taken_below, sent_links, taken_links, IsUnusedSender, IsUnusedReceiver, IsNewStation}
 use Rattle.lurun.specs.Making.{IsBench, AreBenches, IsSenderAdded, IsReceiverAdded}
-use Rattle.lurun.proofs.Acts.{same_Some}
+use Rattle.lurun_threads.proofs.Acts.{same_Some}
 
 pushed : {A : Type 0} (P : A → Type 0) (xs : List A) (y : A) → P y → ((k : ℕ) (x : A) → slice_get xs k ≡ Some x → P x) → (k : ℕ) (x : A) → slice_get (xs ++ y ∷ []) k ≡ Some x → P x
 pushed P [] y here each zero x e = subst P (same_Some y x e) here

@@ -1,7 +1,3 @@
-mod Acts
-mod Moves
 mod Rearranged
-mod Dealing
 mod Answers
 mod Benches
-mod Crosses

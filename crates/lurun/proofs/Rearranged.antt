@@ -15,7 +15,7 @@ use Rattle.luworld.specs.Needs.{sites_of}
 use Rattle.luworld.specs.Runs.{Run}
 use Rattle.lusite.specs.Sites.{SiteAt}
 use Rattle.lurun_reports.specs.Reports.{AreToldOf, AreComplete, is_of, is_one, are_complete}
-use Rattle.lurun.specs.Stations.{StationAt, AreOf, AreReportsOf, AreStations, sites_at, place_of, places}
+use Rattle.lurun_threads.specs.Stations.{StationAt, AreOf, AreReportsOf, AreStations, sites_at, place_of, places}
 use Rattle.lurun_reports.proofs.Lists.{all_at, all_from}
 
 -- ---- one order or another

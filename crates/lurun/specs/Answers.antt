@@ -6,7 +6,7 @@ use Rattle.lusite.specs.Machine.{IsFaultAt}
 use Rattle.lurun_reports.specs.declared.error.RunError.{RunError}
 use Rattle.lurun_reports.specs.declared.error.RunError.TheVariants.{Fault, OutOfMemory, LinkLost, NoThread, WrongReports}
 use Rattle.lurun_reports.specs.Reports.{AreComplete, AreIncomplete, AreOutputsOf, HasOutput}
-use Rattle.lurun.specs.Stations.{StationAt, sites_at}
+use Rattle.lurun_threads.specs.Stations.{StationAt, sites_at}
 
 -- Why a run has no outputs: a fault at which one of its sites stopped, or a site that was left before its end, and there is a
 -- station of each site; or memory, or a thread, was refused. Or a station is missing, or stands twice, or is of no site; or no

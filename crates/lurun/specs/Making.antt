@@ -4,7 +4,7 @@ use Rattle.luworld.specs.Needs.{sites_of}
 use Rattle.luworld.specs.Runs.{Run}
 use Rattle.lulink.specs.Views.{SenderView, ReceiverView}
 use Rattle.lurun.specs.declared.making.Bench.{Bench}
-use Rattle.lurun.specs.Stations.{sent_below, taken_below, sent_links, taken_links, IsUnusedSender, IsUnusedReceiver}
+use Rattle.lurun_threads.specs.Stations.{sent_below, taken_below, sent_links, taken_links, IsUnusedSender, IsUnusedReceiver}
 
 -- a new site of this number, with the unused ends of its links below a number, in order
 pub record IsBench (job : Run) (n s : ℕ) (b : Bench) : Type 0 where

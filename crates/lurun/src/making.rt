@@ -4,12 +4,12 @@ ghost use Rattle.std.specs.Prelude.{◌≡◌, ◌<◌, ◌≤◌, ◌+◌, IfOk
 ghost use Rattle.luworld.specs.Needs.{sites_of};
 ghost use Rattle.lurun.specs.declared.making.Bench.{Bench};
 ghost use Rattle.lurun_reports.specs.Reports.{AreComplete};
-ghost use Rattle.lurun.specs.Stations.{AreStations, AreOf, sites_at, sender_at, receiver_at};
+ghost use Rattle.lurun_threads.specs.Stations.{AreStations, AreOf, sites_at, sender_at, receiver_at};
 ghost use Rattle.lurun.specs.Making.{IsBench, AreBenches, IsSenderAdded, IsReceiverAdded};
 
-use crate::station::Station;
 use lulink::{Rx, Tx, open_link};
 use luplace::{Job, Plan};
+use lurun_threads::Station;
 use lusite::{LinkNo, Site, project};
 use luworld::Link;
 use std::alloc::{AllocError, Global};

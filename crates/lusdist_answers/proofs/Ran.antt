@@ -26,7 +26,7 @@ use Rattle.lurun_reports.specs.declared.error.RunError.{RunError}
 use Rattle.lurun_reports.specs.declared.error.RunError.TheVariants as run
 use Rattle.lurun.specs.Answers.{IsRunAnswer}
 use Rattle.lurun_reports.specs.Reports.{AreComplete, AreOutputsOf as AreRunOutputs, HasOutput}
-use Rattle.lurun.specs.Stations.{StationAt, sites_at}
+use Rattle.lurun_threads.specs.Stations.{StationAt, sites_at}
 use Rattle.lusdist_shell.specs.declared.request.RunRequest.{RunRequest}
 use Rattle.lusdist_stop.specs.declared.stop.Stop.{Stop}
 use Rattle.lusdist_stop.specs.declared.stop.Stop.TheVariants.{CannotRead, CannotWrite, NotAscii, Syntax, Rules, Flat, Place, Table, Schedule, Fault, LinkLost, NoThread, OutOfMemory, Mistaken}

@@ -6,7 +6,9 @@ ghost use Rattle.clap.specs.Words.{takes};
 ghost use Rattle.lusdist_shell.specs.CommandLine.{lusdist};
 ghost use Rattle.lusdist_meaning.specs.Asked.{AskForNoTrace, IsDone};
 ghost use Rattle.lusdist_meaning.specs.Stopped.{IsRefusal};
+ghost use Rattle.lusdist_shell.specs.Request.{AreFew};
 ghost use Rattle.lusdist_commands.specs.Left.{IsCallEnded};
+ghost use Rattle.lusdist_commands.specs.Runs.{IsRunAnswered};
 
 use crate::answering::{check_text, eval_text, plan_answer, run_text};
 use crate::explaining::explained;
@@ -15,7 +17,7 @@ use crate::replaying::replay_answer;
 use lusdist_commands::{Commands, serve_with};
 use lusdist_shell::{
     CheckRequest, EvalRequest, ExplainRequest, Files, PlanRequest, Progress, ReplayRequest,
-    Request, RunRequest, Sink,
+    Request, Sink,
 };
 use lusdist_stop::{Said, Stop};
 use std::alloc::Global;
@@ -23,15 +25,13 @@ use std::io::Write;
 use std::sync::Wait;
 use std::thread::Threads;
 
-/// The distributor: the files that it reads and writes, whose threads serve the sites of a run, and what is told how far a run
-/// has come.
-struct Distributor<'a, R, F, P> {
-    runtime: &'a R,
+/// The distributor over these files.
+#[derive(Clone, Copy, Drop)]
+struct Distributor<'a, F> {
     files: &'a F,
-    progress: &'a P,
 }
 
-impl<'a, R: Threads + Wait + Sync, F: Files, P: Progress> Commands for Distributor<'a, R, F, P> {
+impl<'a, F: Files> Commands for Distributor<'a, F> {
     ghost gives = { λ distributor. F.gives distributor.files.now };
 
     ghost takes = { λ distributor. F.takes distributor.files.now };
@@ -50,10 +50,6 @@ impl<'a, R: Threads + Wait + Sync, F: Files, P: Progress> Commands for Distribut
 
     fn replay(&self, alloc: Global, request: ReplayRequest<'_>) -> Result<Said, Stop> {
         replay_answer(alloc, request, self.files)
-    }
-
-    fn run(&self, alloc: Global, request: RunRequest<'_>) -> Result<String, Stop> {
-        run_text(self.runtime, alloc, request, self.files, self.progress)
     }
 
     fn explain(&self, alloc: Global, request: ExplainRequest<'_>) -> Result<String, Stop> {
@@ -114,10 +110,16 @@ pub fn serve_words<R: Threads + Wait + Sync, F: Files, P: Progress, W: Write, V:
     ensures silent { result ≡ 0 → AskForNoTrace (map string_bytes words.entry.now)
         → err.new ≡ err.old }
 {
-    let distributor = Distributor {
-        runtime: rt,
-        files,
-        progress,
-    };
-    serve_with(&distributor, alloc, words, out, err)
+    serve_with(
+        &Distributor { files },
+        |request| -> Result<String, Stop>
+            requires { AreFew request.workers }
+            ensures { IsRunAnswered (F.gives files.entry.now) (F.takes files.entry.now)
+                request.entry result }
+        { run_text(rt, alloc, request, files, progress) },
+        alloc,
+        words,
+        out,
+        err,
+    )
 }

@@ -1,23 +1,23 @@
 //! What each command answers.
 
 ghost use Rattle.std.specs.Prelude.{◌≡◌, ℕ, List, Option, Some, None, IfOk, IfErr, OnOk, string_bytes};
-ghost use Rattle.lusdist_shell.specs.Request.{AreFew};
 ghost use Rattle.lusdist_stop.specs.declared.stop.Stop.{Stop};
 ghost use Rattle.lusdist_stop.specs.Files.{IsUnwritten};
-ghost use Rattle.lusdist_meaning.specs.Asked.{IsChecked, IsPlanned, IsReplayed, IsNotedReplay, IsRan};
+ghost use Rattle.lusdist_meaning.specs.Asked.{IsChecked, IsPlanned, IsReplayed, IsNotedReplay};
 ghost use Rattle.lusdist_meaning.specs.Evaluated.{IsDumped, IsDumpedTo, IsEvaluated};
 ghost use Rattle.lusdist_meaning.specs.Explained.{code_in, explanation, IsExplainStopped};
-ghost use Rattle.lusdist_meaning.specs.Stopped.{IsCheckStopped, IsEvalRefused, IsPlanStopped, IsReplayStopped, IsRunStopped};
-ghost use Rattle.lusdist_meaning.specs.Waved.{IsReplayDumped, IsRunDumped};
+ghost use Rattle.lusdist_meaning.specs.Stopped.{IsCheckStopped, IsEvalRefused, IsPlanStopped, IsReplayStopped};
+ghost use Rattle.lusdist_meaning.specs.Waved.{IsReplayDumped};
 ghost use Rattle.lusdist_commands.specs.Reasons.{blamed_path, IsReason};
 
 use lusdist_shell::{
-    CheckRequest, EvalRequest, ExplainRequest, PlanRequest, ReplayRequest, Request, RunRequest,
+    CheckRequest, EvalRequest, ExplainRequest, PlanRequest, ReplayRequest, Request,
 };
 use lusdist_stop::{Said, Stop};
 use std::alloc::Global;
 
-/// What each command answers from the files that it names, and why a text is refused. `lusdist_answers` has it for files of any kind.
+/// What each command but a run answers from the files that it names, and why a text is refused. `lusdist_answers` has it for files of any kind. A run
+/// is handed beside it, since it starts threads.
 pub trait Commands {
     /// A read of the path may give these bytes, or none, where there is no file that can be read.
     ghost gives: { Self → List ℕ → Option (List ℕ) → Type 0 };
@@ -57,16 +57,6 @@ pub trait Commands {
         ensures filed { OnOk result (IsReplayDumped (gives self.now) (takes self.now)
             request.entry) }
         ensures stopped { IfErr result (IsReplayStopped (gives self.now) request.entry) }
-        ensures before { IfErr result (IsUnwritten (takes self.now)) };
-
-    /// What a run prints. The file of its dump is written before, where the request asks for one. It waits for its threads.
-    fn run(&self, alloc: Global, request: RunRequest<'_>) -> Result<String, Stop>
-        requires { AreFew request.workers }
-        ensures text { IfOk result (λ text. IsRan (gives self.now) request.entry
-            (string_bytes text)) }
-        ensures filed { OnOk result (IsRunDumped (gives self.now) (takes self.now)
-            request.entry) }
-        ensures stopped { IfErr result (IsRunStopped (gives self.now) request.entry) }
         ensures before { IfErr result (IsUnwritten (takes self.now)) };
 
     /// A page of the manual, or without a code a line for each.

@@ -1,7 +1,7 @@
 //! Calls of the program: from the words of a command line to what is printed, by what each command answers.
 //!
 //! - [`serve_with`]: a call, from its words to its exit status.
-//! - [`Commands`]: what each command answers, and why a text is refused. `lusdist_answers` has it for files.
+//! - [`Commands`]: what each command but a run answers, and why a text is refused. `lusdist_answers` has it for files; a run is handed beside it.
 //! - `reasons`: what is told of a refusal behind its line.
 //! - [`Stop`], [`Mistake`] of `lusdist_stop`: why a call stops.
 //!

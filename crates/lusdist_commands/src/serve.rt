@@ -7,19 +7,26 @@ ghost use Rattle.lusdist_shell.specs.CommandLine.{lusdist};
 ghost use Rattle.lusdist_shell.specs.Request.{HasFewWorkers};
 ghost use Rattle.lusdist_meaning.specs.Asked.{IsAnswer, AreNotes, AskForNoTrace, IsDone};
 ghost use Rattle.lusdist_meaning.specs.Stopped.{IsRequestStopped, IsRefusal};
+ghost use Rattle.lusdist_commands.specs.Runs.{Runs};
 ghost use Rattle.lusdist_commands.specs.Left.{AreFiled, AreFiledTo, IsEnded, IsCallEnded};
 ghost use Rattle.lusdist_stop.specs.declared.stop.Stop.{Stop};
 
 use crate::commands::Commands;
 use crate::reasons::put_refusal;
-use lusdist_shell::{Request, Sink, parse, put_mistake};
+use lusdist_shell::{Request, RunRequest, Sink, parse, put_mistake};
 use lusdist_stop::{Said, Stop, put_said};
 use std::alloc::Global;
 use std::io::Write;
 
 /// What the command that is asked for prints.
-fn answer<C: Commands>(commands: &C, alloc: Global, request: Request<'_>) -> Result<Said, Stop>
-    requires { HasFewWorkers request }
+fn answer<C: Commands, K: FnOnce(RunRequest<'_>) -> Result<String, Stop> + Drop>(
+    commands: &C,
+    run: K,
+    alloc: Global,
+    request: Request<'_>,
+) -> Result<Said, Stop>
+    requires few { HasFewWorkers request }
+    requires runs { Runs (K.pre run) (K.post run) (C.gives commands.now) (C.takes commands.now) }
     ensures text { IfOk result (λ a. IsAnswer (C.gives commands.now) request.entry
         (string_bytes a.text)) }
     ensures notes { IfOk result (λ a. AreNotes (C.gives commands.now) request.entry
@@ -35,20 +42,27 @@ fn answer<C: Commands>(commands: &C, alloc: Global, request: Request<'_>) -> Res
         Request::Eval(request) => Ok(Said::plain(alloc, commands.eval(alloc, request)?)),
         Request::Plan(request) => Ok(Said::plain(alloc, commands.plan(alloc, request)?)),
         Request::Replay(request) => commands.replay(alloc, request),
-        Request::Run(request) => Ok(Said::plain(alloc, commands.run(alloc, request)?)),
+        Request::Run(request) => Ok(Said::plain(alloc, run(request)?)),
         Request::Explain(request) => Ok(Said::plain(alloc, commands.explain(alloc, request)?)),
     }
 }
 
 /// Does what the words asked for.
-fn perform<C: Commands, W: Write, V: Write>(
+fn perform<
+    C: Commands,
+    K: FnOnce(RunRequest<'_>) -> Result<String, Stop> + Drop,
+    W: Write,
+    V: Write,
+>(
     commands: &C,
+    run: K,
     alloc: Global,
     request: Request<'_>,
     out: &mut Sink<W>,
     err: &mut Sink<V>,
 ) -> u8
-    requires { HasFewWorkers request }
+    requires few { HasFewWorkers request }
+    requires runs { Runs (K.pre run) (K.post run) (C.gives commands.now) (C.takes commands.now) }
     ensures { IsEnded (C.gives commands.now) (C.takes commands.now) request.entry result (record {
       out = out.old;
       out_after = out.new;
@@ -58,7 +72,7 @@ fn perform<C: Commands, W: Write, V: Write>(
       held_err = V.contents;
     }) }
 {
-    match answer(commands, alloc, request) {
+    match answer(commands, run, alloc, request) {
         Ok(found) => put_said(out, err, &found),
         Err(stop) => {
             let status = stop.status();
@@ -68,15 +82,15 @@ fn perform<C: Commands, W: Write, V: Write>(
     }
 }
 
-/// One call of the program, by what its commands answer: `lusdist_answers::serve_words` hands it those of the distributor, and says there how a call ends.
+/// One call of the program, by what its commands answer, and a run: `lusdist_answers::serve_words` hands it those of the distributor, and says there how a call ends.
 /// The first word is the program's name.
-pub fn serve_with<C: Commands, W: Write, V: Write>(
-    commands: &C,
-    alloc: Global,
-    words: &[String],
-    out: &mut Sink<W>,
-    err: &mut Sink<V>,
-) -> u8
+pub fn serve_with<
+    C: Commands,
+    K: FnOnce(RunRequest<'_>) -> Result<String, Stop> + Drop,
+    W: Write,
+    V: Write,
+>(commands: &C, run: K, alloc: Global, words: &[String], out: &mut Sink<W>, err: &mut Sink<V>) -> u8
+    requires { Runs (K.pre run) (K.post run) (C.gives commands.now) (C.takes commands.now) }
     // With which status a call ends, and what it leaves in the two streams.
     ensures ended { IsCallEnded (C.gives commands.now) (C.takes commands.now)
         (map string_bytes words.entry.now) result (record {
@@ -108,7 +122,7 @@ pub fn serve_with<C: Commands, W: Write, V: Write>(
         → err.new ≡ err.old }
 {
     match parse(alloc, words) {
-        Ok(request) => perform(commands, alloc, request, out, err),
+        Ok(request) => perform(commands, run, alloc, request, out, err),
         Err(mistake) => put_mistake(out, err, &mistake),
     }
 }

@@ -1,7 +1,7 @@
 use Rattle.std.proofs.Common.{◌≡◌, ℕ, suc, ◌+◌, ◌∷◌, [], length, length-append, sym, ap, ◌∙◌, subst, rules, arith}
 use Rattle.std.specs.Prelude.{slice_get, vec_len}
 use Rattle.luworld.specs.Needs.{Distribution, sites_of}
-use Rattle.lurun.specs.Stations.{IsStationOf}
+use Rattle.lurun_threads.specs.Stations.{IsStationOf}
 use Rattle.lurun.specs.Making.{IsBench}
 use Rattle.lurun.proofs.Benches.{new_station}
 use Rattle.lurun_reports.proofs.Lists.{pushed_at}

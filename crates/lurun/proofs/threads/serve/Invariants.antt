@@ -1,5 +1,0 @@
-use Rattle.lurun.specs.Stations.{IsSameSite, Fits}
-use Rattle.lurun.proofs.threads.serve.Given as goal
-
-abbrev pub invariant-loop : goal.invariant-loop
-invariant-loop g l = IsSameSite l.initial.site l.site × Fits l.site l.txs.items l.rxs.items

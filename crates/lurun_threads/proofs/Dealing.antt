@@ -1,0 +1,110 @@
+-- Stations go to workers, and reports come back: each once.
+use Rattle.std.proofs.Common.{◌≡◌, ℕ, zero, suc, ◌<◌, List, [], ◌∷◌, ◌++◌, length, map, Some, All, get_or, set, sym, ap, ◌∙◌, subst, ap₂, append_assoc, append-nil}
+use Rattle.std.specs.Prelude.{slice_get, slice_set, flat_map, swap_remove}
+use Rattle.std.specs.List.Sorted.{IsPermutation}
+use Rattle.std.specs.Option.{option_map}
+use Rattle.std.proofs.lemmas.List.{length-map, map-append, map-set, set-get_or}
+use Rattle.std.proofs.lemmas.Option.{get_or_from_slice_get, slice_get-map}
+use Rattle.std.proofs.lemmas.List.Concat.{flat_map-append}
+use Rattle.std.proofs.lemmas.List.Elements.{All-push, All-same, All-head, All-tail}
+use Rattle.std.proofs.lemmas.List.Sorted.{IsPermutation-refl, IsPermutation-sym, IsPermutation-trans, IsPermutation-middle, IsPermutation-append_left, IsPermutation-append_right, IsPermutation-pop_more, IsPermutation-swap_remove, IsPermutation-map, length_permutation}
+use Rattle.luworld.specs.Runs.{Run}
+use Rattle.lusite.specs.Sites.{SiteAt}
+use Rattle.lurun_threads.specs.Stations.{StationAt, AreReportsOf, IsSameSite, ReportsFor, place_of, places}
+use Rattle.lurun_reports.proofs.Lists.{same_one}
+
+-- a fact of each element, as a list grows at its end or loses its head
+pub after_push : {A : Type 0} (P : A → Type 0) (xs ys : List A) (x : A) → ys ≡ xs ++ x ∷ [] → All P xs → P x → All P ys
+after_push P xs ys x e all p = All-same P ys _ e (All-push P xs x all p)
+
+pub after_next : {A : Type 0} (P : A → Type 0) (xs rest : List A) (x : A) → xs ≡ x ∷ rest → All P xs → P x × All P rest
+after_next P xs rest x e all = let h = All-same P (x ∷ rest) xs (sym e) all in (All-head P x rest h, All-tail P x rest h)
+
+module _ {A B : Type 0} (f : A → List B) where
+  -- one more share
+  pub flat_push : (xs ys : List A) (x : A) → ys ≡ xs ++ x ∷ [] → flat_map f ys ≡ flat_map f xs ++ f x
+  flat_push xs ys x e = ap (flat_map f) e ∙ flat_map-append f xs (x ∷ []) ∙ ap (λ zs. flat_map f xs ++ zs) (append-nil (f x))
+
+  -- one of the shares has one thing more
+  pub one_dealt : (xs : List A) (i : ℕ) (x y : A) (b : B) → slice_get xs i ≡ Some x → f y ≡ f x ++ b ∷ [] → IsPermutation (b ∷ flat_map f xs) (flat_map f (slice_set xs i y))
+  one_dealt [] i x y b e g = absurd cc
+  one_dealt (z ∷ xs) zero x y b e g =
+      let same : f z ≡ f x = ap f (same_one z x e) in
+      let r = flat_map f xs in
+      let all : f y ++ r ≡ f z ++ (b ∷ r) = ap (λ zs. zs ++ r) (g ∙ ap (λ zs. zs ++ b ∷ []) (sym same)) ∙ append_assoc (f z) (b ∷ []) r in
+      subst (IsPermutation (b ∷ (f z ++ r))) (sym all) (IsPermutation-sym (f z ++ b ∷ r) (b ∷ (f z ++ r)) (IsPermutation-middle (f z) b r))
+  one_dealt (z ∷ xs) (suc i) x y b e g =
+      let r = flat_map f xs in
+      let s = flat_map f (slice_set xs i y) in
+      IsPermutation-trans (b ∷ (f z ++ r)) (f z ++ b ∷ r) (f z ++ s) (IsPermutation-sym (f z ++ b ∷ r) (b ∷ (f z ++ r)) (IsPermutation-middle (f z) b r)) (IsPermutation-append_right (f z) (b ∷ r) s (one_dealt xs i x y b e g))
+
+-- one of those that are left is dealt
+pub dealt_on : {B : Type 0} (all done more left rest : List B) (b : B) → left ≡ b ∷ rest → IsPermutation all (done ++ left) → IsPermutation (b ∷ done) more → IsPermutation all (more ++ rest)
+dealt_on all done more left rest b e p q =
+    IsPermutation-trans all (done ++ b ∷ rest) (more ++ rest) (subst (λ ls. IsPermutation all (done ++ ls)) e p)
+    (IsPermutation-trans (done ++ b ∷ rest) (b ∷ (done ++ rest)) (more ++ rest) (IsPermutation-middle done b rest) (IsPermutation-append_left rest (b ∷ done) more q))
+
+pub all_dealt : {B : Type 0} (all done left : List B) → left ≡ [] → IsPermutation all (done ++ left) → IsPermutation all done
+all_dealt all done left e p = subst (IsPermutation all) (ap (λ ls. done ++ ls) e ∙ append-nil done) p
+
+none_dealt : {B : Type 0} (all done : List B) → done ≡ [] → IsPermutation all (done ++ all)
+none_dealt all done e = subst (λ ds. IsPermutation all (ds ++ all)) (sym e) (IsPermutation-refl all)
+
+pub nothing_dealt : {B : Type 0} (all done left : List B) → done ≡ [] → left ≡ all → IsPermutation all (done ++ left)
+nothing_dealt all done left e same = subst (λ ls. IsPermutation all (done ++ ls)) (sym same) (none_dealt all done e)
+
+-- a worker has started with the first of the hands that are left
+pub started_on : {W H B : Type 0} (f : W → List B) (h : H → List B) (ws more : List W) (w : W) (left rest : List H) (x : H) (all : List B) → more ≡ ws ++ w ∷ [] → left ≡ x ∷ rest → f w ≡ h x → flat_map f ws ++ flat_map h left ≡ all → flat_map f more ++ flat_map h rest ≡ all
+started_on f h ws more w left rest x all e next same was =
+    ap (λ ps. ps ++ flat_map h rest) (flat_push f ws more w e ∙ ap (λ ps. flat_map f ws ++ ps) same) ∙ append_assoc (flat_map f ws) (h x) (flat_map h rest) ∙ ap (λ hs. flat_map f ws ++ flat_map h hs) (sym next) ∙ was
+
+-- the same for one thread a station
+pub thread_started : {W B : Type 0} (f : W → B) (ws more : List W) (w : W) (left rest : List B) (x : B) (all : List B) → more ≡ ws ++ w ∷ [] → left ≡ x ∷ rest → f w ≡ x → map f ws ++ left ≡ all → map f more ++ rest ≡ all
+thread_started f ws more w left rest x all e next same was =
+    ap (λ vs. map f vs ++ rest) e ∙ ap (λ bs. bs ++ rest) (map-append f ws (w ∷ [])) ∙ append_assoc (map f ws) (f w ∷ []) rest ∙ ap (λ b. map f ws ++ b ∷ rest) same ∙ ap (λ bs. map f ws ++ bs) (sym next) ∙ was
+
+-- ---- reports
+
+pub report_place : (s : StationAt) (r : SiteAt) → ReportsFor s r → place_of r ≡ place_of s.at
+report_place s r is = ap₂ (λ (j : Run) (n : ℕ). (j, n)) is.0 is.1
+
+-- a station leaves its place, and its report goes behind the others
+pub report_moved : (all left now rest : List (Run × ℕ)) (reports more : List SiteAt) (r : SiteAt) → IsPermutation all (map place_of reports ++ left) → now ≡ left → IsPermutation now (place_of r ∷ rest) → more ≡ reports ++ r ∷ [] → IsPermutation all (map place_of more ++ rest)
+report_moved all left now rest reports more r p same one e =
+    let here = subst (λ ls. IsPermutation all (map place_of reports ++ ls)) (sym same) p in
+    subst (λ rs. IsPermutation all (rs ++ rest)) (sym (ap (map place_of) e ∙ map-append place_of reports (r ∷ []))) (IsPermutation-pop_more all (map place_of reports) now rest (place_of r) here one)
+
+-- the reports of a worker go behind the others
+pub reports_moved : (all left rest : List (Run × ℕ)) (stations : List StationAt) (reports part more : List SiteAt) → IsPermutation all (map place_of reports ++ left) → left ≡ places stations ++ rest → AreReportsOf stations part → more ≡ reports ++ part → IsPermutation all (map place_of more ++ rest)
+reports_moved all left rest stations reports part more p e are m =
+    let rs = map place_of reports in
+    let ps = map place_of part in
+    let step : IsPermutation (rs ++ left) ((rs ++ ps) ++ rest) =
+    subst (λ ls. IsPermutation (rs ++ ls) ((rs ++ ps) ++ rest)) (sym e)
+    (subst (IsPermutation (rs ++ (places stations ++ rest))) (sym (append_assoc rs ps rest)) (IsPermutation-append_right rs (places stations ++ rest) (ps ++ rest) (IsPermutation-append_left rest (places stations) ps are))) in
+    subst (λ xs. IsPermutation all (xs ++ rest)) (sym (ap (map place_of) m ∙ map-append place_of reports part)) (IsPermutation-trans all (rs ++ left) ((rs ++ ps) ++ rest) p step)
+
+pub part_length : (stations : List StationAt) (part : List SiteAt) → AreReportsOf stations part → length part ≡ length stations
+part_length stations part are =
+    sym (length-map part place_of) ∙ length_permutation (places stations) (map place_of part) are ∙ length-map stations (λ (s : StationAt). place_of s.at)
+
+pub places_append : (xs ys : List StationAt) → places (xs ++ ys) ≡ places xs ++ places ys
+places_append xs ys = map-append (λ (s : StationAt). place_of s.at) xs ys
+
+-- a seat has gone on
+pub seat_kept : (seats : List StationAt) (i : ℕ) (s t : StationAt) → slice_get seats i ≡ Some s → IsSameSite s.at t.at → places (slice_set seats i t) ≡ places seats
+seat_kept seats i s t here same =
+    let f : StationAt → Run × ℕ = λ x. place_of x.at in
+    let d = f s in
+    map-set f seats i t ∙ ap (set (map f seats) i) (ap₂ (λ (j : Run) (n : ℕ). (j, n)) same.0 same.1 ∙ sym (get_or_from_slice_get (map f seats) i d d (slice_get-map f seats i ∙ ap (option_map f) here))) ∙ set-get_or (map f seats) i d
+
+-- a seat is taken out, and the last one comes into its place
+pub seat_out : (seats rest : List StationAt) (i : ℕ) (s : StationAt) (r : SiteAt) → i < length seats → s ≡ get_or seats i s → rest ≡ swap_remove seats i s → ReportsFor s r → IsPermutation (places seats) (place_of r ∷ places rest)
+seat_out seats rest i s r l is e of =
+    let moved = IsPermutation-map (λ (x : StationAt). place_of x.at) seats (s ∷ swap_remove seats i s) (IsPermutation-swap_remove seats i s l is) in
+    subst (λ (p : Run × ℕ). IsPermutation (places seats) (p ∷ places rest)) (sym (report_place s r of)) (subst (λ xs. IsPermutation (places seats) (place_of s.at ∷ places xs)) (sym e) moved)
+
+-- stations that are dealt are reported
+pub dealt_reports : (stations dealt : List StationAt) (reports : List SiteAt) → IsPermutation stations dealt → AreReportsOf dealt reports → AreReportsOf stations reports
+dealt_reports stations dealt reports p are =
+    IsPermutation-trans (places stations) (places dealt) (map place_of reports) (IsPermutation-map (λ (s : StationAt). place_of s.at) stations dealt p) are

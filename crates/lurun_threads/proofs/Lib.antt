@@ -1,0 +1,4 @@
+pub mod Acts
+mod Moves
+mod Dealing
+mod Crosses

@@ -1,0 +1,5 @@
+pub mod Stations
+pub mod Inside
+pub mod Workers
+pub mod Crew
+pub mod Hands

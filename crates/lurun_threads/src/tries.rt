@@ -1,0 +1,123 @@
+//! A site's items over the ends of its links, with no wait.
+#![tactic(auto, using(std::proofs::lemmas::Grind::elements))]
+
+ghost use Rattle.std.specs.Prelude.{◌≡◌, ◌<◌, length, List, slice_get, Some};
+ghost use Rattle.lulink.specs.Views.{SenderView, ReceiverView, IsNextToPut};
+ghost use Rattle.lusite.specs.Machine.{IsNext};
+ghost use Rattle.lurun_threads.specs.Crew.{is_done};
+ghost use Rattle.lurun_threads.specs.Stations.{AreSenders, AreReceivers, IsSameSite, Moves, IsPutAt, IsTakenAt, PutAs, TakenAs};
+
+use crate::ends::{receiver_place, sender_place};
+use luflow::Msg;
+use lulink::{Offer, Rx, Tx};
+use lusite::{LinkNo, Next, Site};
+
+/// What came of a try.
+#[derive(Clone, Copy, Drop)]
+pub enum Tried {
+    /// The item is done.
+    Done,
+    /// The link was full, or empty.
+    Blocked,
+    /// The site has no item more, or its link is lost.
+    Over,
+}
+
+/// Puts the next message of a link, if there is room.
+fn offer_end(tx: &mut Tx, msg: Msg) -> Tried
+    requires { IsNextToPut tx.old msg }
+    ensures { PutAs (is_done result) msg tx.old tx.new }
+{
+    match tx.offer(msg) {
+        Offer::Done => Tried::Done,
+        Offer::Full(_) => {
+            if tx.gone() {
+                Tried::Over
+            } else {
+                Tried::Blocked
+            }
+        }
+    }
+}
+
+/// Takes the next message of a link, if it is there; and whether one may come yet, where it isn't.
+fn poll_end(rx: &mut Rx) -> (Option<Msg>, bool)
+    ensures { TakenAs result.0 rx.old rx.new }
+{
+    match rx.poll() {
+        Some(msg) => (Some(msg), true),
+        None => {
+            if rx.gone() {
+                (rx.poll(), false)
+            } else {
+                (None, true)
+            }
+        }
+    }
+}
+
+fn offer_at(txs: &mut Vec<Tx>, i: usize, msg: Msg) -> Tried
+    requires within { i < length txs.old.items }
+    requires next { (t : SenderView) → slice_get txs.old.items i ≡ Some t → IsNextToPut t msg }
+    ensures { IsPutAt txs.old.items i (is_done result) msg txs.new.items }
+{
+    let tx = &mut txs[i];
+    offer_end(tx, msg)
+}
+
+fn poll_at(rxs: &mut Vec<Rx>, i: usize) -> (Option<Msg>, bool)
+    requires { i < length rxs.old.items }
+    ensures { IsTakenAt rxs.old.items i result.0 rxs.new.items }
+{
+    let rx = &mut rxs[i];
+    poll_end(rx)
+}
+
+/// Tries the put at hand. It is done where the answer says so, and else nothing has changed.
+pub fn offer_one(site: &mut Site, txs: &mut Vec<Tx>, link: LinkNo, msg: Msg) -> Tried
+    requires senders { AreSenders site.old txs.old.items }
+    requires next { IsNext site.old.job site.old.site site.old.done (Next.Put link msg) }
+    ensures senders { AreSenders site.new txs.new.items }
+    ensures receivers { (rxs : List ReceiverView) → AreReceivers site.old rxs
+        → AreReceivers site.new rxs }
+    ensures moved { Moves (is_done result) site.old site.new }
+    ensures site { IsSameSite site.old site.new }
+{
+    match sender_place(txs, link) {
+        Some(i) => {
+            match offer_at(txs, i, msg) {
+                Tried::Done => {
+                    site.sent();
+                    Tried::Done
+                }
+                Tried::Blocked => Tried::Blocked,
+                Tried::Over => Tried::Over,
+            }
+        }
+        None => Tried::Over,
+    }
+}
+
+/// Tries the take at hand. It is done where the answer says so, and else nothing has changed.
+pub fn poll_one(site: &mut Site, rxs: &mut Vec<Rx>, link: LinkNo) -> Tried
+    requires receivers { AreReceivers site.old rxs.old.items }
+    requires next { IsNext site.old.job site.old.site site.old.done (Next.Take link) }
+    ensures receivers { AreReceivers site.new rxs.new.items }
+    ensures senders { (txs : List SenderView) → AreSenders site.old txs → AreSenders site.new txs }
+    ensures moved { Moves (is_done result) site.old site.new }
+    ensures site { IsSameSite site.old site.new }
+{
+    match receiver_place(rxs, link) {
+        Some(i) => {
+            let (found, there) = poll_at(rxs, i);
+            match found {
+                Some(msg) => {
+                    site.given(msg);
+                    Tried::Done
+                }
+                None => { if there { Tried::Blocked } else { Tried::Over } }
+            }
+        }
+        None => Tried::Over,
+    }
+}
