@@ -1,19 +1,39 @@
 //! Rows, names and numbers.
 
 use lulist::{Name, Number, Row};
-use std::test::Fail;
+use std::alloc::{AllocError, Global};
 
 const GREATEST: u64 = 9_223_372_036_854_775_807;
 
+fn is_row(alloc: Global) -> Result<bool, AllocError> {
+    let row = Row::new(vec![in alloc; 3, 1, 2]?);
+    Ok(row.as_slice() == [3, 1, 2].as_slice())
+}
+
+fn is_speed(name: &Name) -> bool {
+    name.as_str() == "speed" && name.is("speed") && !name.is("speeds")
+}
+
+/// Whether a name and its copy are their text.
+fn is_name(alloc: Global, name: &Name) -> Result<bool, AllocError> {
+    Ok(is_speed(name) && is_speed(&name.copied(alloc)?))
+}
+
+/// The same of a name of a text.
+fn is_named(alloc: Global) -> Result<bool, AllocError> {
+    let name = Name::new(String::from_str(alloc, "speed")?);
+    is_name(alloc, &name)
+}
+
+fn is_nothing(alloc: Global) -> Result<bool, AllocError> {
+    Ok(Name::from_text(alloc, "")?.as_str() == "")
+}
+
 #[test]
-fn rows_names_and_numbers_have_what_they_are_made_of(rt: HostRuntime) -> Result<(), Fail> {
-    let row = Row::new(vec![in rt.alloc(); 3, 1, 2]?);
-    assert!(rt; row.as_slice() == [3, 1, 2].as_slice());
-    let name = Name::new(String::from_str(rt.alloc(), "speed")?);
-    let again = name.copied(rt.alloc())?;
-    assert!(rt; again.as_str() == "speed" && again.is("speed") && !again.is("speeds"));
-    assert!(rt; Name::from_text(rt.alloc(), "")?.as_str() == "");
-    Ok(())
+fn rows_and_names_have_what_they_are_made_of(rt: HostRuntime) {
+    assert!(rt; is_row(rt.alloc()).unwrap_or(false));
+    assert!(rt; is_named(rt.alloc()).unwrap_or(false));
+    assert!(rt; is_nothing(rt.alloc()).unwrap_or(false));
 }
 
 #[test]
