@@ -136,3 +136,9 @@ module _ {W V : Type 0} (gives : List ℕ → Option (List ℕ) → Type 0) (tak
   told n small (answered text notes e answer noted filed out) is = elim small [ inl one ↦ absurd (omega (arith, e, is, one)) | inr two ↦ absurd (omega (arith, e, is, two)) ]
   told n small (refused stop e stops filed err) is = record { request = request; asked = asked; stop = stop; stops = stops; status_is = sym is ∙ e }
   told n small (unwritten text e answer filed none begun) is = elim small [ inl one ↦ absurd (omega (arith, e, is, one)) | inr two ↦ absurd (omega (arith, e, is, two)) ]
+
+  -- where it ends with status 1 or 2, nothing goes to the output
+  pub kept : (status ≡ 1) ⊎ (status ≡ 2) → IsEnded gives takes request status streams → streams.out_after ≡ streams.out
+  kept small (answered text notes e answer noted filed out) = elim small [ inl one ↦ absurd (omega (arith, e, one)) | inr two ↦ absurd (omega (arith, e, two)) ]
+  kept small (refused stop e stops filed err) = err.kept
+  kept small (unwritten text e answer filed none begun) = elim small [ inl one ↦ absurd (omega (arith, e, one)) | inr two ↦ absurd (omega (arith, e, two)) ]

@@ -4,40 +4,20 @@ ghost use Rattle.std.specs.Prelude.{◌≡◌, ◌<◌, ◌⊎◌, ℕ, true, Li
 ghost use Rattle.std.specs.Io.KnownBytes.{Appends};
 ghost use Rattle.clap.specs.Words.{takes};
 ghost use Rattle.lusdist_shell.specs.CommandLine.{lusdist};
-ghost use Rattle.lusdist_shell.specs.Request.{AreFew, HasFewWorkers};
-ghost use Rattle.lusdist_meaning.specs.Asked.{IsAnswer, IsRan, AreNotes, AskForNoTrace, IsDone};
-ghost use Rattle.lusdist_meaning.specs.Stopped.{IsRequestStopped, IsRunStopped, IsRefusal};
-ghost use Rattle.lusdist_meaning.specs.Waved.{IsRunDumped};
-ghost use Rattle.lusdist_stop.specs.Files.{IsUnwritten};
+ghost use Rattle.lusdist_shell.specs.Request.{HasFewWorkers};
+ghost use Rattle.lusdist_meaning.specs.Asked.{IsAnswer, AreNotes, AskForNoTrace, IsDone};
+ghost use Rattle.lusdist_meaning.specs.Stopped.{IsRequestStopped, IsRefusal};
 ghost use Rattle.lusdist_commands.specs.Runs.{Runs};
 ghost use Rattle.lusdist_commands.specs.Left.{AreFiled, AreFiledTo, IsEnded, IsCallEnded};
 ghost use Rattle.lusdist_stop.specs.declared.stop.Stop.{Stop};
 
+use crate::asking::{checked, evaluated, ran, replayed};
 use crate::commands::Commands;
 use crate::reasons::put_refusal;
 use lusdist_shell::{Request, RunRequest, Sink, parse, put_mistake};
 use lusdist_stop::{Said, Stop, put_said};
 use std::alloc::Global;
 use std::io::Write;
-
-/// What a run prints, or why it stops, by what these commands read and write.
-fn ran<C: Commands, K: FnOnce(RunRequest<'_>) -> Result<String, Stop> + Drop>(
-    commands: &C,
-    run: K,
-    request: RunRequest<'_>,
-) -> Result<String, Stop>
-    requires few { AreFew request.workers }
-    requires runs { Runs (K.pre run) (K.post run) (C.gives commands.now) (C.takes commands.now) }
-    ensures text { IfOk result (λ text. IsRan (C.gives commands.now) request.entry
-        (string_bytes text)) }
-    ensures filed { OnOk result (IsRunDumped (C.gives commands.now) (C.takes commands.now)
-        request.entry) }
-    ensures stopped { IfErr result (IsRunStopped (C.gives commands.now) request.entry) }
-    ensures before { IfErr result (IsUnwritten (C.takes commands.now)) }
-{
-    let _ = commands;
-    run(request)
-}
 
 /// What the command that is asked for prints.
 fn answer<C: Commands, K: FnOnce(RunRequest<'_>) -> Result<String, Stop> + Drop>(
@@ -59,10 +39,10 @@ fn answer<C: Commands, K: FnOnce(RunRequest<'_>) -> Result<String, Stop> + Drop>
         request.entry) }
 {
     match request {
-        Request::Check(request) => Ok(Said::plain(alloc, commands.check(alloc, request)?)),
-        Request::Eval(request) => Ok(Said::plain(alloc, commands.eval(alloc, request)?)),
+        Request::Check(request) => Ok(Said::plain(alloc, checked(commands, alloc, request)?)),
+        Request::Eval(request) => Ok(Said::plain(alloc, evaluated(commands, alloc, request)?)),
         Request::Plan(request) => Ok(Said::plain(alloc, commands.plan(alloc, request)?)),
-        Request::Replay(request) => commands.replay(alloc, request),
+        Request::Replay(request) => replayed(commands, alloc, request),
         Request::Run(request) => Ok(Said::plain(alloc, ran(commands, run, request)?)),
         Request::Explain(request) => Ok(Said::plain(alloc, commands.explain(alloc, request)?)),
     }

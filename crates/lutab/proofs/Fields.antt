@@ -103,6 +103,12 @@ unfolding row_at
 empty_row [] bytes rest lt read = rw (← read) refl
 empty_row (k ∷ kinds) bytes rest lt read = absurd (omega arith)
 
+-- a line with fields
+pub some_row : (kinds : List Sort) (bytes : List ℕ) → 0 < length kinds → fields_at kinds bytes ≡ row_at kinds bytes
+unfolding row_at
+some_row [] bytes lt = absurd (omega arith)
+some_row (k ∷ kinds) bytes lt = refl
+
 -- the types of a row that is read, in a program with these types
 module _ (types : List Enum) where
   pub sort_at : (kinds : List Kind) (i : ℕ) (k : Kind) → get_or (sorts_in types kinds) i (sort_of types k) ≡ sort_of types (get_or kinds i k)

@@ -2,7 +2,7 @@ use Rattle.std.proofs.Common.{map, refl, inl, inr}
 use Rattle.std.specs.Prelude.{string_bytes}
 use Rattle.clap.specs.Words.{kind_of}
 use Rattle.lusdist_commands.specs.Left.IsCallEnded.{asked, helped, mistaken, no_memory, no_help}
-use Rattle.lusdist_commands.proofs.Ends.{done, quiet, told, which, memory, help, mistake}
+use Rattle.lusdist_commands.proofs.Ends.{done, quiet, kept, told, which, memory, help, mistake}
 use Rattle.lusdist_commands.proofs.serve.serve_with.Goals as goal
 
 pub returns-in-Ok-clause-ended : goal.returns-in-Ok-clause-ended
@@ -11,6 +11,10 @@ returns-in-Ok-clause-ended g c = asked c.in-Ok.request c.in-Ok.ensures.asked c.p
 pub returns-in-Ok-clause-done : goal.returns-in-Ok-clause-done
 returns-in-Ok-clause-done g c = λ taken zero.
     done (g.C.Commands.gives c.args.commands.now) (g.C.Commands.takes c.args.commands.now) (map string_bytes c.args.words.now) c.in-Ok.request c.in-Ok.ensures.asked c.perform.result _ c.perform.ensures zero
+
+pub returns-in-Ok-clause-refused : goal.returns-in-Ok-clause-refused
+returns-in-Ok-clause-refused g c = λ small.
+    kept (g.C.Commands.gives c.args.commands.now) (g.C.Commands.takes c.args.commands.now) (map string_bytes c.args.words.now) c.in-Ok.request c.in-Ok.ensures.asked c.perform.result _ small c.perform.ensures
 
 pub returns-in-Ok-clause-silent : goal.returns-in-Ok-clause-silent
 returns-in-Ok-clause-silent g c = λ zero none.

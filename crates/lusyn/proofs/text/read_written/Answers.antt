@@ -1,4 +1,4 @@
-use Rattle.std.proofs.Common.{Vec, Global, sym}
+use Rattle.std.proofs.Common.{Vec, Global, sym, rules}
 use Rattle.std.proofs.lemmas.Result.{err_from_is_err_and}
 use Rattle.lusyn_tokens.specs.declared.token.Lexeme.{Lexeme}
 use Rattle.lusyn.proofs.Whole.{lexer-only, lexer-refuses, scanned, parser-only, parser-refuses, many-only, many-refused, found-refuses, few-spelled, few-only}
@@ -28,6 +28,12 @@ returns-in_err-program-clause-refuses c =
     let p = err_from_is_err_and c.from_residual-in_err-program.result c.from_residual-in_err-program.ensures.1 in
     let s = scanned (λ (v : Vec Lexeme Global). v.items) c.in_ok-tokens.tokens c.args.text.now c.deref.result.now c.deref.ensures.value c.in_ok-tokens.ensures.tokens c.in_ok-tokens.ensures.only c.in_ok-tokens.ensures.refuses in
     rw (p.1, p.2) (λ error h. parser-refuses c.args.text.now c.deref.result.now c.in_err-program.field-0.0 error s c.in_err-program.ensures.only c.in_err-program.ensures.refuses h)
+
+pub returns-in_err-tokens-clause-refused : goal.returns-in_err-tokens-clause-refused
+returns-in_err-tokens-clause-refused c = search rules
+
+pub returns-in_err-program-clause-refused : goal.returns-in_err-program-clause-refused
+returns-in_err-program-clause-refused c = search rules
 
 pub returns-then-not-is_small-clause-only : goal.returns-then-not-is_small-clause-only
 returns-then-not-is_small-clause-only c = λ tree h few.

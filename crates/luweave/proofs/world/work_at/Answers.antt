@@ -1,0 +1,6 @@
+use Rattle.std.proofs.lemmas.Grind.{common_steps, elements}
+use Rattle.std.proofs.Common.{arith}
+use Rattle.luweave.proofs.world.work_at.Goals as goal
+
+pub returns : goal.returns
+returns c = grind (arith, common_steps, elements)
