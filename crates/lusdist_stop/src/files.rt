@@ -2,12 +2,22 @@
 
 ghost use Rattle.std.specs.Prelude.{◌≡◌, ◌⊎◌, IfOk, IfErr, OnOk, Some};
 ghost use Rattle.lusdist_stop.specs.Files.{IsUnread, IsUnfiledAt};
-ghost use Rattle.lusdist_stop.specs.declared.stop.Stop.TheVariants.{CannotWrite, OutOfMemory};
+ghost use Rattle.lusdist_stop.specs.declared.stop.Stop.TheVariants.{CannotRead, CannotWrite, OutOfMemory};
 
 use crate::stop::Stop;
 use lulist::Name;
 use lusdist_shell::{Files, ReadError};
 use std::alloc::Global;
+
+/// The stop for a file that can't be read.
+fn unread(alloc: Global, path: &str) -> Stop
+    ensures { (result ≡ OutOfMemory) ⊎ (result ≡ CannotRead path.now) }
+{
+    match Name::from_text(alloc, path) {
+        Ok(path) => Stop::CannotRead { path },
+        Err(_) => Stop::OutOfMemory,
+    }
+}
 
 /// The bytes of the file at the path.
 pub fn read<F: Files>(alloc: Global, files: &F, path: &str) -> Result<Vec<u8>, Stop>
@@ -17,9 +27,7 @@ pub fn read<F: Files>(alloc: Global, files: &F, path: &str) -> Result<Vec<u8>, S
     match files.read(alloc, path) {
         Ok(bytes) => Ok(bytes),
         Err(ReadError::OutOfMemory) => Err(Stop::OutOfMemory),
-        Err(ReadError::CannotRead) => Err(Stop::CannotRead {
-            path: Name::from_text(alloc, path)?,
-        }),
+        Err(ReadError::CannotRead) => Err(unread(alloc, path)),
     }
 }
 
