@@ -2,9 +2,10 @@
 
 use crate::find::type_at_place;
 use crate::place::put_shown;
-use crate::spelling::{put_on, put_sign, spelled};
+use crate::spelling::{put_on, put_sign};
 use lulist::Name;
 use lustat_scope::{ClockRef, PatternRef};
+use lusyn_printer::put_expr;
 use lutree::{Declaration, DeclaredName, Expr, Kind, Node, Program};
 use std::alloc::{AllocError, Global};
 
@@ -220,8 +221,10 @@ fn put_branch(text: &mut String, variable: &str, sign: PatternRef) -> Result<(),
     put_around(text, "` of the merge on ", variable, "")
 }
 
+/// An expression in its canonical form.
 fn put_value(text: &mut String, alloc: Global, e: &Expr) -> Result<(), AllocError> {
-    let value = spelled(alloc, e)?;
+    let mut value = String::new(alloc);
+    put_expr(&mut value, e)?;
     put_quoted(text, value.as_bytes())
 }
 

@@ -354,7 +354,7 @@ fn join_all<R: Threads>(rt: &R, workers: Vec<Worker>, mut all: Vec<SiteReport>) 
 ///
 /// # Errors
 ///
-/// Those of [`crate::reports_by_threads`].
+/// Those of [`crate::reports_by_threads`], of workers in place of threads.
 pub fn reports_by_crew<R: Threads + Wait + Sync, G: Gate>(
     rt: &R,
     alloc: Global,

@@ -148,7 +148,8 @@ fn join_all<R: Threads>(
 ///
 /// # Errors
 ///
-/// [`RunError::NoThread`] where a thread was refused, whatever the others report; [`RunError::OutOfMemory`].
+/// [`RunError::NoThread`] where a thread was refused, whatever the others report; [`RunError::OutOfMemory`] where there is no room for all
+/// threads and reports, and then none was started.
 pub fn reports_by_threads<R: Threads + Wait + Sync, G: Gate>(
     rt: &R,
     alloc: Global,

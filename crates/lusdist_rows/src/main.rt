@@ -1,5 +1,6 @@
-//! What the program answers to whole commands, and what is printed of texts. The input is a transcript of cases with no answers
-//! in it, and the output is the same transcript with what each of them answers; README.md has the form of its lines.
+//! What the program answers to whole commands, what is printed of texts, what links pass, and what jobs on threads and by crews
+//! come to. The input is a transcript of cases with no answers in it, and the output is the same transcript with what each of them
+//! answers; README.md and LINES.md have the forms of its lines.
 #![tactic(auto)]
 
 mod counters;

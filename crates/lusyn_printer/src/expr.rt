@@ -92,9 +92,13 @@ fn put_operand(text: &mut String, e: &Expr, least: u8) -> Result<(), AllocError>
     text.push(')')
 }
 
-/// An expression.
+/// Appends an expression in its canonical form: parentheses exactly where they are needed, one space between the parts.
+///
+/// # Errors
+///
+/// An error means that memory ran out; then the text ends anywhere in what is appended.
 #[cycle(printing)]
-pub(crate) fn put_expr(text: &mut String, e: &Expr) -> Result<(), AllocError>
+pub fn put_expr(text: &mut String, e: &Expr) -> Result<(), AllocError>
     ensures { IfOk result (λ _. string_bytes text.new ≡ string_bytes text.old
         ++ expression (written (view e.now))) }
 {

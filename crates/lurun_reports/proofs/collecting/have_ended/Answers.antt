@@ -21,4 +21,4 @@ pub returns-clause-all : goal.returns-clause-all
 returns-clause-all c = λ _. all_from HasEnded c.args.reports.now (λ p r at. c.loop-i.invariant p r (let w = slice_get_within c.args.reports.now p r at in omega (arith, w, c.loop-i-test.false)) at)
 
 pub returns-clause-not : goal.returns-clause-not
-returns-clause-not c = search rules
+returns-clause-not c = λ e. absurd cc

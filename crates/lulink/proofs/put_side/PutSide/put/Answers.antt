@@ -1,13 +1,20 @@
-use Rattle.std.proofs.Common.{◌≡◌, ◌+◌, ◌%◌, Some, sym, ap, ◌∙◌, subst, arith}
+use Rattle.std.proofs.Common.{◌≡◌, ◌+◌, ◌%◌, Some, ◌∷◌, sym, ap, ◌∙◌, subst, arith}
 use Rattle.std.specs.Prelude.{slice_get}
 use Rattle.std.proofs.lemmas.Bool.{ltb-true, ltb-false}
 use native.Mathlib.Nat.{mod-add-mod}
 use Rattle.lulink.specs.Words.{number}
 use Rattle.lulink.specs.Rings.{MovedTail}
 use Rattle.lulink.specs.Insides.{told_list}
+use Rattle.atomic_table.specs.Table.{rest}
 use Rattle.lulink.proofs.Steps.{moves_tail}
 use Rattle.lulink.proofs.Ends.{Holding, has_slot, held, put_side_moved}
 use Rattle.lulink.proofs.put_side.PutSide.put.Goals as goal
+
+pub exchange-requires : goal.exchange-requires
+exchange-requires c =
+    let i = c.requires.side in
+    let slot = has_slot i c.requires.ready in
+    (i.table, (slot.1.0, slot.1.1 ∙ (λ k. (c.args.self.now.slot, slot.1.0) ∷ rest (sym slot.1.1 k))))
 
 pub store-requires : goal.store-requires
 store-requires c =

@@ -1,4 +1,4 @@
-use Rattle.std.proofs.Common.{◌≡◌, ◌+◌, ◌%◌, Some, None, ◌∷◌, sym, ap, ◌∙◌, subst, arith}
+use Rattle.std.proofs.Common.{◌≡◌, ◌+◌, ◌%◌, Some, None, ◌∷◌, refl, sym, ap, ◌∙◌, subst, arith}
 use Rattle.std.proofs.lemmas.Bool.{ltb-true, ltb-false}
 use native.Mathlib.Nat.{mod-add-mod}
 use Rattle.lulink.specs.Words.{number}
@@ -41,3 +41,6 @@ returns-clause-side c =
     take_side_moved _ _ s i c.store.new.seat (c.store.ensures.0 ∙ c.exchange-found.ensures.0) slot.1.0 _ _ next (subst (λ v. MovedHead v c.store.new.seat.me) (ap (λ (m : Holding). m.0) me) c.store.ensures.2) slot.1.1
     (λ on. let l = ltb-true _ _ on in omega arith)
     (λ off. let l = ltb-false _ _ off in omega arith)
+
+pub returns-clause-count : goal.returns-clause-count
+returns-clause-count c = refl

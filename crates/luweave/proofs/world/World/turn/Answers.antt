@@ -1,4 +1,4 @@
-use Rattle.std.proofs.Common.{◌≡◌, ℕ, true, false, List, refl, sym, ap, ◌∙◌, subst, arith, rules}
+use Rattle.std.proofs.Common.{◌≡◌, ℕ, List, refl, sym, ap, ◌∙◌, subst, arith}
 use Rattle.std.proofs.lemmas.Option.{same_Some}
 use Rattle.luworld.specs.declared.turn.Turn.{Turn}
 use Rattle.luworld.specs.declared.turn.Turn.TheVariants.{Moved, Blocked, Over}
@@ -67,8 +67,7 @@ returns-then-not-has_room-clause-turn c =
     let a = c.self.inside in
     let j = a.first.value.job in
     let o = offer j a.sites.items a.lanes.items a.capacity c.args.site c.next_of.result (Put c.in-Put.l c.in-Put.msg) c.self.invariant (omega (arith, c.len.ensures)) c.next_of.ensures c.in-Put.is in
-    let r : c.has_room.result ≡ false = search rules in
-    let shut = sym c.has_room.ensures ∙ r in
+    let shut = sym c.has_room.ensures ∙ c.if-not-has_room.true in
     along (TurnIs Blocked c.args.site) c.args.self.now (record { job = j; dones = dones_of a.sites.items }) c.self.view_is (sym (put_blocked j a.sites.items a.lanes.items a.capacity c.args.site o.site c.self.invariant o.there c.in-Put.l c.in-Put.msg o.next shut))
 
 pub returns-then-not-has_room-clause-dones : goal.returns-then-not-has_room-clause-dones
@@ -76,8 +75,7 @@ returns-then-not-has_room-clause-dones c =
     let a = c.self.inside in
     let j = a.first.value.job in
     let o = offer j a.sites.items a.lanes.items a.capacity c.args.site c.next_of.result (Put c.in-Put.l c.in-Put.msg) c.self.invariant (omega (arith, c.len.ensures)) c.next_of.ensures c.in-Put.is in
-    let r : c.has_room.result ≡ false = search rules in
-    let shut = sym c.has_room.ensures ∙ r in
+    let shut = sym c.has_room.ensures ∙ c.if-not-has_room.true in
     along (λ x. x.dones ≡ step (system_of x.job) x.dones c.args.site) c.args.self.now (record { job = j; dones = dones_of a.sites.items }) c.self.view_is (stay Blocked j (dones_of a.sites.items) c.args.site (put_blocked j a.sites.items a.lanes.items a.capacity c.args.site o.site c.self.invariant o.there c.in-Put.l c.in-Put.msg o.next shut) refl)
 
 pub put_at-requires-clause-within : goal.put_at-requires-clause-within
@@ -99,8 +97,7 @@ invariant_of-self-in-Put c =
     let a = c.self.inside in
     let j = a.first.value.job in
     let o = offer j a.sites.items a.lanes.items a.capacity c.args.site c.next_of.result (Put c.in-Put.l c.in-Put.msg) c.self.invariant (omega (arith, c.len.ensures)) c.next_of.ensures c.in-Put.is in
-    let r : c.has_room.result ≡ true = search rules in
-    let may = sym c.has_room.ensures ∙ r in
+    let may = sym c.has_room.ensures ∙ c.if-not-has_room.false in
     subst (λ (xs : List SiteAt). IsWorld j xs c.put_at.new.lanes.items a.capacity) (sym (c.sent_at.ensures o.site o.there)) (world_put j a.sites.items a.lanes.items a.capacity c.args.site o.site c.self.invariant o.there c.in-Put.l c.in-Put.msg c.put_at.new.lanes.items o.next may c.put_at.ensures)
 
 pub returns-else-not-has_room-clause-turn : goal.returns-else-not-has_room-clause-turn
@@ -108,8 +105,7 @@ returns-else-not-has_room-clause-turn c =
     let a = c.self.inside in
     let j = a.first.value.job in
     let o = offer j a.sites.items a.lanes.items a.capacity c.args.site c.next_of.result (Put c.in-Put.l c.in-Put.msg) c.self.invariant (omega (arith, c.len.ensures)) c.next_of.ensures c.in-Put.is in
-    let r : c.has_room.result ≡ true = search rules in
-    let may = sym c.has_room.ensures ∙ r in
+    let may = sym c.has_room.ensures ∙ c.if-not-has_room.false in
     along (TurnIs Moved c.args.site) c.args.self.now (record { job = j; dones = dones_of a.sites.items }) c.self.view_is (sym (moved_is j a.sites.items a.lanes.items a.capacity c.args.site o.site c.self.invariant o.there (Puts c.in-Put.l) o.next.0 (may_put j a.sites.items a.lanes.items a.capacity c.args.site o.site c.self.invariant o.there c.in-Put.l c.in-Put.msg o.next may)))
 
 pub returns-else-not-has_room-clause-dones : goal.returns-else-not-has_room-clause-dones
@@ -117,8 +113,7 @@ returns-else-not-has_room-clause-dones c =
     let a = c.self.inside in
     let j = a.first.value.job in
     let o = offer j a.sites.items a.lanes.items a.capacity c.args.site c.next_of.result (Put c.in-Put.l c.in-Put.msg) c.self.invariant (omega (arith, c.len.ensures)) c.next_of.ensures c.in-Put.is in
-    let r : c.has_room.result ≡ true = search rules in
-    let may = sym c.has_room.ensures ∙ r in
+    let may = sym c.has_room.ensures ∙ c.if-not-has_room.false in
     along (StepIs (dones_of c.sent_at.new.sites.items) c.args.site) c.args.self.now (record { job = j; dones = dones_of a.sites.items }) c.self.view_is (ap dones_of (c.sent_at.ensures o.site o.there) ∙ step_is j a.sites.items a.lanes.items a.capacity c.args.site o.site c.self.invariant o.there (Puts c.in-Put.l) o.next.0 (may_put j a.sites.items a.lanes.items a.capacity c.args.site o.site c.self.invariant o.there c.in-Put.l c.in-Put.msg o.next may))
 
 pub returns-then-not-has_some-clause-turn : goal.returns-then-not-has_some-clause-turn
@@ -126,8 +121,7 @@ returns-then-not-has_some-clause-turn c =
     let a = c.self.inside in
     let j = a.first.value.job in
     let o = offer j a.sites.items a.lanes.items a.capacity c.args.site c.next_of.result (Take c.in-Take.l) c.self.invariant (omega (arith, c.len.ensures)) c.next_of.ensures c.in-Take.is in
-    let r : c.has_some.result ≡ false = search rules in
-    let shut = sym c.has_some.ensures ∙ r in
+    let shut = sym c.has_some.ensures ∙ c.if-not-has_some.true in
     along (TurnIs Blocked c.args.site) c.args.self.now (record { job = j; dones = dones_of a.sites.items }) c.self.view_is (sym (take_blocked j a.sites.items a.lanes.items a.capacity c.args.site o.site c.self.invariant o.there c.in-Take.l o.next shut))
 
 pub returns-then-not-has_some-clause-dones : goal.returns-then-not-has_some-clause-dones
@@ -135,8 +129,7 @@ returns-then-not-has_some-clause-dones c =
     let a = c.self.inside in
     let j = a.first.value.job in
     let o = offer j a.sites.items a.lanes.items a.capacity c.args.site c.next_of.result (Take c.in-Take.l) c.self.invariant (omega (arith, c.len.ensures)) c.next_of.ensures c.in-Take.is in
-    let r : c.has_some.result ≡ false = search rules in
-    let shut = sym c.has_some.ensures ∙ r in
+    let shut = sym c.has_some.ensures ∙ c.if-not-has_some.true in
     along (λ x. x.dones ≡ step (system_of x.job) x.dones c.args.site) c.args.self.now (record { job = j; dones = dones_of a.sites.items }) c.self.view_is (stay Blocked j (dones_of a.sites.items) c.args.site (take_blocked j a.sites.items a.lanes.items a.capacity c.args.site o.site c.self.invariant o.there c.in-Take.l o.next shut) refl)
 
 pub take_at-msg-requires-clause-within : goal.take_at-msg-requires-clause-within
@@ -151,8 +144,7 @@ given_at-requires-clause-next c v at =
     let a = c.self.inside in
     let j = a.first.value.job in
     let o = offer j a.sites.items a.lanes.items a.capacity c.args.site c.next_of.result (Take c.in-Take.l) c.self.invariant (omega (arith, c.len.ensures)) c.next_of.ensures c.in-Take.is in
-    let r : c.has_some.result ≡ true = search rules in
-    let may = sym c.has_some.ensures ∙ r in
+    let may = sym c.has_some.ensures ∙ c.if-not-has_some.false in
     let t = (take_some j a.sites.items a.lanes.items a.capacity c.args.site o.site c.self.invariant o.there c.in-Take.l o.next may c.take_at-msg.result c.take_at-msg.new.lanes.items c.take_at-msg.ensures).0 in
     let e = c.self.invariant.sites_are c.args.site o.site o.there in
     let t' = subst (λ (n : ℕ). IsTakeNext o.site.job n o.site.done c.take_at-msg.result) (sym e.1) (subst (λ (k : Run). IsTakeNext k c.args.site o.site.done c.take_at-msg.result) (sym e.0) t) in
@@ -163,8 +155,7 @@ invariant_of-self-in-Take c =
     let a = c.self.inside in
     let j = a.first.value.job in
     let o = offer j a.sites.items a.lanes.items a.capacity c.args.site c.next_of.result (Take c.in-Take.l) c.self.invariant (omega (arith, c.len.ensures)) c.next_of.ensures c.in-Take.is in
-    let r : c.has_some.result ≡ true = search rules in
-    let may = sym c.has_some.ensures ∙ r in
+    let may = sym c.has_some.ensures ∙ c.if-not-has_some.false in
     subst (λ (xs : List SiteAt). IsWorld j xs c.take_at-msg.new.lanes.items a.capacity) (sym (c.given_at.ensures o.site o.there)) (take_some j a.sites.items a.lanes.items a.capacity c.args.site o.site c.self.invariant o.there c.in-Take.l o.next may c.take_at-msg.result c.take_at-msg.new.lanes.items c.take_at-msg.ensures).1
 
 pub returns-else-not-has_some-clause-turn : goal.returns-else-not-has_some-clause-turn
@@ -172,8 +163,7 @@ returns-else-not-has_some-clause-turn c =
     let a = c.self.inside in
     let j = a.first.value.job in
     let o = offer j a.sites.items a.lanes.items a.capacity c.args.site c.next_of.result (Take c.in-Take.l) c.self.invariant (omega (arith, c.len.ensures)) c.next_of.ensures c.in-Take.is in
-    let r : c.has_some.result ≡ true = search rules in
-    let may = sym c.has_some.ensures ∙ r in
+    let may = sym c.has_some.ensures ∙ c.if-not-has_some.false in
     along (TurnIs Moved c.args.site) c.args.self.now (record { job = j; dones = dones_of a.sites.items }) c.self.view_is (sym (moved_is j a.sites.items a.lanes.items a.capacity c.args.site o.site c.self.invariant o.there (Takes c.in-Take.l) o.next.0 (may_take j a.sites.items a.lanes.items a.capacity c.args.site o.site c.self.invariant o.there c.in-Take.l o.next may)))
 
 pub returns-else-not-has_some-clause-dones : goal.returns-else-not-has_some-clause-dones
@@ -181,8 +171,7 @@ returns-else-not-has_some-clause-dones c =
     let a = c.self.inside in
     let j = a.first.value.job in
     let o = offer j a.sites.items a.lanes.items a.capacity c.args.site c.next_of.result (Take c.in-Take.l) c.self.invariant (omega (arith, c.len.ensures)) c.next_of.ensures c.in-Take.is in
-    let r : c.has_some.result ≡ true = search rules in
-    let may = sym c.has_some.ensures ∙ r in
+    let may = sym c.has_some.ensures ∙ c.if-not-has_some.false in
     along (StepIs (dones_of c.given_at.new.sites.items) c.args.site) c.args.self.now (record { job = j; dones = dones_of a.sites.items }) c.self.view_is (ap dones_of (c.given_at.ensures o.site o.there) ∙ step_is j a.sites.items a.lanes.items a.capacity c.args.site o.site c.self.invariant o.there (Takes c.in-Take.l) o.next.0 (may_take j a.sites.items a.lanes.items a.capacity c.args.site o.site c.self.invariant o.there c.in-Take.l o.next may))
 
 pub returns-in-Ended-clause-turn : goal.returns-in-Ended-clause-turn
