@@ -19,12 +19,22 @@ pub enum Step {
 }
 
 /// All steps, and the cycles.
-#[derive(Drop)]
 pub struct Plan {
     pub steps: Vec<Step>,
     pub cycles: Vec<Cycle>,
     /// The first flow that was placed of some clocks.
     firsts: Vec<usize>,
+}
+
+// By hand, so that it is proved here alone, and not in each crate that owns one.
+impl Drop for Plan {
+    fn drop(self) {
+        let Self {
+            steps: _,
+            cycles: _,
+            firsts: _,
+        } = self;
+    }
 }
 
 /// A search for the parts of a program of which each flow leads, by what it reads, to each other: those that a part reads are found before

@@ -11,10 +11,20 @@ use std::marker::Model;
 
 /// The streams of a program's main variables. A contract sees, for each main variable, the list of its statuses, one for
 /// each instant of the table.
-#[derive(Debug, Drop)]
+#[derive(Debug)]
 pub struct Streams {
     instants: u32,
     columns: Vec<Vec<Status>>,
+}
+
+// By hand, so that it is proved here alone, and not in each crate that owns one.
+impl Drop for Streams {
+    fn drop(self) {
+        let Self {
+            instants: _,
+            columns: _,
+        } = self;
+    }
 }
 
 impl Model for Streams {
@@ -58,7 +68,11 @@ impl Streams {
         requires some { 0 < length flat.now.variables }
         ensures { IfOk result (λ columns. columns ≡ columns_in flat.now.variables self) }
     {
-        let columns = taken_columns(alloc, flat.variables(), self.columns)?;
+        let Self {
+            instants: _,
+            columns,
+        } = self;
+        let columns = taken_columns(alloc, flat.variables(), columns)?;
         match Outputs::new(columns) {
             Some(columns) => Ok(columns),
             None => unreachable!(),

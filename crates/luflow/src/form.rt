@@ -17,7 +17,6 @@ pub enum Clock {
 }
 
 /// What a flow is made of. Operands are places of the flat program; an input has the number of its column.
-#[derive(Drop)]
 pub enum Form {
     /// The column of this number in the input table.
     Input(usize),
@@ -43,13 +42,42 @@ pub enum Form {
     Merge(usize, Row<usize>),
 }
 
+// By hand, so that it is proved here alone, and not in each crate that owns one.
+impl Drop for Form {
+    fn drop(self) {
+        match self {
+            Self::Input(_)
+            | Self::Constant(_)
+            | Self::Copied(_)
+            | Self::Unary(_, _)
+            | Self::Binary(_, _, _)
+            | Self::If(_, _, _)
+            | Self::Pre(_)
+            | Self::Arrow(_, _)
+            | Self::When(_)
+            | Self::Current(_)
+            | Self::Merge(_, _) => {}
+        }
+    }
+}
+
 /// One flow of a flat program.
-#[derive(Drop)]
 pub struct Flow {
     pub form: Form,
     pub clock: Clock,
     /// The type of its values.
     pub kind: Kind,
+}
+
+// By hand, so that it is proved here alone, and not in each crate that owns one.
+impl Drop for Flow {
+    fn drop(self) {
+        let Self {
+            form: _,
+            clock: _,
+            kind: _,
+        } = self;
+    }
 }
 
 impl Form {

@@ -9,9 +9,16 @@ use std::marker::Model;
 /// What the outputs of the main node have at each instant: for each output, in order of declaration, a name and a status for
 /// each instant. There is one output at least, and all have the same number of instants. A contract sees the list of
 /// `OutputColumn` of `specs/Tables.antt`.
-#[derive(Debug, Drop)]
+#[derive(Debug)]
 pub struct Outputs {
     columns: Vec<(String, Vec<Status>)>,
+}
+
+// By hand, so that it is proved here alone, and not in each crate that owns one.
+impl Drop for Outputs {
+    fn drop(self) {
+        let Self { columns: _ } = self;
+    }
 }
 
 impl Model for Outputs {

@@ -9,7 +9,7 @@ use lutree::Kind;
 use std::alloc::{AllocError, Global};
 
 /// A list of values in order. Lists of one type take fewer bytes. A contract reads the values by `data_in` of `specs/Packed.antt`.
-#[derive(Debug, Drop)]
+#[derive(Debug)]
 pub enum Values {
     /// Whole numbers, 8 bytes each.
     Numbers(Vec<i64>),
@@ -19,6 +19,15 @@ pub enum Values {
     Names(Vec<u8>),
     /// Any values, nil too, 16 bytes each.
     Mixed(Vec<Datum>),
+}
+
+// By hand, so that it is proved here alone, and not in each crate that owns one.
+impl Drop for Values {
+    fn drop(self) {
+        match self {
+            Self::Numbers(_) | Self::Truths(_) | Self::Names(_) | Self::Mixed(_) => {}
+        }
+    }
 }
 
 /// Adds a value at the end of a list that can hold it. Answers whether it can.

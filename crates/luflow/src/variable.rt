@@ -16,11 +16,17 @@ pub enum Role {
 }
 
 /// An enumeration of the program.
-#[derive(Drop)]
 pub struct Enum {
     pub name: Name,
     /// Its names, in order of declaration.
     pub names: Row<Name>,
+}
+
+// By hand, so that it is proved here alone, and not in each crate that owns one.
+impl Drop for Enum {
+    fn drop(self) {
+        let Self { name: _, names: _ } = self;
+    }
 }
 
 /// The names of a type of a program with these types, in order of declaration; none where it is no enumeration.
@@ -47,12 +53,23 @@ pub fn name_of(names: &[Name], number: u8) -> &str
 }
 
 /// A variable of the main node.
-#[derive(Debug, Drop)]
+#[derive(Debug)]
 pub struct Variable {
     pub name: Name,
     pub role: Role,
     /// The type of its values.
     pub kind: Kind,
+}
+
+// By hand, so that it is proved here alone, and not in each crate that owns one.
+impl Drop for Variable {
+    fn drop(self) {
+        let Self {
+            name: _,
+            role: _,
+            kind: _,
+        } = self;
+    }
 }
 
 /// Whether a variable of this role is an input.

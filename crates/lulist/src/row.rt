@@ -5,9 +5,15 @@ ghost use Rattle.std.specs.Prelude.{◌≡◌};
 use std::marker::Model;
 
 /// A list that never changes. A contract sees the list itself, so two rows with the same items are equal.
-#[derive(Drop)]
 pub struct Row<T> {
     items: Vec<T>,
+}
+
+// By hand, so that it is proved here alone, and not in each crate that owns one.
+impl<T: Drop> Drop for Row<T> {
+    fn drop(self) {
+        let Self { items: _ } = self;
+    }
 }
 
 impl<T> Model for Row<T> {
@@ -30,7 +36,8 @@ impl<T> Row<T> {
     pub fn into_items(self) -> Vec<T>
         ensures { result.items ≡ self }
     {
-        self.items
+        let Self { items } = self;
+        items
     }
 
     /// The items, in order.

@@ -9,9 +9,15 @@ use std::rc::Rc;
 
 /// A text that never changes and may have several owners, such as the name of the variable that many clocks name. It lies in memory
 /// once, however many they are. A contract sees its bytes, as those of a [`Name`].
-#[derive(Drop)]
 pub struct SharedName {
     name: Rc<Name>,
+}
+
+// By hand, so that it is proved here alone, and not in each crate that owns one.
+impl Drop for SharedName {
+    fn drop(self) {
+        let Self { name: _ } = self;
+    }
 }
 
 impl Model for SharedName {

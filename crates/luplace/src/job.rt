@@ -17,10 +17,16 @@ use std::marker::Model;
 use std::snapshot::Snapshot;
 
 /// A plan and the table of the inputs: what one run is about. A contract sees the `Run` of `luworld`.
-#[derive(Drop)]
 pub struct Job {
     plan: Plan,
     inputs: Inputs,
+}
+
+// By hand, so that it is proved here alone, and not in each crate that owns one.
+impl Drop for Job {
+    fn drop(self) {
+        let Self { plan: _, inputs: _ } = self;
+    }
 }
 
 impl Model for Job {
@@ -35,12 +41,23 @@ impl Model for Job {
 
 /// The number of instants and the columns of the main inputs that stand at one site, and no other data. It keeps, for
 /// contracts alone, which job and site it is of.
-#[derive(Drop)]
 pub struct SiteInputs {
     site: u8,
     instants: u32,
     columns: Row<Row<Datum>>,
     job: Snapshot<Job>,
+}
+
+// By hand, so that it is proved here alone, and not in each crate that owns one.
+impl Drop for SiteInputs {
+    fn drop(self) {
+        let Self {
+            site: _,
+            instants: _,
+            columns: _,
+            job: _,
+        } = self;
+    }
 }
 
 impl Model for SiteInputs {

@@ -20,7 +20,6 @@ use std::marker::Model;
 
 /// A plan: a flat program, its sites, where its main variables stand, and the links that follow. A contract sees the
 /// `Distribution` of `luworld`.
-#[derive(Drop)]
 pub struct Plan {
     flat: Flat,
     names: Row<Name>,
@@ -28,6 +27,20 @@ pub struct Plan {
     needs: Row<Row<usize>>,
     links: Row<Link>,
     capacity: u16,
+}
+
+// By hand, so that it is proved here alone, and not in each crate that owns one.
+impl Drop for Plan {
+    fn drop(self) {
+        let Self {
+            flat: _,
+            names: _,
+            placed: _,
+            needs: _,
+            links: _,
+            capacity: _,
+        } = self;
+    }
 }
 
 impl Model for Plan {

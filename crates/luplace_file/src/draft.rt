@@ -18,10 +18,19 @@ use std::alloc::Global;
 use toml::{Table, Value};
 
 /// A variable, and the names of the sites at which it is to stand.
-#[derive(Drop)]
 pub struct Wanted {
     pub variable: Name,
     pub sites: Row<Name>,
+}
+
+// By hand, so that it is proved here alone, and not in each crate that owns one.
+impl Drop for Wanted {
+    fn drop(self) {
+        let Self {
+            variable: _,
+            sites: _,
+        } = self;
+    }
 }
 
 /// What the keys say, before the rules on their values are tried.

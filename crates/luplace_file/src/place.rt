@@ -7,7 +7,6 @@ use lulist::{Name, Row};
 use std::marker::Model;
 
 /// A variable of the main node, and the sites at which it stands, by number, in order.
-#[derive(Drop)]
 pub struct Placed {
     /// The name of the variable.
     pub variable: Name,
@@ -15,14 +14,35 @@ pub struct Placed {
     pub sites: Row<u8>,
 }
 
+// By hand, so that it is proved here alone, and not in each crate that owns one.
+impl Drop for Placed {
+    fn drop(self) {
+        let Self {
+            variable: _,
+            sites: _,
+        } = self;
+    }
+}
+
 /// What a placement file says. A contract sees the `Placement` of `specs/Content.antt`, which keeps the rules of
 /// `specs/Lawful.antt`.
-#[derive(Drop)]
 pub struct Place {
     names: Row<Name>,
     default: Row<u8>,
     capacity: u16,
     entries: Row<Placed>,
+}
+
+// By hand, so that it is proved here alone, and not in each crate that owns one.
+impl Drop for Place {
+    fn drop(self) {
+        let Self {
+            names: _,
+            default: _,
+            capacity: _,
+            entries: _,
+        } = self;
+    }
 }
 
 impl Model for Place {

@@ -27,9 +27,15 @@ pub enum Standing {
 }
 
 /// What a site leaves: how it stands, and its outputs so far. A contract sees what it saw of the site.
-#[derive(Drop)]
 pub struct SiteReport {
     site: Site,
+}
+
+// By hand, so that it is proved here alone, and not in each crate that owns one.
+impl Drop for SiteReport {
+    fn drop(self) {
+        let Self { site: _ } = self;
+    }
 }
 
 impl Model for SiteReport {

@@ -48,7 +48,6 @@ pub struct Post {
 
 /// What of a plan a site runs: the flows that it computes or takes, in order of rank, and its part in each. It keeps, for contracts
 /// alone, which plan it is of.
-#[derive(Drop)]
 pub struct SiteProgram {
     pub(crate) site: u8,
     /// How many flows the whole program has.
@@ -68,6 +67,25 @@ pub struct SiteProgram {
     pub(crate) sites: u8,
     pub(crate) names: Row<Name>,
     pub(crate) plan: Snapshot<Plan>,
+}
+
+// By hand, so that it is proved here alone, and not in each crate that owns one.
+impl Drop for SiteProgram {
+    fn drop(self) {
+        let Self {
+            site: _,
+            end: _,
+            ranks: _,
+            places: _,
+            posts: _,
+            branches: _,
+            links: _,
+            told: _,
+            sites: _,
+            names: _,
+            plan: _,
+        } = self;
+    }
 }
 
 impl Model for SiteProgram {

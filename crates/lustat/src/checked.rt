@@ -17,10 +17,19 @@ use std::marker::Model;
 
 /// A program that keeps all rules, lent, with the name of its main node, an order of its nodes in which calls go backward, and the
 /// classes of its nodes' variables. A contract sees the `Whole` of `specs/Whole.antt`.
-#[derive(Drop)]
 pub struct Checked<'a> {
     typed: Typed<'a>,
     classes: Vec<Vec<bool>>,
+}
+
+// By hand, so that it is proved here alone, and not in each crate that owns one.
+impl Drop for Checked<'_> {
+    fn drop(self) {
+        let Self {
+            typed: _,
+            classes: _,
+        } = self;
+    }
 }
 
 impl<'a> Model for Checked<'a> {

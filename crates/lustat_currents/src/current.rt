@@ -41,10 +41,19 @@ fn starts_of(
 }
 
 /// For each declaration of a node whether its clock is true at first, by the form of the equations. A contract sees the node.
-#[derive(Drop)]
 pub struct Firsts<'a> {
     node: &'a Node,
     started: Vec<bool>,
+}
+
+// By hand, so that it is proved here alone, and not in each crate that owns one.
+impl Drop for Firsts<'_> {
+    fn drop(self) {
+        let Self {
+            node: _,
+            started: _,
+        } = self;
+    }
 }
 
 impl<'a> Model for Firsts<'a> {

@@ -15,7 +15,6 @@ use std::marker::Model;
 
 /// A program, lent, with a scope for each of its nodes and tables of its nodes, its types and the names of these. A contract sees
 /// the program.
-#[derive(Drop)]
 pub struct Catalog<'a> {
     program: &'a Program,
     scopes: Vec<Scope<'a>>,
@@ -25,6 +24,20 @@ pub struct Catalog<'a> {
     labels: Places<'a>,
     /// Where those of each type begin.
     starts: Vec<usize>,
+}
+
+// By hand, so that it is proved here alone, and not in each crate that owns one.
+impl Drop for Catalog<'_> {
+    fn drop(self) {
+        let Self {
+            program: _,
+            scopes: _,
+            nodes: _,
+            types: _,
+            labels: _,
+            starts: _,
+        } = self;
+    }
 }
 
 impl<'a> Model for Catalog<'a> {

@@ -16,7 +16,6 @@ use std::alloc::{AllocError, Global};
 use std::marker::Model;
 
 /// A node, lent, with the tables of its variables. A contract sees the node.
-#[derive(Drop)]
 pub struct Scope<'a> {
     node: &'a Node,
     declarations: Vec<&'a Declaration>,
@@ -24,6 +23,20 @@ pub struct Scope<'a> {
     inputs: Places<'a>,
     outputs: Places<'a>,
     clocks: Vec<PlacedClock<'a>>,
+}
+
+// By hand, so that it is proved here alone, and not in each crate that owns one.
+impl Drop for Scope<'_> {
+    fn drop(self) {
+        let Self {
+            node: _,
+            declarations: _,
+            variables: _,
+            inputs: _,
+            outputs: _,
+            clocks: _,
+        } = self;
+    }
 }
 
 impl<'a> Model for Scope<'a> {

@@ -68,7 +68,6 @@ pub enum Infix {
 }
 
 /// A name of an enumeration, and what it stands for in its program.
-#[derive(Drop)]
 pub struct Label {
     pub name: SharedName,
     /// Its type: an enumeration, and one without names where no type of the program has this name.
@@ -77,8 +76,18 @@ pub struct Label {
     pub number: u8,
 }
 
+// By hand, so that it is proved here alone, and not in each crate that owns one.
+impl Drop for Label {
+    fn drop(self) {
+        let Self {
+            name: _,
+            kind: _,
+            number: _,
+        } = self;
+    }
+}
+
 /// The value of a clock's variable at which the clock is true.
-#[derive(Drop)]
 pub enum Pattern {
     /// `true` or `false`.
     Truth(bool),
@@ -86,12 +95,30 @@ pub enum Pattern {
     Label(Label),
 }
 
+// By hand, so that it is proved here alone, and not in each crate that owns one.
+impl Drop for Pattern {
+    fn drop(self) {
+        match self {
+            Self::Truth(_) | Self::Label(_) => {}
+        }
+    }
+}
+
 /// A clock: the variable `c` with the pattern `true` is written `c`, with `false` it is written `not c`, and with the name `A`
 /// of an enumeration `A(c)`.
-#[derive(Drop)]
 pub struct Condition {
     pub variable: SharedName,
     pub pattern: Pattern,
+}
+
+// By hand, so that it is proved here alone, and not in each crate that owns one.
+impl Drop for Condition {
+    fn drop(self) {
+        let Self {
+            variable: _,
+            pattern: _,
+        } = self;
+    }
 }
 
 /// An expression, without the parentheses of its text.

@@ -23,7 +23,6 @@ pub struct DeclaredName {
 }
 
 /// `type t = enum { A, B };`
-#[derive(Drop)]
 pub struct TypeDeclaration {
     pub name: Name,
     /// The place of the name's first byte in the text, counted from 0.
@@ -32,8 +31,18 @@ pub struct TypeDeclaration {
     pub names: Row<DeclaredName>,
 }
 
+// By hand, so that it is proved here alone, and not in each crate that owns one.
+impl Drop for TypeDeclaration {
+    fn drop(self) {
+        let Self {
+            name: _,
+            byte: _,
+            names: _,
+        } = self;
+    }
+}
+
 /// One declared variable. A text that declares several names at once has as many declarations.
-#[derive(Drop)]
 pub struct Declaration {
     pub name: Name,
     /// Its type; an enumeration without names where its type has a name that no type of the program has.
@@ -46,8 +55,20 @@ pub struct Declaration {
     pub byte: usize,
 }
 
+// By hand, so that it is proved here alone, and not in each crate that owns one.
+impl Drop for Declaration {
+    fn drop(self) {
+        let Self {
+            name: _,
+            kind: _,
+            type_name: _,
+            clock: _,
+            byte: _,
+        } = self;
+    }
+}
+
 /// One equation.
-#[derive(Drop)]
 pub struct Equation {
     /// The defined variables: one, or several where the right side is a call with as many outputs.
     pub left: Row<Name>,
@@ -56,8 +77,18 @@ pub struct Equation {
     pub byte: usize,
 }
 
+// By hand, so that it is proved here alone, and not in each crate that owns one.
+impl Drop for Equation {
+    fn drop(self) {
+        let Self {
+            left: _,
+            right: _,
+            byte: _,
+        } = self;
+    }
+}
+
 /// One node.
-#[derive(Drop)]
 pub struct Node {
     pub name: Name,
     /// The place of the name's first byte in the text, counted from 0.
@@ -66,6 +97,20 @@ pub struct Node {
     pub outputs: Row<Declaration>,
     pub locals: Row<Declaration>,
     pub equations: Row<Equation>,
+}
+
+// By hand, so that it is proved here alone, and not in each crate that owns one.
+impl Drop for Node {
+    fn drop(self) {
+        let Self {
+            name: _,
+            byte: _,
+            inputs: _,
+            outputs: _,
+            locals: _,
+            equations: _,
+        } = self;
+    }
 }
 
 /// A program: its types and its nodes, each in order of text.

@@ -12,11 +12,21 @@ use std::marker::Model;
 
 /// A program whose names and types are in order, lent, with the name of its main node and an order of its nodes in which calls
 /// go backward. A contract sees the `Named` of `specs/Named.antt`.
-#[derive(Drop)]
 pub struct Typed<'a> {
     catalog: Catalog<'a>,
     main: &'a str,
     order: Vec<usize>,
+}
+
+// By hand, so that it is proved here alone, and not in each crate that owns one.
+impl Drop for Typed<'_> {
+    fn drop(self) {
+        let Self {
+            catalog: _,
+            main: _,
+            order: _,
+        } = self;
+    }
 }
 
 impl<'a> Model for Typed<'a> {

@@ -15,12 +15,22 @@ use std::marker::Model;
 
 /// The variables that the equations of a node define, lent, with a table of where each stands first. A contract sees the
 /// node.
-#[derive(Drop)]
 pub struct Definitions<'a> {
     node: &'a Node,
     lefts: Places<'a>,
     /// Where the left side of each equation begins in the row of all.
     starts: Vec<usize>,
+}
+
+// By hand, so that it is proved here alone, and not in each crate that owns one.
+impl Drop for Definitions<'_> {
+    fn drop(self) {
+        let Self {
+            node: _,
+            lefts: _,
+            starts: _,
+        } = self;
+    }
 }
 
 impl<'a> Model for Definitions<'a> {

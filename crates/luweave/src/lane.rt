@@ -6,10 +6,16 @@ ghost use Rattle.std.specs.Prelude.{◌≡◌, ℕ, ◌+◌, ◌<◌, ◌≤◌,
 use luflow::Msg;
 
 /// The messages of a link: those taken, and behind them those that wait.
-#[derive(Drop)]
 pub struct Lane {
     pub put: Vec<Msg>,
     pub taken: usize,
+}
+
+// By hand, so that it is proved here alone, and not in each crate that owns one.
+impl Drop for Lane {
+    fn drop(self) {
+        let Self { put: _, taken: _ } = self;
+    }
 }
 
 impl Lane {
