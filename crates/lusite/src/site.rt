@@ -96,6 +96,7 @@ impl Site {
         ensures site { IfOk result (λ x. x.site ≡ inputs.site) }
         ensures done { IfOk result (λ x. x.done ≡ 0) }
     {
+        let _run = inputs.site();
         let held = new_held(alloc, &program, inputs.instants())?;
         Ok(begun(program, inputs, held))
     }

@@ -72,5 +72,6 @@ pub fn check<'a>(
 {
     let typed = names(alloc, program, main)?;
     let classes = later_stages(alloc, &typed)?;
+    let _calls = typed.order();
     Ok(Checked::new(typed, classes))
 }

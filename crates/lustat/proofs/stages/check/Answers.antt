@@ -3,8 +3,6 @@ use Rattle.std.proofs.lemmas.Result.{err_from_is_err_and}
 use Rattle.lutree.specs.declared.program.Program.{Program}
 use Rattle.lutree.specs.Tree.{program_view}
 use Rattle.lustat_rules.specs.Accepted.{IsAccepted}
-use Rattle.lustat_rules.specs.Naming.{IsCallOrder}
-use Rattle.lutype.specs.Named.{Named}
 use Rattle.lustat_rules.specs.Told.{Tells}
 use Rattle.lustat.specs.Whole.{Whole}
 use Rattle.lustat.specs.First.{IsToldFirst}
@@ -21,7 +19,7 @@ pub new-requires : goal.new-requires
 new-requires c =
     record {
       accepted = c.in_ok-classes.ensures.accepted;
-      calls = subst (λ (t : Named). IsCallOrder (program_view t.program) t.order) c.typed.view_is c.typed.invariant.calls;
+      calls = c.order-calls.ensures.calls;
       classes = c.in_ok-classes.ensures.classes;
     }
 
