@@ -9,16 +9,10 @@ use std::alloc::Global;
 use std::io::Write;
 
 /// What a call prints: its answer, and the notes beside it.
+#[derive(Drop)]
 pub struct Said {
     pub text: String,
     pub notes: String,
-}
-
-// By hand, so that it is proved here alone, and not in each crate that owns one.
-impl Drop for Said {
-    fn drop(self) {
-        let Self { text: _, notes: _ } = self;
-    }
 }
 
 impl Said {

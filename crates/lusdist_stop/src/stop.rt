@@ -18,7 +18,7 @@ use thiserror::Error;
 
 /// Why a call stops before it prints anything. What it displays is the line that goes to the error stream, with no line
 /// feed.
-#[derive(Debug, Error)]
+#[derive(Debug, Drop, Error)]
 pub enum Stop {
     /// The file of this path can't be read.
     CannotRead {
@@ -56,32 +56,6 @@ pub enum Stop {
     NoThread,
     /// The words are wrong, though the command line takes them.
     Mistaken(Mistake),
-}
-
-// By hand, so that it is proved here alone, and not in each crate that owns one.
-impl Drop for Stop {
-    fn drop(self) {
-        match self {
-            Self::CannotRead { path: _ }
-            | Self::CannotWrite { path: _ }
-            | Self::NotAscii
-            | Self::Syntax(_)
-            | Self::Rules(_)
-            | Self::Flat(_)
-            | Self::Place(_)
-            | Self::Table(_)
-            | Self::Schedule(_)
-            | Self::Fault {
-                variable: _,
-                instant: _,
-                kind: _,
-            }
-            | Self::OutOfMemory
-            | Self::LinkLost
-            | Self::NoThread
-            | Self::Mistaken(_) => {}
-        }
-    }
 }
 
 impl fmt::Display for Stop {
