@@ -13,6 +13,9 @@ type FlowMarks = (usize, &'static [Mark]);
 /// A site, the length of its script, and an item of it, with its place.
 type ScriptItem = (u8, usize, usize, Item);
 
+/// Turns, how often they are taken, and how much each site has done then.
+type Reached = (&'static [u8], usize, &'static [usize]);
+
 /// What the plain programs say of a program of two variables at two sites, `a` at the first and `b` at the second, over three
 /// instants: the first marks of flows, the lists of the links and of what is no link, items, and how much the sites have done
 /// after some turns, so many times.
@@ -21,7 +24,7 @@ struct Counted {
     marks: &'static [FlowMarks],
     lists: &'static [&'static [Body]],
     items: &'static [ScriptItem],
-    worlds: &'static [(&'static [u8], usize, &'static [usize])],
+    worlds: &'static [Reached],
 }
 
 const ZERO: Mark = Mark::Known(Status::Present(Datum::Int(0)));
@@ -142,20 +145,50 @@ fn is_reached(
     Ok(world_after(alloc, job, &all)?.as_slice() == dones)
 }
 
+/// Whether the flows have these first marks.
+fn has_marks(alloc: Global, job: &Job, wanted: &[FlowMarks]) -> Result<bool, AllocError> {
+    let rows = marks_of(alloc, job.plan().flat(), job.inputs(), 4)?;
+    Ok(have_marks(&rows, wanted))
+}
+
+/// Whether the links, and what is no link, have these lists, in order.
+fn has_lists(alloc: Global, job: &Job, wanted: &[&[Body]]) -> Result<bool, AllocError> {
+    for (link, list) in wanted.iter().enumerate() {
+        if !is_list(&list_of_link(alloc, job, link)?, *list) {
+            return Ok(false);
+        }
+    }
+    Ok(true)
+}
+
+/// Whether the scripts of the sites have these items, and what is no site has none.
+fn has_items(alloc: Global, job: &Job, wanted: &[ScriptItem]) -> Result<bool, AllocError> {
+    for item in wanted {
+        if !has_item(alloc, job, item)? {
+            return Ok(false);
+        }
+    }
+    Ok(script_of(alloc, job, 2)?.is_empty())
+}
+
+/// Whether the sites have done so much after each of these turns.
+fn reaches_all(alloc: Global, job: &Job, wanted: &[Reached]) -> Result<bool, AllocError> {
+    for (turns, times, dones) in wanted {
+        if !is_reached(alloc, job, turns, *times, dones)? {
+            return Ok(false);
+        }
+    }
+    Ok(true)
+}
+
 /// Whether the plain programs say so.
 fn is_counted(alloc: Global, job: &Job, counted: &Counted) -> Result<bool, AllocError> {
-    let rows = marks_of(alloc, job.plan().flat(), job.inputs(), 4)?;
-    let mut good = have_marks(&rows, counted.marks) && script_of(alloc, job, 2)?.is_empty();
-    for (link, list) in counted.lists.iter().enumerate() {
-        good &= is_list(&list_of_link(alloc, job, link)?, *list);
-    }
-    for item in counted.items {
-        good &= has_item(alloc, job, item)?;
-    }
-    for (turns, times, dones) in counted.worlds {
-        good &= is_reached(alloc, job, turns, *times, dones)?;
-    }
-    Ok(good)
+    Ok(
+        has_marks(alloc, job, counted.marks)?
+            && has_lists(alloc, job, counted.lists)?
+            && has_items(alloc, job, counted.items)?
+            && reaches_all(alloc, job, counted.worlds)?,
+    )
 }
 
 const TWO_SITES: &str = "sites = [\"A\", \"B\"]\ncapacity = 1\n[place]\na = \"A\"\nb = \"B\"\n";

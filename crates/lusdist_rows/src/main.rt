@@ -146,16 +146,44 @@ fn put_output(rt: &HostRuntime, out: &[u8]) -> io::Result<()> {
     rt.stdout().write_all(&out[out.len() - 10..])
 }
 
-/// Writes the files that the newest command wrote, a line behind each `> `, the path first.
-fn put_written(rt: &HostRuntime, case: &Case<'_>) -> io::Result<()> {
-    let files = case.written.replace(Vec::new(rt.alloc()));
-    for file in &files {
-        println!(rt; "> {}", file.0.as_str())?;
-        for line in text_of(&file.1).unwrap_or("").lines() {
-            println!(rt; "> {line}")?;
-        }
+/// Writes a file, a line behind each `> `, the path first.
+fn put_file(rt: &HostRuntime, path: &str, text: &str) -> io::Result<()> {
+    println!(rt; "> {path}")?;
+    for line in text.lines() {
+        println!(rt; "> {line}")?;
     }
     Ok(())
+}
+
+/// Writes files one after the other.
+fn put_files(rt: &HostRuntime, files: &[(String, Vec<u8>)]) -> io::Result<()> {
+    for file in files {
+        put_file(rt, file.0.as_str(), text_of(&file.1).unwrap_or(""))?;
+    }
+    Ok(())
+}
+
+/// Writes the files that the newest command wrote.
+fn put_written(rt: &HostRuntime, case: &Case<'_>) -> io::Result<()> {
+    let files = case.written.replace(Vec::new(rt.alloc()));
+    put_files(rt, &files)
+}
+
+/// Writes an output, what was written into files, behind `! ` what went to the error stream, and behind `= ` a status.
+fn put_told(
+    rt: &HostRuntime,
+    case: &Case<'_>,
+    out: &[u8],
+    err: &[u8],
+    status: u8,
+) -> io::Result<()> {
+    put_output(rt, out)?;
+    put_written(rt, case)?;
+    if !err.is_empty() {
+        print!(rt; "! ")?;
+        rt.stdout().write_all(err)?;
+    }
+    println!(rt; "= {status}")
 }
 
 /// Writes what a command answers: its output, behind `! ` what went to the error stream, and behind `= ` its status. Where `is_full`
@@ -179,13 +207,7 @@ fn put_answer<R: Threads + Wait + Sync>(
         &mut out,
         &mut err,
     );
-    put_output(rt, out.writer().bytes())?;
-    put_written(rt, case)?;
-    if !err.writer().is_empty() {
-        print!(rt; "! ")?;
-        rt.stdout().write_all(err.writer())?;
-    }
-    println!(rt; "= {status}")
+    put_told(rt, case, out.writer().bytes(), err.writer(), status)
 }
 
 /// Does what a line says.
@@ -198,16 +220,29 @@ fn take_line<R: Threads + Wait + Sync + Clock + Print>(
     let (mark, rest) = line.split_once(' ').unwrap_or((line, ""));
     let (name, text) = rest.split_once(' ').unwrap_or((rest, ""));
     match mark {
-        "#" => case.texts.clear(),
-        "file" => add_file(rt.alloc(), case, name, text)?,
-        "more" => add_more(rt.alloc(), case, name.parse().unwrap_or(0), text)?,
-        "$" | "%" => put_answer(threads, rt, case, rest, mark == "%")?,
-        "@" => put_tried(threads, rt, case, text, name.parse().unwrap_or(0))?,
-        "~" => put_printed(rt, case, rest)?,
-        "&" => put_line(threads, rt, case, rest)?,
-        _ => {}
+        "#" => {
+            case.texts.clear();
+            Ok(())
+        }
+        "file" => Ok(add_file(rt.alloc(), case, name, text)?),
+        "more" => Ok(add_more(rt.alloc(), case, name.parse().unwrap_or(0), text)?),
+        "$" | "%" => put_answer(threads, rt, case, rest, mark == "%"),
+        "@" => put_tried(threads, rt, case, text, name.parse().unwrap_or(0)),
+        "~" => put_printed(rt, case, rest),
+        "&" => put_line(threads, rt, case, rest),
+        _ => Ok(()),
     }
-    Ok(())
+}
+
+/// Writes a line, and does what it says.
+fn answer_line<R: Threads + Wait + Sync + Clock + Print>(
+    threads: &R,
+    rt: &HostRuntime,
+    case: &mut Case<'_>,
+    line: &str,
+) -> io::Result<()> {
+    println!(rt; "{line}")?;
+    take_line(threads, rt, case, line)
 }
 
 fn main(rt: HostRuntime) -> io::Result<()> {
@@ -218,9 +253,7 @@ fn main(rt: HostRuntime) -> io::Result<()> {
         written: Cell::new(Vec::new(rt.alloc())),
     };
     for line in rt.lines(rt.alloc()) {
-        let line = line?;
-        println!(rt; "{line}")?;
-        take_line(&rt, &rt, &mut case, line.as_str())?;
+        answer_line(&rt, &rt, &mut case, line?.as_str())?;
     }
     Ok(())
 }

@@ -48,38 +48,58 @@ fn ends_of<'l>(
     Ok((Feeder { tx, list, at: 0 }, rx))
 }
 
+/// Writes what a message carries.
+fn put_body(rt: &HostRuntime, body: Body) -> io::Result<()> {
+    match body {
+        Body::Value(datum) => print!(rt; " {datum:?}"),
+        Body::Close => print!(rt; " close"),
+    }
+}
+
 /// Writes the first messages of a list.
 fn put_taken(rt: &HostRuntime, list: &[Msg], count: usize) -> io::Result<()> {
     print!(rt; "= taken")?;
     for msg in list.iter().take(count) {
-        match msg.body {
-            Body::Value(datum) => print!(rt; " {datum:?}")?,
-            Body::Close => print!(rt; " close")?,
-        }
+        put_body(rt, msg.body)?;
     }
     println!(rt; "")
 }
 
-/// Writes what a site leaves: how it stands, how many items it did, and its outputs, `-` where they are absent.
-fn put_report(rt: &HostRuntime, report: &SiteReport, count: usize) -> io::Result<()> {
-    match report.standing() {
-        Standing::Ended => print!(rt; "= ended")?,
-        Standing::Cut => print!(rt; "= cut")?,
+/// Writes how a site stands.
+fn put_standing(rt: &HostRuntime, standing: Standing) -> io::Result<()> {
+    match standing {
+        Standing::Ended => print!(rt; "= ended"),
+        Standing::Cut => print!(rt; "= cut"),
         Standing::Faulted(fault) => {
             let (variable, instant, kind) = (fault.variable, fault.instant, fault.kind);
-            print!(rt; "= fault {variable} {instant} {kind}")?;
+            print!(rt; "= fault {variable} {instant} {kind}")
         }
     }
+}
+
+/// Writes a status, `-` where it is absent.
+fn put_status(rt: &HostRuntime, status: Status) -> io::Result<()> {
+    match status {
+        Status::Present(datum) => print!(rt; " {datum:?}"),
+        Status::Absent => print!(rt; " -"),
+    }
+}
+
+/// Writes an output, by its number.
+fn put_output(rt: &HostRuntime, k: usize, statuses: &[Status]) -> io::Result<()> {
+    print!(rt; "= output {k}")?;
+    for status in statuses {
+        put_status(rt, *status)?;
+    }
+    println!(rt; "")
+}
+
+/// Writes what a site leaves: how it stands, how many items it did, and its outputs.
+fn put_report(rt: &HostRuntime, report: &SiteReport, count: usize) -> io::Result<()> {
+    put_standing(rt, report.standing())?;
     println!(rt; " after {count} items")?;
     for k in 0..report.names().len() {
-        print!(rt; "= output {k}")?;
-        for status in report.outputs(k) {
-            match status {
-                Status::Present(datum) => print!(rt; " {datum:?}")?,
-                Status::Absent => print!(rt; " -")?,
-            }
-        }
-        println!(rt; "")?;
+        put_output(rt, k, report.outputs(k))?;
     }
     Ok(())
 }

@@ -15,14 +15,19 @@ fn printed(alloc: Global, text: &str) -> Result<String, AllocError> {
     }
 }
 
+/// Writes what is printed, and whether that is printed again; a refusal as it is.
+fn put_both(rt: &HostRuntime, first: &str, again: &str) -> io::Result<()> {
+    put_output(rt, first.as_bytes())?;
+    if first.starts_with("!") {
+        return Ok(());
+    }
+    println!(rt; "= kept {}", first == again)
+}
+
 /// Writes what is printed of a file, and whether that is printed again from what is read of it; or the line of its refusal.
 pub fn put_printed<F: Files>(rt: &HostRuntime, files: &F, path: &str) -> io::Result<()> {
     let text = text_in(rt.alloc(), files, path)?;
     let first = printed(rt.alloc(), text.as_str())?;
     let again = printed(rt.alloc(), first.as_str())?;
-    put_output(rt, first.as_str().as_bytes())?;
-    if !first.as_str().starts_with("!") {
-        println!(rt; "= kept {}", first.as_str() == again.as_str())?;
-    }
-    Ok(())
+    put_both(rt, first.as_str(), again.as_str())
 }

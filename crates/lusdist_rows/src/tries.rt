@@ -83,17 +83,22 @@ pub fn text_in<F: Files>(alloc: Global, files: &F, path: &str) -> Result<String,
     String::from_str(alloc, text_of(&bytes).unwrap_or(""))
 }
 
+/// Adds the line of a replay that tells the output of a column.
+fn push_output(text: &mut String, table: &str, column: usize) -> Result<(), AllocError> {
+    text.push_str("output")?;
+    for line in table.lines() {
+        text.push(' ')?;
+        text.push_str(line.split(',').nth(column).unwrap_or(""))?;
+    }
+    text.push('\n')
+}
+
 /// The lines of a replay that tell the outputs of this table, all of them whole.
 fn output_lines(alloc: Global, table: &str) -> Result<String, AllocError> {
     let mut text = String::new(alloc);
     let columns = table.lines().next().unwrap_or("").split(',').count();
     for column in 0..columns {
-        text.push_str("output")?;
-        for line in table.lines() {
-            text.push(' ')?;
-            text.push_str(line.split(',').nth(column).unwrap_or(""))?;
-        }
-        text.push('\n')?;
+        push_output(&mut text, table, column)?;
     }
     Ok(text)
 }
@@ -130,7 +135,38 @@ fn is_whole(replay: &str, outputs: &str) -> bool {
             .all(|line| line.ends_with(" ended"))
 }
 
-/// How many of so many schedules end so, at the capacity that the files have.
+/// Whether a replay by the schedule of a seed ends whole, with these outputs.
+fn is_kept<R: Threads + Wait + Sync, F: Files>(
+    threads: &R,
+    alloc: Global,
+    tried: &mut Tried<'_, F>,
+    line: &str,
+    outputs: &str,
+    seed: u32,
+) -> Result<bool, AllocError> {
+    tried.schedule = schedule_of(alloc, seed)?;
+    let replay = printed(threads, alloc, tried, line)?;
+    Ok(is_whole(replay.as_str(), outputs))
+}
+
+/// How many of so many schedules end so, by the line of a replay.
+fn replays_kept<R: Threads + Wait + Sync, F: Files>(
+    threads: &R,
+    alloc: Global,
+    tried: &mut Tried<'_, F>,
+    line: &str,
+    outputs: &str,
+    count: u32,
+) -> Result<u32, AllocError> {
+    let mut kept = 0_u32;
+    for seed in 0..count {
+        let is_kept = is_kept(threads, alloc, tried, line, outputs, seed)?;
+        kept = kept.saturating_add(u32::from(is_kept));
+    }
+    Ok(kept)
+}
+
+/// The same, at the capacity that the files have, of an example with this table.
 fn schedules_kept<R: Threads + Wait + Sync, F: Files>(
     threads: &R,
     alloc: Global,
@@ -138,41 +174,102 @@ fn schedules_kept<R: Threads + Wait + Sync, F: Files>(
     name: &str,
     table: &str,
     count: u32,
-) -> io::Result<u32> {
+) -> Result<u32, AllocError> {
     let outputs = output_lines(alloc, table)?;
-    let mut line = String::new(alloc);
-    write!(
-        line,
+    let line = format!(in alloc;
         "lusdist replay {name}/program.lus place {name}/table.csv schedule --finish"
     )?;
-    let mut kept = 0_u32;
-    for seed in 0..count {
-        tried.schedule = schedule_of(alloc, seed)?;
-        let replay = printed(threads, alloc, tried, line.as_str())?;
-        kept = kept.saturating_add(u32::from(is_whole(replay.as_str(), outputs.as_str())));
-    }
-    Ok(kept)
+    replays_kept(
+        threads,
+        alloc,
+        tried,
+        line.as_str(),
+        outputs.as_str(),
+        count,
+    )
 }
 
-/// How many of the crews print this table, at the capacity that the files have.
+/// Whether a crew prints this table, at the capacity that the files have.
+fn is_kept_by<R: Threads + Wait + Sync, F: Files>(
+    threads: &R,
+    alloc: Global,
+    tried: &Tried<'_, F>,
+    name: &str,
+    table: &str,
+    crew: &str,
+) -> Result<bool, AllocError> {
+    let line = format!(in alloc; "lusdist run {name}/program.lus place {name}/table.csv{crew}")?;
+    let found = printed(threads, alloc, tried, line.as_str())?;
+    Ok(!table.is_empty() && found.as_str() == table)
+}
+
+/// How many of the crews print it.
 fn crews_kept<R: Threads + Wait + Sync, F: Files>(
     threads: &R,
     alloc: Global,
     tried: &Tried<'_, F>,
     name: &str,
     table: &str,
-) -> io::Result<u32> {
+) -> Result<u32, AllocError> {
     let mut kept = 0_u32;
     for crew in CREWS {
-        let mut line = String::new(alloc);
-        write!(
-            line,
-            "lusdist run {name}/program.lus place {name}/table.csv{crew}"
-        )?;
-        let found = printed(threads, alloc, tried, line.as_str())?;
-        kept = kept.saturating_add(u32::from(!table.is_empty() && found.as_str() == table));
+        let is_kept = is_kept_by(threads, alloc, tried, name, table, crew)?;
+        kept = kept.saturating_add(u32::from(is_kept));
     }
     Ok(kept)
+}
+
+/// The table of an example's outputs, by its evaluation.
+fn table_of<R: Threads + Wait + Sync, F: Files>(
+    threads: &R,
+    alloc: Global,
+    files: &F,
+    name: &str,
+) -> Result<String, AllocError> {
+    let line = format!(in alloc; "lusdist eval {name}/program.lus {name}/table.csv")?;
+    printed(threads, alloc, files, line.as_str())
+}
+
+/// The placement of an example.
+fn place_of<F: Files>(alloc: Global, files: &F, name: &str) -> Result<String, AllocError> {
+    let path = format!(in alloc; "{name}/placement.toml")?;
+    text_in(alloc, files, path.as_str())
+}
+
+/// Writes how many of so many schedules of an example, and of its crews, give this table, at a capacity.
+fn put_kept<R: Threads + Wait + Sync, F: Files>(
+    threads: &R,
+    rt: &HostRuntime,
+    tried: &mut Tried<'_, F>,
+    name: &str,
+    table: &str,
+    capacity: u16,
+    count: u32,
+) -> io::Result<()> {
+    let schedules = schedules_kept(threads, rt.alloc(), tried, name, table, count)?;
+    let crews = crews_kept(threads, rt.alloc(), tried, name, table)?;
+    println!(rt; "= capacity {capacity}: {schedules} schedules, {crews} crews")
+}
+
+/// Writes that at each capacity, by the table and the placement.
+fn put_each<R: Threads + Wait + Sync, F: Files>(
+    threads: &R,
+    rt: &HostRuntime,
+    files: &F,
+    name: &str,
+    table: &str,
+    place: &str,
+    count: u32,
+) -> io::Result<()> {
+    for capacity in CAPACITIES {
+        let mut tried = Tried {
+            files,
+            place: with_capacity(rt.alloc(), place, *capacity)?,
+            schedule: String::new(rt.alloc()),
+        };
+        put_kept(threads, rt, &mut tried, name, table, *capacity, count)?;
+    }
+    Ok(())
 }
 
 /// Writes how many of so many schedules of an example, and of its crews, end as its evaluation does, at each capacity.
@@ -183,22 +280,15 @@ pub fn put_tried<R: Threads + Wait + Sync, F: Files>(
     name: &str,
     count: u32,
 ) -> io::Result<()> {
-    let alloc = rt.alloc();
-    let mut line = String::new(alloc);
-    write!(line, "lusdist eval {name}/program.lus {name}/table.csv")?;
-    let table = printed(threads, alloc, files, line.as_str())?;
-    let mut path = String::new(alloc);
-    write!(path, "{name}/placement.toml")?;
-    let place = text_in(alloc, files, path.as_str())?;
-    for capacity in CAPACITIES {
-        let mut tried = Tried {
-            files,
-            place: with_capacity(alloc, place.as_str(), *capacity)?,
-            schedule: String::new(alloc),
-        };
-        let schedules = schedules_kept(threads, alloc, &mut tried, name, table.as_str(), count)?;
-        let crews = crews_kept(threads, alloc, &tried, name, table.as_str())?;
-        println!(rt; "= capacity {capacity}: {schedules} schedules, {crews} crews")?;
-    }
-    Ok(())
+    let table = table_of(threads, rt.alloc(), files, name)?;
+    let place = place_of(rt.alloc(), files, name)?;
+    put_each(
+        threads,
+        rt,
+        files,
+        name,
+        table.as_str(),
+        place.as_str(),
+        count,
+    )
 }

@@ -20,7 +20,7 @@ pub fn expect(is_so: bool, what: &'static str) -> Result<(), &'static str> {
     if is_so { Ok(()) } else { Err(what) }
 }
 
-/// A link of one message is filled, emptied and filled again.
+/// A link of one message is filled and emptied.
 fn fill<R: Wait, S: Sends, D: Receives>(
     rt: &R,
     tx: &mut Feeder<'_, S>,
@@ -28,7 +28,15 @@ fn fill<R: Wait, S: Sends, D: Receives>(
 ) -> Result<(), &'static str> {
     expect(tx.offer(rt) == Some(Offer::Done), "0 is put")?;
     expect(tx.offer(rt) == Some(Offer::Full(ONE)), "1 comes back")?;
-    expect(rx.polls(rt) == Some(ZERO), "0 is taken")?;
+    expect(rx.polls(rt) == Some(ZERO), "0 is taken")
+}
+
+/// It is filled again.
+fn refill<R: Wait, S: Sends, D: Receives>(
+    rt: &R,
+    tx: &mut Feeder<'_, S>,
+    rx: &mut D,
+) -> Result<(), &'static str> {
     expect(rx.polls(rt) == None, "nothing is there")?;
     expect(tx.offer(rt) == Some(Offer::Done), "1 is put")?;
     expect(!rx.is_alone(), "the sender is there")
@@ -48,6 +56,7 @@ pub fn fill_and_leave<R: Wait, S: Sends, D: Receives>(
     mut rx: D,
 ) -> Result<(), &'static str> {
     fill(rt, &mut tx, &mut rx)?;
+    refill(rt, &mut tx, &mut rx)?;
     let Feeder { tx, .. } = tx;
     tx.leaves();
     empty(rt, &mut rx)
