@@ -21,7 +21,7 @@ pub enum Offer {
     Full(Msg),
 }
 
-/// The receiver has left, and the link is full. The message comes back.
+/// The link was full, and then the receiver had left. The message comes back.
 #[derive(Clone, Copy, Debug, Drop, PartialEq, Eq, thiserror::Error)]
 pub enum PutError {
     #[error("Gone")]
@@ -83,7 +83,9 @@ impl Tx {
     }
 
     /// Puts the next message of the link's list. Waits while the link is full and the receiver is there; a link with room
-    /// takes the message also where the receiver has left. `Gone` hands the message back: nothing was put. Takes no memory.
+    /// takes the message also where the receiver has left. `Gone` hands the message back: nothing was put. The link was full at
+    /// one look, and the receiver had left at the next; what it took between the two has made room, which an `offer` tells.
+    /// Takes no memory.
     pub fn put<R: Wait>(&mut self, rt: &R, msg: Msg) -> Result<(), PutError>
         requires { IsNextToPut self.old msg }
         ensures put { IfOk result (λ _. HasPut msg self.old self.new) }

@@ -9,7 +9,7 @@ ghost use Rattle.lulink.specs.Lists.{list_of};
 ghost use Rattle.lusdist_plain.specs.AsItem.{as_item};
 ghost use Rattle.lusdist_rows.specs.Driven.{IsGiven, IsPlain};
 
-use lulink::{Msg, Rx, Tx};
+use lulink::{Msg, Offer, Rx, Tx};
 use lusdist_plain::Item;
 use lusite::{Next, Site, SiteReport};
 use std::sync::Wait;
@@ -26,7 +26,9 @@ pub struct Feeder<'l> {
 }
 
 impl Feeder<'_> {
-    /// Puts the next message of the list. False where that isn't this one, or the receiver is gone.
+    /// Puts the next message of the list. False where that isn't this one, or where the receiver has left and the link is full. What
+    /// comes back is offered once more: what the receiver took last, after the put had found the link full, has made room. So which
+    /// message is the last to go in depends on what the receiver took, and not on which thread was quicker.
     fn put<R: Wait>(&mut self, rt: &R, msg: Msg) -> bool {
         let Some(next) = self.list.get(self.at).copied() else {
             return false;
@@ -36,7 +38,10 @@ impl Feeder<'_> {
         }
         match self.tx.put(rt, next) {
             Ok(()) => self.at += 1,
-            Err(_) => return false,
+            Err(_) => match self.tx.offer(next) {
+                Offer::Done => self.at += 1,
+                Offer::Full(_) => return false,
+            },
         }
         true
     }
