@@ -1,5 +1,6 @@
-mod Standing
+pub mod Standing
+pub mod Settling
 mod Renewing
-mod Showing
+pub mod Showing
 mod Running
-mod Answered
+pub mod Answered

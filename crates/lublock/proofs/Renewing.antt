@@ -1,6 +1,6 @@
 -- What a board is made ready with for the next block.
 use Rattle.std.proofs.Common.{◌≡◌, ◌≢◌, ℕ, suc, ◌+◌, ◌<◌, ◌≤◌, inl, inr, Bool, true, false, cond, List, Some, None, length, set, get_or, ℤ, refl, sym, subst, ap, ap₂, ◌∙◌, arith}
-use Rattle.std.specs.Prelude.{◌||◌, nat_lt, slice_get, Option, Vec}
+use Rattle.std.specs.Prelude.{◌||◌, ◌&&◌, not, nat_lt, slice_get, Option, Vec}
 use Rattle.std.specs.declared.alloc.Global.{Global}
 use Rattle.std.proofs.lemmas.Bool.{cases_lt, cases_eq}
 use Rattle.std.proofs.lemmas.Option.{slice_get-get_or, slice_get_past}
@@ -8,7 +8,7 @@ use Rattle.luflow.specs.declared.form.Flow.{Flow}
 use Rattle.luflow.specs.Program.{FlatProgram, flow_at}
 use Rattle.lublock_rows.specs.Rows.{word_in}
 use Rattle.lublock_forms.specs.declared.span.Span.{Span}
-use Rattle.lublock_forms.specs.Machine.{IsConstant, ticks_there, upto_there, was_there, known_there, ticks_of, upto_of, was_of, known_of, row_of, row_there}
+use Rattle.lublock_forms.specs.Machine.{IsConstant, ticks_there, upto_there, was_there, known_there, taken_there, ticks_of, upto_of, was_of, known_of, taken_of, row_of, row_there}
 use Rattle.lublock_forms.proofs.Steps.{get_other, get_same}
 
 -- the span of a flow as it is when the next block begins
@@ -16,10 +16,18 @@ pub record Renewed (flat : FlatProgram) (old new : List Span) (r : ℕ) : Type 0
   pub was : was_of new r ≡ was_of old r || nat_lt 0 (ticks_of old r)
   pub upto : (n : ℕ) (flow : Flow) → flow_at flat r ≡ Some flow → n < upto_of new r → IsConstant flow.form × (n < ticks_of old r)
   pub known : known_of new r ≡ false
+  pub taken : taken_of new r ≡ taken_of old r
+  pub none : taken_of new r ≡ true → upto_of new r ≡ 0
 
-pub kept_upto : (b : Bool) (ticks n : ℕ) → n < cond b ticks 0 → (b ≡ true) × (n < ticks)
-kept_upto true ticks n l = (refl, l)
-kept_upto false ticks n l = absurd (omega (arith, l))
+pub kept_upto : (b taken : Bool) (ticks n : ℕ) → n < cond (b && not taken) ticks 0 → (b ≡ true) × (n < ticks)
+kept_upto true false ticks n l = (refl, l)
+kept_upto true true ticks n l = absurd (omega (arith, l))
+kept_upto false taken ticks n l = absurd (omega (arith, l))
+
+none_kept : (b taken : Bool) (ticks : ℕ) → taken ≡ true → cond (b && not taken) ticks 0 ≡ 0
+none_kept true true ticks is = refl
+none_kept true false ticks is = absurd cc
+none_kept false taken ticks is = refl
 
 module _ (flat : FlatProgram) (old : List Span) where
   -- the same span
@@ -28,16 +36,20 @@ module _ (flat : FlatProgram) (old : List Span) where
     was = ap was_there e ∙ h.was;
     upto = λ n flow is l. h.upto n flow is (subst (λ (o : Option Span). n < upto_there o) e l);
     known = ap known_there e ∙ h.known;
+    taken = ap taken_there e ∙ h.taken;
+    none = λ is. ap upto_there e ∙ h.none (sym (ap taken_there e) ∙ is);
   }
 
-  renewed_one : (new : List Span) (i : ℕ) (span next : Span) (stays : Bool) → slice_get new i ≡ Some next → slice_get old i ≡ Some span → next ≡ record { ticks = 0; upto = cond stays span.ticks 0; was = span.was || nat_lt 0 span.ticks; known = false; supposed = false } → (stays ≡ true → (flow : Flow) → flow_at flat i ≡ Some flow → IsConstant flow.form) → Renewed flat old new i
+  renewed_one : (new : List Span) (i : ℕ) (span next : Span) (stays : Bool) → slice_get new i ≡ Some next → slice_get old i ≡ Some span → next ≡ record { ticks = 0; upto = cond (stays && not span.taken) span.ticks 0; was = span.was || nat_lt 0 span.ticks; known = false; supposed = false; taken = span.taken } → (stays ≡ true → (flow : Flow) → flow_at flat i ≡ Some flow → IsConstant flow.form) → Renewed flat old new i
   renewed_one new i span next stays here there is constant = record {
     was = ap was_there here ∙ ap (λ (s : Span). s.was) is ∙ sym (ap₂ (λ (w : Bool) (t : ℕ). w || nat_lt 0 t) (ap was_there there) (ap ticks_there there));
     upto = λ n flow at l.
-        let upto : upto_of new i ≡ cond stays span.ticks 0 = ap upto_there here ∙ ap (λ (s : Span). s.upto) is in
-        let k = kept_upto stays span.ticks n (subst (λ (m : ℕ). n < m) upto l) in
+        let upto : upto_of new i ≡ cond (stays && not span.taken) span.ticks 0 = ap upto_there here ∙ ap (λ (s : Span). s.upto) is in
+        let k = kept_upto stays span.taken span.ticks n (subst (λ (m : ℕ). n < m) upto l) in
         (constant k.0 flow at, subst (λ (m : ℕ). n < m) (sym (ap ticks_there there)) k.1);
     known = ap known_there here ∙ ap (λ (s : Span). s.known) is;
+    taken = ap taken_there here ∙ ap (λ (s : Span). s.taken) is ∙ sym (ap taken_there there);
+    none = λ on. ap upto_there here ∙ ap (λ (s : Span). s.upto) is ∙ none_kept stays span.taken span.ticks (sym (ap (λ (s : Span). s.taken) is) ∙ sym (ap taken_there here) ∙ on);
   }
 
   renewed_past : (new : List Span) (r : ℕ) → slice_get old r ≡ None → slice_get new r ≡ None → Renewed flat old new r
@@ -45,10 +57,12 @@ module _ (flat : FlatProgram) (old : List Span) where
     was = ap was_there here ∙ sym (ap₂ (λ (w : Bool) (t : ℕ). w || nat_lt 0 t) (ap was_there there) (ap ticks_there there));
     upto = λ n flow at l. absurd (let none : upto_of new r ≡ 0 = ap upto_there here in omega (arith, none, l));
     known = ap known_there here;
+    taken = ap taken_there here ∙ sym (ap taken_there there);
+    none = λ on. ap upto_there here;
   }
 
   -- the spans below a number are renewed, and one more
-  pub spans_renewed : (spans : List Span) (i : ℕ) (span next : Span) (stays : Bool) → i < length spans → slice_get spans i ≡ Some span → next ≡ record { ticks = 0; upto = cond stays span.ticks 0; was = span.was || nat_lt 0 span.ticks; known = false; supposed = false } → (stays ≡ true → (flow : Flow) → flow_at flat i ≡ Some flow → IsConstant flow.form) → ((r : ℕ) → r < i → Renewed flat old spans r) → ((r : ℕ) → i ≤ r → slice_get spans r ≡ slice_get old r) → (r : ℕ) → r < i + 1 → Renewed flat old (set spans i next) r
+  pub spans_renewed : (spans : List Span) (i : ℕ) (span next : Span) (stays : Bool) → i < length spans → slice_get spans i ≡ Some span → next ≡ record { ticks = 0; upto = cond (stays && not span.taken) span.ticks 0; was = span.was || nat_lt 0 span.ticks; known = false; supposed = false; taken = span.taken } → (stays ≡ true → (flow : Flow) → flow_at flat i ≡ Some flow → IsConstant flow.form) → ((r : ℕ) → r < i → Renewed flat old spans r) → ((r : ℕ) → i ≤ r → slice_get spans r ≡ slice_get old r) → (r : ℕ) → r < i + 1 → Renewed flat old (set spans i next) r
   spans_renewed spans i span next stays inside at is constant done left r l = elim (cases_lt r i) [
     | inl low ↦ renewed_same spans (set spans i next) r (get_other spans i r next (λ e. omega (arith, e, low))) (done r low)
     | inr high ↦

@@ -1,29 +1,35 @@
 -- A run from block to block.
-use Rattle.std.proofs.Common.{◌≡◌, ◌≢◌, ℕ, zero, suc, ◌+◌, ◌-◌, inl, inr, Bool, true, false, List, [], length, replicate, Some, ℤ, refl, sym, subst, ◌∙◌, ap, arith}
-use Rattle.std.specs.Prelude.{All, slice_get}
+use Rattle.std.proofs.Common.{◌≡◌, ◌≢◌, ℕ, zero, suc, ◌+◌, ◌-◌, ◌≤◌, inl, inr, Bool, true, false, List, [], length, replicate, Some, ℤ, refl, sym, subst, ◌∙◌, ap, arith}
+use Rattle.std.specs.Prelude.{All}
 use Rattle.std.proofs.lemmas.Bool.{cases_lt}
 use Rattle.luflow.specs.declared.data.Datum.TheVariants.{Nil}
 use Rattle.luflow.specs.Program.{FlatProgram, Table}
 use Rattle.luflow.specs.Streams.{Streams, Broken}
-use Rattle.luflow.proofs.Solutions.{some_at, all_at}
+use Rattle.luflow.proofs.Solutions.{some_at}
 use Rattle.lublock_forms.specs.declared.span.Span.{Span}
 use Rattle.lublock.specs.declared.board.Board.{Board}
 use Rattle.luflow.specs.declared.form.Form.{Form}
 use Rattle.luflow.specs.Solution.{IsSolution}
+use Rattle.luflow.specs.Sound.{IsFit}
 use Rattle.lublock_forms.specs.Blocks.{Holds, IsRight, IsSolved, SolvesAt, datum_at}
 use Rattle.lublock.specs.Boards.{StandsOn, IsAfter}
+use Rattle.lublock_forms.specs.Parts.{whole}
 use Rattle.lublock_forms.specs.Machine.{block_of, upto_of, known_of, was_of, IsDone}
-use Rattle.luflow.specs.declared.data.Status.{Status}
-use Rattle.lublock.specs.Shown.{Column, AllNear, AreKept, AreNear, IsNear, IsReady, IsRightBlock, StandsAt}
+use Rattle.lublock.specs.Shown.{Column, AllNear, AreKept, IsReady, IsRightBlock, StandsAt, StaysNear}
+use Rattle.lublock.proofs.Showing.{empty_near, kept_near}
 
 -- a board that is ready stands, whatever the block's length
-pub ready_stands : (flat : FlatProgram) (inputs : Table) (σ : Streams) (t len : ℕ) (board : Board) → IsReady flat inputs σ t board → StandsOn flat inputs σ t len board
+pub ready_stands : (flat : FlatProgram) (inputs : Table) (σ : Streams) (t len : ℕ) (board : Board) → IsReady flat inputs σ t board → StandsOn whole flat inputs σ t len board
 ready_stands flat inputs σ t len board ready = record {
-  begins = ready.begins;
-  done = λ i n flow there now l.
-      let k = ready.constants i n flow there l in
-      subst (λ (f : Form). IsDone flat inputs t (block_of board.rows.items board.spans.items) (upto_of board.spans.items) (known_of board.spans.items) i flow f n) (sym k.1) (k.2, tt);
-  counts = λ i flow there on. absurd (let e : true ≡ false = sym on ∙ ready.known i in cc);
+  marked = λ i taken. absurd (let e : false ≡ true = taken in cc);
+  stands = record {
+    begins = λ r flow there known. ready.begins r flow there;
+    came = λ i n flow there taken l. absurd (let e : false ≡ true = taken in cc);
+    done = λ i n flow there own now l.
+        let k = ready.constants i n flow there l in
+        subst (λ (f : Form). IsDone flat inputs t (block_of board.rows.items board.spans.items) (upto_of board.spans.items) (known_of board.spans.items) i flow f n) (sym k.1) (k.2, tt);
+    counts = λ i flow there on. absurd (let e : true ≡ false = sym on ∙ ready.known i in cc);
+  };
 }
 
 pub after_ready : (flat : FlatProgram) (inputs : Table) (σ : Streams) (t len : ℕ) (old new : Board) → IsRight flat inputs σ t len (block_of old.rows.items old.spans.items) → IsSolved flat inputs t len (block_of old.rows.items old.spans.items) → IsAfter flat old new → IsReady flat inputs σ (t + len) new
@@ -43,17 +49,9 @@ after_ready flat inputs σ t len old new right solved after = record {
   known = after.known;
 }
 
--- what is kept stays near, from whichever instant on the others begin
-no_status : (column : Column) (m : ℕ) (s : Status) → column.items ≡ [] → slice_get column.items m ≡ Some s → ⊥
-no_status column m s empty at = let none : List Status = [] in let f : slice_get none m ≡ Some s = ap (λ xs. slice_get xs m) (sym empty) ∙ at in cc
-
-kept_near : (flat : FlatProgram) (σ : Streams) (t u : ℕ) (old new : List Column) → AreNear flat σ t old → AreKept flat old new → AreNear flat σ u new
-kept_near flat σ t u old new near kept = record {
-  near = λ v x there m s at. elim (kept v x there) [
-    | inl h ↦ subst (λ (k : ℕ). IsNear (σ v (k + m)) s) (h.0 t ∙ sym (h.0 u)) (near.near v x h.1 m s at)
-    | inr empty ↦ absurd (no_status x m s empty at)
-  ];
-}
+-- what is right in a block is put out, in each solution
+pub all_near : (flat : FlatProgram) (inputs : Table) (t len : ℕ) (board : Board) (shown : ℕ → Type 0) (old new : List Column) → IsFit flat inputs → t + len ≤ inputs.instants → StaysNear flat t len board shown old new → IsRightBlock flat inputs t len board → AllNear flat inputs t old → AllNear flat inputs t new
+all_near flat inputs t len board shown old new fit within stays right all = λ σ sol. stays.near inputs σ fit sol within (λ v is n flow there l. (right σ sol).at v n flow there l) (all σ sol)
 
 -- one block more
 pub stands_on : (flat : FlatProgram) (inputs : Table) (t len : ℕ) (before old new : Board) (columns columns' kept : List Column) → StandsAt flat inputs t before columns → IsRightBlock flat inputs t len old → ((σ : Streams) → IsSolution flat inputs σ → IsSolved flat inputs t len (block_of old.rows.items old.spans.items)) → IsAfter flat old new → AllNear flat inputs t columns' → AreKept flat columns' kept → StandsAt flat inputs (t + len) new kept
@@ -70,7 +68,7 @@ stands_on flat inputs t len before old new columns columns' kept stands right so
 }
 
 abbrev fresh : Span
-fresh = record { ticks = 0; upto = 0; was = false; known = false; supposed = false }
+fresh = record { ticks = 0; upto = 0; was = false; known = false; supposed = false; taken = false }
 
 fresh_upto : (n r : ℕ) → upto_of (replicate n fresh) r ≡ 0
 fresh_upto zero r = refl
@@ -107,8 +105,6 @@ stands_first flat inputs n board columns is empty = record {
     constants = λ r k flow there l. absurd (let none : upto_of board.spans.items r ≡ 0 = ap (λ (spans : List Span). upto_of spans r) is ∙ fresh_upto n r in omega (arith, none, l));
     known = λ r. ap (λ (spans : List Span). known_of spans r) is ∙ fresh_known n r;
   };
-  near = λ σ sol. record {
-    near = λ v x there m s at. absurd (let none : List _ = [] in let f : slice_get none m ≡ Some s = ap (λ xs. slice_get xs m) (sym (all_at (λ (column : Column). column.items ≡ []) columns v x empty there)) ∙ at in cc);
-  };
+  near = λ σ sol. empty_near flat σ 0 columns empty;
   sound = λ σ sol r u lr lu. absurd (omega (arith, lu));
 }

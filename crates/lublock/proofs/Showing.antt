@@ -1,6 +1,6 @@
 -- What columns say of a solution.
 use Rattle.std.proofs.Common.{◌≡◌, ◌≢◌, ℕ, zero, suc, ◌+◌, ◌-◌, ◌<◌, ◌≤◌, inl, inr, Bool, true, false, cond, List, [], ◌∷◌, ◌++◌, length, length-append, set, Option, Some, ℤ, refl, sym, subst, ◌∙◌, ap, ap₂, arith}
-use Rattle.std.specs.Prelude.{slice_get, if◌then◌else◌, IfOk, Ok, Err, Vec}
+use Rattle.std.specs.Prelude.{slice_get, if◌then◌else◌, IfOk, Ok, Err, All}
 use mir.Val.{bool_byte}
 use Rattle.std.specs.declared.result.Result.{Result}
 use Rattle.std.proofs.lemmas.Bool.{cases_lt, lt-ltb}
@@ -18,15 +18,16 @@ use Rattle.luflow.specs.Streams.{Mark, Known, Broken, Streams, is_value, truth_i
 use Rattle.luflow.specs.Solution.{IsSolution}
 use Rattle.luflow.specs.Sound.{IsFit, IsTidyMark, ClockFits}
 use Rattle.luflow.specs.Flats.{IsFlat}
+use Rattle.luflow.proofs.Solutions.{all_at}
 use Rattle.luflow.proofs.TidyStreams.{tidy}
 use Rattle.lueval_lines.specs.Frames.{has_value}
 use Rattle.lueval_lines.proofs.Spans.{slice_get_front, slice_get_last}
-use Rattle.lublock_forms.specs.Blocks.{datum_at, Holds, once, once_true, since, IsRight}
+use Rattle.lublock_forms.specs.Blocks.{datum_at, Holds, once, once_true, since}
 use Rattle.lublock_rows.specs.Rows.{word_in}
-use Rattle.lublock_forms.specs.Machine.{block_of, row_of}
-use Rattle.lublock.specs.Shown.{Column, IsAdded, present_at, status_in, seen_in, slow_at, first_of, IsShown, IsNear, AreNear}
+use Rattle.lublock_forms.specs.Machine.{row_of}
+use Rattle.lublock.specs.Shown.{Column, IsAdded, present_at, status_in, seen_in, slow_at, first_of, IsShown, IsNear, AreNear, AreKept, IsRightFlow, StaysNear, StaysNearIn}
 use Rattle.lublock_forms.proofs.Steps.{get_other, get_same, len_set, same_place}
-use Rattle.lublock_forms.specs.declared.span.Span.{Span}
+use Rattle.lublock.specs.declared.board.Board.{Board}
 
 pub ok_weaker : {X E : Type 0} (P Q : X → Type 0) (r : Result X E) → ((x : X) → P x → Q x) → IfOk r P → IfOk r Q
 ok_weaker P Q (Ok x) f h = f x h
@@ -115,18 +116,55 @@ near_slow : (p : Bool) (q : Option Bool) (m : Mark) (s : Status) → q ≡ Some 
 near_slow true q m s e on off = on e
 near_slow false q m s e on off = off e
 
-module _ (flat : FlatProgram) (inputs : Table) (σ : Streams) (t len : ℕ) (rows : List (Vec ℤ Rattle.std.specs.declared.alloc.Global.Global)) (spans : List Span) (is_flat : IsFlat flat) (fit : IsFit flat inputs) (sol : IsSolution flat inputs σ) (within : t + len ≤ inputs.instants) (right : IsRight flat inputs σ t len (block_of rows spans)) where
+-- a column with no status has none
+no_status : (column : Column) (m : ℕ) (s : Status) → column.items ≡ [] → slice_get column.items m ≡ Some s → ⊥
+no_status column m s empty at = let none : List Status = [] in let f : slice_get none m ≡ Some s = ap (λ (xs : List Status). slice_get xs m) (sym empty) ∙ at in cc
+
+-- columns without statuses are near
+pub empty_near : (flat : FlatProgram) (σ : Streams) (t : ℕ) (columns : List Column) → All (λ (column : Column). column.items ≡ []) columns → AreNear flat σ t columns
+empty_near flat σ t columns empty = record {
+  near = λ v x there m s at. absurd (no_status x m s (all_at (λ (column : Column). column.items ≡ []) columns v x empty there) at);
+}
+
+-- what is kept stays near, from whichever instant on the others begin
+pub kept_near : (flat : FlatProgram) (σ : Streams) (t u : ℕ) (old new : List Column) → AreNear flat σ t old → AreKept flat old new → AreNear flat σ u new
+kept_near flat σ t u old new near kept = record {
+  near = λ v x there m s at. elim (kept v x there) [
+    | inl h ↦ subst (λ (k : ℕ). IsNear (σ v (k + m)) s) (h.0 t ∙ sym (h.0 u)) (near.near v x h.1 m s at)
+    | inr empty ↦ absurd (no_status x m s empty at)
+  ];
+}
+
+-- main variables are put out one after another
+module _ (flat : FlatProgram) (t len : ℕ) (board : Board) (shown : ℕ → Type 0) where
+  pub stays_same : (columns : List Column) → StaysNear flat t len board shown columns columns
+  stays_same columns = record { near = λ inputs σ fit sol within right near. near }
+
+  pub stays_more : (v : ℕ) (old mid new : List Column) → shown v → StaysNear flat t len board shown old mid → StaysNear flat t len board (λ r. r ≡ v) mid new → StaysNear flat t len board shown old new
+  stays_more v old mid new there f g = record {
+    near = λ inputs σ fit sol within right near.
+        g.near inputs σ fit sol within (λ r e. subst (IsRightFlow flat inputs σ t len board) (sym e) (right v there)) (f.near inputs σ fit sol within right near);
+  }
+
+-- what a part knows is right where it is
+pub stays_in : (flat : FlatProgram) (t len : ℕ) (board : Board) (needs : List ℕ) (old new : List Column) → StaysNear flat t len board (λ v. (k : ℕ) × (slice_get needs k ≡ Some v)) old new → StaysNearIn flat t len board needs old new
+stays_in flat t len board needs old new stays = record {
+  near = λ part inputs σ fit sol within known right.
+      stays.near inputs σ fit sol within (λ v is n flow there l. right.at v n flow there (known is.0 v is.1) l);
+}
+
+module _ (flat : FlatProgram) (inputs : Table) (σ : Streams) (t len : ℕ) (board : Board) (v : ℕ) (is_flat : IsFlat flat) (fit : IsFit flat inputs) (sol : IsSolution flat inputs σ) (within : t + len ≤ inputs.instants) (right : IsRightFlow flat inputs σ t len board v) where
   mark : (r n : ℕ) (flow : Flow) → flow_at flat r ≡ Some flow → n < len → IsTidyMark flow.kind (is_flat.sound.class r) (ticked (clock_at inputs σ flow.clock) (t + n)) (clock_at inputs σ flow.clock (t + n)) (σ r (t + n))
   mark r n flow is l = tidy flat inputs σ is_flat.ordered is_flat.sound fit sol r (t + n) (slice_get_within flat.flows r flow is) (omega (arith, within)) flow is
 
-  on_at : (v n : ℕ) (flow : Flow) → flow_at flat v ≡ Some flow → n < len → clock_at inputs σ flow.clock (t + n) ≡ Some true → IsNear (σ v (t + n)) (present_at flow.kind (row_of rows v) (since (clock_at inputs σ flow.clock) t n))
-  on_at v n flow there l on =
-      near_on flow.kind (is_flat.sound.class v) (ticked (clock_at inputs σ flow.clock) (t + n)) (clock_at inputs σ flow.clock (t + n)) (σ v (t + n)) (word_in (row_of rows v) (suc (since (clock_at inputs σ flow.clock) t n)))
-      (mark v n flow there l) (right.at v n flow there l).sound on (right.at v n flow there l).holds
+  on_at : (n : ℕ) (flow : Flow) → flow_at flat v ≡ Some flow → n < len → clock_at inputs σ flow.clock (t + n) ≡ Some true → IsNear (σ v (t + n)) (present_at flow.kind (row_of board.rows.items v) (since (clock_at inputs σ flow.clock) t n))
+  on_at n flow there l on =
+      near_on flow.kind (is_flat.sound.class v) (ticked (clock_at inputs σ flow.clock) (t + n)) (clock_at inputs σ flow.clock (t + n)) (σ v (t + n)) (word_in (row_of board.rows.items v) (suc (since (clock_at inputs σ flow.clock) t n)))
+      (mark v n flow there l) (right n flow there l).sound on (right n flow there l).holds
 
-  off_at : (v n : ℕ) (flow : Flow) → flow_at flat v ≡ Some flow → n < len → clock_at inputs σ flow.clock (t + n) ≡ Some false → IsNear (σ v (t + n)) Absent
-  off_at v n flow there l off =
-      near_off flow.kind (is_flat.sound.class v) (ticked (clock_at inputs σ flow.clock) (t + n)) (clock_at inputs σ flow.clock (t + n)) (σ v (t + n)) (mark v n flow there l) (right.at v n flow there l).sound off
+  off_at : (n : ℕ) (flow : Flow) → flow_at flat v ≡ Some flow → n < len → clock_at inputs σ flow.clock (t + n) ≡ Some false → IsNear (σ v (t + n)) Absent
+  off_at n flow there l off =
+      near_off flow.kind (is_flat.sound.class v) (ticked (clock_at inputs σ flow.clock) (t + n)) (clock_at inputs σ flow.clock (t + n)) (σ v (t + n)) (mark v n flow there l) (right n flow there l).sound off
 
   base_on : (n : ℕ) → n < len → clock_at inputs σ Base (t + n) ≡ Some true
   base_on n l = ap (λ (b : Bool). Some b) (lt-ltb (t + n) inputs.instants (omega (arith, within)))
@@ -138,12 +176,12 @@ module _ (flat : FlatProgram) (inputs : Table) (σ : Streams) (t len : ℕ) (row
       let e : n + 1 ≡ suc n = omega arith in
       ap₂ (λ (x y : ℕ). x + y) (base_count n (omega arith)) one ∙ e
 
-  show_base : (v n : ℕ) (flow : Flow) → flow_at flat v ≡ Some flow → flow.clock ≡ Base → n < len → IsNear (σ v (t + n)) (present_at flow.kind (row_of rows v) n)
-  show_base v n flow there clock l =
+  show_base : (n : ℕ) (flow : Flow) → flow_at flat v ≡ Some flow → flow.clock ≡ Base → n < len → IsNear (σ v (t + n)) (present_at flow.kind (row_of board.rows.items v) n)
+  show_base n flow there clock l =
       let count : since (clock_at inputs σ flow.clock) t n ≡ n = ap (λ (k : Clock). since (clock_at inputs σ k) t n) clock ∙ base_count n (omega arith) in
-      subst (λ (m : ℕ). IsNear (σ v (t + n)) (present_at flow.kind (row_of rows v) m)) count (on_at v n flow there l (ap (λ (k : Clock). clock_at inputs σ k (t + n)) clock ∙ base_on n l))
+      subst (λ (m : ℕ). IsNear (σ v (t + n)) (present_at flow.kind (row_of board.rows.items v) m)) count (on_at n flow there l (ap (λ (k : Clock). clock_at inputs σ k (t + n)) clock ∙ base_on n l))
 
-  module _ (v c : ℕ) (d : Datum) (flow : Flow) (there : flow_at flat v ≡ Some flow) (clock : flow.clock ≡ On c d) (of : List Status) (s b : ℕ) (begins : s + b ≡ t) (near : (m : ℕ) (status : Status) → slice_get of m ≡ Some status → IsNear (σ c (s + m)) status) (long : length of ≡ b + len) where
+  module _ (c : ℕ) (d : Datum) (flow : Flow) (there : flow_at flat v ≡ Some flow) (clock : flow.clock ≡ On c d) (of : List Status) (s b : ℕ) (begins : s + b ≡ t) (near : (m : ℕ) (status : Status) → slice_get of m ≡ Some status → IsNear (σ c (s + m)) status) (long : length of ≡ b + len) where
     tick_at : (n : ℕ) → n < len → clock_at inputs σ (On c d) (t + n) ≡ Some (has_value d (status_in of (b + n)))
     tick_at n l =
         let fits : ClockFits flat is_flat.sound.class (On c d) = subst (ClockFits flat is_flat.sound.class) clock (is_flat.sound.clocks v flow there) in
@@ -155,17 +193,17 @@ module _ (flat : FlatProgram) (inputs : Table) (σ : Streams) (t len : ℕ) (row
     count_at zero l = refl
     count_at (suc n) l = ap₂ (λ (x y : ℕ). x + y) (count_at n (omega arith)) (ap once_true (tick_at n (omega arith)))
 
-    show_slow : (n : ℕ) → n < len → IsNear (σ v (t + n)) (slow_at flow.kind (row_of rows v) of d b n)
+    show_slow : (n : ℕ) → n < len → IsNear (σ v (t + n)) (slow_at flow.kind (row_of board.rows.items v) of d b n)
     show_slow n l =
         let own : clock_at inputs σ flow.clock (t + n) ≡ clock_at inputs σ (On c d) (t + n) = ap (λ (k : Clock). clock_at inputs σ k (t + n)) clock in
         let count : since (clock_at inputs σ flow.clock) t n ≡ seen_in of d b n = ap (λ (k : Clock). since (clock_at inputs σ k) t n) clock ∙ count_at n (omega arith) in
-        near_slow (has_value d (status_in of (b + n))) (clock_at inputs σ (On c d) (t + n)) (σ v (t + n)) (present_at flow.kind (row_of rows v) (seen_in of d b n)) (tick_at n l)
-        (λ on. subst (λ (m : ℕ). IsNear (σ v (t + n)) (present_at flow.kind (row_of rows v) m)) count (on_at v n flow there l (own ∙ on)))
-        (λ off. off_at v n flow there l (own ∙ off))
+        near_slow (has_value d (status_in of (b + n))) (clock_at inputs σ (On c d) (t + n)) (σ v (t + n)) (present_at flow.kind (row_of board.rows.items v) (seen_in of d b n)) (tick_at n l)
+        (λ on. subst (λ (m : ℕ). IsNear (σ v (t + n)) (present_at flow.kind (row_of board.rows.items v) m)) count (on_at n flow there l (own ∙ on)))
+        (λ off. off_at n flow there l (own ∙ off))
 
   -- statuses at a column's end
-  added_near : (v first : ℕ) (old new : List Status) (f : ℕ → Status) → first + length old ≡ t → IsAdded old new len f → ((m : ℕ) (s : Status) → slice_get old m ≡ Some s → IsNear (σ v (first + m)) s) → ((n : ℕ) → n < len → IsNear (σ v (t + n)) (f n)) → (m : ℕ) (s : Status) → slice_get new m ≡ Some s → IsNear (σ v (first + m)) s
-  added_near v first old new f at added before now m s is = elim (cases_lt m (length old)) [
+  added_near : (first : ℕ) (old new : List Status) (f : ℕ → Status) → first + length old ≡ t → IsAdded old new len f → ((m : ℕ) (s : Status) → slice_get old m ≡ Some s → IsNear (σ v (first + m)) s) → ((n : ℕ) → n < len → IsNear (σ v (t + n)) (f n)) → (m : ℕ) (s : Status) → slice_get new m ≡ Some s → IsNear (σ v (first + m)) s
+  added_near first old new f at added before now m s is = elim (cases_lt m (length old)) [
     | inl h ↦ before m s (sym (added.kept m h) ∙ is)
     | inr h ↦
         let l : m < length new = slice_get_within new m s is in
@@ -177,19 +215,19 @@ module _ (flat : FlatProgram) (inputs : Table) (σ : Streams) (t len : ℕ) (row
         subst (λ (k : ℕ). IsNear (σ v k) s) e (subst (λ (x : Status). IsNear (σ v (t + n)) x) same (now n ln))
   ]
 
-  shown_by : (columns : List Column) (v : ℕ) (flow : Flow) (k : Clock) (old new : List Status) → AreNear flat σ t columns → flow_at flat v ≡ Some flow → flow.clock ≡ k → ((m : ℕ) (s : Status) → slice_get old m ≡ Some s → IsNear (σ v (first_of flat v t + m)) s) → IsShown flat columns (first_of flat v t) flow.kind (row_of rows v) k t len old new → (m : ℕ) (s : Status) → slice_get new m ≡ Some s → IsNear (σ v (first_of flat v t + m)) s
-  shown_by columns v flow Base old new near there clock before shown = added_near v (first_of flat v t) old new (present_at flow.kind (row_of rows v)) shown.0 shown.1 before (λ n l. show_base v n flow there clock l)
-  shown_by columns v flow (On c d) old new near there clock before shown =
-      added_near v (first_of flat v t) old new (slow_at flow.kind (row_of rows v) shown.1.items d shown.3) shown.0 shown.6 before
-      (show_slow v c d flow there clock shown.1.items (first_of flat c t) shown.3 shown.4 (λ m s. near.near c shown.1 shown.2 m s) shown.5)
+  shown_by : (columns : List Column) (flow : Flow) (k : Clock) (old new : List Status) → AreNear flat σ t columns → flow_at flat v ≡ Some flow → flow.clock ≡ k → ((m : ℕ) (s : Status) → slice_get old m ≡ Some s → IsNear (σ v (first_of flat v t + m)) s) → IsShown flat columns (first_of flat v t) flow.kind (row_of board.rows.items v) k t len old new → (m : ℕ) (s : Status) → slice_get new m ≡ Some s → IsNear (σ v (first_of flat v t + m)) s
+  shown_by columns flow Base old new near there clock before shown = added_near (first_of flat v t) old new (present_at flow.kind (row_of board.rows.items v)) shown.0 shown.1 before (λ n l. show_base n flow there clock l)
+  shown_by columns flow (On c d) old new near there clock before shown =
+      added_near (first_of flat v t) old new (slow_at flow.kind (row_of board.rows.items v) shown.1.items d shown.3) shown.0 shown.6 before
+      (show_slow c d flow there clock shown.1.items (first_of flat c t) shown.3 shown.4 (λ m s. near.near c shown.1 shown.2 m s) shown.5)
 
   -- a column that was taken out and put back with what its flow has in the block
-  pub shown_more : (columns : List Column) (v : ℕ) (flow : Flow) (old dest new : Column) → v < length columns → slice_get columns v ≡ Some old → dest.items ≡ [] → flow_at flat v ≡ Some flow → AreNear flat σ t columns → IsShown flat (set columns v dest) (first_of flat v t) flow.kind (row_of rows v) flow.clock t len old.items new.items → AreNear flat σ t (set (set columns v dest) v new)
-  shown_more columns v flow old dest new inside was empty there near shown =
+  pub shown_more : (columns : List Column) (flow : Flow) (old dest new : Column) → v < length columns → slice_get columns v ≡ Some old → dest.items ≡ [] → flow_at flat v ≡ Some flow → AreNear flat σ t columns → IsShown flat (set columns v dest) (first_of flat v t) flow.kind (row_of board.rows.items v) flow.clock t len old.items new.items → AreNear flat σ t (set (set columns v dest) v new)
+  shown_more columns flow old dest new inside was empty there near shown =
       let taken : AreNear flat σ t (set columns v dest) = record {
         near = λ r x is m s at.
             same_place (λ (r : ℕ). (x : Column) → slice_get (set columns v dest) r ≡ Some x → slice_get x.items m ≡ Some s → IsNear (σ r (first_of flat r t + m)) s) v r
-            (λ x is at. absurd (let e : x ≡ dest = same_Some x dest (sym is ∙ get_same columns v dest inside) in let none : List Status = [] in let f : slice_get none m ≡ Some s = ap (λ (xs : List Status). slice_get xs m) (sym empty ∙ ap (λ (y : Column). y.items) (sym e)) ∙ at in cc))
+            (λ x is at. absurd (no_status x m s (let e : x ≡ dest = same_Some x dest (sym is ∙ get_same columns v dest inside) in ap (λ (y : Column). y.items) e ∙ empty) at))
             (λ ne x is at. near.near r x (sym (get_other columns v r dest ne) ∙ is) m s at) x is at;
       } in
       record {
@@ -197,6 +235,6 @@ module _ (flat : FlatProgram) (inputs : Table) (σ : Streams) (t len : ℕ) (row
             same_place (λ (r : ℕ). (x : Column) → slice_get (set (set columns v dest) v new) r ≡ Some x → slice_get x.items m ≡ Some s → IsNear (σ r (first_of flat r t + m)) s) v r
             (λ x is at.
             let e : new ≡ x = same_Some new x (sym (get_same (set columns v dest) v new (let k = len_set columns v dest in omega (arith, k, inside))) ∙ is) in
-            shown_by (set columns v dest) v flow flow.clock old.items new.items taken there refl (λ m s at. near.near v old was m s at) shown m s (ap (λ (y : Column). slice_get y.items m) e ∙ at))
+            shown_by (set columns v dest) flow flow.clock old.items new.items taken there refl (λ m s at. near.near v old was m s at) shown m s (ap (λ (y : Column). slice_get y.items m) e ∙ at))
             (λ ne x is at. taken.near r x (sym (get_other (set columns v dest) v r new ne) ∙ is) m s at) x is at;
       }

@@ -1,5 +1,5 @@
 -- The columns of statuses that blocks put out.
-use Rattle.std.specs.Prelude.{◌≡◌, ◌≢◌, ℕ, zero, suc, ◌+◌, ◌<◌, false, List, [], length, Option, Some, None, Vec, cond, ◌⊎◌, slice_get, slice_index_or, ℤ}
+use Rattle.std.specs.Prelude.{◌≡◌, ◌≢◌, ℕ, zero, suc, ◌+◌, ◌<◌, ◌≤◌, true, false, List, [], length, Option, Some, None, Vec, cond, ◌⊎◌, slice_get, slice_index_or, ℤ}
 use Rattle.std.specs.declared.alloc.Global.{Global}
 use Rattle.lutree.specs.declared.program.Kind.{Kind}
 use Rattle.luflow.specs.declared.data.Datum.{Datum}
@@ -15,9 +15,11 @@ use Rattle.luflow.specs.Program.{FlatProgram, Table, flow_at, flows_of}
 use Rattle.luflow.specs.Variables.{is_output}
 use Rattle.luflow.specs.Streams.{Mark, Known, Broken, Streams}
 use Rattle.luflow.specs.Solution.{IsSolution}
+use Rattle.luflow.specs.Sound.{IsFit}
 use Rattle.lueval_lines.specs.Frames.{has_value}
 use Rattle.lublock.specs.declared.board.Board.{Board}
-use Rattle.lublock_forms.specs.Blocks.{Begins, IsRight, datum_at, once}
+use Rattle.lublock_forms.specs.Blocks.{Begins, IsRight, IsRightAt, datum_at, once}
+use Rattle.lublock_forms.specs.Parts.{Part, knows, IsRightIn}
 use Rattle.lublock_rows.specs.Rows.{word_in}
 use Rattle.lublock_forms.specs.Machine.{block_of, row_of, upto_of, known_of}
 
@@ -74,6 +76,21 @@ pub record AreNear (flat : FlatProgram) (σ : Streams) (t : ℕ) (columns : List
 -- of the columns those of outputs are as they were, and others are empty
 abbrev pub AreKept : FlatProgram → List Column → List Column → Type 0
 AreKept flat old new = (v : ℕ) (x : Column) → slice_get new v ≡ Some x → (((t : ℕ) → first_of flat v t ≡ 0) × (slice_get old v ≡ Some x)) ⊎ (x.items ≡ [])
+
+-- a flow is right at each instant of a block
+abbrev pub IsRightFlow : FlatProgram → Table → Streams → ℕ → ℕ → Board → ℕ → Type 0
+IsRightFlow flat inputs σ t len board r = (n : ℕ) (flow : Flow) → flow_at flat r ≡ Some flow → n < len → IsRightAt inputs σ t (block_of board.rows.items board.spans.items) n r flow
+
+-- Columns that were near are near, at each table and in each solution in which these flows are right in the block.
+pub record StaysNear (flat : FlatProgram) (t len : ℕ) (board : Board) (shown : ℕ → Type 0) (old new : List Column) : Type 0 where
+  pub near : (inputs : Table) (σ : Streams) → IsFit flat inputs → IsSolution flat inputs σ → t + len ≤ inputs.instants
+      → ((v : ℕ) → shown v → IsRightFlow flat inputs σ t len board v) → AreNear flat σ t old → AreNear flat σ t new
+
+-- Columns that were near are near, for each part that knows these flows and is right in the block.
+pub record StaysNearIn (flat : FlatProgram) (t len : ℕ) (board : Board) (needs : List ℕ) (old new : List Column) : Type 0 where
+  pub near : (part : Part) (inputs : Table) (σ : Streams) → IsFit flat inputs → IsSolution flat inputs σ → t + len ≤ inputs.instants
+      → ((k v : ℕ) → slice_get needs k ≡ Some v → knows part v ≡ true)
+      → IsRightIn part flat inputs σ t len (block_of board.rows.items board.spans.items) → AreNear flat σ t old → AreNear flat σ t new
 
 -- the same in each solution
 abbrev pub AllNear : FlatProgram → Table → ℕ → List Column → Type 0

@@ -6,6 +6,7 @@ ghost use Rattle.luflow.specs.Program.{FlatProgram, Table, flows_of};
 ghost use Rattle.luflow.specs.Solution.{IsSolution};
 ghost use Rattle.luflow.specs.Sound.{IsFit};
 ghost use Rattle.lublock_forms.specs.Blocks.{IsRight, IsSolved};
+ghost use Rattle.lublock_forms.specs.Parts.{whole};
 ghost use Rattle.lublock.specs.Boards.{StandsOn, StandsStill};
 ghost use Rattle.lublock_forms.specs.Machine.{IsWhole, block_of};
 
@@ -108,8 +109,8 @@ impl Board {
         }
     }
 
-    /// Goes through a cycle, instant by instant, and supposes what its `pre`s give.
-    fn cycle(&mut self, flat: &Flat, len: usize, cycle: &mut Cycle) -> bool
+    /// Goes through a cycle, instant by instant, and supposes what its `pre`s give; whether that can't be.
+    pub fn cycle(&mut self, flat: &Flat, len: usize, cycle: &mut Cycle) -> bool
         ensures stands { (inputs : Table) (t : ℕ)
             → StandsStill flat.now inputs t len self.old self.new }
         ensures flows { length self.new.spans.items ≡ length self.old.spans.items }
@@ -189,11 +190,11 @@ impl Board {
         ensures flows { length self.new.spans.items ≡ length self.old.spans.items }
         ensures right { result ≡ false
             → (σ : Streams) → IsFit flat.now inputs.now → IsSolution flat.now inputs.now σ
-            → StandsOn flat.now inputs.now σ t len self.old
+            → StandsOn whole flat.now inputs.now σ t len self.old
             → IsRight flat.now inputs.now σ t len (block_of self.new.rows.items
             self.new.spans.items) }
         ensures solved { result ≡ false
-            → (σ : Streams) → StandsOn flat.now inputs.now σ t len self.old
+            → (σ : Streams) → StandsOn whole flat.now inputs.now σ t len self.old
             → IsSolved flat.now inputs.now t len (block_of self.new.rows.items
             self.new.spans.items) }
     {

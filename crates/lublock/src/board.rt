@@ -1,11 +1,13 @@
 //! The rows of all flows, and how far each has come in the block.
 
-ghost use Rattle.std.specs.Prelude.{◌≡◌, ◌<◌, ◌||◌, ℕ, suc, length, true, false, cond, IfOk, IfSome, Some, nat_lt, replicate};
+ghost use Rattle.std.specs.Prelude.{◌≡◌, ◌≤◌, ◌<◌, ◌+◌, slice_get, ◌||◌, ◌&&◌, not, ℕ, suc, length, true, false, cond, IfOk, IfSome, Some, nat_lt, replicate};
 ghost use Rattle.luflow.specs.Program.{FlatProgram, Table, flow_at};
 ghost use Rattle.luflow.specs.declared.form.Flow.{Flow};
 ghost use Rattle.lublock_rows.specs.Rows.{Keeps, word_in};
-ghost use Rattle.lublock.specs.Boards.{IsAfter, StandsStill};
-ghost use Rattle.lublock_forms.specs.Machine.{IsConstant, IsCount, IsLike, WritesForm, row_of, ticks_of, upto_of, was_of, known_of};
+ghost use Rattle.lublock_rows.specs.Words.{datum_at};
+ghost use Rattle.luflow.specs.Packed.{data_in};
+ghost use Rattle.lublock.specs.Boards.{IsAfter, IsGiven, ReadsSame, StandsStill};
+ghost use Rattle.lublock_forms.specs.Machine.{IsConstant, IsCount, IsLike, WritesForm, row_of, ticks_of, upto_of, was_of, known_of, taken_of};
 
 use lublock_forms::clocked::ticks_at;
 use lublock_forms::forms::{clock_at, flow_of, kind_at, read};
@@ -13,7 +15,9 @@ use lublock_forms::solve::solve_form;
 use lublock_forms::span::Span;
 use lublock_rows::clocks::count;
 use lublock_rows::rows::put;
-use luflow::{Clock, Datum, Flat, Flow, Form, Inputs};
+use lublock_rows::singles::write_input;
+use luflow::{Clock, Datum, Flat, Flow, Form, Inputs, Values};
+use lutree::Kind;
 use std::alloc::{AllocError, Global};
 use std::mem;
 
@@ -102,7 +106,7 @@ fn solve_into(
 /// Where no block was yet.
 fn fresh() -> Span
     ensures { result
-        ≡ record { ticks = 0; upto = 0; was = false; known = false; supposed = false } }
+        ≡ record { ticks = 0; upto = 0; was = false; known = false; supposed = false; taken = false } }
 {
     Span {
         ticks: 0,
@@ -110,6 +114,7 @@ fn fresh() -> Span
         was: false,
         known: false,
         supposed: false,
+        taken: false,
     }
 }
 
@@ -117,7 +122,7 @@ impl Board {
     /// A board before the first block, with room for blocks of so many instants.
     pub fn new(alloc: Global, flows: usize, instants: usize) -> Result<Board, AllocError>
         ensures { IfOk result (λ board. board.spans.items ≡ replicate flows
-            (record { ticks = 0; upto = 0; was = false; known = false; supposed = false })) }
+            (record { ticks = 0; upto = 0; was = false; known = false; supposed = false; taken = false })) }
     {
         let mut rows = Vec::with_capacity(alloc, flows)?;
         for _r in 0..flows {
@@ -151,6 +156,7 @@ impl Board {
                 was: span.was,
                 known: true,
                 supposed: span.supposed,
+                taken: span.taken,
             };
             return false;
         }
@@ -168,6 +174,7 @@ impl Board {
                     was: span.was,
                     known: true,
                     supposed: span.supposed,
+                    taken: span.taken,
                 };
                 false
             }
@@ -186,7 +193,8 @@ impl Board {
         i: usize,
         to: usize,
     ) -> bool
-        ensures stands { (len : ℕ) → StandsStill flat.now inputs.now t len self.old self.new }
+        ensures stands { (len : ℕ) (table : Table) → ReadsSame flat.now inputs.now table i
+            → StandsStill flat.now table t len self.old self.new }
         ensures flows { length self.new.spans.items ≡ length self.old.spans.items }
     {
         let Some(flow) = flow_of(flat, i) else {
@@ -196,6 +204,9 @@ impl Board {
             return true;
         }
         let span = self.spans[i];
+        if span.taken {
+            return true;
+        }
         let mut row = mem::replace(&mut self.rows[i], Vec::new(alloc));
         if row.len() <= to {
             self.rows[i] = row;
@@ -216,8 +227,88 @@ impl Board {
             was: span.was,
             known: span.known,
             supposed: span.supposed,
+            taken: span.taken,
         };
         false
+    }
+}
+
+/// Writes the words of an input of this column into its row.
+fn give_into(
+    values: &Values,
+    kind: Kind,
+    t: usize,
+    row: &mut Vec<i64>,
+    from: usize,
+    to: usize,
+) -> bool
+    requires { to < length row.old.items }
+    ensures kept { Keeps from row.old.items row.new.items }
+    ensures words { result ≡ false → (n : ℕ) → from ≤ n → n < to
+        → slice_get (data_in values.now) (t + n)
+        ≡ Some (datum_at kind (word_in row.new.items (suc n))) }
+{
+    if values.len() < to || values.len() - to < t {
+        return true;
+    }
+    write_input(row.as_mut_slice(), kind, values, t, from, to)
+}
+
+impl Board {
+    /// Gives the words of flow i, an input of this column, up to its tick `to`, where the block begins at instant `t`; whether some
+    /// tick has none.
+    pub fn give(
+        &mut self,
+        alloc: Global,
+        flat: &Flat,
+        values: &Values,
+        t: usize,
+        i: usize,
+        to: usize,
+    ) -> bool
+        ensures stands { (len : ℕ) (table : Table) → IsGiven flat.now table (data_in values.now) i
+            → StandsStill flat.now table t len self.old self.new }
+        ensures flows { length self.new.spans.items ≡ length self.old.spans.items }
+    {
+        let Some(flow) = flow_of(flat, i) else {
+            return true;
+        };
+        if !is_input(&flow.form) || self.spans.len() <= i || self.rows.len() <= i {
+            return true;
+        }
+        let span = self.spans[i];
+        if span.taken {
+            return true;
+        }
+        let mut row = mem::replace(&mut self.rows[i], Vec::new(alloc));
+        if row.len() <= to {
+            self.rows[i] = row;
+            return true;
+        }
+        let fault = give_into(values, flow.kind, t, &mut row, span.upto, to);
+        self.rows[i] = row;
+        if fault || to <= span.upto {
+            return fault;
+        }
+        self.spans[i] = Span {
+            ticks: span.ticks,
+            upto: to,
+            was: span.was,
+            known: span.known,
+            supposed: span.supposed,
+            taken: span.taken,
+        };
+        false
+    }
+}
+
+/// Whether a form is an input.
+fn is_input(form: &Form) -> bool
+    ensures { result ≡ true → (c : ℕ) × (form.now ≡ Form.Input c) }
+{
+    match form {
+        Form::Input(_) => true,
+        _ => false,
     }
 }
 
@@ -239,6 +330,13 @@ fn put_words(row: &mut Vec<i64>, words: &[i64])
     put_all(row.as_mut_slice(), words);
 }
 
+/// Whether a flow is known to have no tick.
+fn is_idle(span: Span) -> bool
+    ensures { result ≡ false → span.known ≡ true → 0 < span.ticks }
+{
+    span.known && span.ticks == 0
+}
+
 impl Board {
     /// Supposes the words of a flow, of which it has none yet; whether they can't be put. Nothing is known of them before it is seen that they
     /// are right.
@@ -251,8 +349,11 @@ impl Board {
             return true;
         }
         let span = self.spans[i];
-        if span.upto != 0 || self.rows[i].len() <= words.len() {
+        if span.taken || span.upto != 0 || self.rows[i].len() <= words.len() {
             return true;
+        }
+        if is_idle(span) {
+            return false;
         }
         put_words(&mut self.rows[i], words);
         self.spans[i] = Span {
@@ -261,6 +362,7 @@ impl Board {
             was: span.was,
             known: span.known,
             supposed: true,
+            taken: span.taken,
         };
         false
     }
@@ -310,22 +412,24 @@ fn is_constant(flat: &Flat, r: usize) -> bool
     }
 }
 
-/// How far a flow is when the next block begins: one that `stays` has its words of the last block.
+/// How far a flow is when the next block begins: one that `stays` has its words of the last block, unless they are messages.
 fn renewed(span: Span, stays: bool) -> Span
     ensures { result ≡ record {
       ticks = 0;
-      upto = cond stays span.ticks 0;
+      upto = cond (stays && not span.taken) span.ticks 0;
       was = span.was || nat_lt 0 span.ticks;
       known = false;
       supposed = false;
+      taken = span.taken;
     } }
 {
     Span {
         ticks: 0,
-        upto: if stays { span.ticks } else { 0 },
+        upto: if stays && !span.taken { span.ticks } else { 0 },
         was: span.was || 0 < span.ticks,
         known: false,
         supposed: false,
+        taken: span.taken,
     }
 }
 
@@ -337,6 +441,8 @@ fn renew_spans(flat: &Flat, spans: &mut Vec<Span>)
         → n < upto_of spans.new.items r
         → IsConstant flow.form × (n < ticks_of spans.old.items r) }
     ensures known { (r : ℕ) → known_of spans.new.items r ≡ false }
+    ensures taken { (r : ℕ) → taken_of spans.new.items r ≡ taken_of spans.old.items r }
+    ensures none { (r : ℕ) → taken_of spans.new.items r ≡ true → upto_of spans.new.items r ≡ 0 }
     ensures len { length spans.new.items ≡ length spans.old.items }
 {
     for i in 0..spans.len() {

@@ -1,9 +1,12 @@
 //! Evaluation in blocks of instants: a flow is a row of words, one for each tick of its clock in the block.
 //!
 //! - [`block_outputs`]: the outputs of a whole program at a table, or its first fault, as `lueval::whole_outputs` tells them.
+//! - [`show_part`], [`clear_others`], [`empty_columns`]: the columns of main variables, which a block of a part puts out.
+//! - [`Board`]: the rows of a block, of a whole program or of a part of one.
 //!
-//! - `board`, `block`: all rows, and the steps of one block; `closing`: whether what a cycle supposed is right.
-//! - `show`, `run`: statuses at a block's instants; block after block.
+//! - `board`, `block`: all rows, and the steps of one block; `closing`, `stage`: whether what a cycle supposed is right, and where all words of
+//!   a flow are found.
+//! - `show`, `told`, `run`: statuses at a block's instants; columns of them; block after block.
 //!
 //! The words of one flow are those of `lublock_forms`.
 #![tactic(auto)]
@@ -13,5 +16,10 @@ mod board;
 mod closing;
 mod run;
 mod show;
+mod stage;
+mod told;
 
+pub use board::Board;
 pub use run::block_outputs;
+pub use show::is_output;
+pub use told::{clear_others, empty_columns, show_part};

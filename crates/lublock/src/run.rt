@@ -1,16 +1,17 @@
 //! A whole run, block after block.
 
-ghost use Rattle.std.specs.Prelude.{◌≡◌, ◌≤◌, ◌<◌, ◌+◌, [], All, ℕ, length, false, true, IfErr, IfOk, IfSome, OnOk, Some, slice_get};
+ghost use Rattle.std.specs.Prelude.{◌≡◌, ◌≤◌, ◌<◌, ◌+◌, ℕ, length, false, true, IfErr, IfOk, IfSome, OnOk, Some, slice_get};
 ghost use Rattle.luflow.specs.Variables.{is_output, outputs_of};
 ghost use Rattle.luflow.specs.Program.{flows_of};
 ghost use Rattle.luflow.specs.Sound.{IsFit};
 ghost use Rattle.luflow.specs.FlatLaws.{HasOneSolution};
 ghost use Rattle.luflow.specs.declared.variable.Variable.{Variable};
 ghost use Rattle.lueval.specs.Whole.{AreWholeOutputs, HasNoFault, IsAnswer, KeepsAllTypes};
-ghost use Rattle.lublock.specs.Shown.{AllNear, AreKept, Column, IsRightBlock, IsRun, StandsAt};
+ghost use Rattle.lublock.specs.Shown.{Column, IsRun, StandsAt};
 
 use crate::board::Board;
-use crate::show::{first_of, is_output, show};
+use crate::show::is_output;
+use crate::told::{clear_others, empty_columns, show_flows};
 use lublock_plan::{Plan, needed};
 use lueval::{EvalError, taken_outputs, whole_outputs};
 use luflow::{Flat, Inputs, Outputs, Status, Variable};
@@ -18,46 +19,6 @@ use std::alloc::{AllocError, Global};
 
 /// The instants of a block.
 const INSTANTS: usize = 256;
-
-/// Puts the statuses of these main variables at a block's instants at their columns' ends; whether some isn't there.
-fn show_all(
-    alloc: Global,
-    flat: &Flat,
-    inputs: &Inputs,
-    board: &Board,
-    columns: &mut Vec<Vec<Status>>,
-    needs: &[usize],
-    t: usize,
-    len: usize,
-) -> Result<bool, AllocError>
-    requires fit { IsFit flat.now inputs.now }
-    requires within { t + len ≤ inputs.now.instants }
-    ensures len { IfOk result (λ none. none ≡ false
-        → length columns.new.items ≡ length columns.old.items) }
-    ensures near { IfOk result (λ none. none ≡ false
-        → IsRightBlock flat.now inputs.now t len board.now
-        → AllNear flat.now inputs.now t columns.old.items
-        → AllNear flat.now inputs.now t columns.new.items) }
-{
-    for v in needs {
-        if show(alloc, flat, inputs, board, columns, t, len, *v)? {
-            return Ok(true);
-        }
-    }
-    Ok(false)
-}
-
-/// Forgets what main variables have that aren't outputs.
-fn clear_others(flat: &Flat, columns: &mut Vec<Vec<Status>>)
-    ensures len { length columns.new.items ≡ length columns.old.items }
-    ensures kept { AreKept flat.now columns.old.items columns.new.items }
-{
-    for v in 0..columns.len() {
-        if first_of(flat, v, 1) != 0 {
-            columns[v].clear();
-        }
-    }
-}
 
 /// Works out a block, puts out what it has, and makes the board ready for the next; whether something isn't there.
 fn go(
@@ -85,24 +46,12 @@ fn go(
     if board.work(alloc, flat, inputs, plan, t, len) {
         return Ok(true);
     }
-    if show_all(alloc, flat, inputs, board, columns, needs, t, len)? {
+    if show_flows(alloc, flat, board, columns, needs, t, len)? {
         return Ok(true);
     }
     board.renew(flat);
     clear_others(flat, columns);
     Ok(false)
-}
-
-/// As many empty columns.
-fn empty_columns(alloc: Global, count: usize) -> Result<Vec<Vec<Status>>, AllocError>
-    ensures len { IfOk result (λ x. length x.items ≡ count) }
-    ensures empty { IfOk result (λ x. All (λ column. column.items ≡ []) x.items) }
-{
-    let mut columns = Vec::with_capacity(alloc, count)?;
-    for _v in 0..count {
-        columns.push_reserved(Vec::new(alloc));
-    }
-    Ok(columns)
 }
 
 /// The columns of a whole run, if it could be worked out in blocks.

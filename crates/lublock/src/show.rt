@@ -3,17 +3,16 @@
 ghost use Rattle.std.specs.Prelude.{◌≡◌, ◌≤◌, ◌<◌, ◌+◌, ◌++◌, ◌∷◌, [], length, false, IfOk, IfSome, Some, slice_get, if◌then◌else◌};
 ghost use Rattle.luflow.specs.declared.data.Status.{Status};
 ghost use Rattle.luflow.specs.Streams.{is_value};
-ghost use Rattle.luflow.specs.Sound.{IsFit};
 ghost use Rattle.lublock_forms.specs.Machine.{row_of};
 ghost use Rattle.lueval_lines.specs.Frames.{has_value};
 ghost use Rattle.lublock_forms.specs.Blocks.{datum_at};
 ghost use Rattle.luflow.specs.Variables.{is_output};
-ghost use Rattle.lublock.specs.Shown.{AllNear, IsAdded, IsRightBlock, IsShown, first_of, present_at, slow_at};
+ghost use Rattle.lublock.specs.Shown.{IsAdded, IsShown, StaysNear, first_of, present_at, slow_at};
 
 use crate::board::Board;
 use lublock_forms::forms::flow_of;
 use lublock_rows::rows::at;
-use luflow::{Clock, Datum, Flat, Inputs, Role, Status};
+use luflow::{Clock, Datum, Flat, Role, Status};
 use lutree::Kind;
 use std::alloc::{AllocError, Global};
 use std::mem;
@@ -227,21 +226,16 @@ fn row_at(rows: &[Vec<i64>], r: usize) -> Option<&[i64]>
 pub fn show(
     alloc: Global,
     flat: &Flat,
-    inputs: &Inputs,
     board: &Board,
     columns: &mut Vec<Vec<Status>>,
     t: usize,
     len: usize,
     v: usize,
 ) -> Result<bool, AllocError>
-    requires fit { IsFit flat.now inputs.now }
-    requires within { t + len ≤ inputs.now.instants }
     ensures len { IfOk result (λ none. none ≡ false
         → length columns.new.items ≡ length columns.old.items) }
     ensures near { IfOk result (λ none. none ≡ false
-        → IsRightBlock flat.now inputs.now t len board.now
-        → AllNear flat.now inputs.now t columns.old.items
-        → AllNear flat.now inputs.now t columns.new.items) }
+        → StaysNear flat.now t len board.now (λ r. r ≡ v) columns.old.items columns.new.items) }
 {
     let _flows = flat.flows();
     let Some(flow) = flow_of(flat, v) else {

@@ -1,5 +1,7 @@
 mod Words
 pub mod Rights
-mod Frames
+pub mod Frames
 mod Written
 pub mod Steps
+mod Carried
+pub mod Wholes

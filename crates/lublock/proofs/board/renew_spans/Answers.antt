@@ -34,3 +34,9 @@ returns-clause-upto c = λ r. (all_renewed c.args.flat.now c.args.spans.now.item
 
 pub returns-clause-known : goal.returns-clause-known
 returns-clause-known c = λ r. (all_renewed c.args.flat.now c.args.spans.now.items c.loop-i.spans.items c.loop-i.i c.loop-i.invariant.len (let no = c.loop-i-test.false in let all = c.len-i-end.ensures in let len = c.loop-i.invariant.len in omega (arith, no, all, len)) c.loop-i.invariant.done r).known
+
+pub returns-clause-taken : goal.returns-clause-taken
+returns-clause-taken c = λ r. (all_renewed c.args.flat.now c.args.spans.now.items c.loop-i.spans.items c.loop-i.i c.loop-i.invariant.len (let no = c.loop-i-test.false in let all = c.len-i-end.ensures in let len = c.loop-i.invariant.len in omega (arith, no, all, len)) c.loop-i.invariant.done r).taken
+
+pub returns-clause-none : goal.returns-clause-none
+returns-clause-none c = λ r. (all_renewed c.args.flat.now c.args.spans.now.items c.loop-i.spans.items c.loop-i.i c.loop-i.invariant.len (let no = c.loop-i-test.false in let all = c.len-i-end.ensures in let len = c.loop-i.invariant.len in omega (arith, no, all, len)) c.loop-i.invariant.done r).none

@@ -1,46 +1,62 @@
-use Rattle.std.proofs.Common.{rules, List, ℤ, subst, ap, ◌∙◌}
+use Rattle.std.proofs.Common.{rules, List, set, ℤ, subst, ap, ◌∙◌, refl}
 use Rattle.std.specs.Prelude.{Vec}
 use Rattle.std.specs.declared.alloc.Global.{Global}
 use Rattle.lublock_forms.specs.declared.span.Span.{Span}
 use Rattle.lublock_rows.specs.Rows.{word_in}
 use Rattle.lublock_forms.specs.Machine.{WritesForm}
-use Rattle.lublock_forms.proofs.Steps.{put_back, solved_more, got, row_got, upto_got}
+use Rattle.lublock_forms.proofs.Steps.{put_back, solved_more, got, marked_set, not_taken, row_got, upto_got}
+use Rattle.lublock.proofs.Settling.{settled_further, written_in}
 use Rattle.lublock.proofs.board.Board.solve.Goals as goal
 
 pub returns-then-len-to-clause-stands : goal.returns-then-len-to-clause-stands
-returns-then-len-to-clause-stands c = λ len. record {
-  still = λ σ stands.
+returns-then-len-to-clause-stands c = λ len table same. record {
+  kept = λ i h. h;
+  still = λ part σ stands.
       let rows = c.args.self.now.rows.items in
       let spans = c.args.self.now.spans.items in
       let i = c.args.i in
-      put_back c.args.flat.now c.args.inputs.now σ c.args.t len rows spans i c.replace-row.new.dest c.replace-row.result (search rules) (search rules)
-      (λ n l. ap (λ (v : Vec ℤ Global). word_in v.items n) c.replace-row.ensures.value ∙ row_got rows i c.index_mut.result.now (search rules) c.index_mut.ensures.value n)
-      stands;
+      record {
+        stands = put_back part c.args.flat.now table σ c.args.t len rows spans i c.replace-row.new.dest c.replace-row.result (search rules) (search rules)
+            (λ n l. ap (λ (v : Vec ℤ Global). word_in v.items n) c.replace-row.ensures.value ∙ row_got rows i c.index_mut.result.now (search rules) c.index_mut.ensures.value n)
+            stands.stands;
+        marked = stands.marked;
+      };
 }
 
 pub returns-then-fault-clause-stands : goal.returns-then-fault-clause-stands
-returns-then-fault-clause-stands c = λ len. record {
-  still = λ σ stands.
+returns-then-fault-clause-stands c = λ len table same. record {
+  kept = λ i h. h;
+  still = λ part σ stands.
       let rows = c.args.self.now.rows.items in
       let spans = c.args.self.now.spans.items in
       let i = c.args.i in
       let there = got spans i c.index-span.result.now (search rules) (search rules) in
-      put_back c.args.flat.now c.args.inputs.now σ c.args.t len rows spans i c.replace-row.new.dest c.solve_into-fault.new.row (search rules) (search rules)
-      (λ n l. c.solve_into-fault.ensures.kept n (upto_got spans i n c.index-span.result.now there l) ∙ ap (λ (v : Vec ℤ Global). word_in v.items n) c.replace-row.ensures.value ∙ row_got rows i c.index_mut.result.now (search rules) c.index_mut.ensures.value n)
-      stands;
+      record {
+        stands = put_back part c.args.flat.now table σ c.args.t len rows spans i c.replace-row.new.dest c.solve_into-fault.new.row (search rules) (search rules)
+            (λ n l. c.solve_into-fault.ensures.kept n (upto_got spans i n c.index-span.result.now there l) ∙ ap (λ (v : Vec ℤ Global). word_in v.items n) c.replace-row.ensures.value ∙ row_got rows i c.index_mut.result.now (search rules) c.index_mut.ensures.value n)
+            stands.stands;
+        marked = stands.marked;
+      };
 }
 
 pub returns-clause-stands : goal.returns-clause-stands
-returns-clause-stands c = λ len. record {
-  still = λ σ stands.
+returns-clause-stands c = λ len table same. record {
+  kept =
+      let spans = c.args.self.now.spans.items in
+      settled_further spans c.args.i c.index-span.result.now (got spans c.args.i c.index-span.result.now (search rules) (search rules)) c.args.to (search rules);
+  still = λ part σ stands.
       let rows = c.args.self.now.rows.items in
       let spans = c.args.self.now.spans.items in
       let i = c.args.i in
       let there = got spans i c.index-span.result.now (search rules) (search rules) in
-      solved_more c.args.flat.now c.args.inputs.now σ c.args.t len rows spans i c.replace-row.new.dest c.solve_into-fault.new.row (search rules) (search rules)
-      (λ n l. c.solve_into-fault.ensures.kept n (upto_got spans i n c.index-span.result.now there l) ∙ ap (λ (v : Vec ℤ Global). word_in v.items n) c.replace-row.ensures.value ∙ row_got rows i c.index_mut.result.now (search rules) c.index_mut.ensures.value n)
-      c.index-span.result.now c.args.to c.in-Some.flow.now there (search rules) (search rules)
-      (subst (λ (xs : List (Vec ℤ Global)). WritesForm c.args.flat.now c.args.inputs.now c.args.t xs spans i c.in-Some.flow.now c.in-Some.flow.now.form c.index-span.result.now.upto c.args.to c.solve_into-fault.new.row.items) c.as_slice-rows.ensures.value
-      (subst (λ (ys : List Span). WritesForm c.args.flat.now c.args.inputs.now c.args.t c.as_slice-rows.result.now ys i c.in-Some.flow.now c.in-Some.flow.now.form c.index-span.result.now.upto c.args.to c.solve_into-fault.new.row.items) c.as_slice-spans.ensures.value (c.solve_into-fault.ensures.words (search rules))))
-      stands;
+      record {
+        stands = solved_more part c.args.flat.now table σ c.args.t len rows spans i c.replace-row.new.dest c.solve_into-fault.new.row (search rules) (search rules)
+            (λ n l. c.solve_into-fault.ensures.kept n (upto_got spans i n c.index-span.result.now there l) ∙ ap (λ (v : Vec ℤ Global). word_in v.items n) c.replace-row.ensures.value ∙ row_got rows i c.index_mut.result.now (search rules) c.index_mut.ensures.value n)
+            c.index-span.result.now c.args.to c.in-Some.flow.now there (search rules) (search rules)
+            (written_in c.args.flat.now c.args.inputs.now table c.args.t (set rows i c.replace-row.new.dest) spans i c.in-Some.flow.now c.index-span.result.now.upto c.args.to c.solve_into-fault.new.row.items (search rules) same
+            (subst (λ (xs : List (Vec ℤ Global)). WritesForm c.args.flat.now c.args.inputs.now c.args.t xs spans i c.in-Some.flow.now c.in-Some.flow.now.form c.index-span.result.now.upto c.args.to c.solve_into-fault.new.row.items) c.as_slice-rows.ensures.value
+            (subst (λ (ys : List Span). WritesForm c.args.flat.now c.args.inputs.now c.args.t c.as_slice-rows.result.now ys i c.in-Some.flow.now c.in-Some.flow.now.form c.index-span.result.now.upto c.args.to c.solve_into-fault.new.row.items) c.as_slice-spans.ensures.value (c.solve_into-fault.ensures.words (search rules)))))
+            (not_taken part spans i c.index-span.result.now there (search rules) stands.marked) stands.stands;
+        marked = marked_set part spans i c.index-span.result.now (record { ticks = c.index-span.result.now.ticks; upto = c.args.to; was = c.index-span.result.now.was; known = c.index-span.result.now.known; supposed = c.index-span.result.now.supposed; taken = c.index-span.result.now.taken }) there refl stands.marked;
+      };
 }

@@ -1,7 +1,7 @@
 use Rattle.std.proofs.Common.{◌≡◌, ◌≤◌, length, []}
 use Rattle.std.specs.Prelude.{All, vec_capacity}
 use Rattle.lublock.specs.Shown.{Column}
-use Rattle.lublock.proofs.run.empty_columns.Given as goal
+use Rattle.lublock.proofs.told.empty_columns.Given as goal
 
 abbrev pub invariant-loop-v : goal.invariant-loop-v
 invariant-loop-v l = record {

@@ -2,7 +2,7 @@ use Rattle.std.proofs.Common.{arith, ◌≡◌, [], ◌∷◌, length, length-ap
 use Rattle.std.specs.Prelude.{All}
 use Rattle.std.proofs.lemmas.List.Elements.{All-push}
 use Rattle.lublock.specs.Shown.{Column}
-use Rattle.lublock.proofs.run.empty_columns.Goals as goal
+use Rattle.lublock.proofs.told.empty_columns.Goals as goal
 
 pub loop-v-preserved : goal.loop-v-preserved
 loop-v-preserved c =

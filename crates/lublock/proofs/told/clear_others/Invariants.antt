@@ -1,7 +1,7 @@
 use Rattle.std.proofs.Common.{◌≡◌, ◌<◌, ◌≤◌, ℕ, length, Some, []}
 use Rattle.std.specs.Prelude.{slice_get, ◌⊎◌}
 use Rattle.lublock.specs.Shown.{Column, first_of}
-use Rattle.lublock.proofs.run.clear_others.Given as goal
+use Rattle.lublock.proofs.told.clear_others.Given as goal
 
 abbrev pub invariant-loop-v : goal.invariant-loop-v
 invariant-loop-v l = record {
