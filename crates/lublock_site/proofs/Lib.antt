@@ -1,0 +1,12 @@
+mod Links
+mod Taking
+mod Refitted
+mod Marked
+mod Passing
+mod Closed
+mod Moving
+mod Behind
+mod Telling
+mod Reported
+mod Starting
+pub mod Crosses

@@ -1,0 +1,211 @@
+-- A message that was taken is a word, and a word is the message that may be put.
+use Rattle.std.proofs.Common.{◌≡◌, ◌≢◌, ℕ, zero, suc, ◌+◌, ◌<◌, Bool, true, false, inl, List, [], ◌∷◌, length, Some, ℤ, refl, sym, subst, ◌∙◌, ap, arith, length-append}
+use Rattle.std.specs.Prelude.{slice_get, Vec, ◌++◌}
+use Rattle.std.specs.declared.alloc.Global.{Global}
+use Rattle.luflow.specs.declared.data.Datum.{Datum}
+use Rattle.luflow.specs.declared.message.Msg.{Msg}
+use Rattle.luflow.specs.declared.message.Body.TheVariants.{Value, Close}
+use Rattle.luflow.specs.Program.{FlatProgram, flow_at}
+use Rattle.luflow.specs.Messages.{presents, marks, messages}
+use Rattle.luworld.specs.Runs.{Run, carried, streams_of, link_list}
+use Rattle.luworld.proofs.Messages.{close_at}
+use Rattle.lulink.specs.Lists.{list_of}
+use Rattle.lulink.specs.Views.{SenderView, ReceiverView, HasTaken, HasTakenNothing, HasPut, HasPutNothing, IsNextToTake, IsNextToPut}
+use Rattle.lublock_forms.specs.declared.span.Span.{Span}
+use Rattle.lublock_forms.specs.Parts.{GoesOut, IsNeverNil, message_at}
+use Rattle.lublock_forms.specs.Machine.{block_of, upto_of, ticks_of}
+use Rattle.lublock.specs.declared.board.Board.{Board}
+use Rattle.lublock_site.specs.declared.sources.Source.{Source}
+use Rattle.lublock_site.specs.declared.outlets.Outlet.{Outlet}
+use Rattle.lublock_site.specs.Sites.{value_message}
+use Rattle.lublock_site.specs.Steps.{HasTakenWord, IsMessageOf}
+use Rattle.lublock_site.specs.Stations.{Brings, BringsTicks, SendsTicks, Sends, HasBrought, HasSent, IsLater, MaySend, MayClose}
+use Rattle.lublock_site.proofs.Links.{carries, list_is}
+
+-- a look that took nothing changes nothing of what was brought
+pub brings_still : (job : Run) (t i n : ℕ) (r r' : ReceiverView) → HasTakenNothing r r' → BringsTicks job t i n r → BringsTicks job t i n r'
+brings_still job t i n r r' has brings = record {
+  job_is = has.0 ∙ brings.job_is;
+  listed = subst (λ (l : ℕ). l < length job.plan.links) (sym has.1) brings.listed;
+  flow_is = ap (carried job.plan) has.1 ∙ brings.flow_is;
+  count = ap length has.2 ∙ brings.count;
+}
+
+pub brought_none : (flat : FlatProgram) (i : ℕ) (board : Board) (x x' : Source) → x'.flow ≡ x.flow → x'.closed ≡ x.closed → x'.got ≡ x.got → HasTakenNothing x.rx x'.rx → HasBrought flat i board x board x'
+brought_none flat i board x x' flow closed got has = record {
+  flow = flow;
+  closed = closed;
+  even = λ e. e ∙ sym got;
+  brings = λ job t brings. subst (λ (n : ℕ). BringsTicks job t i n x'.rx) (sym got) (brings_still job t i x.got x.rx x'.rx has brings);
+  stands = λ job part t len free even brings stands. stands;
+  kept = λ r h. h;
+  flows = refl;
+}
+
+pub brought_same : (flat : FlatProgram) (i : ℕ) (board : Board) (x : Source) → HasBrought flat i board x board x
+brought_same flat i board x = brought_none flat i board x x refl refl refl (refl, refl, refl)
+
+pub brought_more : (flat : FlatProgram) (i : ℕ) (a : Board) (x : Source) (b : Board) (y : Source) (c : Board) (z : Source) → HasBrought flat i a x b y → HasBrought flat i b y c z → HasBrought flat i a x c z
+brought_more flat i a x b y c z f g = record {
+  flow = g.flow ∙ f.flow;
+  closed = g.closed ∙ f.closed;
+  even = λ e. g.even (f.even e);
+  brings = λ job t h. g.brings job t (f.brings job t h);
+  stands = λ job part t len free even brings stands. g.stands job part t len free (f.even even) (f.brings job t brings) (f.stands job part t len free even brings stands);
+  kept = λ r h. g.kept r (f.kept r h);
+  flows = g.flows ∙ f.flows;
+}
+
+module _ (flat : FlatProgram) (i : ℕ) (old new : Board) (x x' : Source) (m : Msg) (d : Datum) (next : IsNextToTake x.rx m) (body : m.body ≡ Value d) (has : HasTaken m x.rx x'.rx) (word : HasTakenWord flat i d old new) (flow : x'.flow ≡ x.flow) (closed : x'.closed ≡ x.closed) (got : x'.got ≡ x.got + 1) where
+  comes : (job : Run) (t : ℕ) → upto_of old.spans.items i ≡ x.got → BringsTicks job t i x.got x.rx → message_at job.inputs (streams_of job) i (presents (streams_of job i) t + upto_of old.spans.items i) ≡ Some d
+  comes job t even brings =
+      let here : slice_get (list_of job x.rx.link) (length x.rx.taken) ≡ Some m = subst (λ (j : Run). slice_get (list_of j x.rx.link) (length x.rx.taken) ≡ Some m) brings.job_is next in
+      let found = (carries job x.rx.link brings.listed).into (length x.rx.taken) d m here body in
+      subst (λ (k : ℕ). message_at job.inputs (streams_of job) i k ≡ Some d) (brings.count ∙ ap (λ (n : ℕ). presents (streams_of job i) t + n) (sym even))
+      (subst (λ (f : ℕ). message_at job.inputs (streams_of job) f (length x.rx.taken) ≡ Some d) brings.flow_is found)
+
+  more : length x'.rx.taken ≡ length x.rx.taken + 1
+  more = ap length has.2 ∙ length-append x.rx.taken (m ∷ [])
+
+  pub brought_one : HasBrought flat i old x new x'
+  brought_one = record {
+    flow = flow;
+    closed = closed;
+    even = λ e. (let c = word.count in omega (arith, e, c, got));
+    brings = λ job t brings. record {
+      job_is = has.0 ∙ brings.job_is;
+      listed = subst (λ (l : ℕ). l < length job.plan.links) (sym has.1) brings.listed;
+      flow_is = ap (carried job.plan) has.1 ∙ brings.flow_is;
+      count = let a = more in let b = brings.count in omega (arith, a, b, got);
+    };
+    stands = λ job part t len free even brings stands. word.stands part job.inputs (streams_of job) t len free (comes job t even brings) stands;
+    kept = word.kept;
+    flows = word.flows;
+  }
+
+-- the message of an end's next tick is the next of its link
+pub may_put : (flat : FlatProgram) (rows : List (Vec ℤ Global)) (spans : List Span) (x : Outlet) (d : Datum) → MaySend flat rows spans x → x.sent < ticks_of spans x.flow → IsMessageOf flat rows spans x.flow x.sent d → IsNextToPut x.tx (value_message x.number d)
+may_put flat rows spans x d may few is =
+    let job = may.job in
+    let sends = may.sends.ticks may.unclosed in
+    let number = may.sends.number may.unclosed in
+    let found = is job.inputs (streams_of job) may.first may.len may.flow may.there may.goes (inl may.sends.never) in
+    let k : presents (streams_of job x.flow) may.first + x.sent ≡ x.number = sym sends.count ∙ sym number in
+    let here : message_at job.inputs (streams_of job) x.flow x.number ≡ Some d = subst (λ (m : ℕ). message_at job.inputs (streams_of job) x.flow m ≡ Some d) k found in
+    let out = (carries job x.tx.link sends.listed).out x.number d (subst (λ (f : ℕ). message_at job.inputs (streams_of job) f x.number ≡ Some d) (sym sends.flow_is) here) in
+    subst (λ (j : Run). slice_get (list_of j x.tx.link) (length x.tx.put) ≡ Some (value_message x.number d)) (sym sends.job_is)
+    (subst (λ (m : ℕ). slice_get (list_of job x.tx.link) m ≡ Some (value_message x.number d)) number out)
+
+-- nothing was put
+pub sends_still : (job : Run) (t i n : ℕ) (s s' : SenderView) → HasPutNothing s s' → SendsTicks job t i n s → SendsTicks job t i n s'
+sends_still job t i n s s' has sends = record {
+  job_is = has.0 ∙ sends.job_is;
+  listed = subst (λ (l : ℕ). l < length job.plan.links) (sym has.1) sends.listed;
+  flow_is = ap (carried job.plan) has.1 ∙ sends.flow_is;
+  count = ap length has.2 ∙ sends.count;
+}
+
+pub put_nothing : (s s' s'' : SenderView) → HasPutNothing s s' → HasPutNothing s' s'' → HasPutNothing s s''
+put_nothing s s' s'' f g = (g.0 ∙ f.0, g.1 ∙ f.1, g.2 ∙ f.2)
+
+pub sent_none : (flat : FlatProgram) (x x' : Outlet) → x'.flow ≡ x.flow → x'.sent ≡ x.sent → x'.number ≡ x.number → x'.closed ≡ x.closed → HasPutNothing x.tx x'.tx → HasSent flat x x'
+sent_none flat x x' flow sent number closed has = record {
+  flow = flow;
+  sends = λ job t h. record {
+    never = subst (λ (i : ℕ). IsNeverNil flat i) (sym flow) h.never;
+    ticks = λ unclosed. subst (λ (i : ℕ). SendsTicks job t i x'.sent x'.tx) (sym flow) (subst (λ (n : ℕ). SendsTicks job t x.flow n x'.tx) (sym sent) (sends_still job t x.flow x.sent x.tx x'.tx has (h.ticks (sym closed ∙ unclosed))));
+    number = λ unclosed. number ∙ h.number (sym closed ∙ unclosed) ∙ sym (ap length has.2);
+  };
+}
+
+pub sent_same : (flat : FlatProgram) (x : Outlet) → HasSent flat x x
+sent_same flat x = record { flow = refl; sends = λ job t h. h }
+
+pub sent_more : (flat : FlatProgram) (x y z : Outlet) → HasSent flat x y → HasSent flat y z → HasSent flat x z
+sent_more flat x y z f g = record { flow = g.flow ∙ f.flow; sends = λ job t h. g.sends job t (f.sends job t h) }
+
+-- one message was put
+pub sent_one : (flat : FlatProgram) (x x' : Outlet) (m : Msg) → x.closed ≡ false → x'.flow ≡ x.flow → x'.sent ≡ x.sent + 1 → x'.number ≡ x.number + 1 → x'.closed ≡ x.closed → HasPut m x.tx x'.tx → HasSent flat x x'
+sent_one flat x x' m unclosed flow sent number closed has =
+    let more : length x'.tx.put ≡ length x.tx.put + 1 = ap length has.2 ∙ length-append x.tx.put (m ∷ []) in
+    record {
+      flow = flow;
+      sends = λ job t h.
+          let s = h.ticks unclosed in
+          record {
+            never = subst (λ (i : ℕ). IsNeverNil flat i) (sym flow) h.never;
+            ticks = λ now. subst (λ (i : ℕ). SendsTicks job t i x'.sent x'.tx) (sym flow) (record {
+              job_is = has.0 ∙ s.job_is;
+              listed = subst (λ (l : ℕ). l < length job.plan.links) (sym has.1) s.listed;
+              flow_is = ap (carried job.plan) has.1 ∙ s.flow_is;
+              count = let c = s.count in omega (arith, more, c, sent);
+            });
+            number = λ now. (let n = h.number unclosed in omega (arith, more, n, number));
+          };
+    }
+
+-- the close was put
+pub sent_close : (flat : FlatProgram) (x x' : Outlet) → x'.flow ≡ x.flow → x'.closed ≡ true → HasSent flat x x'
+sent_close flat x x' flow closed = record {
+  flow = flow;
+  sends = λ job t h. record {
+    never = subst (λ (i : ℕ). IsNeverNil flat i) (sym flow) h.never;
+    ticks = λ unclosed. absurd (let e : true ≡ false = sym closed ∙ unclosed in cc);
+    number = λ unclosed. absurd (let e : true ≡ false = sym closed ∙ unclosed in cc);
+  };
+}
+
+-- behind the last instant the close is the next message
+pub may_close : (flat : FlatProgram) (x : Outlet) → MayClose flat x → IsNextToPut x.tx (record { no = x.number; body = Close })
+may_close flat x may =
+    let job = may.job in
+    let sends = may.sends.ticks may.unclosed in
+    let number = may.sends.number may.unclosed in
+    let σ = streams_of job in
+    let all : length x.tx.put ≡ presents (σ x.flow) job.inputs.instants = let c = sends.count in let n = may.none in omega (arith, c, n) in
+    let here = close_at (σ x.flow) job.inputs.instants may.last may.known in
+    let k : presents (σ x.flow) job.inputs.instants ≡ x.number = sym all ∙ sym number in
+    let close : slice_get (messages 0 (marks (σ x.flow) job.inputs.instants)) x.number ≡ Some (record { no = x.number; body = Close }) =
+    subst (λ (n : ℕ). slice_get (messages 0 (marks (σ x.flow) job.inputs.instants)) n ≡ Some (record { no = n; body = Close })) k here in
+    let listed : slice_get (list_of job x.tx.link) x.number ≡ Some (record { no = x.number; body = Close }) =
+    ap (λ (xs : List Msg). slice_get xs x.number) (list_is job x.tx.link sends.listed ∙ ap (λ (i : ℕ). messages 0 (marks (σ i) job.inputs.instants)) sends.flow_is) ∙ close in
+    subst (λ (j : Run). slice_get (list_of j x.tx.link) (length x.tx.put) ≡ Some (record { no = x.number; body = Close })) (sym sends.job_is)
+    (subst (λ (m : ℕ). slice_get (list_of job x.tx.link) m ≡ Some (record { no = x.number; body = Close })) number listed)
+
+-- the messages of an end that has put some may be put
+pub may_still : (flat : FlatProgram) (rows : List (Vec ℤ Global)) (spans : List Span) (x y : Outlet) → MaySend flat rows spans x → HasSent flat x y → y.closed ≡ x.closed → MaySend flat rows spans y
+may_still flat rows spans x y may sent closed = record {
+  job = may.job;
+  first = may.first;
+  len = may.len;
+  flow = may.flow;
+  there = subst (λ (i : ℕ). flow_at flat i ≡ Some may.flow) (sym sent.flow) may.there;
+  goes = subst (λ (i : ℕ). GoesOut flat may.job.inputs (streams_of may.job) may.first may.len (block_of rows spans) i may.flow) (sym sent.flow) may.goes;
+  sends = sent.sends may.job may.first may.sends;
+  unclosed = closed ∙ may.unclosed;
+}
+
+-- an end that went on, of the same flow
+pub brought_on : (flat : FlatProgram) (a : Board) (x : Source) (b : Board) (y : Source) (c : Board) (z : Source) → HasBrought flat x.flow a x b y → HasBrought flat y.flow b y c z → HasBrought flat x.flow a x c z
+brought_on flat a x b y c z f g = brought_more flat x.flow a x b y c z f (subst (λ (i : ℕ). HasBrought flat i b y c z) f.flow g)
+
+-- receiving ends that went on
+pub later_same : (x : Source) → IsLater x x
+later_same x = record { flow = refl; brings = λ job t h. h }
+
+pub later_more : (x y z : Source) → IsLater x y → IsLater y z → IsLater x z
+later_more x y z f g = record { flow = g.flow ∙ f.flow; brings = λ job t h. g.brings job t (f.brings job t h) }
+
+pub later_none : (x y : Source) → y.flow ≡ x.flow → y.got ≡ x.got → y.closed ≡ x.closed → HasTakenNothing x.rx y.rx → IsLater x y
+later_none x y flow got closed has = record {
+  flow = flow;
+  brings = λ job t h. record {
+    ticks = λ unclosed. subst (λ (i : ℕ). BringsTicks job t i y.got y.rx) (sym flow) (subst (λ (n : ℕ). BringsTicks job t x.flow n y.rx) (sym got) (brings_still job t x.flow x.got x.rx y.rx has (h.ticks (sym closed ∙ unclosed))));
+  };
+}
+
+pub later_closed : (x y : Source) → y.flow ≡ x.flow → y.closed ≡ true → IsLater x y
+later_closed x y flow closed = record {
+  flow = flow;
+  brings = λ job t h. record { ticks = λ unclosed. absurd (let e : true ≡ false = sym closed ∙ unclosed in cc) };
+}

@@ -1,0 +1,20 @@
+use Rattle.std.proofs.Common.{rules, ◌≡◌, Some, length, List, sym, subst, ◌∙◌}
+use Rattle.std.specs.Prelude.{slice_get}
+use Rattle.lublock_site.specs.Telling.{AreLess, AreToldOf}
+use Rattle.lublock_site.proofs.Telling.{less_same, less_more, told_more, told_none}
+use Rattle.lublock_site.proofs.told.told_outputs.Goals as goal
+
+pub loop-k-init : goal.loop-k-init
+loop-k-init c = record { less = less_same c.args.columns.items; told = told_none c.args.flat.now c.args.columns.items c.args.instants c.args.outputs.items c.requires }
+
+pub loop-k-preserved : goal.loop-k-preserved
+loop-k-preserved c =
+    let out = c.is_output_at.ensures c.if-not-is_output_at.false in
+    record {
+      less = less_more c.args.columns.items c.loop-k.columns.items c.take_out-column.new.columns.items c.loop-k.invariant.less c.take_out-column.ensures.less;
+      told = subst (AreToldOf c.args.flat.now c.args.columns.items c.args.instants) (search rules)
+          (told_more c.args.flat.now c.args.columns.items c.loop-k.columns.items c.args.instants c.loop-k.outputs.items _ out.0 c.take_out-column.result c.flows-flows.ensures.flat c.loop-k.invariant.less out.1 out.2 c.take_out-column.ensures.there (search rules) c.loop-k.invariant.told);
+    }
+
+pub returns : goal.returns
+returns c = c.loop-k.invariant.told

@@ -1,0 +1,14 @@
+pub mod Sites
+pub mod Steps
+pub mod Classes
+pub mod Marks
+pub mod Stations
+pub mod Sure
+pub mod Given
+pub mod Tries
+pub mod Going
+pub mod Blocks
+pub mod RowStations
+pub mod Telling
+pub mod Insides
+pub mod Starts

@@ -1,0 +1,110 @@
+//! What a site that went on by blocks tells when it has ended.
+
+ghost use Rattle.std.specs.Prelude.{◌≡◌, map};
+ghost use Rattle.luworld.specs.Needs.{sites_of};
+ghost use Rattle.lublock_site.specs.RowStations.{AreWhole, IsRowReport, IsTold, outputs_told};
+ghost use Rattle.std.specs.Arc.{arc_value};
+
+use luflow::{Flat, Status};
+use luplace::Job;
+use std::marker::Model;
+use std::snapshot::Snapshot;
+use std::sync::Arc;
+
+/// What a site tells that has ended: outputs, each by the number of its variable and with all its statuses. A contract sees the
+/// job and the site too, and that no flow of the site breaks.
+#[derive(Drop)]
+pub struct RowReport {
+    job: Snapshot<Job>,
+    site: u8,
+    sites: u8,
+    flat: Arc<Flat>,
+    outputs: Vec<(usize, Vec<Status>)>,
+}
+
+impl Model for RowReport {
+    ghost use Rattle.std.specs.Arc.{arc_value};
+    ghost use Rattle.lublock_site.specs.RowStations.{RowTold, IsRowReport, outputs_told};
+
+    ghost Value = { RowTold };
+
+    ghost view = { λ a. record {
+      job = a.job.value;
+      site = a.site;
+      outputs = outputs_told a.outputs.items;
+    } };
+
+    ghost invariant = { λ a. IsRowReport (record {
+      job = a.job.value;
+      site = a.site;
+      outputs = outputs_told a.outputs.items;
+    }) a.sites (arc_value a.flat) };
+}
+
+impl RowReport {
+    /// What a site tells that has ended.
+    pub(crate) fn new(
+        job: Snapshot<Job>,
+        site: u8,
+        sites: u8,
+        flat: Arc<Flat>,
+        outputs: Vec<(usize, Vec<Status>)>,
+    ) -> RowReport
+        requires { IsRowReport (record {
+          job = job.value;
+          site = site;
+          outputs = outputs_told outputs.items;
+        }) sites (arc_value flat) }
+        ensures { result ≡ record {
+          job = job.value;
+          site = site;
+          outputs = outputs_told outputs.items;
+        } }
+    {
+        RowReport {
+            job,
+            site,
+            sites,
+            flat,
+            outputs,
+        }
+    }
+
+    /// The number of the site, from 0. Takes no memory.
+    pub fn site(&self) -> u8
+        ensures site { result ≡ self.now.site }
+        ensures told { IsTold self.now }
+    {
+        self.site
+    }
+
+    /// The number of sites of the run, 1 to 16. Takes no memory.
+    pub fn sites(&self) -> u8
+        ensures sites { result ≡ sites_of self.now.job.plan }
+        ensures told { IsTold self.now }
+    {
+        self.sites
+    }
+
+    /// The flat program. Takes no memory.
+    pub fn flat(&self) -> &Flat
+        ensures { result.now ≡ self.now.job.plan.flat }
+    {
+        &self.flat
+    }
+
+    /// The outputs, each by the number of its variable: they are moved out of the report, and not copied.
+    pub fn into_outputs(self) -> Vec<(usize, Vec<Status>)>
+        ensures outputs { outputs_told result.items ≡ self.outputs }
+        ensures whole { AreWhole self.job (outputs_told result.items) }
+    {
+        let RowReport {
+            job: _,
+            site: _,
+            sites: _,
+            flat: _,
+            outputs,
+        } = self;
+        outputs
+    }
+}

@@ -1,0 +1,212 @@
+//! A site in rows: what stays, where it stands, and its steps.
+
+ghost use Rattle.std.specs.Prelude.{◌≡◌, ◌<◌, ◌≤◌, ◌+◌, ℕ, true, false, length, List, Some, slice_get, slice_set};
+ghost use Rattle.lublock_forms.specs.Machine.{ticks_of};
+ghost use Rattle.lublock_site.specs.Tries.{IfGoes};
+ghost use Rattle.lublock_site.specs.Going.{IsGoing, IsSameRun, HasBroughtAt, MaySendAt, HasSentAt};
+
+use crate::columns::own_column;
+use crate::outlets::{Outlet, put_all};
+use crate::parts::is_marked;
+use crate::sources::{Source, take_all};
+use crate::sure::admit;
+use crate::tried::Tried;
+use lublock::Board;
+use lublock_forms::forms::upto_at;
+use lublock_forms::span::Span;
+use lublock_plan::{Cycle, SiteStep};
+use luflow::{Flat, Inputs, Status, Values};
+use luplace::Job;
+use std::alloc::Global;
+use std::snapshot::Snapshot;
+use std::sync::Arc;
+
+/// The instants of a block.
+pub const INSTANTS: usize = 256;
+
+/// What of a site in rows stays: the program, which flows are computed and which are taken here, the columns of own inputs, the order of its steps,
+/// and the variables whose statuses are kept.
+#[derive(Drop)]
+pub struct Frame {
+    pub alloc: Global,
+    pub flat: Arc<Flat>,
+    pub own: Vec<bool>,
+    pub taken: Vec<bool>,
+    pub given: Vec<Option<Values>>,
+    /// A table without columns.
+    pub none: Inputs,
+    pub steps: Vec<SiteStep>,
+    /// The flows that become sure together, one part after another.
+    pub members: Vec<usize>,
+    pub needs: Vec<usize>,
+    pub instants: usize,
+}
+
+/// A site in rows: the block of `len` instants from `t` on, and the step at hand.
+#[derive(Drop)]
+pub struct RowSite {
+    pub job: Snapshot<Job>,
+    pub site: u8,
+    pub frame: Frame,
+    pub cycles: Vec<Cycle>,
+    pub board: Board,
+    pub sure: Vec<bool>,
+    pub sources: Vec<Source>,
+    pub outlets: Vec<Outlet>,
+    pub columns: Vec<Vec<Status>>,
+    pub t: usize,
+    pub len: usize,
+    pub at: usize,
+}
+
+/// The ticks of a flow in the block.
+pub fn ticks_at(spans: &[Span], i: usize) -> usize
+    ensures { result ≡ ticks_of spans.now i }
+{
+    match spans.get(i) {
+        Some(span) => span.ticks,
+        None => 0,
+    }
+}
+
+/// Takes messages of receiving end k, as `take_all` does.
+fn take_at(
+    flat: &Flat,
+    board: &mut Board,
+    sources: &mut Vec<Source>,
+    k: usize,
+    ticks: usize,
+) -> Tried
+    requires { k < length sources.old.items }
+    ensures { IfGoes result
+        (HasBroughtAt flat.now k board.old sources.old.items board.new sources.new.items) }
+{
+    let source = &mut sources[k];
+    take_all(flat, board, source, ticks)
+}
+
+/// Puts messages of sending end k, as `put_all` does.
+fn put_at(
+    flat: &Flat,
+    rows: &[Vec<i64>],
+    spans: &[Span],
+    outlets: &mut Vec<Outlet>,
+    k: usize,
+    to: usize,
+) -> Tried
+    requires within { k < length outlets.old.items }
+    requires may { MaySendAt flat.now rows.now spans.now k outlets.old.items to }
+    ensures { IfGoes result (HasSentAt flat.now k outlets.old.items outlets.new.items) }
+{
+    let outlet = &mut outlets[k];
+    put_all(flat, rows, spans, outlet, to)
+}
+
+impl RowSite {
+    /// Finds all words of own flow i, which has the clock of flow `like`.
+    pub fn column_step(&mut self, i: usize, like: usize) -> Tried
+        requires { IsGoing self.old }
+        ensures going { IfGoes result (IsGoing self.new) }
+        ensures same { IsSameRun self.old self.new }
+    {
+        let frame = &self.frame;
+        let given = frame.given.as_slice();
+        let flat = &*frame.flat;
+        let board = &mut self.board;
+        if own_column(
+            frame.alloc,
+            flat,
+            given,
+            &frame.none,
+            board,
+            self.t,
+            self.len,
+            i,
+            like,
+        ) {
+            return Tried::Over;
+        }
+        Tried::Done
+    }
+
+    /// Goes through cycle k, and supposes what its `pre`s give.
+    pub fn cycle_step(&mut self, k: usize) -> Tried
+        requires { IsGoing self.old }
+        ensures going { IfGoes result (IsGoing self.new) }
+        ensures same { IsSameRun self.old self.new }
+    {
+        if self.cycles.len() <= k {
+            return Tried::Over;
+        }
+        let flat = &*self.frame.flat;
+        if self.board.cycle(flat, self.len, &mut self.cycles[k]) {
+            return Tried::Over;
+        }
+        Tried::Done
+    }
+
+    /// Looks whether these members are found, so that they are sure.
+    pub fn sure_step(&mut self, from: usize, to: usize) -> Tried
+        requires { IsGoing self.old }
+        ensures going { IfGoes result (IsGoing self.new) }
+        ensures same { IsSameRun self.old self.new }
+    {
+        let frame = &self.frame;
+        let Some(flows) = frame.members.as_slice().get(from..to) else {
+            return Tried::Over;
+        };
+        let flat = &*frame.flat;
+        if admit(
+            flat,
+            frame.own.as_slice(),
+            &mut self.board,
+            &mut self.sure,
+            flows,
+        ) {
+            return Tried::Over;
+        }
+        Tried::Done
+    }
+
+    /// Takes messages of receiving end k into the row of flow i, which has the clock of flow `like`.
+    pub fn take_step(&mut self, k: usize, i: usize, like: usize) -> Tried
+        requires { IsGoing self.old }
+        ensures going { IfGoes result (IsGoing self.new) }
+        ensures same { IsSameRun self.old self.new }
+    {
+        let flat = &*self.frame.flat;
+        if self.sources.len() <= k || self.board.count(flat, self.len, i, like) {
+            return Tried::Over;
+        }
+        let source = &self.sources[k];
+        let got = upto_at(self.board.spans.as_slice(), i);
+        if source.closed || source.flow != i || source.got != got {
+            return Tried::Over;
+        }
+        if is_marked(self.frame.own.as_slice(), i) {
+            return Tried::Over;
+        }
+        let ticks = ticks_at(self.board.spans.as_slice(), i);
+        take_at(flat, &mut self.board, &mut self.sources, k, ticks)
+    }
+
+    /// Puts messages of sending end k.
+    pub fn put_step(&mut self, k: usize) -> Tried
+        requires { IsGoing self.old }
+        ensures going { IfGoes result (IsGoing self.new) }
+        ensures same { IsSameRun self.old self.new }
+    {
+        if self.outlets.len() <= k {
+            return Tried::Over;
+        }
+        let outlet = &self.outlets[k];
+        if outlet.closed || !is_marked(self.sure.as_slice(), outlet.flow) {
+            return Tried::Over;
+        }
+        let flat = &*self.frame.flat;
+        let spans = self.board.spans.as_slice();
+        let to = ticks_at(spans, outlet.flow);
+        let rows = self.board.rows.as_slice();
+        put_at(flat, rows, spans, &mut self.outlets, k, to)
+    }
+}
