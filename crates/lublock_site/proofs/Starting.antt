@@ -24,7 +24,7 @@ use Rattle.lublock_site.specs.declared.site.RowSite.{RowSite}
 use Rattle.lublock_site.specs.declared.sources.Source.{Source}
 use Rattle.lublock_site.proofs.Closed.{none_sure}
 
--- the same of the same program
+-- flows that are never nil in a program are so in an equal one
 pub never_nil_at : (flat flat' : FlatProgram) (nils : List Bool) → flat ≡ flat' → AreNeverNil flat nils → AreNeverNil flat' nils
 never_nil_at flat flat' nils e h = subst (λ (p : FlatProgram). AreNeverNil p nils) e h
 
@@ -37,7 +37,7 @@ sends_none job i s unused is = record {
   count = ap length unused.unused;
 }
 
--- before the first block no flow has a word or is counted
+-- before the first block no flow has a word, has ticked or is counted, and those that are taken are marked
 first_upto : (taken : List Bool) (r : ℕ) → upto_of (map first_span taken) r ≡ 0
 first_upto [] r = refl
 first_upto (b ∷ taken) zero = refl
@@ -58,12 +58,13 @@ first_taken [] r = refl
 first_taken (b ∷ taken) zero = refl
 first_taken (b ∷ taken) (suc r) = first_taken taken r
 
+-- nothing is marked in a list of false marks
 pub none_marked : (n i : ℕ) → marked (replicate n false) i ≡ false
 none_marked zero i = refl
 none_marked (suc n) zero = refl
 none_marked (suc n) (suc i) = none_marked n i
 
--- and it stands for the part of these marks, whatever its rows hold
+-- a board before the first block stands for the part of these marks, whatever its rows hold
 pub first_stands : (own taken : List Bool) (flat : FlatProgram) (inputs : Table) (σ : Streams) (len : ℕ) (board : Board) → IsFirstBoard taken board → StandsOn (marked_part own taken) flat inputs σ 0 len board
 first_stands own taken flat inputs σ len board is = record {
   marked = λ i mark. ap (λ (spans : List Span). taken_of spans i) is ∙ first_taken taken i ∙ mark;
@@ -96,6 +97,7 @@ taken_known : (x y : Bool) → y ≡ true → x || y ≡ true
 taken_known true y h = refl
 taken_known false y h = h
 
+-- unused ends have passed no tick of the first block, and their flows are known
 pub first_ends : (job : Run) (frame : Frame) (sources : List Source) (outlets : List Outlet) → All (IsFirstSource job) sources → All (IsTakenBy frame.taken.items) sources → All (IsFirstOutlet job frame.own.items) outlets → AreEnds job frame 0 sources outlets
 first_ends job frame sources outlets are marks sends = record {
   sources = λ k x there. (all_at (IsFirstSource job) sources k x are there).brings;
@@ -109,13 +111,14 @@ first_ends job frame sources outlets are marks sends = record {
       record { there = is.there; known = own_known (marked frame.own.items x.flow) (marked frame.taken.items x.flow) is.own_is };
 }
 
+-- nothing lies before instant 0
 pub first_past : (job : Run) (frame : Frame) (columns : List Column) → All (λ (column : Column). column.items ≡ []) columns → IsPast job frame 0 columns
 first_past job frame columns empty = record {
   near = empty_near job.plan.flat (streams_of job) 0 columns empty;
   sound = λ i u known l. absurd (omega (arith, l));
 }
 
--- so a site before its first block is in the middle of it
+-- a site that has these parts before its first block goes on from there
 pub first_going : (x : RowSite) (job : Run) (own taken : List Bool) → x.job.value ≡ job → x.frame.own.items ≡ own → x.frame.taken.items ≡ taken → x.t ≡ 0 → x.len ≤ job.inputs.instants → IsFrame job x.site x.frame → IsFirstBoard taken x.board → ((i : ℕ) → marked x.sure.items i ≡ false)
     → All (IsFirstSource job) x.sources.items → All (IsTakenBy taken) x.sources.items → All (IsFirstOutlet job own) x.outlets.items → All (λ (column : Column). column.items ≡ []) x.columns.items → IsGoing x
 first_going x job own taken job_is own_is taken_is t_is few frame board none sources marks outlets empty =

@@ -1,6 +1,7 @@
 -- A site before its first block: which flows are computed and taken there, and the ends of its links.
 use Rattle.std.specs.Prelude.{◌≡◌, ℕ, ◌<◌, Bool, true, false, List, length, Some, slice_get, map}
 use Rattle.luflow.specs.Program.{FlatProgram, flows_of}
+use Rattle.luflow.specs.Variables.{is_output_of}
 use Rattle.luworld.specs.Needs.{Distribution, stands}
 use Rattle.luworld.specs.Runs.{Run, carried}
 use Rattle.lublock_forms.specs.declared.span.Span.{Span}
@@ -49,6 +50,10 @@ pub record AreSiteMarks (plan : Distribution) (site : ℕ) (own taken : List Boo
 -- all these variables are computed or taken
 abbrev pub AreKnown : List Bool → List Bool → List ℕ → Type 0
 AreKnown own taken needs = (k v : ℕ) → slice_get needs k ≡ Some v → knows (marked_part own taken) v ≡ true
+
+-- all these variables are outputs
+abbrev pub AreOutputs : FlatProgram → List ℕ → Type 0
+AreOutputs flat told = (k v : ℕ) → slice_get told k ≡ Some v → is_output_of flat v ≡ true
 
 -- how far a flow is before the first block
 abbrev pub first_span : Bool → Span

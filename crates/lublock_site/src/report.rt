@@ -13,13 +13,25 @@ use std::sync::Arc;
 
 /// What a site tells that has ended: outputs, each by the number of its variable and with all its statuses. A contract sees the
 /// job and the site too, and that no flow of the site breaks.
-#[derive(Drop)]
 pub struct RowReport {
     job: Snapshot<Job>,
     site: u8,
     sites: u8,
     flat: Arc<Flat>,
     outputs: Vec<(usize, Vec<Status>)>,
+}
+
+// By hand, so that it is proved here alone, and not in each crate that owns one.
+impl Drop for RowReport {
+    fn drop(self) {
+        let Self {
+            job: _,
+            site: _,
+            sites: _,
+            flat: _,
+            outputs: _,
+        } = self;
+    }
 }
 
 impl Model for RowReport {

@@ -6,7 +6,7 @@ ghost use Rattle.lulink.specs.Views.{ReceiverView, SenderView};
 ghost use Rattle.luworld.specs.Needs.{sites_of};
 ghost use Rattle.lublock_site.specs.Going.{IsFrame, IsGoing};
 ghost use Rattle.lublock_site.specs.RowStations.{IsUnusedReceiver, IsUnusedSender};
-ghost use Rattle.lublock_site.specs.Starts.{AreKnown, AreSiteMarks, IsFirstOutlet, IsFirstSource, IsTakenBy};
+ghost use Rattle.lublock_site.specs.Starts.{AreKnown, AreOutputs, AreSiteMarks, IsFirstOutlet, IsFirstSource, IsTakenBy};
 
 use crate::outlets::Outlet;
 use crate::site::{Frame, INSTANTS, RowSite};
@@ -155,6 +155,7 @@ pub fn start(
     ensures going { IfOk result (λ o. IfSome o (λ x. IsGoing x.0)) }
     ensures at { IfOk result
         (λ o. IfSome o (λ x. (x.0.job.value ≡ job.now) × (x.0.site ≡ site))) }
+    ensures told { IfOk result (λ o. IfSome o (λ x. AreOutputs job.now.plan.flat x.1.items)) }
 {
     let Some(ends) = ends_of(alloc, job, site, txs, rxs)? else {
         return Ok(None);

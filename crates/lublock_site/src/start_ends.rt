@@ -1,7 +1,6 @@
 //! The ends of a site's links before the first block.
 
-ghost use Rattle.std.specs.Prelude.{◌≡◌, ◌<◌, ℕ, All, IfOk, IfSome, Some, slice_get, length};
-ghost use Rattle.lulink.specs.Views.{ReceiverView, SenderView};
+ghost use Rattle.std.specs.Prelude.{◌≡◌, All, IfOk, IfSome};
 ghost use Rattle.lublock_site.specs.RowStations.{IsUnusedReceiver, IsUnusedSender};
 ghost use Rattle.lublock_site.specs.Classes.{class_in};
 ghost use Rattle.lublock_site.specs.Starts.{AreNeverNil, IsCarried, IsFirstOutlet, IsFirstSource};

@@ -1,16 +1,15 @@
 //! Which flows a site computes, and which it takes.
 
-ghost use Rattle.std.specs.Prelude.{◌≡◌, ◌<◌, ℕ, All, IfOk, IfSome, Some, slice_get, length, true};
-ghost use Rattle.luflow.specs.Program.{flows_of};
-ghost use Rattle.luworld.specs.Needs.{stands};
-ghost use Rattle.lublock_forms.specs.Parts.{knows};
-ghost use Rattle.lublock_site.specs.Marks.{marked, marked_part};
-ghost use Rattle.lublock_site.specs.Starts.{AreKnown, AreOwnMarks, AreSiteMarks, IsFirstSource, IsTakenBy};
+ghost use Rattle.std.specs.Prelude.{◌≡◌, ◌<◌, ℕ, All, IfOk, IfSome, length, true};
+ghost use Rattle.luflow.specs.Variables.{is_output_of};
+ghost use Rattle.lublock_site.specs.Marks.{marked};
+ghost use Rattle.lublock_site.specs.Starts.{AreKnown, AreOutputs, AreOwnMarks, AreSiteMarks, IsTakenBy};
 
 use crate::parts::{is_marked, is_part};
 use crate::sources::Source;
+use lublock::is_output;
 use lublock_plan::needed_of;
-use luflow::{Flat, Role};
+use luflow::Flat;
 use luplace::Plan;
 use std::alloc::{AllocError, Global};
 
@@ -99,16 +98,27 @@ fn home_of(plan: &Plan, v: usize) -> Option<u8> {
     plan.sites_of(v).first().copied()
 }
 
+/// Whether a main variable is an output that a site tells: the site is the first of the variable's.
+fn is_told(plan: &Plan, site: u8, v: usize) -> bool
+    ensures { result ≡ true → is_output_of plan.now.flat v ≡ true }
+{
+    match plan.flat().variables().get(v) {
+        Some(variable) => is_output(variable.role) && home_of(plan, v) == Some(site),
+        None => false,
+    }
+}
+
 /// The outputs that a site tells, in order of declaration: those of whose sites it is the first.
 ///
 /// # Errors
 ///
 /// Out of memory.
-pub fn told_outputs(alloc: Global, plan: &Plan, site: u8) -> Result<Vec<usize>, AllocError> {
-    let variables = plan.flat().variables();
+pub fn told_outputs(alloc: Global, plan: &Plan, site: u8) -> Result<Vec<usize>, AllocError>
+    ensures { IfOk result (λ told. AreOutputs plan.now.flat told.items) }
+{
     let mut told = Vec::new(alloc);
-    for v in 0..variables.len() {
-        if variables[v].role == Role::Output && home_of(plan, v) == Some(site) {
+    for v in 0..plan.flat().variables().len() {
+        if is_told(plan, site, v) {
             told.push(v)?;
         }
     }

@@ -1,10 +1,10 @@
 -- What an end holds before and after its steps, and what contracts see of it.
-use Rattle.std.proofs.Common.{inl, inr, ◌≡◌, ◌<◌, ◌≤◌, ◌+◌, ◌%◌, ℕ, Bool, true, false, List, [], ◌∷◌, ◌++◌, length, take, Option, Some, sym, refl, ap, ◌∙◌, subst, mod-eq_of_lt, arith}
+use Rattle.std.proofs.Common.{◌≡◌, ◌<◌, ◌≤◌, ◌+◌, ◌-◌, ◌%◌, ℕ, List, [], ◌∷◌, ◌++◌, length, take, drop, take-add, length-drop, Option, Some, sym, refl, ap, ◌∙◌, subst, mod-eq_of_lt, arith}
 use Rattle.std.specs.Prelude.{slice_get}
 use Rattle.std.specs.Arc.{arc_value}
-use Rattle.std.proofs.lemmas.Option.{slice_get_within, get_or_from_slice_get}
-use Rattle.std.proofs.lemmas.List.{length-take-le, take_more}
-use Rattle.atomic_table.specs.Table.{Me, rest}
+use Rattle.std.proofs.lemmas.Option.{slice_get_within}
+use Rattle.std.proofs.lemmas.List.{length-take-le, take_all}
+use Rattle.atomic_table.specs.Table.{Me}
 use Rattle.atomic_table.specs.Seated.{TableId}
 use Rattle.atomic_table.specs.declared.shared.Seat.{Seat as TableSeat}
 use Rattle.luflow.specs.declared.message.Msg.{Msg}
@@ -16,10 +16,12 @@ use Rattle.lulink.specs.declared.rule.EndState.{EndState}
 use Rattle.lulink.specs.declared.rule.Terms.{Terms}
 use Rattle.lulink.specs.declared.rule.Role.TheVariants.{Producer, Consumer}
 use Rattle.lulink.specs.Words.{number, IsFinal}
-use Rattle.lulink.specs.Rings.{fresh, seated, looked, moved, MovedTail, MovedHead, Looked}
-use Rattle.lulink.specs.Views.{SenderView, IsNextToPut}
-use Rattle.lulink.specs.Seen.{put_one, took_one}
-use Rattle.lulink.specs.Insides.{told_list, sender_view, receiver_view, IsSender, IsReceiver, IsRing, IsPutSide, IsTakeSide, HoldsRoom, HoldsMessage}
+use Rattle.lulink.specs.Rings.{full_slots, free_slots, fresh, seated, MovedTail, MovedHead, Looked}
+use Rattle.lulink.specs.Views.{SenderView, IsNextToPut, AreNextToPut, HasPutAll, IsRunTaken, IsWholeAtClose}
+use Rattle.lulink.specs.Seen.{put_one, took_one, OfferedRun, PolledRun}
+use Rattle.lulink.specs.Insides.{told_list, sender_view, receiver_view, IsSender, IsReceiver, IsRing, IsPutSide, IsTakeSide}
+use Rattle.lulink.proofs.Closing.{close_long}
+use Rattle.lulink.proofs.Parts.{take_next, element, take_run, at_drop, at_take}
 use Rattle.lulink.proofs.Steps.{final_again}
 
 abbrev pub Seat : Type 0
@@ -28,25 +30,12 @@ Seat = TableSeat (Option Msg) EndState
 abbrev pub Holding : Type 0
 Holding = Me (Option Msg) EndState
 
-pub take_next : {A : Type 0} (list : List A) (n : ℕ) (x : A) → slice_get list n ≡ Some x → take (n + 1) list ≡ take n list ++ x ∷ []
-take_next list n x at = take_more list n x (slice_get_within list n x at) ∙ ap (λ y. take n list ++ y ∷ []) (get_or_from_slice_get list n x x at)
-
--- after the exchange
-pub held : (l e : Holding) (slot : ℕ) (y z : Option Msg) → l.1 ≡ (slot, y) ∷ [] → e ≡ (l.0, (slot, z) ∷ rest l.1) → e ≡ (l.0, (slot, z) ∷ [])
-held l e slot y z before after = after ∙ (λ i. (l.0, (slot, z) ∷ rest (before i)))
-
--- the slot that is held
-pub has_slot : {at : TableId} {k : Terms} {t : PutSide} → IsPutSide at k t → t.ready ≡ true → (t.count < number t.word + k.capacity) × ((y : Option Msg) × (t.seat.me.1 ≡ (t.slot, y) ∷ []))
-has_slot {at} {k} {t} is on = subst (HoldsRoom k t) on is.holds
-
-pub has_none : {at : TableId} {k : Terms} {t : PutSide} → IsPutSide at k t → t.ready ≡ false → t.seat.me.1 ≡ []
-has_none {at} {k} {t} is off = subst (HoldsRoom k t) off is.holds
-
-pub has_message : {at : TableId} {k : Terms} {t : TakeSide} → IsTakeSide at k t → t.ready ≡ true → (t.count < number t.word) × ((x : Msg) × (slice_get (told_list k) t.count ≡ Some x) × (t.seat.me.1 ≡ (t.slot, Some x) ∷ []))
-has_message {at} {k} {t} is on = subst (HoldsMessage k t) on is.holds
-
-pub has_no_message : {at : TableId} {k : Terms} {t : TakeSide} → IsTakeSide at k t → t.ready ≡ false → t.seat.me.1 ≡ []
-has_no_message {at} {k} {t} is off = subst (HoldsMessage k t) off is.holds
+-- a message whose slot is held
+pub next_there : {at : TableId} {k : Terms} {t : TakeSide} → IsTakeSide at k t → 0 < t.held → (t.count < number t.word) × ((x : Msg) × (slice_get (told_list k) t.count ≡ Some x))
+next_there {at} {k} {t} is any =
+    let put = is.put in
+    let listed = is.listed in
+    (omega arith, element (told_list k) t.count (omega arith))
 
 -- the next message, by what contracts see
 pub next_at : (t : tx.Inside) (s : SenderView) (x : Msg) → IsSender t → sender_view t ≡ s → IsNextToPut s x → slice_get (told_list (arc_value t.ring).shared.key) t.side.count ≡ Some x
@@ -54,108 +43,113 @@ next_at t s x is seen next =
     ap (λ n. slice_get (told_list (arc_value t.ring).shared.key) n) (sym (length-take-le t.side.count (told_list (arc_value t.ring).shared.key) is.side.begins))
     ∙ subst (λ (u : SenderView). IsNextToPut u x) (sym seen) next
 
+pub all_next_at : (t : tx.Inside) (s : SenderView) (xs : List Msg) → IsSender t → sender_view t ≡ s → AreNextToPut s xs → (k : ℕ) (x : Msg) → slice_get xs k ≡ Some x → slice_get (told_list (arc_value t.ring).shared.key) (t.side.count + k) ≡ Some x
+all_next_at t s xs is seen next k x at =
+    let list = told_list (arc_value t.ring).shared.key in
+    ap (λ n. slice_get list (n + k)) (sym (length-take-le t.side.count list is.side.begins)) ∙ subst (λ (u : SenderView). AreNextToPut u xs) (sym seen) next k x at
+
 -- the same list with one word more, which is the last
 final_with : (seen more : List ℕ) (w : ℕ) → more ≡ seen ++ w ∷ [] → IsFinal seen w → IsFinal more w
 final_with seen more w is f = subst (λ l. IsFinal l w) (sym is) (final_again seen w w (λ _. refl) f)
 
-module _ (at : TableId) (k : Terms) (s : PutSide) (is : IsPutSide at k s) (seat : Seat) (table : seat.table_id ≡ s.seat.table_id) where
+module _ (at : TableId) (k : Terms) (s : PutSide) (is : IsPutSide at k s) where
+  -- what the seat has, by the seat's own count
+  pub put_slots : s.seat.me.1 ≡ free_slots s.seat.me.0.room s.seat.me.0.count s.seat.me.0.held
+  put_slots = is.slots ∙ (λ i. free_slots (sym is.ends.1 i) (sym is.count i) (sym is.held i))
+
   -- after a look that took no slot
-  pub put_side_looked : (n : ℕ) → seat.me ≡ (looked s.seat.me.0 n, s.seat.me.1) → IsFinal s.seat.me.0.seen n → HoldsRoom k record { seat = seat; count = s.count; slot = s.slot; word = n; ready = s.ready } s.ready
-      → IsPutSide at k record { seat = seat; count = s.count; slot = s.slot; word = n; ready = s.ready }
-  put_side_looked n me final holds = record {
-    ring = is.ring;
-    table = table ∙ is.table;
-    ends = (ap (λ (m : Holding). m.0.role) me ∙ is.ends.0, ap (λ (m : Holding). m.0.room) me ∙ is.ends.1, ap (λ (m : Holding). m.0.list) me ∙ is.ends.2);
-    here = ap (λ (m : Holding). m.0.left) me ∙ is.here;
-    count = ap (λ (m : Holding). m.0.count) me ∙ is.count;
-    slot = is.slot;
-    word = ap (λ (m : Holding). m.0.last) me;
-    final = final_with s.seat.me.0.seen seat.me.0.seen n (ap (λ (m : Holding). m.0.seen) me) final;
-    begins = is.begins;
-    busy = ap (λ (m : Holding). m.0.busy) me ∙ is.busy;
-    holds = holds;
-  }
+  pub put_side_looked : (seat : Seat) → seat.table_id ≡ s.seat.table_id → (n : ℕ) → Looked s.seat.me n seat.me → IsFinal s.seat.me.0.seen n → IsPutSide at k record { seat = seat; count = s.count; slot = s.slot; word = n; held = s.held }
+  put_side_looked seat table n look final =
+      let me = look.0 in
+      let later = look.1.0 in
+      let word = ap number is.word in
+      let room = is.room in
+      record {
+        ring = is.ring;
+        table = table ∙ is.table;
+        ends = (ap (λ (m : Holding). m.0.role) me ∙ is.ends.0, ap (λ (m : Holding). m.0.room) me ∙ is.ends.1, ap (λ (m : Holding). m.0.list) me ∙ is.ends.2);
+        here = ap (λ (m : Holding). m.0.left) me ∙ is.here;
+        count = ap (λ (m : Holding). m.0.count) me ∙ is.count;
+        slot = is.slot;
+        word = ap (λ (m : Holding). m.0.last) me;
+        final = final_with s.seat.me.0.seen seat.me.0.seen n (ap (λ (m : Holding). m.0.seen) me) final;
+        begins = is.begins;
+        held = ap (λ (m : Holding). m.0.held) me ∙ is.held;
+        slots = ap (λ (m : Holding). m.1) me ∙ is.slots;
+        room = omega arith;
+      }
 
-  -- after the message was passed
-  pub put_side_moved : (x : Msg) (slot : ℕ) (b : Bool) → slot ≡ (s.count + 1) % k.capacity → MovedTail s.seat.me.0 seat.me → slice_get (told_list k) s.count ≡ Some x → (b ≡ true → s.count + 1 < number s.word + k.capacity) → (b ≡ false → number s.word + k.capacity ≤ s.count + 1)
-      → IsPutSide at k record { seat = seat; count = s.count + 1; slot = slot; word = s.word; ready = b }
-  put_side_moved x slot b place moves next yes_is no_is =
-      subst (λ n. IsPutSide at k record { seat = seat; count = s.count + 1; slot = n; word = s.word; ready = b }) (sym place) (by_word b yes_is no_is moves)
-    where
-      with_ready : (c : Bool) → seat.me.0 ≡ moved s.seat.me.0 c → HoldsRoom k record { seat = seat; count = s.count + 1; slot = (s.count + 1) % k.capacity; word = s.word; ready = c } c
-          → IsPutSide at k record { seat = seat; count = s.count + 1; slot = (s.count + 1) % k.capacity; word = s.word; ready = c }
-      with_ready c me holds =
-          let within = slice_get_within (told_list k) s.count x next in
-          record {
-            ring = is.ring;
-            table = table ∙ is.table;
-            ends = (ap (λ (v : EndState). v.role) me ∙ is.ends.0, ap (λ (v : EndState). v.room) me ∙ is.ends.1, ap (λ (v : EndState). v.list) me ∙ is.ends.2);
-            here = ap (λ (v : EndState). v.left) me ∙ is.here;
-            count = ap (λ (v : EndState). v.count) me ∙ ap (λ n. n + 1) is.count;
-            slot = refl;
-            word = ap (λ (v : EndState). v.last) me ∙ is.word;
-            final = final_with s.seat.me.0.seen seat.me.0.seen s.word (ap (λ (v : EndState). v.seen) me ∙ (λ i. s.seat.me.0.seen ++ is.word i ∷ [])) is.final;
-            begins = omega arith;
-            busy = ap (λ (v : EndState). v.busy) me;
-            holds = holds;
-          }
+  -- after some messages were passed
+  pub put_side_moved : (seat : Seat) → seat.table_id ≡ s.seat.table_id → (n slot : ℕ) → n ≤ s.held → s.count + n ≤ length (told_list k) → slot ≡ (s.count + n) % k.capacity → MovedTail s.seat.me.0 n seat.me
+      → IsPutSide at k record { seat = seat; count = s.count + n; slot = slot; word = s.word; held = s.held - n }
+  put_side_moved seat table n slot few within place me =
+      let room = is.room in
+      record {
+        ring = is.ring;
+        table = table ∙ is.table;
+        ends = (ap (λ (m : Holding). m.0.role) me ∙ is.ends.0, ap (λ (m : Holding). m.0.room) me ∙ is.ends.1, ap (λ (m : Holding). m.0.list) me ∙ is.ends.2);
+        here = ap (λ (m : Holding). m.0.left) me ∙ is.here;
+        count = ap (λ (m : Holding). m.0.count) me ∙ ap (λ m. m + n) is.count;
+        slot = place;
+        word = ap (λ (m : Holding). m.0.last) me ∙ is.word;
+        final = final_with s.seat.me.0.seen seat.me.0.seen s.word (ap (λ (m : Holding). m.0.seen) me ∙ (λ i. s.seat.me.0.seen ++ is.word i ∷ [])) is.final;
+        begins = within;
+        held = ap (λ (m : Holding). m.0.held) me ∙ ap (λ m. m - n) is.held;
+        slots = ap (λ (m : Holding). m.1) me ∙ (λ i. free_slots (is.ends.1 i) (is.count i + n) (is.held i - n));
+        room = omega arith;
+      }
 
-      by_word : (c : Bool) → (c ≡ true → s.count + 1 < number s.word + k.capacity) → (c ≡ false → number s.word + k.capacity ≤ s.count + 1) → MovedTail s.seat.me.0 seat.me
-          → IsPutSide at k record { seat = seat; count = s.count + 1; slot = (s.count + 1) % k.capacity; word = s.word; ready = c }
-      by_word true more full (inl a) = let c = is.count in let r = is.ends.1 in let w = ap number is.word in let l = more refl in let g = a.0 in absurd (omega arith)
-      by_word true more full (inr a) = with_ready true (ap (λ (m : Holding). m.0) a.1.1) (more refl, (a.1.0, ap (λ (m : Holding). m.1) a.1.1 ∙ (λ i. ((is.count i + 1) % is.ends.1 i, a.1.0) ∷ [])))
-      by_word false more full (inl a) = with_ready false (ap (λ (m : Holding). m.0) a.1) (ap (λ (m : Holding). m.1) a.1)
-      by_word false more full (inr a) = let c = is.count in let r = is.ends.1 in let w = ap number is.word in let l = full refl in let g = a.0 in absurd (omega arith)
+module _ (at : TableId) (k : Terms) (s : TakeSide) (is : IsTakeSide at k s) where
+  -- what the seat has, by the seat's own count
+  pub take_slots : s.seat.me.1 ≡ full_slots s.seat.me.0.list s.seat.me.0.room s.seat.me.0.count s.seat.me.0.held
+  take_slots = is.slots ∙ (λ i. full_slots (sym is.ends.2 i) (sym is.ends.1 i) (sym is.count i) (sym is.held i))
 
-module _ (at : TableId) (k : Terms) (s : TakeSide) (is : IsTakeSide at k s) (seat : Seat) (table : seat.table_id ≡ s.seat.table_id) where
   -- after a look that took no slot
-  pub take_side_looked : (n : ℕ) → seat.me ≡ (looked s.seat.me.0 n, s.seat.me.1) → IsFinal s.seat.me.0.seen n → HoldsMessage k record { seat = seat; count = s.count; slot = s.slot; word = n; ready = s.ready } s.ready
-      → IsTakeSide at k record { seat = seat; count = s.count; slot = s.slot; word = n; ready = s.ready }
-  take_side_looked n me final holds = record {
-    ring = is.ring;
-    table = table ∙ is.table;
-    ends = (ap (λ (m : Holding). m.0.role) me ∙ is.ends.0, ap (λ (m : Holding). m.0.room) me ∙ is.ends.1, ap (λ (m : Holding). m.0.list) me ∙ is.ends.2);
-    here = ap (λ (m : Holding). m.0.left) me ∙ is.here;
-    count = ap (λ (m : Holding). m.0.count) me ∙ is.count;
-    slot = is.slot;
-    word = ap (λ (m : Holding). m.0.last) me;
-    final = final_with s.seat.me.0.seen seat.me.0.seen n (ap (λ (m : Holding). m.0.seen) me) final;
-    begins = is.begins;
-    busy = ap (λ (m : Holding). m.0.busy) me ∙ is.busy;
-    holds = holds;
-  }
+  pub take_side_looked : (seat : Seat) → seat.table_id ≡ s.seat.table_id → (n : ℕ) → Looked s.seat.me n seat.me → IsFinal s.seat.me.0.seen n → IsTakeSide at k record { seat = seat; count = s.count; slot = s.slot; word = n; held = s.held }
+  take_side_looked seat table n look final =
+      let me = look.0 in
+      let later = look.1.0 in
+      let most = look.1.1 in
+      let word = ap number is.word in
+      let put = is.put in
+      let lists = ap length is.ends.2 in
+      record {
+        ring = is.ring;
+        table = table ∙ is.table;
+        ends = (ap (λ (m : Holding). m.0.role) me ∙ is.ends.0, ap (λ (m : Holding). m.0.room) me ∙ is.ends.1, ap (λ (m : Holding). m.0.list) me ∙ is.ends.2);
+        here = ap (λ (m : Holding). m.0.left) me ∙ is.here;
+        count = ap (λ (m : Holding). m.0.count) me ∙ is.count;
+        slot = is.slot;
+        word = ap (λ (m : Holding). m.0.last) me;
+        final = final_with s.seat.me.0.seen seat.me.0.seen n (ap (λ (m : Holding). m.0.seen) me) final;
+        begins = is.begins;
+        held = ap (λ (m : Holding). m.0.held) me ∙ is.held;
+        slots = ap (λ (m : Holding). m.1) me ∙ is.slots;
+        put = omega arith;
+        listed = omega arith;
+      }
 
-  -- after the message was passed
-  pub take_side_moved : (x : Msg) (slot : ℕ) (b : Bool) → slot ≡ (s.count + 1) % k.capacity → MovedHead s.seat.me.0 seat.me → slice_get (told_list k) s.count ≡ Some x → (b ≡ true → s.count + 1 < number s.word) → (b ≡ false → number s.word ≤ s.count + 1)
-      → IsTakeSide at k record { seat = seat; count = s.count + 1; slot = slot; word = s.word; ready = b }
-  take_side_moved x slot b place moves next yes_is no_is =
-      subst (λ n. IsTakeSide at k record { seat = seat; count = s.count + 1; slot = n; word = s.word; ready = b }) (sym place) (by_word b yes_is no_is moves)
-    where
-      with_ready : (c : Bool) → seat.me.0 ≡ moved s.seat.me.0 c → HoldsMessage k record { seat = seat; count = s.count + 1; slot = (s.count + 1) % k.capacity; word = s.word; ready = c } c
-          → IsTakeSide at k record { seat = seat; count = s.count + 1; slot = (s.count + 1) % k.capacity; word = s.word; ready = c }
-      with_ready c me holds =
-          let within = slice_get_within (told_list k) s.count x next in
-          record {
-            ring = is.ring;
-            table = table ∙ is.table;
-            ends = (ap (λ (v : EndState). v.role) me ∙ is.ends.0, ap (λ (v : EndState). v.room) me ∙ is.ends.1, ap (λ (v : EndState). v.list) me ∙ is.ends.2);
-            here = ap (λ (v : EndState). v.left) me ∙ is.here;
-            count = ap (λ (v : EndState). v.count) me ∙ ap (λ n. n + 1) is.count;
-            slot = refl;
-            word = ap (λ (v : EndState). v.last) me ∙ is.word;
-            final = final_with s.seat.me.0.seen seat.me.0.seen s.word (ap (λ (v : EndState). v.seen) me ∙ (λ i. s.seat.me.0.seen ++ is.word i ∷ [])) is.final;
-            begins = omega arith;
-            busy = ap (λ (v : EndState). v.busy) me;
-            holds = holds;
-          }
-
-      by_word : (c : Bool) → (c ≡ true → s.count + 1 < number s.word) → (c ≡ false → number s.word ≤ s.count + 1) → MovedHead s.seat.me.0 seat.me
-          → IsTakeSide at k record { seat = seat; count = s.count + 1; slot = (s.count + 1) % k.capacity; word = s.word; ready = c }
-      by_word true more none (inl a) = let c = is.count in let w = ap number is.word in let l = more refl in let g = a.0 in absurd (omega arith)
-      by_word true more none (inr a) = with_ready true (ap (λ (m : Holding). m.0) a.1.2)
-          (more refl, (a.1.0, (λ i. slice_get (sym is.ends.2 i) (sym is.count i + 1)) ∙ a.1.1, ap (λ (m : Holding). m.1) a.1.2 ∙ (λ i. ((is.count i + 1) % is.ends.1 i, Some a.1.0) ∷ [])))
-      by_word false more none (inl a) = with_ready false (ap (λ (m : Holding). m.0) a.1) (ap (λ (m : Holding). m.1) a.1)
-      by_word false more none (inr a) = let c = is.count in let w = ap number is.word in let l = none refl in let g = a.0 in absurd (omega arith)
+  -- after some messages were passed
+  pub take_side_moved : (seat : Seat) → seat.table_id ≡ s.seat.table_id → (n slot : ℕ) → n ≤ s.held → slot ≡ (s.count + n) % k.capacity → MovedHead s.seat.me.0 n seat.me
+      → IsTakeSide at k record { seat = seat; count = s.count + n; slot = slot; word = s.word; held = s.held - n }
+  take_side_moved seat table n slot few place me =
+      let put = is.put in
+      let listed = is.listed in
+      record {
+        ring = is.ring;
+        table = table ∙ is.table;
+        ends = (ap (λ (m : Holding). m.0.role) me ∙ is.ends.0, ap (λ (m : Holding). m.0.room) me ∙ is.ends.1, ap (λ (m : Holding). m.0.list) me ∙ is.ends.2);
+        here = ap (λ (m : Holding). m.0.left) me ∙ is.here;
+        count = ap (λ (m : Holding). m.0.count) me ∙ ap (λ m. m + n) is.count;
+        slot = place;
+        word = ap (λ (m : Holding). m.0.last) me ∙ is.word;
+        final = final_with s.seat.me.0.seen seat.me.0.seen s.word (ap (λ (m : Holding). m.0.seen) me ∙ (λ i. s.seat.me.0.seen ++ is.word i ∷ [])) is.final;
+        begins = omega arith;
+        held = ap (λ (m : Holding). m.0.held) me ∙ ap (λ m. m - n) is.held;
+        slots = ap (λ (m : Holding). m.1) me ∙ (λ i. full_slots (is.ends.2 i) (is.ends.1 i) (is.count i + n) (is.held i - n));
+        put = omega arith;
+        listed = is.listed;
+      }
 
 pub sender_moved : (t : tx.Inside) (side : PutSide) (w : ℕ) (x : Msg) → side.count ≡ t.side.count + 1 → side.seat.me.0.seen ≡ t.side.seat.me.0.seen ++ w ∷ [] → slice_get (told_list (arc_value t.ring).shared.key) t.side.count ≡ Some x
     → sender_view record { ring = t.ring; side = side; link = t.link } ≡ put_one (sender_view t) w x
@@ -165,6 +159,11 @@ pub receiver_moved : (t : rx.Inside) (side : TakeSide) (w : ℕ) (x : Msg) → s
     → receiver_view record { ring = t.ring; side = side; link = t.link } ≡ took_one (receiver_view t) w x
 receiver_moved t side w x more seen next = let k = (arc_value t.ring).shared.key in (λ i. record { job = k.job.value; link = k.link; capacity = k.capacity; taken = (ap (λ n. take n (told_list k)) more ∙ take_next (told_list k) t.side.count x next) i; seen = seen i })
 
+-- after a run
+pub sender_ran : (t : tx.Inside) (side : PutSide) (n : ℕ) (xs : List Msg) → side.count ≡ t.side.count + n → n ≤ length xs → ((k : ℕ) (x : Msg) → slice_get xs k ≡ Some x → slice_get (told_list (arc_value t.ring).shared.key) (t.side.count + k) ≡ Some x)
+    → HasPutAll (take n xs) (sender_view t) (sender_view record { ring = t.ring; side = side; link = t.link })
+sender_ran t side n xs more few next = let list = told_list (arc_value t.ring).shared.key in (refl, refl, ap (λ m. take m list) more ∙ take_run t.side.count n list xs few next)
+
 -- how many messages contracts see
 pub put_length : (t : tx.Inside) → IsSender t → length (sender_view t).put ≡ t.side.count
 put_length t is = length-take-le t.side.count (told_list (arc_value t.ring).shared.key) is.side.begins
@@ -173,7 +172,7 @@ pub taken_length : (t : rx.Inside) → IsReceiver t → length (receiver_view t)
 taken_length t is = length-take-le t.side.count (told_list (arc_value t.ring).shared.key) is.side.begins
 
 -- the sides of a new ring
-pub new_put_side : (at : TableId) (key k : Terms) (s : PutSide) → key ≡ k → IsRing at k → s.seat.table_id ≡ at → s.seat.me ≡ (seated Producer (fresh k.capacity (told_list k)), []) → s.count ≡ 0 → s.slot ≡ 0 → s.word ≡ 0 → s.ready ≡ false → IsPutSide at key s
+pub new_put_side : (at : TableId) (key k : Terms) (s : PutSide) → key ≡ k → IsRing at k → s.seat.table_id ≡ at → s.seat.me ≡ (seated Producer (fresh k.capacity (told_list k)), []) → s.count ≡ 0 → s.slot ≡ 0 → s.word ≡ 0 → s.held ≡ 0 → IsPutSide at key s
 new_put_side at key k s same ring table me none first word idle =
     let room = ring.room in
     subst (λ (x : Terms). IsPutSide at x s) (sym same) record {
@@ -186,11 +185,12 @@ new_put_side at key k s same ring table me none first word idle =
       word = ap (λ (m : Holding). m.0.last) me ∙ sym word;
       final = subst (λ l. IsFinal l s.word) (sym (ap (λ (m : Holding). m.0.seen) me)) (λ n d h on. absurd (omega arith));
       begins = omega arith;
-      busy = ap (λ (m : Holding). m.0.busy) me ∙ sym idle;
-      holds = subst (HoldsRoom k s) (sym idle) (ap (λ (m : Holding). m.1) me);
+      held = ap (λ (m : Holding). m.0.held) me ∙ sym idle;
+      slots = ap (λ (m : Holding). m.1) me ∙ ap (λ n. free_slots k.capacity s.count n) (sym idle);
+      room = omega arith;
     }
 
-pub new_take_side : (at : TableId) (key k : Terms) (s : TakeSide) → key ≡ k → IsRing at k → s.seat.table_id ≡ at → s.seat.me ≡ (seated Consumer (fresh k.capacity (told_list k)), []) → s.count ≡ 0 → s.slot ≡ 0 → s.word ≡ 0 → s.ready ≡ false → IsTakeSide at key s
+pub new_take_side : (at : TableId) (key k : Terms) (s : TakeSide) → key ≡ k → IsRing at k → s.seat.table_id ≡ at → s.seat.me ≡ (seated Consumer (fresh k.capacity (told_list k)), []) → s.count ≡ 0 → s.slot ≡ 0 → s.word ≡ 0 → s.held ≡ 0 → IsTakeSide at key s
 new_take_side at key k s same ring table me none first word idle =
     let room = ring.room in
     subst (λ (x : Terms). IsTakeSide at x s) (sym same) record {
@@ -203,21 +203,48 @@ new_take_side at key k s same ring table me none first word idle =
       word = ap (λ (m : Holding). m.0.last) me ∙ sym word;
       final = subst (λ l. IsFinal l s.word) (sym (ap (λ (m : Holding). m.0.seen) me)) (λ n d h on. absurd (omega arith));
       begins = omega arith;
-      busy = ap (λ (m : Holding). m.0.busy) me ∙ sym idle;
-      holds = subst (HoldsMessage k s) (sym idle) (ap (λ (m : Holding). m.1) me);
+      held = ap (λ (m : Holding). m.0.held) me ∙ sym idle;
+      slots = ap (λ (m : Holding). m.1) me ∙ ap (λ n. full_slots (told_list k) k.capacity s.count n) (sym idle);
+      put = omega arith;
+      listed = let none : number s.word ≡ 0 = ap number word in omega arith;
     }
 
--- a slot that is held stays so after a look, which tells of no less room, and of no fewer messages
-pub still_room : (at : TableId) (k : Terms) (s : PutSide) (is : IsPutSide at k s) (seat : Seat) (n : ℕ) → Looked s.seat.me n seat.me → HoldsRoom k record { seat = seat; count = s.count; slot = s.slot; word = n; ready = s.ready } s.ready
-still_room at k s is seat n look = by_ready s.ready is.holds
-  where
-    by_ready : (b : Bool) → HoldsRoom k s b → HoldsRoom k record { seat = seat; count = s.count; slot = s.slot; word = n; ready = s.ready } b
-    by_ready false h = ap (λ (m : Holding). m.1) look.0 ∙ h
-    by_ready true h = ((let more = look.1 in let w = ap number is.word in let l = h.0 in omega arith), (h.1.0, ap (λ (m : Holding). m.1) look.0 ∙ h.1.1))
+-- what a run learns by the word
+pub sender_learned : (t : tx.Inside) (side : PutSide) (all n : ℕ) → IsSender t → IsPutSide (arc_value t.ring).shared.table_id (arc_value t.ring).shared.key side → side.count ≡ t.side.count + n → side.seat.me.0.seen ≡ t.side.seat.me.0.seen ++ side.word ∷ []
+    → (n < all → side.count ≡ number side.word + (arc_value t.ring).shared.key.capacity) → OfferedRun all n (sender_view t) side.word (sender_view record { ring = t.ring; side = side; link = t.link })
+sender_learned t side all n is now more seen full =
+    let before = put_length t is in
+    let room = now.room in
+    (refl, seen, omega arith, λ lt. length-take-le side.count (told_list (arc_value t.ring).shared.key) now.begins ∙ full lt)
 
-pub still_message : (at : TableId) (k : Terms) (s : TakeSide) (is : IsTakeSide at k s) (seat : Seat) (n : ℕ) → Looked s.seat.me n seat.me → HoldsMessage k record { seat = seat; count = s.count; slot = s.slot; word = n; ready = s.ready } s.ready
-still_message at k s is seat n look = by_ready s.ready is.holds
-  where
-    by_ready : (b : Bool) → HoldsMessage k s b → HoldsMessage k record { seat = seat; count = s.count; slot = s.slot; word = n; ready = s.ready } b
-    by_ready false h = ap (λ (m : Holding). m.1) look.0 ∙ h
-    by_ready true h = ((let more = look.1 in let w = ap number is.word in let l = h.0 in omega arith), (h.1.0, h.1.1, ap (λ (m : Holding). m.1) look.0 ∙ h.1.2))
+pub receiver_learned : (t : rx.Inside) (side : TakeSide) (most n : ℕ) → IsReceiver t → IsTakeSide (arc_value t.ring).shared.table_id (arc_value t.ring).shared.key side → side.count ≡ t.side.count + n → side.seat.me.0.seen ≡ t.side.seat.me.0.seen ++ side.word ∷ []
+    → (n < most → side.count ≡ number side.word) → PolledRun most n (receiver_view t) side.word (receiver_view record { ring = t.ring; side = side; link = t.link })
+receiver_learned t side most n is now more seen empty =
+    let before = taken_length t is in
+    let put = now.put in
+    (refl, seen, omega arith, λ lt. length-take-le side.count (told_list (arc_value t.ring).shared.key) now.begins ∙ empty lt)
+
+-- what a run takes
+pub receiver_ran : (t : rx.Inside) (side : TakeSide) (n : ℕ) (before after : List Msg) → IsReceiver t → IsTakeSide (arc_value t.ring).shared.table_id (arc_value t.ring).shared.key side → side.count ≡ t.side.count + n
+    → after ≡ before ++ take n (drop t.side.count (told_list (arc_value t.ring).shared.key)) → IsRunTaken n before after (receiver_view t) (receiver_view record { ring = t.ring; side = side; link = t.link })
+receiver_ran t side n before after is now more into =
+    let list = told_list (arc_value t.ring).shared.key in
+    let begins = now.begins in
+    let left : length (drop t.side.count list) ≡ length list - t.side.count = length-drop t.side.count list in (
+      take n (drop t.side.count list),
+      length-take-le n (drop t.side.count list) (omega arith),
+      into,
+      (refl, refl, ap (λ m. take m list) more ∙ take-add t.side.count n list),
+      λ k x at. ap (λ m. slice_get list (m + k)) (taken_length t is) ∙ sym (at_drop t.side.count list k) ∙ at_take n (drop t.side.count list) k x at,
+    )
+
+-- nothing follows the close among what was taken
+pub receiver_whole : (t : rx.Inside) → IsReceiver t → IsWholeAtClose (receiver_view t)
+receiver_whole t is k x at closes =
+    let key = (arc_value t.ring).shared.key in
+    let list = told_list key in
+    let there = at_take t.side.count list k x at in
+    let long = close_long key.job.value key.link k x there closes in
+    let within : k < length (take t.side.count list) = slice_get_within (take t.side.count list) k x at in
+    let taken = taken_length t is in
+    take_all t.side.count list (omega arith)

@@ -1,21 +1,19 @@
 -- Each step keeps the rule of a ring.
-use Rattle.std.proofs.Common.{◌≡◌, ◌≢◌, ◌<◌, ◌≤◌, ◌⊎◌, ◌+◌, ◌%◌, ◌^◌, ℕ, zero, suc, Bool, true, false, true≢false, List, [], ◌∷◌, ◌++◌, map, length, set, get_or, Option, Some, None, sym, refl, ap, ◌∙◌, subst, ⊎_elim, inl, inr, arith}
+use Rattle.std.proofs.Common.{◌≡◌, ◌<◌, ◌≤◌, ◌⊎◌, ◌+◌, ◌-◌, ◌%◌, ◌^◌, ℕ, zero, suc, Bool, true, false, true≢false, [], ◌∷◌, ◌++◌, List, map, length, Option, None, sym, refl, ap, ◌∙◌, subst, ⊎_elim, inl, inr, arith}
 use Rattle.std.specs.Prelude.{slice_get, slice_set, slice_index, replicate}
 use Rattle.std.proofs.Math.Nat.{mod-lt, add-mod_right}
 use Rattle.std.proofs.lemmas.Bool.Decides.{nat_tests}
-use Rattle.std.proofs.lemmas.Option.{slice_get_within, slice_get-get_or}
-use mathlib.Core.Option.{some, some-injective, some-ne-none, Option as Held}
-use native.Mathlib.Decide.{ℕ_discrete, dec_le}
+use mathlib.Core.Option.{some, some-injective, some-ne-none}
+use native.Mathlib.Decide.{ℕ_discrete, dec_lt}
 use lib.ListN.{get_elem?}
-use Rattle.atomic_table.specs.Table.{State, Me, Act, keeps, takes, gives, chain, Allows, Splits, stepped, carried_after, Valid}
-use Rattle.atomic_table.proofs.Lists.{set_here, set_else, one_turn}
+use Rattle.atomic_table.specs.Table.{State, Me, Act, keeps, Allows, Splits, stepped, carried_after, Valid}
 use Rattle.std.proofs.lemmas.List.Elements.{All-push}
 use Rattle.luflow.specs.declared.message.Msg.{Msg}
-use Rattle.luflow.specs.declared.message.Body.TheVariants.{Close}
 use Rattle.lulink.specs.declared.rule.EndState.{EndState}
 use Rattle.lulink.specs.declared.rule.Role.TheVariants.{Opener, Producer, Consumer}
 use Rattle.lulink.specs.Words.{top, word, number, has_left, IsFinal, WasWord, tail_at, head_at, words_of}
-use Rattle.lulink.specs.Rings.{fresh, seated, Running, Unused, Linked, looked, readied, moved, departed, SawHead, SawTail, MovedTail, MovedHead, Looked, Left}
+use Rattle.lulink.specs.Rings.{full_slots, free_slots, fresh, seated, Running, Unused, Linked, looked, readied, moved, departed, IsLater, SawHead, SawTail, MovedTail, MovedHead, Looked, Left}
+use Rattle.lulink.proofs.Slots.{Slots, passing, may_pass, passed_slots, passed_homes, with_back, with_back_append, with_back_length, later_slot, earlier_slot, back_else, back_here, taken_else, are_home, either_way}
 
 abbrev pub Table : Type 0
 Table = State (Option Msg) EndState
@@ -39,12 +37,12 @@ final_again seen w u same f = All-push (λ x. has_left x ≡ true → x ≡ w) s
 still_here : (seen : List ℕ) (w v : ℕ) → has_left w ≡ false → IsFinal seen w → IsFinal seen v
 still_here seen w v here f = λ k d h on. absurd (true≢false (sym on ∙ ap has_left (f k d h on) ∙ here))
 
--- the word of an end as it is now, after one message more, and after the end has left
+-- the word of an end as it is now, after some messages more, and after the end has left
 was_now : (u n : ℕ) (b : Bool) → n < 2 ^ 63 → u ≡ word n b → WasWord u n b
 was_now u n b h e = let same : number u ≡ n = ap number e ∙ number_word n b h in (omega arith, λ _. e)
 
-was_moved : (u n : ℕ) (b : Bool) → n < 2 ^ 63 → b ≡ false → WasWord u n b → WasWord u (n + 1) b
-was_moved u n b h here w = let most = w.0 in (omega arith, λ on. absurd (true≢false (sym on ∙ ap has_left (w.1 on) ∙ has_left_word n b h ∙ here)))
+was_moved : (u n k : ℕ) (b : Bool) → n < 2 ^ 63 → b ≡ false → WasWord u n b → WasWord u (n + k) b
+was_moved u n k b h here w = let most = w.0 in (omega arith, λ on. absurd (true≢false (sym on ∙ ap has_left (w.1 on) ∙ has_left_word n b h ∙ here)))
 
 was_left : (u n : ℕ) (b : Bool) → n < 2 ^ 63 → b ≡ false → WasWord u n b → WasWord u n true
 was_left u n b h here w = (w.0, λ on. absurd (true≢false (sym on ∙ ap has_left (w.1 on) ∙ has_left_word n b h ∙ here)))
@@ -62,13 +60,6 @@ at_replicate : (n k : ℕ) → k < n → get_elem? (map some (replicate n vacanc
 at_replicate zero k h = absurd (omega arith)
 at_replicate (suc n) zero h = refl
 at_replicate (suc n) (suc k) h = at_replicate n k (omega arith)
-
-off : {A : Type 0} {b : Bool} → b ≡ false → b ≡ true → A
-off is on = absurd (true≢false (sym on ∙ is))
-
--- two of the list's numbers less than a turn apart have two slots
-apart : (room a k : ℕ) (i : ℕ) → i ≡ a % room → a < k → k < a + room → k % room ≢ i
-apart room a k i is lt near e = let same = one_turn a k room (omega arith) near (sym (e ∙ is)) in omega arith
 
 -- whose seat it is
 producers : (room : ℕ) (list : List Msg) (s : Table) (id : ℕ) (v : EndState) → v.role ≡ Producer → Unused room list s ⊎ Running room list s → get_elem? s.views id ≡ some v → (r : Running room list s) × (id ≡ 0) × (r.p ≡ v)
@@ -92,11 +83,17 @@ abbrev Goes : (room : ℕ) (list : List Msg) (s : Table) (me : Me (Option Msg) E
 Goes room list s me i n then id = (w : EndState) × (a : Act (Option Msg)) × Valid s.homes me.1 a × Linked room list (stepped s i n id me.1 w a) × then (w, carried_after me.1 a)
 
 module _ (room : ℕ) (list : List Msg) (some_room : 0 < room) (small : length list < 2 ^ 62) (s : Table) where
+  abbrev lies : ℕ → Option Msg
+  lies k = slice_get list k
+
+  abbrev none_lies : ℕ → Option Msg
+  none_lies k = None
+
   -- the producer looks, and takes no slot
-  head_seen : (n : ℕ) (cs : List (ℕ × Option Msg)) (r : Running room list s) → n ≡ slice_index s.words head_at → n ≡ word r.c.count r.c.left → Linked room list (stepped s head_at n 0 cs (looked r.p n) keeps)
+  head_seen : (n : ℕ) (cs : Slots) (r : Running room list s) → n ≡ slice_index s.words head_at → n ≡ word r.c.count r.c.left → Linked room list (stepped s head_at n 0 cs (looked r.p n) keeps)
   head_seen n cs r at told =
-      let order = r.order in
-      let begins = r.begins in (
+      let begins = r.begins in
+      let emptying = r.emptying in (
         some_room,
         small,
         inr record {
@@ -106,45 +103,64 @@ module _ (room : ℕ) (list : List Msg) (some_room : 0 < room) (small : length l
           producer = r.producer;
           consumer = r.consumer;
           words = ap (λ k. slice_set s.words head_at k) at ∙ ap (λ ws. slice_set ws head_at (slice_index ws head_at)) r.words;
-          order = r.order;
-          fits = r.fits;
-          begins = r.begins;
-          filling = r.filling;
           emptying = r.emptying;
+          filling = r.filling;
+          begins = r.begins;
           p_told = final_again r.p.seen (word r.c.count r.c.left) n (λ _. told) r.p_told;
           c_told = r.c_told;
           p_last = was_now n r.c.count r.c.left (omega arith) told;
           c_last = r.c_last;
           stored = r.stored;
-          vacant = r.vacant;
+          free = r.free;
         },
       )
 
-  head_looks : (n : ℕ) (cs : List (ℕ × Option Msg)) (r : Running room list s) → n ≡ slice_index s.words head_at → n ≡ word r.c.count r.c.left → Goes room list s (r.p, cs) head_at n (λ m. Looked (r.p, cs) n m × IsFinal r.p.seen n) 0
-  head_looks n cs r at told =
-      let order = r.order in
+  -- the head tells of no fewer messages than before
+  head_later : (n : ℕ) (r : Running room list s) → n ≡ word r.c.count r.c.left → IsLater r.p n
+  head_later n r told =
       let begins = r.begins in
+      let emptying = r.emptying in
       let heard = r.p_last.0 in
+      let lists = ap length r.producer.2 in
       let num : number n ≡ r.c.count = ap number told ∙ number_word r.c.count r.c.left (omega arith) in
-      (looked r.p n, keeps, tt, head_seen n cs r at told, ((refl, omega arith), subst (λ u. IsFinal r.p.seen u) (sym told) r.p_told))
+      (omega arith, omega arith)
+
+  head_looks : (n : ℕ) (cs : Slots) (r : Running room list s) → n ≡ slice_index s.words head_at → n ≡ word r.c.count r.c.left → Goes room list s (r.p, cs) head_at n (λ m. Looked (r.p, cs) n m × IsFinal r.p.seen n) 0
+  head_looks n cs r at told = (looked r.p n, keeps, tt, head_seen n cs r at told, ((refl, head_later n r told), subst (λ u. IsFinal r.p.seen u) (sym told) r.p_told))
 
   -- the producer found the ring full
-  head_full : (n : ℕ) (r : Running room list s) → n ≡ slice_index s.words head_at → n ≡ word r.c.count r.c.left → r.p.count ≡ number n + r.p.room → Goes room list s (r.p, []) head_at n (λ m. SawHead r.p n m × IsFinal r.p.seen n) 0
-  head_full n r at told full = (looked r.p n, keeps, tt, head_seen n [] r at told, (inl (full, refl), subst (λ u. IsFinal r.p.seen u) (sym told) r.p_told))
+  head_full : (n : ℕ) (cs : Slots) (r : Running room list s) → n ≡ slice_index s.words head_at → n ≡ word r.c.count r.c.left → r.p.count ≡ number n + r.p.room → Goes room list s (r.p, cs) head_at n (λ m. SawHead (r.p, cs) n m × IsFinal r.p.seen n) 0
+  head_full n cs r at told full = (looked r.p n, keeps, tt, head_seen n cs r at told, ((head_later n r told, inl (full, refl)), subst (λ u. IsFinal r.p.seen u) (sym told) r.p_told))
 
-  -- the producer found room
-  head_room : (n : ℕ) (r : Running room list s) → n ≡ slice_index s.words head_at → n ≡ word r.c.count r.c.left → r.p.busy ≡ false → r.p.count < number n + r.p.room → r.p.count < r.c.count + room → Goes room list s (r.p, []) head_at n (λ m. SawHead r.p n m × IsFinal r.p.seen n) 0
-  head_room n r at told idle ne free =
-      let w = readied r.p n in
-      let here : r.p.count % r.p.room ≡ r.p.count % room = ap (λ m. r.p.count % m) r.producer.1 in
-      let order = r.order in
-      let fits = r.fits in
+  -- the slots of all messages for which there is room, where the producer's own came back
+  all_free : (r : Running room list s) → length s.homes ≡ room → (k : ℕ) → r.p.count ≤ k → k < r.c.count + room → get_elem? (with_back s.homes (free_slots room r.p.count r.p.held)) (k % room) ≡ some (some None)
+  all_free r len k lo hi = by_place (dec_lt k (r.p.count + r.p.held))
+    where
+      by_place : Dec (k < r.p.count + r.p.held) → get_elem? (with_back s.homes (free_slots room r.p.count r.p.held)) (k % room) ≡ some (some None)
+      by_place (yes own) =
+          let emptying = r.emptying in
+          let filling = r.filling in
+          let bound : k % room < room = mod-lt k some_room in
+          back_here none_lies room s.homes r.p.count r.p.held k (omega arith) lo own (omega arith)
+      by_place (no other) =
+          let emptying = r.emptying in
+          back_else none_lies room s.homes r.p.count r.p.held (k % room) (λ i from to. later_slot room i k (omega (arith, other)) (omega arith)) ∙ r.free k (omega (arith, other)) hi
+
+  -- the producer found room, and has all slots that are free
+  head_room : (n : ℕ) (r : Running room list s) → length s.homes ≡ room → n ≡ slice_index s.words head_at → n ≡ word r.c.count r.c.left → number n ≡ r.c.count → r.p.count < number n + r.p.room
+      → Goes room list s (r.p, free_slots room r.p.count r.p.held) head_at n (λ m. SawHead (r.p, free_slots room r.p.count r.p.held) n m × IsFinal r.p.seen n) 0
+  head_room n r len at told num ne =
+      let more = number n + r.p.room - r.p.count in
+      let w = readied r.p n more in
+      let xs = free_slots room r.p.count r.p.held in
+      let ys = free_slots room r.p.count more in
+      let emptying = r.emptying in
+      let filling = r.filling in
       let begins = r.begins in
-      let vac = r.vacant r.p.count (omega arith) free (λ on. off idle on) in
-      let slot = r.p.count % r.p.room in (
+      let room_is = r.producer.1 in (
         w,
-        takes slot vac.0,
-        ap (λ k. get_elem? s.homes k) here ∙ vac.1,
+        passing xs ys,
+        may_pass s.homes xs ys (are_home none_lies room (with_back s.homes xs) r.p.count more (omega arith) (λ i lo hi. all_free r len i lo (omega arith))),
         (
           some_room,
           small,
@@ -155,65 +171,78 @@ module _ (room : ℕ) (list : List Msg) (some_room : 0 < room) (small : length l
             producer = r.producer;
             consumer = r.consumer;
             words = ap (λ k. slice_set s.words head_at k) at ∙ ap (λ ws. slice_set ws head_at (slice_index ws head_at)) r.words;
-            order = r.order;
-            fits = r.fits;
-            begins = r.begins;
-            filling = λ _. free;
             emptying = r.emptying;
+            filling = omega arith;
+            begins = r.begins;
             p_told = r.p_told;
             c_told = r.c_told;
             p_last = was_now n r.c.count r.c.left (omega arith) told;
             c_last = r.c_last;
-            stored = λ k x lo hi busy there. set_else s.homes slot (k % room) _ (λ e. apart room k r.p.count (k % room) refl hi (omega arith) (sym here ∙ sym e)) ∙ r.stored k x lo hi busy there;
-            vacant = λ k lo hi on.
-                let past : r.p.count < k = on refl in
-                let old = r.vacant k lo hi (λ b. off idle b) in
-                (old.0, set_else s.homes slot (k % room) _ (apart room r.p.count k slot here past (omega arith)) ∙ old.1);
+            stored = λ k lo hi.
+                ap (λ hs. get_elem? hs (k % room)) (passed_homes s.homes xs ys)
+                ∙ taken_else none_lies room (with_back s.homes xs) r.p.count more (k % room) (λ i from to. earlier_slot room k i (omega arith) (omega arith))
+                ∙ back_else none_lies room s.homes r.p.count r.p.held (k % room) (λ i from to. earlier_slot room k i (omega arith) (omega arith))
+                ∙ r.stored k lo hi;
+            free = λ k lo hi. absurd (omega arith);
           },
         ),
-        (inr (ne, (vac.0, refl)), subst (λ u. IsFinal r.p.seen u) (sym told) r.p_told),
+        ((head_later n r told, inr (ne, λ i. (w, (passed_slots xs ys ∙ ap (λ m. free_slots m r.p.count more) (sym room_is)) i))), subst (λ u. IsFinal r.p.seen u) (sym told) r.p_told),
       )
 
-  -- the slots after the producer gave its own back with the message
-  abbrev filled : (r : Running room list s) → Msg → List (Held (Option Msg))
-  filled r x = set s.homes (r.p.count % r.p.room) (some (Some x))
+  -- the slots after the producer gave back its own, k of them with messages
+  abbrev filled : (r : Running room list s) → ℕ → Slots
+  filled r k = free_slots room (r.p.count + k) (r.p.held - k) ++ full_slots list room r.p.count k
 
-  stored_filled : (x : Msg) (r : Running room list s) → length s.homes ≡ room → r.p.busy ≡ true → slice_get list r.p.count ≡ Some x → (k : ℕ) (y : Msg) → r.c.count ≤ k → k < r.p.count + 1 → (r.c.busy ≡ true → r.c.count < k) → slice_get list k ≡ Some y
-      → get_elem? (filled r x) (k % room) ≡ some (some (Some y))
-  stored_filled x r len busy next k y lo hi b there = by_place (ℕ_discrete k r.p.count)
+  filled_before : (r : Running room list s) (k : ℕ) → k ≤ r.p.held → (j : ℕ) → r.c.count + r.c.held ≤ j → j < r.p.count → get_elem? (with_back s.homes (filled r k)) (j % room) ≡ some (some (slice_get list j))
+  filled_before r k few j lo hi =
+      let filling = r.filling in
+      let rest = free_slots room (r.p.count + k) (r.p.held - k) in
+      ap (λ hs. get_elem? hs (j % room)) (with_back_append s.homes rest (full_slots list room r.p.count k))
+      ∙ back_else lies room (with_back s.homes rest) r.p.count k (j % room) (λ i from to. earlier_slot room j i (omega arith) (omega arith))
+      ∙ back_else none_lies room s.homes (r.p.count + k) (r.p.held - k) (j % room) (λ i from to. earlier_slot room j i (omega arith) (omega arith))
+      ∙ r.stored j lo hi
+
+  filled_here : (r : Running room list s) (k : ℕ) → length s.homes ≡ room → k ≤ r.p.held → (j : ℕ) → r.p.count ≤ j → j < r.p.count + k → get_elem? (with_back s.homes (filled r k)) (j % room) ≡ some (some (slice_get list j))
+  filled_here r k len few j lo hi =
+      let filling = r.filling in
+      let emptying = r.emptying in
+      let rest = free_slots room (r.p.count + k) (r.p.held - k) in
+      let bound : j % room < room = mod-lt j some_room in
+      let long = with_back_length s.homes rest in
+      ap (λ hs. get_elem? hs (j % room)) (with_back_append s.homes rest (full_slots list room r.p.count k))
+      ∙ back_here lies room (with_back s.homes rest) r.p.count k j (omega arith) lo hi (omega arith)
+
+  filled_behind : (r : Running room list s) (k : ℕ) → length s.homes ≡ room → k ≤ r.p.held → (j : ℕ) → r.p.count + k ≤ j → j < r.c.count + room → get_elem? (with_back s.homes (filled r k)) (j % room) ≡ some (some None)
+  filled_behind r k len few j lo hi =
+      let emptying = r.emptying in
+      let rest = free_slots room (r.p.count + k) (r.p.held - k) in
+      ap (λ hs. get_elem? hs (j % room)) (with_back_append s.homes rest (full_slots list room r.p.count k))
+      ∙ back_else lies room (with_back s.homes rest) r.p.count k (j % room) (λ i from to. later_slot room i j (omega arith) (omega arith))
+      ∙ by_place (dec_lt j (r.p.count + r.p.held))
     where
-      by_place : Dec (k ≡ r.p.count) → get_elem? (filled r x) (k % room) ≡ some (some (Some y))
-      by_place (yes e) =
-          let here : k % room ≡ r.p.count % r.p.room = ap (λ m. m % room) e ∙ ap (λ m. r.p.count % m) (sym r.producer.1) in
-          let bound : r.p.count % room < room = mod-lt r.p.count some_room in
-          let same : Some x ≡ Some y = sym next ∙ ap (λ m. slice_get list m) (sym e) ∙ there in
-          let room_is = ap (λ m. r.p.count % m) r.producer.1 in
-          ap (λ m. get_elem? (filled r x) m) here ∙ set_here s.homes (r.p.count % r.p.room) (some (Some x)) (omega (arith, room_is, bound, len)) ∙ ap (λ z. some (some z)) same
-      by_place (no ne) =
-          let free = r.filling busy in
-          let here : r.p.count % r.p.room ≡ r.p.count % room = ap (λ m. r.p.count % m) r.producer.1 in
-          let order = r.order in
-          set_else s.homes (r.p.count % r.p.room) (k % room) _ (λ e. apart room k r.p.count (k % room) refl (omega (arith, ne)) (omega arith) (sym here ∙ sym e)) ∙ r.stored k y lo (omega (arith, ne)) b there
+      by_place : Dec (j < r.p.count + r.p.held) → get_elem? (with_back s.homes (free_slots room (r.p.count + k) (r.p.held - k))) (j % room) ≡ some (some None)
+      by_place (yes own) =
+          let emptying = r.emptying in
+          let filling = r.filling in
+          let bound : j % room < room = mod-lt j some_room in
+          back_here none_lies room s.homes (r.p.count + k) (r.p.held - k) j (omega arith) lo (omega arith) (omega arith)
+      by_place (no other) =
+          let emptying = r.emptying in
+          back_else none_lies room s.homes (r.p.count + k) (r.p.held - k) (j % room) (λ i from to. later_slot room i j (omega (arith, other)) (omega arith)) ∙ r.free j (omega (arith, other)) hi
 
-  vacant_filled : (x : Msg) (r : Running room list s) → (k : ℕ) → r.p.count + 1 ≤ k → k < r.c.count + room → (y : Option Msg) × (get_elem? (filled r x) (k % room) ≡ some (some y))
-  vacant_filled x r k lo hi =
-      let order = r.order in
-      let here : r.p.count % r.p.room ≡ r.p.count % room = ap (λ m. r.p.count % m) r.producer.1 in
-      let old = r.vacant k (omega arith) hi (λ _. omega arith) in
-      (old.0, set_else s.homes (r.p.count % r.p.room) (k % room) _ (apart room r.p.count k (r.p.count % r.p.room) here (omega arith) (omega arith)) ∙ old.1)
-
-  -- the producer gave its slot back with the message, and has no other
-  tail_moves : (x : Msg) (r : Running room list s) → length s.homes ≡ room → r.p.busy ≡ true → r.p.left ≡ false → slice_get list r.p.count ≡ Some x → number r.p.last + r.p.room ≤ r.p.count + 1
-      → Goes room list s (r.p, (r.p.count % r.p.room, Some x) ∷ []) tail_at (r.p.count + 1) (MovedTail r.p) 0
-  tail_moves x r len busy here_yet next full =
-      let w = moved r.p false in
-      let free = r.filling busy in
-      let order = r.order in
+  -- the producer gave k slots back with messages, and has those behind them still
+  tail_moves : (k : ℕ) (r : Running room list s) → length s.homes ≡ room → k ≤ r.p.held → r.p.left ≡ false → r.p.count + k ≤ length list → Goes room list s (r.p, filled r k) tail_at (r.p.count + k) (MovedTail r.p k) 0
+  tail_moves k r len few here_yet within =
+      let w = moved r.p k in
+      let xs = filled r k in
+      let ys = free_slots room (r.p.count + k) (r.p.held - k) in
+      let emptying = r.emptying in
+      let filling = r.filling in
       let begins = r.begins in
-      let within = slice_get_within list r.p.count x next in (
+      let room_is = r.producer.1 in (
         w,
-        gives,
-        tt,
+        passing xs ys,
+        may_pass s.homes xs ys (are_home none_lies room (with_back s.homes xs) (r.p.count + k) (r.p.held - k) (omega arith) (λ i lo hi. filled_behind r k len few i lo (omega arith))),
         (
           some_room,
           small,
@@ -223,72 +252,29 @@ module _ (room : ℕ) (list : List Msg) (some_room : 0 < room) (small : length l
             views = ap (λ vs. slice_set vs 0 w) r.views;
             producer = r.producer;
             consumer = r.consumer;
-            words = ap (λ ws. slice_set ws tail_at (r.p.count + 1)) r.words ∙ ap (λ b. words_of (word (r.p.count + 1) b) (word r.c.count r.c.left)) (sym here_yet);
-            order = omega arith;
-            fits = omega arith;
-            begins = omega arith;
-            filling = λ on. off refl on;
-            emptying = λ on. omega arith;
+            words = ap (λ ws. slice_set ws tail_at (r.p.count + k)) r.words ∙ ap (λ b. words_of (word (r.p.count + k) b) (word r.c.count r.c.left)) (sym here_yet);
+            emptying = omega arith;
+            filling = omega arith;
+            begins = within;
             p_told = final_again r.p.seen (word r.c.count r.c.left) r.p.last r.p_last.1 r.p_told;
-            c_told = still_here r.c.seen (word r.p.count r.p.left) (word (r.p.count + 1) r.p.left) (has_left_word r.p.count r.p.left (omega arith) ∙ here_yet) r.c_told;
+            c_told = still_here r.c.seen (word r.p.count r.p.left) (word (r.p.count + k) r.p.left) (has_left_word r.p.count r.p.left (omega arith) ∙ here_yet) r.c_told;
             p_last = r.p_last;
-            c_last = was_moved r.c.last r.p.count r.p.left (omega arith) here_yet r.c_last;
-            stored = stored_filled x r len busy next;
-            vacant = λ k lo hi _. vacant_filled x r k lo hi;
+            c_last = was_moved r.c.last r.p.count k r.p.left (omega arith) here_yet r.c_last;
+            stored = λ j lo hi.
+                ap (λ hs. get_elem? hs (j % room)) (passed_homes s.homes xs ys)
+                ∙ taken_else none_lies room (with_back s.homes xs) (r.p.count + k) (r.p.held - k) (j % room) (λ i from to. earlier_slot room j i (omega arith) (omega arith))
+                ∙ either_way (dec_lt j r.p.count) (λ before. filled_before r k few j lo before) (λ behind. filled_here r k len few j (omega (arith, behind)) hi);
+            free = λ j lo hi.
+                ap (λ hs. get_elem? hs (j % room)) (passed_homes s.homes xs ys)
+                ∙ taken_else none_lies room (with_back s.homes xs) (r.p.count + k) (r.p.held - k) (j % room) (λ i from to. later_slot room i j (omega arith) (omega arith))
+                ∙ filled_behind r k len few j (omega arith) hi;
           },
         ),
-        inl (full, refl),
-      )
-
-  -- the producer gave its slot back with the message, and has the next one, since there is room
-  tail_goes_on : (x : Msg) (r : Running room list s) → length s.homes ≡ room → r.p.busy ≡ true → r.p.left ≡ false → slice_get list r.p.count ≡ Some x → r.p.count + 1 < number r.p.last + r.p.room
-      → Goes room list s (r.p, (r.p.count % r.p.room, Some x) ∷ []) tail_at (r.p.count + 1) (MovedTail r.p) 0
-  tail_goes_on x r len busy here_yet next more =
-      let w = moved r.p true in
-      let free = r.filling busy in
-      let order = r.order in
-      let begins = r.begins in
-      let fits = r.fits in
-      let heard = r.p_last.0 in
-      let room_is = r.producer.1 in
-      let within = slice_get_within list r.p.count x next in
-      let there : (r.p.count + 1) % r.p.room ≡ (r.p.count + 1) % room = ap (λ m. (r.p.count + 1) % m) r.producer.1 in
-      let slot = (r.p.count + 1) % r.p.room in
-      let vac = vacant_filled x r (r.p.count + 1) (omega arith) (omega arith) in (
-        w,
-        chain gives (takes slot vac.0),
-        (tt, ap (λ k. get_elem? (filled r x) k) there ∙ vac.1),
-        (
-          some_room,
-          small,
-          inr record {
-            p = w;
-            c = r.c;
-            views = ap (λ vs. slice_set vs 0 w) r.views;
-            producer = r.producer;
-            consumer = r.consumer;
-            words = ap (λ ws. slice_set ws tail_at (r.p.count + 1)) r.words ∙ ap (λ b. words_of (word (r.p.count + 1) b) (word r.c.count r.c.left)) (sym here_yet);
-            order = omega arith;
-            fits = omega arith;
-            begins = omega arith;
-            filling = λ _. omega arith;
-            emptying = λ on. omega arith;
-            p_told = final_again r.p.seen (word r.c.count r.c.left) r.p.last r.p_last.1 r.p_told;
-            c_told = still_here r.c.seen (word r.p.count r.p.left) (word (r.p.count + 1) r.p.left) (has_left_word r.p.count r.p.left (omega arith) ∙ here_yet) r.c_told;
-            p_last = r.p_last;
-            c_last = was_moved r.c.last r.p.count r.p.left (omega arith) here_yet r.c_last;
-            stored = λ k y lo hi b at. set_else (filled r x) slot (k % room) _ (λ e. apart room k (r.p.count + 1) (k % room) refl hi (omega arith) (sym there ∙ sym e)) ∙ stored_filled x r len busy next k y lo hi b at;
-            vacant = λ k lo hi on.
-                let past : r.p.count + 1 < k = on refl in
-                let old = vacant_filled x r k lo hi in
-                (old.0, set_else (filled r x) slot (k % room) _ (apart room (r.p.count + 1) k slot there past (omega arith)) ∙ old.1);
-          },
-        ),
-        inr (more, (vac.0, refl)),
+        λ i. (w, (passed_slots xs ys ∙ ap (λ m. free_slots m (r.p.count + k) (r.p.held - k)) (sym room_is)) i),
       )
 
   -- the consumer looks, and takes no slot
-  tail_seen : (n : ℕ) (cs : List (ℕ × Option Msg)) (r : Running room list s) → n ≡ slice_index s.words tail_at → n ≡ word r.p.count r.p.left → Linked room list (stepped s tail_at n 1 cs (looked r.c n) keeps)
+  tail_seen : (n : ℕ) (cs : Slots) (r : Running room list s) → n ≡ slice_index s.words tail_at → n ≡ word r.p.count r.p.left → Linked room list (stepped s tail_at n 1 cs (looked r.c n) keeps)
   tail_seen n cs r at told =
       let begins = r.begins in (
         some_room,
@@ -300,49 +286,62 @@ module _ (room : ℕ) (list : List Msg) (some_room : 0 < room) (small : length l
           producer = r.producer;
           consumer = r.consumer;
           words = ap (λ k. slice_set s.words tail_at k) at ∙ ap (λ ws. slice_set ws tail_at (slice_index ws tail_at)) r.words;
-          order = r.order;
-          fits = r.fits;
-          begins = r.begins;
-          filling = r.filling;
           emptying = r.emptying;
+          filling = r.filling;
+          begins = r.begins;
           p_told = r.p_told;
           c_told = final_again r.c.seen (word r.p.count r.p.left) n (λ _. told) r.c_told;
           p_last = r.p_last;
           c_last = was_now n r.p.count r.p.left (omega arith) told;
           stored = r.stored;
-          vacant = r.vacant;
+          free = r.free;
         },
       )
 
-  tail_looks : (n : ℕ) (cs : List (ℕ × Option Msg)) (r : Running room list s) → n ≡ slice_index s.words tail_at → n ≡ word r.p.count r.p.left → Goes room list s (r.c, cs) tail_at n (λ m. Looked (r.c, cs) n m × IsFinal r.c.seen n) 1
-  tail_looks n cs r at told =
+  -- the tail tells of no fewer messages than before
+  tail_later : (n : ℕ) (r : Running room list s) → n ≡ word r.p.count r.p.left → IsLater r.c n
+  tail_later n r told =
       let begins = r.begins in
       let heard = r.c_last.0 in
+      let lists = ap length r.consumer.2 in
       let num : number n ≡ r.p.count = ap number told ∙ number_word r.p.count r.p.left (omega arith) in
-      (looked r.c n, keeps, tt, tail_seen n cs r at told, ((refl, omega arith), subst (λ u. IsFinal r.c.seen u) (sym told) r.c_told))
+      (omega arith, omega arith)
+
+  tail_looks : (n : ℕ) (cs : Slots) (r : Running room list s) → n ≡ slice_index s.words tail_at → n ≡ word r.p.count r.p.left → Goes room list s (r.c, cs) tail_at n (λ m. Looked (r.c, cs) n m × IsFinal r.c.seen n) 1
+  tail_looks n cs r at told = (looked r.c n, keeps, tt, tail_seen n cs r at told, ((refl, tail_later n r told), subst (λ u. IsFinal r.c.seen u) (sym told) r.c_told))
 
   -- the consumer found the ring empty
-  tail_empty : (n : ℕ) (r : Running room list s) → n ≡ slice_index s.words tail_at → n ≡ word r.p.count r.p.left → r.c.count ≡ number n → Goes room list s (r.c, []) tail_at n (λ m. SawTail r.c n m × IsFinal r.c.seen n) 1
-  tail_empty n r at told none = (looked r.c n, keeps, tt, tail_seen n [] r at told, (inl (none, refl), subst (λ u. IsFinal r.c.seen u) (sym told) r.c_told))
+  tail_empty : (n : ℕ) (cs : Slots) (r : Running room list s) → n ≡ slice_index s.words tail_at → n ≡ word r.p.count r.p.left → r.c.count ≡ number n → Goes room list s (r.c, cs) tail_at n (λ m. SawTail (r.c, cs) n m × IsFinal r.c.seen n) 1
+  tail_empty n cs r at told none = (looked r.c n, keeps, tt, tail_seen n cs r at told, ((tail_later n r told, inl (none, refl)), subst (λ u. IsFinal r.c.seen u) (sym told) r.c_told))
 
-  -- the message at a place that was put
-  message_at : (r : Running room list s) (k : ℕ) → k < r.p.count → (x : Msg) × (slice_get list k ≡ Some x)
-  message_at r k put = let begins = r.begins in let none : Msg = record { no = 0; body = Close } in (get_or list k none, slice_get-get_or list k none (omega arith))
+  -- the slots of all messages that were put, where the consumer's own came back
+  all_stored : (r : Running room list s) → length s.homes ≡ room → (k : ℕ) → r.c.count ≤ k → k < r.p.count → get_elem? (with_back s.homes (full_slots list room r.c.count r.c.held)) (k % room) ≡ some (some (slice_get list k))
+  all_stored r len k lo hi = by_place (dec_lt k (r.c.count + r.c.held))
+    where
+      by_place : Dec (k < r.c.count + r.c.held) → get_elem? (with_back s.homes (full_slots list room r.c.count r.c.held)) (k % room) ≡ some (some (slice_get list k))
+      by_place (yes own) =
+          let emptying = r.emptying in
+          let filling = r.filling in
+          let bound : k % room < room = mod-lt k some_room in
+          back_here lies room s.homes r.c.count r.c.held k (omega arith) lo own (omega arith)
+      by_place (no other) =
+          let filling = r.filling in
+          back_else lies room s.homes r.c.count r.c.held (k % room) (λ i from to. later_slot room i k (omega (arith, other)) (omega arith)) ∙ r.stored k (omega (arith, other)) hi
 
-  -- the consumer found a message
-  tail_ready : (n : ℕ) (r : Running room list s) → n ≡ slice_index s.words tail_at → n ≡ word r.p.count r.p.left → r.c.busy ≡ false → r.c.count < number n → r.c.count < r.p.count → Goes room list s (r.c, []) tail_at n (λ m. SawTail r.c n m × IsFinal r.c.seen n) 1
-  tail_ready n r at told idle ne ready =
-      let w = readied r.c n in
-      let here : r.c.count % r.c.room ≡ r.c.count % room = ap (λ m. r.c.count % m) r.consumer.1 in
-      let fits = r.fits in
-      let begins = r.begins in
-      let found = message_at r r.c.count ready in
-      let x = found.0 in
-      let lies = r.stored r.c.count x (omega arith) ready (λ on. off idle on) found.1 in
-      let slot = r.c.count % r.c.room in (
+  -- the consumer found messages, and has the slots of all that were put
+  tail_ready : (n : ℕ) (r : Running room list s) → length s.homes ≡ room → n ≡ slice_index s.words tail_at → n ≡ word r.p.count r.p.left → number n ≡ r.p.count → r.c.count < number n
+      → Goes room list s (r.c, full_slots list room r.c.count r.c.held) tail_at n (λ m. SawTail (r.c, full_slots list room r.c.count r.c.held) n m × IsFinal r.c.seen n) 1
+  tail_ready n r len at told num ne =
+      let more = number n - r.c.count in
+      let w = readied r.c n more in
+      let xs = full_slots list room r.c.count r.c.held in
+      let ys = full_slots list room r.c.count more in
+      let emptying = r.emptying in
+      let filling = r.filling in
+      let begins = r.begins in (
         w,
-        takes slot (Some x),
-        ap (λ k. get_elem? s.homes k) here ∙ lies,
+        passing xs ys,
+        may_pass s.homes xs ys (are_home lies room (with_back s.homes xs) r.c.count more (omega arith) (λ i lo hi. all_stored r len i lo (omega arith))),
         (
           some_room,
           small,
@@ -353,63 +352,82 @@ module _ (room : ℕ) (list : List Msg) (some_room : 0 < room) (small : length l
             producer = r.producer;
             consumer = r.consumer;
             words = ap (λ k. slice_set s.words tail_at k) at ∙ ap (λ ws. slice_set ws tail_at (slice_index ws tail_at)) r.words;
-            order = r.order;
-            fits = r.fits;
-            begins = r.begins;
+            emptying = omega arith;
             filling = r.filling;
-            emptying = λ _. ready;
+            begins = r.begins;
             p_told = r.p_told;
             c_told = r.c_told;
             p_last = r.p_last;
             c_last = was_now n r.p.count r.p.left (omega arith) told;
-            stored = λ k y lo hi on there.
-                let past : r.c.count < k = on refl in
-                set_else s.homes slot (k % room) _ (apart room r.c.count k slot here past (omega arith)) ∙ r.stored k y lo hi (λ b. off idle b) there;
-            vacant = λ k lo hi on.
-                let old = r.vacant k lo hi on in
-                (old.0, set_else s.homes slot (k % room) _ (apart room r.c.count k slot here (omega arith) hi) ∙ old.1);
+            stored = λ k lo hi. absurd (omega arith);
+            free = λ k lo hi.
+                ap (λ hs. get_elem? hs (k % room)) (passed_homes s.homes xs ys)
+                ∙ taken_else lies room (with_back s.homes xs) r.c.count more (k % room) (λ i from to. later_slot room i k (omega arith) (omega arith))
+                ∙ back_else lies room s.homes r.c.count r.c.held (k % room) (λ i from to. later_slot room i k (omega arith) (omega arith))
+                ∙ r.free k lo hi;
           },
         ),
-        (inr (ne, (x, ap (λ l. slice_get l r.c.count) r.consumer.2 ∙ found.1, refl)), subst (λ u. IsFinal r.c.seen u) (sym told) r.c_told),
+        ((tail_later n r told, inr (ne, λ i. (w, (passed_slots xs ys ∙ (λ j. full_slots (sym r.consumer.2 j) (sym r.consumer.1 j) r.c.count more)) i))), subst (λ u. IsFinal r.c.seen u) (sym told) r.c_told),
       )
 
-  -- the slots after the consumer gave its own back
-  abbrev emptied : (r : Running room list s) → Option Msg → List (Held (Option Msg))
-  emptied r y = set s.homes (r.c.count % r.c.room) (some y)
+  -- the slots after the consumer gave back its own, k of them free
+  abbrev emptied : (r : Running room list s) → ℕ → Slots
+  emptied r k = full_slots list room (r.c.count + k) (r.c.held - k) ++ free_slots room r.c.count k
 
-  stored_emptied : (y : Option Msg) (r : Running room list s) → (k : ℕ) (x : Msg) → r.c.count + 1 ≤ k → k < r.p.count → slice_get list k ≡ Some x → get_elem? (emptied r y) (k % room) ≡ some (some (Some x))
-  stored_emptied y r k x lo hi at =
-      let fits = r.fits in
-      let here : r.c.count % r.c.room ≡ r.c.count % room = ap (λ m. r.c.count % m) r.consumer.1 in
-      let slot = r.c.count % r.c.room in
-      set_else s.homes slot (k % room) _ (apart room r.c.count k slot here (omega arith) (omega arith)) ∙ r.stored k x (omega arith) hi (λ _. omega arith) at
-
-  vacant_emptied : (y : Option Msg) (r : Running room list s) → length s.homes ≡ room → r.c.busy ≡ true → (k : ℕ) → r.p.count ≤ k → k < r.c.count + 1 + room → (r.p.busy ≡ true → r.p.count < k) → (z : Option Msg) × (get_elem? (emptied r y) (k % room) ≡ some (some z))
-  vacant_emptied y r len busy k lo hi on = by_place (ℕ_discrete k (r.c.count + room))
+  emptied_behind : (r : Running room list s) (k : ℕ) → length s.homes ≡ room → k ≤ r.c.held → (j : ℕ) → r.c.count + k ≤ j → j < r.p.count → get_elem? (with_back s.homes (emptied r k)) (j % room) ≡ some (some (slice_get list j))
+  emptied_behind r k len few j lo hi =
+      let filling = r.filling in
+      let rest = full_slots list room (r.c.count + k) (r.c.held - k) in
+      ap (λ hs. get_elem? hs (j % room)) (with_back_append s.homes rest (free_slots room r.c.count k))
+      ∙ back_else none_lies room (with_back s.homes rest) r.c.count k (j % room) (λ i from to. later_slot room i j (omega arith) (omega arith))
+      ∙ by_place (dec_lt j (r.c.count + r.c.held))
     where
-      by_place : Dec (k ≡ r.c.count + room) → (z : Option Msg) × (get_elem? (emptied r y) (k % room) ≡ some (some z))
-      by_place (yes e) =
-          let room_is : r.c.count % r.c.room ≡ r.c.count % room = ap (λ m. r.c.count % m) r.consumer.1 in
-          let bound : r.c.count % room < room = mod-lt r.c.count some_room in
-          let there : k % room ≡ r.c.count % r.c.room = ap (λ m. m % room) e ∙ add-mod_right r.c.count room ∙ sym room_is in
-          (y, ap (λ m. get_elem? (emptied r y) m) there ∙ set_here s.homes (r.c.count % r.c.room) (some y) (omega (arith, room_is, bound, len)))
-      by_place (no ne) =
-          let ready = r.emptying busy in
-          let room_is : r.c.count % r.c.room ≡ r.c.count % room = ap (λ m. r.c.count % m) r.consumer.1 in
-          let old = r.vacant k lo (omega (arith, ne)) on in
-          (old.0, set_else s.homes (r.c.count % r.c.room) (k % room) _ (apart room r.c.count k (r.c.count % r.c.room) room_is (omega arith) (omega (arith, ne))) ∙ old.1)
+      by_place : Dec (j < r.c.count + r.c.held) → get_elem? (with_back s.homes (full_slots list room (r.c.count + k) (r.c.held - k))) (j % room) ≡ some (some (slice_get list j))
+      by_place (yes own) =
+          let emptying = r.emptying in
+          let filling = r.filling in
+          let bound : j % room < room = mod-lt j some_room in
+          back_here lies room s.homes (r.c.count + k) (r.c.held - k) j (omega arith) lo (omega arith) (omega arith)
+      by_place (no other) =
+          let filling = r.filling in
+          back_else lies room s.homes (r.c.count + k) (r.c.held - k) (j % room) (λ i from to. later_slot room i j (omega (arith, other)) (omega arith)) ∙ r.stored j (omega (arith, other)) hi
 
-  -- the consumer gave its slot back, and has no other
-  head_moves : (y : Option Msg) (r : Running room list s) → length s.homes ≡ room → r.c.busy ≡ true → r.c.left ≡ false → number r.c.last ≤ r.c.count + 1
-      → Goes room list s (r.c, (r.c.count % r.c.room, y) ∷ []) head_at (r.c.count + 1) (MovedHead r.c) 1
-  head_moves y r len busy here_yet none =
-      let w = moved r.c false in
-      let ready = r.emptying busy in
-      let begins = r.begins in
-      let fits = r.fits in (
+  emptied_free : (r : Running room list s) (k : ℕ) → length s.homes ≡ room → k ≤ r.c.held → (j : ℕ) → r.p.count + r.p.held ≤ j → j < r.c.count + k + room → get_elem? (with_back s.homes (emptied r k)) (j % room) ≡ some (some None)
+  emptied_free r k len few j lo hi =
+      ap (λ hs. get_elem? hs (j % room)) (with_back_append s.homes rest (free_slots room r.c.count k)) ∙ by_place (dec_lt j (r.c.count + room))
+    where
+      rest : Slots
+      rest = full_slots list room (r.c.count + k) (r.c.held - k)
+
+      by_place : Dec (j < r.c.count + room) → get_elem? (with_back (with_back s.homes rest) (free_slots room r.c.count k)) (j % room) ≡ some (some None)
+      by_place (yes before) =
+          let emptying = r.emptying in
+          let filling = r.filling in
+          back_else none_lies room (with_back s.homes rest) r.c.count k (j % room) (λ i from to. later_slot room i j (omega arith) (omega arith))
+          ∙ back_else lies room s.homes (r.c.count + k) (r.c.held - k) (j % room) (λ i from to. later_slot room i j (omega arith) (omega arith))
+          ∙ r.free j lo before
+      by_place (no behind) =
+          let emptying = r.emptying in
+          let filling = r.filling in
+          let turn : j ≡ j - room + room = omega (arith, behind) in
+          let there : j % room ≡ (j - room) % room = ap (λ m. m % room) turn ∙ add-mod_right (j - room) room in
+          let bound : (j - room) % room < room = mod-lt (j - room) some_room in
+          let long = with_back_length s.homes rest in
+          ap (λ m. get_elem? (with_back (with_back s.homes rest) (free_slots room r.c.count k)) m) there
+          ∙ back_here none_lies room (with_back s.homes rest) r.c.count k (j - room) (omega arith) (omega (arith, behind)) (omega arith) (omega arith)
+
+  -- the consumer gave k slots back, and has those behind them still
+  head_moves : (k : ℕ) (r : Running room list s) → length s.homes ≡ room → k ≤ r.c.held → r.c.left ≡ false → Goes room list s (r.c, emptied r k) head_at (r.c.count + k) (MovedHead r.c k) 1
+  head_moves k r len few here_yet =
+      let w = moved r.c k in
+      let xs = emptied r k in
+      let ys = full_slots list room (r.c.count + k) (r.c.held - k) in
+      let emptying = r.emptying in
+      let filling = r.filling in
+      let begins = r.begins in (
         w,
-        gives,
-        tt,
+        passing xs ys,
+        may_pass s.homes xs ys (are_home lies room (with_back s.homes xs) (r.c.count + k) (r.c.held - k) (omega arith) (λ i lo hi. emptied_behind r k len few i lo (omega arith))),
         (
           some_room,
           small,
@@ -419,71 +437,28 @@ module _ (room : ℕ) (list : List Msg) (some_room : 0 < room) (small : length l
             views = ap (λ vs. slice_set vs 1 w) r.views;
             producer = r.producer;
             consumer = r.consumer;
-            words = ap (λ ws. slice_set ws head_at (r.c.count + 1)) r.words ∙ ap (λ b. words_of (word r.p.count r.p.left) (word (r.c.count + 1) b)) (sym here_yet);
-            order = omega arith;
-            fits = omega arith;
+            words = ap (λ ws. slice_set ws head_at (r.c.count + k)) r.words ∙ ap (λ b. words_of (word r.p.count r.p.left) (word (r.c.count + k) b)) (sym here_yet);
+            emptying = omega arith;
+            filling = omega arith;
             begins = r.begins;
-            filling = λ on. let f = r.filling on in omega arith;
-            emptying = λ on. off refl on;
-            p_told = still_here r.p.seen (word r.c.count r.c.left) (word (r.c.count + 1) r.c.left) (has_left_word r.c.count r.c.left (omega arith) ∙ here_yet) r.p_told;
+            p_told = still_here r.p.seen (word r.c.count r.c.left) (word (r.c.count + k) r.c.left) (has_left_word r.c.count r.c.left (omega arith) ∙ here_yet) r.p_told;
             c_told = final_again r.c.seen (word r.p.count r.p.left) r.c.last r.c_last.1 r.c_told;
-            p_last = was_moved r.p.last r.c.count r.c.left (omega arith) here_yet r.p_last;
+            p_last = was_moved r.p.last r.c.count k r.c.left (omega arith) here_yet r.p_last;
             c_last = r.c_last;
-            stored = λ k x lo hi _ at. stored_emptied y r k x lo hi at;
-            vacant = vacant_emptied y r len busy;
+            stored = λ j lo hi.
+                ap (λ hs. get_elem? hs (j % room)) (passed_homes s.homes xs ys)
+                ∙ taken_else lies room (with_back s.homes xs) (r.c.count + k) (r.c.held - k) (j % room) (λ i from to. later_slot room i j (omega arith) (omega arith))
+                ∙ emptied_behind r k len few j (omega arith) hi;
+            free = λ j lo hi.
+                ap (λ hs. get_elem? hs (j % room)) (passed_homes s.homes xs ys)
+                ∙ taken_else lies room (with_back s.homes xs) (r.c.count + k) (r.c.held - k) (j % room) (λ i from to. later_slot room i j (omega arith) (omega arith))
+                ∙ emptied_free r k len few j lo hi;
           },
         ),
-        inl (none, refl),
+        λ i. (w, (passed_slots xs ys ∙ (λ j. full_slots (sym r.consumer.2 j) (sym r.consumer.1 j) (r.c.count + k) (r.c.held - k))) i),
       )
 
-  -- the consumer gave its slot back, and has the next one, since there is a message
-  head_goes_on : (y : Option Msg) (r : Running room list s) → length s.homes ≡ room → r.c.busy ≡ true → r.c.left ≡ false → r.c.count + 1 < number r.c.last
-      → Goes room list s (r.c, (r.c.count % r.c.room, y) ∷ []) head_at (r.c.count + 1) (MovedHead r.c) 1
-  head_goes_on y r len busy here_yet more =
-      let w = moved r.c true in
-      let ready = r.emptying busy in
-      let begins = r.begins in
-      let fits = r.fits in
-      let heard = r.c_last.0 in
-      let there : (r.c.count + 1) % r.c.room ≡ (r.c.count + 1) % room = ap (λ m. (r.c.count + 1) % m) r.consumer.1 in
-      let slot = (r.c.count + 1) % r.c.room in
-      let found = message_at r (r.c.count + 1) (omega arith) in
-      let x = found.0 in
-      let lies = stored_emptied y r (r.c.count + 1) x (omega arith) (omega arith) found.1 in (
-        w,
-        chain gives (takes slot (Some x)),
-        (tt, ap (λ k. get_elem? (emptied r y) k) there ∙ lies),
-        (
-          some_room,
-          small,
-          inr record {
-            p = r.p;
-            c = w;
-            views = ap (λ vs. slice_set vs 1 w) r.views;
-            producer = r.producer;
-            consumer = r.consumer;
-            words = ap (λ ws. slice_set ws head_at (r.c.count + 1)) r.words ∙ ap (λ b. words_of (word r.p.count r.p.left) (word (r.c.count + 1) b)) (sym here_yet);
-            order = omega arith;
-            fits = omega arith;
-            begins = r.begins;
-            filling = λ on. let f = r.filling on in omega arith;
-            emptying = λ _. omega arith;
-            p_told = still_here r.p.seen (word r.c.count r.c.left) (word (r.c.count + 1) r.c.left) (has_left_word r.c.count r.c.left (omega arith) ∙ here_yet) r.p_told;
-            c_told = final_again r.c.seen (word r.p.count r.p.left) r.c.last r.c_last.1 r.c_told;
-            p_last = was_moved r.p.last r.c.count r.c.left (omega arith) here_yet r.p_last;
-            c_last = r.c_last;
-            stored = λ k z lo hi on at.
-                let past : r.c.count + 1 < k = on refl in
-                set_else (emptied r y) slot (k % room) _ (apart room (r.c.count + 1) k slot there past (omega arith)) ∙ stored_emptied y r k z lo hi at;
-            vacant = λ k lo hi on.
-                let old = vacant_emptied y r len busy k lo hi on in
-                (old.0, set_else (emptied r y) slot (k % room) _ (apart room (r.c.count + 1) k slot there (omega arith) hi) ∙ old.1);
-          },
-        ),
-        inr (more, (x, ap (λ l. slice_get l (r.c.count + 1)) r.consumer.2 ∙ found.1, refl)),
-      )
-
-  tail_leaves : (cs : List (ℕ × Option Msg)) (r : Running room list s) → r.p.left ≡ false → Goes room list s (r.p, cs) tail_at (r.p.count + top) (Left (r.p, cs)) 0
+  tail_leaves : (cs : Slots) (r : Running room list s) → r.p.left ≡ false → Goes room list s (r.p, cs) tail_at (r.p.count + top) (Left (r.p, cs)) 0
   tail_leaves cs r here_yet =
       let w = departed r.p in
       let begins = r.begins in (
@@ -500,27 +475,25 @@ module _ (room : ℕ) (list : List Msg) (some_room : 0 < room) (small : length l
             producer = r.producer;
             consumer = r.consumer;
             words = ap (λ ws. slice_set ws tail_at (r.p.count + top)) r.words;
-            order = r.order;
-            fits = r.fits;
-            begins = r.begins;
-            filling = r.filling;
             emptying = r.emptying;
+            filling = r.filling;
+            begins = r.begins;
             p_told = r.p_told;
             c_told = still_here r.c.seen (word r.p.count r.p.left) (word r.p.count true) (has_left_word r.p.count r.p.left (omega arith) ∙ here_yet) r.c_told;
             p_last = r.p_last;
             c_last = was_left r.c.last r.p.count r.p.left (omega arith) here_yet r.c_last;
             stored = r.stored;
-            vacant = r.vacant;
+            free = r.free;
           },
         ),
         refl,
       )
 
-  head_leaves : (cs : List (ℕ × Option Msg)) (r : Running room list s) → r.c.left ≡ false → Goes room list s (r.c, cs) head_at (r.c.count + top) (Left (r.c, cs)) 1
+  head_leaves : (cs : Slots) (r : Running room list s) → r.c.left ≡ false → Goes room list s (r.c, cs) head_at (r.c.count + top) (Left (r.c, cs)) 1
   head_leaves cs r here_yet =
       let w = departed r.c in
       let begins = r.begins in
-      let order = r.order in (
+      let emptying = r.emptying in (
         w,
         keeps,
         tt,
@@ -534,17 +507,15 @@ module _ (room : ℕ) (list : List Msg) (some_room : 0 < room) (small : length l
             producer = r.producer;
             consumer = r.consumer;
             words = ap (λ ws. slice_set ws head_at (r.c.count + top)) r.words;
-            order = r.order;
-            fits = r.fits;
-            begins = r.begins;
-            filling = r.filling;
             emptying = r.emptying;
+            filling = r.filling;
+            begins = r.begins;
             p_told = still_here r.p.seen (word r.c.count r.c.left) (word r.c.count true) (has_left_word r.c.count r.c.left (omega arith) ∙ here_yet) r.p_told;
             c_told = r.c_told;
             p_last = was_left r.p.last r.c.count r.c.left (omega arith) here_yet r.p_last;
             c_last = r.c_last;
             stored = r.stored;
-            vacant = r.vacant;
+            free = r.free;
           },
         ),
         refl,
@@ -559,63 +530,66 @@ module _ {room : ℕ} {list : List Msg} where
 
 -- Each step, at any moment:
 
-pub sees_head : (room : ℕ) (list : List Msg) (slots id : ℕ) (me : Me (Option Msg) EndState) → me.1 ≡ [] → me.0.role ≡ Producer → me.0.busy ≡ false → Allows (Linked room list) slots id me head_at (λ n. n) (λ n w. SawHead me.0 n w × IsFinal me.0.seen n)
-sees_head room list slots id me empty is idle s h len at fits =
+pub sees_head : (room : ℕ) (list : List Msg) (slots id : ℕ) (me : Me (Option Msg) EndState) → me.1 ≡ free_slots me.0.room me.0.count me.0.held → slots ≡ room → me.0.role ≡ Producer → Allows (Linked room list) slots id me head_at (λ n. n) (λ n w. SawHead me n w × IsFinal me.0.seen n)
+sees_head room list slots id me has all is s h len at fits =
     let who = producers room list s id me.0 is h.2 at in
     let n = slice_index s.words head_at in
-    subst (λ (y : ℕ × Me (Option Msg) EndState). Goes room list s y.1 head_at n (λ m. SawHead y.1.0 n m × IsFinal y.1.0.seen n) y.0) (λ i. (sym who.1 i, (who.2 i, sym empty i)))
-    (by_cases s who.0 h.0 h.1 (ap (λ (u : EndState). u.busy) who.2 ∙ idle) (ℕ_discrete who.0.p.count (number n + who.0.p.room)))
+    let mine : (who.0.p, free_slots room who.0.p.count who.0.p.held) ≡ me = λ i. (who.2 i, ((λ j. free_slots (sym who.0.producer.1 j) who.0.p.count who.0.p.held) ∙ ap (λ (u : EndState). free_slots u.room u.count u.held) who.2 ∙ sym has) i) in
+    subst (λ (y : ℕ × Me (Option Msg) EndState). Goes room list s y.1 head_at n (λ m. SawHead y.1 n m × IsFinal y.1.0.seen n) y.0) (λ i. (sym who.1 i, mine i))
+    (by_cases s who.0 h.0 h.1 (len ∙ all) (ℕ_discrete who.0.p.count (number n + who.0.p.room)))
   where
-    by_cases : (s : Table) (r : Running room list s) → 0 < room → length list < 2 ^ 62 → r.p.busy ≡ false → Dec (r.p.count ≡ number (slice_index s.words head_at) + r.p.room) → Goes room list s (r.p, []) head_at (slice_index s.words head_at) (λ m. SawHead r.p (slice_index s.words head_at) m × IsFinal r.p.seen (slice_index s.words head_at)) 0
-    by_cases s r some_room small idle' (yes full) = head_full room list some_room small s _ r refl (head_told s r) full
-    by_cases s r some_room small idle' (no ne) =
-        let order = r.order in
-        let fits' = r.fits in
+    by_cases : (s : Table) (r : Running room list s) → 0 < room → length list < 2 ^ 62 → length s.homes ≡ room → Dec (r.p.count ≡ number (slice_index s.words head_at) + r.p.room)
+        → Goes room list s (r.p, free_slots room r.p.count r.p.held) head_at (slice_index s.words head_at) (λ m. SawHead (r.p, free_slots room r.p.count r.p.held) (slice_index s.words head_at) m × IsFinal r.p.seen (slice_index s.words head_at)) 0
+    by_cases s r some_room small long (yes full) = head_full room list some_room small s _ _ r refl (head_told s r) full
+    by_cases s r some_room small long (no ne) =
+        let emptying = r.emptying in
+        let filling = r.filling in
         let begins = r.begins in
         let cap = r.producer.1 in
         let num : number (slice_index s.words head_at) ≡ r.c.count = ap (λ ws. number (slice_index ws head_at)) r.words ∙ number_word r.c.count r.c.left (omega arith) in
-        head_room room list some_room small s _ r refl (head_told s r) idle' (omega (arith, ne)) (omega (arith, ne))
+        head_room room list some_room small s _ r long refl (head_told s r) num (omega (arith, ne))
 
-pub sees_tail : (room : ℕ) (list : List Msg) (slots id : ℕ) (me : Me (Option Msg) EndState) → me.1 ≡ [] → me.0.role ≡ Consumer → me.0.busy ≡ false → Allows (Linked room list) slots id me tail_at (λ n. n) (λ n w. SawTail me.0 n w × IsFinal me.0.seen n)
-sees_tail room list slots id me empty is idle s h len at fits =
+pub sees_tail : (room : ℕ) (list : List Msg) (slots id : ℕ) (me : Me (Option Msg) EndState) → me.1 ≡ full_slots me.0.list me.0.room me.0.count me.0.held → slots ≡ room → me.0.role ≡ Consumer → Allows (Linked room list) slots id me tail_at (λ n. n) (λ n w. SawTail me n w × IsFinal me.0.seen n)
+sees_tail room list slots id me has all is s h len at fits =
     let who = consumers room list s id me.0 is h.2 at in
     let n = slice_index s.words tail_at in
-    subst (λ (y : ℕ × Me (Option Msg) EndState). Goes room list s y.1 tail_at n (λ m. SawTail y.1.0 n m × IsFinal y.1.0.seen n) y.0) (λ i. (sym who.1 i, (who.2 i, sym empty i)))
-    (by_cases s who.0 h.0 h.1 (ap (λ (u : EndState). u.busy) who.2 ∙ idle) (ℕ_discrete who.0.c.count (number n)))
+    let mine : (who.0.c, full_slots list room who.0.c.count who.0.c.held) ≡ me = λ i. (who.2 i, ((λ j. full_slots (sym who.0.consumer.2 j) (sym who.0.consumer.1 j) who.0.c.count who.0.c.held) ∙ ap (λ (u : EndState). full_slots u.list u.room u.count u.held) who.2 ∙ sym has) i) in
+    subst (λ (y : ℕ × Me (Option Msg) EndState). Goes room list s y.1 tail_at n (λ m. SawTail y.1 n m × IsFinal y.1.0.seen n) y.0) (λ i. (sym who.1 i, mine i))
+    (by_cases s who.0 h.0 h.1 (len ∙ all) (ℕ_discrete who.0.c.count (number n)))
   where
-    by_cases : (s : Table) (r : Running room list s) → 0 < room → length list < 2 ^ 62 → r.c.busy ≡ false → Dec (r.c.count ≡ number (slice_index s.words tail_at)) → Goes room list s (r.c, []) tail_at (slice_index s.words tail_at) (λ m. SawTail r.c (slice_index s.words tail_at) m × IsFinal r.c.seen (slice_index s.words tail_at)) 1
-    by_cases s r some_room small idle' (yes none) = tail_empty room list some_room small s _ r refl (tail_told s r) none
-    by_cases s r some_room small idle' (no ne) =
-        let order = r.order in
+    by_cases : (s : Table) (r : Running room list s) → 0 < room → length list < 2 ^ 62 → length s.homes ≡ room → Dec (r.c.count ≡ number (slice_index s.words tail_at))
+        → Goes room list s (r.c, full_slots list room r.c.count r.c.held) tail_at (slice_index s.words tail_at) (λ m. SawTail (r.c, full_slots list room r.c.count r.c.held) (slice_index s.words tail_at) m × IsFinal r.c.seen (slice_index s.words tail_at)) 1
+    by_cases s r some_room small long (yes none) = tail_empty room list some_room small s _ _ r refl (tail_told s r) none
+    by_cases s r some_room small long (no ne) =
+        let emptying = r.emptying in
         let begins = r.begins in
         let num : number (slice_index s.words tail_at) ≡ r.p.count = ap (λ ws. number (slice_index ws tail_at)) r.words ∙ number_word r.p.count r.p.left (omega arith) in
-        tail_ready room list some_room small s _ r refl (tail_told s r) idle' (omega (arith, ne)) (omega (arith, ne))
+        tail_ready room list some_room small s _ r long refl (tail_told s r) num (omega (arith, ne))
 
-pub moves_tail : (room : ℕ) (list : List Msg) (slots id new slot : ℕ) (me : Me (Option Msg) EndState) (x : Msg) → me.1 ≡ (slot, Some x) ∷ [] → slot ≡ me.0.count % me.0.room → new ≡ me.0.count + 1 → slots ≡ room → me.0.role ≡ Producer → me.0.busy ≡ true → me.0.left ≡ false → slice_get list me.0.count ≡ Some x
-    → Allows (Linked room list) slots id me tail_at (λ _. new) (λ _ w. MovedTail me.0 w)
-moves_tail room list slots id new slot me x holds place up all is busy here next s h len at fits =
+pub moves_tail : (room : ℕ) (list : List Msg) (slots id new k : ℕ) (me : Me (Option Msg) EndState) → me.1 ≡ free_slots room (me.0.count + k) (me.0.held - k) ++ full_slots list room me.0.count k → new ≡ me.0.count + k → k ≤ me.0.held → me.0.count + k ≤ length list → slots ≡ room → me.0.role ≡ Producer → me.0.left ≡ false
+    → Allows (Linked room list) slots id me tail_at (λ _. new) (λ _ w. MovedTail me.0 (new - me.0.count) w)
+moves_tail room list slots id new k me has up few within all is here s h len at fits =
     let who = producers room list s id me.0 is h.2 at in
-    subst (λ (y : ℕ × (Me (Option Msg) EndState × ℕ)). Goes room list s y.1.0 tail_at y.1.1 (MovedTail y.1.0.0) y.0)
-    (λ i. (sym who.1 i, ((who.2 i, (ap (λ (u : EndState). (u.count % u.room, Some x) ∷ []) who.2 ∙ ap (λ k. (k, Some x) ∷ []) (sym place) ∙ sym holds) i), (ap (λ (u : EndState). u.count + 1) who.2 ∙ sym up) i)))
-    (by_cases s who.0 h.0 h.1 (len ∙ all) (ap (λ (u : EndState). u.busy) who.2 ∙ busy) (ap (λ (u : EndState). u.left) who.2 ∙ here) (ap (λ (u : EndState). slice_get list u.count) who.2 ∙ next) (dec_le (number who.0.p.last + who.0.p.room) (who.0.p.count + 1)))
-  where
-    by_cases : (s : Table) (r : Running room list s) → 0 < room → length list < 2 ^ 62 → length s.homes ≡ room → r.p.busy ≡ true → r.p.left ≡ false → slice_get list r.p.count ≡ Some x → Dec (number r.p.last + r.p.room ≤ r.p.count + 1)
-        → Goes room list s (r.p, (r.p.count % r.p.room, Some x) ∷ []) tail_at (r.p.count + 1) (MovedTail r.p) 0
-    by_cases s r some_room small len' busy' here' next' (yes full) = tail_moves room list some_room small s x r len' busy' here' next' full
-    by_cases s r some_room small len' busy' here' next' (no more) = tail_goes_on room list some_room small s x r len' busy' here' next' (omega (arith, more))
+    let p = who.0.p in
+    let count : p.count ≡ me.0.count = ap (λ (u : EndState). u.count) who.2 in
+    let held : p.held ≡ me.0.held = ap (λ (u : EndState). u.held) who.2 in
+    let slots_are : free_slots room (p.count + k) (p.held - k) ++ full_slots list room p.count k ≡ me.1 = ap (λ (u : EndState). free_slots room (u.count + k) (u.held - k) ++ full_slots list room u.count k) who.2 ∙ sym has in
+    let passed : k ≡ new - me.0.count = omega arith in
+    subst (λ (y : ℕ × (Me (Option Msg) EndState × (ℕ × ℕ))). Goes room list s y.1.0 tail_at y.1.1.0 (MovedTail y.1.0.0 y.1.1.1) y.0)
+    (λ i. (sym who.1 i, ((who.2 i, slots_are i), ((ap (λ (u : EndState). u.count + k) who.2 ∙ sym up) i, passed i))))
+    (tail_moves room list h.0 h.1 s k who.0 (len ∙ all) (omega arith) (ap (λ (u : EndState). u.left) who.2 ∙ here) (omega arith))
 
-pub moves_head : (room : ℕ) (list : List Msg) (slots id new slot : ℕ) (me : Me (Option Msg) EndState) (x : Option Msg) → me.1 ≡ (slot, x) ∷ [] → slot ≡ me.0.count % me.0.room → new ≡ me.0.count + 1 → slots ≡ room → me.0.role ≡ Consumer → me.0.busy ≡ true → me.0.left ≡ false
-    → Allows (Linked room list) slots id me head_at (λ _. new) (λ _ w. MovedHead me.0 w)
-moves_head room list slots id new slot me x holds place up all is busy here s h len at fits =
+pub moves_head : (room : ℕ) (list : List Msg) (slots id new k : ℕ) (me : Me (Option Msg) EndState) → me.1 ≡ full_slots list room (me.0.count + k) (me.0.held - k) ++ free_slots room me.0.count k → new ≡ me.0.count + k → k ≤ me.0.held → slots ≡ room → me.0.role ≡ Consumer → me.0.left ≡ false
+    → Allows (Linked room list) slots id me head_at (λ _. new) (λ _ w. MovedHead me.0 (new - me.0.count) w)
+moves_head room list slots id new k me has up few all is here s h len at fits =
     let who = consumers room list s id me.0 is h.2 at in
-    subst (λ (y : ℕ × (Me (Option Msg) EndState × ℕ)). Goes room list s y.1.0 head_at y.1.1 (MovedHead y.1.0.0) y.0)
-    (λ i. (sym who.1 i, ((who.2 i, (ap (λ (u : EndState). (u.count % u.room, x) ∷ []) who.2 ∙ ap (λ k. (k, x) ∷ []) (sym place) ∙ sym holds) i), (ap (λ (u : EndState). u.count + 1) who.2 ∙ sym up) i)))
-    (by_cases s who.0 h.0 h.1 (len ∙ all) (ap (λ (u : EndState). u.busy) who.2 ∙ busy) (ap (λ (u : EndState). u.left) who.2 ∙ here) (dec_le (number who.0.c.last) (who.0.c.count + 1)))
-  where
-    by_cases : (s : Table) (r : Running room list s) → 0 < room → length list < 2 ^ 62 → length s.homes ≡ room → r.c.busy ≡ true → r.c.left ≡ false → Dec (number r.c.last ≤ r.c.count + 1)
-        → Goes room list s (r.c, (r.c.count % r.c.room, x) ∷ []) head_at (r.c.count + 1) (MovedHead r.c) 1
-    by_cases s r some_room small len' busy' here' (yes none) = head_moves room list some_room small s x r len' busy' here' none
-    by_cases s r some_room small len' busy' here' (no more) = head_goes_on room list some_room small s x r len' busy' here' (omega (arith, more))
+    let c = who.0.c in
+    let held : c.held ≡ me.0.held = ap (λ (u : EndState). u.held) who.2 in
+    let slots_are : full_slots list room (c.count + k) (c.held - k) ++ free_slots room c.count k ≡ me.1 = ap (λ (u : EndState). full_slots list room (u.count + k) (u.held - k) ++ free_slots room u.count k) who.2 ∙ sym has in
+    let passed : k ≡ new - me.0.count = omega arith in
+    subst (λ (y : ℕ × (Me (Option Msg) EndState × (ℕ × ℕ))). Goes room list s y.1.0 head_at y.1.1.0 (MovedHead y.1.0.0 y.1.1.1) y.0)
+    (λ i. (sym who.1 i, ((who.2 i, slots_are i), ((ap (λ (u : EndState). u.count + k) who.2 ∙ sym up) i, passed i))))
+    (head_moves room list h.0 h.1 s k who.0 (len ∙ all) (omega arith) (ap (λ (u : EndState). u.left) who.2 ∙ here))
 
 pub looks_head : (room : ℕ) (list : List Msg) (slots id : ℕ) (me : Me (Option Msg) EndState) → me.0.role ≡ Producer → Allows (Linked room list) slots id me head_at (λ n. n) (λ n w. Looked me n w × IsFinal me.0.seen n)
 looks_head room list slots id me is s h len at fits =
@@ -658,17 +632,15 @@ parts room list id v is s h at = (
         producer = (refl, ap (λ (u : EndState). u.room) is, ap (λ (u : EndState). u.list) is);
         consumer = (refl, ap (λ (u : EndState). u.room) is, ap (λ (u : EndState). u.list) is);
         words = f.words;
-        order = omega arith;
-        fits = omega arith;
+        emptying = omega arith;
+        filling = omega arith;
         begins = omega arith;
-        filling = λ on. off refl on;
         p_told = λ k d h on. absurd (omega arith);
         c_told = λ k d h on. absurd (omega arith);
         p_last = was_now 0 0 false (omega arith) refl;
         c_last = was_now 0 0 false (omega arith) refl;
-        emptying = λ on. off refl on;
-        stored = λ k x lo hi b there. absurd (omega arith);
-        vacant = λ k lo hi on. (vacancy, ap (λ l. get_elem? l (k % room)) f.homes ∙ at_replicate room (k % room) (mod-lt k h.0));
+        stored = λ k lo hi. absurd (omega arith);
+        free = λ k lo hi. ap (λ l. get_elem? l (k % room)) f.homes ∙ at_replicate room (k % room) (mod-lt k h.0);
       })
       (λ (r : Running room list s).
       let none : v.role ≡ Opener = ap (λ (u : EndState). u.role) is in

@@ -1,5 +1,5 @@
 -- The rule of a ring with one producer and one consumer, whose messages are those of one fixed list.
-use Rattle.std.specs.Prelude.{◌≡◌, ℕ, ◌+◌, ◌%◌, ◌^◌, ◌<◌, ◌≤◌, ◌⊎◌, Bool, true, false, List, [], ◌∷◌, ◌++◌, length, map, replicate, Option, Some, None, slice_get}
+use Rattle.std.specs.Prelude.{◌≡◌, ℕ, zero, suc, ◌+◌, ◌-◌, ◌%◌, ◌^◌, ◌<◌, ◌≤◌, ◌⊎◌, false, true, List, [], ◌∷◌, ◌++◌, length, map, replicate, Option, None, slice_get}
 use mathlib.Core.Option.{some}
 use lib.ListN.{get_elem?}
 use Rattle.atomic_table.specs.Table.{State, Me}
@@ -9,19 +9,31 @@ use Rattle.lulink.specs.declared.rule.Role.{Role}
 use Rattle.lulink.specs.declared.rule.Role.TheVariants.{Opener, Producer, Consumer}
 use Rattle.lulink.specs.Words.{word, number, IsFinal, WasWord, words_of}
 
+-- the slots of n messages from the k-th on, each with what lies in it
+abbrev pub slots_of : (ℕ → Option Msg) → ℕ → ℕ → ℕ → List (ℕ × Option Msg)
+slots_of what room k zero = []
+slots_of what room k (suc n) = (k % room, what k) ∷ slots_of what room (k + 1) n
+
+-- slots in which the messages of the list lie, and slots that wait for theirs
+abbrev pub full_slots : List Msg → ℕ → ℕ → ℕ → List (ℕ × Option Msg)
+full_slots list room k n = slots_of (λ i. slice_get list i) room k n
+
+abbrev pub free_slots : ℕ → ℕ → ℕ → List (ℕ × Option Msg)
+free_slots room k n = slots_of (λ _. None) room k n
+
 -- the seat of a new ring
 abbrev pub fresh : ℕ → List Msg → EndState
-fresh room list = record { role = Opener; room = room; list = list; count = 0; seen = []; last = 0; busy = false; left = false }
+fresh room list = record { role = Opener; room = room; list = list; count = 0; seen = []; last = 0; held = 0; left = false }
 
 -- an end of a new ring
 abbrev pub seated : Role → EndState → EndState
-seated role v = record { role = role; room = v.room; list = v.list; count = 0; seen = []; last = 0; busy = false; left = false }
+seated role v = record { role = role; room = v.room; list = v.list; count = 0; seen = []; last = 0; held = 0; left = false }
 
 abbrev pub IsEnd : Role → ℕ → List Msg → EndState → Type 0
 IsEnd role room list v = (v.role ≡ role) × (v.room ≡ room) × (v.list ≡ list)
 
--- The words are the two counts. Message k of the list lies in slot k mod room, from the head's count to the tail's, but for the first one while the consumer has its slot.
--- The other slots are at home too, but for the next one while the producer has it. What was put is a beginning of the list, and what was taken one of what was put.
+-- The words are the two counts. Message k of the list lies in slot k mod room, from the head's count to the tail's, but for the first ones, whose slots the consumer has.
+-- The other slots are at home too, and free, but for the next ones, which the producer has. What was put is a beginning of the list, and what was taken one of what was put.
 pub record Running (room : ℕ) (list : List Msg) (s : State (Option Msg) EndState) : Type 0 where
   pub p : EndState
   pub c : EndState
@@ -29,17 +41,15 @@ pub record Running (room : ℕ) (list : List Msg) (s : State (Option Msg) EndSta
   pub producer : IsEnd Producer room list p
   pub consumer : IsEnd Consumer room list c
   pub words : s.words ≡ words_of (word p.count p.left) (word c.count c.left)
-  pub order : c.count ≤ p.count
-  pub fits : p.count ≤ c.count + room
+  pub emptying : c.count + c.held ≤ p.count
+  pub filling : p.count + p.held ≤ c.count + room
   pub begins : p.count ≤ length list
-  pub filling : p.busy ≡ true → p.count < c.count + room
-  pub emptying : c.busy ≡ true → c.count < p.count
   pub p_told : IsFinal p.seen (word c.count c.left)
   pub c_told : IsFinal c.seen (word p.count p.left)
   pub p_last : WasWord p.last c.count c.left
   pub c_last : WasWord c.last p.count p.left
-  pub stored : (k : ℕ) (x : Msg) → c.count ≤ k → k < p.count → (c.busy ≡ true → c.count < k) → slice_get list k ≡ Some x → get_elem? s.homes (k % room) ≡ some (some (Some x))
-  pub vacant : (k : ℕ) → p.count ≤ k → k < c.count + room → (p.busy ≡ true → p.count < k) → (y : Option Msg) × (get_elem? s.homes (k % room) ≡ some (some y))
+  pub stored : (k : ℕ) → c.count + c.held ≤ k → k < p.count → get_elem? s.homes (k % room) ≡ some (some (slice_get list k))
+  pub free : (k : ℕ) → p.count + p.held ≤ k → k < c.count + room → get_elem? s.homes (k % room) ≡ some (some None)
 
 pub record Unused (room : ℕ) (list : List Msg) (s : State (Option Msg) EndState) : Type 0 where
   pub words : s.words ≡ words_of 0 0
@@ -52,42 +62,44 @@ Linked room list s = (0 < room) × (length list < 2 ^ 62) × (Unused room list s
 
 -- a load that found the word n and took no slot: the word is among those seen
 abbrev pub looked : EndState → ℕ → EndState
-looked v n = record { role = v.role; room = v.room; list = v.list; count = v.count; seen = v.seen ++ n ∷ []; last = n; busy = v.busy; left = v.left }
+looked v n = record { role = v.role; room = v.room; list = v.list; count = v.count; seen = v.seen ++ n ∷ []; last = n; held = v.held; left = v.left }
 
--- a load that found the word n and took the slot of the next message
-abbrev pub readied : EndState → ℕ → EndState
-readied v n = record { role = v.role; room = v.room; list = v.list; count = v.count; seen = v.seen; last = n; busy = true; left = v.left }
+-- a load that found the word n, after which the end has the slots of the next messages, as many as this
+abbrev pub readied : EndState → ℕ → ℕ → EndState
+readied v n held = record { role = v.role; room = v.room; list = v.list; count = v.count; seen = v.seen; last = n; held = held; left = v.left }
 
--- The message was passed, by the word that was loaded last, which is among those seen now. The end has the slot of the one after it, or no slot.
-abbrev pub moved : EndState → Bool → EndState
-moved v ahead = record { role = v.role; room = v.room; list = v.list; count = v.count + 1; seen = v.seen ++ v.last ∷ []; last = v.last; busy = ahead; left = v.left }
+-- The next k messages were passed, by the word that was loaded last, which is among those seen now. The end has the slots behind theirs still.
+abbrev pub moved : EndState → ℕ → EndState
+moved v k = record { role = v.role; room = v.room; list = v.list; count = v.count + k; seen = v.seen ++ v.last ∷ []; last = v.last; held = v.held - k; left = v.left }
 
 abbrev pub departed : EndState → EndState
-departed v = record { role = v.role; room = v.room; list = v.list; count = v.count; seen = v.seen; last = v.last; busy = v.busy; left = true }
+departed v = record { role = v.role; room = v.room; list = v.list; count = v.count; seen = v.seen; last = v.last; held = v.held; left = true }
 
--- the ring was full, or the producer has the slot of its next message
-abbrev pub SawHead : EndState → ℕ → Me (Option Msg) EndState → Type 0
-SawHead v n w = ((v.count ≡ number n + v.room) × (w ≡ (looked v n, [])))
-    ⊎ ((v.count < number n + v.room) × ((y : Option Msg) × (w ≡ (readied v n, (v.count % v.room, y) ∷ []))))
+-- a word that tells of no fewer messages than the one that was loaded last, and of no more than there are
+abbrev pub IsLater : EndState → ℕ → Type 0
+IsLater v n = (number v.last ≤ number n) × (number n ≤ length v.list)
 
--- the ring was empty, or the consumer has the slot of its next message, which lies there
-abbrev pub SawTail : EndState → ℕ → Me (Option Msg) EndState → Type 0
-SawTail v n w = ((v.count ≡ number n) × (w ≡ (looked v n, [])))
-    ⊎ ((v.count < number n) × ((x : Msg) × (slice_get v.list v.count ≡ Some x) × (w ≡ (readied v n, (v.count % v.room, Some x) ∷ []))))
-
--- the producer's slot went back and its count went up; where the word that it loaded last tells of room for one more, it has the next slot
-abbrev pub MovedTail : EndState → Me (Option Msg) EndState → Type 0
-MovedTail v w = ((number v.last + v.room ≤ v.count + 1) × (w ≡ (moved v false, [])))
-    ⊎ ((v.count + 1 < number v.last + v.room) × ((y : Option Msg) × (w ≡ (moved v true, ((v.count + 1) % v.room, y) ∷ []))))
-
--- the consumer's slot went back and its count went up; where the word that it loaded last tells of one more message, it has the next slot, where that lies
-abbrev pub MovedHead : EndState → Me (Option Msg) EndState → Type 0
-MovedHead v w = ((number v.last ≤ v.count + 1) × (w ≡ (moved v false, [])))
-    ⊎ ((v.count + 1 < number v.last) × ((x : Msg) × (slice_get v.list (v.count + 1) ≡ Some x) × (w ≡ (moved v true, ((v.count + 1) % v.room, Some x) ∷ []))))
-
--- a look at the other end's word, which tells of no less than the one that was loaded last
+-- a look at the other end's word
 abbrev pub Looked : Me (Option Msg) EndState → ℕ → Me (Option Msg) EndState → Type 0
-Looked m n w = (w ≡ (looked m.0 n, m.1)) × (number m.0.last ≤ number n)
+Looked m n w = (w ≡ (looked m.0 n, m.1)) × IsLater m.0 n
+
+-- the ring was full, or the producer has the slots of as many messages as there is room for
+abbrev pub SawHead : Me (Option Msg) EndState → ℕ → Me (Option Msg) EndState → Type 0
+SawHead m n w = IsLater m.0 n × (((m.0.count ≡ number n + m.0.room) × (w ≡ (looked m.0 n, m.1)))
+    ⊎ ((m.0.count < number n + m.0.room) × (w ≡ (readied m.0 n (number n + m.0.room - m.0.count), free_slots m.0.room m.0.count (number n + m.0.room - m.0.count)))))
+
+-- the ring was empty, or the consumer has the slots of all messages that were put
+abbrev pub SawTail : Me (Option Msg) EndState → ℕ → Me (Option Msg) EndState → Type 0
+SawTail m n w = IsLater m.0 n × (((m.0.count ≡ number n) × (w ≡ (looked m.0 n, m.1)))
+    ⊎ ((m.0.count < number n) × (w ≡ (readied m.0 n (number n - m.0.count), full_slots m.0.list m.0.room m.0.count (number n - m.0.count)))))
+
+-- the slots of the next k messages went back and the producer's count went up; it has those behind them still
+abbrev pub MovedTail : EndState → ℕ → Me (Option Msg) EndState → Type 0
+MovedTail v k w = w ≡ (moved v k, free_slots v.room (v.count + k) (v.held - k))
+
+-- the slots of the next k messages went back and the consumer's count went up; it has those behind them still
+abbrev pub MovedHead : EndState → ℕ → Me (Option Msg) EndState → Type 0
+MovedHead v k w = w ≡ (moved v k, full_slots v.list v.room (v.count + k) (v.held - k))
 
 -- the end has left
 abbrev pub Left : Me (Option Msg) EndState → Me (Option Msg) EndState → Type 0

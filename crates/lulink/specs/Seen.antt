@@ -1,5 +1,5 @@
 -- What each call of an end of a ring learns by the other end's word. A call that finds the ring full, or empty, or that asks whether the other end has left, goes by a word that was loaded in that call.
-use Rattle.std.specs.Prelude.{◌≡◌, ℕ, ◌+◌, ◌<◌, List, [], ◌∷◌, ◌++◌, true, length, Option, Some, None}
+use Rattle.std.specs.Prelude.{◌≡◌, ℕ, ◌+◌, ◌<◌, ◌≤◌, List, [], ◌∷◌, ◌++◌, true, length, Option, Some, None}
 use Rattle.luflow.specs.declared.message.Msg.{Msg}
 use Rattle.lulink.specs.declared.sender.Offer.{Offer}
 use Rattle.lulink.specs.declared.sender.Offer.TheVariants.{Done, Full}
@@ -45,6 +45,21 @@ Offered (Full back) m s w t = (t ≡ put_none s w) × (back ≡ m) × WasFull s 
 abbrev pub Polled : Option Msg → ReceiverView → ℕ → ReceiverView → Type 0
 Polled (Some m) r w q = (q ≡ took_one r w m) × IsNextToTake r m × HadOne r w
 Polled None r w q = (q ≡ took_none r w) × WasEmpty r w
+
+-- by the word there was room for n messages, or n messages were put that aren't taken
+abbrev pub HadRoomFor : ℕ → SenderView → ℕ → Type 0
+HadRoomFor n s w = length s.put + n ≤ number w + s.capacity
+
+abbrev pub HadSome : ℕ → ReceiverView → ℕ → Type 0
+HadSome n r w = length r.taken + n ≤ number w
+
+-- one word was seen, by which there was room for the n messages that were put; where more were offered, the ring was full then
+abbrev pub OfferedRun : ℕ → ℕ → SenderView → ℕ → SenderView → Type 0
+OfferedRun all n s w t = (t.capacity ≡ s.capacity) × (t.seen ≡ s.seen ++ w ∷ []) × HadRoomFor n s w × (n < all → WasFull t w)
+
+-- one word was seen, by which the n messages that were taken were there; where more were asked for, the ring was empty then
+abbrev pub PolledRun : ℕ → ℕ → ReceiverView → ℕ → ReceiverView → Type 0
+PolledRun most n r w q = (q.capacity ≡ r.capacity) × (q.seen ≡ r.seen ++ w ∷ []) × HadSome n r w × (n < most → WasEmpty q w)
 
 -- words were seen, and at the last there was room
 abbrev pub FoundRoom : SenderView → SenderView → Type 0

@@ -1,5 +1,5 @@
 -- What contracts see of an end of a link, and what each call changes of what was put or taken. Nothing here knows what a link is made of.
-use Rattle.std.specs.Prelude.{◌≡◌, ℕ, List, [], ◌∷◌, ◌++◌, length, Option, Some, None}
+use Rattle.std.specs.Prelude.{◌≡◌, ℕ, ◌+◌, List, [], ◌∷◌, ◌++◌, length, Option, Some, None, slice_get}
 use Rattle.luflow.specs.declared.message.Msg.{Msg}
 use Rattle.luflow.specs.declared.message.Body.TheVariants.{Close}
 use Rattle.luworld.specs.Runs.{Run}
@@ -31,6 +31,14 @@ IsNextToPut s m = IsNextOf (list_of s.job s.link) (length s.put) m
 abbrev pub IsNextToTake : ReceiverView → Msg → Type 0
 IsNextToTake r m = IsNextOf (list_of r.job r.link) (length r.taken) m
 
+-- the messages are the next to be put, in this order
+abbrev pub AreNextToPut : SenderView → List Msg → Type 0
+AreNextToPut s ms = (k : ℕ) (m : Msg) → slice_get ms k ≡ Some m → IsNextOf (list_of s.job s.link) (length s.put + k) m
+
+-- the messages are the next to be taken, in this order
+abbrev pub AreNextToTake : ReceiverView → List Msg → Type 0
+AreNextToTake r ms = (k : ℕ) (m : Msg) → slice_get ms k ≡ Some m → IsNextOf (list_of r.job r.link) (length r.taken + k) m
+
 -- just this message was put
 abbrev pub HasPut : Msg → SenderView → SenderView → Type 0
 HasPut m s t = (t.job ≡ s.job) × (t.link ≡ s.link) × (t.put ≡ s.put ++ m ∷ [])
@@ -38,12 +46,20 @@ HasPut m s t = (t.job ≡ s.job) × (t.link ≡ s.link) × (t.put ≡ s.put ++ m
 abbrev pub HasPutNothing : SenderView → SenderView → Type 0
 HasPutNothing s t = (t.job ≡ s.job) × (t.link ≡ s.link) × (t.put ≡ s.put)
 
+-- just these messages were put
+abbrev pub HasPutAll : List Msg → SenderView → SenderView → Type 0
+HasPutAll ms s t = (t.job ≡ s.job) × (t.link ≡ s.link) × (t.put ≡ s.put ++ ms)
+
 -- just this message was taken
 abbrev pub HasTaken : Msg → ReceiverView → ReceiverView → Type 0
 HasTaken m r q = (q.job ≡ r.job) × (q.link ≡ r.link) × (q.taken ≡ r.taken ++ m ∷ [])
 
 abbrev pub HasTakenNothing : ReceiverView → ReceiverView → Type 0
 HasTakenNothing r q = (q.job ≡ r.job) × (q.link ≡ r.link) × (q.taken ≡ r.taken)
+
+-- just these messages were taken
+abbrev pub HasTakenAll : List Msg → ReceiverView → ReceiverView → Type 0
+HasTakenAll ms r q = (q.job ≡ r.job) × (q.link ≡ r.link) × (q.taken ≡ r.taken ++ ms)
 
 -- just the message was put, or nothing was and it comes back
 abbrev pub PutOrBack : Offer → Msg → SenderView → SenderView → Type 0
@@ -58,3 +74,11 @@ TakenOrNot None r q = HasTakenNothing r q
 -- nothing follows the close: where it was taken, all of the list was
 abbrev pub IsWholeAt : Msg → ReceiverView → Type 0
 IsWholeAt m r = m.body ≡ Close → r.taken ≡ list_of r.job r.link
+
+-- so many messages were taken, the next of the list, and stand behind what the buffer had
+abbrev pub IsRunTaken : ℕ → List Msg → List Msg → ReceiverView → ReceiverView → Type 0
+IsRunTaken n before after r q = (got : List Msg) × (length got ≡ n) × (after ≡ before ++ got) × HasTakenAll got r q × AreNextToTake r got
+
+-- where the close is among what was taken, all of the list was
+abbrev pub IsWholeAtClose : ReceiverView → Type 0
+IsWholeAtClose r = (k : ℕ) (m : Msg) → slice_get r.taken k ≡ Some m → IsWholeAt m r

@@ -76,7 +76,7 @@ pub fn open_link(
             count: 0,
             slot: 0,
             word: 0,
-            ready: false,
+            held: 0,
         },
         link,
     };
@@ -87,7 +87,7 @@ pub fn open_link(
             count: 0,
             slot: 0,
             word: 0,
-            ready: false,
+            held: 0,
         },
         link,
     };

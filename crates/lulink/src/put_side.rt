@@ -1,9 +1,10 @@
-//! The producer's side of a ring. Between two calls it may already have the slot of its next message, so that it needs no look at
-//! the consumer's word as long as the one that it loaded last tells of room.
+//! The producer's side of a ring. Between two calls it may already have the slots of its next messages, so that it needs no look
+//! at the consumer's word as long as the one that it loaded last tells of room.
 
-ghost use Rattle.std.specs.Prelude.{◌≡◌, ◌+◌, [], ◌∷◌, ◌++◌, true, Some, slice_get};
-ghost use Rattle.lulink.specs.Words.{has_left, IsFinal};
-ghost use Rattle.lulink.specs.Insides.{told_list, IsPutSide, SoughtRoom};
+ghost use Rattle.std.specs.Prelude.{◌≡◌, ◌+◌, ◌<◌, ◌≤◌, ◌%◌, [], ◌∷◌, ◌++◌, length, Option, Some, slice_get};
+ghost use Rattle.atomic_table.specs.Table.{rest};
+ghost use Rattle.lulink.specs.Words.{number, has_left, IsFinal};
+ghost use Rattle.lulink.specs.Insides.{told_list, AreTold, IsPutSide, SoughtRoom, HasFilled};
 
 use crate::rule::{Leave, LoadHead, Look, Ring, Seat, StoreTail};
 use crate::word::{HEAD, TAIL, TOP, next_slot, number_of, says_gone};
@@ -18,18 +19,30 @@ pub struct PutSide {
     pub(crate) slot: usize,
     /// The consumer's word, as it was loaded last.
     pub(crate) word: u64,
-    /// Whether the seat has that slot.
-    pub(crate) ready: bool,
+    /// How many slots of the next messages the seat has.
+    pub(crate) held: u64,
 }
 
 impl PutSide {
-    /// Whether there is room for the next message. Loads the head where the word that was loaded last doesn't tell of room.
+    /// Whether there is room for the next message. Loads the head where the seat has no slot.
     pub(crate) fn has_room(&mut self, ring: &Ring) -> bool
         requires { IsPutSide ring.now.shared.table_id ring.now.shared.key self.old }
         ensures side { IsPutSide ring.now.shared.table_id ring.now.shared.key self.new }
         ensures sought { SoughtRoom ring.now.shared.key self.old result self.new }
     {
-        if self.ready {
+        self.has_room_for(ring, 1)
+    }
+
+    /// Whether there is room for the next message. Loads the head where the seat has fewer slots than this.
+    fn has_room_for(&mut self, ring: &Ring, wanted: u64) -> bool
+        requires side { IsPutSide ring.now.shared.table_id ring.now.shared.key self.old }
+        requires some { 0 < wanted }
+        ensures side { IsPutSide ring.now.shared.table_id ring.now.shared.key self.new }
+        ensures sought { SoughtRoom ring.now.shared.key self.old result self.new }
+        ensures all { self.new.held < wanted
+            → self.new.count + self.new.held ≡ number self.new.word + ring.now.shared.key.capacity }
+    {
+        if self.held >= wanted {
             return true;
         }
         let room = ring.slot_count();
@@ -38,14 +51,14 @@ impl PutSide {
         if self.count == number_of(word) + room as u64 {
             return false;
         }
-        self.ready = true;
+        self.held = number_of(word) + room as u64 - self.count;
         true
     }
 
     /// Puts the message into its slot, and counts it.
     pub(crate) fn put(&mut self, ring: &Ring, msg: Msg)
         requires side { IsPutSide ring.now.shared.table_id ring.now.shared.key self.old }
-        requires ready { self.old.ready ≡ true }
+        requires held { 0 < self.old.held }
         requires next { slice_get (told_list ring.now.shared.key) self.old.count ≡ Some msg }
         ensures side { IsPutSide ring.now.shared.table_id ring.now.shared.key self.new }
         ensures count { self.new.count ≡ self.old.count + 1 }
@@ -53,11 +66,95 @@ impl PutSide {
     {
         let room = ring.slot_count();
         ring.shared.exchange(&mut self.seat, self.slot, Some(msg));
+        self.seat.turn();
         ring.shared
             .store::<StoreTail>(&mut self.seat, TAIL, self.count + 1);
         self.count += 1;
         self.slot = next_slot(self.slot, room);
-        self.ready = self.count < number_of(self.word) + room as u64;
+        self.held -= 1;
+    }
+
+    /// Puts as many of the messages as there is room for, and counts them with one store. How many.
+    pub(crate) fn put_run(&mut self, ring: &Ring, msgs: &[Msg]) -> usize
+        requires side { IsPutSide ring.now.shared.table_id ring.now.shared.key self.old }
+        requires next { AreTold ring.now.shared.key self.old.count msgs.now }
+        ensures side { IsPutSide ring.now.shared.table_id ring.now.shared.key self.new }
+        ensures within { result ≤ length msgs.now }
+        ensures count { self.new.count ≡ self.old.count + result }
+        ensures seen { self.new.seat.me.0.seen ≡ self.old.seat.me.0.seen ++ self.new.word ∷ [] }
+        ensures full { result < length msgs.now
+            → self.new.count ≡ number self.new.word + ring.now.shared.key.capacity }
+        ensures last { IsFinal self.old.seat.me.0.seen self.new.word }
+    {
+        if msgs.is_empty() {
+            let _gone = self.sees_gone(ring);
+            return 0;
+        }
+        if !self.has_room_for(ring, msgs.len() as u64) {
+            return 0;
+        }
+        let fit = if self.held < msgs.len() as u64 {
+            self.held as usize
+        } else {
+            msgs.len()
+        };
+        self.put_all(ring, &msgs[..fit]);
+        fit
+    }
+
+    /// Puts the messages into their slots, and counts them with one store.
+    fn put_all(&mut self, ring: &Ring, msgs: &[Msg])
+        requires side { IsPutSide ring.now.shared.table_id ring.now.shared.key self.old }
+        requires held { length msgs.now ≤ self.old.held }
+        requires next { AreTold ring.now.shared.key self.old.count msgs.now }
+        ensures side { IsPutSide ring.now.shared.table_id ring.now.shared.key self.new }
+        ensures count { self.new.count ≡ self.old.count + length msgs.now }
+        ensures word { self.new.word ≡ self.old.word }
+        ensures held { self.new.held + length msgs.now ≡ self.old.held }
+        ensures seen { self.new.seat.me.0.seen ≡ self.old.seat.me.0.seen ++ self.old.word ∷ [] }
+    {
+        let passed = msgs.len() as u64;
+        self.fill(ring, msgs);
+        ring.shared
+            .store::<StoreTail>(&mut self.seat, TAIL, self.count + passed);
+        self.count += passed;
+        self.held -= passed;
+    }
+
+    /// Puts the messages into their slots. The consumer doesn't see them yet.
+    fn fill(&mut self, ring: &Ring, msgs: &[Msg])
+        requires side { IsPutSide ring.now.shared.table_id ring.now.shared.key self.old }
+        requires held { length msgs.now ≤ self.old.held }
+        requires next { AreTold ring.now.shared.key self.old.count msgs.now }
+        ensures { HasFilled ring.now.shared.key self.old (length msgs.now) self.new }
+    {
+        let mut i = 0;
+        while i < msgs.len() {
+            let next = msgs[i];
+            self.fill_slot(ring, next);
+            i += 1;
+        }
+    }
+
+    /// Puts the message into the slot at hand, and goes on to the next one.
+    fn fill_slot(&mut self, ring: &Ring, next: Msg)
+        requires table { self.old.seat.table_id ≡ ring.now.shared.table_id }
+        requires slot { self.old.slot < ring.now.shared.table_id.slots }
+        requires held { (y : Option Msg)
+            × (self.old.seat.me.1 ≡ (self.old.slot, y) ∷ rest self.old.seat.me.1) }
+        ensures seat { self.new.seat.table_id ≡ self.old.seat.table_id }
+        ensures slots { self.new.seat.me ≡ (
+          self.old.seat.me.0,
+          rest self.old.seat.me.1 ++ (self.old.slot, Some next) ∷ [],
+        ) }
+        ensures slot { self.new.slot ≡ (self.old.slot + 1) % ring.now.shared.table_id.slots }
+        ensures same { (self.new.count ≡ self.old.count) × (self.new.word ≡ self.old.word)
+            × (self.new.held ≡ self.old.held) }
+    {
+        let room = ring.slot_count();
+        ring.shared.exchange(&mut self.seat, self.slot, Some(next));
+        self.seat.turn();
+        self.slot = next_slot(self.slot, room);
     }
 
     /// Whether the consumer has left.

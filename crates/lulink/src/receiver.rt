@@ -1,10 +1,10 @@
 //! The receiver's end.
 
-ghost use Rattle.std.specs.Prelude.{◌≡◌, ℕ, IfOk, IfErr, IfSome};
+ghost use Rattle.std.specs.Prelude.{◌≡◌, ◌+◌, ◌≤◌, ℕ, length, vec_capacity, IfOk, IfErr, IfSome};
 ghost use Rattle.lulink.specs.Lists.{list_of, IsBeginning};
 ghost use Rattle.lulink.specs.Words.{has_left, IsFinal};
-ghost use Rattle.lulink.specs.Views.{IsNextToTake, IsWholeAt, HasTaken, HasTakenNothing, TakenOrNot};
-ghost use Rattle.lulink.specs.Seen.{took_none, Polled, FoundOne, FoundNothingLeft};
+ghost use Rattle.lulink.specs.Views.{IsNextToTake, IsWholeAt, IsWholeAtClose, IsRunTaken, HasTaken, HasTakenNothing, TakenOrNot};
+ghost use Rattle.lulink.specs.Seen.{took_none, Polled, PolledRun, FoundOne, FoundNothingLeft};
 
 use crate::opening::LinkNo;
 use crate::rule::Ring;
@@ -62,6 +62,22 @@ impl Rx {
             return None;
         }
         self.side.take(ring)
+    }
+
+    /// Takes as many messages as are there, at most so many, puts them behind those of the buffer, in order, and tells how many:
+    /// the sender sees all of that room at once. Looks at the sender's word once, or not at all where an earlier look told of as
+    /// many messages; so where fewer were taken, the link was empty as of this call. Where none is asked for, it looks once, and
+    /// takes nothing. Never waits, and takes no memory: the buffer has room for all that is asked for.
+    pub fn poll_run(&mut self, most: usize, into: &mut Vec<Msg>) -> usize
+        requires { length into.old.items + most ≤ vec_capacity into.old }
+        ensures within { result ≤ most }
+        ensures taken { IsRunTaken result into.old.items into.new.items self.old self.new }
+        ensures whole { IsWholeAtClose self.new }
+        ensures seen { (w : ℕ) × PolledRun most result self.old w self.new × IsFinal self.old.seen w }
+        ensures buffer { vec_capacity into.new ≡ vec_capacity into.old }
+    {
+        let ring = &*self.ring;
+        self.side.take_run(ring, most, into)
     }
 
     /// Whether the sender has left. Never waits, and takes no memory.

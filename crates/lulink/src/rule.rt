@@ -23,7 +23,7 @@ pub enum Role {
 }
 
 /// What a seat knows: its role, the ring's number of slots and list, how many messages its end has passed, the words by which
-/// its calls went, the word that it loaded last, whether it has the slot of its next message, and whether its end has left.
+/// its calls went, the word that it loaded last, how many slots of its next messages it has, and whether its end has left.
 /// No value of it is made.
 pub struct EndState {
     pub role: Role,
@@ -32,7 +32,7 @@ pub struct EndState {
     pub count: u64,
     pub seen: LinkedList<u64>,
     pub last: u64,
-    pub busy: bool,
+    pub held: u64,
     pub left: bool,
 }
 
@@ -63,44 +63,44 @@ impl Split<EndState> for TwoEnds {
     ghost right = { seated Consumer };
 }
 
-/// The producer loads the head, and has the slot of its next message where there is room.
+/// The producer loads the head, and has the slots of as many of its next messages as there is room for.
 pub struct LoadHead;
 
 impl Play<Option<Msg>, EndState> for LoadHead {
     ghost use Rattle.lulink.specs.Rings.{SawHead};
     ghost use Rattle.lulink.specs.Words.{IsFinal};
 
-    ghost then = { λ s m n w. SawHead m.0 n w × IsFinal m.0.seen n };
+    ghost then = { λ s m n w. SawHead m n w × IsFinal m.0.seen n };
 }
 
-/// The consumer loads the tail, and has the slot of its next message where there is one.
+/// The consumer loads the tail, and has the slots of all messages that were put.
 pub struct LoadTail;
 
 impl Play<Option<Msg>, EndState> for LoadTail {
     ghost use Rattle.lulink.specs.Rings.{SawTail};
     ghost use Rattle.lulink.specs.Words.{IsFinal};
 
-    ghost then = { λ s m n w. SawTail m.0 n w × IsFinal m.0.seen n };
+    ghost then = { λ s m n w. SawTail m n w × IsFinal m.0.seen n };
 }
 
-/// The producer stores the tail, one more, and gives its slot back. It has the next one where the head that it loaded last tells
-/// of room.
+/// The producer stores the tail, and gives back the slots of the messages that it counts more.
 pub struct StoreTail;
 
 impl Play<Option<Msg>, EndState> for StoreTail {
+    ghost use Rattle.std.specs.Prelude.{◌-◌};
     ghost use Rattle.lulink.specs.Rings.{MovedTail};
 
-    ghost then = { λ s m n w. MovedTail m.0 w };
+    ghost then = { λ s m n w. MovedTail m.0 (s.first - m.0.count) w };
 }
 
-/// The consumer stores the head, one more, and gives its slot back. It has the next one where the tail that it loaded last tells
-/// of a message.
+/// The consumer stores the head, and gives back the slots of the messages that it counts more.
 pub struct StoreHead;
 
 impl Play<Option<Msg>, EndState> for StoreHead {
+    ghost use Rattle.std.specs.Prelude.{◌-◌};
     ghost use Rattle.lulink.specs.Rings.{MovedHead};
 
-    ghost then = { λ s m n w. MovedHead m.0 w };
+    ghost then = { λ s m n w. MovedHead m.0 (s.first - m.0.count) w };
 }
 
 /// An end loads the other's word, and takes no slot.

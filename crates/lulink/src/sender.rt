@@ -1,10 +1,10 @@
 //! The sender's end.
 
-ghost use Rattle.std.specs.Prelude.{◌≡◌, ℕ, IfOk, IfErr};
+ghost use Rattle.std.specs.Prelude.{◌≡◌, ◌≤◌, ℕ, length, take, IfOk, IfErr};
 ghost use Rattle.lulink.specs.Lists.{list_of, IsBeginning};
 ghost use Rattle.lulink.specs.Words.{has_left, IsFinal};
-ghost use Rattle.lulink.specs.Views.{IsNextToPut, HasPut, HasPutNothing, PutOrBack};
-ghost use Rattle.lulink.specs.Seen.{put_none, Offered, FoundRoom, FoundFullAndGone};
+ghost use Rattle.lulink.specs.Views.{IsNextToPut, AreNextToPut, HasPut, HasPutAll, HasPutNothing, PutOrBack};
+ghost use Rattle.lulink.specs.Seen.{put_none, Offered, OfferedRun, FoundRoom, FoundFullAndGone};
 
 use crate::opening::LinkNo;
 use crate::put_side::PutSide;
@@ -70,6 +70,21 @@ impl Tx {
         }
         self.side.put(ring, msg);
         Offer::Done
+    }
+
+    /// Puts as many of these messages, the next ones of the link's list, as there is room for, in order, and tells how many: the
+    /// receiver sees them all at once. Looks at the receiver's word once, or not at all where an earlier look told of room for
+    /// all of them; so where fewer were put, the link was full as of this call. An empty run looks once, and puts nothing. Never
+    /// waits, and takes no memory.
+    pub fn offer_run(&mut self, msgs: &[Msg]) -> usize
+        requires { AreNextToPut self.old msgs.now }
+        ensures within { result ≤ length msgs.now }
+        ensures put { HasPutAll (take result msgs.now) self.old self.new }
+        ensures seen { (w : ℕ) × OfferedRun (length msgs.now) result self.old w self.new
+            × IsFinal self.old.seen w }
+    {
+        let ring = &*self.ring;
+        self.side.put_run(ring, msgs)
     }
 
     /// Whether the receiver has left. Never waits, and takes no memory.

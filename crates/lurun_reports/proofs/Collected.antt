@@ -7,26 +7,24 @@ use Rattle.std.proofs.lemmas.Bool.{cases_eq, eqb-true, false≢true}
 use Rattle.std.proofs.lemmas.List.{length-map}
 use Rattle.std.proofs.lemmas.List.FromFn.{get_or-range_with_len, length-range_with_len}
 use Rattle.std.proofs.lemmas.List.Sums.{AllPass-from_list_all}
-use Rattle.std.proofs.lemmas.Option.{slice_get_within, slice_get-map}
+use Rattle.std.proofs.lemmas.Option.{slice_get-map}
 use Rattle.luflow.specs.declared.data.Status.{Status}
 use Rattle.luflow.specs.declared.variable.Variable.{Variable}
-use Rattle.luflow.specs.Messages.{marks}
 use Rattle.luflow.specs.Tables.{OutputColumn, AreOutputs}
 use Rattle.luflow.specs.Variables.{variable_name, outputs_of as output_variables}
 use Rattle.luworld.specs.Needs.{sites_of, home}
 use Rattle.luworld.specs.Progress.{IsWhole}
 use Rattle.luworld.specs.Runs.{Run, IsJob, HasNoStop, outputs_of, streams_of, script}
-use Rattle.lumeaning.proofs.Sources.{same_marks}
 use Rattle.lusite.specs.Sites.{SiteAt}
 use Rattle.lusite.specs.Logs.{IsOutput}
 use Rattle.lusite_program.specs.Programs.{output_names}
 use Rattle.lurun_reports.specs.Reports.{AreToldOf, is_of, is_one, are_complete, AreComplete, HasEnded, IsToldBySome, OneTells, NoneTells, AreColumns, AreOutputsOf, AreCollected, TellNothing}
 use Rattle.luflow.proofs.Solutions.{some_at}
 use Rattle.lusite.proofs.Told.{first_len}
-use Rattle.lusite_program.proofs.Posts.{output_there}
 use Rattle.lurun_reports.proofs.Lists.{all_at, all_from, same_elements}
 use Rattle.lurun_reports.proofs.Endings.{no_fault}
 use Rattle.lurun_reports.proofs.Named.{names_are}
+use Rattle.lurun_reports.proofs.Whole.{number_at, are_outputs_of}
 
 -- ---- one report of each site
 
@@ -37,9 +35,6 @@ some_of s (x ∷ xs) l = go (nat_eq x.site s) refl l (some_of s xs)
     go : (b : Bool) → nat_eq x.site s ≡ b → 0 < length (cond b (x ∷ filter (is_of s) xs) (filter (is_of s) xs)) → (0 < length (filter (is_of s) xs) → (p : ℕ) × (r : SiteAt) × (slice_get xs p ≡ Some r) × (r.site ≡ s)) → (p : ℕ) × (r : SiteAt) × (slice_get (x ∷ xs) p ≡ Some r) × (r.site ≡ s)
     go true e l rest = (0, x, refl, eqb-true x.site s e)
     go false e l rest = let w = rest l in (suc w.0, w.1, w.2, w.3)
-
-same_Some : {X : Type 0} (x y : X) → Some x ≡ Some y → x ≡ y
-same_Some x y e = cc
 
 last_part : (a b d : Bool) → (a && b && d) ≡ true → d ≡ true
 last_part true true d e = e
@@ -101,24 +96,11 @@ module _ (job : Run) (reports : List SiteAt) (of : AreToldOf job reports) (compl
       named = same_elements (map (λ (c : OutputColumn). c.name) columns) (output_names job.plan) (length-map columns (λ (c : OutputColumn). c.name) ∙ are.len)
           (λ k l. let x = some_at columns k (let n = length-map columns (λ (c : OutputColumn). c.name) in omega (arith, l, n)) in slice_get-map (λ (c : OutputColumn). c.name) columns k ∙ ap (option_map (λ (c : OutputColumn). c.name)) x.1 ∙ sym (are.each k x.0 x.1).0)
 
-      number_at : (k : ℕ) (x : OutputColumn) → slice_get columns k ≡ Some x → (v : ℕ) × (slice_get (outputs_of job.plan) k ≡ Some v) × (variable_name job.plan.flat v ≡ x.name)
-      number_at k x at =
-          let lk = slice_get_within columns k x at in
-          let v = some_at (outputs_of job.plan) k (omega (arith, lk, len)) in
-          (v.0, v.1, same_Some (variable_name job.plan.flat v.0) x.name (ap (option_map (variable_name job.plan.flat)) (sym v.1) ∙ sym (slice_get-map (variable_name job.plan.flat) (outputs_of job.plan) k) ∙ (are.each k x at).0))
-
       outputs_are : AreOutputsOf job columns
-      outputs_are = record {
-        named = named ∙ names_are job.plan;
-        whole = whole_at;
-        source = λ σ meant k x at.
-            let v = number_at k x at in
-            whole_at k v.0 x v.1 at ∙ sym (same_marks job σ ok meant v.0 job.inputs.instants (output_there job.plan k v.0 v.1).0) ∙ ap (λ (name : List ℕ). marks (σ [] name) job.inputs.instants) v.2;
-        no_fault = no_fault job ok free;
-      }
+      outputs_are = are_outputs_of job ok (no_fault job ok free) columns named whole_at
 
       long : (k : ℕ) (x : OutputColumn) → slice_get columns k ≡ Some x → length x.statuses ≡ job.inputs.instants
-      long k x at = let v = number_at k x at in first_len job v.0 x.statuses job.inputs.instants (whole_at k v.0 x v.1 at)
+      long k x at = let v = number_at job ok (no_fault job ok free) columns named whole_at k x at in first_len job v.0 x.statuses job.inputs.instants (whole_at k v.0 x v.1 at)
 
       are_outputs : 0 < length columns → AreOutputs columns
       are_outputs some = go columns refl

@@ -3,4 +3,5 @@ mod Told
 mod Columns
 mod Endings
 mod Named
+pub mod Whole
 mod Collected

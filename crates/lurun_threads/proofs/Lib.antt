@@ -1,4 +1,4 @@
 pub mod Acts
 mod Moves
-mod Dealing
+pub mod Dealing
 mod Crosses

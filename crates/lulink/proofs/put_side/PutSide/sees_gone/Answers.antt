@@ -1,6 +1,6 @@
 use Rattle.std.proofs.Common.{arith}
 use Rattle.lulink.proofs.Steps.{looks_head}
-use Rattle.lulink.proofs.Ends.{put_side_looked, still_room}
+use Rattle.lulink.proofs.Ends.{put_side_looked}
 use Rattle.lulink.proofs.put_side.PutSide.sees_gone.Goals as goal
 
 pub load-word-requires : goal.load-word-requires
@@ -10,6 +10,4 @@ load-word-requires c =
     (i.table, omega arith, looks_head _ _ _ _ _ i.ends.0)
 
 pub returns-clause-side : goal.returns-clause-side
-returns-clause-side c =
-    let look = c.load-word.ensures.2 in
-    put_side_looked _ _ _ c.requires _ c.load-word.ensures.0 _ look.0.0 look.1 (still_room _ _ _ c.requires c.load-word.new.seat _ look.0)
+returns-clause-side c = let look = c.load-word.ensures.2 in put_side_looked _ _ _ c.requires _ c.load-word.ensures.0 _ look.0 look.1

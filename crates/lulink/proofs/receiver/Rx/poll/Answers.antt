@@ -7,7 +7,7 @@ use Rattle.lulink.specs.Seen.{took_one, Polled, HadOne}
 use Rattle.lulink.specs.Insides.{told_list, receiver_view}
 use Rattle.lulink.proofs.Closing.{close_ends}
 use Rattle.lulink.proofs.Waits.{polled_taken}
-use Rattle.lulink.proofs.Ends.{has_message, taken_length, receiver_moved}
+use Rattle.lulink.proofs.Ends.{next_there, taken_length, receiver_moved}
 use Rattle.lulink.proofs.receiver.Rx.poll.Goals as goal
 
 pub returns-clause-seen : goal.returns-clause-seen
@@ -16,7 +16,7 @@ returns-clause-seen c =
     let side = c.if-not-has_message.ensures.side in
     let sought = c.if-not-has_message.ensures.sought in
     let w = c.has_message.new.self.word in
-    let there = has_message side sought.2 in
+    let there = next_there side sought.2 in
     let x = there.1.0 in
     let next = (λ i. slice_get (told_list (sym d i).shared.key) (sym sought.0 i)) ∙ there.1.1 in
     let length_is = taken_length c.self.inside c.self.invariant in (
@@ -37,7 +37,7 @@ returns-clause-whole c =
     let d = c.deref-ring.ensures in
     let side = c.if-not-has_message.ensures.side in
     let sought = c.if-not-has_message.ensures.sought in
-    let there = has_message side sought.2 in
+    let there = next_there side sought.2 in
     let x = there.1.0 in
     let next = (λ i. slice_get (told_list (sym d i).shared.key) (sym sought.0 i)) ∙ there.1.1 in
     let key = c.self.inside.ring.value.shared.key in

@@ -1,11 +1,11 @@
-use Rattle.std.proofs.Common.{◌+◌, ◌<◌, ℕ, [], ◌∷◌, ◌++◌, sym, ap, ◌∙◌, subst}
+use Rattle.std.proofs.Common.{◌+◌, ◌<◌, ℕ, [], ◌∷◌, ◌++◌, sym, ap, ◌∙◌, subst, arith}
 use Rattle.lulink.specs.declared.sender.Offer.TheVariants.{Done}
 use Rattle.lulink.specs.Words.{number, IsFinal}
 use Rattle.lulink.specs.Views.{SenderView}
 use Rattle.lulink.specs.Seen.{put_one, HadRoom}
 use Rattle.lulink.specs.Insides.{sender_view}
 use Rattle.lulink.proofs.Waits.{offered_put}
-use Rattle.lulink.proofs.Ends.{has_slot, next_at, put_length, sender_moved}
+use Rattle.lulink.proofs.Ends.{next_at, put_length, sender_moved}
 use Rattle.lulink.proofs.sender.Tx.offer.Goals as goal
 
 pub returns-clause-seen : goal.returns-clause-seen
@@ -15,7 +15,9 @@ returns-clause-seen c =
     let sought = c.if-not-has_room.ensures.sought in
     let w = c.has_room.new.self.word in
     let next = next_at c.self.inside _ _ c.self.invariant c.self.view_is c.requires in
-    let free = (has_slot side sought.2).0 in (
+    let any = sought.2 in
+    let held = side.room in
+    let free : c.has_room.new.self.count < number w + c.deref-ring.result.now.shared.key.capacity = omega arith in (
       w,
       (
         sender_moved c.self.inside c.put.new.self w c.args.msg (c.put.ensures.count ∙ ap (λ n. n + 1) sought.0) (c.put.ensures.seen ∙ ap (λ l. l ++ w ∷ []) sought.1) next ∙ ap (λ (s : SenderView). put_one s w c.args.msg) c.self.view_is,

@@ -1,6 +1,6 @@
 use Rattle.std.proofs.Common.{arith}
 use Rattle.lulink.proofs.Steps.{looks_tail}
-use Rattle.lulink.proofs.Ends.{take_side_looked, still_message}
+use Rattle.lulink.proofs.Ends.{take_side_looked}
 use Rattle.lulink.proofs.take_side.TakeSide.sees_gone.Goals as goal
 
 pub load-word-requires : goal.load-word-requires
@@ -10,6 +10,4 @@ load-word-requires c =
     (i.table, omega arith, looks_tail _ _ _ _ _ i.ends.0)
 
 pub returns-clause-side : goal.returns-clause-side
-returns-clause-side c =
-    let look = c.load-word.ensures.2 in
-    take_side_looked _ _ _ c.requires _ c.load-word.ensures.0 _ look.0.0 look.1 (still_message _ _ _ c.requires c.load-word.new.seat _ look.0)
+returns-clause-side c = let look = c.load-word.ensures.2 in take_side_looked _ _ _ c.requires _ c.load-word.ensures.0 _ look.0 look.1

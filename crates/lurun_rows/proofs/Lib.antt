@@ -1,0 +1,3 @@
+mod Reported
+mod Collected
+mod Crosses

@@ -1,0 +1,12 @@
+use Rattle.std.proofs.Common.{◌≡◌, ◌++◌, vec_len}
+use Rattle.std.specs.List.Sorted.{IsPermutation}
+use Rattle.std.specs.Vec.Iter.{into_iter_items}
+use Rattle.lurun_rows.specs.Crew.{dealt}
+use Rattle.lurun_rows.proofs.crew.deal.Given as goal
+
+-- the seats that are dealt, and the stations that are left
+abbrev pub invariant-loop-station : goal.invariant-loop-station
+invariant-loop-station l = record {
+  len : vec_len l.shares ≡ l.count;
+  all : IsPermutation l.fn.stations.items (dealt l.shares.items ++ into_iter_items l.station-iterator);
+}

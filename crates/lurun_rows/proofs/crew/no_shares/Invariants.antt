@@ -1,0 +1,10 @@
+use Rattle.std.proofs.Common.{◌≡◌, ◌≤◌, length, vec_len, vec_capacity}
+use Rattle.lurun_rows.specs.Crew.{dealt}
+use Rattle.lurun_rows.proofs.crew.no_shares.Given as goal
+
+abbrev pub invariant-loop : goal.invariant-loop
+invariant-loop l = record {
+  room : l.count ≤ vec_capacity l.shares;
+  len : vec_len l.shares ≡ l.counter;
+  none : length (dealt l.shares.items) ≡ 0;
+}

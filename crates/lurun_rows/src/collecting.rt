@@ -1,0 +1,197 @@
+//! What the reports of a run by rows tell together.
+
+ghost use Rattle.std.specs.Prelude.{◌≡◌, ◌<◌, ℕ, true, IfOk, IfSome, OnOk, map, ◌++◌};
+ghost use Rattle.luflow.specs.Tables.{output_view, outputs_view};
+ghost use Rattle.luflow.specs.Variables.{is_output};
+ghost use Rattle.luworld.specs.Progress.{IsWhole};
+ghost use Rattle.luworld.specs.Runs.{Run};
+ghost use Rattle.lurun_reports.specs.Reports.{AreOutputsOf};
+ghost use Rattle.lublock_site.specs.RowStations.{AreWhole, outputs_told};
+ghost use Rattle.lurun_rows.specs.Rows.{AreToldOf};
+ghost use Rattle.lurun_rows.specs.Collecting.{AreColumnsOf, HasReport, IsColumnOf, IsPlaceOf, heading_if, heading_view, headings_of};
+
+use lublock_site::report::RowReport;
+use luflow::{Flat, Outputs, Role, Status, Variable};
+use std::alloc::{AllocError, Global};
+
+/// Whether one of the reports is of the site.
+fn has_report(reports: &[RowReport], site: u8) -> bool
+    ensures { result ≡ true → HasReport reports.now site }
+{
+    for k in 0..reports.len() {
+        if reports[k].site() == site {
+            return true;
+        }
+    }
+    false
+}
+
+/// Whether there is a report of each site.
+fn have_reports(reports: &[RowReport], sites: u8) -> bool
+    ensures { result ≡ true → (s : ℕ) → s < sites → HasReport reports.now s }
+{
+    for site in 0..sites {
+        if !has_report(reports, site) {
+            return false;
+        }
+    }
+    true
+}
+
+/// An output of the main node: the number of its variable, and its name.
+#[derive(Drop)]
+pub struct Heading {
+    pub variable: usize,
+    pub name: String,
+}
+
+fn is_output(variable: &Variable) -> bool
+    ensures { result ≡ is_output variable.now.role }
+{
+    match variable.role {
+        Role::Input => false,
+        Role::Output => true,
+        Role::Local => false,
+    }
+}
+
+/// Adds the heading of a variable, if it is an output.
+fn add_heading(
+    alloc: Global,
+    headings: &mut Vec<Heading>,
+    number: usize,
+    variable: &Variable,
+) -> Result<(), AllocError>
+    ensures { OnOk result (map heading_view headings.new.items
+        ≡ map heading_view headings.old.items ++ heading_if number variable.now) }
+{
+    if is_output(variable) {
+        let name = String::from_str(alloc, variable.name.as_str())?;
+        headings.push(Heading {
+            variable: number,
+            name,
+        })?;
+        return Ok(());
+    }
+    Ok(())
+}
+
+/// The outputs of the main node, in order of declaration.
+fn headings_of(alloc: Global, flat: &Flat) -> Result<Vec<Heading>, AllocError>
+    ensures { IfOk result (λ headings. map heading_view headings.items ≡ headings_of flat.now) }
+{
+    let variables = flat.variables();
+    let mut headings = Vec::new(alloc);
+    for v in 0..variables.len() {
+        add_heading(alloc, &mut headings, v, &variables[v])?;
+    }
+    Ok(headings)
+}
+
+/// Moves outputs behind those that are there already.
+fn add_told(
+    told: &mut Vec<(usize, Vec<Status>)>,
+    mut more: Vec<(usize, Vec<Status>)>,
+) -> Result<(), AllocError>
+    ensures { OnOk result (told.new.items ≡ told.old.items ++ more.items) }
+{
+    told.append(&mut more)
+}
+
+/// All outputs that the reports tell.
+fn told_by(alloc: Global, reports: Vec<RowReport>) -> Result<Vec<(usize, Vec<Status>)>, AllocError>
+    ensures { (job : Run) → AreToldOf job reports.items
+        → IfOk result (λ told. AreWhole job (outputs_told told.items)) }
+{
+    let mut told = Vec::new(alloc);
+    for report in reports {
+        add_told(&mut told, report.into_outputs())?;
+    }
+    Ok(told)
+}
+
+/// The place of what was told of a variable.
+fn place_of(told: &[(usize, Vec<Status>)], variable: usize) -> Option<usize>
+    ensures { IfSome result (IsPlaceOf told.now variable) }
+{
+    for place in 0..told.len() {
+        if told[place].0 == variable {
+            return Some(place);
+        }
+    }
+    None
+}
+
+/// Takes the statuses of a variable out of what was told.
+fn take_told(told: &mut Vec<(usize, Vec<Status>)>, variable: usize) -> Option<Vec<Status>>
+    ensures found { (job : Run) → AreWhole job (outputs_told told.old.items)
+        → IfSome result (λ statuses. IsWhole job variable statuses.items) }
+    ensures left { (job : Run) → AreWhole job (outputs_told told.old.items)
+        → AreWhole job (outputs_told told.new.items) }
+{
+    let Some(place) = place_of(told.as_slice(), variable) else {
+        return None;
+    };
+    let (_, statuses) = told.swap_remove(place);
+    Some(statuses)
+}
+
+/// The column of an output, whose statuses are taken out of what was told.
+fn column_of(
+    heading: Heading,
+    told: &mut Vec<(usize, Vec<Status>)>,
+) -> Option<(String, Vec<Status>)>
+    ensures column { (job : Run) → AreWhole job (outputs_told told.old.items)
+        → IfSome result (λ column. IsColumnOf job (heading_view heading) (output_view column)) }
+    ensures left { (job : Run) → AreWhole job (outputs_told told.old.items)
+        → AreWhole job (outputs_told told.new.items) }
+{
+    let Heading { variable, name } = heading;
+    let statuses = take_told(told, variable)?;
+    Some((name, statuses))
+}
+
+/// A column for each output; none where one wasn't told.
+fn columns_of(
+    alloc: Global,
+    headings: Vec<Heading>,
+    mut told: Vec<(usize, Vec<Status>)>,
+) -> Result<Option<Vec<(String, Vec<Status>)>>, AllocError>
+    ensures { (job : Run) → AreWhole job (outputs_told told.items) → IfOk result (λ o. IfSome o
+        (λ columns. AreColumnsOf job (map heading_view headings.items)
+        (outputs_view columns.items))) }
+{
+    let mut columns = Vec::with_capacity(alloc, headings.len())?;
+    for heading in headings {
+        let Some(column) = column_of(heading, &mut told) else {
+            return Ok(None);
+        };
+        columns.push_reserved(column);
+    }
+    Ok(Some(columns))
+}
+
+/// The whole outputs of a job, from reports of its sites. None where a site has no report, where an output wasn't told, or where the
+/// main node has none. The reports are gone: their statuses are moved into the answer, and not copied.
+///
+/// # Errors
+///
+/// An error means that memory ran out. The reports are gone then too.
+pub fn collect_rows(alloc: Global, reports: Vec<RowReport>) -> Result<Option<Outputs>, AllocError>
+    ensures { (job : Run) → AreToldOf job reports.items
+        → IfOk result (λ o. IfSome o (AreOutputsOf job)) }
+{
+    let all = reports.as_slice();
+    let Some(first) = all.first() else {
+        return Ok(None);
+    };
+    if !have_reports(all, first.sites()) {
+        return Ok(None);
+    }
+    let headings = headings_of(alloc, first.flat())?;
+    let told = told_by(alloc, reports)?;
+    match columns_of(alloc, headings, told)? {
+        Some(columns) => Ok(Outputs::new(columns)),
+        None => Ok(None),
+    }
+}

@@ -1,0 +1,170 @@
+//! Going round stations until all are over.
+
+ghost use Rattle.std.specs.Prelude.{◌≡◌, ◌<◌, ◌+◌, IfSome, vec_len};
+ghost use Rattle.lurun_rows.specs.Rows.{AreReportsOf};
+ghost use Rattle.lurun_rows.specs.Crew.{HasRoom, IsNewHand, GoesOn};
+
+use lublock_site::report::RowReport;
+use lublock_site::station::{RowStation, Went};
+use lurun_threads::Gate;
+use std::marker::Model;
+use std::rt::Clock;
+use std::sync::Wait;
+use std::thread;
+use std::time::Duration;
+
+/// A station as a worker goes round it, and the instant that the gate was told last.
+#[derive(Drop)]
+pub struct Seat {
+    station: RowStation,
+    told: Option<u32>,
+}
+
+impl Model for Seat {
+    ghost use Rattle.lublock_site.specs.RowStations.{RowAt};
+
+    ghost Value = { RowAt };
+
+    ghost view = { λ a. a.station };
+}
+
+/// A seat for a new station.
+pub fn seat_of(station: RowStation) -> Seat
+    ensures { result ≡ station }
+{
+    Seat {
+        station,
+        told: None,
+    }
+}
+
+impl Seat {
+    /// The number of the station's site.
+    pub fn number(&self) -> u8
+        ensures { result ≡ self.now.site }
+    {
+        self.station.site()
+    }
+
+    /// Tells the gate the instant at which the station stands, if that is news.
+    fn tell<G: Gate>(&mut self, gate: &G)
+        ensures { self.new ≡ self.old }
+    {
+        let instant = self.station.instant();
+        if self.told != Some(instant) {
+            gate.at(self.station.site(), instant);
+            self.told = Some(instant);
+        }
+    }
+
+    /// Goes on until the station is blocked or over, and tells the gate.
+    fn go<G: Gate>(&mut self, gate: &G) -> Went
+        ensures { self.new ≡ self.old }
+    {
+        let went = self.station.go();
+        match went {
+            Went::Moved => self.tell(gate),
+            Went::Blocked => self.tell(gate),
+            Went::Over => gate.at(self.station.site(), self.station.instant()),
+        }
+        went
+    }
+
+    /// What the site tells; none where it didn't end. The ends are left.
+    fn report(self) -> Option<RowReport>
+        ensures { IfSome result (λ r. (r.job ≡ self.job) × (r.site ≡ self.site)) }
+    {
+        let Seat { station, told: _ } = self;
+        station.report()
+    }
+}
+
+/// A worker's seats, and room for a report of each.
+#[derive(Drop)]
+pub struct Hand {
+    pub seats: Vec<Seat>,
+    pub reports: Vec<RowReport>,
+}
+
+fn go_at<G: Gate>(seats: &mut Vec<Seat>, at: usize, gate: &G) -> Went
+    requires { at < vec_len seats.old }
+    ensures same { seats.new.items ≡ seats.old.items }
+    ensures len { vec_len seats.new ≡ vec_len seats.old }
+{
+    let seat = &mut seats[at];
+    seat.go(gate)
+}
+
+/// Takes out a seat whose station is over. Its report is kept, if it has one.
+fn take_out(hand: &mut Hand, at: usize)
+    requires at { at < vec_len hand.old.seats }
+    requires room { HasRoom hand.old }
+    ensures room { HasRoom hand.new }
+    ensures on { GoesOn hand.old hand.new }
+    ensures len { vec_len hand.new.seats + 1 ≡ vec_len hand.old.seats }
+{
+    let seat = hand.seats.swap_remove(at);
+    if let Some(report) = seat.report() {
+        hand.reports.push_reserved(report);
+    }
+}
+
+/// Goes round the seats once: whether a station moved or was over.
+fn go_round<G: Gate>(hand: &mut Hand, gate: &G) -> bool
+    requires { HasRoom hand.old }
+    ensures room { HasRoom hand.new }
+    ensures on { GoesOn hand.old hand.new }
+{
+    let mut moved = false;
+    let mut at = 0;
+    while at < hand.seats.len() {
+        match go_at(&mut hand.seats, at, gate) {
+            Went::Moved => {
+                moved = true;
+                at += 1;
+            }
+            Went::Blocked => at += 1,
+            Went::Over => {
+                moved = true;
+                take_out(hand, at);
+            }
+        }
+    }
+    moved
+}
+
+/// So many rounds in a row that moved nothing end with a yield, and those after them with a short sleep.
+const YIELDS: u32 = 10;
+
+/// How long the sleep is, in microseconds.
+const SLEEP: u64 = 10;
+
+/// Rests after a round that moved nothing, and counts it.
+fn rest<R: Clock>(rt: &R, idle: u32) -> u32 {
+    if idle < YIELDS {
+        thread::yield_now();
+        return idle + 1;
+    }
+    thread::sleep(rt, Duration::from_micros(SLEEP));
+    idle
+}
+
+/// Goes round the seats until all stations are over.
+pub fn serve<R: Wait + Clock, G: Gate>(rt: &R, mut hand: Hand, gate: &G) -> Vec<RowReport>
+    requires { IsNewHand hand }
+    ensures { AreReportsOf hand.seats.items result.items }
+{
+    let mut idle = 0;
+    for _ in rt.forever() {
+        if hand.seats.is_empty() {
+            break;
+        }
+        if go_round(&mut hand, gate) {
+            idle = 0;
+        } else {
+            idle = rest(rt, idle);
+        }
+    }
+    let Hand { seats: _, reports } = hand;
+    reports
+}
