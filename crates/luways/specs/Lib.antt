@@ -1,0 +1,5 @@
+pub mod Ways
+pub mod Layers
+pub mod Nils
+pub mod Sent
+pub mod Laws

@@ -1,0 +1,13 @@
+//! In which way a run goes.
+//!
+//! - [`way_of`], [`Way`]: whether a run of a plan goes by rows, and why it doesn't.
+//! - [`laws`]: a plan has one way.
+#![tactic(auto)]
+
+pub mod laws;
+mod layers;
+mod named;
+mod nils;
+mod way;
+
+pub use way::{Way, way_of};
