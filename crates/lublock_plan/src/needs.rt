@@ -1,5 +1,8 @@
 //! Which main variables are put out, and which flows may be nil.
 
+ghost use Rattle.std.specs.Prelude.{◌≡◌};
+ghost use Rattle.lublock_plan.specs.Classes.{class_in};
+
 use luflow::{Clock, Flat, Form, Role};
 use std::alloc::{AllocError, Global};
 
@@ -52,6 +55,16 @@ fn clock_variable(flat: &Flat, i: usize) -> Option<usize> {
             Clock::Base => None,
         },
         None => None,
+    }
+}
+
+/// Whether a flow may be nil where its clock is first true, by these classes. One that they don't tell of may.
+pub fn class_in(nils: &[bool], i: usize) -> bool
+    ensures { result ≡ class_in nils.now i }
+{
+    match nils.get(i) {
+        Some(nil) => *nil,
+        None => true,
     }
 }
 

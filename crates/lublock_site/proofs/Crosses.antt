@@ -3,6 +3,7 @@ use denote.Param.Send.{IsSend, sendable, struct_send, recorded_send}
 use denote.Struct.Declared.{shape}
 use Rattle.std.proofs.Crossing.{crosses}
 use Rattle.luflow.proofs.data.Status.TheSendSync as status
+use Rattle.luflow.proofs.message.Msg.TheSendSync as msg
 use Rattle.luflow.proofs.flat.Flat.TheSendSync as flat
 use Rattle.std.proofs.alloc.Global.TheSendSync as heap
 use Rattle.lublock_plan.proofs.cycle.Cycle.TheSendSync as cycle
@@ -81,8 +82,11 @@ site_field_send =
                   (
                     search (sendable, crosses, outlet.the_send) depth 12,
                     (
-                      search (sendable, crosses, status.the_send) depth 12,
-                      (search sendable, (search sendable, (search sendable, tt))),
+                      search (sendable, crosses, msg.the_send) depth 12,
+                      (
+                        search (sendable, crosses, status.the_send) depth 12,
+                        (search sendable, (search sendable, (search sendable, tt))),
+                      ),
                     ),
                   ),
                 ),

@@ -3,6 +3,7 @@ use Rattle.std.proofs.Common.{◌≡◌, ◌≢◌, ℕ, ◌+◌, ◌<◌, ◌�
 use Rattle.std.specs.Prelude.{slice_get, slice_set, Vec}
 use Rattle.std.specs.Arc.{arc_value}
 use Rattle.std.specs.declared.alloc.Global.{Global}
+use Rattle.luflow.specs.declared.message.Msg.{Msg}
 use Rattle.std.proofs.lemmas.Option.{same_Some, slice_get_within}
 use Rattle.luflow.specs.declared.form.Flow.{Flow}
 use Rattle.luflow.specs.Program.{FlatProgram, Table, flow_at, flows_of}
@@ -41,6 +42,9 @@ sheet_still job frame t len a b sure still sheet = record {
   stands = still.still (part_in frame) (streams_of job) sheet.stands;
   sure = sure_still job.plan.flat frame.own.items frame.taken.items a.spans.items b.spans.items sure still.kept sheet.sure;
 }
+
+pub going_run : (x : RowSite) (run : Vec Msg Global) → IsGoing x → IsGoing (record x { run = run })
+going_run x run going = record { frame = going.frame; within = going.within; sheet = going.sheet; ends = going.ends; past = going.past }
 
 pub going_still : (x : RowSite) (b : Board) → IsGoing x → StandsStill x.job.value.plan.flat x.job.value.inputs x.t x.len x.board b → IsGoing (record x { board = b })
 going_still x b going still = record {

@@ -1,7 +1,10 @@
 -- A message that was taken is a word, and a word is the message that may be put.
-use Rattle.std.proofs.Common.{◌≡◌, ◌≢◌, ℕ, zero, suc, ◌+◌, ◌<◌, Bool, true, false, inl, List, [], ◌∷◌, length, Some, ℤ, refl, sym, subst, ◌∙◌, ap, arith, length-append}
+use Rattle.std.proofs.Common.{◌≡◌, ◌≢◌, ℕ, zero, suc, ◌+◌, ◌<◌, Bool, true, false, inl, inr, List, [], ◌∷◌, length, Some, ℤ, refl, sym, subst, ◌∙◌, ap, arith, length-append}
 use Rattle.std.specs.Prelude.{slice_get, Vec, ◌++◌}
 use Rattle.std.specs.declared.alloc.Global.{Global}
+use Rattle.std.proofs.lemmas.Bool.{cases_lt}
+use Rattle.std.proofs.lemmas.Option.{same_Some, slice_get_within}
+use Rattle.luworld.proofs.Cursor.{slice_get-append_left, slice_get-append_right}
 use Rattle.luflow.specs.declared.data.Datum.{Datum}
 use Rattle.luflow.specs.declared.message.Msg.{Msg}
 use Rattle.luflow.specs.declared.message.Body.TheVariants.{Value, Close}
@@ -10,17 +13,26 @@ use Rattle.luflow.specs.Messages.{presents, marks, messages}
 use Rattle.luworld.specs.Runs.{Run, carried, streams_of, link_list}
 use Rattle.luworld.proofs.Messages.{close_at}
 use Rattle.lulink.specs.Lists.{list_of}
-use Rattle.lulink.specs.Views.{SenderView, ReceiverView, HasTaken, HasTakenNothing, HasPut, HasPutNothing, IsNextToTake, IsNextToPut}
+use Rattle.lulink.specs.Views.{SenderView, ReceiverView, HasTakenAll, HasTakenNothing, HasPutAll, HasPutNothing, AreNextToTake, AreNextToPut, IsNextToPut}
 use Rattle.lublock_forms.specs.declared.span.Span.{Span}
 use Rattle.lublock_forms.specs.Parts.{GoesOut, IsNeverNil, message_at}
 use Rattle.lublock_forms.specs.Machine.{block_of, upto_of, ticks_of}
 use Rattle.lublock.specs.declared.board.Board.{Board}
+use Rattle.lublock_site.specs.declared.tried.Tried.{Tried}
+use Rattle.lublock_site.specs.declared.tried.Tried.TheVariants.{Done, Blocked, Over}
+use Rattle.lublock_site.specs.Tries.{IfGoes}
 use Rattle.lublock_site.specs.declared.sources.Source.{Source}
 use Rattle.lublock_site.specs.declared.outlets.Outlet.{Outlet}
 use Rattle.lublock_site.specs.Sites.{value_message}
-use Rattle.lublock_site.specs.Steps.{HasTakenWord, IsMessageOf}
-use Rattle.lublock_site.specs.Stations.{Brings, BringsTicks, SendsTicks, Sends, HasBrought, HasSent, IsLater, MaySend, MayClose}
+use Rattle.lublock_site.specs.Steps.{AreComing, HasTakenMessage, HasTakenMessages}
+use Rattle.lublock_site.specs.Stations.{Brings, BringsTicks, SendsTicks, Sends, HasBrought, HasSent, IsLater, MaySend, MayClose, IsMessageOut, AreMessagesOut}
 use Rattle.lublock_site.proofs.Links.{carries, list_is}
+
+-- what holds anyway holds of a try
+pub goes : (r : Tried) (P : Type 0) → P → IfGoes r P
+goes Done P p = p
+goes Blocked P p = p
+goes Over P p = tt
 
 -- a look that took nothing changes nothing of what was brought
 pub brings_still : (job : Run) (t i n : ℕ) (r r' : ReceiverView) → HasTakenNothing r r' → BringsTicks job t i n r → BringsTicks job t i n r'
@@ -56,45 +68,86 @@ brought_more flat i a x b y c z f g = record {
   flows = g.flows ∙ f.flows;
 }
 
-module _ (flat : FlatProgram) (i : ℕ) (old new : Board) (x x' : Source) (m : Msg) (d : Datum) (next : IsNextToTake x.rx m) (body : m.body ≡ Value d) (has : HasTaken m x.rx x'.rx) (word : HasTakenWord flat i d old new) (flow : x'.flow ≡ x.flow) (closed : x'.closed ≡ x.closed) (got : x'.got ≡ x.got + 1) where
-  comes : (job : Run) (t : ℕ) → upto_of old.spans.items i ≡ x.got → BringsTicks job t i x.got x.rx → message_at job.inputs (streams_of job) i (presents (streams_of job i) t + upto_of old.spans.items i) ≡ Some d
-  comes job t even brings =
-      let here : slice_get (list_of job x.rx.link) (length x.rx.taken) ≡ Some m = subst (λ (j : Run). slice_get (list_of j x.rx.link) (length x.rx.taken) ≡ Some m) brings.job_is next in
-      let found = (carries job x.rx.link brings.listed).into (length x.rx.taken) d m here body in
-      subst (λ (k : ℕ). message_at job.inputs (streams_of job) i k ≡ Some d) (brings.count ∙ ap (λ (n : ℕ). presents (streams_of job i) t + n) (sym even))
-      (subst (λ (f : ℕ). message_at job.inputs (streams_of job) f (length x.rx.taken) ≡ Some d) brings.flow_is found)
+pub taken_none : (flat : FlatProgram) (i : ℕ) (msgs : List Msg) (board : Board) → HasTakenMessages flat i msgs 0 board board
+taken_none flat i msgs board = record {
+  count = let e : upto_of board.spans.items i ≡ upto_of board.spans.items i + 0 = omega arith in e;
+  stands = λ part inputs σ t len free coming stands. stands;
+  kept = λ r h. h;
+  flows = refl;
+}
 
-  more : length x'.rx.taken ≡ length x.rx.taken + 1
-  more = ap length has.2 ∙ length-append x.rx.taken (m ∷ [])
+pub taken_more : (flat : FlatProgram) (i : ℕ) (msgs : List Msg) (k : ℕ) (a b c : Board) → HasTakenMessages flat i msgs k a b → HasTakenMessage flat i msgs k b c → HasTakenMessages flat i msgs (k + 1) a c
+taken_more flat i msgs k a b c f (m, d, there, body, word) = record {
+  count = let e = f.count in let g = word.count in omega (arith, e, g);
+  stands = λ part inputs σ t len free coming stands.
+      let p : (presents (σ i) t + upto_of a.spans.items i) + k ≡ presents (σ i) t + upto_of b.spans.items i = let e = f.count in omega (arith, e) in
+      word.stands part inputs σ t len free (subst (λ (n : ℕ). message_at inputs σ i n ≡ Some d) p (coming k m d (omega arith) there body))
+      (f.stands part inputs σ t len free (λ j x e less is of. coming j x e (omega (arith, less)) is of) stands);
+  kept = λ r h. word.kept r (f.kept r h);
+  flows = word.flows ∙ f.flows;
+}
 
-  pub brought_one : HasBrought flat i old x new x'
-  brought_one = record {
+module _ (flat : FlatProgram) (i : ℕ) (old new : Board) (x x' : Source) (msgs : List Msg) (n : ℕ) (long : length msgs ≡ n) (next : AreNextToTake x.rx msgs) (has : HasTakenAll msgs x.rx x'.rx) (words : HasTakenMessages flat i msgs n old new) (flow : x'.flow ≡ x.flow) (closed : x'.closed ≡ x.closed) (got : x'.got ≡ x.got + n) where
+  coming : (job : Run) (t : ℕ) → upto_of old.spans.items i ≡ x.got → BringsTicks job t i x.got x.rx → AreComing job.inputs (streams_of job) i (presents (streams_of job i) t + upto_of old.spans.items i) msgs n
+  coming job t even brings k m d less there body =
+      let here : slice_get (list_of job x.rx.link) (length x.rx.taken + k) ≡ Some m = subst (λ (j : Run). slice_get (list_of j x.rx.link) (length x.rx.taken + k) ≡ Some m) brings.job_is (next k m there) in
+      let found = (carries job x.rx.link brings.listed).into (length x.rx.taken + k) d m here body in
+      let p : length x.rx.taken + k ≡ (presents (streams_of job i) t + upto_of old.spans.items i) + k = let c = brings.count in omega (arith, c, even) in
+      subst (λ (q : ℕ). message_at job.inputs (streams_of job) i q ≡ Some d) p
+      (subst (λ (f : ℕ). message_at job.inputs (streams_of job) f (length x.rx.taken + k) ≡ Some d) brings.flow_is found)
+
+  more : length x'.rx.taken ≡ length x.rx.taken + n
+  more = ap length has.2 ∙ length-append x.rx.taken msgs ∙ ap (λ (m : ℕ). length x.rx.taken + m) long
+
+  pub brought_run : HasBrought flat i old x new x'
+  brought_run = record {
     flow = flow;
     closed = closed;
-    even = λ e. (let c = word.count in omega (arith, e, c, got));
+    even = λ e. (let c = words.count in omega (arith, e, c, got));
     brings = λ job t brings. record {
       job_is = has.0 ∙ brings.job_is;
       listed = subst (λ (l : ℕ). l < length job.plan.links) (sym has.1) brings.listed;
       flow_is = ap (carried job.plan) has.1 ∙ brings.flow_is;
       count = let a = more in let b = brings.count in omega (arith, a, b, got);
     };
-    stands = λ job part t len free even brings stands. word.stands part job.inputs (streams_of job) t len free (comes job t even brings) stands;
-    kept = word.kept;
-    flows = word.flows;
+    stands = λ job part t len free even brings stands. words.stands part job.inputs (streams_of job) t len free (coming job t even brings) stands;
+    kept = words.kept;
+    flows = words.flows;
   }
 
--- the message of an end's next tick is the next of its link
-pub may_put : (flat : FlatProgram) (rows : List (Vec ℤ Global)) (spans : List Span) (x : Outlet) (d : Datum) → MaySend flat rows spans x → x.sent < ticks_of spans x.flow → IsMessageOf flat rows spans x.flow x.sent d → IsNextToPut x.tx (value_message x.number d)
-may_put flat rows spans x d may few is =
+-- the messages of an end's next ticks are the next of its link
+pub may_put : (flat : FlatProgram) (rows : List (Vec ℤ Global)) (spans : List Span) (x : Outlet) (msgs : List Msg) → MaySend flat rows spans x → AreMessagesOut flat rows spans x msgs → AreNextToPut x.tx msgs
+may_put flat rows spans x msgs may are k m there =
+    let of = are k m there in
+    let d = of.0 in
     let job = may.job in
     let sends = may.sends.ticks may.unclosed in
     let number = may.sends.number may.unclosed in
-    let found = is job.inputs (streams_of job) may.first may.len may.flow may.there may.goes (inl may.sends.never) in
-    let k : presents (streams_of job x.flow) may.first + x.sent ≡ x.number = sym sends.count ∙ sym number in
-    let here : message_at job.inputs (streams_of job) x.flow x.number ≡ Some d = subst (λ (m : ℕ). message_at job.inputs (streams_of job) x.flow m ≡ Some d) k found in
-    let out = (carries job x.tx.link sends.listed).out x.number d (subst (λ (f : ℕ). message_at job.inputs (streams_of job) f x.number ≡ Some d) (sym sends.flow_is) here) in
-    subst (λ (j : Run). slice_get (list_of j x.tx.link) (length x.tx.put) ≡ Some (value_message x.number d)) (sym sends.job_is)
-    (subst (λ (m : ℕ). slice_get (list_of job x.tx.link) m ≡ Some (value_message x.number d)) number out)
+    let found = of.2 job.inputs (streams_of job) may.first may.len may.flow may.there may.goes (inl may.sends.never) in
+    let p : presents (streams_of job x.flow) may.first + (x.sent + k) ≡ x.number + k = let c = sends.count in omega (arith, c, number) in
+    let here : message_at job.inputs (streams_of job) x.flow (x.number + k) ≡ Some d = subst (λ (n : ℕ). message_at job.inputs (streams_of job) x.flow n ≡ Some d) p found in
+    let out = (carries job x.tx.link sends.listed).out (x.number + k) d (subst (λ (f : ℕ). message_at job.inputs (streams_of job) f (x.number + k) ≡ Some d) (sym sends.flow_is) here) in
+    subst (λ (j : Run). slice_get (list_of j x.tx.link) (length x.tx.put + k) ≡ Some m) (sym sends.job_is)
+    (subst (λ (n : ℕ). slice_get (list_of job x.tx.link) (n + k) ≡ Some m) number (out ∙ ap (λ (y : Msg). Some y) (sym of.1)))
+
+-- the messages of no tick, and of one more
+pub filled_none : (flat : FlatProgram) (rows : List (Vec ℤ Global)) (spans : List Span) (x : Outlet) (msgs : List Msg) → msgs ≡ [] → AreMessagesOut flat rows spans x msgs
+filled_none flat rows spans x msgs none = subst (AreMessagesOut flat rows spans x) (sym none) (λ k m there. absurd cc)
+
+pub filled_more : (flat : FlatProgram) (rows : List (Vec ℤ Global)) (spans : List Span) (x : Outlet) (old new : List Msg) (m : Msg) (k : ℕ) → length old ≡ k → new ≡ old ++ m ∷ [] → IsMessageOut flat rows spans x k m → AreMessagesOut flat rows spans x old → AreMessagesOut flat rows spans x new
+filled_more flat rows spans x old new m k long is out filled j y there =
+    let here : slice_get (old ++ m ∷ []) j ≡ Some y = ap (λ (xs : List Msg). slice_get xs j) (sym is) ∙ there in
+    elim (cases_lt j (length old)) [
+      | inl l ↦ filled j y (sym (slice_get-append_left old (m ∷ []) j l) ∙ here)
+      | inr l ↦
+          let inside = slice_get_within (old ++ m ∷ []) j y here in
+          let all = length-append old (m ∷ []) in
+          let at : j ≡ length old = omega (arith, l, inside, all) in
+          let last : slice_get (old ++ m ∷ []) (length old + 0) ≡ Some m = slice_get-append_right old (m ∷ []) 0 in
+          let plus : length old + 0 ≡ j = omega (arith, at) in
+          let same : m ≡ y = same_Some m y (sym last ∙ ap (λ (p : ℕ). slice_get (old ++ m ∷ []) p) plus ∙ here) in
+          subst (λ (z : Msg). IsMessageOut flat rows spans x j z) same (subst (λ (p : ℕ). IsMessageOut flat rows spans x p m) (sym long ∙ sym at) out)
+    ]
 
 -- nothing was put
 pub sends_still : (job : Run) (t i n : ℕ) (s s' : SenderView) → HasPutNothing s s' → SendsTicks job t i n s → SendsTicks job t i n s'
@@ -124,10 +177,10 @@ sent_same flat x = record { flow = refl; sends = λ job t h. h }
 pub sent_more : (flat : FlatProgram) (x y z : Outlet) → HasSent flat x y → HasSent flat y z → HasSent flat x z
 sent_more flat x y z f g = record { flow = g.flow ∙ f.flow; sends = λ job t h. g.sends job t (f.sends job t h) }
 
--- one message was put
-pub sent_one : (flat : FlatProgram) (x x' : Outlet) (m : Msg) → x.closed ≡ false → x'.flow ≡ x.flow → x'.sent ≡ x.sent + 1 → x'.number ≡ x.number + 1 → x'.closed ≡ x.closed → HasPut m x.tx x'.tx → HasSent flat x x'
-sent_one flat x x' m unclosed flow sent number closed has =
-    let more : length x'.tx.put ≡ length x.tx.put + 1 = ap length has.2 ∙ length-append x.tx.put (m ∷ []) in
+-- so many messages were put
+pub sent_run : (flat : FlatProgram) (x x' : Outlet) (msgs : List Msg) (n : ℕ) → length msgs ≡ n → x.closed ≡ false → x'.flow ≡ x.flow → x'.sent ≡ x.sent + n → x'.number ≡ x.number + n → x'.closed ≡ x.closed → HasPutAll msgs x.tx x'.tx → HasSent flat x x'
+sent_run flat x x' msgs n long unclosed flow sent number closed has =
+    let more : length x'.tx.put ≡ length x.tx.put + n = ap length has.2 ∙ length-append x.tx.put msgs ∙ ap (λ (m : ℕ). length x.tx.put + m) long in
     record {
       flow = flow;
       sends = λ job t h.
@@ -140,7 +193,7 @@ sent_one flat x x' m unclosed flow sent number closed has =
               flow_is = ap (carried job.plan) has.1 ∙ s.flow_is;
               count = let c = s.count in omega (arith, more, c, sent);
             });
-            number = λ now. (let n = h.number unclosed in omega (arith, more, n, number));
+            number = λ now. (let m = h.number unclosed in omega (arith, more, m, number));
           };
     }
 

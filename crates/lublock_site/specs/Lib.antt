@@ -1,6 +1,5 @@
 pub mod Sites
 pub mod Steps
-pub mod Classes
 pub mod Marks
 pub mod Stations
 pub mod Sure

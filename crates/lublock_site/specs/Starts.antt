@@ -7,7 +7,7 @@ use Rattle.luworld.specs.Runs.{Run, carried}
 use Rattle.lublock_forms.specs.declared.span.Span.{Span}
 use Rattle.lublock_forms.specs.Parts.{IsPart, IsNeverNil, knows}
 use Rattle.lublock.specs.declared.board.Board.{Board}
-use Rattle.lublock_site.specs.Classes.{class_in}
+use Rattle.lublock_plan.specs.Classes.{class_in}
 use Rattle.lublock_site.specs.Marks.{marked, marked_part}
 use Rattle.lublock_site.specs.Stations.{Brings, Sends}
 use Rattle.lublock_site.specs.declared.sources.Source.{Source}

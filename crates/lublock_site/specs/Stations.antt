@@ -6,6 +6,7 @@ use Rattle.luflow.specs.Program.{FlatProgram, flow_at}
 use Rattle.luflow.specs.Messages.{presents}
 use Rattle.luflow.specs.Streams.{before}
 use Rattle.luflow.specs.declared.data.Datum.{Datum}
+use Rattle.luflow.specs.declared.message.Msg.{Msg}
 use Rattle.luworld.specs.Runs.{Run, carried, streams_of}
 use Rattle.lulink.specs.Views.{SenderView, ReceiverView}
 use Rattle.lublock_forms.specs.declared.span.Span.{Span}
@@ -13,6 +14,8 @@ use Rattle.lublock_forms.specs.Parts.{Part, IsNeverNil, GoesOut}
 use Rattle.lublock_forms.specs.Machine.{block_of, upto_of}
 use Rattle.lublock.specs.declared.board.Board.{Board}
 use Rattle.lublock.specs.Boards.{StandsOn, KeepsSettled}
+use Rattle.lublock_site.specs.Sites.{value_message}
+use Rattle.lublock_site.specs.Steps.{IsMessageOf}
 use Rattle.lublock_site.specs.declared.sources.Source.{Source}
 use Rattle.lublock_site.specs.declared.outlets.Outlet.{Outlet}
 
@@ -81,3 +84,11 @@ pub record MayClose (flat : FlatProgram) (x : Outlet) : Type 0 where
 pub record HasSent (flat : FlatProgram) (x x' : Outlet) : Type 0 where
   pub flow : x'.flow ≡ x.flow
   pub sends : (job : Run) (t : ℕ) → Sends flat job t x → Sends flat job t x'
+
+-- the message of the k-th tick behind those that the end has sent
+abbrev pub IsMessageOut : FlatProgram → List (Vec ℤ Global) → List Span → Outlet → ℕ → Msg → Type 0
+IsMessageOut flat rows spans x k m = (d : Datum) × (m ≡ value_message (x.number + k) d) × IsMessageOf flat rows spans x.flow (x.sent + k) d
+
+-- the messages of the next ticks behind those that the end has sent
+abbrev pub AreMessagesOut : FlatProgram → List (Vec ℤ Global) → List Span → Outlet → List Msg → Type 0
+AreMessagesOut flat rows spans x msgs = (k : ℕ) (m : Msg) → slice_get msgs k ≡ Some m → IsMessageOut flat rows spans x k m

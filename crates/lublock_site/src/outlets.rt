@@ -1,12 +1,12 @@
 //! The sending ends of a site in rows: rows go out as messages. Nothing here waits.
 
-ghost use Rattle.std.specs.Prelude.{◌≡◌, ◌<◌, false};
+ghost use Rattle.std.specs.Prelude.{◌≡◌, ◌<◌, ◌≤◌, ◌+◌, true, false, length, IfSome};
 ghost use Rattle.lublock_forms.specs.Machine.{ticks_of};
 ghost use Rattle.lublock_site.specs.Tries.{IfGoes};
-ghost use Rattle.lublock_site.specs.Stations.{HasSent, MayClose, MaySend};
+ghost use Rattle.lublock_site.specs.Stations.{AreMessagesOut, HasSent, IsMessageOut, MayClose, MaySend};
 
 use crate::steps::datum_out;
-use crate::tried::Tried;
+use crate::tried::{Tried, done_if, run_len};
 use lublock_forms::span::Span;
 use luflow::{Body, Flat, Msg};
 use lulink::{Offer, Tx};
@@ -22,31 +22,117 @@ pub struct Outlet {
     pub closed: bool,
 }
 
-/// Puts the message of the end's next tick, if there is room. It is over where the receiver has left a full link, or there is no datum.
-fn put_one(flat: &Flat, rows: &[Vec<i64>], spans: &[Span], outlet: &mut Outlet, to: usize) -> Tried
+/// The number of the k-th message from that of this number on.
+fn number_after(number: u32, k: usize) -> Option<u32>
+    ensures { IfSome result (λ n. n ≡ number + k) }
+{
+    match u32::try_from(k) {
+        Ok(k) => number.checked_add(k),
+        Err(_) => None,
+    }
+}
+
+/// The k-th tick from this one on.
+fn tick_after(tick: usize, k: usize) -> Option<usize>
+    ensures { IfSome result (λ n. n ≡ tick + k) }
+{
+    tick.checked_add(k)
+}
+
+/// The message of the k-th tick behind those that the end has sent. None where there is no datum, or no number.
+fn message_out(
+    flat: &Flat,
+    rows: &[Vec<i64>],
+    spans: &[Span],
+    outlet: &Outlet,
+    k: usize,
+) -> Option<Msg>
+    requires { outlet.now.sent + k < ticks_of spans.now outlet.now.flow }
+    ensures { IfSome result (IsMessageOut flat.now rows.now spans.now outlet.now k) }
+{
+    let tick = tick_after(outlet.sent, k)?;
+    let datum = datum_out(flat, rows, spans, outlet.flow, tick)?;
+    let no = number_after(outlet.number, k)?;
+    Some(Msg {
+        no,
+        body: Body::Value(datum),
+    })
+}
+
+/// Fills a run with the messages of the end's next ticks, up to tick `to`. False where one of them has no datum or no number.
+fn fill(
+    flat: &Flat,
+    rows: &[Vec<i64>],
+    spans: &[Span],
+    outlet: &Outlet,
+    run: &mut Vec<Msg>,
+    to: usize,
+) -> bool
+    requires ticks { to ≡ ticks_of spans.now outlet.now.flow }
+    requires few { outlet.now.sent < to }
+    ensures filled { result ≡ true
+        → AreMessagesOut flat.now rows.now spans.now outlet.now run.new.items }
+    ensures within { result ≡ true → outlet.now.sent + length run.new.items ≤ to }
+{
+    run.clear();
+    let count = run_len(to - outlet.sent, run.capacity());
+    for k in 0..count {
+        let Some(msg) = message_out(flat, rows, spans, outlet, k) else {
+            return false;
+        };
+        run.push_reserved(msg);
+    }
+    true
+}
+
+/// Puts the messages of the end's next ticks, as many as there is room for and no more than one run. It is over where a message has no
+/// datum or no number.
+fn offer_some(
+    flat: &Flat,
+    rows: &[Vec<i64>],
+    spans: &[Span],
+    outlet: &mut Outlet,
+    run: &mut Vec<Msg>,
+    to: usize,
+) -> Tried
     requires may { MaySend flat.now rows.now spans.now outlet.old }
     requires ticks { to ≡ ticks_of spans.now outlet.old.flow }
     requires few { outlet.old.sent < to }
     ensures sent { IfGoes result (HasSent flat.now outlet.old outlet.new) }
     ensures closed { outlet.new.closed ≡ outlet.old.closed }
 {
-    let Some(datum) = datum_out(flat, rows, spans, outlet.flow, outlet.sent) else {
+    if !fill(flat, rows, spans, outlet, run, to) {
+        return Tried::Over;
+    }
+    let put = outlet.tx.offer_run(run.as_slice());
+    let Some(number) = number_after(outlet.number, put) else {
         return Tried::Over;
     };
-    let Some(next) = outlet.number.checked_add(1) else {
-        return Tried::Over;
-    };
-    let msg = Msg {
-        no: outlet.number,
-        body: Body::Value(datum),
-    };
-    match outlet.tx.offer(msg) {
-        Offer::Done => {
-            outlet.sent += 1;
-            outlet.number = next;
-            Tried::Done
-        }
-        Offer::Full(_) => {
+    outlet.sent += put;
+    outlet.number = number;
+    done_if(put == run.len())
+}
+
+/// Puts the messages of the end's next ticks, as many as there is room for and no more than one run. It is over where the receiver has left a
+/// full link, or a message has no datum or no number.
+fn put_some(
+    flat: &Flat,
+    rows: &[Vec<i64>],
+    spans: &[Span],
+    outlet: &mut Outlet,
+    run: &mut Vec<Msg>,
+    to: usize,
+) -> Tried
+    requires may { MaySend flat.now rows.now spans.now outlet.old }
+    requires ticks { to ≡ ticks_of spans.now outlet.old.flow }
+    requires few { outlet.old.sent < to }
+    ensures sent { IfGoes result (HasSent flat.now outlet.old outlet.new) }
+    ensures closed { outlet.new.closed ≡ outlet.old.closed }
+{
+    match offer_some(flat, rows, spans, outlet, run, to) {
+        Tried::Done => Tried::Done,
+        Tried::Over => Tried::Over,
+        Tried::Blocked => {
             if outlet.tx.gone() {
                 return Tried::Over;
             }
@@ -61,6 +147,7 @@ pub fn put_all(
     rows: &[Vec<i64>],
     spans: &[Span],
     outlet: &mut Outlet,
+    run: &mut Vec<Msg>,
     to: usize,
 ) -> Tried
     requires may { MaySend flat.now rows.now spans.now outlet.old }
@@ -71,7 +158,7 @@ pub fn put_all(
         if outlet.sent >= to {
             return Tried::Done;
         }
-        match put_one(flat, rows, spans, outlet, to) {
+        match put_some(flat, rows, spans, outlet, run, to) {
             Tried::Done => {}
             Tried::Blocked => return Tried::Blocked,
             Tried::Over => return Tried::Over,

@@ -15,7 +15,7 @@ use lublock::Board;
 use lublock_forms::forms::upto_at;
 use lublock_forms::span::Span;
 use lublock_plan::{Cycle, SiteStep};
-use luflow::{Flat, Inputs, Status, Values};
+use luflow::{Flat, Inputs, Msg, Status, Values};
 use luplace::Job;
 use std::alloc::Global;
 use std::snapshot::Snapshot;
@@ -53,6 +53,8 @@ pub struct RowSite {
     pub sure: Vec<bool>,
     pub sources: Vec<Source>,
     pub outlets: Vec<Outlet>,
+    /// Room for the messages that are put or taken at once.
+    pub run: Vec<Msg>,
     pub columns: Vec<Vec<Status>>,
     pub t: usize,
     pub len: usize,
@@ -74,6 +76,7 @@ fn take_at(
     flat: &Flat,
     board: &mut Board,
     sources: &mut Vec<Source>,
+    run: &mut Vec<Msg>,
     k: usize,
     ticks: usize,
 ) -> Tried
@@ -82,7 +85,7 @@ fn take_at(
         (HasBroughtAt flat.now k board.old sources.old.items board.new sources.new.items) }
 {
     let source = &mut sources[k];
-    take_all(flat, board, source, ticks)
+    take_all(flat, board, source, run, ticks)
 }
 
 /// Puts messages of sending end k, as `put_all` does.
@@ -91,6 +94,7 @@ fn put_at(
     rows: &[Vec<i64>],
     spans: &[Span],
     outlets: &mut Vec<Outlet>,
+    run: &mut Vec<Msg>,
     k: usize,
     to: usize,
 ) -> Tried
@@ -99,7 +103,7 @@ fn put_at(
     ensures { IfGoes result (HasSentAt flat.now k outlets.old.items outlets.new.items) }
 {
     let outlet = &mut outlets[k];
-    put_all(flat, rows, spans, outlet, to)
+    put_all(flat, rows, spans, outlet, run, to)
 }
 
 impl RowSite {
@@ -187,7 +191,8 @@ impl RowSite {
             return Tried::Over;
         }
         let ticks = ticks_at(self.board.spans.as_slice(), i);
-        take_at(flat, &mut self.board, &mut self.sources, k, ticks)
+        let run = &mut self.run;
+        take_at(flat, &mut self.board, &mut self.sources, run, k, ticks)
     }
 
     /// Puts messages of sending end k.
@@ -207,6 +212,6 @@ impl RowSite {
         let spans = self.board.spans.as_slice();
         let to = ticks_at(spans, outlet.flow);
         let rows = self.board.rows.as_slice();
-        put_at(flat, rows, spans, &mut self.outlets, k, to)
+        put_at(flat, rows, spans, &mut self.outlets, &mut self.run, k, to)
     }
 }

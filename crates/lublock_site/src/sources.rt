@@ -1,13 +1,14 @@
 //! The receiving ends of a site in rows: messages come into the rows of taken flows. Nothing here waits.
 
-ghost use Rattle.std.specs.Prelude.{◌≡◌};
+ghost use Rattle.std.specs.Prelude.{◌≡◌, true, length, slice_get};
 ghost use Rattle.lublock_site.specs.Tries.{IfGoes};
+ghost use Rattle.lublock_site.specs.Steps.{HasTakenMessage, HasTakenMessages};
 ghost use Rattle.lublock_site.specs.Stations.{HasBrought, IsLater};
 
 use crate::steps::take_word;
-use crate::tried::Tried;
+use crate::tried::{Tried, done_if, run_len};
 use lublock::Board;
-use luflow::{Body, Flat};
+use luflow::{Body, Flat, Msg};
 use lulink::Rx;
 
 /// The receiving end of a link, the flow that it brings, and how many of its ticks in the block it has brought.
@@ -20,42 +21,88 @@ pub struct Source {
     pub closed: bool,
 }
 
-/// Takes the next message of a link into the row of its flow, if it is there.
-fn poll_one(flat: &Flat, board: &mut Board, source: &mut Source) -> Tried
-    ensures { IfGoes result
-        (HasBrought flat.now source.old.flow board.old source.old board.new source.new) }
+fn message_at(msgs: &[Msg], k: usize) -> Option<Msg>
+    ensures { result ≡ slice_get msgs.now k }
 {
-    let Some(next) = source.got.checked_add(1) else {
-        return Tried::Over;
+    msgs.get(k).copied()
+}
+
+/// Puts the datum of message k behind the words of flow i. False where there is no room, or where it isn't of the flow's type.
+fn take_message(flat: &Flat, board: &mut Board, i: usize, msgs: &[Msg], k: usize) -> bool
+    ensures { result ≡ true → HasTakenMessage flat.now i msgs.now k board.old board.new }
+{
+    let Some(msg) = message_at(msgs, k) else {
+        return false;
     };
-    match source.rx.poll() {
-        None => Tried::Blocked,
-        Some(msg) => match msg.body {
-            Body::Close => Tried::Over,
-            Body::Value(datum) => {
-                if take_word(flat, board, source.flow, datum) {
-                    return Tried::Over;
-                }
-                source.got = next;
-                Tried::Done
+    match msg.body {
+        Body::Close => false,
+        Body::Value(datum) => {
+            if take_word(flat, board, i, datum) {
+                return false;
             }
-        },
+            true
+        }
     }
 }
 
-/// Takes the next message of a link into the row of its flow. It is over where the sender has left and nothing is left to take.
-fn take_one(flat: &Flat, board: &mut Board, source: &mut Source) -> Tried
+/// Puts the data of messages behind the words of flow i, in order. False where there is no room, where one isn't of the flow's type, or is
+/// the close.
+fn take_messages(flat: &Flat, board: &mut Board, i: usize, msgs: &[Msg]) -> bool
+    ensures { result ≡ true → HasTakenMessages flat.now i msgs.now (length msgs.now) board.old
+        board.new }
+{
+    for k in 0..msgs.len() {
+        if !take_message(flat, board, i, msgs, k) {
+            return false;
+        }
+    }
+    true
+}
+
+/// Takes the next messages of a link into the row of its flow, as many as are there, at most so many, and no more than one run.
+fn poll_some(
+    flat: &Flat,
+    board: &mut Board,
+    source: &mut Source,
+    run: &mut Vec<Msg>,
+    most: usize,
+) -> Tried
     ensures { IfGoes result
         (HasBrought flat.now source.old.flow board.old source.old board.new source.new) }
 {
-    match poll_one(flat, board, source) {
+    run.clear();
+    let most = run_len(most, run.capacity());
+    let came = source.rx.poll_run(most, run);
+    let Some(got) = source.got.checked_add(came) else {
+        return Tried::Over;
+    };
+    if !take_messages(flat, board, source.flow, run.as_slice()) {
+        return Tried::Over;
+    }
+    source.got = got;
+    done_if(came != 0)
+}
+
+/// Takes the next messages of a link into the row of its flow, at most so many. It is over where the sender has left and nothing is left to
+/// take.
+fn take_some(
+    flat: &Flat,
+    board: &mut Board,
+    source: &mut Source,
+    run: &mut Vec<Msg>,
+    most: usize,
+) -> Tried
+    ensures { IfGoes result
+        (HasBrought flat.now source.old.flow board.old source.old board.new source.new) }
+{
+    match poll_some(flat, board, source, run, most) {
         Tried::Done => Tried::Done,
         Tried::Over => Tried::Over,
         Tried::Blocked => {
             if !source.rx.gone() {
                 return Tried::Blocked;
             }
-            match poll_one(flat, board, source) {
+            match poll_some(flat, board, source, run, most) {
                 Tried::Done => Tried::Done,
                 Tried::Blocked | Tried::Over => Tried::Over,
             }
@@ -64,12 +111,21 @@ fn take_one(flat: &Flat, board: &mut Board, source: &mut Source) -> Tried
 }
 
 /// Takes messages into the row of a link's flow until it has brought so many ticks, or the link is empty.
-pub fn take_all(flat: &Flat, board: &mut Board, source: &mut Source, ticks: usize) -> Tried
+pub fn take_all(
+    flat: &Flat,
+    board: &mut Board,
+    source: &mut Source,
+    run: &mut Vec<Msg>,
+    ticks: usize,
+) -> Tried
     ensures { IfGoes result
         (HasBrought flat.now source.old.flow board.old source.old board.new source.new) }
 {
     for _n in source.got..ticks {
-        match take_one(flat, board, source) {
+        if source.got >= ticks {
+            return Tried::Done;
+        }
+        match take_some(flat, board, source, run, ticks - source.got) {
             Tried::Done => {}
             Tried::Blocked => return Tried::Blocked,
             Tried::Over => return Tried::Over,

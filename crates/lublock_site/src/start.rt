@@ -11,7 +11,7 @@ ghost use Rattle.lublock_site.specs.Starts.{AreKnown, AreOutputs, AreSiteMarks, 
 use crate::outlets::Outlet;
 use crate::site::{Frame, INSTANTS, RowSite};
 use crate::sources::Source;
-use crate::start_ends::{outlets_of, sources_of};
+use crate::start_ends::{outlets_of, room_for_run, sources_of};
 use crate::start_marks::{Marks, marks_of, needs_of, told_outputs};
 use crate::start_rows::{first_board, first_columns, given_columns};
 use lublock_plan::{SitePlan, site_plan};
@@ -173,6 +173,7 @@ pub fn start(
     let columns = first_columns(alloc, plan.flat(), needs.as_slice(), all, len)?;
     let board = first_board(alloc, &ends.marks, len)?;
     let sure = vec![in alloc; false; ends.marks.own.len()]?;
+    let run = room_for_run(alloc, plan)?;
     let Some(frame) = frame_of(alloc, job, site, flat, ends.marks, &mut order, needs)? else {
         return Ok(None);
     };
@@ -186,6 +187,7 @@ pub fn start(
         sure,
         sources: ends.sources,
         outlets: ends.outlets,
+        run,
         columns,
         t: 0,
         len,

@@ -2,14 +2,14 @@
 
 ghost use Rattle.std.specs.Prelude.{◌≡◌, All, IfOk, IfSome};
 ghost use Rattle.lublock_site.specs.RowStations.{IsUnusedReceiver, IsUnusedSender};
-ghost use Rattle.lublock_site.specs.Classes.{class_in};
 ghost use Rattle.lublock_site.specs.Starts.{AreNeverNil, IsCarried, IsFirstOutlet, IsFirstSource};
 
 use crate::classes::are_classes;
 use crate::outlets::Outlet;
 use crate::parts::is_marked;
 use crate::sources::Source;
-use lublock_plan::never_nil_guess;
+use lublock_plan::{class_in, never_nil_guess};
+use luflow::Msg;
 use lulink::{Rx, Tx};
 use luplace::{Job, Plan};
 use std::alloc::{AllocError, Global};
@@ -22,6 +22,18 @@ fn carried_flow(plan: &Plan, link: usize) -> Option<usize>
         Some(found) if found.flow < plan.flat().flows().len() => Some(found.flow),
         _ => None,
     }
+}
+
+/// The most messages of a link that are put or taken at once.
+const RUN: usize = 64;
+
+/// Room for the messages that are put or taken at once: as many as a link holds, but no more than [`RUN`].
+///
+/// # Errors
+///
+/// Out of memory.
+pub fn room_for_run(alloc: Global, plan: &Plan) -> Result<Vec<Msg>, AllocError> {
+    Vec::with_capacity(alloc, usize::from(plan.capacity()).min(RUN))
 }
 
 /// An unused receiving end as it stands before the first block.
@@ -57,16 +69,6 @@ pub fn sources_of(alloc: Global, job: &Job, rxs: Vec<Rx>) -> Result<Option<Vec<S
     Ok(Some(sources))
 }
 
-/// Whether a flow may be nil where its clock is first true.
-fn may_be_nil(nils: &[bool], r: usize) -> bool
-    ensures { result ≡ class_in nils.now r }
-{
-    match nils.get(r) {
-        Some(nil) => *nil,
-        None => true,
-    }
-}
-
 /// An unused sending end as it stands before the first block, if it carries an own flow that is never nil.
 fn outlet_of(job: &Job, nils: &[bool], own: &[bool], tx: Tx) -> Option<Outlet>
     requires unused { IsUnusedSender job.now tx }
@@ -74,7 +76,7 @@ fn outlet_of(job: &Job, nils: &[bool], own: &[bool], tx: Tx) -> Option<Outlet>
     ensures { IfSome result (IsFirstOutlet job.now own.now) }
 {
     let flow = carried_flow(job.plan(), tx.link())?;
-    if may_be_nil(nils, flow) || !is_marked(own, flow) {
+    if class_in(nils, flow) || !is_marked(own, flow) {
         return None;
     }
     Some(Outlet {

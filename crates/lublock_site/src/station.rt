@@ -190,6 +190,7 @@ impl RowStation {
             sure: _,
             sources: _,
             outlets: _,
+            run: _,
             columns,
             t: _,
             len: _,

@@ -3,4 +3,5 @@ pub mod Graph
 pub mod Names
 pub mod Report
 pub mod Table
+pub mod Way
 pub mod Vectors

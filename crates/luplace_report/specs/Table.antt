@@ -1,4 +1,4 @@
--- A plan as three tables for a terminal, cells with a tab between them:
+-- A plan as four tables for a terminal, cells with a tab between them:
 --
 --   site    flows   items
 --   A       6       8
@@ -11,6 +11,8 @@
 --   link    why
 --   0       c crosses A -> B since z at B reads it
 --   1       s crosses A -> B since z at B reads it
+--
+--   run     by rows
 use Rattle.std.specs.Prelude.{◌≡◌, ◌<◌, ◌≤◌, true, ℕ, ◌+◌, ◌==◌, List, [], ◌++◌, length, count_by, flat_map, codes, Option, Some, None, slice_get, slice_index}
 use Rattle.std.specs.List.{range_with_len}
 use Rattle.std.specs.Fmt.{decimal}
@@ -26,6 +28,9 @@ use Rattle.luplace_report.specs.declared.cause.Cause.{Cause}
 use Rattle.luplace_report.specs.declared.cause.Cause.TheVariants.{Reader, Clock as ClockCause}
 use Rattle.luplace_report.specs.Names.{site_name, clock_of, clock_text}
 use Rattle.luplace_report.specs.Cause.{cause_of}
+use Rattle.luplace_report.specs.Way.{way_row}
+use Rattle.luways.specs.declared.way.Way.{Way}
+use Rattle.luways.specs.Ways.{IsWayOf}
 
 -- SITES
 
@@ -86,12 +91,21 @@ cause_row plan l link =
 abbrev pub cause_rows : Distribution → List ℕ
 cause_rows plan = flat_map (λ l. row_of (cause_row plan l) (slice_get plan.links l)) (range_with_len 0 (length plan.links))
 
--- the three tables, with an empty line between two
-abbrev pub table_text : Distribution → List ℕ
-table_text plan =
+-- the tables behind that of the sites, but for the first line
+abbrev pub rest_text : Distribution → Way → List ℕ
+rest_text plan way = link_rows plan ++ (codes "\nlink\twhy\n" ++ (cause_rows plan ++ (codes "\n" ++ way_row plan.flat way)))
+
+-- the four tables, with an empty line between two
+abbrev pub table_text : Distribution → Way → List ℕ
+table_text plan way =
     codes "site\tflows\titems\n" ++ (site_rows plan
-    ++ (codes "\nlink\tflow\tfrom\tto\tclock\n" ++ (link_rows plan
-    ++ (codes "\nlink\twhy\n" ++ cause_rows plan))))
+    ++ (codes "\nlink\tflow\tfrom\tto\tclock\n" ++ rest_text plan way))
+
+-- the text is that of the plan and its way
+pub record IsTableOf (plan : Distribution) (text : List ℕ) : Type 0 where
+  pub way : Way
+  pub way_is : IsWayOf plan way
+  pub text_is : text ≡ table_text plan way
 
 -- At an instant a site does that many items at most, and exactly as many where all clocks are true then.
 pub record AreItems (job : Run) (s t : ℕ) : Type 0 where

@@ -20,7 +20,9 @@ use Rattle.luplace_report.specs.declared.cause.Cause.TheVariants.{Reader, Clock}
 use Rattle.luplace_report.specs.Cause.{cause_of}
 use Rattle.luplace_report.specs.Report.{report_text}
 use Rattle.luplace_report.specs.Table.{table_text}
+use Rattle.luplace_report.specs.Way.{way_row}
 use Rattle.luplace_report.specs.Graph.{graph_text}
+use Rattle.luways.specs.declared.way.Way.TheVariants.{Rows, Parted, Nil}
 
 -- each of these texts on a line of its own
 abbrev pub lines : List (List ℕ) → List ℕ
@@ -86,7 +88,7 @@ pub record CausesAre : Type 0 where
   pub no_cause : cause_of sampled.plan (link_of 2 0 1) ≡ None
 
 pub record TablesAre : Type 0 where
-  pub one_site : table_text sampled.plan ≡ lines
+  pub one_site : table_text sampled.plan Rows ≡ lines
       (codes "site\tflows\titems"
       ∷ codes "A\t6\t8"
       ∷ codes "B\t2\t4"
@@ -98,8 +100,10 @@ pub record TablesAre : Type 0 where
       ∷ codes "link\twhy"
       ∷ codes "0\tc crosses A -> B since z at B reads it"
       ∷ codes "1\ts crosses A -> B since z at B reads it"
+      ∷ []
+      ∷ codes "run\tby rows"
       ∷ [])
-  pub two_sites : table_text shared_run.plan ≡ lines
+  pub two_sites : table_text shared_run.plan Rows ≡ lines
       (codes "site\tflows\titems"
       ∷ codes "A\t6\t7"
       ∷ codes "B\t3\t4"
@@ -109,8 +113,10 @@ pub record TablesAre : Type 0 where
       ∷ []
       ∷ codes "link\twhy"
       ∷ codes "0\ts crosses A -> B since z at B reads it"
+      ∷ []
+      ∷ codes "run\tby rows"
       ∷ [])
-  pub three_sites : table_text handed.plan ≡ lines
+  pub three_sites : table_text handed.plan Rows ≡ lines
       (codes "site\tflows\titems"
       ∷ codes "A\t5\t8"
       ∷ codes "B\t4\t7"
@@ -127,8 +133,10 @@ pub record TablesAre : Type 0 where
       ∷ codes "1\tc crosses A -> B since z at B reads it"
       ∷ codes "2\tc crosses A -> C since the clock of s needs it"
       ∷ codes "3\ts crosses B -> C since y at C reads it"
+      ∷ []
+      ∷ codes "run\tby rows"
       ∷ [])
-  pub by_names : table_text moded ≡ lines
+  pub by_names : table_text moded Rows ≡ lines
       (codes "site\tflows\titems"
       ∷ codes "A\t8\t11"
       ∷ codes "B\t1\t4"
@@ -142,7 +150,13 @@ pub record TablesAre : Type 0 where
       ∷ codes "0\tm crosses A -> B since z at B reads it"
       ∷ codes "1\tx crosses A -> B since z at B reads it"
       ∷ codes "2\tz crosses B -> A since y at A reads it"
+      ∷ []
+      ∷ codes "run\tby rows"
       ∷ [])
+  -- where a run goes item by item
+  pub parted : way_row sampled_sum (Parted (2 ∷ 4 ∷ [])) ≡ codes "run\titem by item: a cycle of y, s is parted over sites\n"
+  pub one_nil : way_row sampled_sum (Nil (2 ∷ [])) ≡ codes "run\titem by item: y may have no value at first, and is sent\n"
+  pub some_nil : way_row sampled_sum (Nil (2 ∷ 3 ∷ 4 ∷ [])) ≡ codes "run\titem by item: y, z, s may have no value at first, and are sent\n"
 
 pub record GraphsAre : Type 0 where
   pub one_site : graph_text sampled.plan ≡ lines

@@ -3,7 +3,7 @@
 //! - [`report_json`]: the report as JSON on one line; [`report_table`]: as tables for a terminal; [`report_dot`]: as a graph.
 //! - [`cause_of`], [`Cause`]: why a link is there.
 //! - [`laws`]: each link of a plan has a cause, each edge has both ends, a site's items are counted; worked reports.
-//! - `names`: how variables, sites, types and clocks are named.
+//! - `names`: how variables, sites, types and clocks are named; `way`: how the way of a plan is told.
 #![tactic(auto)]
 
 mod cause;
@@ -12,6 +12,7 @@ mod json;
 pub mod laws;
 mod names;
 mod table;
+mod way;
 
 pub use cause::{Cause, cause_of};
 pub use dot::report_dot;

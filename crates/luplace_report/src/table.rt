@@ -3,12 +3,14 @@
 ghost use Rattle.std.specs.Prelude.{◌≡◌, IfOk, count_by, slice_get, length, string_bytes};
 ghost use Rattle.luworld.specs.Needs.{sites_of};
 ghost use Rattle.luplace_report.specs.Names.{Adds};
-ghost use Rattle.luplace_report.specs.Table.{flow_count, received_count, sent_count, item_count, site_row, site_rows, clock_cell, link_row, row_of, link_rows, reason, cause_row, cause_rows, table_text};
+ghost use Rattle.luplace_report.specs.Table.{flow_count, received_count, sent_count, item_count, site_row, site_rows, clock_cell, link_row, row_of, link_rows, reason, cause_row, cause_rows, rest_text, table_text, IsTableOf};
 
 use crate::cause::{Cause, cause_of};
 use crate::names::{clock_of, owner_name, put_clock, site_name, variable_name};
+use crate::way::put_way;
 use luflow::{Clock, Flat};
 use luplace::{Link, Plan};
+use luways::{Way, way_of};
 use std::alloc::{AllocError, Global};
 
 /// How many flows stand at a site.
@@ -160,20 +162,41 @@ fn put_causes(text: &mut String, plan: &Plan) -> Result<(), AllocError>
     Ok(())
 }
 
-/// The report of a plan as three tables for a terminal, cells with a tab between them, and an empty line between two tables:
+/// The tables of links and their causes, and the way.
+fn put_rest(text: &mut String, plan: &Plan, way: &Way) -> Result<(), AllocError>
+    ensures { Adds result text.old text.new (rest_text plan.now way.now) }
+{
+    put_links(text, plan)?;
+    text.push_str("\nlink\twhy\n")?;
+    put_causes(text, plan)?;
+    text.push_str("\n")?;
+    put_way(text, plan.flat(), way)
+}
+
+/// The four tables.
+fn put_tables(text: &mut String, plan: &Plan, way: &Way) -> Result<(), AllocError>
+    ensures { Adds result text.old text.new (table_text plan.now way.now) }
+{
+    text.push_str("site\tflows\titems\n")?;
+    put_sites(text, plan)?;
+    text.push_str("\nlink\tflow\tfrom\tto\tclock\n")?;
+    put_rest(text, plan, way)
+}
+
+/// The report of a plan as four tables for a terminal, cells with a tab between them, and an empty line between two tables:
 /// for each site how many flows stand there, and how many items it does at an instant at most, which is where all clocks are
 /// true (it computes its flows, takes a message from each link to it and puts one into each link from it); for each link its
-/// number, its variable, the sites that send and receive, and its clock, `-` for the base clock; and for each link why its
-/// variable crosses. The time grows with the number of flows times the number of links.
+/// number, its variable, the sites that send and receive, and its clock, `-` for the base clock; for each link why its
+/// variable crosses; and in which way a run goes. The time grows with the number of flows times the number of links.
+///
+/// # Errors
+///
+/// Out of memory.
 pub fn report_table(alloc: Global, plan: &Plan) -> Result<String, AllocError>
-    ensures { IfOk result (λ text. string_bytes text ≡ table_text plan.now) }
+    ensures { IfOk result (λ text. IsTableOf plan.now (string_bytes text)) }
 {
+    let way = way_of(alloc, plan)?;
     let mut text = String::new(alloc);
-    text.push_str("site\tflows\titems\n")?;
-    put_sites(&mut text, plan)?;
-    text.push_str("\nlink\tflow\tfrom\tto\tclock\n")?;
-    put_links(&mut text, plan)?;
-    text.push_str("\nlink\twhy\n")?;
-    put_causes(&mut text, plan)?;
+    put_tables(&mut text, plan, &way)?;
     Ok(text)
 }

@@ -1,8 +1,9 @@
 //! The stations of a job.
 
-ghost use Rattle.std.specs.Prelude.{◌≡◌, ◌<◌, ◌≤◌, IfOk, IfSome, OnOk, OnSome, vec_len};
+ghost use Rattle.std.specs.Prelude.{◌≡◌, ◌<◌, ◌≤◌, true, IfOk, IfSome, OnOk, OnSome, vec_len};
 ghost use Rattle.std.specs.Arc.{arc_value};
 ghost use Rattle.luworld.specs.Needs.{sites_of};
+ghost use Rattle.luways.specs.Ways.{GoesByRows};
 ghost use Rattle.lublock_site.specs.RowStations.{IsUnusedSender, IsUnusedReceiver};
 ghost use Rattle.lurun_rows.specs.Rows.{AreRowsOf, AreBySite};
 ghost use Rattle.lurun_rows.specs.Making.{AreUnused, AllUnused};
@@ -11,7 +12,8 @@ use lublock_site::flats::flat_copy;
 use lublock_site::station::RowStation;
 use luflow::Flat;
 use lulink::{LinkNo, Rx, Tx, open_link};
-use luplace::Job;
+use luplace::{Job, Plan};
+use luways::{Way, way_of};
 use std::alloc::{AllocError, Global};
 use std::sync::Arc;
 
@@ -120,13 +122,8 @@ fn station_of(
     RowStation::new(alloc, job, site, flat, txs, rxs)
 }
 
-/// The stations of a job, in order of sites, over one copy of its program: all links are open, with the plan's capacity, and each
-/// end is at its site. None where one of them can't be a station.
-///
-/// # Errors
-///
-/// An error means that memory ran out. Nothing is left then.
-pub fn row_stations(alloc: Global, job: &Job) -> Result<Option<Vec<RowStation>>, AllocError>
+/// The stations of a job, in order of sites. None where one of them can't be a station.
+fn stations_of(alloc: Global, job: &Job) -> Result<Option<Vec<RowStation>>, AllocError>
     ensures of { IfOk result (λ o. IfSome o (λ stations. AreRowsOf job.now stations.items)) }
     ensures by_site { IfOk result (λ o. IfSome o (λ stations. AreBySite stations.items)) }
     ensures len { IfOk result
@@ -144,4 +141,36 @@ pub fn row_stations(alloc: Global, job: &Job) -> Result<Option<Vec<RowStation>>,
         site += 1;
     }
     Ok(Some(stations))
+}
+
+/// Whether runs of a plan go by rows.
+fn goes_by_rows(alloc: Global, plan: &Plan) -> Result<bool, AllocError>
+    ensures { IfOk result (λ yes. yes ≡ true → GoesByRows plan.now) }
+{
+    let way = way_of(alloc, plan)?;
+    match &way {
+        Way::Rows => Ok(true),
+        Way::Parted(_) => Ok(false),
+        Way::Nil(_) => Ok(false),
+    }
+}
+
+/// The stations of a job whose runs go by rows, in order of sites, over one copy of its program: all links are open, with the plan's
+/// capacity, and each end is at its site. None where the plan's runs don't go by rows, as `luways::way_of` tells, or where one of the
+/// sites can't be a station.
+///
+/// # Errors
+///
+/// An error means that memory ran out. Nothing is left then.
+pub fn row_stations(alloc: Global, job: &Job) -> Result<Option<Vec<RowStation>>, AllocError>
+    ensures by_rows { IfOk result (λ o. IfSome o (λ stations. GoesByRows job.now.plan)) }
+    ensures of { IfOk result (λ o. IfSome o (λ stations. AreRowsOf job.now stations.items)) }
+    ensures by_site { IfOk result (λ o. IfSome o (λ stations. AreBySite stations.items)) }
+    ensures len { IfOk result
+        (λ o. IfSome o (λ stations. vec_len stations ≡ sites_of job.now.plan)) }
+{
+    if !goes_by_rows(alloc, job.plan())? {
+        return Ok(None);
+    }
+    stations_of(alloc, job)
 }

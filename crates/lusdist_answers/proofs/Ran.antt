@@ -1,5 +1,5 @@
 -- What a run of a job gives, in the words of the program that was asked for.
-use Rattle.std.proofs.Common.{◌≡◌, ℕ, ◌<◌, List, length, false, Option, Some, Result, Ok, Err, IfOk, MatchResult, refl, sym, ap, ◌∙◌, subst, inl, inr}
+use Rattle.std.proofs.Common.{◌≡◌, ℕ, ◌<◌, List, length, false, Option, Some, Result, Ok, Err, IfOk, IfErr, ◌⊎◌, MatchResult, refl, sym, ap, ◌∙◌, subst, inl, inr}
 use Rattle.std.specs.Prelude.{IsUtf8}
 use Rattle.luflow.specs.Tables.{Fits}
 use Rattle.luflow.specs.Variables.{inputs_of}
@@ -62,6 +62,12 @@ answer_is job stations (Err run.LinkLost) complete some h = tt
 answer_is job stations (Err run.NoThread) complete some h = tt
 answer_is job stations (Err run.WrongReports) complete some (inl never) = cc
 answer_is job stations (Err run.WrongReports) complete some (inr never) = never.1 some
+
+-- what a run by rows answers
+pub rows_answer_is : {A : Type 0} (P : A → Type 0) (job : Run) (result : Result A RunError) → IfOk result P → IfErr result (λ error. (error ≡ run.OutOfMemory) ⊎ (error ≡ run.NoThread)) → MatchResult result P (IsRunError job)
+rows_answer_is P job (Ok x) h none = h
+rows_answer_is P job (Err error) h (inl is) = subst (λ (e : RunError). IsRunError job e) (sym is) tt
+rows_answer_is P job (Err error) h (inr is) = subst (λ (e : RunError). IsRunError job e) (sym is) tt
 
 -- the variable of a fault at which a site stopped is one of the program's
 pub owner_inside : (job : Run) (site variable instant : ℕ) (kind : FaultKind) → IsFlat job.plan.flat → IsFaultAt job site (record { variable = variable; instant = instant; kind = kind }) → variable < length job.plan.flat.variables

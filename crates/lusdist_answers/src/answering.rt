@@ -22,6 +22,7 @@ use lusdist_shell::{CheckRequest, EvalRequest, Files, PlanRequest, Progress, Run
 use lusdist_stop::{Stop, mistake_in, read};
 use lusyn::print_program;
 use std::alloc::Global;
+use std::rt::Clock;
 use std::sync::Wait;
 use std::thread::Threads;
 
@@ -113,7 +114,7 @@ pub fn plan_answer<F: Files>(
 }
 
 /// What a run prints: the table of the outputs of the program, which its sites gave together.
-pub fn run_text<R: Threads + Wait + Sync, F: Files, P: Progress>(
+pub fn run_text<R: Threads + Wait + Clock + Sync, F: Files, P: Progress>(
     rt: &R,
     alloc: Global,
     request: RunRequest<'_>,

@@ -22,6 +22,7 @@ use lusdist_shell::{
 use lusdist_stop::{Said, Stop};
 use std::alloc::Global;
 use std::io::Write;
+use std::rt::Clock;
 use std::sync::Wait;
 use std::thread::Threads;
 
@@ -72,7 +73,7 @@ impl<'a, F: Files> Commands for Distributor<'a, F> {
 ///
 /// Where a run is asked to tell how far it has come, the progress is told, by the threads that serve the sites. It is handed the number
 /// of a site and an instant and nothing of the values; what it does with them isn't in the contract.
-pub fn serve_words<R: Threads + Wait + Sync, F: Files, P: Progress, W: Write, V: Write>(
+pub fn serve_words<R: Threads + Wait + Clock + Sync, F: Files, P: Progress, W: Write, V: Write>(
     rt: &R,
     alloc: Global,
     words: &[String],

@@ -2,7 +2,7 @@
 
 ghost use Rattle.std.specs.Prelude.{◌≡◌, [], ◌∷◌, ◌++◌, IfOk, IfErr, string_bytes};
 ghost use Rattle.luplace_report.specs.Report.{report_text};
-ghost use Rattle.lusdist_meaning.specs.Asked.{IsPlanFor, plan_text};
+ghost use Rattle.lusdist_meaning.specs.Asked.{IsPlanFor, IsPlanText};
 ghost use Rattle.lusdist_meaning.specs.Stopped.{StopsAtPlan};
 ghost use Rattle.lusdist_stop.specs.declared.stop.Stop.TheVariants.{OutOfMemory};
 
@@ -43,7 +43,7 @@ fn report_line(alloc: Global, plan: &Plan) -> Result<String, AllocError>
 
 /// A plan in a form.
 fn formed(alloc: Global, plan: &Plan, form: PlanForm) -> Result<String, AllocError>
-    ensures { IfOk result (λ text. string_bytes text ≡ plan_text form plan.now) }
+    ensures { IfOk result (λ text. IsPlanText form plan.now (string_bytes text)) }
 {
     match form {
         PlanForm::Report => report_line(alloc, plan),
@@ -54,7 +54,7 @@ fn formed(alloc: Global, plan: &Plan, form: PlanForm) -> Result<String, AllocErr
 
 /// A plan as a report, a table or a graph.
 pub fn plan_text(alloc: Global, plan: &Plan, form: PlanForm) -> Result<String, Stop>
-    ensures text { IfOk result (λ text. string_bytes text ≡ plan_text form plan.now) }
+    ensures text { IfOk result (λ text. IsPlanText form plan.now (string_bytes text)) }
     ensures memory { IfErr result (λ stop. stop ≡ OutOfMemory) }
 {
     Ok(formed(alloc, plan, form)?)

@@ -1,6 +1,6 @@
 //! A run of a job on threads.
 
-ghost use Rattle.std.specs.Prelude.{◌≡◌, ◌<◌, ◌⊎◌, length, IfOk, IfErr, OnOk, MatchResult, string_bytes};
+ghost use Rattle.std.specs.Prelude.{◌≡◌, ◌<◌, ◌⊎◌, length, IfOk, IfErr, IfSome, OnOk, MatchResult, string_bytes};
 ghost use Rattle.luflow.specs.Variables.{outputs_of};
 ghost use Rattle.lurun_reports.specs.Reports.{AreOutputsOf};
 ghost use Rattle.lusdist_shell.specs.Request.{AreFew};
@@ -14,10 +14,12 @@ use crate::filing::file_run;
 use luflow::Outputs;
 use luplace::{Job, Plan};
 use lurun::{Gate, RunError, run_crew, run_threads, stations};
+use lurun_rows::{row_stations, run_rows};
 use lusdist_shell::{Files, Progress, RunRequest};
 use lusdist_stop::Stop;
 use lutab::write_outputs;
 use std::alloc::Global;
+use std::rt::Clock;
 use std::sync::Wait;
 use std::thread::Threads;
 
@@ -45,24 +47,76 @@ fn gate_for<'p, P: Progress>(job: &Job, progress: Option<&'p P>) -> Open<'p, P> 
     Open { progress }
 }
 
-/// The outputs of a job that is run by so many workers, or with a thread for each site.
-fn outputs_of_run<R: Threads + Wait + Sync, P: Progress>(
+/// The outputs of a job whose sites pass values one by one, run by so many workers, or with a thread for each site.
+fn outputs_by_items<R: Threads + Wait + Sync, G: Gate>(
     rt: &R,
     alloc: Global,
     job: &Job,
     workers: Option<u8>,
-    progress: Option<&P>,
+    gate: &G,
 ) -> Result<Outputs, RunError>
     requires few { AreFew workers }
     requires some { 0 < length (outputs_of job.now.plan.flat.variables) }
     ensures { MatchResult result (AreOutputsOf job.now) (IsRunError job.now) }
 {
     let stations = stations(alloc, job)?;
-    let gate = gate_for(job, progress);
     match workers {
-        Some(workers) => run_crew(rt, alloc, stations, workers, &gate),
-        None => run_threads(rt, alloc, stations, &gate),
+        Some(workers) => run_crew(rt, alloc, stations, workers, gate),
+        None => run_threads(rt, alloc, stations, gate),
     }
+}
+
+/// The workers of a run by rows: so many, or one for each site.
+fn row_workers(workers: Option<u8>, sites: usize) -> u8
+    requires { AreFew workers }
+    ensures { 0 < result }
+{
+    match workers {
+        Some(workers) => workers,
+        None => u8::try_from(sites).unwrap_or(u8::MAX).max(1),
+    }
+}
+
+/// The outputs of a job whose sites work in blocks of instants, run by so many workers, or with a thread for each site. None where some
+/// site can't, or where not all sites have ended, as at a fault.
+fn outputs_by_rows<R: Threads + Wait + Clock + Sync, G: Gate>(
+    rt: &R,
+    alloc: Global,
+    job: &Job,
+    workers: Option<u8>,
+    gate: &G,
+) -> Result<Option<Outputs>, RunError>
+    requires { AreFew workers }
+    ensures { MatchResult result (λ o. IfSome o (AreOutputsOf job.now)) (IsRunError job.now) }
+{
+    let Some(stations) = row_stations(alloc, job)? else {
+        return Ok(None);
+    };
+    let workers = row_workers(workers, stations.len());
+    run_rows(rt, alloc, stations, workers, gate)
+}
+
+/// The outputs of a job that is run by so many workers, or with a thread for each site: by rows where that can be and isn't ruled out, else
+/// item by item.
+fn outputs_of_run<R: Threads + Wait + Clock + Sync, P: Progress>(
+    rt: &R,
+    alloc: Global,
+    job: &Job,
+    workers: Option<u8>,
+    items: bool,
+    progress: Option<&P>,
+) -> Result<Outputs, RunError>
+    requires few { AreFew workers }
+    requires some { 0 < length (outputs_of job.now.plan.flat.variables) }
+    ensures { MatchResult result (AreOutputsOf job.now) (IsRunError job.now) }
+{
+    let gate = gate_for(job, progress);
+    if !items {
+        if let Some(outputs) = outputs_by_rows(rt, alloc, job, workers, &gate)? {
+            return Ok(outputs);
+        }
+    }
+    outputs_by_items(rt, alloc, job, workers, &gate)
 }
 
 /// The stop for a run that has no outputs.
@@ -86,11 +140,12 @@ fn stop_of(alloc: Global, job: &Job, error: RunError) -> Stop
 
 /// The outputs of a job that is run by so many workers, 1 to 16, or with a thread for each site; or why there are
 /// none. All its threads have ended when it returns. Where a progress is given, it is told how far the sites have come.
-fn run_outputs<R: Threads + Wait + Sync, P: Progress>(
+fn run_outputs<R: Threads + Wait + Clock + Sync, P: Progress>(
     rt: &R,
     alloc: Global,
     job: &Job,
     workers: Option<u8>,
+    items: bool,
     progress: Option<&P>,
 ) -> Result<Outputs, Stop>
     requires few { AreFew workers }
@@ -98,7 +153,7 @@ fn run_outputs<R: Threads + Wait + Sync, P: Progress>(
     ensures outputs { IfOk result (AreOutputsOf job.now) }
     ensures stopped { IfErr result (IsStopOfRun job.now) }
 {
-    match outputs_of_run(rt, alloc, job, workers, progress) {
+    match outputs_of_run(rt, alloc, job, workers, items, progress) {
         Ok(outputs) => Ok(outputs),
         Err(error) => Err(stop_of(alloc, job, error)),
     }
@@ -125,7 +180,7 @@ fn told_outputs<F: Files>(
 
 /// The table of the outputs of a job that is run as a request asks for, or why there is none. The file of their dump is written first, where
 /// the request asks for one. All threads of the run have ended when it returns.
-pub fn run_table<R: Threads + Wait + Sync, F: Files, P: Progress>(
+pub fn run_table<R: Threads + Wait + Clock + Sync, F: Files, P: Progress>(
     rt: &R,
     alloc: Global,
     request: RunRequest<'_>,
@@ -141,6 +196,6 @@ pub fn run_table<R: Threads + Wait + Sync, F: Files, P: Progress>(
         ⊎ IsUnfiledAt (F.takes files.now) (run_path request.entry) stop) }
 {
     let asked = request.progress.then_some(progress);
-    let outputs = run_outputs(rt, alloc, job, request.workers, asked)?;
+    let outputs = run_outputs(rt, alloc, job, request.workers, request.items, asked)?;
     told_outputs(alloc, request, files, job.plan(), &outputs)
 }

@@ -15,7 +15,7 @@ use Rattle.luplace_file.specs.Content.{Placement}
 use Rattle.luplace_file.specs.Placement.{placement_of}
 use Rattle.luplace.specs.Placing.{IsPlanOf}
 use Rattle.luplace_report.specs.Report.{report_text}
-use Rattle.luplace_report.specs.Table.{table_text}
+use Rattle.luplace_report.specs.Table.{IsTableOf}
 use Rattle.luplace_report.specs.Graph.{graph_text}
 use Rattle.luflow.specs.Variables.{inputs_of}
 use Rattle.lutab.specs.Table.{IsTextOf, is_too_long}
@@ -170,17 +170,17 @@ pub record IsPlanFor (gives : List ℕ → Option (List ℕ) → Type 0) (path p
   pub plan_of : IsPlanOfText place plan
   pub is_plan : IsPlan plan
 
--- a plan, in the form that is asked for: the report on a line, the table, or the graph
-abbrev pub plan_text : PlanForm → Distribution → List ℕ
-plan_text Report plan = report_text plan ++ 10 ∷ []
-plan_text Table plan = table_text plan
-plan_text Graph plan = graph_text plan
+-- a plan, in the form that is asked for: the report on a line, the tables, which tell the way that the plan's runs go, or the graph
+abbrev pub IsPlanText : PlanForm → Distribution → List ℕ → Type 0
+IsPlanText Report plan text = text ≡ report_text plan ++ 10 ∷ []
+IsPlanText Table plan text = IsTableOf plan text
+IsPlanText Graph plan text = text ≡ graph_text plan
 
 -- the text of the plan that a request asks for
 pub record IsPlanned (gives : List ℕ → Option (List ℕ) → Type 0) (request : PlanRequest) (text : List ℕ) : Type 0 where
   pub plan : Distribution
   pub asked_for : IsPlanFor gives request.program.now request.place.now request.main.now plan
-  pub text_is : text ≡ plan_text request.form plan
+  pub text_is : IsPlanText request.form plan text
 
 -- the text of what a request asks for
 abbrev pub IsAnswer : (List ℕ → Option (List ℕ) → Type 0) → Request → List ℕ → Type 0

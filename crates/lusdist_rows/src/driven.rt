@@ -1,7 +1,7 @@
 //! Two sites of a job, each in a thread, over the two links from the first to the second: by items that are done one by one, up
 //! to a number of them. Each message is looked at as it comes.
 
-ghost use Rattle.std.specs.Prelude.{◌≡◌, IfSome, ℕ, count_by, length, slice_get, take};
+ghost use Rattle.std.specs.Prelude.{◌≡◌, ◌≤◌, ◌+◌, IfSome, ℕ, count_by, length, slice_get, take};
 ghost use Rattle.std.specs.Thread.{IsSync};
 ghost use Rattle.luworld.specs.Runs.{Run};
 ghost use Rattle.luworld.specs.World.{takes};
@@ -15,6 +15,19 @@ use lusite::{Next, Site, SiteReport};
 use std::sync::Wait;
 use std::thread;
 use std::thread::Threads;
+
+/// Offers all messages of a link's list from this place on, at once. How many of them were put.
+fn offer_rest(tx: &mut Tx, list: &[Msg], at: usize) -> usize
+    requires list { list.now ≡ list_of tx.old.job tx.old.link }
+    requires at { length tx.old.put ≡ at }
+    requires within { at ≤ length list.now }
+    ensures list { list.now ≡ list_of tx.new.job tx.new.link }
+    ensures at { length tx.new.put ≡ at + result }
+    ensures within { at + result ≤ length list.now }
+{
+    let (_, rest) = list.split_at(at);
+    tx.offer_run(rest)
+}
 
 /// The sender's end of a link, and its list, of which so many messages were put.
 #[derive(Drop)]
@@ -44,6 +57,21 @@ impl Feeder<'_> {
             },
         }
         true
+    }
+
+    /// Offers all messages of the list that weren't put yet, at once. How many of them were put.
+    pub fn offer_run(&mut self) -> usize {
+        if self.at > self.list.len() {
+            return 0;
+        }
+        let put = offer_rest(&mut self.tx, self.list, self.at);
+        self.at += put;
+        put
+    }
+
+    /// Whether all of the list was put.
+    pub fn is_done(&self) -> bool {
+        self.at == self.list.len()
     }
 }
 

@@ -1,5 +1,6 @@
 //! Lines of links and of jobs: what each comes to.
 
+use crate::blocks::put_rows;
 use crate::counters::{are_all_counted, is_copy_handed};
 use crate::jobs::job_at;
 use crate::links::put_passed;
@@ -25,7 +26,7 @@ pub fn number(line: &str, k: usize) -> u32 {
 }
 
 /// Writes what a line comes to, of a job.
-fn put_of_job<R: Threads + Wait + Sync>(
+fn put_of_job<R: Threads + Wait + Clock + Sync>(
     threads: &R,
     rt: &HostRuntime,
     job: &Job,
@@ -34,12 +35,13 @@ fn put_of_job<R: Threads + Wait + Sync>(
     match word(line, 0) {
         "collect" => put_outputs(rt, job, collect(rt.alloc(), Vec::new(rt.alloc()))),
         "drive" => put_driven(threads, rt, job, line),
+        "rows" => put_rows(threads, rt, job, line),
         _ => put_run(threads, rt, job, line),
     }
 }
 
 /// Writes what a line comes to that names a job's files.
-fn put_of_files<R: Threads + Wait + Sync, F: Files>(
+fn put_of_files<R: Threads + Wait + Clock + Sync, F: Files>(
     threads: &R,
     rt: &HostRuntime,
     files: &F,

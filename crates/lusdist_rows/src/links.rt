@@ -8,6 +8,7 @@ mod ends;
 mod feeder;
 mod jobs;
 mod passing;
+mod runs;
 mod task;
 
 use crate::links::calls::{drop_receiver, drop_sender, expect, fill_and_leave, put_alone};
@@ -15,6 +16,7 @@ use crate::links::ends::{Receives, Sends};
 use crate::links::feeder::Feeder;
 use crate::links::jobs::job_of_numbers;
 use crate::links::passing::pass;
+use crate::links::runs::pass_runs;
 use crate::links::task::{Task, task_of};
 use lulink::Msg;
 use luplace::Job;
@@ -62,7 +64,10 @@ fn over_ring<R: Threads + Wait + Sync>(
     let Ok((tx, rx)) = lulink::open_link(alloc, job, 0, task.capacity) else {
         return Err("no memory");
     };
-    does(rt, Feeder { tx, list, at: 0 }, rx, list, task.case)
+    match task.case {
+        "runs" => pass_runs(rt, alloc, tx, rx, list),
+        case => does(rt, Feeder { tx, list, at: 0 }, rx, list, case),
+    }
 }
 
 /// Does a case over a new channel.

@@ -3,6 +3,7 @@
 //! answers; README.md and LINES.md have the forms of its lines.
 #![tactic(auto)]
 
+mod blocks;
 mod counters;
 mod driven;
 mod gates;
@@ -188,7 +189,7 @@ fn put_told(
 
 /// Writes what a command answers: its output, behind `! ` what went to the error stream, and behind `= ` its status. Where `is_full`
 /// says so, its output takes nothing.
-fn put_answer<R: Threads + Wait + Sync>(
+fn put_answer<R: Threads + Wait + Clock + Sync>(
     threads: &R,
     rt: &HostRuntime,
     case: &Case<'_>,

@@ -57,7 +57,7 @@ fn put_body(rt: &HostRuntime, body: Body) -> io::Result<()> {
 }
 
 /// Writes the first messages of a list.
-fn put_taken(rt: &HostRuntime, list: &[Msg], count: usize) -> io::Result<()> {
+pub fn put_taken(rt: &HostRuntime, list: &[Msg], count: usize) -> io::Result<()> {
     print!(rt; "= taken")?;
     for msg in list.iter().take(count) {
         put_body(rt, msg.body)?;
@@ -86,7 +86,7 @@ fn put_status(rt: &HostRuntime, status: Status) -> io::Result<()> {
 }
 
 /// Writes an output, by its number.
-fn put_output(rt: &HostRuntime, k: usize, statuses: &[Status]) -> io::Result<()> {
+pub fn put_output(rt: &HostRuntime, k: usize, statuses: &[Status]) -> io::Result<()> {
     print!(rt; "= output {k}")?;
     for status in statuses {
         put_status(rt, *status)?;
@@ -194,7 +194,7 @@ fn put_sites<R: Threads + Wait + Sync>(
 }
 
 /// The lists of the first two links of a job.
-fn lists_of(alloc: Global, job: &Job) -> Result<(Vec<Msg>, Vec<Msg>), AllocError>
+pub fn lists_of(alloc: Global, job: &Job) -> Result<(Vec<Msg>, Vec<Msg>), AllocError>
     requires { 1 < sites_of job.now.plan }
     ensures first { IfOk result (λ x. x.0.items ≡ list_of job.now 0) }
     ensures second { IfOk result (λ x. x.1.items ≡ list_of job.now 1) }

@@ -5,6 +5,7 @@ use lusdist_shell::{Files, ReadError, Silent, Sink, WriteError, text_of};
 use std::alloc::{AllocError, Global};
 use std::io;
 use std::io::Write;
+use std::rt::Clock;
 use std::sync::Wait;
 use std::thread::Threads;
 
@@ -60,7 +61,7 @@ pub fn words_of(alloc: Global, line: &str) -> Result<Vec<String>, AllocError> {
 }
 
 /// What a command prints; nothing where it isn't done.
-fn printed<R: Threads + Wait + Sync, F: Files>(
+fn printed<R: Threads + Wait + Clock + Sync, F: Files>(
     threads: &R,
     alloc: Global,
     files: &F,
@@ -136,7 +137,7 @@ fn is_whole(replay: &str, outputs: &str) -> bool {
 }
 
 /// Whether a replay by the schedule of a seed ends whole, with these outputs.
-fn is_kept<R: Threads + Wait + Sync, F: Files>(
+fn is_kept<R: Threads + Wait + Clock + Sync, F: Files>(
     threads: &R,
     alloc: Global,
     tried: &mut Tried<'_, F>,
@@ -150,7 +151,7 @@ fn is_kept<R: Threads + Wait + Sync, F: Files>(
 }
 
 /// How many of so many schedules end so, by the line of a replay.
-fn replays_kept<R: Threads + Wait + Sync, F: Files>(
+fn replays_kept<R: Threads + Wait + Clock + Sync, F: Files>(
     threads: &R,
     alloc: Global,
     tried: &mut Tried<'_, F>,
@@ -167,7 +168,7 @@ fn replays_kept<R: Threads + Wait + Sync, F: Files>(
 }
 
 /// The same, at the capacity that the files have, of an example with this table.
-fn schedules_kept<R: Threads + Wait + Sync, F: Files>(
+fn schedules_kept<R: Threads + Wait + Clock + Sync, F: Files>(
     threads: &R,
     alloc: Global,
     tried: &mut Tried<'_, F>,
@@ -190,7 +191,7 @@ fn schedules_kept<R: Threads + Wait + Sync, F: Files>(
 }
 
 /// Whether a crew prints this table, at the capacity that the files have.
-fn is_kept_by<R: Threads + Wait + Sync, F: Files>(
+fn is_kept_by<R: Threads + Wait + Clock + Sync, F: Files>(
     threads: &R,
     alloc: Global,
     tried: &Tried<'_, F>,
@@ -204,7 +205,7 @@ fn is_kept_by<R: Threads + Wait + Sync, F: Files>(
 }
 
 /// How many of the crews print it.
-fn crews_kept<R: Threads + Wait + Sync, F: Files>(
+fn crews_kept<R: Threads + Wait + Clock + Sync, F: Files>(
     threads: &R,
     alloc: Global,
     tried: &Tried<'_, F>,
@@ -220,7 +221,7 @@ fn crews_kept<R: Threads + Wait + Sync, F: Files>(
 }
 
 /// The table of an example's outputs, by its evaluation.
-fn table_of<R: Threads + Wait + Sync, F: Files>(
+fn table_of<R: Threads + Wait + Clock + Sync, F: Files>(
     threads: &R,
     alloc: Global,
     files: &F,
@@ -237,7 +238,7 @@ fn place_of<F: Files>(alloc: Global, files: &F, name: &str) -> Result<String, Al
 }
 
 /// Writes how many of so many schedules of an example, and of its crews, give this table, at a capacity.
-fn put_kept<R: Threads + Wait + Sync, F: Files>(
+fn put_kept<R: Threads + Wait + Clock + Sync, F: Files>(
     threads: &R,
     rt: &HostRuntime,
     tried: &mut Tried<'_, F>,
@@ -252,7 +253,7 @@ fn put_kept<R: Threads + Wait + Sync, F: Files>(
 }
 
 /// Writes that at each capacity, by the table and the placement.
-fn put_each<R: Threads + Wait + Sync, F: Files>(
+fn put_each<R: Threads + Wait + Clock + Sync, F: Files>(
     threads: &R,
     rt: &HostRuntime,
     files: &F,
@@ -273,7 +274,7 @@ fn put_each<R: Threads + Wait + Sync, F: Files>(
 }
 
 /// Writes how many of so many schedules of an example, and of its crews, end as its evaluation does, at each capacity.
-pub fn put_tried<R: Threads + Wait + Sync, F: Files>(
+pub fn put_tried<R: Threads + Wait + Clock + Sync, F: Files>(
     threads: &R,
     rt: &HostRuntime,
     files: &F,

@@ -66,11 +66,11 @@ most_workers = 16
 abbrev pub workers_rule : Rule
 workers_rule = record (new_rule (codes "workers")) { long = Some (codes "workers"); value_names = 1; parser = Some (Unsigned fewest_workers most_workers) }
 
--- `run PROGRAM PLACE TABLE [--main NAME] [--explain] [--workers W] [--progress] [--vcd FILE]`
+-- `run PROGRAM PLACE TABLE [--main NAME] [--explain] [--workers W] [--progress] [--items] [--vcd FILE]`
 abbrev pub run : App
 run =
-    with_rule (with_rule (with_rule (with_rule (with_rule (with_rule (judging (codes "run")) workers_rule)
-    (flag_rule (codes "progress"))) vcd_rule) (path_rule (codes "PROGRAM"))) (path_rule (codes "PLACE"))) (path_rule (codes "TABLE"))
+    with_rule (with_rule (with_rule (with_rule (with_rule (with_rule (with_rule (judging (codes "run")) workers_rule)
+    (flag_rule (codes "progress"))) (flag_rule (codes "items"))) vcd_rule) (path_rule (codes "PROGRAM"))) (path_rule (codes "PLACE"))) (path_rule (codes "TABLE"))
 
 -- a code, which may be left out
 abbrev pub code_rule : Rule

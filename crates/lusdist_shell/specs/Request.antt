@@ -114,6 +114,7 @@ pub record IsRunIn (command : Option (Text × List Row)) (request : RunRequest) 
   pub table : request.table.now ≡ text_in matches (codes "TABLE")
   pub workers : AreWorkersIn (first_of (codes "workers") matches) request.workers
   pub progress : request.progress ≡ is_given matches (codes "progress")
+  pub items : request.items ≡ is_given matches (codes "items")
   pub vcd : option_map (λ s. s.now) request.vcd ≡ first_of (codes "vcd") matches
   pub few : AreFew request.workers
 

@@ -130,6 +130,12 @@ const PROGRESS: Argument<'static> = Argument::Flag {
     help: "Tells on the error stream how many instants the slowest site has done, at most twice a second",
 };
 
+/// Whether a run goes item by item.
+const ITEMS: Argument<'static> = Argument::Flag {
+    name: "items",
+    help: "Passes values one by one, also where the sites could work in blocks of instants",
+};
+
 /// All commands, in the order in which help lists them.
 const TASKS: [Task<'static>; 6] = [
     Task {
@@ -181,6 +187,7 @@ const TASKS: [Task<'static>; 6] = [
             EXPLAIN,
             Argument::Workers,
             PROGRESS,
+            ITEMS,
             SITE_VCD,
             PROGRAM,
             PLACE,

@@ -121,6 +121,8 @@ pub struct RunRequest<'a> {
     pub workers: Option<u8>,
     /// Whether it is told on the error stream how far the sites have come.
     pub progress: bool,
+    /// Whether values are passed one by one, also where the sites could work in blocks.
+    pub items: bool,
     /// The path of the file that a dump of its outputs goes into, where one is asked for.
     pub vcd: Option<&'a str>,
 }
@@ -308,6 +310,7 @@ fn run_in<'a>(matches: &ArgMatches<'a>) -> RunRequest<'a>
         table: text(matches, "TABLE"),
         workers: workers_in(matches),
         progress: is_given(matches, "progress"),
+        items: is_given(matches, "items"),
         vcd: vcd_in(matches),
     }
 }

@@ -4,7 +4,7 @@ use Rattle.std.specs.List.{filter, range_with_len}
 use Rattle.luflow.specs.Program.{flows_of}
 use Rattle.luworld.specs.declared.link.Link.{Link}
 use Rattle.luworld.specs.Needs.{Distribution}
-use Rattle.lublock_site.specs.Classes.{class_in}
+use Rattle.lublock_plan.specs.Classes.{class_in}
 use Rattle.luways.specs.Ways.{IsSent}
 
 -- the numbers below a count of which the marks from a place on tell

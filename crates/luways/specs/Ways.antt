@@ -5,7 +5,7 @@ use Rattle.luflow.specs.declared.form.Flow.{Flow}
 use Rattle.luflow.specs.Program.{FlatProgram, flow_at, places, clock_reads}
 use Rattle.luworld.specs.declared.link.Link.{Link}
 use Rattle.luworld.specs.Needs.{Distribution, flow_sites}
-use Rattle.lublock_site.specs.Classes.{AreClasses}
+use Rattle.lublock_plan.specs.Classes.{AreClasses}
 use Rattle.luways.specs.declared.way.Way.{Way}
 use Rattle.luways.specs.declared.way.Way.TheVariants.{Rows, Parted, Nil}
 

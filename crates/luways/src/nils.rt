@@ -2,21 +2,12 @@
 
 ghost use Rattle.std.specs.Prelude.{◌≡◌, ◌<◌, length, true, slice_set, IfOk};
 ghost use Rattle.luflow.specs.Program.{flow_at};
-ghost use Rattle.lublock_site.specs.Classes.{class_in};
+ghost use Rattle.lublock_plan.specs.Classes.{class_in};
 ghost use Rattle.luways.specs.Nils.{nil_by, nil_at, looked, AreLeast};
 
+use lublock_plan::class_in;
 use luflow::{Flat, Form};
 use std::alloc::{AllocError, Global};
-
-/// Whether a flow may be nil; those that the list doesn't tell of may.
-pub fn class_in(nils: &[bool], i: usize) -> bool
-    ensures { result ≡ class_in nils.now i }
-{
-    match nils.get(i) {
-        Some(nil) => *nil,
-        None => true,
-    }
-}
 
 /// Whether a flow of this form may be nil where its clock is first true, if of what it reads then these may.
 fn nil_by(nils: &[bool], form: &Form) -> bool

@@ -7,7 +7,8 @@ ghost use Rattle.luways.specs.Sent.{marked, AreSentNils};
 ghost use Rattle.luways.specs.Ways.{IsSent, IsInitialised, IsPartedVariable, IsSentNil, AreAll, IsWayOf};
 
 use crate::layers::layers_of;
-use crate::nils::{class_in, least_nils, mark};
+use crate::nils::{least_nils, mark};
+use lublock_plan::class_in;
 use lugraph::cycles_of;
 use lulist::Row;
 use luplace::Plan;

@@ -8,7 +8,7 @@ returns c =
     let is = c.in_ok-flow.ensures in
     record {
       sends = record {
-        never = c.requires.never c.in_ok-flow.flow (sym c.may_be_nil.ensures ∙ c.if-may_be_nil.false);
+        never = c.requires.never c.in_ok-flow.flow (sym c.class_in.ensures ∙ c.if-class_in.false);
         ticks = λ open'. sends_none c.args.job.now c.in_ok-flow.flow c.args.tx unused (record { listed = search rules; flow_is = search rules; there = search rules });
         number = λ open'. sym (ap length unused.unused);
       };

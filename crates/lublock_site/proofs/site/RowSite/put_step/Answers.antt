@@ -11,7 +11,7 @@ use Rattle.lublock_site.specs.Going.{HasSentAt, IsGoing}
 use Rattle.lublock_site.specs.Marks.{marked}
 use Rattle.lublock_site.specs.Stations.{HasSent, MaySend}
 use Rattle.lublock_site.specs.declared.outlets.Outlet.{Outlet}
-use Rattle.lublock_site.proofs.Moving.{goes_map, going_sent, may_send}
+use Rattle.lublock_site.proofs.Moving.{goes_map, going_run, going_sent, may_send}
 use Rattle.lublock_site.proofs.site.RowSite.put_step.Goals as goal
 
 pub put_at-requires-clause-may : goal.put_at-requires-clause-may
@@ -34,9 +34,9 @@ returns-clause-going c =
     let x = c.args.self.now in
     let job = x.job.value in
     let flat_is : c.deref-flat.result.now ≡ job.plan.flat = c.deref-flat.ensures ∙ c.requires.frame.flat in
-    goes_map c.put_at.result (HasSentAt c.deref-flat.result.now c.args.k x.outlets.items c.put_at.new.outlets.items) (IsGoing (record x { outlets = c.put_at.new.outlets }))
+    goes_map c.put_at.result (HasSentAt c.deref-flat.result.now c.args.k x.outlets.items c.put_at.new.outlets.items) (IsGoing (record x { outlets = c.put_at.new.outlets; run = c.put_at.new.run }))
     (λ has.
     let o = some_at x.outlets.items c.args.k (search rules) in
     let s = has o.0 o.1 in
-    going_sent x c.put_at.new.outlets c.args.k o.0 s.0 c.requires o.1 s.1 (subst (λ (f : FlatProgram). HasSent f o.0 s.0) flat_is s.2))
+    going_run (record x { outlets = c.put_at.new.outlets }) c.put_at.new.run (going_sent x c.put_at.new.outlets c.args.k o.0 s.0 c.requires o.1 s.1 (subst (λ (f : FlatProgram). HasSent f o.0 s.0) flat_is s.2)))
     c.put_at.ensures

@@ -11,7 +11,7 @@ use Rattle.lublock_site.specs.Going.{HasBroughtAt, IsGoing}
 use Rattle.lublock_site.specs.Marks.{marked}
 use Rattle.lublock_site.specs.Stations.{HasBrought}
 use Rattle.lublock_site.specs.declared.sources.Source.{Source}
-use Rattle.lublock_site.proofs.Moving.{goes_map, going_brought, going_still}
+use Rattle.lublock_site.proofs.Moving.{goes_map, going_brought, going_run, going_still}
 use Rattle.lublock_site.proofs.site.RowSite.take_step.Goals as goal
 
 pub returns-clause-going : goal.returns-clause-going
@@ -22,7 +22,7 @@ returns-clause-going c =
     let board = c.count.new.self in
     let y = record x { board = board } in
     let going : IsGoing y = going_still x board c.requires (subst (λ (f : FlatProgram). StandsStill f job.inputs x.t x.len x.board board) flat_is (c.count.ensures.stands job.inputs x.t)) in
-    goes_map c.take_at.result (HasBroughtAt c.deref-flat.result.now c.args.k board x.sources.items c.take_at.new.board c.take_at.new.sources.items) (IsGoing (record x { board = c.take_at.new.board; sources = c.take_at.new.sources }))
+    goes_map c.take_at.result (HasBroughtAt c.deref-flat.result.now c.args.k board x.sources.items c.take_at.new.board c.take_at.new.sources.items) (IsGoing (record x { board = c.take_at.new.board; sources = c.take_at.new.sources; run = c.take_at.new.run }))
     (λ has.
     let here : slice_get x.sources.items c.args.k ≡ Some c.index-source.result.now = got x.sources.items c.args.k c.index-source.result.now (search rules) c.index-source.ensures in
     let s = c.index-source.result.now in
@@ -33,5 +33,6 @@ returns-clause-going c =
     subst (λ (xs : List Span). upto_of xs s.flow ≡ s.got) c.as_slice.ensures.value (ap (upto_of c.as_slice.result.now) flow ∙ sym c.upto_at-got.ensures ∙ (search rules)) in
     let free : marked x.frame.own.items s.flow ≡ false =
     ap (marked x.frame.own.items) flow ∙ subst (λ (xs : List Bool). marked xs c.args.i ≡ false) c.as_slice-2.ensures.value (sym c.is_marked.ensures ∙ c.if-is_marked.false) in
-    going_brought y c.take_at.new.board c.take_at.new.sources c.args.k s h.0 going here unclosed even free h.1 (subst (λ (f : FlatProgram). HasBrought f s.flow board s c.take_at.new.board h.0) flat_is h.2))
+    going_run (record x { board = c.take_at.new.board; sources = c.take_at.new.sources }) c.take_at.new.run
+    (going_brought y c.take_at.new.board c.take_at.new.sources c.args.k s h.0 going here unclosed even free h.1 (subst (λ (f : FlatProgram). HasBrought f s.flow board s c.take_at.new.board h.0) flat_is h.2)))
     c.take_at.ensures

@@ -3,7 +3,7 @@ use Rattle.std.specs.Vec.Iter.{into_iter_items, into_iter_len}
 use Rattle.luworld.specs.Needs.{sites_of}
 use Rattle.lurun_rows.specs.Making.{AllUnused}
 use Rattle.lurun_rows.specs.Rows.{AreRowsOf, AreBySite}
-use Rattle.lurun_rows.proofs.making.row_stations.Given as goal
+use Rattle.lurun_rows.proofs.making.stations_of.Given as goal
 
 abbrev pub invariant-loop-ends : goal.invariant-loop-ends
 invariant-loop-ends l = record {

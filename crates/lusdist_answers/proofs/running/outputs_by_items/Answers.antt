@@ -1,5 +1,5 @@
 use Rattle.lusdist_answers.proofs.Ran.{answer_is}
-use Rattle.lusdist_answers.proofs.running.outputs_of_run.Goals as goal
+use Rattle.lusdist_answers.proofs.running.outputs_by_items.Goals as goal
 
 pub returns-in-Some : goal.returns-in-Some
 returns-in-Some g c =

@@ -5,7 +5,7 @@ use Rattle.lublock_site.specs.RowStations.{RowAt}
 use Rattle.lurun_reports.proofs.Lists.{pushed_at}
 use Rattle.lurun_rows.specs.Making.{AreUnused}
 use Rattle.lurun_threads.proofs.Dealing.{after_next, after_push}
-use Rattle.lurun_rows.proofs.making.row_stations.Goals as goal
+use Rattle.lurun_rows.proofs.making.stations_of.Goals as goal
 
 pub loop-ends-preserved : goal.loop-ends-preserved
 loop-ends-preserved c =

@@ -1,0 +1,88 @@
+//! How the way of a plan is told.
+
+ghost use Rattle.std.specs.Prelude.{◌≡◌, string_bytes};
+ghost use Rattle.luplace_report.specs.Names.{Adds};
+ghost use Rattle.luplace_report.specs.Way.{further_names, variable_list, sent_text, parted_text, nil_text, way_text, way_row};
+
+use crate::names::variable_name;
+use luflow::Flat;
+use luways::Way;
+use std::alloc::AllocError;
+
+/// A comma and the name of a variable, for each of these.
+fn put_further(text: &mut String, flat: &Flat, variables: &[usize]) -> Result<(), AllocError>
+    ensures { Adds result text.old text.new (further_names flat.now variables.now) }
+{
+    for variable in variables {
+        let name = variable_name(flat, *variable);
+        write!(text, ", {name}")?;
+    }
+    Ok(())
+}
+
+/// The names of variables, with a comma between two.
+fn put_list(text: &mut String, flat: &Flat, variables: &[usize]) -> Result<(), AllocError>
+    ensures { Adds result text.old text.new (variable_list flat.now variables.now) }
+{
+    match variables {
+        [] => Ok(()),
+        [first, rest @ ..] => {
+            text.push_str(variable_name(flat, *first))?;
+            put_further(text, flat, rest)
+        }
+    }
+}
+
+/// What is said of one variable that is sent and may be nil, or of several.
+fn sent_text(variables: &[usize]) -> &'static str
+    ensures { result.now ≡ sent_text variables.now }
+{
+    match variables {
+        [_] => " may have no value at first, and is sent",
+        _ => " may have no value at first, and are sent",
+    }
+}
+
+/// That a cycle of these variables is parted.
+fn put_parted(text: &mut String, flat: &Flat, variables: &[usize]) -> Result<(), AllocError>
+    ensures { Adds result text.old text.new (parted_text flat.now variables.now) }
+{
+    text.push_str("item by item: a cycle of ")?;
+    put_list(text, flat, variables)?;
+    text.push_str(" is parted over sites")
+}
+
+fn put_sent(text: &mut String, variables: &[usize]) -> Result<(), AllocError>
+    ensures { Adds result text.old text.new (sent_text variables.now) }
+{
+    text.push_str(sent_text(variables))
+}
+
+/// That these variables are sent and may be nil.
+fn put_nil(text: &mut String, flat: &Flat, variables: &[usize]) -> Result<(), AllocError>
+    ensures { Adds result text.old text.new (nil_text flat.now variables.now) }
+{
+    text.push_str("item by item: ")?;
+    put_list(text, flat, variables)?;
+    put_sent(text, variables)
+}
+
+/// The way of a plan.
+fn put_text(text: &mut String, flat: &Flat, way: &Way) -> Result<(), AllocError>
+    ensures { Adds result text.old text.new (way_text flat.now way.now) }
+{
+    match way {
+        Way::Rows => text.push_str("by rows"),
+        Way::Parted(variables) => put_parted(text, flat, variables.as_slice()),
+        Way::Nil(variables) => put_nil(text, flat, variables.as_slice()),
+    }
+}
+
+/// The row of a plan's way.
+pub fn put_way(text: &mut String, flat: &Flat, way: &Way) -> Result<(), AllocError>
+    ensures { Adds result text.old text.new (way_row flat.now way.now) }
+{
+    text.push_str("run\t")?;
+    put_text(text, flat, way)?;
+    text.push('\n')
+}
