@@ -42,7 +42,7 @@ _lusdist() {
             esac
             ;;
         run)
-            flags='--main --explain --workers --progress --vcd --help'
+            flags='--main --explain --workers --progress --items --vcd --help'
             endings=(lus toml csv)
             case $before in
                 --main) COMPREPLY=(); return ;;
