@@ -11,7 +11,7 @@ use std::marker::Model;
 use std::rt::Clock;
 use std::sync::Wait;
 use std::thread;
-use std::time::Duration;
+use std::time::{Duration, Instant};
 
 /// A station as a worker goes round it, and the instant that the gate was told last.
 #[derive(Drop)]
@@ -133,20 +133,42 @@ fn go_round<G: Gate>(hand: &mut Hand, gate: &G) -> bool
     moved
 }
 
-/// So many rounds in a row that moved nothing end with a yield, and those after them with a short sleep.
-const YIELDS: u32 = 10;
+/// A worker sleeps once rounds in a row that moved nothing have cost so much. A round ends with a yield, which costs 1, or where somebody
+/// else had the processor meanwhile, [`SLOW`].
+const PATIENCE: u32 = 1000;
+
+/// What a yield costs in which somebody else had the processor.
+const SLOW: u32 = 100;
+
+/// So many microseconds of a yield tell that nobody else wanted the processor.
+const AT_ONCE: u32 = 5;
 
 /// How long the sleep is, in microseconds.
 const SLEEP: u64 = 10;
 
-/// Rests after a round that moved nothing, and counts it.
+/// Lets others have the processor. Whether it came back at once.
+fn yields_at_once<R: Clock>(rt: &R) -> bool {
+    let before = Instant::now(rt);
+    thread::yield_now();
+    let Ok(before) = before else {
+        return false;
+    };
+    match before.elapsed(rt) {
+        Ok(span) => span.as_secs() == 0 && span.subsec_micros() < AT_ONCE,
+        Err(_) => false,
+    }
+}
+
+/// Rests after a round that moved nothing, and adds what that costs.
 fn rest<R: Clock>(rt: &R, idle: u32) -> u32 {
-    if idle < YIELDS {
-        thread::yield_now();
+    if idle >= PATIENCE {
+        thread::sleep(rt, Duration::from_micros(SLEEP));
+        return idle;
+    }
+    if yields_at_once(rt) {
         return idle + 1;
     }
-    thread::sleep(rt, Duration::from_micros(SLEEP));
-    idle
+    idle + SLOW
 }
 
 /// Goes round the seats until all stations are over.
