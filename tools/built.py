@@ -3,7 +3,7 @@ import os, sys
 
 TOP = os.path.dirname(os.path.dirname(os.path.realpath(__file__)))
 LUSDIST = TOP + '/crates/lusdist/out/lusdist'
-ROWS = TOP + '/crates/lusdist_rows/out/lusdist_rows'
+ROWS = TOP + '/crates/test_transcript/out/test_transcript'
 MADE_BY = {LUSDIST: 'rt run -- help', ROWS: 'rt run'}
 
 def program(path, usual=LUSDIST):

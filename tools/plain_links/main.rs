@@ -1,4 +1,4 @@
-//! What `lusdist_rows` measures, in plain Rust, over `std::sync::mpsc::sync_channel`: plain_links CAPACITY RUNS.
+//! What `test_transcript` measures, in plain Rust, over `std::sync::mpsc::sync_channel`: plain_links CAPACITY RUNS.
 //!
 //!     rustc -O tools/plain_links/main.rs -o plain_links
 

@@ -6,10 +6,10 @@ use Rattle.std.proofs.lemmas.Bool.{cases_lt, cases_eq}
 use Rattle.std.proofs.lemmas.Option.{slice_get-get_or, slice_get_past}
 use Rattle.luflow.specs.declared.form.Flow.{Flow}
 use Rattle.luflow.specs.Program.{FlatProgram, flow_at}
-use Rattle.lublock_rows.specs.Rows.{word_in}
-use Rattle.lublock_forms.specs.declared.span.Span.{Span}
-use Rattle.lublock_forms.specs.Machine.{IsConstant, ticks_there, upto_there, was_there, known_there, taken_there, ticks_of, upto_of, was_of, known_of, taken_of, row_of, row_there}
-use Rattle.lublock_forms.proofs.Steps.{get_other, get_same}
+use Rattle.lublock_kernels.specs.Rows.{word_in}
+use Rattle.lublock_kernels.specs.declared.span.Span.{Span}
+use Rattle.lublock_kernels.specs.Machine.{IsConstant, ticks_there, upto_there, was_there, known_there, taken_there, ticks_of, upto_of, was_of, known_of, taken_of, row_of, row_there}
+use Rattle.lublock_kernels.proofs.Steps.{get_other, get_same}
 
 -- the span of a flow as it is when the next block begins
 pub record Renewed (flat : FlatProgram) (old new : List Span) (r : ℕ) : Type 0 where

@@ -6,15 +6,15 @@ use Rattle.luflow.specs.declared.data.Datum.TheVariants.{Nil}
 use Rattle.luflow.specs.Program.{FlatProgram, Table}
 use Rattle.luflow.specs.Streams.{Streams, Broken}
 use Rattle.luflow.proofs.Solutions.{some_at}
-use Rattle.lublock_forms.specs.declared.span.Span.{Span}
+use Rattle.lublock_kernels.specs.declared.span.Span.{Span}
 use Rattle.lublock.specs.declared.board.Board.{Board}
 use Rattle.luflow.specs.declared.form.Form.{Form}
 use Rattle.luflow.specs.Solution.{IsSolution}
 use Rattle.luflow.specs.Sound.{IsFit}
-use Rattle.lublock_forms.specs.Blocks.{Holds, IsRight, IsSolved, SolvesAt, datum_at}
+use Rattle.lublock_kernels.specs.Blocks.{Holds, IsRight, IsSolved, SolvesAt, datum_at}
 use Rattle.lublock.specs.Boards.{StandsOn, IsAfter}
-use Rattle.lublock_forms.specs.Parts.{whole}
-use Rattle.lublock_forms.specs.Machine.{block_of, upto_of, known_of, was_of, IsDone}
+use Rattle.lublock_kernels.specs.Parts.{whole}
+use Rattle.lublock_kernels.specs.Machine.{block_of, upto_of, known_of, was_of, IsDone}
 use Rattle.lublock.specs.Shown.{Column, AllNear, AreKept, IsReady, IsRightBlock, StandsAt, StaysNear}
 use Rattle.lublock.proofs.Showing.{empty_near, kept_near}
 

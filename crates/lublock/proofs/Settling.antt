@@ -3,20 +3,20 @@ use Rattle.std.proofs.Common.{◌≡◌, ◌≢◌, ℕ, suc, ◌+◌, ◌<◌, 
 use Rattle.std.specs.Prelude.{slice_get, Vec}
 use Rattle.std.specs.declared.alloc.Global.{Global}
 use Rattle.std.proofs.lemmas.Option.{slice_get_within}
-use Rattle.lublock_rows.specs.Rows.{word_in}
+use Rattle.lublock_kernels.specs.Rows.{word_in}
 use Rattle.luflow.specs.declared.data.Datum.{Datum}
 use Rattle.luflow.specs.declared.form.Form.{Form}
 use Rattle.luflow.specs.declared.form.Form.TheVariants.{Input, Constant, Copied, Unary, Binary, If, Pre, Arrow, When, Current, Merge}
 use Rattle.luflow.specs.declared.form.Flow.{Flow}
 use Rattle.luflow.specs.Program.{FlatProgram, Table, flow_at, column_of}
 use Rattle.luflow.specs.Streams.{Streams}
-use Rattle.lublock_forms.specs.declared.span.Span.{Span}
-use Rattle.lublock_forms.specs.Blocks.{Block, datum_at}
-use Rattle.lublock_forms.specs.Parts.{Part}
-use Rattle.lublock_forms.specs.Wholes.{IsWholeAt}
-use Rattle.lublock_forms.specs.Machine.{ticks_there, upto_there, was_there, known_there, supposed_there, ticks_of, upto_of, was_of, known_of, supposed_of, block_of, row_of, Stands, Grows, IsDone, IsClosed, Writes, WritesForm}
-use Rattle.lublock_forms.proofs.Steps.{get_other, get_same, same_place}
-use Rattle.lublock_forms.proofs.Frames.{stands_more}
+use Rattle.lublock_kernels.specs.declared.span.Span.{Span}
+use Rattle.lublock_kernels.specs.Blocks.{Block, datum_at}
+use Rattle.lublock_kernels.specs.Parts.{Part}
+use Rattle.lublock_kernels.specs.Wholes.{IsWholeAt}
+use Rattle.lublock_kernels.specs.Machine.{ticks_there, upto_there, was_there, known_there, supposed_there, ticks_of, upto_of, was_of, known_of, supposed_of, block_of, row_of, Stands, Grows, IsDone, IsClosed, Writes, WritesForm}
+use Rattle.lublock_kernels.proofs.Steps.{get_other, get_same, same_place}
+use Rattle.lublock_kernels.proofs.Frames.{stands_more}
 use Rattle.lublock.specs.Boards.{IsSettled, IsGiven, KeepsSettled, ReadsSame}
 
 -- a changed span, of a flow that is settled then if it was

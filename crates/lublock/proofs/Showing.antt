@@ -22,11 +22,11 @@ use Rattle.luflow.proofs.Solutions.{all_at}
 use Rattle.luflow.proofs.TidyStreams.{tidy}
 use Rattle.lueval_lines.specs.Frames.{has_value}
 use Rattle.lueval_lines.proofs.Spans.{slice_get_front, slice_get_last}
-use Rattle.lublock_forms.specs.Blocks.{datum_at, Holds, once, once_true, since}
-use Rattle.lublock_rows.specs.Rows.{word_in}
-use Rattle.lublock_forms.specs.Machine.{row_of}
+use Rattle.lublock_kernels.specs.Blocks.{datum_at, Holds, once, once_true, since}
+use Rattle.lublock_kernels.specs.Rows.{word_in}
+use Rattle.lublock_kernels.specs.Machine.{row_of}
 use Rattle.lublock.specs.Shown.{Column, IsAdded, present_at, status_in, seen_in, slow_at, first_of, IsShown, IsNear, AreNear, AreKept, IsRightFlow, StaysNear, StaysNearIn}
-use Rattle.lublock_forms.proofs.Steps.{get_other, get_same, len_set, same_place}
+use Rattle.lublock_kernels.proofs.Steps.{get_other, get_same, len_set, same_place}
 use Rattle.lublock.specs.declared.board.Board.{Board}
 
 pub ok_weaker : {X E : Type 0} (P Q : X → Type 0) (r : Result X E) → ((x : X) → P x → Q x) → IfOk r P → IfOk r Q

@@ -18,10 +18,10 @@ use Rattle.luflow.specs.Solution.{IsSolution}
 use Rattle.luflow.specs.Sound.{IsFit}
 use Rattle.lueval_lines.specs.Frames.{has_value}
 use Rattle.lublock.specs.declared.board.Board.{Board}
-use Rattle.lublock_forms.specs.Blocks.{Begins, IsRight, IsRightAt, datum_at, once}
-use Rattle.lublock_forms.specs.Parts.{Part, knows, IsRightIn}
-use Rattle.lublock_rows.specs.Rows.{word_in}
-use Rattle.lublock_forms.specs.Machine.{block_of, row_of, upto_of, known_of}
+use Rattle.lublock_kernels.specs.Blocks.{Begins, IsRight, IsRightAt, datum_at, once}
+use Rattle.lublock_kernels.specs.Parts.{Part, knows, IsRightIn}
+use Rattle.lublock_kernels.specs.Rows.{word_in}
+use Rattle.lublock_kernels.specs.Machine.{block_of, row_of, upto_of, known_of}
 
 abbrev pub Column : Type 0
 Column = Vec Status Global

@@ -5,14 +5,14 @@ ghost use Rattle.luflow.specs.Streams.{Streams};
 ghost use Rattle.luflow.specs.Program.{FlatProgram, Table, flows_of};
 ghost use Rattle.luflow.specs.Solution.{IsSolution};
 ghost use Rattle.luflow.specs.Sound.{IsFit};
-ghost use Rattle.lublock_forms.specs.Blocks.{IsRight, IsSolved};
-ghost use Rattle.lublock_forms.specs.Parts.{whole};
+ghost use Rattle.lublock_kernels.specs.Blocks.{IsRight, IsSolved};
+ghost use Rattle.lublock_kernels.specs.Parts.{whole};
 ghost use Rattle.lublock.specs.Boards.{StandsOn, StandsStill};
-ghost use Rattle.lublock_forms.specs.Machine.{IsWhole, block_of};
+ghost use Rattle.lublock_kernels.specs.Machine.{IsWhole, block_of};
 
 use crate::board::Board;
 use crate::closing::closes;
-use lublock_forms::span::Span;
+use lublock_kernels::span::Span;
 use lublock_plan::{Back, Cycle, Pace, Plan, Step};
 use luflow::{Flat, Inputs};
 use std::alloc::Global;

@@ -1,10 +1,10 @@
 //! Whether what was supposed of a `pre` in a block is what its operand had a tick before.
 
 ghost use Rattle.std.specs.Prelude.{◌≡◌, ◌<◌, ℕ, suc, true};
-ghost use Rattle.lublock_rows.specs.Rows.{word_in};
-ghost use Rattle.lublock_forms.specs.Machine.{AllClose, ClosesAt, IsClosed, row_of};
+ghost use Rattle.lublock_kernels.specs.Rows.{word_in};
+ghost use Rattle.lublock_kernels.specs.Machine.{AllClose, ClosesAt, IsClosed, row_of};
 
-use lublock_forms::span::Span;
+use lublock_kernels::span::Span;
 use luflow::{Flat, Form};
 
 /// The row of a flow.

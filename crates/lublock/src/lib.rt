@@ -8,7 +8,7 @@
 //!   a flow are found.
 //! - `show`, `told`, `run`: statuses at a block's instants; columns of them; block after block.
 //!
-//! The words of one flow are those of `lublock_forms`.
+//! The words of one flow are those of `lublock_kernels`.
 #![tactic(auto)]
 
 mod block;

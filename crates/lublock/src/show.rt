@@ -3,15 +3,15 @@
 ghost use Rattle.std.specs.Prelude.{◌≡◌, ◌≤◌, ◌<◌, ◌+◌, ◌++◌, ◌∷◌, [], length, false, IfOk, IfSome, Some, slice_get, if◌then◌else◌};
 ghost use Rattle.luflow.specs.declared.data.Status.{Status};
 ghost use Rattle.luflow.specs.Streams.{is_value};
-ghost use Rattle.lublock_forms.specs.Machine.{row_of};
+ghost use Rattle.lublock_kernels.specs.Machine.{row_of};
 ghost use Rattle.lueval_lines.specs.Frames.{has_value};
-ghost use Rattle.lublock_forms.specs.Blocks.{datum_at};
+ghost use Rattle.lublock_kernels.specs.Blocks.{datum_at};
 ghost use Rattle.luflow.specs.Variables.{is_output};
 ghost use Rattle.lublock.specs.Shown.{IsAdded, IsShown, StaysNear, first_of, present_at, slow_at};
 
 use crate::board::Board;
-use lublock_forms::forms::flow_of;
-use lublock_rows::rows::at;
+use lublock_kernels::forms::flow_of;
+use lublock_kernels::rows::at;
 use luflow::{Clock, Datum, Flat, Role, Status};
 use lutree::Kind;
 use std::alloc::{AllocError, Global};

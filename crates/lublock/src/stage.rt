@@ -4,14 +4,14 @@ ghost use Rattle.std.specs.Prelude.{◌≡◌, ◌≤◌, ℕ, false, true, leng
 ghost use Rattle.luflow.specs.Program.{Table, flow_at};
 ghost use Rattle.luflow.specs.declared.form.Flow.{Flow};
 ghost use Rattle.luflow.specs.declared.form.Form.{Form};
-ghost use Rattle.lublock_forms.specs.Machine.{IsClosed, upto_of};
-ghost use Rattle.lublock_forms.specs.Wholes.{IsWholeAt};
+ghost use Rattle.lublock_kernels.specs.Machine.{IsClosed, upto_of};
+ghost use Rattle.lublock_kernels.specs.Wholes.{IsWholeAt};
 ghost use Rattle.lublock.specs.Boards.{IsSettled, StandsStill};
 
 use crate::board::Board;
 use crate::closing::form_closes;
-use lublock_forms::forms::upto_at;
-use lublock_forms::span::Span;
+use lublock_kernels::forms::upto_at;
+use lublock_kernels::span::Span;
 use luflow::{Flat, Form};
 
 /// Whether a flow has all its words.

@@ -11,12 +11,12 @@ use Rattle.luflow.specs.Messages.{presents}
 use Rattle.luflow.proofs.Solutions.{some_at}
 use Rattle.luworld.specs.Runs.{Run, streams_of}
 use Rattle.lulink.specs.Views.{SenderView, ReceiverView}
-use Rattle.lublock_forms.specs.Blocks.{Block, SolvesAt, datum_at}
-use Rattle.lublock_forms.specs.Parts.{Part, IsPart, IsRightIn, IsSolvedIn, GoesOut, knows}
-use Rattle.lublock_forms.specs.Machine.{block_of, ticks_of, upto_of, known_of, supposed_of, taken_of, IsDone, ClosesAt}
-use Rattle.lublock_forms.specs.Wholes.{IsWholeAt}
-use Rattle.lublock_forms.proofs.Rights.{goes_out, known_own}
-use Rattle.lublock_forms.proofs.Wholes.{whole_right_in, whole_solved_in, next_begins}
+use Rattle.lublock_kernels.specs.Blocks.{Block, SolvesAt, datum_at}
+use Rattle.lublock_kernels.specs.Parts.{Part, IsPart, IsRightIn, IsSolvedIn, GoesOut, knows}
+use Rattle.lublock_kernels.specs.Machine.{block_of, ticks_of, upto_of, known_of, supposed_of, taken_of, IsDone, ClosesAt}
+use Rattle.lublock_kernels.specs.Wholes.{IsWholeAt}
+use Rattle.lublock_kernels.proofs.Rights.{goes_out, known_own}
+use Rattle.lublock_kernels.proofs.Wholes.{whole_right_in, whole_solved_in, next_begins}
 use Rattle.lublock.specs.declared.board.Board.{Board}
 use Rattle.lublock.specs.Boards.{StandsOn, IsAfter}
 use Rattle.lublock.specs.Shown.{Column, AreNear}

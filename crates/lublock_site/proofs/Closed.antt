@@ -7,8 +7,8 @@ use Rattle.luflow.specs.declared.form.Form.{Form}
 use Rattle.luflow.specs.declared.form.Flow.{Flow}
 use Rattle.luflow.specs.declared.form.Clock.{Clock}
 use Rattle.luflow.specs.Program.{FlatProgram, flow_at, places, clock_reads}
-use Rattle.lublock_forms.specs.declared.span.Span.{Span}
-use Rattle.lublock_forms.specs.Parts.{Part, IsPart, knows}
+use Rattle.lublock_kernels.specs.declared.span.Span.{Span}
+use Rattle.lublock_kernels.specs.Parts.{Part, IsPart, knows}
 use Rattle.lublock.specs.Boards.{IsSettled, KeepsSettled}
 use Rattle.lublock_site.specs.Marks.{marked, marked_part, PlacesKnown, ClockKnown}
 use Rattle.lublock_site.specs.Sure.{sure_part, AreSure, IsMarkedMore, ReadsSure}

@@ -10,7 +10,7 @@ use Rattle.lublock_plan.proofs.cycle.Cycle.TheSendSync as cycle
 use Rattle.std.proofs.option.Option.TheSendSync as option
 use Rattle.luflow.proofs.values.Values.TheSendSync as values
 use Rattle.luflow.proofs.table.Inputs.TheSendSync as inputs
-use Rattle.lublock_forms.proofs.span.Span.TheSendSync as span
+use Rattle.lublock_kernels.proofs.span.Span.TheSendSync as span
 use Rattle.lublock_plan.proofs.site.SiteStep.TheSendSync as step
 use Rattle.lublock.specs.contracts.board.Board as Board
 use Rattle.lublock_site.specs.contracts.site.Frame as Frame

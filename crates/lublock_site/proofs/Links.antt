@@ -12,7 +12,7 @@ use Rattle.luflow.proofs.Solutions.{some_at}
 use Rattle.luworld.specs.declared.link.Link.{Link}
 use Rattle.luworld.specs.Needs.{Distribution}
 use Rattle.luworld.specs.Runs.{Run, Fits, flow_of_link, carried, messages_of, link_list, streams_of}
-use Rattle.lublock_forms.specs.Parts.{IsPart}
+use Rattle.lublock_kernels.specs.Parts.{IsPart}
 use Rattle.lublock_site.specs.Sites.{part_of, value_message, CarriesFlow}
 
 pub site_part : (plan : Distribution) (s : ℕ) → Fits plan → IsPart plan.flat (part_of plan s)

@@ -10,7 +10,7 @@ use Rattle.luflow.specs.declared.form.Form.TheVariants.{Input, Constant, Copied,
 use Rattle.luflow.specs.declared.form.Flow.{Flow}
 use Rattle.luflow.specs.Program.{FlatProgram, flow_at, places, clock_reads}
 use Rattle.luflow.proofs.Solutions.{some_at}
-use Rattle.lublock_forms.specs.Parts.{Part, IsPart, knows}
+use Rattle.lublock_kernels.specs.Parts.{Part, IsPart, knows}
 use Rattle.lublock_site.specs.Marks.{PlacesKnown, ClockKnown}
 
 all_none : (P : ℕ → Type 0) → All P []

@@ -13,13 +13,13 @@ use Rattle.luflow.specs.Sound.{IsFit}
 use Rattle.luflow.specs.Flats.{IsFlat}
 use Rattle.luflow.proofs.Solutions.{IsSolution-solution, some_at}
 use Rattle.luworld.specs.Runs.{Run, IsRun, streams_of}
-use Rattle.lublock_forms.specs.declared.span.Span.{Span}
-use Rattle.lublock_forms.specs.Parts.{Part, IsPart, IsRightIn, GoesOut, knows}
-use Rattle.lublock_forms.specs.Wholes.{IsWholeAt}
-use Rattle.lublock_forms.specs.Machine.{block_of, ticks_of, upto_of, known_of, supposed_of, Stands, ClosesAt}
-use Rattle.lublock_forms.proofs.Rights.{goes_out}
-use Rattle.lublock_forms.proofs.Wholes.{whole_right_in, sub_stands}
-use Rattle.lublock_forms.proofs.Steps.{get_other, get_same, same_place}
+use Rattle.lublock_kernels.specs.declared.span.Span.{Span}
+use Rattle.lublock_kernels.specs.Parts.{Part, IsPart, IsRightIn, GoesOut, knows}
+use Rattle.lublock_kernels.specs.Wholes.{IsWholeAt}
+use Rattle.lublock_kernels.specs.Machine.{block_of, ticks_of, upto_of, known_of, supposed_of, Stands, ClosesAt}
+use Rattle.lublock_kernels.proofs.Rights.{goes_out}
+use Rattle.lublock_kernels.proofs.Wholes.{whole_right_in, sub_stands}
+use Rattle.lublock_kernels.proofs.Steps.{get_other, get_same, same_place}
 use Rattle.lublock.specs.declared.board.Board.{Board}
 use Rattle.lublock.specs.Boards.{StandsOn, StandsStill, IsSettled}
 use Rattle.lublock_plan.specs.declared.cycle.Cycle.{Cycle}

@@ -14,9 +14,9 @@ use Rattle.luworld.specs.Runs.{Run, carried, streams_of, link_list}
 use Rattle.luworld.proofs.Messages.{close_at}
 use Rattle.lulink.specs.Lists.{list_of}
 use Rattle.lulink.specs.Views.{SenderView, ReceiverView, HasTakenAll, HasTakenNothing, HasPutAll, HasPutNothing, AreNextToTake, AreNextToPut, IsNextToPut}
-use Rattle.lublock_forms.specs.declared.span.Span.{Span}
-use Rattle.lublock_forms.specs.Parts.{GoesOut, IsNeverNil, message_at}
-use Rattle.lublock_forms.specs.Machine.{block_of, upto_of, ticks_of}
+use Rattle.lublock_kernels.specs.declared.span.Span.{Span}
+use Rattle.lublock_kernels.specs.Parts.{GoesOut, IsNeverNil, message_at}
+use Rattle.lublock_kernels.specs.Machine.{block_of, upto_of, ticks_of}
 use Rattle.lublock.specs.declared.board.Board.{Board}
 use Rattle.lublock_site.specs.declared.tried.Tried.{Tried}
 use Rattle.lublock_site.specs.declared.tried.Tried.TheVariants.{Done, Blocked, Over}

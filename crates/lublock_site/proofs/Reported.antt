@@ -8,7 +8,7 @@ use Rattle.luflow.specs.Messages.{marks}
 use Rattle.luworld.specs.Needs.{sites_of, stands}
 use Rattle.luworld.specs.Runs.{Run, IsRun, streams_of}
 use Rattle.lublock.specs.Shown.{Column, AreNear}
-use Rattle.lublock_forms.proofs.Rights.{known_own}
+use Rattle.lublock_kernels.proofs.Rights.{known_own}
 use Rattle.lublock_site.specs.Going.{IsGoing, IsSameRun, part_in}
 use Rattle.lublock_site.specs.RowStations.{RowAt, IsRowAt, IsTold, output_told, outputs_told}
 use Rattle.lublock_site.specs.Telling.{AreToldOf}

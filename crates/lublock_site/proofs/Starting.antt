@@ -7,8 +7,8 @@ use Rattle.luflow.specs.Streams.{Streams}
 use Rattle.luflow.proofs.Solutions.{all_at}
 use Rattle.luworld.specs.Runs.{Run, streams_of}
 use Rattle.lulink.specs.Views.{SenderView}
-use Rattle.lublock_forms.specs.declared.span.Span.{Span}
-use Rattle.lublock_forms.specs.Machine.{taken_of, upto_of, was_of, known_of}
+use Rattle.lublock_kernels.specs.declared.span.Span.{Span}
+use Rattle.lublock_kernels.specs.Machine.{taken_of, upto_of, was_of, known_of}
 use Rattle.lublock.specs.declared.board.Board.{Board}
 use Rattle.lublock.specs.Boards.{StandsOn}
 use Rattle.lublock.specs.Shown.{Column}

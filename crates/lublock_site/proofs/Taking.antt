@@ -10,12 +10,12 @@ use Rattle.luflow.specs.declared.form.Flow.{Flow}
 use Rattle.luflow.specs.Program.{FlatProgram, Table, flow_at}
 use Rattle.luflow.specs.Streams.{Streams}
 use Rattle.luflow.specs.Messages.{presents}
-use Rattle.lublock_forms.specs.declared.span.Span.{Span}
-use Rattle.lublock_forms.specs.Blocks.{Holds, datum_at, kind_at}
-use Rattle.lublock_forms.specs.Parts.{Part, message_at}
-use Rattle.lublock_rows.specs.Rows.{Keeps, word_in}
-use Rattle.lublock_forms.specs.Machine.{row_of, row_there, upto_there, upto_of, ticks_of, known_of, supposed_of, block_of, Stands, AreMarked}
-use Rattle.lublock_forms.proofs.Steps.{came_more, get_same, len_set, marked_set}
+use Rattle.lublock_kernels.specs.declared.span.Span.{Span}
+use Rattle.lublock_kernels.specs.Blocks.{Holds, datum_at, kind_at}
+use Rattle.lublock_kernels.specs.Parts.{Part, message_at}
+use Rattle.lublock_kernels.specs.Rows.{Keeps, word_in}
+use Rattle.lublock_kernels.specs.Machine.{row_of, row_there, upto_there, upto_of, ticks_of, known_of, supposed_of, block_of, Stands, AreMarked}
+use Rattle.lublock_kernels.proofs.Steps.{came_more, get_same, len_set, marked_set}
 use Rattle.lublock.specs.declared.board.Board.{Board}
 use Rattle.lublock.specs.Boards.{StandsOn, KeepsSettled}
 use Rattle.lublock.proofs.Settling.{settled_further}

@@ -12,7 +12,7 @@ use Rattle.luflow.specs.Solution.{IsSolution}
 use Rattle.luflow.specs.Sound.{IsFit}
 use Rattle.luflow.specs.Flats.{IsFlat}
 use Rattle.luflow.specs.Variables.{is_output}
-use Rattle.lublock_forms.proofs.Steps.{get_other, get_same, same_place}
+use Rattle.lublock_kernels.proofs.Steps.{get_other, get_same, same_place}
 use Rattle.lublock.specs.Shown.{Column, AreNear, IsNear}
 use Rattle.lublock.proofs.Answered.{told_column}
 use Rattle.lublock_site.specs.Telling.{AreLess, AreToldOf, IsTakenOut}

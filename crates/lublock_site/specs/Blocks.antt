@@ -1,8 +1,8 @@
 -- The end of a site's block: what is looked at, and what begins anew.
 use Rattle.std.specs.Prelude.{◌≡◌, ℕ, ◌<◌, Bool, true, List, Some, slice_get}
-use Rattle.lublock_forms.specs.declared.span.Span.{Span}
-use Rattle.lublock_forms.specs.Parts.{knows}
-use Rattle.lublock_forms.specs.Machine.{ticks_of}
+use Rattle.lublock_kernels.specs.declared.span.Span.{Span}
+use Rattle.lublock_kernels.specs.Parts.{knows}
+use Rattle.lublock_kernels.specs.Machine.{ticks_of}
 use Rattle.lublock_site.specs.Marks.{marked, marked_part}
 use Rattle.lublock_site.specs.declared.sources.Source.{Source}
 use Rattle.lublock_site.specs.declared.outlets.Outlet.{Outlet}

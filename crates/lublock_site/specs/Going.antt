@@ -7,9 +7,9 @@ use Rattle.luflow.specs.Program.{FlatProgram}
 use Rattle.luflow.specs.Streams.{Streams, Broken}
 use Rattle.luworld.specs.Needs.{sites_of, stands}
 use Rattle.luworld.specs.Runs.{Run, IsRun, streams_of}
-use Rattle.lublock_forms.specs.declared.span.Span.{Span}
-use Rattle.lublock_forms.specs.Parts.{Part, IsPart, knows}
-use Rattle.lublock_forms.specs.Machine.{ticks_of}
+use Rattle.lublock_kernels.specs.declared.span.Span.{Span}
+use Rattle.lublock_kernels.specs.Parts.{Part, IsPart, knows}
+use Rattle.lublock_kernels.specs.Machine.{ticks_of}
 use Rattle.lublock.specs.declared.board.Board.{Board}
 use Rattle.lublock.specs.Boards.{StandsOn}
 use Rattle.lublock.specs.Shown.{Column, AreNear}

@@ -4,8 +4,8 @@ use Rattle.luflow.specs.Program.{FlatProgram, flows_of}
 use Rattle.luflow.specs.Variables.{is_output_of}
 use Rattle.luworld.specs.Needs.{Distribution, stands}
 use Rattle.luworld.specs.Runs.{Run, carried}
-use Rattle.lublock_forms.specs.declared.span.Span.{Span}
-use Rattle.lublock_forms.specs.Parts.{IsPart, IsNeverNil, knows}
+use Rattle.lublock_kernels.specs.declared.span.Span.{Span}
+use Rattle.lublock_kernels.specs.Parts.{IsPart, IsNeverNil, knows}
 use Rattle.lublock.specs.declared.board.Board.{Board}
 use Rattle.lublock_plan.specs.Classes.{class_in}
 use Rattle.lublock_site.specs.Marks.{marked, marked_part}

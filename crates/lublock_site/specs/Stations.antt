@@ -9,9 +9,9 @@ use Rattle.luflow.specs.declared.data.Datum.{Datum}
 use Rattle.luflow.specs.declared.message.Msg.{Msg}
 use Rattle.luworld.specs.Runs.{Run, carried, streams_of}
 use Rattle.lulink.specs.Views.{SenderView, ReceiverView}
-use Rattle.lublock_forms.specs.declared.span.Span.{Span}
-use Rattle.lublock_forms.specs.Parts.{Part, IsNeverNil, GoesOut}
-use Rattle.lublock_forms.specs.Machine.{block_of, upto_of}
+use Rattle.lublock_kernels.specs.declared.span.Span.{Span}
+use Rattle.lublock_kernels.specs.Parts.{Part, IsNeverNil, GoesOut}
+use Rattle.lublock_kernels.specs.Machine.{block_of, upto_of}
 use Rattle.lublock.specs.declared.board.Board.{Board}
 use Rattle.lublock.specs.Boards.{StandsOn, KeepsSettled}
 use Rattle.lublock_site.specs.Sites.{value_message}

@@ -8,9 +8,9 @@ use Rattle.luflow.specs.declared.form.Flow.{Flow}
 use Rattle.luflow.specs.Program.{FlatProgram, Table, flow_at}
 use Rattle.luflow.specs.Streams.{Streams}
 use Rattle.luflow.specs.Messages.{presents}
-use Rattle.lublock_forms.specs.declared.span.Span.{Span}
-use Rattle.lublock_forms.specs.Parts.{Part, IsNeverNil, GoesOut, message_at}
-use Rattle.lublock_forms.specs.Machine.{block_of, upto_of, was_of}
+use Rattle.lublock_kernels.specs.declared.span.Span.{Span}
+use Rattle.lublock_kernels.specs.Parts.{Part, IsNeverNil, GoesOut, message_at}
+use Rattle.lublock_kernels.specs.Machine.{block_of, upto_of, was_of}
 use Rattle.lublock.specs.declared.board.Board.{Board}
 use Rattle.lublock.specs.Boards.{StandsOn, KeepsSettled}
 

@@ -12,7 +12,7 @@ use crate::site::{INSTANTS, RowSite, ticks_at};
 use crate::sources::Source;
 use crate::tried::Tried;
 use lublock::{clear_others, show_part};
-use lublock_forms::span::Span;
+use lublock_kernels::span::Span;
 
 /// Whether of so many flows all that are computed or taken here are sure.
 fn are_all_sure(own: &[bool], taken: &[bool], sure: &[bool], count: usize) -> bool

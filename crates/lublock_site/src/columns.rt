@@ -9,7 +9,7 @@ ghost use Rattle.lublock.specs.Boards.{IsGiven, StandsStill};
 ghost use Rattle.lublock_site.specs.Given.{AreGiven, IsNoInput};
 
 use lublock::Board;
-use lublock_forms::span::Span;
+use lublock_kernels::span::Span;
 use luflow::{Flat, Form, Inputs, Values};
 use std::alloc::Global;
 

@@ -2,8 +2,8 @@
 
 ghost use Rattle.std.specs.Prelude.{◌≡◌, IfOk};
 
+use lubase::{Name, Row};
 use luflow::{Enum, Flat, Flow, Variable};
-use lulist::{Name, Row};
 use std::alloc::{AllocError, Global};
 
 fn names_copied(alloc: Global, names: &[Name]) -> Result<Vec<Name>, AllocError>

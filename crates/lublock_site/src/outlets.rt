@@ -1,13 +1,13 @@
 //! The sending ends of a site in rows: rows go out as messages. Nothing here waits.
 
 ghost use Rattle.std.specs.Prelude.{◌≡◌, ◌<◌, ◌≤◌, ◌+◌, true, false, length, IfSome};
-ghost use Rattle.lublock_forms.specs.Machine.{ticks_of};
+ghost use Rattle.lublock_kernels.specs.Machine.{ticks_of};
 ghost use Rattle.lublock_site.specs.Tries.{IfGoes};
 ghost use Rattle.lublock_site.specs.Stations.{AreMessagesOut, HasSent, IsMessageOut, MayClose, MaySend};
 
 use crate::steps::datum_out;
 use crate::tried::{Tried, done_if, run_len};
-use lublock_forms::span::Span;
+use lublock_kernels::span::Span;
 use luflow::{Body, Flat, Msg};
 use lulink::{Offer, Tx};
 

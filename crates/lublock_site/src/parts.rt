@@ -3,7 +3,7 @@
 ghost use Rattle.std.specs.Prelude.{◌≡◌, ℕ, true, Some, slice_get};
 ghost use Rattle.luflow.specs.Program.{flow_at};
 ghost use Rattle.luflow.specs.declared.form.Flow.{Flow};
-ghost use Rattle.lublock_forms.specs.Parts.{IsPart, knows};
+ghost use Rattle.lublock_kernels.specs.Parts.{IsPart, knows};
 ghost use Rattle.lublock_site.specs.Marks.{ClockKnown, PlacesKnown, marked, marked_part};
 
 use luflow::{Clock, Flat, Form};

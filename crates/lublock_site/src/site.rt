@@ -1,7 +1,7 @@
 //! A site in rows: what stays, where it stands, and its steps.
 
 ghost use Rattle.std.specs.Prelude.{◌≡◌, ◌<◌, ◌≤◌, ◌+◌, ℕ, true, false, length, List, Some, slice_get, slice_set};
-ghost use Rattle.lublock_forms.specs.Machine.{ticks_of};
+ghost use Rattle.lublock_kernels.specs.Machine.{ticks_of};
 ghost use Rattle.lublock_site.specs.Tries.{IfGoes};
 ghost use Rattle.lublock_site.specs.Going.{IsGoing, IsSameRun, HasBroughtAt, MaySendAt, HasSentAt};
 
@@ -12,8 +12,8 @@ use crate::sources::{Source, take_all};
 use crate::sure::admit;
 use crate::tried::Tried;
 use lublock::Board;
-use lublock_forms::forms::upto_at;
-use lublock_forms::span::Span;
+use lublock_kernels::forms::upto_at;
+use lublock_kernels::span::Span;
 use lublock_plan::{Cycle, SiteStep};
 use luflow::{Flat, Inputs, Msg, Status, Values};
 use luplace::Job;

@@ -10,7 +10,7 @@ ghost use Rattle.lublock_site.specs.Starts.{IsFirstBoard, first_span};
 use crate::parts::is_marked;
 use crate::start_marks::Marks;
 use lublock::{Board, empty_columns, is_output};
-use lublock_forms::span::Span;
+use lublock_kernels::span::Span;
 use luflow::{Flat, Status, Values};
 use luplace::{Job, Plan};
 use std::alloc::{AllocError, Global};

@@ -1,17 +1,17 @@
 //! From messages into rows, and from rows into messages.
 
 ghost use Rattle.std.specs.Prelude.{◌≡◌, ◌<◌, ◌+◌, ℕ, suc, length, false, true, IfSome};
-ghost use Rattle.lublock_rows.specs.Rows.{Keeps, word_in};
-ghost use Rattle.lublock_rows.specs.Words.{datum_at};
-ghost use Rattle.lublock_forms.specs.Blocks.{Holds};
-ghost use Rattle.lublock_forms.specs.Machine.{ticks_of};
+ghost use Rattle.lublock_kernels.specs.Rows.{Keeps, word_in};
+ghost use Rattle.lublock_kernels.specs.Words.{datum_at};
+ghost use Rattle.lublock_kernels.specs.Blocks.{Holds};
+ghost use Rattle.lublock_kernels.specs.Machine.{ticks_of};
 ghost use Rattle.lublock_site.specs.Steps.{HasTakenWord, IsMessageOf};
 
 use lublock::Board;
-use lublock_forms::forms::kind_at;
-use lublock_forms::span::Span;
-use lublock_rows::rows::{at, put};
-use lublock_rows::singles::word_for;
+use lublock_kernels::forms::kind_at;
+use lublock_kernels::rows::{at, put};
+use lublock_kernels::singles::word_for;
+use lublock_kernels::span::Span;
 use luflow::{Datum, Flat};
 use lutree::Kind;
 

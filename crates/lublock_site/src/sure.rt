@@ -4,7 +4,7 @@ ghost use Rattle.std.specs.Prelude.{◌≡◌, ◌⊎◌, ◌∷◌, [], ℕ, Li
 ghost use Rattle.luflow.specs.Program.{Table, flow_at};
 ghost use Rattle.luflow.specs.declared.form.Flow.{Flow};
 ghost use Rattle.lublock.specs.Boards.{IsSettled, StandsStill};
-ghost use Rattle.lublock_forms.specs.Parts.{IsPart};
+ghost use Rattle.lublock_kernels.specs.Parts.{IsPart};
 ghost use Rattle.lublock_site.specs.Marks.{marked, marked_part};
 ghost use Rattle.lublock_site.specs.Sure.{AreSure, IsMarkedMore, ReadsSure};
 

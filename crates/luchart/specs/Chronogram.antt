@@ -17,8 +17,8 @@ use Rattle.luflow.specs.declared.data.Status.{Status}
 use Rattle.luflow.specs.declared.data.Status.TheVariants.{Absent, Present}
 use Rattle.luflow.specs.declared.variable.Enum.{Enum}
 use Rattle.luflow.specs.Tables.{OutputColumn}
-use Rattle.lutab_writing.specs.Text.{datum_text}
-use Rattle.lutab_writing.specs.Outputs.{instants_of}
+use Rattle.lutab.specs.Text.{datum_text}
+use Rattle.lutab.specs.Outputs.{instants_of}
 use Rattle.luchart.specs.Pieces.{repeated, at_right, at_left, largest}
 use Rattle.luchart.specs.Signals.{Signal, signals_of, status_at}
 use Rattle.luchart.specs.declared.layout.Layout.{Layout}

@@ -29,8 +29,8 @@ use Rattle.luflow.specs.declared.data.Status.{Status}
 use Rattle.luflow.specs.declared.data.Status.TheVariants.{Absent, Present}
 use Rattle.luflow.specs.declared.variable.Enum.{Enum}
 use Rattle.luflow.specs.Tables.{OutputColumn}
-use Rattle.lutab_writing.specs.Text.{status_text}
-use Rattle.lutab_writing.specs.Outputs.{instants_of}
+use Rattle.lutab.specs.Text.{status_text}
+use Rattle.lutab.specs.Outputs.{instants_of}
 use Rattle.luchart.specs.Signals.{Signal, signals_of, status_at}
 
 -- VALUES

@@ -7,9 +7,9 @@ ghost use Rattle.luchart.specs.Chronogram.{mark_of, word_of, cell};
 
 use crate::pieces::{put_copies, put_right};
 use crate::signal::{Signal, status_at};
+use lubase::Name;
 use luflow::{Datum, Status};
-use lulist::Name;
-use lutab_writing::put_datum;
+use lutab::put_datum;
 use lutree::Kind;
 use std::alloc::AllocError;
 

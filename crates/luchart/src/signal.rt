@@ -3,12 +3,12 @@
 ghost use Rattle.std.specs.Prelude.{◌≡◌, IfOk, slice_get, unwrap_or};
 ghost use Rattle.lutree.specs.declared.program.Kind.TheVariants.{Int};
 ghost use Rattle.luflow.specs.Tables.{outputs_view};
-ghost use Rattle.lutab_writing.specs.Outputs.{instants_of};
+ghost use Rattle.lutab.specs.Outputs.{instants_of};
 ghost use Rattle.luchart.specs.Signals.{longest, signal_at, signal_view, signals_of, signals_view, status_at};
 
 use crate::pieces::larger;
+use lubase::Name;
 use luflow::{Datum, Enum, Status, names_of};
-use lulist::Name;
 use lutree::Kind;
 use std::alloc::{AllocError, Global};
 

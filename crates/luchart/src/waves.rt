@@ -7,9 +7,9 @@ ghost use Rattle.luchart.specs.Signals.{signal_view, signals_view};
 ghost use Rattle.luchart.specs.Dump.{all_changes, binary, change, changes, closing, code, declaration, declarations, dump, dump_text, header, moment, number, opening, same_datum, same_status, time, timed, times, truth, value, variable_type, word};
 
 use crate::signal::{Signal, instants_of, signals_of, status_at};
+use lubase::Name;
 use luflow::{Datum, Enum, Outputs, Status};
-use lulist::Name;
-use lutab_writing::put_datum;
+use lutab::put_datum;
 use lutree::Kind;
 use std::alloc::{AllocError, Global};
 use std::io::Write;

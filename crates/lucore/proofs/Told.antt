@@ -11,14 +11,14 @@ use Rattle.luflow.specs.Program.{FlatProgram, reads}
 use Rattle.luflow.specs.Rank.{IsRankOrder, Chain}
 use Rattle.luflow.proofs.Solutions.{some_at}
 use Rattle.lustat_rules.specs.Accepted.{IsAccepted}
-use Rattle.lucore_list.specs.Layout.{IsLaidOut}
-use Rattle.lucore_list.specs.Laws.{IsClosed}
-use Rattle.lucore_list.proofs.There.{flat_list_law}
-use Rattle.lucore_causality.proofs.ToSource.{owners_own}
-use Rattle.lucore_rank.specs.Rank.{AreClosed, IsLeastOnCycle}
-use Rattle.lucore_size.specs.Counted.{IsTooLong}
-use Rattle.lucore_inline.specs.declared.laying.Laid.{Laid}
-use Rattle.lucore_inline.specs.Listed.{IsListOf}
+use Rattle.lucore_laws.specs.Layout.{IsLaidOut}
+use Rattle.lucore_laws.specs.ListLaws.{IsClosed}
+use Rattle.lucore_laws.proofs.There.{flat_list_law}
+use Rattle.lucore_laws.proofs.ToSource.{owners_own}
+use Rattle.lucore_laws.specs.Rank.{AreClosed, IsLeastOnCycle}
+use Rattle.lucore_build.specs.Counted.{IsTooLong}
+use Rattle.lucore_build.specs.declared.laying.Laid.{Laid}
+use Rattle.lucore_build.specs.Listed.{IsListOf}
 use Rattle.lucore.specs.Result.{IsFlatOf, IsTooLarge, ReadsItself}
 use Rattle.lucore.proofs.Whole.{chain_inside, define_something, closed, rows_closed, whole}
 

@@ -19,16 +19,16 @@ use Rattle.luflow.proofs.Fitting.{as_many}
 use Rattle.lusource.specs.Agreement.{Agrees}
 use Rattle.lusource.proofs.Meanings.{one_meaning}
 use Rattle.lustat_rules.specs.Accepted.{Rule, IsAccepted}
-use Rattle.lucore_list.specs.Layout.{variables_as, IsLaidOut}
-use Rattle.lucore_list.specs.Laws.{DefineSomething, IsClosed, HasColumns}
-use Rattle.lucore_causality.specs.Laws.{HasCycle}
-use Rattle.lucore_causality.proofs.ToFlat.{to_flat}
-use Rattle.lucore_list.proofs.Closed as closing
-use Rattle.lucore_list.proofs.NodeFaults.{faults_told, faults_found}
-use Rattle.lucore_list.proofs.Whole as meaning
-use Rattle.lucore_sound.proofs.Flats as flats
-use Rattle.lucore_sound.proofs.Roles.{variable_of, inputs_are}
-use Rattle.lucore_rank.specs.Rank.{AreClosed}
+use Rattle.lucore_laws.specs.Layout.{variables_as, IsLaidOut}
+use Rattle.lucore_laws.specs.ListLaws.{DefineSomething, IsClosed, HasColumns}
+use Rattle.lucore_laws.specs.CausalityLaws.{HasCycle}
+use Rattle.lucore_laws.proofs.ToFlat.{to_flat}
+use Rattle.lucore_laws.proofs.Closed as closing
+use Rattle.lucore_laws.proofs.NodeFaults.{faults_told, faults_found}
+use Rattle.lucore_laws.proofs.Whole as meaning
+use Rattle.lucore_laws.proofs.Flats as flats
+use Rattle.lucore_laws.proofs.Roles.{variable_of, inputs_are}
+use Rattle.lucore_laws.specs.Rank.{AreClosed}
 use Rattle.lucore.specs.Result.{IsFlatOf}
 use Rattle.lucore.proofs.RankOrders.{is_ordered}
 

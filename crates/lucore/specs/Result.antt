@@ -11,16 +11,16 @@ use Rattle.luflow.specs.Faults.{IsFault}
 use Rattle.luflow.specs.Rank.{reads_of}
 use Rattle.luflow.specs.Flats.{IsFlat}
 use Rattle.luflow.specs.Tables.{Fits}
-use Rattle.lucore_rank.specs.Rank.{IsLeastOnCycle}
+use Rattle.lucore_laws.specs.Rank.{IsLeastOnCycle}
 use Rattle.lusource.specs.Source.{SourceStreams, IsSourceSolution}
 use Rattle.lusource.specs.Faults.{IsSourceFault}
 use Rattle.lusource.specs.Agreement.{Agrees, HasOneMeaning}
 use Rattle.lustat_rules.specs.Accepted.{IsAccepted}
-use Rattle.lucore_list.specs.Layout.{IsLaidOut}
-use Rattle.lucore_list.specs.Laws.{HasColumns}
-use Rattle.lucore_causality.specs.Reads.{Occurrence, Leads}
-use Rattle.lucore_causality.specs.Laws.{HasCycle}
-use Rattle.lucore_causality.specs.Owners as owners
+use Rattle.lucore_laws.specs.Layout.{IsLaidOut}
+use Rattle.lucore_laws.specs.ListLaws.{HasColumns}
+use Rattle.lucore_laws.specs.Reads.{Occurrence, Leads}
+use Rattle.lucore_laws.specs.CausalityLaws.{HasCycle}
+use Rattle.lucore_laws.specs.Owners as owners
 use Rattle.lucore.specs.declared.error.CoreError.{CoreError}
 use Rattle.lucore.specs.declared.error.CoreError.TheVariants.{TooLarge, Cycle, OutOfMemory}
 

@@ -1,6 +1,6 @@
 //! Why there is no flat program.
 
-use lulist::Name;
+use lubase::Name;
 use std::alloc::{AllocError, AllocFailed};
 use std::fmt;
 use thiserror::Error;

@@ -5,18 +5,17 @@ ghost use Rattle.std.specs.Option.{ForSome};
 ghost use Rattle.luflow.specs.declared.variable.Variable.{Variable};
 ghost use Rattle.luflow.specs.Program.{reads};
 ghost use Rattle.luflow.specs.Rank.{Chain, IsRankOrder};
-ghost use Rattle.lucore_rank.specs.Answer.{IfOrdered, IfCyclic};
-ghost use Rattle.lucore_rank.specs.Rank.{AreClosed, IsLeastOnCycle};
+ghost use Rattle.lucore_laws.specs.Answer.{IfOrdered, IfCyclic};
+ghost use Rattle.lucore_laws.specs.Rank.{AreClosed, IsLeastOnCycle};
 ghost use Rattle.lutree.specs.Tree.{program_view};
 ghost use Rattle.lucore.specs.Result.{IsFlatOf, Refuses};
 
 use crate::error::CoreError;
 use crate::reading::rows_in;
-use lucore_inline::lay_out;
-use lucore_rank::{Ranking, rank};
-use lucore_size::is_too_large;
+use lubase::{Name, Row};
+use lucore_build::{is_too_large, lay_out};
+use lucore_laws::{Ranking, rank};
 use luflow::{Flat, Flow, Variable};
-use lulist::{Name, Row};
 use lustat::Checked;
 use std::alloc::{AllocError, Global};
 

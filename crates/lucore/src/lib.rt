@@ -3,7 +3,7 @@
 //! - [`flatten`]: the flat program ([`Flat`]), with its order of ranks.
 //! - [`CoreError`]: why there is none.
 //!
-//! The list is that of `lucore_list`; what else holds of the result is said in `specs/Result.antt`.
+//! The list is that of `lucore_laws`; what else holds of the result is said in `specs/Result.antt`.
 #![tactic(auto)]
 
 mod error;

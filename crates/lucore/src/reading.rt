@@ -3,8 +3,8 @@
 ghost use Rattle.std.specs.Prelude.{◌≡◌, ◌∷◌, IfOk, map};
 ghost use Rattle.luflow.specs.Program.{reads};
 
+use lubase::Row;
 use luflow::{Clock, Flow, Form};
-use lulist::Row;
 use std::alloc::{AllocError, Global};
 
 // What a merge reads: its clock variable and its branches.

@@ -4,8 +4,8 @@ use crate::find::{Spot, called, type_at_place};
 use crate::said::{Said, mended_by, say};
 use crate::usual::usual;
 use crate::words::Part;
-use lulist::Name;
-use lustat_scope::{Catalog, Scope};
+use lubase::Name;
+use lustat_rules::{Catalog, Scope};
 use lutree::{DeclaredName, Expr, Kind, Pattern};
 use std::alloc::{AllocError, Global};
 

@@ -3,10 +3,10 @@
 use crate::find::node_named;
 use crate::naming::near_variable;
 use crate::near::is_near;
+use lubase::Places;
 use lulimits::limits::{LONGEST_SITE_NAME, MOST_CAPACITY};
-use lunames::Places;
 use luplace_file::PlaceError;
-use lustat_scope::Scope;
+use lustat_rules::Scope;
 use lutree::{Node, Program};
 use std::alloc::{AllocError, Global};
 use toml::{Table, Value};

@@ -1,8 +1,7 @@
 //! What stands at a byte of a program, and the parts of an expression.
 
-use lulist::Name;
-use lustat_rules::StatError;
-use lustat_scope::{Catalog, Scope};
+use lubase::Name;
+use lustat_rules::{Catalog, Scope, StatError};
 use lutree::{Declaration, DeclaredName, Equation, Expr, Node, Program, TypeDeclaration};
 use std::alloc::AllocError;
 

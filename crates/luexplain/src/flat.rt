@@ -10,7 +10,7 @@ use crate::place::where_in;
 use crate::said::{Said, in_words, mended_by, told, whole};
 use crate::words::Part;
 use luflow::FaultKind;
-use lustat_scope::Scope;
+use lustat_rules::Scope;
 use lutree::{Equation, Expr, Infix, Node, Prefix, Program};
 use std::alloc::{AllocError, Global};
 

@@ -15,8 +15,7 @@ use crate::place::where_in;
 use crate::said::{Said, told, whole};
 use crate::usual::usual;
 use crate::{clocks, typing};
-use lustat_rules::StatError;
-use lustat_scope::{Catalog, Scope};
+use lustat_rules::{Catalog, Scope, StatError};
 use lutree::{Declaration, Equation, Program};
 use std::alloc::{AllocError, Global};
 

@@ -1,7 +1,7 @@
 //! How patterns and clocks are spelled.
 
 use crate::words::put_cut;
-use lustat_scope::PatternRef;
+use lustat_rules::PatternRef;
 use std::alloc::AllocError;
 
 /// `true`, `false` or a name of an enumeration.

@@ -3,8 +3,8 @@
 use crate::find::type_at_place;
 use crate::place::put_shown;
 use crate::spelling::{put_on, put_sign};
-use lulist::Name;
-use lustat_scope::{ClockRef, PatternRef};
+use lubase::Name;
+use lustat_rules::{ClockRef, PatternRef};
 use lusyn_printer::put_expr;
 use lutree::{Declaration, DeclaredName, Expr, Kind, Node, Program};
 use std::alloc::{AllocError, Global};

@@ -9,7 +9,7 @@ ghost use Rattle.luflow.specs.declared.form.Flow.{Flow};
 
 use crate::form::{Clock, Flow};
 use crate::variable::{Enum, Variable, inputs_among, names_of};
-use lulist::{Name, Row};
+use lubase::{Name, Row};
 use std::marker::Model;
 
 /// A flat program: the flows that remain of a checked program when all calls are inlined, the main variables first. It

@@ -4,7 +4,7 @@ ghost use Rattle.std.specs.Prelude.{◌≡◌, IfOk};
 ghost use Rattle.luflow.specs.Operators.{kind_text};
 
 use crate::data::Datum;
-use lulist::Row;
+use lubase::Row;
 use lutree::{BinaryOperator, Kind, UnaryOperator};
 use std::alloc::{AllocError, Global};
 use std::fmt;

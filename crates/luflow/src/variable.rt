@@ -4,7 +4,7 @@ ghost use Rattle.std.specs.Prelude.{◌≡◌, length};
 ghost use Rattle.luflow.specs.Types.{name_of, names_of};
 ghost use Rattle.luflow.specs.Variables.{is_input, inputs_of};
 
-use lulist::{Name, Row};
+use lubase::{Name, Row};
 use lutree::Kind;
 
 /// How a variable stands in its node.

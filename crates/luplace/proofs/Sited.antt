@@ -4,8 +4,8 @@ use Rattle.std.specs.Prelude.{All, not, ◌||◌, find, is_some, if◌then◌els
 use Rattle.std.specs.Str.{bytes_eq}
 use Rattle.std.proofs.lemmas.Bool.{false≢true, true≢false}
 use Rattle.luflow.specs.declared.variable.Variable.{Variable}
-use Rattle.lunames.specs.Places.{place_from, first_place}
-use Rattle.lunames.proofs.Sought.{at, first_such}
+use Rattle.lubase.specs.Places.{place_from, first_place}
+use Rattle.lubase.proofs.Sought.{at, first_such}
 use Rattle.luplace_file.specs.Content.{Placement}
 use Rattle.luplace_file.specs.Lawful.{IsLawful, AreSites}
 use Rattle.luplace_file.specs.declared.place.Placed.{Placed}

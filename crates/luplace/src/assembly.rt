@@ -2,7 +2,7 @@
 
 ghost use Rattle.std.specs.Prelude.{◌≡◌, IfOk};
 
-use lulist::Name;
+use lubase::Name;
 use std::alloc::{AllocError, Global};
 
 /// The same names once more.

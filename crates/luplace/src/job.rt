@@ -10,8 +10,8 @@ ghost use Rattle.luworld.specs.Needs.{sites_of, stands};
 ghost use Rattle.luworld.specs.Runs.{IsRun};
 
 use crate::plan::Plan;
+use lubase::Row;
 use luflow::{Datum, Inputs, Values};
-use lulist::Row;
 use std::alloc::{AllocError, Global};
 use std::marker::Model;
 use std::snapshot::Snapshot;

@@ -6,7 +6,7 @@ ghost use Rattle.luplace.specs.Marks.{marks_at, is_marked, sites_at, is_taken, s
 
 use crate::lookup::{first_of, number_at, row_at};
 use crate::marking::{is_marked, stands_at};
-use lulist::Row;
+use lubase::Row;
 use luworld::Link;
 use std::alloc::{AllocError, Global};
 

@@ -4,7 +4,7 @@ ghost use Rattle.std.specs.Prelude.{◌≡◌, slice_index};
 ghost use Rattle.luflow.specs.Rank.{row};
 ghost use Rattle.luworld.specs.Needs.{is_in};
 
-use lulist::Row;
+use lubase::Row;
 
 pub fn number_at(numbers: &[usize], place: usize) -> usize
     ensures { result ≡ slice_index numbers.now place }

@@ -7,8 +7,8 @@ ghost use Rattle.luplace.specs.Placing.{bare};
 ghost use Rattle.luplace.specs.Marks.{is_marked, marked_all, clock_at, AreOwnMarks, AreMarks, AreAllMarks, marked_places, sites_at};
 
 use crate::lookup::{is_in, number_at, row_at};
+use lubase::Row;
 use luflow::{Clock, Flat, Flow, Form};
-use lulist::Row;
 use std::alloc::{AllocError, Global};
 
 /// Whether a flow stands at a site, given for each flow its main variable and for each main variable its sites.

@@ -8,9 +8,8 @@ ghost use Rattle.luplace.specs.Placing.{is_variable, are_known, are_somewhere, s
 
 use crate::lookup::{number_at, row_at};
 use crate::sought::{entry_places, sites_put, variable_places};
+use lubase::{Places, Row};
 use luflow::{Flat, Variable};
-use lulist::Row;
-use lunames::Places;
 use luplace_file::{Place, PlaceError, Placed};
 use std::alloc::{AllocError, Global};
 

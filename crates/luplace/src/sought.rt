@@ -4,8 +4,8 @@ ghost use Rattle.std.specs.Prelude.{◌≡◌, map, find, slice_get, option_map,
 ghost use Rattle.std.specs.Str.{bytes_eq};
 ghost use Rattle.luplace.specs.Placing.{sites_put, entry_names, variable_names};
 
+use lubase::Places;
 use luflow::Variable;
-use lunames::Places;
 use luplace_file::{Place, Placed};
 use std::alloc::{AllocError, Global};
 

@@ -5,8 +5,8 @@ use Rattle.std.specs.Str.{bytes_eq}
 use Rattle.std.proofs.lemmas.Bool.{false≢true, cases_lt}
 use Rattle.std.proofs.lemmas.Slice.Eq.{bytes_eq-Decides}
 use Rattle.std.proofs.lemmas.Option.{slice_get_within}
-use Rattle.lunames.specs.Places.{first_place}
-use Rattle.lunames.proofs.Finding.{there, found, least_place}
+use Rattle.lubase.specs.Places.{first_place}
+use Rattle.lubase.proofs.Finding.{there, found, least_place}
 use Rattle.luplace_file.specs.Rules.{is_among, all_differ}
 
 -- each of the names before a place stands there first

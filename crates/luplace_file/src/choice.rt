@@ -6,7 +6,7 @@ ghost use Rattle.luplace_file.specs.Answers.{Gives, or_bad_key};
 ghost use Rattle.luplace_file.specs.Keys.{texts_in, some_texts_in, version_of, may_have_arrays, choice_in};
 
 use crate::error::PlaceError;
-use lulist::{Name, Row};
+use lubase::{Name, Row};
 use std::alloc::{AllocError, Global};
 use toml::Value;
 

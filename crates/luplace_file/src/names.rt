@@ -1,12 +1,11 @@
 //! The names of sites: which are the same, and which sites they are of.
 
 ghost use Rattle.std.specs.Prelude.{◌≡◌, ◌≤◌, ◌↔◌, IfOk, IsTrue, length, map};
-ghost use Rattle.lunames.specs.Places.{first_place};
+ghost use Rattle.lubase.specs.Places.{first_place};
 ghost use Rattle.luplace_file.specs.Rules.{is_among, all_differ, are_sites, numbers_of};
 
+use lubase::{Name, Places, Row};
 use lulimits::limits::MOST_SITES;
-use lulist::{Name, Row};
-use lunames::Places;
 use std::alloc::{AllocError, Global};
 
 /// Whether a name is one of these. Takes no memory.

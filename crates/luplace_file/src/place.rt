@@ -3,7 +3,7 @@
 ghost use Rattle.std.specs.Prelude.{◌≡◌};
 ghost use Rattle.luplace_file.specs.Lawful.{IsLawful};
 
-use lulist::{Name, Row};
+use lubase::{Name, Row};
 use std::marker::Model;
 
 /// A variable of the main node, and the sites at which it stands, by number, in order.

@@ -11,8 +11,8 @@ use crate::draft::{Draft, Wanted};
 use crate::error::PlaceError;
 use crate::names::{all_differ, are_sites, numbers_of};
 use crate::place::{Place, Placed};
+use lubase::{Name, Row};
 use lulimits::limits::{MOST_CAPACITY, MOST_SITES};
-use lulist::{Name, Row};
 use std::alloc::{AllocError, Global};
 
 fn is_known(version: Version) -> bool

@@ -7,7 +7,7 @@ ghost use Rattle.luflow.specs.Rank.{row};
 ghost use Rattle.luplace_report.specs.Report.{site_data, names_data, sites_data, flow_data, flows_data, link_data, links_data, report_data, report_text};
 
 use crate::names::{clock_of, clock_text, site_name, type_of, variable_name};
-use lulist::Name;
+use lubase::Name;
 use luplace::{Link, Plan};
 use serde_json::{Map, Value, put};
 use std::alloc::{AllocError, Global};

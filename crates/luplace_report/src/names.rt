@@ -4,8 +4,8 @@ ghost use Rattle.std.specs.Prelude.{◌≡◌, ◌++◌, IfOk, slice_index, stri
 ghost use Rattle.luflow.specs.Variables.{variable_name};
 ghost use Rattle.luplace_report.specs.Names.{site_name, type_name, type_of, clock_text, clock_of, Adds};
 
+use lubase::Name;
 use luflow::{Clock, Datum, Enum, Flat, name_of};
-use lulist::Name;
 use lutree::Kind;
 use std::alloc::{AllocError, Global};
 

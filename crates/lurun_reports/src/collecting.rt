@@ -9,8 +9,8 @@ ghost use Rattle.lusite.specs.Sites.{SiteAt};
 ghost use Rattle.lurun_reports.specs.Reports.{AreToldOf, is_of, is_one, are_complete, HasEnded, IsLeast, SomeNotEnded, AreColumns, IsFilled, IsCollected};
 
 use crate::error::RunError;
+use lubase::Name;
 use luflow::{Outputs, Status};
-use lulist::Name;
 use lusite::{Fault, SiteReport, Standing};
 use std::alloc::{AllocError, Global};
 

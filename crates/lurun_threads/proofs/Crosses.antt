@@ -2,8 +2,8 @@
 use denote.Param.Send.{IsSend, sendable, struct_send, recorded_send}
 use denote.Struct.Declared.{shape}
 use Rattle.std.proofs.Crossing.{crosses}
-use Rattle.lulist.proofs.row.Row.TheSendSync as row
-use Rattle.lulist.proofs.name.Name.TheSendSync as name
+use Rattle.lubase.proofs.row.Row.TheSendSync as row
+use Rattle.lubase.proofs.name.Name.TheSendSync as name
 use Rattle.luflow.proofs.data.Datum.TheSendSync as datum
 use Rattle.luflow.proofs.data.Status.TheSendSync as status
 use Rattle.lueval_lines.proofs.cell.Cell.TheSendSync as cell

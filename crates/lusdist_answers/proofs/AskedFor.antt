@@ -7,7 +7,7 @@ use Rattle.luworld.specs.Needs.{Distribution}
 use Rattle.luworld.specs.Runs.{Run, IsRun}
 use Rattle.std.specs.Prelude.{IsUtf8}
 use Rattle.lutab.specs.Table.{IsTextOf, is_too_long}
-use Rattle.lusdist_meaning.specs.Asked.{HasFlat, IsPlanOfText, IsJobOf}
+use Rattle.lusdist_call.specs.Asked.{HasFlat, IsPlanOfText, IsJobOf}
 
 pub job_is : (program place table main : List ℕ) (plan : Distribution) (job : Run) → HasFlat program main plan.flat → IsPlanOfText place plan → job.plan ≡ plan → IsTextOf plan.flat.types (inputs_of plan.flat.variables) job.inputs table → is_too_long table ≡ false → IsUtf8 table → Fits plan.flat job.inputs → IsRun job → IsJobOf program place table main job
 job_is program place table main plan job flat_of plan_of plan_is text short utf8 fits run =

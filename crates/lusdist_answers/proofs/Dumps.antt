@@ -22,24 +22,24 @@ use Rattle.luweave_text.specs.Waves.{site_dump, AreOutputSignals}
 use Rattle.lusdist_shell.specs.declared.request.EvalRequest.{EvalRequest}
 use Rattle.lusdist_shell.specs.declared.request.ReplayRequest.{ReplayRequest}
 use Rattle.lusdist_shell.specs.declared.request.RunRequest.{RunRequest}
-use Rattle.lusdist_stop.specs.declared.stop.Stop.{Stop}
-use Rattle.lusdist_stop.specs.declared.stop.Stop.TheVariants.{CannotRead, CannotWrite, NotAscii, Syntax, Rules, Flat, Place, Table, Schedule, Fault, LinkLost, NoThread, OutOfMemory, Mistaken}
-use Rattle.lusdist_meaning.specs.Asked.{IsAskedFor, IsFlatAt, IsJobFor, IsTableAt}
-use Rattle.lusdist_meaning.specs.Evaluated.{IsNoFault}
-use Rattle.lusdist_stop.specs.Files.{IsFiledAt, IsUnfiledAt, IsUnwritten}
-use Rattle.lusdist_meaning.specs.Waved.{replay_path, run_path, run_dump, AreRunWaves, IsRunDumped, IsRunFiled, IsWorldFiled, IsWorldDumped, IsWaved, AreWaved, AreSignalsTrue, IsReplayFiled, IsReplayDumped}
-use Rattle.lusdist_meaning.specs.Ran.{IsStopOfRun}
-use Rattle.lusdist_meaning.specs.Refused.{IsPlaceRefused}
-use Rattle.lusdist_meaning.specs.Stopped.{HasNoFlat, IsEvalStopped, IsReplayStopped, IsRunStopped, IsScheduleRefused, StopsAtJob, StopsAtPlan, StopsAtProgram, StopsAtSchedule, StopsAtTable}
-use Rattle.lusdist_meaning.specs.Stopped.HasNoFlat.{unspelled, unruled}
-use Rattle.lusdist_meaning.specs.Stopped.StopsAtProgram.{program_unread, program_refused}
-use Rattle.lusdist_meaning.specs.Stopped.StopsAtTable.{no_table, bad_table}
-use Rattle.lusdist_meaning.specs.Stopped.IsEvalStopped.{eval_unread, eval_table}
-use Rattle.lusdist_meaning.specs.Stopped.StopsAtPlan.{no_program, place_unread, place_refused}
-use Rattle.lusdist_meaning.specs.Stopped.StopsAtJob.{no_plan, table_unread, table_refused}
-use Rattle.lusdist_meaning.specs.Stopped.StopsAtSchedule.{no_schedule, bad_schedule}
-use Rattle.lusdist_meaning.specs.Stopped.IsReplayStopped.{replay_unread, replay_schedule, replay_unwritten, replay_memory}
-use Rattle.lusdist_meaning.specs.Stopped.IsRunStopped.{run_unwritten, run_memory}
+use Rattle.lusdist_call.specs.declared.stop.Stop.{Stop}
+use Rattle.lusdist_call.specs.declared.stop.Stop.TheVariants.{CannotRead, CannotWrite, NotAscii, Syntax, Rules, Flat, Place, Table, Schedule, Fault, LinkLost, NoThread, OutOfMemory, Mistaken}
+use Rattle.lusdist_call.specs.Asked.{IsAskedFor, IsFlatAt, IsJobFor, IsTableAt}
+use Rattle.lusdist_call.specs.Evaluated.{IsNoFault}
+use Rattle.lusdist_call.specs.Files.{IsFiledAt, IsUnfiledAt, IsUnwritten}
+use Rattle.lusdist_call.specs.Waved.{replay_path, run_path, run_dump, AreRunWaves, IsRunDumped, IsRunFiled, IsWorldFiled, IsWorldDumped, IsWaved, AreWaved, AreSignalsTrue, IsReplayFiled, IsReplayDumped}
+use Rattle.lusdist_call.specs.Ran.{IsStopOfRun}
+use Rattle.lusdist_call.specs.Refused.{IsPlaceRefused}
+use Rattle.lusdist_call.specs.Stopped.{HasNoFlat, IsEvalStopped, IsReplayStopped, IsRunStopped, IsScheduleRefused, StopsAtJob, StopsAtPlan, StopsAtProgram, StopsAtSchedule, StopsAtTable}
+use Rattle.lusdist_call.specs.Stopped.HasNoFlat.{unspelled, unruled}
+use Rattle.lusdist_call.specs.Stopped.StopsAtProgram.{program_unread, program_refused}
+use Rattle.lusdist_call.specs.Stopped.StopsAtTable.{no_table, bad_table}
+use Rattle.lusdist_call.specs.Stopped.IsEvalStopped.{eval_unread, eval_table}
+use Rattle.lusdist_call.specs.Stopped.StopsAtPlan.{no_program, place_unread, place_refused}
+use Rattle.lusdist_call.specs.Stopped.StopsAtJob.{no_plan, table_unread, table_refused}
+use Rattle.lusdist_call.specs.Stopped.StopsAtSchedule.{no_schedule, bad_schedule}
+use Rattle.lusdist_call.specs.Stopped.IsReplayStopped.{replay_unread, replay_schedule, replay_unwritten, replay_memory}
+use Rattle.lusdist_call.specs.Stopped.IsRunStopped.{run_unwritten, run_memory}
 use Rattle.lusdist_answers.proofs.Outcomes.{unread_none, program_none, table_none, told_none}
 use Rattle.lusdist_answers.proofs.Ran.{outputs_are, run_stop}
 use Rattle.lusdist_answers.proofs.Tellings.{output_true}

@@ -21,8 +21,8 @@ use Rattle.lustat_rules.specs.Accepted as accepted
 use Rattle.lustat_rules.specs.declared.error.StatError.{StatError}
 use Rattle.lustat_rules.specs.declared.error.StatError.TheVariants as rules
 use Rattle.lustat_rules.specs.Told.{Tells}
-use Rattle.lucore_rank.proofs.Orders.{one_order}
-use Rattle.lucore_list.proofs.Same.{one_list}
+use Rattle.lucore_laws.proofs.Orders.{one_order}
+use Rattle.lucore_laws.proofs.Same.{one_list}
 use Rattle.lucore.specs.declared.error.CoreError.{CoreError}
 use Rattle.lucore.specs.declared.error.CoreError.TheVariants as core
 use Rattle.lucore.specs.Result.{IsFlatOf, Refuses}
@@ -49,28 +49,28 @@ use Rattle.lusdist_shell.specs.declared.request.ReplayRequest.{ReplayRequest}
 use Rattle.lusdist_shell.specs.declared.request.Request.{Request}
 use Rattle.lusdist_shell.specs.declared.request.RunRequest.{RunRequest}
 use Rattle.lusdist_shell.specs.declared.request.Request.TheVariants.{Check, Eval, Plan, Replay, Run as AsksRun, Explain}
-use Rattle.lusdist_stop.specs.declared.stop.Stop.{Stop}
-use Rattle.lusdist_stop.specs.declared.stop.Stop.TheVariants.{CannotRead, CannotWrite, NotAscii, Syntax, Rules, Flat, Place as BadPlace, Table as BadTable, Schedule, Fault, LinkLost, NoThread, OutOfMemory, Mistaken}
-use Rattle.lusdist_meaning.specs.Asked.{HasFlat, IsPlanOfText, IsJobFor, IsChecked, IsPlanned, IsReplayed, IsRan, IsAnswer}
-use Rattle.lusdist_meaning.specs.Evaluated.{IsPosedBy, IsEvaluated, IsFaultOf, IsFaultTold}
-use Rattle.lusdist_meaning.specs.Refused.{IsToldOf, IsProgramRefused, IsTableRefused, IsPlaceRefused}
-use Rattle.lusdist_meaning.specs.Refused.IsToldOf.{rule, flat}
-use Rattle.lusdist_meaning.specs.Explained.{code_in, explanation, IsExplainStopped}
-use Rattle.lusdist_meaning.specs.Explained.IsExplainStopped.{explain_unknown, explain_memory}
-use Rattle.lusdist_stop.specs.Files.{IsUnread}
-use Rattle.lusdist_meaning.specs.Stopped.{IsScheduleRefused, HasNoFlat, StopsAtProgram, StopsAtPlan, StopsAtJob, IsCheckStopped, IsEvalRefused, IsEvalStopped, IsPlanStopped, IsReplayStopped, IsRunFault, IsRunStopped, IsRequestStopped}
-use Rattle.lusdist_meaning.specs.Stopped.HasNoFlat.{unspelled, unruled}
-use Rattle.lusdist_meaning.specs.Stopped.StopsAtProgram.{program_unread, program_refused}
-use Rattle.lusdist_meaning.specs.Stopped.StopsAtPlan.{no_program, place_unread, place_refused}
-use Rattle.lusdist_meaning.specs.Stopped.IsCheckStopped.{check_program, check_memory}
-use Rattle.lusdist_stop.specs.Mistakes.{mistake_in}
-use Rattle.lusdist_meaning.specs.Stopped.IsEvalRefused.{eval_mistaken, eval_stopped}
-use Rattle.lusdist_meaning.specs.Stopped.IsEvalStopped.{eval_program, eval_unread, eval_table, eval_fault, eval_unwritten, eval_memory}
-use Rattle.lusdist_meaning.specs.Stopped.IsPlanStopped.{plan_files, plan_memory}
-use Rattle.lusdist_meaning.specs.Stopped.StopsAtJob.{no_plan, table_unread, table_refused}
-use Rattle.lusdist_meaning.specs.Stopped.IsReplayStopped.{replay_job, replay_unread, replay_schedule, replay_unwritten, replay_memory}
-use Rattle.lusdist_meaning.specs.Stopped.IsRunStopped.{run_job, run_fault, run_lost, run_thread, run_unwritten, run_memory}
-use Rattle.lusdist_meaning.specs.Exact.{HasOneText, SaysNothing}
+use Rattle.lusdist_call.specs.declared.stop.Stop.{Stop}
+use Rattle.lusdist_call.specs.declared.stop.Stop.TheVariants.{CannotRead, CannotWrite, NotAscii, Syntax, Rules, Flat, Place as BadPlace, Table as BadTable, Schedule, Fault, LinkLost, NoThread, OutOfMemory, Mistaken}
+use Rattle.lusdist_call.specs.Asked.{HasFlat, IsPlanOfText, IsJobFor, IsChecked, IsPlanned, IsReplayed, IsRan, IsAnswer}
+use Rattle.lusdist_call.specs.Evaluated.{IsPosedBy, IsEvaluated, IsFaultOf, IsFaultTold}
+use Rattle.lusdist_call.specs.Refused.{IsToldOf, IsProgramRefused, IsTableRefused, IsPlaceRefused}
+use Rattle.lusdist_call.specs.Refused.IsToldOf.{rule, flat}
+use Rattle.lusdist_call.specs.Explained.{code_in, explanation, IsExplainStopped}
+use Rattle.lusdist_call.specs.Explained.IsExplainStopped.{explain_unknown, explain_memory}
+use Rattle.lusdist_call.specs.Files.{IsUnread}
+use Rattle.lusdist_call.specs.Stopped.{IsScheduleRefused, HasNoFlat, StopsAtProgram, StopsAtPlan, StopsAtJob, IsCheckStopped, IsEvalRefused, IsEvalStopped, IsPlanStopped, IsReplayStopped, IsRunFault, IsRunStopped, IsRequestStopped}
+use Rattle.lusdist_call.specs.Stopped.HasNoFlat.{unspelled, unruled}
+use Rattle.lusdist_call.specs.Stopped.StopsAtProgram.{program_unread, program_refused}
+use Rattle.lusdist_call.specs.Stopped.StopsAtPlan.{no_program, place_unread, place_refused}
+use Rattle.lusdist_call.specs.Stopped.IsCheckStopped.{check_program, check_memory}
+use Rattle.lusdist_call.specs.Mistakes.{mistake_in}
+use Rattle.lusdist_call.specs.Stopped.IsEvalRefused.{eval_mistaken, eval_stopped}
+use Rattle.lusdist_call.specs.Stopped.IsEvalStopped.{eval_program, eval_unread, eval_table, eval_fault, eval_unwritten, eval_memory}
+use Rattle.lusdist_call.specs.Stopped.IsPlanStopped.{plan_files, plan_memory}
+use Rattle.lusdist_call.specs.Stopped.StopsAtJob.{no_plan, table_unread, table_refused}
+use Rattle.lusdist_call.specs.Stopped.IsReplayStopped.{replay_job, replay_unread, replay_schedule, replay_unwritten, replay_memory}
+use Rattle.lusdist_call.specs.Stopped.IsRunStopped.{run_job, run_fault, run_lost, run_thread, run_unwritten, run_memory}
+use Rattle.lusdist_call.specs.Exact.{HasOneText, SaysNothing}
 use Rattle.std.proofs.lemmas.Option.{same_Some}
 
 pub memory_is : (stop other : Stop) → stop ≡ other → SaysNothing other → SaysNothing stop

@@ -10,8 +10,8 @@ use Rattle.luflow.specs.Program.{FlatProgram}
 use Rattle.luflow.specs.Variables.{is_output, outputs_of}
 use Rattle.lustat_rules.specs.Scope.{first_named, node_called}
 use Rattle.lusyn_grammar.specs.Grammar.{WrittenDeclaration, WrittenNode, Each, IsNonempty, IsProperDeclaration, IsProperNode, declaration_tree, node_tree, program_tree}
-use Rattle.lucore_list.specs.Layout.{variables_as, main_variables}
-use Rattle.lusyn_labels.specs.Resolved.{resolved, resolved_node, resolved_declaration}
+use Rattle.lucore_laws.specs.Layout.{variables_as, main_variables}
+use Rattle.lusyn_parser.specs.Resolved.{resolved, resolved_node, resolved_declaration}
 use Rattle.lusyn.specs.Texts.{SpellsText}
 use Rattle.lucore.specs.Result.{IsFlatOf}
 

@@ -24,8 +24,8 @@ use Rattle.luflow.specs.Variables.{inputs_of}
 use Rattle.luflow.proofs.Faults.{fault_value, fault_value_one}
 use Rattle.luflow.proofs.Solutions.{IsSolution-solution}
 use Rattle.lueval.specs.Whole.{IsEarlier}
-use Rattle.lucore_rank.specs.Rank.{IsLeastOnCycle}
-use Rattle.lucore_list.proofs.Same.{one_list}
+use Rattle.lucore_laws.specs.Rank.{IsLeastOnCycle}
+use Rattle.lucore_laws.proofs.Same.{one_list}
 use Rattle.lucore.specs.declared.error.CoreError.{CoreError}
 use Rattle.lucore.specs.declared.error.CoreError.TheVariants as core
 use Rattle.lucore.specs.Result.{Refuses, ReadsItself}
@@ -60,29 +60,29 @@ use Rattle.lusdist_shell.specs.declared.request.ReplayRequest.{ReplayRequest}
 use Rattle.lusdist_shell.specs.declared.request.Request.{Request}
 use Rattle.lusdist_shell.specs.declared.request.RunRequest.{RunRequest}
 use Rattle.lusdist_shell.specs.declared.request.Request.TheVariants.{Check, Eval, Plan, Replay, Run as AsksRun, Explain}
-use Rattle.lusdist_stop.specs.declared.stop.Stop.{Stop}
-use Rattle.lusdist_stop.specs.declared.stop.Stop.TheVariants.{CannotRead, CannotWrite, NotAscii, Syntax, Rules, Flat, Place as BadPlace, Table as BadTable, Schedule, Fault, LinkLost, NoThread, OutOfMemory, Mistaken}
-use Rattle.lusdist_meaning.specs.Evaluated.{IsFaultOf, IsFaultTold}
-use Rattle.lusdist_meaning.specs.Refused.{IsToldOf, IsProgramRefused, IsPlaceRefused, IsTableRefused}
-use Rattle.lusdist_meaning.specs.Refused.IsToldOf.{rule, flat}
-use Rattle.lusdist_stop.specs.Files.{IsUnread}
-use Rattle.lusdist_meaning.specs.Stopped.{IsScheduleRefused, HasNoFlat, StopsAtProgram, StopsAtPlan, StopsAtJob, IsEvalRefused, IsEvalStopped, IsReplayStopped, IsRunStopped, IsRequestStopped}
-use Rattle.lusdist_meaning.specs.Stopped.HasNoFlat.{unspelled, unruled}
-use Rattle.lusdist_meaning.specs.Stopped.StopsAtProgram.{program_unread, program_refused}
-use Rattle.lusdist_meaning.specs.Stopped.StopsAtPlan.{no_program, place_unread, place_refused}
-use Rattle.lusdist_meaning.specs.Stopped.IsCheckStopped.{check_program, check_memory}
-use Rattle.lusdist_stop.specs.declared.mistake.Mistake.{Mistake}
-use Rattle.lusdist_stop.specs.Mistakes.{mistake_in}
-use Rattle.lusdist_meaning.specs.Stopped.IsEvalRefused.{eval_mistaken, eval_stopped}
-use Rattle.lusdist_meaning.specs.Stopped.IsEvalStopped.{eval_program, eval_unread, eval_table, eval_fault, eval_unwritten, eval_memory}
-use Rattle.lusdist_meaning.specs.Stopped.IsPlanStopped.{plan_files, plan_memory}
-use Rattle.lusdist_meaning.specs.Stopped.StopsAtJob.{no_plan, table_unread, table_refused}
-use Rattle.lusdist_meaning.specs.Stopped.IsReplayStopped.{replay_job, replay_unread, replay_schedule, replay_unwritten, replay_memory}
-use Rattle.lusdist_meaning.specs.Stopped.IsRunStopped.{run_job, run_fault, run_lost, run_thread, run_unwritten, run_memory}
-use Rattle.lusdist_meaning.specs.Exact.{HasOneText, SaysNothing, IsFaultOfRun}
-use Rattle.lusdist_meaning.specs.Explained.{code_in, IsExplainStopped}
-use Rattle.lusdist_meaning.specs.Explained.IsExplainStopped.{explain_unknown, explain_memory}
-use Rattle.lusdist_stop.specs.declared.mistake.Mistake.TheVariants.{UnknownCode}
+use Rattle.lusdist_call.specs.declared.stop.Stop.{Stop}
+use Rattle.lusdist_call.specs.declared.stop.Stop.TheVariants.{CannotRead, CannotWrite, NotAscii, Syntax, Rules, Flat, Place as BadPlace, Table as BadTable, Schedule, Fault, LinkLost, NoThread, OutOfMemory, Mistaken}
+use Rattle.lusdist_call.specs.Evaluated.{IsFaultOf, IsFaultTold}
+use Rattle.lusdist_call.specs.Refused.{IsToldOf, IsProgramRefused, IsPlaceRefused, IsTableRefused}
+use Rattle.lusdist_call.specs.Refused.IsToldOf.{rule, flat}
+use Rattle.lusdist_call.specs.Files.{IsUnread}
+use Rattle.lusdist_call.specs.Stopped.{IsScheduleRefused, HasNoFlat, StopsAtProgram, StopsAtPlan, StopsAtJob, IsEvalRefused, IsEvalStopped, IsReplayStopped, IsRunStopped, IsRequestStopped}
+use Rattle.lusdist_call.specs.Stopped.HasNoFlat.{unspelled, unruled}
+use Rattle.lusdist_call.specs.Stopped.StopsAtProgram.{program_unread, program_refused}
+use Rattle.lusdist_call.specs.Stopped.StopsAtPlan.{no_program, place_unread, place_refused}
+use Rattle.lusdist_call.specs.Stopped.IsCheckStopped.{check_program, check_memory}
+use Rattle.lusdist_call.specs.declared.mistake.Mistake.{Mistake}
+use Rattle.lusdist_call.specs.Mistakes.{mistake_in}
+use Rattle.lusdist_call.specs.Stopped.IsEvalRefused.{eval_mistaken, eval_stopped}
+use Rattle.lusdist_call.specs.Stopped.IsEvalStopped.{eval_program, eval_unread, eval_table, eval_fault, eval_unwritten, eval_memory}
+use Rattle.lusdist_call.specs.Stopped.IsPlanStopped.{plan_files, plan_memory}
+use Rattle.lusdist_call.specs.Stopped.StopsAtJob.{no_plan, table_unread, table_refused}
+use Rattle.lusdist_call.specs.Stopped.IsReplayStopped.{replay_job, replay_unread, replay_schedule, replay_unwritten, replay_memory}
+use Rattle.lusdist_call.specs.Stopped.IsRunStopped.{run_job, run_fault, run_lost, run_thread, run_unwritten, run_memory}
+use Rattle.lusdist_call.specs.Exact.{HasOneText, SaysNothing, IsFaultOfRun}
+use Rattle.lusdist_call.specs.Explained.{code_in, IsExplainStopped}
+use Rattle.lusdist_call.specs.Explained.IsExplainStopped.{explain_unknown, explain_memory}
+use Rattle.lusdist_call.specs.declared.mistake.Mistake.TheVariants.{UnknownCode}
 use Rattle.lusdist_answers.proofs.Exclusive.{memory_is, none_some, text_memory, rules_memory, one_of, flats_one, flats_same}
 use Rattle.lusdist_answers.proofs.OneStatus.{never, past_program, past_table, fault_past, past_plan, replay_past, run_past}
 

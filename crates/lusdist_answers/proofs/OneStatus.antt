@@ -16,29 +16,29 @@ use Rattle.lusdist_shell.specs.declared.request.ReplayRequest.{ReplayRequest}
 use Rattle.lusdist_shell.specs.declared.request.Request.{Request}
 use Rattle.lusdist_shell.specs.declared.request.RunRequest.{RunRequest}
 use Rattle.lusdist_shell.specs.declared.request.Request.TheVariants.{Check, Eval, Plan, Replay, Run as AsksRun, Explain}
-use Rattle.lusdist_stop.specs.declared.stop.Stop.{Stop}
-use Rattle.lusdist_stop.specs.declared.stop.Stop.TheVariants.{CannotRead, CannotWrite, NotAscii, Syntax, Rules, Flat, Place, Table, Schedule, Fault, LinkLost, NoThread, OutOfMemory, Mistaken}
-use Rattle.lusdist_stop.specs.Statuses.{status_of}
-use Rattle.lusdist_meaning.specs.Asked.{HasFlat, IsPlanFor, IsJobFor}
-use Rattle.lusdist_meaning.specs.Evaluated.{IsFaultOf}
-use Rattle.lusdist_meaning.specs.Refused.{IsToldOf, IsProgramRefused, IsPlaceRefused, IsTableRefused}
-use Rattle.lusdist_meaning.specs.Refused.IsToldOf.{rule, flat}
-use Rattle.lusdist_stop.specs.Files.{IsUnread}
-use Rattle.lusdist_meaning.specs.Stopped.{IsScheduleRefused, HasNoFlat, StopsAtProgram, StopsAtPlan, StopsAtJob, IsEvalRefused, IsEvalStopped, IsReplayStopped, IsRunStopped, IsRequestStopped}
-use Rattle.lusdist_meaning.specs.Stopped.HasNoFlat.{unspelled, unruled}
-use Rattle.lusdist_meaning.specs.Stopped.StopsAtProgram.{program_unread, program_refused}
-use Rattle.lusdist_meaning.specs.Stopped.StopsAtPlan.{no_program, place_unread, place_refused}
-use Rattle.lusdist_meaning.specs.Stopped.IsCheckStopped.{check_program, check_memory}
-use Rattle.lusdist_stop.specs.Mistakes.{mistake_in}
-use Rattle.lusdist_meaning.specs.Stopped.IsEvalRefused.{eval_mistaken, eval_stopped}
-use Rattle.lusdist_meaning.specs.Stopped.IsEvalStopped.{eval_program, eval_unread, eval_table, eval_fault, eval_unwritten, eval_memory}
-use Rattle.lusdist_meaning.specs.Stopped.IsPlanStopped.{plan_files, plan_memory}
-use Rattle.lusdist_meaning.specs.Stopped.StopsAtJob.{no_plan, table_unread, table_refused}
-use Rattle.lusdist_meaning.specs.Stopped.IsReplayStopped.{replay_job, replay_unread, replay_schedule, replay_unwritten, replay_memory}
-use Rattle.lusdist_meaning.specs.Stopped.IsRunStopped.{run_job, run_fault, run_lost, run_thread, run_unwritten, run_memory}
-use Rattle.lusdist_meaning.specs.Exact.{HasOneText, SaysNothing}
-use Rattle.lusdist_meaning.specs.Explained.{code_in, IsExplainStopped}
-use Rattle.lusdist_meaning.specs.Explained.IsExplainStopped.{explain_unknown, explain_memory}
+use Rattle.lusdist_call.specs.declared.stop.Stop.{Stop}
+use Rattle.lusdist_call.specs.declared.stop.Stop.TheVariants.{CannotRead, CannotWrite, NotAscii, Syntax, Rules, Flat, Place, Table, Schedule, Fault, LinkLost, NoThread, OutOfMemory, Mistaken}
+use Rattle.lusdist_call.specs.Statuses.{status_of}
+use Rattle.lusdist_call.specs.Asked.{HasFlat, IsPlanFor, IsJobFor}
+use Rattle.lusdist_call.specs.Evaluated.{IsFaultOf}
+use Rattle.lusdist_call.specs.Refused.{IsToldOf, IsProgramRefused, IsPlaceRefused, IsTableRefused}
+use Rattle.lusdist_call.specs.Refused.IsToldOf.{rule, flat}
+use Rattle.lusdist_call.specs.Files.{IsUnread}
+use Rattle.lusdist_call.specs.Stopped.{IsScheduleRefused, HasNoFlat, StopsAtProgram, StopsAtPlan, StopsAtJob, IsEvalRefused, IsEvalStopped, IsReplayStopped, IsRunStopped, IsRequestStopped}
+use Rattle.lusdist_call.specs.Stopped.HasNoFlat.{unspelled, unruled}
+use Rattle.lusdist_call.specs.Stopped.StopsAtProgram.{program_unread, program_refused}
+use Rattle.lusdist_call.specs.Stopped.StopsAtPlan.{no_program, place_unread, place_refused}
+use Rattle.lusdist_call.specs.Stopped.IsCheckStopped.{check_program, check_memory}
+use Rattle.lusdist_call.specs.Mistakes.{mistake_in}
+use Rattle.lusdist_call.specs.Stopped.IsEvalRefused.{eval_mistaken, eval_stopped}
+use Rattle.lusdist_call.specs.Stopped.IsEvalStopped.{eval_program, eval_unread, eval_table, eval_fault, eval_unwritten, eval_memory}
+use Rattle.lusdist_call.specs.Stopped.IsPlanStopped.{plan_files, plan_memory}
+use Rattle.lusdist_call.specs.Stopped.StopsAtJob.{no_plan, table_unread, table_refused}
+use Rattle.lusdist_call.specs.Stopped.IsReplayStopped.{replay_job, replay_unread, replay_schedule, replay_unwritten, replay_memory}
+use Rattle.lusdist_call.specs.Stopped.IsRunStopped.{run_job, run_fault, run_lost, run_thread, run_unwritten, run_memory}
+use Rattle.lusdist_call.specs.Exact.{HasOneText, SaysNothing}
+use Rattle.lusdist_call.specs.Explained.{code_in, IsExplainStopped}
+use Rattle.lusdist_call.specs.Explained.IsExplainStopped.{explain_unknown, explain_memory}
 use Rattle.lusdist_answers.proofs.Exclusive.{memory_is, none_some, unread_memory, program_memory, plan_memory_of, job_memory_of, refused_memory, posed_flat}
 
 -- ---- the status of a stop by what it is of

@@ -31,17 +31,17 @@ use Rattle.lueval_lines.proofs.Told.{Pairs, names, stream_at}
 use Rattle.lueval_lines.proofs.Named.{names as all_names, stream_at as all_at}
 use Rattle.lutab.specs.Table.{IsTextOf, is_too_long}
 use Rattle.lusdist_shell.specs.declared.request.EvalRequest.{EvalRequest}
-use Rattle.lusdist_stop.specs.declared.stop.Stop.{Stop}
-use Rattle.lusdist_stop.specs.declared.stop.Stop.TheVariants.{CannotRead, CannotWrite, NotAscii, Syntax, Rules, Flat, Place, Table as BadTable, Schedule, Fault, LinkLost, NoThread, OutOfMemory, Mistaken}
-use Rattle.lusdist_meaning.specs.Evaluated.{AreEvaluated, AreVariablesAt, AreVariablesOf, HasNoFaultBefore, IsColumnOf, IsDumped, IsDumpedBefore, IsDumpedTo, IsFiled, IsNoFault, IsShown, AreShownBefore, IsStopFor, shown_text, wave_text, IsPosed, IsPosedBy, IsShownTo, IsStopped, IsFaultTold, IsUnfiled, wave_path}
+use Rattle.lusdist_call.specs.declared.stop.Stop.{Stop}
+use Rattle.lusdist_call.specs.declared.stop.Stop.TheVariants.{CannotRead, CannotWrite, NotAscii, Syntax, Rules, Flat, Place, Table as BadTable, Schedule, Fault, LinkLost, NoThread, OutOfMemory, Mistaken}
+use Rattle.lusdist_call.specs.Evaluated.{AreEvaluated, AreVariablesAt, AreVariablesOf, HasNoFaultBefore, IsColumnOf, IsDumped, IsDumpedBefore, IsDumpedTo, IsFiled, IsNoFault, IsShown, AreShownBefore, IsStopFor, shown_text, wave_text, IsPosed, IsPosedBy, IsShownTo, IsStopped, IsFaultTold, IsUnfiled, wave_path}
 use Rattle.lutree.specs.Places.{ProgramPlaces}
 use Rattle.luflow.specs.declared.variable.Enum.{Enum}
-use Rattle.lutab_writing.specs.Outputs.{shown_of}
-use Rattle.lusdist_meaning.specs.Refused.{IsToldOf, IsProgramRefused, IsTableRefused}
-use Rattle.lusdist_meaning.specs.Refused.IsToldOf.{rule, flat as told_flat}
-use Rattle.lusdist_stop.specs.Files.{IsUnread}
-use Rattle.lusdist_meaning.specs.Stopped.{IsEvalStopped}
-use Rattle.lusdist_meaning.specs.Stopped.IsEvalStopped.{eval_fault, eval_unwritten, eval_memory}
+use Rattle.lutab.specs.Outputs.{shown_of}
+use Rattle.lusdist_call.specs.Refused.{IsToldOf, IsProgramRefused, IsTableRefused}
+use Rattle.lusdist_call.specs.Refused.IsToldOf.{rule, flat as told_flat}
+use Rattle.lusdist_call.specs.Files.{IsUnread}
+use Rattle.lusdist_call.specs.Stopped.{IsEvalStopped}
+use Rattle.lusdist_call.specs.Stopped.IsEvalStopped.{eval_fault, eval_unwritten, eval_memory}
 
 -- the outputs among the streams of the main variables
 pub are_evaluated : (flat : FlatProgram) (inputs : Table) (streams : List (List Status)) (outputs : List OutputColumn) → AreStreams flat inputs streams → outputs ≡ outputs_in flat.variables streams → AreEvaluated flat inputs (outputs_of flat.variables) inputs.instants outputs

@@ -7,7 +7,7 @@ use Rattle.luflow.specs.Sound.{IsFit}
 use Rattle.luworld.specs.Needs.{Distribution}
 use Rattle.luworld.specs.Runs.{IsRun}
 use Rattle.lutab.specs.Table.{IsTextOf, is_too_long}
-use Rattle.lusdist_meaning.specs.Asked.{IsPlanFor}
+use Rattle.lusdist_call.specs.Asked.{IsPlanFor}
 use Rattle.lusdist_answers.proofs.AskedFor.{job_is}
 use Rattle.luflow.specs.declared.form.FaultKind.{FaultKind}
 use Rattle.luflow.specs.Flats.{IsFlat}
@@ -28,13 +28,13 @@ use Rattle.lurun.specs.Answers.{IsRunAnswer}
 use Rattle.lurun_reports.specs.Reports.{AreComplete, AreOutputsOf as AreRunOutputs, HasOutput}
 use Rattle.lurun_threads.specs.Stations.{StationAt, sites_at}
 use Rattle.lusdist_shell.specs.declared.request.RunRequest.{RunRequest}
-use Rattle.lusdist_stop.specs.declared.stop.Stop.{Stop}
-use Rattle.lusdist_stop.specs.declared.stop.Stop.TheVariants.{CannotRead, CannotWrite, NotAscii, Syntax, Rules, Flat, Place, Table, Schedule, Fault, LinkLost, NoThread, OutOfMemory, Mistaken}
-use Rattle.lusdist_meaning.specs.Asked.{IsJobFor, IsRan}
-use Rattle.lusdist_meaning.specs.Evaluated.{AreOutputsOf}
-use Rattle.lusdist_meaning.specs.Ran.{IsRunError, IsStopOfRun, IsRunTable}
-use Rattle.lusdist_meaning.specs.Stopped.{IsRunFault, IsRunStopped}
-use Rattle.lusdist_meaning.specs.Stopped.IsRunStopped.{run_fault, run_lost, run_thread, run_memory}
+use Rattle.lusdist_call.specs.declared.stop.Stop.{Stop}
+use Rattle.lusdist_call.specs.declared.stop.Stop.TheVariants.{CannotRead, CannotWrite, NotAscii, Syntax, Rules, Flat, Place, Table, Schedule, Fault, LinkLost, NoThread, OutOfMemory, Mistaken}
+use Rattle.lusdist_call.specs.Asked.{IsJobFor, IsRan}
+use Rattle.lusdist_call.specs.Evaluated.{AreOutputsOf}
+use Rattle.lusdist_call.specs.Ran.{IsRunError, IsStopOfRun, IsRunTable}
+use Rattle.lusdist_call.specs.Stopped.{IsRunFault, IsRunStopped}
+use Rattle.lusdist_call.specs.Stopped.IsRunStopped.{run_fault, run_lost, run_thread, run_memory}
 use Rattle.lusdist_answers.proofs.Tellings.{owner_of}
 
 -- the job of a plan and a table that the files give

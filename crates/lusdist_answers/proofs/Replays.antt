@@ -7,7 +7,7 @@ use Rattle.lucore.specs.Result.{IsFlatOf}
 use Rattle.lumeaning.specs.Meaning.{IsMeant}
 use Rattle.lumeaning.specs.Telling.{IsTrueOf}
 use Rattle.lusdist_shell.specs.declared.request.ReplayRequest.{ReplayRequest}
-use Rattle.lusdist_meaning.specs.Asked.{IsAskedFor, IsPrinted, IsReplayed}
+use Rattle.lusdist_call.specs.Asked.{IsAskedFor, IsPrinted, IsReplayed}
 use Rattle.lusdist_answers.proofs.Tellings.{told_in, told_true}
 
 pub is_replayed : (gives : List ℕ → Option (List ℕ) → Type 0) (request : ReplayRequest) (job : Run) (turns text : List ℕ) → IsAskedFor gives request job turns → IsPrinted job turns request.finish text → IsReplayed gives request text

@@ -16,10 +16,10 @@ use Rattle.lusource.specs.Names.{variables_of, AreDistinct}
 use Rattle.lustat_rules.specs.Scope.{declarations_of, kind_of}
 use Rattle.lustat_rules.specs.Scope as rules
 use Rattle.lustat_rules.specs.Accepted as accepted
-use Rattle.lucore_list.specs.Layout.{IsLaidOut, enum_of, types_of}
-use Rattle.lucore_list.proofs.Names.{distinct, get-names, mapped_some, place_at, placed}
-use Rattle.lucore_list.proofs.NodeStatic.{first_is}
-use Rattle.lucore_sound.proofs.Roles.{main_declared}
+use Rattle.lucore_laws.specs.Layout.{IsLaidOut, enum_of, types_of}
+use Rattle.lucore_laws.proofs.Names.{distinct, get-names, mapped_some, place_at, placed}
+use Rattle.lucore_laws.proofs.NodeStatic.{first_is}
+use Rattle.lucore_laws.proofs.Roles.{main_declared}
 use Rattle.lucore.specs.Result.{IsFlatOf}
 use Rattle.lumeaning.specs.Telling.{names_of, names_told}
 

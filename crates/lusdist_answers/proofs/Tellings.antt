@@ -39,7 +39,7 @@ use Rattle.luworld.proofs.Fitting.{fits}
 use Rattle.lusite_program.proofs.Posts.{output_there}
 use Rattle.luweave.specs.Headline.{IsFaithful}
 use Rattle.luweave_text.specs.WorldText.{body_text, site_name, site_line, standing_text, line_of, AreSiteLines, NoSites, OneSiteMore, AreOutputLines, NoVariables, NoOutput, OneOutputMore, IsWorldText}
-use Rattle.lusdist_meaning.specs.TellingText.{link_text, ending_text, site_text, output_text, telling_text, link_told, link_there, links_told, ending_of, IsSiteTold, IsOutputTold, IsToldBy}
+use Rattle.lusdist_call.specs.TellingText.{link_text, ending_text, site_text, output_text, telling_text, link_told, link_there, links_told, ending_of, IsSiteTold, IsOutputTold, IsToldBy}
 use Rattle.luweave_text.proofs.Texts.{count_told, count_other}
 use Rattle.luweave.proofs.NewSites.{pushed}
 use Rattle.lusdist_answers.proofs.Spelled.{names_are}

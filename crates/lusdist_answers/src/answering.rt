@@ -2,15 +2,15 @@
 
 ghost use Rattle.std.specs.Prelude.{◌≡◌, ◌<◌, length, IfOk, IfErr, None, OnOk, string_bytes};
 ghost use Rattle.lusdist_shell.specs.Request.{AreFew};
-ghost use Rattle.lusdist_meaning.specs.Asked.{IsRan, IsChecked, IsPlanned};
+ghost use Rattle.lusdist_call.specs.Asked.{IsRan, IsChecked, IsPlanned};
 ghost use Rattle.luflow.specs.Sound.{IsFit};
 ghost use Rattle.luflow.specs.Variables.{outputs_of};
-ghost use Rattle.lusdist_meaning.specs.Evaluated.{IsDumped, IsDumpedTo, IsEvaluated, IsNoFault, IsPosedBy};
-ghost use Rattle.lusdist_stop.specs.Files.{IsUnwritten};
-ghost use Rattle.lusdist_meaning.specs.Waved.{IsRunDumped};
-ghost use Rattle.lusdist_meaning.specs.Stopped.{IsCheckStopped, IsEvalRefused, IsEvalStopped, IsPlanStopped, IsRunStopped};
-ghost use Rattle.lusdist_stop.specs.Mistakes.{mistake_in};
-ghost use Rattle.lusdist_stop.specs.declared.stop.Stop.{Stop};
+ghost use Rattle.lusdist_call.specs.Evaluated.{IsDumped, IsDumpedTo, IsEvaluated, IsNoFault, IsPosedBy};
+ghost use Rattle.lusdist_call.specs.Files.{IsUnwritten};
+ghost use Rattle.lusdist_call.specs.Waved.{IsRunDumped};
+ghost use Rattle.lusdist_call.specs.Stopped.{IsCheckStopped, IsEvalRefused, IsEvalStopped, IsPlanStopped, IsRunStopped};
+ghost use Rattle.lusdist_call.specs.Mistakes.{mistake_in};
+ghost use Rattle.lusdist_call.specs.declared.stop.Stop.{Stop};
 
 use crate::evaluating::evaluation;
 use crate::jobs::job_for;
@@ -18,8 +18,8 @@ use crate::planning::{plan_text, planned};
 use crate::running::run_table;
 use crate::sources::{flat_at, flattened, inputs_at, program_of};
 use luflow::{Flat, Inputs};
+use lusdist_call::{Stop, mistake_in, read};
 use lusdist_shell::{CheckRequest, EvalRequest, Files, PlanRequest, Progress, RunRequest};
-use lusdist_stop::{Stop, mistake_in, read};
 use lusyn::print_program;
 use std::alloc::Global;
 use std::rt::Clock;

@@ -4,22 +4,21 @@ ghost use Rattle.std.specs.Prelude.{◌≡◌, ◌⊎◌, ℕ, true, List, map, 
 ghost use Rattle.std.specs.Io.KnownBytes.{Appends};
 ghost use Rattle.clap.specs.Words.{takes};
 ghost use Rattle.lusdist_shell.specs.CommandLine.{lusdist};
-ghost use Rattle.lusdist_meaning.specs.Asked.{AskForNoTrace, IsDone};
-ghost use Rattle.lusdist_meaning.specs.Stopped.{IsRefusal};
+ghost use Rattle.lusdist_call.specs.Asked.{AskForNoTrace, IsDone};
+ghost use Rattle.lusdist_call.specs.Stopped.{IsRefusal};
 ghost use Rattle.lusdist_shell.specs.Request.{AreFew};
-ghost use Rattle.lusdist_commands.specs.Left.{IsCallEnded};
-ghost use Rattle.lusdist_commands.specs.Runs.{IsRunAnswered};
+ghost use Rattle.lusdist_call.specs.Left.{IsCallEnded};
+ghost use Rattle.lusdist_call.specs.Runs.{IsRunAnswered};
 
 use crate::answering::{check_text, eval_text, plan_answer, run_text};
 use crate::explaining::explained;
 use crate::reasons::reason;
 use crate::replaying::replay_answer;
-use lusdist_commands::{Commands, serve_with};
+use lusdist_call::{Commands, Said, Stop, serve_with};
 use lusdist_shell::{
     CheckRequest, EvalRequest, ExplainRequest, Files, PlanRequest, Progress, ReplayRequest,
     Request, Sink,
 };
-use lusdist_stop::{Said, Stop};
 use std::alloc::Global;
 use std::io::Write;
 use std::rt::Clock;

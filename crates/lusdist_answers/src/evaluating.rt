@@ -4,16 +4,16 @@ ghost use Rattle.std.specs.Prelude.{◌≡◌, ◌<◌, ◌≤◌, ◌⊎◌, If
 ghost use Rattle.luflow.specs.Sound.{IsFit};
 ghost use Rattle.luflow.specs.Variables.{outputs_of};
 ghost use Rattle.lueval.specs.Whole.{HasNoFault, IsAnswer};
-ghost use Rattle.lutab_writing.specs.Outputs.{shown_of};
-ghost use Rattle.lusdist_meaning.specs.Evaluated.{AreEvaluated, HasNoFaultBefore, IsFiled, IsShown, AreShownBefore, IsShownTo, IsStopped, IsStopFor, IsUnfiled, shown_text, wave_text};
+ghost use Rattle.lutab.specs.Outputs.{shown_of};
+ghost use Rattle.lusdist_call.specs.Evaluated.{AreEvaluated, HasNoFaultBefore, IsFiled, IsShown, AreShownBefore, IsShownTo, IsStopped, IsStopFor, IsUnfiled, shown_text, wave_text};
 ghost use Rattle.lueval_lines.specs.declared.error.EvalError.TheVariants.{Fault};
 
 use lublock::block_outputs;
 use luchart::{chronogram, cut, dump};
 use lueval::{EvalError, whole_columns};
 use luflow::{FaultKind, Flat, Inputs, Outputs};
+use lusdist_call::{Stop, file_text};
 use lusdist_shell::{EvalRequest, Files};
-use lusdist_stop::{Stop, file_text};
 use lutab::{shown_kinds, write_columns};
 use std::alloc::{AllocError, Global};
 

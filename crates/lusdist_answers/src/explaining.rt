@@ -1,12 +1,11 @@
 //! A page of the manual.
 
 ghost use Rattle.std.specs.Prelude.{◌≡◌, IfOk, IfErr, Some, string_bytes};
-ghost use Rattle.lusdist_meaning.specs.Explained.{code_in, explanation, IsExplainStopped};
+ghost use Rattle.lusdist_call.specs.Explained.{code_in, explanation, IsExplainStopped};
 
-use lulist::Name;
-use lusdist_pages::{all_codes, page_of};
-use lusdist_shell::ExplainRequest;
-use lusdist_stop::{Mistake, Stop};
+use lubase::Name;
+use lusdist_call::{Mistake, Stop};
+use lusdist_shell::{ExplainRequest, all_codes, page_of};
 use std::alloc::Global;
 
 /// The page of a code, whose letter may be small.

@@ -3,14 +3,14 @@
 ghost use Rattle.std.specs.Prelude.{◌≡◌, IfOk, IfErr, OnOk, Some, string_bytes, option_map, List, ℕ};
 ghost use Rattle.luchart.specs.Signals.{Signal};
 ghost use Rattle.luweave_text.specs.Waves.{site_dump, AreOutputSignals};
-ghost use Rattle.lusdist_stop.specs.Files.{IsFiledAt, IsUnfiledAt};
-ghost use Rattle.lusdist_meaning.specs.Waved.{IsWorldDumped, IsWorldFiled, replay_path, run_dump, run_path};
+ghost use Rattle.lusdist_call.specs.Files.{IsFiledAt, IsUnfiledAt};
+ghost use Rattle.lusdist_call.specs.Waved.{IsWorldDumped, IsWorldFiled, replay_path, run_dump, run_path};
 
 use luchart::signal::signals_of;
 use luflow::Outputs;
 use luplace::Plan;
+use lusdist_call::{Stop, file_text};
 use lusdist_shell::{Files, ReplayRequest, RunRequest};
-use lusdist_stop::{Stop, file_text};
 use lutab::shown_kinds;
 use luweave::World;
 use luweave_text::{dump_by_site, output_signals};

@@ -2,14 +2,14 @@
 
 ghost use Rattle.std.specs.Prelude.{◌<◌, length, IfOk, IfErr};
 ghost use Rattle.luflow.specs.Variables.{outputs_of};
-ghost use Rattle.lusdist_meaning.specs.Asked.{IsJobFor};
-ghost use Rattle.lusdist_meaning.specs.Stopped.{StopsAtJob};
+ghost use Rattle.lusdist_call.specs.Asked.{IsJobFor};
+ghost use Rattle.lusdist_call.specs.Stopped.{StopsAtJob};
 
 use crate::planning::planned;
 use crate::sources::job_of;
 use luplace::Job;
+use lusdist_call::{Stop, read};
 use lusdist_shell::Files;
-use lusdist_stop::{Stop, read};
 use std::alloc::Global;
 
 /// The job of the program, the placement and the table at three paths, which are read and refused in this order.

@@ -1,6 +1,6 @@
 //! What holds of the definitions, as contracts of functions that do nothing.
 
-ghost use Rattle.lusdist_meaning.specs.Exact.{HasOneOutcome, HasOneStatus, HasOneRefusal};
+ghost use Rattle.lusdist_call.specs.Exact.{HasOneOutcome, HasOneStatus, HasOneRefusal};
 
 use lusdist_shell::Files;
 

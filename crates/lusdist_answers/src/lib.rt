@@ -1,6 +1,6 @@
 //! The distributor: a call of the program by the files that its words name, and what each command answers from them: what is printed and dumped, or why it stops.
 //!
-//! - [`serve_words`]: a call, from its words to its exit status. How it ends stands in `lusdist_commands`, which is handed what each command answers.
+//! - [`serve_words`]: a call, from its words to its exit status. How it ends stands in `lusdist_call`, which is handed what each command answers.
 //! - [`answering`]: what a check, an evaluation, a plan and a run print; [`replaying`]: what a replay prints.
 //! - [`sources`]: from the texts of the files to a program, its flat program, a plan, a job, its turns, a table.
 //! - [`jobs`]: the job of a program, a placement and a table.
@@ -9,7 +9,7 @@
 //!   threads.
 //! - `filing`: dumps, each into the file that a request names.
 //! - [`explaining`]: a page of the manual. `reasons`: why a text is refused.
-//! - [`Stop`], [`Mistake`] of `lusdist_stop`: why a call stops.
+//! - [`Stop`], [`Mistake`] of `lusdist_call`: why a call stops.
 //! - [`laws`]: a call has one outcome, one refusal and one status.
 #![tactic(auto)]
 
@@ -27,5 +27,5 @@ pub mod running;
 pub mod sources;
 
 pub use distributor::serve_words;
-pub use lusdist_stop::{Mistake, Stop};
+pub use lusdist_call::{Mistake, Stop};
 pub use replaying::replayed;

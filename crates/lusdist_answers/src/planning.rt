@@ -2,15 +2,15 @@
 
 ghost use Rattle.std.specs.Prelude.{◌≡◌, [], ◌∷◌, ◌++◌, IfOk, IfErr, string_bytes};
 ghost use Rattle.luplace_report.specs.Report.{report_text};
-ghost use Rattle.lusdist_meaning.specs.Asked.{IsPlanFor, IsPlanText};
-ghost use Rattle.lusdist_meaning.specs.Stopped.{StopsAtPlan};
-ghost use Rattle.lusdist_stop.specs.declared.stop.Stop.TheVariants.{OutOfMemory};
+ghost use Rattle.lusdist_call.specs.Asked.{IsPlanFor, IsPlanText};
+ghost use Rattle.lusdist_call.specs.Stopped.{StopsAtPlan};
+ghost use Rattle.lusdist_call.specs.declared.stop.Stop.TheVariants.{OutOfMemory};
 
 use crate::sources::{flat_at, plan_of};
 use luplace::Plan;
 use luplace_report::{report_dot, report_json, report_table};
+use lusdist_call::{Stop, read};
 use lusdist_shell::{Files, PlanForm};
-use lusdist_stop::{Stop, read};
 use std::alloc::{AllocError, Global};
 
 /// The plan of the program and the placement at two paths, which are read and refused in this order.

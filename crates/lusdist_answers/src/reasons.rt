@@ -1,8 +1,8 @@
 //! Why a text is refused.
 
 ghost use Rattle.std.specs.Prelude.{◌≡◌, IfOk, string_bytes};
-ghost use Rattle.lusdist_commands.specs.Reasons.{program_path, place_path, table_path, schedule_path, blamed_path, IsReason};
-ghost use Rattle.lusdist_stop.specs.declared.stop.Stop.TheVariants as stops;
+ghost use Rattle.lusdist_call.specs.Reasons.{program_path, place_path, table_path, schedule_path, blamed_path, IsReason};
+ghost use Rattle.lusdist_call.specs.declared.stop.Stop.TheVariants as stops;
 ghost use Rattle.lucore.specs.declared.error.CoreError.TheVariants as flats;
 
 use crate::sources::program_of;
@@ -10,8 +10,8 @@ use lucore::CoreError;
 use luexplain::{of_cycle, of_fault, of_place, of_rule, of_schedule, of_size, of_syntax, of_table};
 use luflow::FaultKind;
 use luplace_file::PlaceError;
+use lusdist_call::{Stop, read};
 use lusdist_shell::{Files, Request, ScheduleError};
-use lusdist_stop::{Stop, read};
 use lustat_rules::StatError;
 use lusyn::SynError;
 use lutab::TabError;

@@ -3,20 +3,20 @@
 ghost use Rattle.std.specs.Prelude.{◌≡◌, ◌<◌, ℕ, List, IfOk, IfErr, OnOk, string_bytes};
 ghost use Rattle.luweave.specs.Headline.{IsFaithful};
 ghost use Rattle.luweave_text.specs.Traced.{IsTraced};
-ghost use Rattle.lusdist_meaning.specs.Asked.{IsAskedFor, IsWorldOf, AreNotesOf, IsPrinted, IsReplayed, IsNotedReplay};
-ghost use Rattle.lusdist_meaning.specs.Evaluated.{IsNoFault};
-ghost use Rattle.lusdist_stop.specs.Files.{IsUnfiledAt, IsUnwritten};
-ghost use Rattle.lusdist_meaning.specs.Waved.{AreWaved, IsReplayDumped, replay_path};
-ghost use Rattle.lusdist_meaning.specs.Stopped.{IsReplayStopped};
-ghost use Rattle.lusdist_stop.specs.declared.stop.Stop.{Stop};
-ghost use Rattle.lusdist_stop.specs.declared.stop.Stop.TheVariants.{OutOfMemory};
+ghost use Rattle.lusdist_call.specs.Asked.{IsAskedFor, IsWorldOf, AreNotesOf, IsPrinted, IsReplayed, IsNotedReplay};
+ghost use Rattle.lusdist_call.specs.Evaluated.{IsNoFault};
+ghost use Rattle.lusdist_call.specs.Files.{IsUnfiledAt, IsUnwritten};
+ghost use Rattle.lusdist_call.specs.Waved.{AreWaved, IsReplayDumped, replay_path};
+ghost use Rattle.lusdist_call.specs.Stopped.{IsReplayStopped};
+ghost use Rattle.lusdist_call.specs.declared.stop.Stop.{Stop};
+ghost use Rattle.lusdist_call.specs.declared.stop.Stop.TheVariants.{OutOfMemory};
 
 use crate::filing::file_world;
 use crate::jobs::job_for;
 use crate::sources::turns_at;
 use luplace::Job;
+use lusdist_call::{Said, Stop};
 use lusdist_shell::{Files, ReplayRequest, TurnsForm};
-use lusdist_stop::{Said, Stop};
 use luweave::{World, new_sites, replay};
 use luweave_text::{TraceForm, text_of_world, trace};
 use std::alloc::Global;

@@ -4,10 +4,10 @@ ghost use Rattle.std.specs.Prelude.{◌≡◌, ◌<◌, ◌⊎◌, length, IfOk,
 ghost use Rattle.luflow.specs.Variables.{outputs_of};
 ghost use Rattle.lurun_reports.specs.Reports.{AreOutputsOf};
 ghost use Rattle.lusdist_shell.specs.Request.{AreFew};
-ghost use Rattle.lutab_writing.specs.Outputs.{output_text};
-ghost use Rattle.lusdist_meaning.specs.Ran.{IsRunError, IsRunTable, IsStopOfRun};
-ghost use Rattle.lusdist_stop.specs.Files.{IsFiledAt, IsUnfiledAt};
-ghost use Rattle.lusdist_meaning.specs.Waved.{AreRunWaves, run_dump, run_path};
+ghost use Rattle.lutab.specs.Outputs.{output_text};
+ghost use Rattle.lusdist_call.specs.Ran.{IsRunError, IsRunTable, IsStopOfRun};
+ghost use Rattle.lusdist_call.specs.Files.{IsFiledAt, IsUnfiledAt};
+ghost use Rattle.lusdist_call.specs.Waved.{AreRunWaves, run_dump, run_path};
 
 use crate::evaluating::fault_stop;
 use crate::filing::file_run;
@@ -15,8 +15,8 @@ use luflow::Outputs;
 use luplace::{Job, Plan};
 use lurun::{Gate, RunError, run_crew, run_threads, stations};
 use lurun_rows::{row_stations, run_rows};
+use lusdist_call::Stop;
 use lusdist_shell::{Files, Progress, RunRequest};
-use lusdist_stop::Stop;
 use lutab::write_outputs;
 use std::alloc::Global;
 use std::rt::Clock;

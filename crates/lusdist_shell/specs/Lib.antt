@@ -6,3 +6,5 @@ pub mod Request
 pub mod Sinks
 pub mod Lines
 pub mod Files
+pub mod Pages
+pub mod Titles

@@ -10,8 +10,8 @@ ghost use Rattle.luworld.specs.Runs.{IsJob, outputs_of};
 
 use crate::next::{Fault, Next};
 use crate::site::Site;
+use lubase::Name;
 use luflow::Status;
-use lulist::Name;
 use std::alloc::{AllocError, Global};
 use std::marker::Model;
 

@@ -14,8 +14,8 @@ ghost use Rattle.lusite_program.specs.Programs.{output_names, part_of, places_of
 
 use crate::desk::Desk;
 use crate::next::{Fault, Next};
+use lubase::Name;
 use luflow::{Msg, Status};
-use lulist::Name;
 use luplace::SiteInputs;
 use lusite_program::{Held, SiteProgram, drawn, new_held};
 use std::alloc::{AllocError, Global};

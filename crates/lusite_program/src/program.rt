@@ -5,8 +5,8 @@ ghost use Rattle.luworld.specs.Needs.{IsPlan, sites_of};
 ghost use Rattle.luworld.specs.Runs.{outputs_of};
 ghost use Rattle.lusite_program.specs.Programs.{output_names, places_of, rank_at, ArePosts, Reports};
 
+use lubase::{Name, Row};
 use lueval_lines::Line;
-use lulist::{Name, Row};
 use luplace::Plan;
 use std::marker::Model;
 use std::snapshot::Snapshot;

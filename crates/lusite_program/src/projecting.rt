@@ -13,9 +13,9 @@ ghost use Rattle.lueval_lines.specs.Operations.{IsLonger};
 
 use crate::carriers::{Carriers, carriers_of, take_row};
 use crate::program::{LinkNo, Part, Post, SiteProgram};
+use lubase::{Name, Row};
 use lueval_lines::{line_of, moved_branches, moved_line};
 use luflow::{Flat, Role, Variable};
-use lulist::{Name, Row};
 use luplace::Plan;
 use std::alloc::{AllocError, Global};
 use std::snapshot::Snapshot;

@@ -8,10 +8,10 @@ use Rattle.lustat_rules.specs.declared.error.StatError.TheVariants.{DuplicateNam
 use Rattle.lustat_rules.specs.Told.{rule_of, number_told, RuleTold, Tells}
 use Rattle.lustat_rules.specs.Faults.{IsJudged, IsFault, AreKept}
 use Rattle.lustat_rules.proofs.Stages.{stage_least}
-use Rattle.lustat_scope.proofs.Keeping.{broken_somewhere}
+use Rattle.lustat_rules.proofs.Keeping.{broken_somewhere}
 use Rattle.lutype.specs.First.{IsToldFirst as IsFirstOfNames}
 use Rattle.lustat_clocks.specs.Asked.{is_asked}
-use Rattle.lustat_classes.specs.Faults.{IsFault as IsClassFault, AreKept as AreClassesKept, TellsBroken}
+use Rattle.lustat_init.specs.Faults.{IsFault as IsClassFault, AreKept as AreClassesKept, TellsBroken}
 use Rattle.lustat.specs.First.{stage_told, IsToldFirst}
 use Rattle.lustat.proofs.Telling.{second}
 

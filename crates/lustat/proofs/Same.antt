@@ -19,14 +19,14 @@ use Rattle.lustat_rules.specs.declared.error.StatError.TheVariants.{DuplicateNam
 use Rattle.lustat_rules.specs.Told.{rule_of, byte_of, number_of, number_told, RuleTold, Tells}
 use Rattle.lustat_rules.specs.Faults.{declared_in, FaultAt, FaultAmong, TypeFault, NameFault, InTypeFault, NodeFault, DeclarationFault, EquationFault, InNodeFault, IsFault}
 use Rattle.lustat_rules.specs.Least.{IsLeastFault}
-use Rattle.lustat_scope.proofs.Keeping.{view_item, item_view}
-use Rattle.lutype_calls.specs.CallGraph.{NoneRecursiveBefore}
+use Rattle.lustat_rules.proofs.Keeping.{view_item, item_view}
+use Rattle.lutype.specs.CallGraph.{NoneRecursiveBefore}
 use Rattle.lutype.specs.First.{IsRecursionFault, IsNameFault}
 use Rattle.lustat_clocks.specs.Asked.{is_asked as is_clock_rule}
-use Rattle.lutype_faults.specs.Asked.{is_asked as is_name_rule}
-use Rattle.lustat_classes.specs.Faults.{IsFault as IsClassFault, EquationSays, is_asked as is_class_rule}
-use Rattle.lustat_classes.specs.Faults as class
-use Rattle.lustat_classes.specs.Judged.{KeepsClasses}
+use Rattle.lutype.specs.Asked.{is_asked as is_name_rule}
+use Rattle.lustat_init.specs.Faults.{IsFault as IsClassFault, EquationSays, is_asked as is_class_rule}
+use Rattle.lustat_init.specs.Faults as class
+use Rattle.lustat_init.specs.Judged.{KeepsClasses}
 use Rattle.lustat_rules.specs.Classes.{IsLeast, CurrentsStart}
 use Rattle.lustat.specs.First.{stage_told, IsToldFirst}
 use Rattle.lustat.specs.First.IsToldFirst.{memory, names, clocks, classes}

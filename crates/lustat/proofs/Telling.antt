@@ -6,9 +6,9 @@ use Rattle.lustat_rules.specs.Accepted.{Rule, duplicate_name, unknown_name, unkn
 use Rattle.lustat_rules.specs.declared.error.StatError.{StatError}
 use Rattle.lustat_rules.specs.Told.{rule_of, RuleTold, Tells}
 use Rattle.lustat_rules.specs.Faults.{IsFault, AreKept}
-use Rattle.lustat_scope.proofs.Keeping.{broken_somewhere}
+use Rattle.lustat_rules.proofs.Keeping.{broken_somewhere}
 use Rattle.lustat_clocks.specs.Asked.{is_asked}
-use Rattle.lustat_classes.specs.Faults.{TellsBroken}
+use Rattle.lustat_init.specs.Faults.{TellsBroken}
 
 -- ALL STAGES
 

@@ -8,7 +8,7 @@ use Rattle.lustat_rules.specs.Faults.{IsFault}
 use Rattle.lustat_rules.specs.Least.{IsLeastFault}
 use Rattle.lutype.specs.First.{IsNameFault}
 use Rattle.lustat_clocks.specs.Asked.{is_asked as is_clock_rule}
-use Rattle.lustat_classes.specs.Faults.{IsFault as IsClassFault}
+use Rattle.lustat_init.specs.Faults.{IsFault as IsClassFault}
 
 -- the first digit of a refusal's number
 abbrev pub stage_told : StatError → ℕ

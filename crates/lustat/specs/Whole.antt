@@ -4,7 +4,7 @@ use Rattle.lutree.specs.declared.program.Program.{Program}
 use Rattle.lutree.specs.Tree.{program_view}
 use Rattle.lustat_rules.specs.Naming.{IsCallOrder}
 use Rattle.lustat_rules.specs.Accepted.{IsAccepted}
-use Rattle.lustat_classes.specs.Rows.{AreClasses}
+use Rattle.lustat_init.specs.Rows.{AreClasses}
 
 -- a program, the name of its main node, an order of its nodes by place, and for each node a row with the classes of its variables
 pub record Whole : Type 0 where

@@ -6,11 +6,11 @@ ghost use Rattle.lutree.specs.Tree.{NodeTree, program_view};
 ghost use Rattle.lustat_rules.specs.Accepted.{IsAccepted};
 ghost use Rattle.lustat_rules.specs.Naming.{IsCallOrder};
 ghost use Rattle.lustat_rules.specs.Classes.{Meets};
-ghost use Rattle.lustat_classes.specs.Assigned.{assigned};
-ghost use Rattle.lustat_classes.specs.Rows.{plain, row_at};
+ghost use Rattle.lustat_init.specs.Assigned.{assigned};
+ghost use Rattle.lustat_init.specs.Rows.{plain, row_at};
 ghost use Rattle.lustat.specs.Whole.{IsSound};
 
-use lustat_scope::Catalog;
+use lustat_rules::Catalog;
 use lutree::Program;
 use lutype::Typed;
 use std::marker::Model;
@@ -41,7 +41,7 @@ impl<'a> Model for Checked<'a> {
 
     ghost coded = { Prim.hlevel (codes, tree_row.the_row.coded) };
 
-    ghost use Rattle.lustat_classes.specs.Rows.{plain};
+    ghost use Rattle.lustat_init.specs.Rows.{plain};
     ghost use Rattle.lustat.specs.Whole.{IsSound};
 
     ghost view = { λ t. record {

@@ -6,12 +6,12 @@ ghost use Rattle.lustat_rules.specs.Accepted.{IsAccepted};
 ghost use Rattle.lustat_rules.specs.Told.{Tells};
 ghost use Rattle.lustat_rules.specs.Faults.{AreKept};
 ghost use Rattle.lustat_clocks.specs.Asked.{is_asked};
-ghost use Rattle.lustat_classes.specs.Rows.{AreClasses, plain};
+ghost use Rattle.lustat_init.specs.Rows.{AreClasses, plain};
 ghost use Rattle.lustat.specs.First.{IsToldFirst};
 
 use crate::checked::Checked;
-use lustat_classes::{Initialised, initialise};
 use lustat_clocks::clock_fault;
+use lustat_init::{Initialised, initialise};
 use lustat_rules::StatError;
 use lutree::Program;
 use lutype::{Typed, names};

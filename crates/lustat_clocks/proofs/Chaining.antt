@@ -7,16 +7,16 @@ use Rattle.std.proofs.lemmas.List.Elements.{Contains-push, Contains-push_cases, 
 use Rattle.lutree.specs.Tree.{DeclarationTree, NodeTree}
 use Rattle.lustat_rules.specs.Scope.{Clock, declarations_of, names_of, first_declared, meaning, clock_of}
 use Rattle.lustat_rules.specs.Clocks.{Ends, at_base, after}
-use Rattle.lugraph.proofs.Marks.{same_or_not}
-use Rattle.lugraph.specs.declared.link.Link.{Link}
-use Rattle.lugraph.specs.Reach.{link, IsWithin, IsReached, start, along}
-use Rattle.lunames.specs.Places.{first_place}
-use Rattle.lunames.proofs.Finding.{there}
-use Rattle.lustat_scope.proofs.Declared.{first_at_place}
-use Rattle.lunames.proofs.Sought.{at}
-use Rattle.lustat_scope.specs.ClockRefs.{place_before}
+use Rattle.lubase.proofs.Marks.{same_or_not}
+use Rattle.lubase.specs.declared.link.Link.{Link}
+use Rattle.lubase.specs.Reach.{link, IsWithin, IsReached, start, along}
+use Rattle.lubase.specs.Places.{first_place}
+use Rattle.lubase.proofs.Finding.{there}
+use Rattle.lustat_rules.proofs.Declared.{first_at_place}
+use Rattle.lubase.proofs.Sought.{at}
+use Rattle.lustat_rules.specs.ClockRefs.{place_before}
 use Rattle.lustat_clocks.specs.Chains.{AreBased, AreClocked}
-use Rattle.lustat_scope.proofs.Lent.{same_some}
+use Rattle.lustat_rules.proofs.Lent.{same_some}
 
 -- ONE MORE DECLARATION
 

@@ -5,7 +5,7 @@ use Rattle.lutree.specs.Tree.{NodeTree}
 use Rattle.lutree.specs.Tree as tree
 use Rattle.lustat_rules.specs.Scope.{Clock, clock_of}
 use Rattle.lustat_rules.specs.Clocks.{base, FitsInside}
-use Rattle.lustat_scope.specs.ClockRefs.{clock_under}
+use Rattle.lustat_rules.specs.ClockRefs.{clock_under}
 
 abbrev variable_of : Option Clock → List ℕ
 variable_of (Some (Some c)) = c.variable

@@ -3,10 +3,10 @@ use Rattle.std.specs.Prelude.{◌≡◌, ◌↔◌, ◌<◌, ℕ, Bool, List, So
 use Rattle.lutree.specs.Tree.{DeclarationTree, NodeTree}
 use Rattle.lustat_rules.specs.Scope.{declarations_of}
 use Rattle.lustat_rules.specs.Clocks.{Ends}
-use Rattle.lugraph.specs.Search.{Has}
-use Rattle.lustat_scope.specs.ClockRefs.{place_before}
-use Rattle.lugraph.specs.declared.link.Link.{Link}
-use Rattle.lugraph.specs.Reach.{link}
+use Rattle.lubase.specs.Search.{Has}
+use Rattle.lustat_rules.specs.ClockRefs.{place_before}
+use Rattle.lubase.specs.declared.link.Link.{Link}
+use Rattle.lubase.specs.Reach.{link}
 
 -- marks of those declarations whose clocks end at the base clock
 abbrev pub MarksEnds : NodeTree → List Bool → Type 0

@@ -3,12 +3,12 @@
 ghost use Rattle.std.specs.Prelude.{◌≡◌, ◌↔◌, IsTrue, All};
 ghost use Rattle.lutree.specs.Tree.{equation_view, node_view};
 ghost use Rattle.lustat_rules.specs.Clocks.{HasClock, ClocksAgree};
-ghost use Rattle.lustat_scope.specs.ClockRefs.{placed_view, IsPlaced};
+ghost use Rattle.lustat_rules.specs.ClockRefs.{placed_view, IsPlaced};
 
 use crate::anchor::fits_some;
 use crate::fit::{fits_placed, has_clock};
-use lulist::Name;
-use lustat_scope::{PlacedClock, Scope};
+use lubase::Name;
+use lustat_rules::{PlacedClock, Scope};
 use lutree::Equation;
 
 // Whether all variables have a clock.

@@ -4,11 +4,11 @@ ghost use Rattle.std.specs.Prelude.{◌≡◌, ◌↔◌, IsTrue, option_map};
 ghost use Rattle.lutree.specs.Tree.{view, views, trees_of, node_view};
 ghost use Rattle.lustat_rules.specs.Scope.{Clock};
 ghost use Rattle.lustat_rules.specs.Clocks.{Fits};
-ghost use Rattle.lustat_scope.specs.ClockRefs.{the_clock};
+ghost use Rattle.lustat_rules.specs.ClockRefs.{the_clock};
 ghost use Rattle.lustat_clocks.specs.Anchors.{current_anchor, anchor, anchor_of_all};
 
 use crate::fit::fits;
-use lustat_scope::{ClockRef, Scope};
+use lustat_rules::{ClockRef, Scope};
 use lutree::Expr;
 
 // The clock of the clock of a variable.

@@ -5,13 +5,13 @@ ghost use Rattle.lutree.specs.Tree.{declaration_view, equation_view, node_view, 
 ghost use Rattle.lustat_rules.specs.Scope.{declarations_of, kind_of};
 ghost use Rattle.lustat_rules.specs.Parts.{EachPart, EachPartOf};
 ghost use Rattle.lustat_rules.specs.Clocks.{pattern_kind, IsTypedClock, CanMerge, NamesClocks, IsClock, ClocksAreTyped};
-ghost use Rattle.lugraph.specs.Search.{Has};
-ghost use Rattle.lustat_scope.specs.Lent.{lent_view};
+ghost use Rattle.lubase.specs.Search.{Has};
+ghost use Rattle.lustat_rules.specs.Lent.{lent_view};
 ghost use Rattle.lustat_clocks.specs.Chains.{MarksEnds, AreBased, AreClocked};
-ghost use Rattle.lustat_scope.specs.ClockRefs.{place_before};
+ghost use Rattle.lustat_rules.specs.ClockRefs.{place_before};
 
-use lugraph::{Link, reached};
-use lustat_scope::Scope;
+use lubase::{Link, reached};
+use lustat_rules::Scope;
 use lutree::{Condition, Declaration, Equation, Expr, Kind, Pattern};
 use std::alloc::{AllocError, Global};
 

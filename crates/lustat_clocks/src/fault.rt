@@ -12,8 +12,7 @@ ghost use Rattle.lustat_clocks.specs.Asked.{is_asked};
 use crate::agree::agrees;
 use crate::chain::{is_clock, names_clocks};
 use crate::parameter::{calls_unclocked, is_unclocked, is_visible};
-use lustat_rules::{StatError, lesser, told};
-use lustat_scope::{Catalog, Scope};
+use lustat_rules::{Catalog, Scope, StatError, lesser, told};
 use lutree::{Declaration, Equation};
 
 /// The least fault of a declaration, whatever the program round its node.

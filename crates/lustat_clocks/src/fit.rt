@@ -1,14 +1,14 @@
 //! Which expressions fit a clock.
 
 ghost use Rattle.std.specs.Prelude.{◌≡◌, ◌↔◌, IsTrue, Some};
-ghost use Rattle.lunames.specs.Places.{first_place};
+ghost use Rattle.lubase.specs.Places.{first_place};
 ghost use Rattle.lustat_rules.specs.Scope.{declarations_of, names_of};
 ghost use Rattle.lutree.specs.Tree.{view, views, trees_of, node_view};
 ghost use Rattle.lutree.specs.Tree as tree;
 ghost use Rattle.lustat_rules.specs.Clocks.{on, HasClock, Fits, FitsInside, AllFitInside, BranchesFitInside};
-ghost use Rattle.lustat_scope.specs.ClockRefs.{the_clock, placed_view, clock_under, IsPlaced};
+ghost use Rattle.lustat_rules.specs.ClockRefs.{the_clock, placed_view, clock_under, IsPlaced};
 
-use lustat_scope::{ClockRef, PatternRef, PlacedClock, Scope};
+use lustat_rules::{ClockRef, PatternRef, PlacedClock, Scope};
 use lutree::{Expr, Pattern};
 
 /// Whether a variable has a clock.

@@ -7,8 +7,8 @@ ghost use Rattle.lustat_rules.specs.Clocks.{base, IsUnclocked, HasUnclockedOutpu
 ghost use Rattle.lutree.specs.declared.program.Declaration.{Declaration};
 ghost use Rattle.lustat_clocks.specs.Named.{EachCall, EachCallOfAll, IsOther};
 
-use lulist::Name;
-use lustat_scope::{Catalog, Scope};
+use lubase::Name;
+use lustat_rules::{Catalog, Scope};
 use lutree::{Declaration, Equation, Expr};
 
 /// `E22` at a declaration: an input is on the base clock, and so is an output where the node isn't the main one.

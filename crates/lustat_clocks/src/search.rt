@@ -12,8 +12,7 @@ ghost use Rattle.lustat_clocks.specs.Asked.{is_asked};
 use crate::chain::chain_ends;
 use crate::fault::{declaration_fault, equation_fault};
 use crate::parameter::main_is_unclocked;
-use lustat_rules::StatError;
-use lustat_scope::{Catalog, Scope, Stage, least_fault};
+use lustat_rules::{Catalog, Scope, Stage, StatError, least_fault};
 use lutree::{Declaration, DeclaredName, Equation, TypeDeclaration};
 use std::alloc::{AllocError, Global};
 

@@ -14,3 +14,8 @@ mod Switch
 mod Enumerated
 pub mod Agreeing
 mod Merging
+pub mod Declared
+pub mod Keeping
+pub mod Placed
+mod Labelled
+pub mod Lent

@@ -13,3 +13,9 @@ pub mod Faults
 pub mod Lines
 pub mod ClassVectors
 pub mod Least
+pub mod Scopes
+pub mod ClockRefs
+pub mod Tables
+pub mod Catalogs
+pub mod Stages
+pub mod Lent

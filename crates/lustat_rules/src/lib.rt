@@ -1,4 +1,7 @@
-//! The static rules of programs, as definitions over the tree, and what a refusal tells.
+//! The static rules of programs, as definitions over the tree; what a refusal reports; and what the stages of the
+//! static checks share: names looked up by tables, and one search for the least fault.
+//!
+//! # The rules
 //!
 //! - `specs/Scope.antt`: what a name means in a node, and which node a call means.
 //! - `specs/Naming.antt`: the rules of names, `E10` to `E18` but for the types.
@@ -8,14 +11,38 @@
 //! - `specs/Classes.antt`: initialisation classes, `E30`, and the condition of `current`, `E31`.
 //! - `specs/Accepted.antt`: which programs are accepted, and what a refusal says.
 //! - `specs/Vectors.antt`: worked programs for the rules; `specs/EnumVectors.antt`: those with enumerations.
-//! - `specs/Told.antt` and [`StatError`]: what a refusal tells.
-//! - `specs/Faults.antt`, [`told`] and [`lesser`]: the faults of a program, and the one that is told.
 //! - [`laws`]: what holds of these definitions.
+//!
+//! # Refusals
+//!
+//! - `specs/Told.antt` and [`StatError`]: what a refusal reports.
+//! - `specs/Faults.antt`, [`told`] and [`lesser`]: the faults of a program, and the one that is reported.
+//!
+//! # Look-up and the search
+//!
+//! - [`Scope`]: a node with the tables of its variables.
+//! - [`Catalog`]: a program with a scope for each node and tables of the names of its nodes, its types and
+//!   enumerations.
+//! - [`ClockRef`]: a clock, lent. [`PatternRef`]: its pattern, lent. [`PlacedClock`]: a clock, lent, with the place of
+//!   its variable.
+//! - [`Stage`]: a stage of the static checks: its tests of types, names, nodes, declarations and equations.
+//! - [`least_fault`]: the least fault that a stage finds.
+//!
+//! What a look-up finds is said by the plain scan of declarations.
 #![tactic(auto)]
 
+mod catalog;
+mod clock_ref;
 mod error;
 pub mod laws;
 mod least;
+mod scope;
+mod stage;
 
+pub use catalog::Catalog;
+pub use clock_ref::{ClockRef, PatternRef, PlacedClock};
 pub use error::StatError;
 pub use least::{is_told_before, lesser, told};
+pub use lubase::Places;
+pub use scope::Scope;
+pub use stage::{Stage, least_fault};

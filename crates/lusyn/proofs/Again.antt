@@ -5,8 +5,8 @@ use Rattle.lutree.specs.Tree.{ProgramTree}
 use Rattle.lusyn_printer.specs.Canonical.{canonical}
 use Rattle.lusyn_printer.proofs.Bare.{canonical-bare}
 use Rattle.lusyn_printer.proofs.ReadBack.{read_back, ascii}
-use Rattle.lusyn_labels.specs.Resolved.{resolved}
-use Rattle.lusyn_labels.proofs.Bare.{bare-resolved}
+use Rattle.lusyn_parser.specs.Resolved.{resolved}
+use Rattle.lusyn_parser.proofs.Bare.{bare-resolved}
 use Rattle.lusyn.specs.Texts.{IsReadBack, SpellsText}
 
 -- what names stand for isn't printed

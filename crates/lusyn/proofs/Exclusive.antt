@@ -2,19 +2,19 @@
 use Rattle.std.proofs.Common.{◌≡◌, ℕ, List, [], ◌∷◌, ◌++◌, length, Result, Ok, Err, sym, ap, ◌∙◌, subst, inl, inr}
 use Rattle.std.proofs.lemmas.List.{map-append, append-nil}
 use Rattle.lutree.specs.Tree.{ProgramTree}
-use Rattle.lusyn_tokens.specs.Tokens.{Tok}
-use Rattle.lusyn_lexer.specs.declared.error.LexError.{LexError}
-use Rattle.lusyn_lexer.specs.declared.error.LexError.TheVariants as l
-use Rattle.lusyn_lexer.specs.Lexing.{Placed}
-use Rattle.lusyn_lexer.specs.Refusals.{IsLexed}
-use Rattle.lusyn_lexer.specs.Refusals as lexing
-use Rattle.lusyn_lexer.proofs.Whole.{lexed-whole, refused-whole}
+use Rattle.lusyn_grammar.specs.Tokens.{Tok}
+use Rattle.lusyn_grammar.specs.declared.error.LexError.{LexError}
+use Rattle.lusyn_grammar.specs.declared.error.LexError.TheVariants as l
+use Rattle.lusyn_grammar.specs.Lexing.{Placed}
+use Rattle.lusyn_grammar.specs.Refusals.{IsLexed}
+use Rattle.lusyn_grammar.specs.Refusals as lexing
+use Rattle.lusyn_grammar.proofs.Whole.{lexed-whole, refused-whole}
 use Rattle.lusyn_grammar.specs.Grammar.{Spells}
 use Rattle.lusyn_grammar.proofs.CompletePrograms.{all_of-again}
 use Rattle.lusyn_parser.specs.Refused.{IsWrongFrom, NoneGoesOn, unplaced}
 use Rattle.lusyn.specs.declared.error.SynError.{SynError}
 use Rattle.lusyn.specs.declared.error.SynError.TheVariants as e
-use Rattle.lusyn_labels.specs.Resolved.{resolved}
+use Rattle.lusyn_parser.specs.Resolved.{resolved}
 use Rattle.lusyn.specs.Refusals.{IsRefused}
 use Rattle.lusyn.specs.Texts.{HasProgram, IsSmall, SpellsText}
 use Rattle.lusyn.proofs.Limits.{not_large}

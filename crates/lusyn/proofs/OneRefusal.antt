@@ -2,11 +2,11 @@
 use Rattle.std.proofs.Common.{◌≡◌, ◌≤◌, ◌<◌, ℕ, List, length, Result, Ok, Err, inl, inr, refl, sym, ap, ◌∙◌, subst, arith}
 use Rattle.std.specs.Str.{IsNotAscii}
 use Rattle.lutree.specs.Tree.{ProgramTree}
-use Rattle.lusyn_lexer.specs.declared.error.LexError.{LexError}
-use Rattle.lusyn_lexer.specs.declared.error.LexError.TheVariants as l
-use Rattle.lusyn_lexer.specs.Lexing.{Placed}
-use Rattle.lusyn_lexer.specs.Refusals.{IsPlain, IsLexed}
-use Rattle.lusyn_lexer.proofs.Whole.{whole, lexed-whole, refused-whole}
+use Rattle.lusyn_grammar.specs.declared.error.LexError.{LexError}
+use Rattle.lusyn_grammar.specs.declared.error.LexError.TheVariants as l
+use Rattle.lusyn_grammar.specs.Lexing.{Placed}
+use Rattle.lusyn_grammar.specs.Refusals.{IsPlain, IsLexed}
+use Rattle.lusyn_grammar.proofs.Whole.{whole, lexed-whole, refused-whole}
 use Rattle.lusyn_parser.specs.Refused.{IsWrongFrom}
 use Rattle.lusyn_parser.proofs.Whole.{same_place}
 use Rattle.lusyn.specs.declared.error.SynError.{SynError}

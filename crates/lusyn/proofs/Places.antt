@@ -6,13 +6,13 @@ use Rattle.std.proofs.lemmas.Bool.{and_parts, ltb-true}
 use Rattle.std.proofs.lemmas.Str.Ascii.{IsAscii-nil, IsAscii-cons}
 use Rattle.lutree.specs.Places.{ProgramPlaces, places_view}
 use Rattle.lutree.specs.declared.program.Program.{Program}
-use Rattle.lusyn_tokens.specs.declared.token.Lexeme.{Lexeme}
-use Rattle.lusyn_tokens.specs.Tokens.{located}
-use Rattle.lusyn_tokens.specs.declared.token.Fixed.TheVariants as f
-use Rattle.lusyn_tokens.specs.Tokens.{identifier, number, fixed}
-use Rattle.lusyn_lexer.specs.Lexing.{Placed}
-use Rattle.lusyn_lexer.specs.Scanning.{lex, piece}
-use Rattle.lusyn_lexer.proofs.Whole.{whole, answer-is}
+use Rattle.lusyn_grammar.specs.declared.token.Lexeme.{Lexeme}
+use Rattle.lusyn_grammar.specs.Tokens.{located}
+use Rattle.lusyn_grammar.specs.declared.token.Fixed.TheVariants as f
+use Rattle.lusyn_grammar.specs.Tokens.{identifier, number, fixed}
+use Rattle.lusyn_grammar.specs.Lexing.{Placed}
+use Rattle.lusyn_grammar.specs.Scanning.{lex, piece}
+use Rattle.lusyn_grammar.proofs.Whole.{whole, answer-is}
 use Rattle.lusyn_grammar.specs.Places.{places_in, types_in, nodes_in, behind, declared, begun, enumerated}
 use Rattle.lusyn.specs.Places.{ArePlacesOf, two_nodes, two_nodes_places, PlacesVector}
 use Rattle.lusyn.proofs.Exclusive.{tokens_same}

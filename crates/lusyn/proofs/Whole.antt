@@ -2,14 +2,14 @@
 use Rattle.std.proofs.Common.{◌≡◌, ◌⊎◌, inl, inr, ℕ, length, List, Result, Ok, Err, refl, ap, sym, ◌∙◌, subst}
 use Rattle.lutree.specs.Tree.{ProgramTree, program_view}
 use Rattle.lutree.specs.declared.program.Program.{Program}
-use Rattle.lusyn_tokens.specs.declared.token.Lexeme.{Lexeme}
-use Rattle.lusyn_tokens.specs.Tokens.{toks, located}
-use Rattle.lusyn_lexer.specs.declared.error.LexError.{LexError}
-use Rattle.lusyn_lexer.specs.declared.error.LexError.TheVariants as l
-use Rattle.lusyn_lexer.specs.Gives.{Lexes}
-use Rattle.lusyn_lexer.specs.Lexing.{Placed}
-use Rattle.lusyn_lexer.specs.Refusals.{IsLexed}
-use Rattle.lusyn_lexer.specs.Refusals as lexing
+use Rattle.lusyn_grammar.specs.declared.token.Lexeme.{Lexeme}
+use Rattle.lusyn_grammar.specs.Tokens.{toks, located}
+use Rattle.lusyn_grammar.specs.declared.error.LexError.{LexError}
+use Rattle.lusyn_grammar.specs.declared.error.LexError.TheVariants as l
+use Rattle.lusyn_grammar.specs.Gives.{Lexes}
+use Rattle.lusyn_grammar.specs.Lexing.{Placed}
+use Rattle.lusyn_grammar.specs.Refusals.{IsLexed}
+use Rattle.lusyn_grammar.specs.Refusals as lexing
 use Rattle.lusyn_grammar.specs.Grammar.{Spells}
 use Rattle.lusyn_parser.specs.declared.error.ParseError.{ParseError}
 use Rattle.lusyn_parser.specs.declared.error.ParseError.TheVariants as p
@@ -20,7 +20,7 @@ use Rattle.lusyn.specs.declared.error.SynError.{SynError}
 use Rattle.lusyn.specs.declared.error.SynError.TheVariants as e
 use Rattle.lusyn.specs.Gives.{IsAnswered, Refuses, refusal, syntax_refusal}
 use Rattle.lusyn.specs.Refusals.{IsRefused}
-use Rattle.lusyn_labels.specs.Resolved.{resolved}
+use Rattle.lusyn_parser.specs.Resolved.{resolved}
 use Rattle.lusyn.specs.Texts.{HasProgram, IsSmall, IsLarge, SpellsText}
 use Rattle.lusyn.proofs.Limits.{not_large}
 

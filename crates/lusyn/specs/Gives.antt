@@ -2,8 +2,8 @@
 use Rattle.std.specs.Prelude.{◌≡◌, Result, Ok, Err}
 use Rattle.lutree.specs.declared.program.Program.{Program}
 use Rattle.lutree.specs.Tree.{ProgramTree, program_view}
-use Rattle.lusyn_lexer.specs.declared.error.LexError.{LexError}
-use Rattle.lusyn_lexer.specs.declared.error.LexError.TheVariants as l
+use Rattle.lusyn_grammar.specs.declared.error.LexError.{LexError}
+use Rattle.lusyn_grammar.specs.declared.error.LexError.TheVariants as l
 use Rattle.lusyn_parser.specs.declared.error.ParseError.{ParseError}
 use Rattle.lusyn_parser.specs.declared.error.ParseError.TheVariants as p
 use Rattle.lusyn.specs.declared.error.SynError.{SynError}

@@ -1,8 +1,8 @@
 -- Where the parts of a program stand in its text, in bytes from 0.
 use Rattle.std.specs.Prelude.{◌≡◌, ℕ, List, [], ◌∷◌, ◌++◌, codes}
 use Rattle.lutree.specs.Places.{ProgramPlaces}
-use Rattle.lusyn_lexer.specs.Lexing.{Placed}
-use Rattle.lusyn_lexer.specs.Refusals.{IsLexed}
+use Rattle.lusyn_grammar.specs.Lexing.{Placed}
+use Rattle.lusyn_grammar.specs.Refusals.{IsLexed}
 use Rattle.lusyn_grammar.specs.Places.{places_in}
 
 -- the places that the tokens of the text tell

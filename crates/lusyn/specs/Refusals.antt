@@ -1,10 +1,10 @@
 -- Which refusal is true of a text that spells no program.
 use Rattle.std.specs.Prelude.{◌⊎◌, ℕ, List, length}
 use Rattle.lutree.specs.Tree.{ProgramTree}
-use Rattle.lusyn_lexer.specs.declared.error.LexError.TheVariants as l
-use Rattle.lusyn_lexer.specs.Lexing.{Placed}
-use Rattle.lusyn_lexer.specs.Refusals.{IsLexed}
-use Rattle.lusyn_lexer.specs.Refusals as lexing
+use Rattle.lusyn_grammar.specs.declared.error.LexError.TheVariants as l
+use Rattle.lusyn_grammar.specs.Lexing.{Placed}
+use Rattle.lusyn_grammar.specs.Refusals.{IsLexed}
+use Rattle.lusyn_grammar.specs.Refusals as lexing
 use Rattle.lusyn_parser.specs.Refused.{IsWrongFrom}
 use Rattle.lusyn.specs.declared.error.SynError.{SynError}
 use Rattle.lusyn.specs.declared.error.SynError.TheVariants as e

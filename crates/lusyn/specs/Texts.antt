@@ -2,12 +2,12 @@
 use Rattle.std.specs.Prelude.{◌≡◌, ◌≤◌, ◌<◌, ◌⊎◌, ℕ, List, [], ◌∷◌, length}
 use Rattle.lulimits.specs.Limits.{longest_program, most_nodes, most_types, most_names}
 use Rattle.lutree.specs.Tree.{TypeTree, ProgramTree}
-use Rattle.lusyn_lexer.specs.Lexing.{Placed}
-use Rattle.lusyn_lexer.specs.Refusals.{IsLexed}
+use Rattle.lusyn_grammar.specs.Lexing.{Placed}
+use Rattle.lusyn_grammar.specs.Refusals.{IsLexed}
 use Rattle.lusyn_grammar.specs.Grammar.{Spells}
 use Rattle.lusyn_parser.specs.Refused.{unplaced}
-use Rattle.lusyn_labels.specs.Resolved.{resolved}
-use Rattle.lusyn_labels.specs.Tables.{AreFew}
+use Rattle.lusyn_parser.specs.Resolved.{resolved}
+use Rattle.lusyn_parser.specs.Tables.{AreFew}
 
 -- a text that is accepted as tokens, which spell the program as it is written
 abbrev pub HasProgram : List ℕ → ProgramTree → Type 0

@@ -1,6 +1,6 @@
 //! Why a text is refused.
 
-use lusyn_lexer::LexError;
+use lusyn_grammar::LexError;
 use lusyn_parser::ParseError;
 use std::alloc::{AllocError, AllocFailed};
 use std::fmt;

@@ -3,8 +3,8 @@
 //! [`read_program`] reads a text of the whole language, or tells by a [`SynError`] why it spells no program. [`print_program`]
 //! gives the canonical text of a program, which is read back as the same program.
 //!
-//! Crate `lusyn_lexer` cuts the text into tokens, crate `lusyn_parser` reads them by the grammar that crate `lusyn_grammar` defines, crate
-//! `lusyn_labels` finds what names of enumerations stand for, and crate `lusyn_printer` prints.
+//! Crate `lusyn_grammar` cuts the text into tokens and defines the grammar. Crate `lusyn_parser` reads the tokens by it, and
+//! finds what names of enumerations stand for. Crate `lusyn_printer` prints.
 //!
 //! - `text`: from a text to the tree.
 //! - `print`: from a tree to its canonical text.

@@ -6,7 +6,7 @@ ghost use Rattle.lutree.specs.Places.{places_view};
 ghost use Rattle.lutree.specs.Tree.{ProgramTree, program_view};
 ghost use Rattle.lulimits.specs.Limits.{most_names};
 ghost use Rattle.lusyn_grammar.specs.Grammar.{Each};
-ghost use Rattle.lusyn_labels.specs.Tables.{types_view};
+ghost use Rattle.lusyn_parser.specs.Tables.{types_view};
 ghost use Rattle.lusyn.specs.Gives.{IsAnswered, Refuses};
 ghost use Rattle.lusyn.specs.Places.{ArePlacesOf};
 ghost use Rattle.lusyn.specs.Refusals.{IsRefused};
@@ -14,9 +14,8 @@ ghost use Rattle.lusyn.specs.Texts.{HasProgram, IsSmall, HasLongType, IsLarge, S
 
 use crate::error::SynError;
 use lulimits::limits::{MOST_NAMES, MOST_NODES, MOST_TYPES};
-use lusyn_labels::resolve;
-use lusyn_lexer::lex;
-use lusyn_parser::parse_tokens;
+use lusyn_grammar::lex;
+use lusyn_parser::{parse_tokens, resolve};
 use lutree::{Program, TypeDeclaration};
 use std::alloc::Global;
 
@@ -68,9 +67,9 @@ fn read_written(alloc: Global, text: &str) -> Result<Program, SynError>
 
 /// The program that a text spells.
 ///
-/// A text without tokens is refused as crate `lusyn_lexer` refuses it. Any other text that spells no program is refused at the
-/// first token with which no program goes on, or at its end where it ends too early. A program of more than [`MOST_NODES`]
-/// nodes, of more than [`MOST_TYPES`] types or of more than [`MOST_NAMES`] names in one is refused last.
+/// A text without tokens is refused as [`lex`] of crate `lusyn_grammar` refuses it. Any other text that spells no program is
+/// refused at the first token with which no program goes on, or at its end where it ends too early. A program of more than
+/// [`MOST_NODES`] nodes, of more than [`MOST_TYPES`] types or of more than [`MOST_NAMES`] names in one is refused last.
 pub fn read_program(alloc: Global, text: &str) -> Result<Program, SynError>
     // What is read is spelled so.
     ensures spelled { IfOk result (λ found. SpellsText text.now (program_view found)) }

@@ -1,9 +1,9 @@
 -- Names and declarations that are spelled so are read.
 use Rattle.std.proofs.Common.{◌≡◌, ◌<◌, ◌≤◌, ◌+◌, ℕ, Option, Some, None, Ok, Err, List, ◌∷◌, [], ◌++◌, refl, ap, ◌∙◌, Bool, true, false, map, length, arith, if◌then◌else◌}
 use Rattle.lutree.specs.declared.expr.Condition.{Condition}
-use Rattle.lusyn_tokens.specs.declared.token.Fixed.{Fixed}
-use Rattle.lusyn_tokens.specs.declared.token.Fixed.TheVariants as f
-use Rattle.lusyn_tokens.specs.Tokens.{Tok, fixed}
+use Rattle.lusyn_grammar.specs.declared.token.Fixed.{Fixed}
+use Rattle.lusyn_grammar.specs.declared.token.Fixed.TheVariants as f
+use Rattle.lusyn_grammar.specs.Tokens.{Tok, fixed}
 use Rattle.lusyn_grammar.specs.Grammar as w
 use Rattle.lusyn_grammar.specs.Grammar.{WrittenType, WrittenDeclaration, repeated, led, separated, Each, IsNonempty, IsBareClock, IsProperDeclaration, type_token, when_tokens, pattern_tokens, declared, declaration_tree}
 use Rattle.lusyn_grammar.specs.Reading.{after, begins, begins_name, condition, many, further_name, names, kind, clock_by, clocked, declaration, further_declaration, declarations, inputs, ended, ended_declaration, locals_by, locals}

@@ -13,10 +13,10 @@ use Rattle.lutree.specs.declared.expr.Pattern.TheVariants as patterns
 use Rattle.lutree.specs.declared.expr.Condition.{Condition}
 use Rattle.lutree.specs.Tree.{Tree, Trees, trees_of}
 use Rattle.lutree.specs.Tree as t
-use Rattle.lusyn_tokens.specs.declared.token.Fixed.{Fixed}
-use Rattle.lusyn_tokens.specs.declared.token.Fixed.TheVariants as f
-use Rattle.lusyn_tokens.specs.Tokens.{Tok, identifier, number, fixed}
-use Rattle.lusyn_tokens.specs.Tokens.{infix_token, prefix_token, level, left, right}
+use Rattle.lusyn_grammar.specs.declared.token.Fixed.{Fixed}
+use Rattle.lusyn_grammar.specs.declared.token.Fixed.TheVariants as f
+use Rattle.lusyn_grammar.specs.Tokens.{Tok, identifier, number, fixed}
+use Rattle.lusyn_grammar.specs.Tokens.{infix_token, prefix_token, level, left, right}
 use Rattle.lusyn_grammar.specs.Grammar.{Written, Writtens, tree, trees, tokens, further, branches, branch_token, level_of, IsProper, AreProper, IsBare, IsBareLabel, bare_label, truths, AreAsMany, AreBranches, IsNonempty, when_tokens, pattern_tokens, repeated, led, Each}
 use Rattle.lusyn_grammar.specs.Grammar as w
 use Rattle.lusyn_grammar.specs.Reading.{Read, ◌>>=◌, Next, operator, clock, parenthesis, nothing, next, tail, after, begins, clock_from_by, condition, many, step, climb, further_operand, closed, operands_by, operands, named, choice, inside, branch, merged, by_truths, labelled, further_branch, by_labels, merge, current, at_level, allowed, prefixed, head, whole, expr}

@@ -2,9 +2,9 @@
 use Rattle.std.proofs.Common.{◌≡◌, ◌<◌, ◌≤◌, ◌+◌, ℕ, zero, suc, Result, Ok, Err, List, ◌∷◌, [], ◌++◌, refl, ap, sym, ◌∙◌, cond, Bool, true, false, append_assoc, length, arith}
 use Rattle.std.specs.List.{flat_map}
 use Rattle.std.proofs.lemmas.List.{append-nil}
-use Rattle.lusyn_tokens.specs.declared.token.Fixed.{Fixed}
-use Rattle.lusyn_tokens.specs.declared.token.Fixed.TheVariants as f
-use Rattle.lusyn_tokens.specs.Tokens.{Tok, fixed}
+use Rattle.lusyn_grammar.specs.declared.token.Fixed.{Fixed}
+use Rattle.lusyn_grammar.specs.declared.token.Fixed.TheVariants as f
+use Rattle.lusyn_grammar.specs.Tokens.{Tok, fixed}
 use Rattle.lusyn_grammar.specs.Grammar.{repeated, led, separated, optional, Each}
 use Rattle.lusyn_grammar.specs.Reading.{Read, ◌>>=◌, after, past, past_by, many}
 use Rattle.lusyn_grammar.proofs.Tables.{same-refl}

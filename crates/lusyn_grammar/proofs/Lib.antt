@@ -16,3 +16,8 @@ mod Viable
 mod ViableExpressions
 pub mod ViablePrograms
 pub mod Plain
+pub mod TextPieces
+mod ScanningLemmas
+mod Cuts
+mod Runs
+pub mod Whole

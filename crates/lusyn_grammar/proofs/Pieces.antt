@@ -3,9 +3,9 @@ use Rattle.std.proofs.Common.{◌≡◌, ℕ, zero, suc, Result, Ok, Err, List, 
 use Rattle.std.specs.List.{flat_map}
 use Rattle.std.proofs.lemmas.List.{append-nil}
 use Rattle.lutree.specs.declared.expr.Condition.{Condition}
-use Rattle.lusyn_tokens.specs.declared.token.Fixed.{Fixed}
-use Rattle.lusyn_tokens.specs.declared.token.Fixed.TheVariants as f
-use Rattle.lusyn_tokens.specs.Tokens.{Tok, identifier, number, fixed}
+use Rattle.lusyn_grammar.specs.declared.token.Fixed.{Fixed}
+use Rattle.lusyn_grammar.specs.declared.token.Fixed.TheVariants as f
+use Rattle.lusyn_grammar.specs.Tokens.{Tok, identifier, number, fixed}
 use Rattle.lusyn_grammar.specs.Grammar.{repeated, optional, Each, IsBare, pattern_tokens, when_tokens}
 use Rattle.lusyn_grammar.specs.Reading.{Read, ◌>>=◌, same, after, past_by, past, name, on_truth, on_label, labelled_clock, clock_from_by, clock_from, condition_by, condition, many}
 use Rattle.lusyn_grammar.proofs.Tables.{same-is}

@@ -5,11 +5,11 @@ use Rattle.lutree.specs.declared.expr.Infix.{Infix}
 use Rattle.lutree.specs.declared.expr.Pattern.{Pattern}
 use Rattle.lutree.specs.declared.expr.Pattern.TheVariants as patterns
 use Rattle.lutree.specs.declared.expr.Condition.{Condition}
-use Rattle.lusyn_tokens.specs.declared.token.Fixed.{Fixed}
-use Rattle.lusyn_tokens.specs.declared.token.Fixed.TheVariants as f
-use Rattle.lusyn_tokens.specs.Tokens.{Tok, identifier, fixed}
-use Rattle.lusyn_tokens.specs.Tokens as tok
-use Rattle.lusyn_tokens.specs.Tokens.{prefix_token, infix_token, prefix_of}
+use Rattle.lusyn_grammar.specs.declared.token.Fixed.{Fixed}
+use Rattle.lusyn_grammar.specs.declared.token.Fixed.TheVariants as f
+use Rattle.lusyn_grammar.specs.Tokens.{Tok, identifier, fixed}
+use Rattle.lusyn_grammar.specs.Tokens as tok
+use Rattle.lusyn_grammar.specs.Tokens.{prefix_token, infix_token, prefix_of}
 use Rattle.lusyn_grammar.specs.Grammar.{Written, Writtens, Each, WrittenType, WrittenDeclaration, WrittenEquation, repeated, led, ended, separated, name, truth_token, sign_tokens, pattern_tokens, when_tokens, branch_token, tokens, further, branches, type_token, clock, declaration, left_tokens, equation}
 use Rattle.lusyn_grammar.specs.Grammar as w
 use Rattle.lusyn_grammar.specs.Reading.{next, nothing}

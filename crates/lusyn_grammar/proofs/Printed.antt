@@ -9,8 +9,8 @@ use Rattle.lutree.specs.declared.expr.Pattern.TheVariants as patterns
 use Rattle.lutree.specs.declared.expr.Condition.{Condition}
 use Rattle.lutree.specs.Tree.{Tree, Trees, TypeTree, DeclarationTree, EquationTree, NodeTree, ProgramTree}
 use Rattle.lutree.specs.Tree as t
-use Rattle.lusyn_tokens.specs.Tokens.{Tok}
-use Rattle.lusyn_tokens.specs.Tokens.{left, right}
+use Rattle.lusyn_grammar.specs.Tokens.{Tok}
+use Rattle.lusyn_grammar.specs.Tokens.{left, right}
 use Rattle.lusyn_grammar.specs.Grammar as w
 use Rattle.lusyn_grammar.specs.Grammar.{Written, Writtens, paren, tree, trees, level_of, IsProper, AreProper, WrittenType, WrittenDeclaration, WrittenEquation, WrittenNode, WrittenProgram, Each, IsNonempty, IsBare, IsBareLabel, IsBareClock, bare_label, truths, AreAsMany, AreBranches, IsCall, IsDefinedBy, IsProperDeclaration, IsProperEquation, IsProperNode, IsProperProgram, kind_of, type_name_of, declared, declaration_tree, equation_tree, node_tree, program_tree, program, Spells}
 use Rattle.lusyn_grammar.specs.Printing.{placed, bare_pattern, bare_condition, bare_clock, written, writtens, written_type, written_declaration, written_equation, written_node, written_program, bare_tree, bare_trees, bare_declaration, bare_equation, bare_node, bare, AreMatched, IsLabel, ArePrintablePatterns, IsPrintableTree, ArePrintable, IsCallTree, IsPrintableEquation, IsPrintableNode, IsPrintable}

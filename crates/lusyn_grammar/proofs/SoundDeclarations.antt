@@ -3,8 +3,8 @@ use Rattle.std.proofs.Common.{◌≡◌, ℕ, Option, Some, None, Result, Ok, Er
 use Rattle.std.specs.List.{flat_map}
 use Rattle.lutree.specs.declared.expr.Condition.{Condition}
 use Rattle.lutree.specs.Tree.{DeclarationTree}
-use Rattle.lusyn_tokens.specs.declared.token.Fixed.TheVariants as f
-use Rattle.lusyn_tokens.specs.Tokens.{Tok, identifier, number, fixed}
+use Rattle.lusyn_grammar.specs.declared.token.Fixed.TheVariants as f
+use Rattle.lusyn_grammar.specs.Tokens.{Tok, identifier, number, fixed}
 use Rattle.lusyn_grammar.specs.Grammar as w
 use Rattle.lusyn_grammar.specs.Grammar.{WrittenType, WrittenDeclaration, repeated, led, separated, Each, IsNonempty, IsBareClock, IsProperDeclaration, type_token, when_tokens, declared, declaration_tree}
 use Rattle.lusyn_grammar.specs.Reading.{Read, ◌>>=◌, after, begins, begins_name, name, condition, many, further_name, names, kind, clock_by, clocked, declaration, further_declaration, declarations, inputs, ended, ended_declaration, locals_by, locals}

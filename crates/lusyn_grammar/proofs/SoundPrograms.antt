@@ -4,8 +4,8 @@ use Rattle.std.specs.List.{flat_map}
 use Rattle.std.proofs.lemmas.List.Concat.{flat_map_single}
 use Rattle.lutree.specs.Tree.{Tree, trees_of, TypeTree, DeclarationTree, EquationTree, NodeTree, ProgramTree}
 use Rattle.lutree.specs.Tree as t
-use Rattle.lusyn_tokens.specs.declared.token.Fixed.TheVariants as f
-use Rattle.lusyn_tokens.specs.Tokens.{Tok, identifier, fixed}
+use Rattle.lusyn_grammar.specs.declared.token.Fixed.TheVariants as f
+use Rattle.lusyn_grammar.specs.Tokens.{Tok, identifier, fixed}
 use Rattle.lusyn_grammar.specs.Grammar as w
 use Rattle.lusyn_grammar.specs.Grammar.{Written, WrittenDeclaration, WrittenEquation, WrittenNode, WrittenProgram, tree, tokens, repeated, led, separated, optional, left_tokens, Each, IsNonempty, IsProper, IsCall, IsDefinedBy, IsProperDeclaration, IsProperEquation, IsProperNode, IsProperType, IsProperProgram, equation_tree, node_tree, program_tree, Spells}
 use Rattle.lusyn_grammar.specs.Reading.{after, begins, past, name, many, expr, operands, further_name, names, declarations, inputs, ended, locals, single, call, tuple_names, tuple, equation_by, equation, ended_equation, begins_equation, equations, heading, body, node, further_node, nodes, type_declaration, types, program, to_the_end, all_of}

@@ -7,10 +7,10 @@ use Rattle.lutree.specs.declared.expr.Prefix.{Prefix}
 use Rattle.lutree.specs.declared.expr.Prefix.TheVariants as p
 use Rattle.lutree.specs.declared.expr.Infix.{Infix}
 use Rattle.lutree.specs.declared.expr.Infix.TheVariants as i
-use Rattle.lusyn_tokens.specs.declared.token.Fixed.{Fixed}
-use Rattle.lusyn_tokens.specs.declared.token.Fixed.TheVariants as f
-use Rattle.lusyn_tokens.specs.Tokens.{Tok, identifier, number, fixed, text_of, keywords, keyword_among}
-use Rattle.lusyn_tokens.specs.Tokens.{infix_token, prefix_token, infix_of, prefix_of, Rule, arrow, impl, disj, conj, comp, sum, term, rule, level_by, left_by, right_by, level, left, right}
+use Rattle.lusyn_grammar.specs.declared.token.Fixed.{Fixed}
+use Rattle.lusyn_grammar.specs.declared.token.Fixed.TheVariants as f
+use Rattle.lusyn_grammar.specs.Tokens.{Tok, identifier, number, fixed, text_of, keywords, keyword_among}
+use Rattle.lusyn_grammar.specs.Tokens.{infix_token, prefix_token, infix_of, prefix_of, Rule, arrow, impl, disj, conj, comp, sum, term, rule, level_by, left_by, right_by, level, left, right}
 use Rattle.lusyn_grammar.specs.Reading.{operator, clock, next, of_infix, tail, same}
 
 -- no two keywords or signs are spelled alike

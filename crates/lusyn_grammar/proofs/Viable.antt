@@ -1,8 +1,8 @@
 -- What stands before a refused token goes on to something that is spelled: readers, put together from parts.
 use Rattle.std.proofs.Common.{◌≡◌, ◌⊎◌, inl, inr, ◌≤◌, ◌<◌, ◌+◌, ℕ, zero, suc, Result, Ok, Err, List, ◌∷◌, [], ◌++◌, length, refl, ap, sym, subst, ◌∙◌, arith, cond, Bool, true, false, append_assoc}
 use Rattle.std.proofs.lemmas.List.{length-append}
-use Rattle.lusyn_tokens.specs.declared.token.Fixed.{Fixed}
-use Rattle.lusyn_tokens.specs.Tokens.{Tok, identifier, number, fixed}
+use Rattle.lusyn_grammar.specs.declared.token.Fixed.{Fixed}
+use Rattle.lusyn_grammar.specs.Tokens.{Tok, identifier, number, fixed}
 use Rattle.lusyn_grammar.specs.Reading.{Read, ◌>>=◌, same, after, name, many}
 use Rattle.lusyn_grammar.proofs.Pieces.{bind_ok, tested, same_ok, after-is, name-is}
 

@@ -7,9 +7,9 @@ use Rattle.lutree.specs.declared.expr.Infix.TheVariants as i
 use Rattle.lutree.specs.declared.expr.Pattern.TheVariants as patterns
 use Rattle.lutree.specs.declared.expr.Condition.{Condition}
 use Rattle.lutree.specs.Tree.{Tree, number, truth, variable, unary, binary, choice, when, current, merge, call, none, more, NodeTree, ProgramTree, program_of}
-use Rattle.lusyn_tokens.specs.declared.token.Fixed.TheVariants as f
-use Rattle.lusyn_tokens.specs.Tokens.{Tok, identifier, fixed}
-use Rattle.lusyn_tokens.specs.Tokens as tok
+use Rattle.lusyn_grammar.specs.declared.token.Fixed.TheVariants as f
+use Rattle.lusyn_grammar.specs.Tokens.{Tok, identifier, fixed}
+use Rattle.lusyn_grammar.specs.Tokens as tok
 use Rattle.lusyn_grammar.specs.Grammar.{int, bool, named, bare_label, truths, declared, program}
 use Rattle.lusyn_grammar.specs.Reading.{Read, expr, all_of}
 use Rattle.lusyn_grammar.specs.Printing.{written_program}

@@ -40,11 +40,11 @@ use Rattle.lutree.specs.declared.program.Kind.{Kind}
 use Rattle.lutree.specs.declared.program.Kind.TheVariants as kinds
 use Rattle.lutree.specs.Tree.{Tree, Trees, TypeTree, DeclarationTree, EquationTree, NodeTree, ProgramTree}
 use Rattle.lutree.specs.Tree as t
-use Rattle.lusyn_tokens.specs.declared.token.Fixed.{Fixed}
-use Rattle.lusyn_tokens.specs.declared.token.Fixed.TheVariants as f
-use Rattle.lusyn_tokens.specs.Tokens.{Tok, identifier, fixed}
-use Rattle.lusyn_tokens.specs.Tokens as tok
-use Rattle.lusyn_tokens.specs.Tokens.{prefix_token, infix_token, level, left, right}
+use Rattle.lusyn_grammar.specs.declared.token.Fixed.{Fixed}
+use Rattle.lusyn_grammar.specs.declared.token.Fixed.TheVariants as f
+use Rattle.lusyn_grammar.specs.Tokens.{Tok, identifier, fixed}
+use Rattle.lusyn_grammar.specs.Tokens as tok
+use Rattle.lusyn_grammar.specs.Tokens.{prefix_token, infix_token, level, left, right}
 
 -- AS IT IS WRITTEN
 

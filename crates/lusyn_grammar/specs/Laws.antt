@@ -1,7 +1,7 @@
 -- What holds of reading and printing, over all tokens and all trees.
 use Rattle.std.specs.Prelude.{◌≡◌, ◌↔◌, List, [], ◌∷◌, ◌++◌, Ok, Err}
 use Rattle.lutree.specs.Tree.{ProgramTree}
-use Rattle.lusyn_tokens.specs.Tokens.{Tok}
+use Rattle.lusyn_grammar.specs.Tokens.{Tok}
 use Rattle.lusyn_grammar.specs.Grammar.{Spells, program}
 use Rattle.lusyn_grammar.specs.Reading.{all_of}
 use Rattle.lusyn_grammar.specs.Printing.{IsPrintable, bare, written_program}

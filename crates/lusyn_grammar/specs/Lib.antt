@@ -4,3 +4,9 @@ pub mod Printing
 pub mod Laws
 pub mod Examples
 pub mod Places
+pub mod Lexing
+pub mod Runs
+pub mod Refusals
+pub mod Scanning
+pub mod Gives
+pub mod Tokens

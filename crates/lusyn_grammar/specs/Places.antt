@@ -2,9 +2,9 @@
 -- its equations begin.
 use Rattle.std.specs.Prelude.{ℕ, Bool, true, false, not, ◌||◌, List, [], ◌∷◌, if◌then◌else◌}
 use Rattle.lutree.specs.Places.{TypePlaces, NodePlaces, ProgramPlaces}
-use Rattle.lusyn_tokens.specs.declared.token.Fixed.{Fixed}
-use Rattle.lusyn_tokens.specs.declared.token.Fixed.TheVariants as f
-use Rattle.lusyn_tokens.specs.Tokens.{Tok, identifier, number, fixed}
+use Rattle.lusyn_grammar.specs.declared.token.Fixed.{Fixed}
+use Rattle.lusyn_grammar.specs.declared.token.Fixed.TheVariants as f
+use Rattle.lusyn_grammar.specs.Tokens.{Tok, identifier, number, fixed}
 use Rattle.lusyn_grammar.specs.Reading.{same}
 
 -- a token with its place

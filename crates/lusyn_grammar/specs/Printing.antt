@@ -8,7 +8,7 @@ use Rattle.lutree.specs.declared.program.Kind.{Kind}
 use Rattle.lutree.specs.declared.program.Kind.TheVariants as kinds
 use Rattle.lutree.specs.Tree.{Tree, Trees, TypeTree, DeclarationTree, EquationTree, NodeTree, ProgramTree}
 use Rattle.lutree.specs.Tree as t
-use Rattle.lusyn_tokens.specs.Tokens.{left, right}
+use Rattle.lusyn_grammar.specs.Tokens.{left, right}
 use Rattle.lusyn_grammar.specs.Grammar.{Written, Writtens, number, truth, variable, unary, binary, choice, when, current, merge, call, paren, none, more, level_of, WrittenType, int, bool, named, WrittenDeclaration, WrittenEquation, WrittenNode, WrittenProgram, Each, IsNonempty, IsDefinedBy, bare_label, truths, declared}
 
 -- in parentheses exactly where it binds less tightly than its place asks

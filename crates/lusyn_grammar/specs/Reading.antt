@@ -10,10 +10,10 @@ use Rattle.lutree.specs.declared.expr.Pattern.TheVariants as patterns
 use Rattle.lutree.specs.declared.expr.Condition.{Condition}
 use Rattle.lutree.specs.Tree.{Tree, none, more, trees_of, TypeTree, DeclarationTree, EquationTree, NodeTree, ProgramTree}
 use Rattle.lutree.specs.Tree as t
-use Rattle.lusyn_tokens.specs.declared.token.Fixed.{Fixed}
-use Rattle.lusyn_tokens.specs.declared.token.Fixed.TheVariants as f
-use Rattle.lusyn_tokens.specs.Tokens.{Tok, identifier, number, fixed, text_of}
-use Rattle.lusyn_tokens.specs.Tokens.{infix_of, prefix_of, level, left, right}
+use Rattle.lusyn_grammar.specs.declared.token.Fixed.{Fixed}
+use Rattle.lusyn_grammar.specs.declared.token.Fixed.TheVariants as f
+use Rattle.lusyn_grammar.specs.Tokens.{Tok, identifier, number, fixed, text_of}
+use Rattle.lusyn_grammar.specs.Tokens.{infix_of, prefix_of, level, left, right}
 use Rattle.lusyn_grammar.specs.Grammar.{WrittenType, int, bool, named as named_type, bare_label, truths as both_truths, declared}
 
 -- what was read, and what follows it; or the rest from the refused token on

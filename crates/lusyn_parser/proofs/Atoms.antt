@@ -7,11 +7,11 @@ use Rattle.lutree.specs.declared.expr.Infix.{Infix}
 use Rattle.lutree.specs.declared.expr.Expr.{Expr}
 use Rattle.lutree.specs.Tree.{Tree, view}
 use Rattle.lutree.specs.Tree as t
-use Rattle.lusyn_tokens.specs.declared.token.Fixed.TheVariants as f
-use Rattle.lusyn_tokens.specs.Tokens.{Tok, identifier, number, fixed}
-use Rattle.lusyn_tokens.specs.Tokens.{level, left, right}
+use Rattle.lusyn_grammar.specs.declared.token.Fixed.TheVariants as f
+use Rattle.lusyn_grammar.specs.Tokens.{Tok, identifier, number, fixed}
+use Rattle.lusyn_grammar.specs.Tokens.{level, left, right}
 use Rattle.lusyn_grammar.specs.Reading.{Read, ◌>>=◌, operator, nothing, parenthesis, clock, next, tail, condition, step, climb, after, begins, named, named_by, head, whole, expr, at_level}
-use Rattle.lusyn_tokens.specs.declared.token.Lexeme.{Lexeme}
+use Rattle.lusyn_grammar.specs.declared.token.Lexeme.{Lexeme}
 use Rattle.lusyn_parser.specs.declared.error.Stop.{Stop}
 use Rattle.lusyn_parser.specs.declared.error.Stop.TheVariants as stops_by
 use Rattle.lusyn_parser.specs.declared.pieces.Next as pieces

@@ -7,3 +7,9 @@ mod PlacingNodes
 mod PlacingTypes
 mod Prefixes
 mod Signs
+mod Names
+pub mod Bare
+mod Once
+mod Tables
+mod Changed
+mod Operands

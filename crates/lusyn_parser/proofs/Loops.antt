@@ -13,10 +13,10 @@ use Rattle.lutree.specs.declared.expr.Pattern.TheVariants as patterns
 use Rattle.lutree.specs.Tree.{Tree, DeclarationTree, NodeTree, view, views, trees_of}
 use Rattle.lutree.specs.Tree as t
 use Rattle.lutree.proofs.Views.{viewed-Merge}
-use Rattle.lusyn_tokens.specs.declared.token.Fixed.{Fixed}
-use Rattle.lusyn_tokens.specs.declared.token.Fixed.TheVariants as f
-use Rattle.lusyn_tokens.specs.declared.token.Lexeme.{Lexeme}
-use Rattle.lusyn_tokens.specs.Tokens.{Tok}
+use Rattle.lusyn_grammar.specs.declared.token.Fixed.{Fixed}
+use Rattle.lusyn_grammar.specs.declared.token.Fixed.TheVariants as f
+use Rattle.lusyn_grammar.specs.declared.token.Lexeme.{Lexeme}
+use Rattle.lusyn_grammar.specs.Tokens.{Tok}
 use Rattle.lusyn_parser.specs.declared.pieces.Branch.{Branch}
 use Rattle.lusyn_parser.specs.Gives.{ahead, Fails, Gives, branch_view, branches_view}
 use Rattle.lusyn_grammar.specs.Grammar.{bare_label}

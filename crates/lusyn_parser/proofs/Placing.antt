@@ -2,10 +2,10 @@
 use Rattle.std.proofs.Common.{◌≡◌, ◌+◌, ℕ, zero, suc, Bool, true, false, List, [], ◌∷◌, ◌++◌, length, drop, refl, ap, sym, ◌∙◌, subst, cond, arith}
 use Rattle.std.proofs.Math.Numerals.{add-one}
 use Rattle.std.proofs.lemmas.List.{length-drop, length-map}
-use Rattle.lusyn_tokens.specs.declared.token.Fixed.{Fixed}
-use Rattle.lusyn_tokens.specs.declared.token.Fixed.TheVariants as f
-use Rattle.lusyn_tokens.specs.declared.token.Lexeme.{Lexeme}
-use Rattle.lusyn_tokens.specs.Tokens.{Tok, tok, toks, located}
+use Rattle.lusyn_grammar.specs.declared.token.Fixed.{Fixed}
+use Rattle.lusyn_grammar.specs.declared.token.Fixed.TheVariants as f
+use Rattle.lusyn_grammar.specs.declared.token.Lexeme.{Lexeme}
+use Rattle.lusyn_grammar.specs.Tokens.{Tok, tok, toks, located}
 use Rattle.lusyn_grammar.specs.Grammar.{Each}
 use Rattle.lusyn_grammar.specs.Places.{Placed, is, first, behind, begun, node_places_in, nodes_in, type_places_in, types_in}
 use Rattle.lusyn_grammar.proofs.Plain.{IsPlain, IsInner, no_edge, inner_plain, inner_semicolon, Own}

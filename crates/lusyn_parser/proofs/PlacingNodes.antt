@@ -7,10 +7,10 @@ use Rattle.lutree.specs.declared.program.Equation.{Equation}
 use Rattle.lutree.specs.declared.program.Node.{Node}
 use Rattle.lutree.specs.Places.{TypePlaces, NodePlaces, ProgramPlaces, declaration_places, equation_places, node_places}
 use Rattle.lutree.specs.Tree.{DeclarationTree, EquationTree}
-use Rattle.lusyn_tokens.specs.declared.token.Fixed.{Fixed}
-use Rattle.lusyn_tokens.specs.declared.token.Fixed.TheVariants as f
-use Rattle.lusyn_tokens.specs.declared.token.Lexeme.{Lexeme}
-use Rattle.lusyn_tokens.specs.Tokens.{Tok, identifier, fixed, toks, located}
+use Rattle.lusyn_grammar.specs.declared.token.Fixed.{Fixed}
+use Rattle.lusyn_grammar.specs.declared.token.Fixed.TheVariants as f
+use Rattle.lusyn_grammar.specs.declared.token.Lexeme.{Lexeme}
+use Rattle.lusyn_grammar.specs.Tokens.{Tok, identifier, fixed, toks, located}
 use Rattle.lusyn_grammar.specs.Grammar.{WrittenDeclaration, optional}
 use Rattle.lusyn_grammar.specs.Grammar as w
 use Rattle.lusyn_grammar.specs.Reading.{after, begins, name, past, inputs, declarations, locals, equations, body}

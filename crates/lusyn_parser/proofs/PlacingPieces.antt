@@ -7,10 +7,10 @@ use Rattle.lutree.specs.declared.expr.Condition.{Condition}
 use Rattle.lutree.specs.declared.program.Equation.{Equation}
 use Rattle.lutree.specs.Tree.{EquationTree}
 use Rattle.lutree.specs.Places.{name_places, equation_places}
-use Rattle.lusyn_tokens.specs.declared.token.Fixed.{Fixed}
-use Rattle.lusyn_tokens.specs.declared.token.Fixed.TheVariants as f
-use Rattle.lusyn_tokens.specs.declared.token.Lexeme.{Lexeme}
-use Rattle.lusyn_tokens.specs.Tokens.{Tok, identifier, fixed}
+use Rattle.lusyn_grammar.specs.declared.token.Fixed.{Fixed}
+use Rattle.lusyn_grammar.specs.declared.token.Fixed.TheVariants as f
+use Rattle.lusyn_grammar.specs.declared.token.Lexeme.{Lexeme}
+use Rattle.lusyn_grammar.specs.Tokens.{Tok, identifier, fixed}
 use Rattle.lusyn_grammar.specs.Grammar as w
 use Rattle.lusyn_grammar.specs.Reading.{after, name, kind, clocked, equation}
 use Rattle.lusyn_grammar.specs.Grammar.{WrittenType}

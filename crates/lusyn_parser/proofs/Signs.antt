@@ -1,9 +1,9 @@
 -- A token that has to stand in a place, or another one there.
 use Rattle.std.proofs.Common.{◌≡◌, ◌+◌, ℕ, Bool, true, false, List, ◌∷◌, Result, Ok, Err, refl, ap, sym, ◌∙◌, cond}
 use Rattle.std.proofs.lemmas.Slice.Eq.{bytes_eq-Decides}
-use Rattle.lusyn_tokens.specs.declared.token.Fixed.{Fixed}
-use Rattle.lusyn_tokens.specs.declared.token.Lexeme.{Lexeme}
-use Rattle.lusyn_tokens.specs.Tokens.{Tok, fixed, text_of}
+use Rattle.lusyn_grammar.specs.declared.token.Fixed.{Fixed}
+use Rattle.lusyn_grammar.specs.declared.token.Lexeme.{Lexeme}
+use Rattle.lusyn_grammar.specs.Tokens.{Tok, fixed, text_of}
 use Rattle.lusyn_grammar.specs.Reading.{same, after}
 use Rattle.lusyn_grammar.proofs.Pieces.{after-is}
 use Rattle.lusyn_parser.specs.Gives.{ahead}

@@ -2,9 +2,9 @@
 use Rattle.std.proofs.Common.{◌≡◌, ℕ, append_assoc, List, [], ◌∷◌, ◌++◌, take, drop, Result, Ok, Err, refl, ap, sym, ◌∙◌, subst}
 use Rattle.std.proofs.lemmas.List.{take-append-drop, map-append, append-nil, append_cancel_right, drop-map}
 use Rattle.lutree.specs.Tree.{ProgramTree}
-use Rattle.lusyn_tokens.specs.declared.token.Lexeme.{Lexeme}
-use Rattle.lusyn_tokens.specs.Tokens.{Tok, tok, toks, located}
-use Rattle.lusyn_lexer.specs.Lexing.{Placed}
+use Rattle.lusyn_grammar.specs.declared.token.Lexeme.{Lexeme}
+use Rattle.lusyn_grammar.specs.Tokens.{Tok, tok, toks, located}
+use Rattle.lusyn_grammar.specs.Lexing.{Placed}
 use Rattle.lusyn_grammar.specs.Grammar.{Spells}
 use Rattle.lusyn_grammar.specs.Reading.{all_of}
 use Rattle.lusyn_grammar.proofs.SoundPrograms.{all_of-spells}

@@ -5,10 +5,10 @@ use Rattle.lutree.specs.declared.program.DeclaredName.{DeclaredName}
 use Rattle.lutree.specs.declared.program.TypeDeclaration.{TypeDeclaration}
 use Rattle.lutree.specs.declared.program.Equation.{Equation}
 use Rattle.lutree.specs.declared.program.Node.{Node}
-use Rattle.lusyn_tokens.specs.declared.token.Lexeme.{Lexeme}
+use Rattle.lusyn_grammar.specs.declared.token.Lexeme.{Lexeme}
 use Rattle.lutree.specs.Tree as t
-use Rattle.lusyn_tokens.specs.declared.token.Fixed.TheVariants as f
-use Rattle.lusyn_tokens.specs.Tokens.{Tok, identifier, number, fixed, toks}
+use Rattle.lusyn_grammar.specs.declared.token.Fixed.TheVariants as f
+use Rattle.lusyn_grammar.specs.Tokens.{Tok, identifier, number, fixed, toks}
 use Rattle.lusyn_grammar.specs.Grammar as grammar
 use Rattle.lusyn_grammar.specs.Reading.{Read, ◌>>=◌}
 use Rattle.lusyn_grammar.specs.Reading as reading

@@ -3,9 +3,9 @@ use Rattle.std.specs.Prelude.{◌≡◌, ◌+◌, ◌++◌, ◌∷◌, ℕ, fals
 use Rattle.lutree.specs.Places.{TypePlaces, NodePlaces, declaration_places, equation_places}
 use Rattle.lutree.specs.declared.program.Declaration.{Declaration}
 use Rattle.lutree.specs.declared.program.Equation.{Equation}
-use Rattle.lusyn_tokens.specs.declared.token.Fixed.TheVariants as f
-use Rattle.lusyn_tokens.specs.declared.token.Lexeme.{Lexeme}
-use Rattle.lusyn_tokens.specs.Tokens.{identifier, fixed, located}
+use Rattle.lusyn_grammar.specs.declared.token.Fixed.TheVariants as f
+use Rattle.lusyn_grammar.specs.declared.token.Lexeme.{Lexeme}
+use Rattle.lusyn_grammar.specs.Tokens.{identifier, fixed, located}
 use Rattle.lusyn_grammar.specs.Places.{Placed, first, behind, declared, begun, node_places_in, nodes_in, types_in}
 use Rattle.lusyn_parser.specs.declared.pieces.Heading.{Heading}
 

@@ -2,8 +2,8 @@
 use Rattle.std.specs.Prelude.{◌≡◌, ℕ, List, [], ◌∷◌, ◌++◌, map, Result, Ok, Err}
 use Rattle.lutree.specs.Tree.{ProgramTree, program_view}
 use Rattle.lutree.specs.declared.program.Program.{Program}
-use Rattle.lusyn_tokens.specs.Tokens.{Tok}
-use Rattle.lusyn_lexer.specs.Lexing.{Placed}
+use Rattle.lusyn_grammar.specs.Tokens.{Tok}
+use Rattle.lusyn_grammar.specs.Lexing.{Placed}
 use Rattle.lusyn_grammar.specs.Grammar.{Spells}
 use Rattle.lusyn_parser.specs.declared.error.ParseError.{ParseError}
 use Rattle.lusyn_parser.specs.declared.error.ParseError.TheVariants as e

@@ -12,8 +12,8 @@ ghost use Rattle.lusyn_parser.specs.Gives.{ahead, name_behind, names_view, type_
 use crate::error::Stop;
 use crate::pieces::{WrittenType, kind_of, shared, type_name_of};
 use crate::reader::Reader;
-use lulist::{Row, SharedName};
-use lusyn_tokens::{Fixed, Token};
+use lubase::{Row, SharedName};
+use lusyn_grammar::{Fixed, Token};
 use lutree::{Condition, Declaration, DeclaredName, TypeDeclaration};
 
 /// Declarations.

@@ -12,8 +12,8 @@ ghost use Rattle.lusyn_parser.specs.Gives.{ahead, names_view, equations_view, Re
 use crate::error::Stop;
 use crate::pieces::plain;
 use crate::reader::Reader;
-use lulist::{Name, Row};
-use lusyn_tokens::Fixed;
+use lubase::{Name, Row};
+use lusyn_grammar::Fixed;
 use lutree::{DeclaredName, Equation, Expr};
 
 /// Equations.

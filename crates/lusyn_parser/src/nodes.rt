@@ -4,7 +4,7 @@ ghost use Rattle.std.specs.Prelude.{◌≡◌, [], ◌∷◌, ℕ, ◌<◌, suc,
 ghost use Rattle.std.specs.Result.{IfErr};
 ghost use Rattle.lutree.specs.Tree.{ProgramTree, node_view, program_view};
 ghost use Rattle.lutree.specs.Places.{node_places, places_view};
-ghost use Rattle.lusyn_tokens.specs.Tokens.{toks, located};
+ghost use Rattle.lusyn_grammar.specs.Tokens.{toks, located};
 ghost use Rattle.lusyn_grammar.specs.Grammar.{Spells};
 ghost use Rattle.lusyn_grammar.specs.Places.{places_in};
 ghost use Rattle.lusyn_grammar.specs.Reading as reading;
@@ -15,8 +15,8 @@ ghost use Rattle.lusyn_parser.specs.Refused.{IsAnswered, IsRefused, IsRefusedAt,
 use crate::error::{ParseError, Stop};
 use crate::pieces::{Heading, byte_of};
 use crate::reader::Reader;
-use lulist::Row;
-use lusyn_tokens::{Fixed, Lexeme};
+use lubase::Row;
+use lusyn_grammar::{Fixed, Lexeme};
 use lutree::{Equation, Node, Program};
 use std::alloc::Global;
 

@@ -7,12 +7,12 @@ ghost use Rattle.lusyn_grammar.specs.Grammar as grammar;
 ghost use Rattle.lutree.specs.Tree.{view};
 ghost use Rattle.lutree.specs.Tree as t;
 ghost use Rattle.lusyn_parser.specs.Gives.{names_view, type_view};
-ghost use Rattle.lusyn_tokens.specs.Tokens.{located};
+ghost use Rattle.lusyn_grammar.specs.Tokens.{located};
 ghost use Rattle.lusyn_parser.specs.Refused.{place};
 
 use crate::error::Stop;
-use lulist::{Name, Row, SharedName};
-use lusyn_tokens::Lexeme;
+use lubase::{Name, Row, SharedName};
+use lusyn_grammar::Lexeme;
 use lutree::{Condition, Declaration, DeclaredName, Expr, Infix, Kind, Label, Pattern};
 use std::alloc::Global;
 

@@ -3,7 +3,7 @@
 ghost use Rattle.std.specs.Prelude.{◌≡◌, ◌≢◌, ◌+◌, ◌<◌, ◌≤◌, ℕ, suc, false, true, Ok, [], ◌∷◌, length, MatchOption, IfOk};
 ghost use Rattle.lutree.specs.Tree.{view, views};
 ghost use Rattle.lutree.specs.Tree as t;
-ghost use Rattle.lusyn_tokens.specs.Tokens.{tok};
+ghost use Rattle.lusyn_grammar.specs.Tokens.{tok};
 ghost use Rattle.lusyn_grammar.specs.Grammar.{truths};
 ghost use Rattle.lusyn_grammar.specs.Reading as reading;
 ghost use Rattle.lusyn_grammar.specs.Places.{first};
@@ -16,8 +16,8 @@ use crate::pieces::{
     Branch, Next, Operand, bare_label, both_of, boxed, byte_of, choice_of, first_of_two,
     operand_of, parted, truths, when,
 };
-use lulist::{Name, Number, SharedName};
-use lusyn_tokens::{Fixed, Lexeme, Token, binding_of, infix_of, prefix_of};
+use lubase::{Name, Number, SharedName};
+use lusyn_grammar::{Fixed, Lexeme, Token, binding_of, infix_of, prefix_of};
 use lutree::{Condition, Expr, Infix, Pattern, Prefix};
 use std::alloc::Global;
 

@@ -8,7 +8,7 @@ use Rattle.lutree.specs.declared.program.Kind.{Kind}
 use Rattle.lutree.specs.declared.program.Kind.TheVariants as kinds
 use Rattle.lutree.specs.Tree.{Tree, Trees, DeclarationTree, EquationTree, NodeTree, ProgramTree}
 use Rattle.lutree.specs.Tree as t
-use Rattle.lusyn_tokens.specs.Tokens.{left, right}
+use Rattle.lusyn_grammar.specs.Tokens.{left, right}
 use Rattle.lusyn_grammar.specs.Grammar.{Written, unary, binary, choice, when, merge, call, more, WrittenType, kind_of, type_name_of}
 use Rattle.lusyn_grammar.specs.Printing.{placed, written, writtens, bare_pattern, bare_condition, bare_clock, written_type, bare_tree, bare_trees, bare_declaration, bare_equation, bare_node, bare}
 use Rattle.lusyn_printer.specs.Canonical.{pattern_text, clock_text, type_text, declaration, declarations, locals, left_side, equation, node, expression, line, heading, type_declaration, canonical}

@@ -15,15 +15,15 @@ use Rattle.lutree.specs.declared.expr.Pattern.{Pattern}
 use Rattle.lutree.specs.declared.expr.Pattern.TheVariants as patterns
 use Rattle.lutree.specs.declared.expr.Condition.{Condition}
 use Rattle.lutree.specs.Tree.{TypeTree, DeclarationTree, EquationTree, NodeTree, ProgramTree}
-use Rattle.lusyn_tokens.specs.declared.token.Fixed.{Fixed}
-use Rattle.lusyn_tokens.specs.declared.token.Fixed.TheVariants as f
-use Rattle.lusyn_tokens.specs.Tokens.{Tok, identifier, fixed, text_of}
-use Rattle.lusyn_tokens.specs.Tokens as tok
-use Rattle.lusyn_lexer.specs.Lexing as lexing
-use Rattle.lusyn_lexer.specs.Lexing.{Pieces, bytes, AreCut, IsPiece, IsLongest, is_letter, is_word, is_word_text, is_digits}
-use Rattle.lusyn_lexer.proofs.Pieces.{letter-is_word}
+use Rattle.lusyn_grammar.specs.declared.token.Fixed.{Fixed}
+use Rattle.lusyn_grammar.specs.declared.token.Fixed.TheVariants as f
+use Rattle.lusyn_grammar.specs.Tokens.{Tok, identifier, fixed, text_of}
+use Rattle.lusyn_grammar.specs.Tokens as tok
+use Rattle.lusyn_grammar.specs.Lexing as lexing
+use Rattle.lusyn_grammar.specs.Lexing.{Pieces, bytes, AreCut, IsPiece, IsLongest, is_letter, is_word, is_word_text, is_digits}
+use Rattle.lusyn_grammar.proofs.TextPieces.{letter-is_word}
 use Rattle.lusyn_grammar.specs.Grammar.{Written, Writtens, number, truth, variable, unary, binary, choice, when, current, merge, call, paren, none, more, tree, trees, Each, WrittenType, int, bool, named, truth_token}
-use Rattle.lusyn_tokens.specs.Tokens.{prefix_token, infix_token}
+use Rattle.lusyn_grammar.specs.Tokens.{prefix_token, infix_token}
 use Rattle.lusyn_grammar.specs.Printing.{written, written_type}
 use Rattle.lusyn_grammar.proofs.Printed.{tree-written}
 use Rattle.lusyn_printer.proofs.Pieces.{space, feed, sign, word, numeral, not_pieces, pattern_pieces, when_pieces, branch_piece, pieces, further, branches, each, behind, apart, clock_pieces, type_piece, declaration, declarations, locals, left_side, equation, body, node, type_declaration, program}

@@ -3,12 +3,12 @@ use Rattle.std.proofs.Common.{◌≡◌, ℕ, Bool, true, false, List, [], ◌�
 use Rattle.std.proofs.lemmas.Bool.{and_parts}
 use Rattle.std.specs.Char.{is_ascii_digit}
 use Rattle.std.specs.List.{prefix_len, list_all}
-use Rattle.lusyn_tokens.specs.declared.token.Fixed.{Fixed}
-use Rattle.lusyn_tokens.specs.declared.token.Fixed.TheVariants as f
-use Rattle.lusyn_tokens.specs.Tokens.{text_of}
-use Rattle.lusyn_lexer.specs.Lexing.{is_letter, is_word, is_word_text, is_digits, IsLongest}
-use Rattle.lusyn_lexer.specs.Scanning.{Piece, piece}
-use Rattle.lusyn_lexer.proofs.Pieces.{Bounds, piece-bounds, piece-word, piece-digits, letter-is_word}
+use Rattle.lusyn_grammar.specs.declared.token.Fixed.{Fixed}
+use Rattle.lusyn_grammar.specs.declared.token.Fixed.TheVariants as f
+use Rattle.lusyn_grammar.specs.Tokens.{text_of}
+use Rattle.lusyn_grammar.specs.Lexing.{is_letter, is_word, is_word_text, is_digits, IsLongest}
+use Rattle.lusyn_grammar.specs.Scanning.{Piece, piece}
+use Rattle.lusyn_grammar.proofs.TextPieces.{Bounds, piece-bounds, piece-word, piece-digits, letter-is_word}
 
 -- a byte that goes on with no word, number or sign
 pub data End : Type 0 where

@@ -4,10 +4,10 @@ use Rattle.lutree.specs.declared.expr.Pattern.{Pattern}
 use Rattle.lutree.specs.declared.expr.Pattern.TheVariants as patterns
 use Rattle.lutree.specs.declared.expr.Condition.{Condition}
 use Rattle.lutree.specs.Tree.{TypeTree, DeclarationTree, EquationTree, NodeTree, ProgramTree}
-use Rattle.lusyn_tokens.specs.declared.token.Fixed.{Fixed}
-use Rattle.lusyn_tokens.specs.declared.token.Fixed.TheVariants as f
-use Rattle.lusyn_tokens.specs.Tokens.{Tok, identifier, fixed}
-use Rattle.lusyn_lexer.specs.Runs.{is_of_run}
+use Rattle.lusyn_grammar.specs.declared.token.Fixed.{Fixed}
+use Rattle.lusyn_grammar.specs.declared.token.Fixed.TheVariants as f
+use Rattle.lusyn_grammar.specs.Tokens.{Tok, identifier, fixed}
+use Rattle.lusyn_grammar.specs.Runs.{is_of_run}
 use Rattle.lusyn_grammar.specs.Grammar.{Written, tokens, WrittenType, int, bool, named, WrittenDeclaration, WrittenEquation, WrittenNode, WrittenProgram, Each, IsProperEquation, IsProperNode, type_token, repeated, separated, led, ended, optional, name, clock, declaration, locals, left_tokens, equation, body, node, type_declaration, program, equation_tree, node_tree, program_tree}
 use Rattle.lusyn_grammar.specs.Printing.{bare_clock, written, written_type, written_declaration, written_equation, written_node, written_program}
 use Rattle.lusyn_printer.proofs.Peaks.{peak, peak-mono, peak-tail, peak-of_run}

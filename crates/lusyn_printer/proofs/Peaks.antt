@@ -2,9 +2,9 @@
 use Rattle.std.proofs.Common.{◌≡◌, ◌≤◌, ◌+◌, ℕ, max, Bool, true, false, cond, List, [], ◌∷◌, ◌++◌, length, map, refl, ap, sym, subst, ◌∙◌, arith, append_assoc, length-append, if◌then◌else◌}
 use Rattle.std.proofs.lemmas.Bool.{and_parts}
 use Rattle.std.proofs.lemmas.List.Folds.{list_all-append}
-use Rattle.lusyn_tokens.specs.Tokens.{Tok}
-use Rattle.lusyn_lexer.specs.Lexing.{Placed}
-use Rattle.lusyn_lexer.specs.Runs.{is_of_run, are_of_run, HasShortRuns}
+use Rattle.lusyn_grammar.specs.Tokens.{Tok}
+use Rattle.lusyn_grammar.specs.Lexing.{Placed}
+use Rattle.lusyn_grammar.specs.Runs.{is_of_run, are_of_run, HasShortRuns}
 
 -- in this list, behind so many tokens of its first run
 abbrev pub peak : ℕ → List Tok → ℕ

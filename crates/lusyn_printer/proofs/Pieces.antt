@@ -6,12 +6,12 @@ use Rattle.lutree.specs.declared.expr.Pattern.{Pattern}
 use Rattle.lutree.specs.declared.expr.Pattern.TheVariants as patterns
 use Rattle.lutree.specs.declared.expr.Condition.{Condition}
 use Rattle.lutree.specs.Tree.{TypeTree, DeclarationTree, EquationTree, NodeTree, ProgramTree}
-use Rattle.lusyn_tokens.specs.declared.token.Fixed.{Fixed}
-use Rattle.lusyn_tokens.specs.declared.token.Fixed.TheVariants as f
-use Rattle.lusyn_tokens.specs.Tokens.{Tok, identifier, fixed, text_of}
-use Rattle.lusyn_tokens.specs.Tokens as tok
-use Rattle.lusyn_lexer.specs.Lexing.{Pieces, Placed, bytes, before, placed}
-use Rattle.lusyn_tokens.specs.Tokens.{prefix_token, infix_token}
+use Rattle.lusyn_grammar.specs.declared.token.Fixed.{Fixed}
+use Rattle.lusyn_grammar.specs.declared.token.Fixed.TheVariants as f
+use Rattle.lusyn_grammar.specs.Tokens.{Tok, identifier, fixed, text_of}
+use Rattle.lusyn_grammar.specs.Tokens as tok
+use Rattle.lusyn_grammar.specs.Lexing.{Pieces, Placed, bytes, before, placed}
+use Rattle.lusyn_grammar.specs.Tokens.{prefix_token, infix_token}
 use Rattle.lusyn_grammar.specs.Grammar as grammar
 use Rattle.lusyn_grammar.specs.Grammar.{Written, Writtens, number, truth, variable, unary, binary, choice, when, current, merge, call, paren, none, more, WrittenType, int, bool, named, truth_token, branch_token, type_token, tokens, repeated, separated, led, ended}
 use Rattle.lusyn_grammar.specs.Printing.{written, bare_pattern, bare_clock, written_type, written_declaration, written_equation, written_node, written_program}

@@ -2,9 +2,9 @@
 use Rattle.std.proofs.Common.{◌≡◌, ℕ, List, [], map, refl, ap, sym, subst, ◌∙◌, append-nil}
 use Rattle.std.specs.Str.{IsAscii}
 use Rattle.lutree.specs.Tree.{ProgramTree}
-use Rattle.lusyn_tokens.specs.Tokens.{Tok}
-use Rattle.lusyn_lexer.specs.Lexing.{Placed, bytes, placed, HasTokens}
-use Rattle.lusyn_lexer.specs.Runs.{HasShortRuns}
+use Rattle.lusyn_grammar.specs.Tokens.{Tok}
+use Rattle.lusyn_grammar.specs.Lexing.{Placed, bytes, placed, HasTokens}
+use Rattle.lusyn_grammar.specs.Runs.{HasShortRuns}
 use Rattle.lusyn_grammar.specs.Grammar as grammar
 use Rattle.lusyn_grammar.specs.Grammar.{Spells}
 use Rattle.lusyn_grammar.specs.Printing.{written_program}

@@ -10,10 +10,10 @@ use Rattle.lutree.specs.declared.expr.UnaryOperator.TheVariants as u
 use Rattle.lutree.specs.declared.expr.Infix.{Infix}
 use Rattle.lutree.specs.declared.expr.Infix.TheVariants as i
 use Rattle.lutree.specs.declared.expr.BinaryOperator.TheVariants as b
-use Rattle.lusyn_tokens.specs.declared.token.Fixed.TheVariants as f
-use Rattle.lusyn_tokens.specs.Tokens.{Tok, fixed}
-use Rattle.lusyn_lexer.specs.Runs.{is_of_run}
-use Rattle.lusyn_tokens.specs.Tokens.{prefix_token, infix_token, left, right}
+use Rattle.lusyn_grammar.specs.declared.token.Fixed.TheVariants as f
+use Rattle.lusyn_grammar.specs.Tokens.{Tok, fixed}
+use Rattle.lusyn_grammar.specs.Runs.{is_of_run}
+use Rattle.lusyn_grammar.specs.Tokens.{prefix_token, infix_token, left, right}
 use Rattle.lusyn_grammar.specs.Grammar.{Written, Writtens, number, truth, variable, unary, binary, choice, when, current, merge, call, paren, none, more, level_of, IsProper, AreProper, tree, trees, tokens, further, branches, branch_token, truth_token, pattern_tokens, when_tokens}
 use Rattle.lusyn_grammar.specs.Printing.{placed, bare_pattern, written, writtens}
 use Rattle.lusyn_printer.proofs.Peaks.{peak, peak-of_run}

@@ -13,7 +13,7 @@ use Rattle.lutree.specs.declared.expr.Condition.{Condition}
 use Rattle.lutree.specs.Tree.{Tree, view, views, trees_of}
 use Rattle.lutree.specs.Tree as t
 use Rattle.lutree.proofs.Views.{viewed-Unary, viewed-Binary, viewed-If, viewed-When, viewed-Merge, viewed-Call}
-use Rattle.lusyn_tokens.specs.Tokens.{text_of, prefix_token, infix_token, left, right}
+use Rattle.lusyn_grammar.specs.Tokens.{text_of, prefix_token, infix_token, left, right}
 use Rattle.lusyn_grammar.specs.Printing.{written, writtens, placed, bare_pattern}
 use Rattle.lusyn_printer.specs.Canonical.{expression, operands, branches, pattern_text, when_text}
 use Rattle.lusyn_printer.proofs.Operands.{operand, placed_anywhere}

@@ -6,11 +6,11 @@ use Rattle.lutree.specs.declared.expr.Pattern.TheVariants as patterns
 use Rattle.lutree.specs.declared.expr.Condition.{Condition}
 use Rattle.lutree.specs.Tree.{Tree, Trees, TypeTree, DeclarationTree, EquationTree, NodeTree, ProgramTree}
 use Rattle.lutree.specs.Tree as t
-use Rattle.lusyn_tokens.specs.declared.token.Fixed.{Fixed}
-use Rattle.lusyn_tokens.specs.declared.token.Fixed.TheVariants as f
-use Rattle.lusyn_tokens.specs.Tokens.{Tok, identifier, number, fixed, text_of}
-use Rattle.lusyn_lexer.specs.Lexing as pieces
-use Rattle.lusyn_lexer.specs.Lexing.{is_word_text, IsPiece, IsInRange, Pieces, Placed, placed, before, AreCut}
+use Rattle.lusyn_grammar.specs.declared.token.Fixed.{Fixed}
+use Rattle.lusyn_grammar.specs.declared.token.Fixed.TheVariants as f
+use Rattle.lusyn_grammar.specs.Tokens.{Tok, identifier, number, fixed, text_of}
+use Rattle.lusyn_grammar.specs.Lexing as pieces
+use Rattle.lusyn_grammar.specs.Lexing.{is_word_text, IsPiece, IsInRange, Pieces, Placed, placed, before, AreCut}
 use Rattle.lusyn_grammar.specs.Grammar as w
 use Rattle.lusyn_grammar.specs.Grammar.{Written, Writtens, tree, trees, tokens, further, branches, branch_token, WrittenType, WrittenDeclaration, WrittenEquation, WrittenNode, WrittenProgram, Each, repeated, separated, led, ended, optional, name, pattern_tokens, when_tokens, type_token, clock, declaration, locals, left_tokens, equation, heading, body, node, type_declaration, program, kind_of, type_name_of, declared, declaration_tree, equation_tree, node_tree, program_tree}
 use Rattle.lusyn_grammar.specs.Printing.{written_type, bare_pattern, bare_tree, bare_trees}

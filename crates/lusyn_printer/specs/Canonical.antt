@@ -18,8 +18,8 @@ use Rattle.lutree.specs.declared.expr.Pattern.{Pattern}
 use Rattle.lutree.specs.declared.expr.Pattern.TheVariants as patterns
 use Rattle.lutree.specs.declared.expr.Condition.{Condition}
 use Rattle.lutree.specs.Tree.{TypeTree, DeclarationTree, EquationTree, NodeTree, ProgramTree}
-use Rattle.lusyn_tokens.specs.Tokens.{text_of}
-use Rattle.lusyn_tokens.specs.Tokens.{prefix_token, infix_token}
+use Rattle.lusyn_grammar.specs.Tokens.{text_of}
+use Rattle.lusyn_grammar.specs.Tokens.{prefix_token, infix_token}
 use Rattle.lusyn_grammar.specs.Grammar.{Written, Writtens, number, truth, variable, unary, binary, choice, when, current, merge, call, paren, none, more, WrittenType, int, bool, named}
 use Rattle.lusyn_grammar.specs.Printing.{written, written_type}
 

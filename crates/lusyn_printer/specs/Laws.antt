@@ -2,8 +2,8 @@
 use Rattle.std.specs.Prelude.{◌≡◌, ◌++◌, codes, ℕ, List, map}
 use Rattle.std.specs.Str.{IsAscii}
 use Rattle.lutree.specs.Tree.{ProgramTree}
-use Rattle.lusyn_lexer.specs.Lexing.{Placed, HasTokens}
-use Rattle.lusyn_lexer.specs.Runs.{HasShortRuns}
+use Rattle.lusyn_grammar.specs.Lexing.{Placed, HasTokens}
+use Rattle.lusyn_grammar.specs.Runs.{HasShortRuns}
 use Rattle.lusyn_grammar.specs.Grammar.{Spells}
 use Rattle.lusyn_grammar.specs.Examples.{switch}
 use Rattle.lusyn_printer.specs.Canonical.{line, canonical}

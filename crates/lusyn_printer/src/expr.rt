@@ -6,8 +6,8 @@ ghost use Rattle.lusyn_grammar.specs.Printing.{written, writtens, placed, bare_p
 ghost use Rattle.lusyn_printer.specs.Canonical.{expression, operands, further, branches, branch_text, pattern_text, when_text};
 
 use crate::levels::{level_of, put_infix, put_prefix};
-use lulist::{Name, SharedName};
-use lusyn_tokens::binding_of;
+use lubase::{Name, SharedName};
+use lusyn_grammar::binding_of;
 use lutree::{Condition, Expr, Pattern};
 use std::alloc::AllocError;
 

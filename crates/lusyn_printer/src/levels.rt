@@ -2,11 +2,11 @@
 
 ghost use Rattle.std.specs.Prelude.{◌≡◌, ◌++◌, codes, IfOk, string_bytes};
 ghost use Rattle.lutree.specs.Tree.{view};
-ghost use Rattle.lusyn_tokens.specs.Tokens.{text_of, prefix_token, infix_token};
+ghost use Rattle.lusyn_grammar.specs.Tokens.{text_of, prefix_token, infix_token};
 ghost use Rattle.lusyn_grammar.specs.Grammar.{level_of};
 ghost use Rattle.lusyn_grammar.specs.Printing.{written};
 
-use lusyn_tokens::{binding_of, infix_token, prefix_token};
+use lusyn_grammar::{binding_of, infix_token, prefix_token};
 use lutree::{Expr, Infix, Prefix};
 use std::alloc::AllocError;
 

@@ -6,7 +6,7 @@ ghost use Rattle.lusyn_grammar.specs.Printing.{written_type};
 ghost use Rattle.lusyn_printer.specs.Canonical.{joined, type_text, declaration, declarations, heading, locals, left_side, equation, node, type_declaration, canonical};
 
 use crate::expr::{put_expr, put_when};
-use lulist::Name;
+use lubase::Name;
 use lutree::{Declaration, DeclaredName, Equation, Kind, Node, Program, TypeDeclaration};
 use std::alloc::{AllocError, Global};
 

@@ -5,7 +5,7 @@ use Rattle.luflow.specs.declared.data.Datum.{Datum}
 use Rattle.luflow.specs.declared.values.Values.{Values}
 use Rattle.luflow.specs.Packed.{data_in}
 use Rattle.luflow.specs.declared.variable.Enum.{Enum}
-use Rattle.lutab_writing.specs.Text.{Sort, sort_of}
+use Rattle.lutab.specs.Text.{Sort, sort_of}
 use Rattle.lutab.specs.Table.{sorts_in}
 use Rattle.luflow.specs.Program.{Column}
 use Rattle.luflow.specs.Tables.{column_view, columns_view}

@@ -16,7 +16,7 @@ use Rattle.luflow.specs.declared.variable.Variable.{Variable}
 use Rattle.luflow.specs.Program.{Column}
 use Rattle.luflow.specs.Packed.{data_in}
 use Rattle.luflow.specs.Tables.{column_view, columns_view}
-use Rattle.lutab_writing.specs.Text.{Sort, sort_of, HasKind}
+use Rattle.lutab.specs.Text.{Sort, sort_of, HasKind}
 use Rattle.lutab.specs.Table.{kinds_of, sorts_of}
 use Rattle.lutab.specs.Filling.{AreFilled, AreEmptyOf}
 

@@ -7,3 +7,5 @@ mod Plain
 pub mod Told
 pub mod Texts
 mod Rowwise
+pub mod Joins
+mod Written

@@ -2,7 +2,7 @@
 use Rattle.std.proofs.Common.{◌≡◌, ℕ, true, eqb, List, [], ◌∷◌, ◌++◌, Option, Some, None, refl, sym, ap, subst, ◌∙◌, append_assoc, inl, inr}
 use Rattle.std.proofs.lemmas.Bool.{eqb-true, eq-eqb}
 use Rattle.luflow.specs.declared.data.Datum.{Datum}
-use Rattle.lutab_writing.specs.Text.{Sort, datum_text, is_end, HasKind, IsRow, row_text}
+use Rattle.lutab.specs.Text.{Sort, datum_text, is_end, HasKind, IsRow, row_text}
 use Rattle.lutab.specs.Reading.{◌>>=◌, skip, value_at, field_at, fields_at, row_at}
 use Rattle.lutab.proofs.Values.{chosen, bind_some, some_is, value_takes, value_again}
 

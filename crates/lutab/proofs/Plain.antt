@@ -14,7 +14,7 @@ use Rattle.lutree.specs.declared.program.Kind.TheVariants as kinds
 use Rattle.luflow.specs.declared.data.Datum.{Datum}
 use Rattle.luflow.specs.declared.data.Datum.TheVariants as datums
 use Rattle.luflow.specs.Types.{name_of}
-use Rattle.lutab_writing.specs.Text.{Sort, datum_text, fields_text, is_end, IsValueOf, IsRow, row_text}
+use Rattle.lutab.specs.Text.{Sort, datum_text, fields_text, is_end, IsValueOf, IsRow, row_text}
 use Rattle.lutab.specs.Table.{is_feed, is_comma, has_other_count, is_bad_row, IsNoRow}
 use Rattle.lutab.proofs.Values.{own, digit_range}
 

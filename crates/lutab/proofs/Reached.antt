@@ -11,7 +11,7 @@ use Rattle.luflow.specs.declared.data.Datum.TheVariants.{Nil}
 use Rattle.luflow.specs.Program.{Column}
 use Rattle.lutab.specs.declared.error.LineError.{LineError}
 use Rattle.lutab.specs.declared.error.LineError.TheVariants as errors
-use Rattle.lutab_writing.specs.Text.{Sort, fields_text, HasKind, IsRow, row_text}
+use Rattle.lutab.specs.Text.{Sort, fields_text, HasKind, IsRow, row_text}
 use Rattle.lutab.specs.Reading.{row_at}
 use Rattle.lutab.specs.Table.{row_of, rows_of, is_feed}
 use Rattle.lutab.specs.Filling.{with_row, FillsRow, ReadsLine, AreFilled, IsReached, AreRead}

@@ -3,7 +3,7 @@ use Rattle.std.proofs.Common.{◌≡◌, ℕ, suc, ◌<◌, List, [], ◌∷◌,
 use Rattle.std.specs.List.{flat_map}
 use Rattle.std.proofs.lemmas.List.Elements.{All-head, All-tail}
 use Rattle.luflow.specs.declared.data.Datum.{Datum}
-use Rattle.lutab_writing.specs.Text.{Sort, IsRow, row_text}
+use Rattle.lutab.specs.Text.{Sort, IsRow, row_text}
 use Rattle.lutab.specs.Reading.{row_at}
 use Rattle.lutab.specs.Table.{IsNoRow}
 use Rattle.lutab.proofs.Values.{some_is}

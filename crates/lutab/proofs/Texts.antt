@@ -16,7 +16,7 @@ use Rattle.luflow.specs.Types.{names_of as names_of_type}
 use Rattle.luflow.specs.Program.{Column, Table}
 use Rattle.luflow.specs.Sound.{IsConstantOf}
 use Rattle.luflow.specs.Tables.{IsTable, AreColumnsOf}
-use Rattle.lutab_writing.specs.Text.{Sort, sort_of, IsWord, IsValueOf, HasKind, IsRow, row_text}
+use Rattle.lutab.specs.Text.{Sort, sort_of, IsWord, IsValueOf, HasKind, IsRow, row_text}
 use Rattle.lutab.specs.Table.{header_text, sorts_of, AreWords, row_of, rows_of, is_feed, is_too_long, table_text, IsTextOf}
 use Rattle.lutab.specs.Filling.{AreFilled, AreRead}
 use Rattle.lutab.proofs.Rowwise.{rows_same}

@@ -11,7 +11,7 @@ use Rattle.luflow.specs.Tables.{Fits}
 use Rattle.luflow.specs.Variables.{inputs_of}
 use Rattle.lutab.specs.declared.error.TabError.{TabError}
 use Rattle.lutab.specs.declared.error.TabError.TheVariants.{BadHeader, BadRow, BadValue, TooLong, OutOfMemory}
-use Rattle.lutab_writing.specs.Text.{sort_of, row_text}
+use Rattle.lutab.specs.Text.{sort_of, row_text}
 use Rattle.lutab.specs.Table.{header_text, kinds_of, sorts_of, rows_of, is_too_long, is_bad_row, IsTextOf, IsNoRow, StandsAt, IsRefused, Answers}
 use Rattle.lutab.specs.Filling.{ReadsText}
 use Rattle.lutab.proofs.Rowwise.{same_stop, no_stop}

@@ -19,7 +19,7 @@ use Rattle.lutree.specs.declared.program.Kind.TheVariants as kinds
 use Rattle.luflow.specs.declared.data.Datum.{Datum}
 use Rattle.luflow.specs.declared.data.Datum.TheVariants as datums
 use Rattle.luflow.specs.Types.{name_of}
-use Rattle.lutab_writing.specs.Text.{Sort, datum_text, is_end, IsTold, IsValueOf, HasKind}
+use Rattle.lutab.specs.Text.{Sort, datum_text, is_end, IsTold, IsValueOf, HasKind}
 use Rattle.lutab.specs.Reading.{◌>>=◌, digits_from, number_at, natural_value, negative_value, int_at, after, or_else, truth, bool_at, field_length, front_field, name_at, value_of, value_at}
 
 -- what the digits say behind those of n

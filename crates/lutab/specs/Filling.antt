@@ -15,7 +15,7 @@ use Rattle.lutab.specs.declared.error.LineError.{LineError}
 use Rattle.lutab.specs.declared.error.LineError.TheVariants as errors
 use Rattle.lutab.specs.declared.error.TabError.{TabError}
 use Rattle.lutab.specs.declared.error.TabError.TheVariants.{BadHeader, BadRow, BadValue, TooLong, OutOfMemory}
-use Rattle.lutab_writing.specs.Text.{Sort, HasKind, IsRow, row_text}
+use Rattle.lutab.specs.Text.{Sort, HasKind, IsRow, row_text}
 use Rattle.lutab.specs.Table.{rows_of, sorts_of, is_feed, is_bad_row, is_too_long, IsNoRow, IsTextOf, IsRefused}
 
 -- a row at the end of the columns

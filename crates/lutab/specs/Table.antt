@@ -12,7 +12,7 @@ use Rattle.luflow.specs.Program.{Column, Table}
 use Rattle.luflow.specs.Tables.{IsTable, AreColumnsOf}
 use Rattle.lutab.specs.declared.error.TabError.{TabError}
 use Rattle.lutab.specs.declared.error.TabError.TheVariants.{BadHeader, BadRow, BadValue, TooLong, OutOfMemory}
-use Rattle.lutab_writing.specs.Text.{Sort, sort_of, IsWord, IsRow, line_text, row_text}
+use Rattle.lutab.specs.Text.{Sort, sort_of, IsWord, IsRow, line_text, row_text}
 
 -- what the columns have at an instant, and at the first n instants
 abbrev pub row_of : List Column → ℕ → List Datum

@@ -2,11 +2,11 @@
 
 ghost use Rattle.std.specs.Prelude.{◌≡◌, ◌≤◌, ◌<◌, IfSome, length, option_map, position};
 ghost use Rattle.std.specs.Str.{bytes_eq};
-ghost use Rattle.lutab_writing.specs.Text.{is_end, sort_of};
+ghost use Rattle.lutab.specs.Text.{is_end, sort_of};
 ghost use Rattle.lutab.specs.Reading.{digits_from, number_at, natural_value, negative_value, int_at, bool_at, field_length, name_at, value_at};
 
+use lubase::Name;
 use luflow::{Datum, Enum, names_of};
-use lulist::Name;
 use lutree::Kind;
 
 /// A number above it takes no further digit: ten times it is above 2^63.

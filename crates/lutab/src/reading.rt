@@ -12,10 +12,10 @@ ghost use Rattle.luflow.specs.declared.variable.Enum.{Enum as AnyEnum};
 ghost use Rattle.lutab.specs.Filling.{AreEmptyOf, ReadsColumns, ReadsText};
 
 use crate::error::TabError;
+use crate::put_comma;
 use crate::rows::read_rows;
 use luflow::{Enum, Flat, Inputs, Values, Variable};
 use lulimits::limits::{LONGEST_TABLE, MOST_INSTANTS};
-use lutab_writing::put_comma;
 use lutree::Kind;
 use std::alloc::{AllocError, Global};
 

@@ -4,7 +4,7 @@ ghost use Rattle.std.specs.Prelude.{◌≡◌, List, option_map, length};
 ghost use Rattle.luflow.specs.declared.variable.Enum.{Enum as AnyEnum};
 ghost use Rattle.luflow.specs.Packed.{data_in};
 ghost use Rattle.luflow.specs.Tables.{columns_view};
-ghost use Rattle.lutab_writing.specs.Text.{sort_of};
+ghost use Rattle.lutab.specs.Text.{sort_of};
 ghost use Rattle.lutab.specs.Table.{sorts_in};
 ghost use Rattle.lutab.specs.Reading.{skip, end_before, field_at, fields_at, row_at};
 ghost use Rattle.lutab.specs.Filling.{FillsField, FillsRow};

@@ -1,7 +1,7 @@
 //! Expressions.
 
 use crate::program::Kind;
-use lulist::{Name, Number, Row, SharedName};
+use lubase::{Name, Number, Row, SharedName};
 
 /// An operator on data that stands before its one operand.
 #[derive(Clone, Copy, PartialEq, Eq)]

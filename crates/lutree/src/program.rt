@@ -1,7 +1,7 @@
 //! Programs, their nodes, declarations and equations.
 
 use crate::expr::{Condition, Expr};
-use lulist::{Name, Row, SharedName};
+use lubase::{Name, Row, SharedName};
 
 /// The type of a variable.
 #[derive(Clone, Copy, Debug, PartialEq, Eq)]

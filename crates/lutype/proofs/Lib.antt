@@ -1,1 +1,12 @@
 mod Told
+pub mod CallPlaces
+mod CallsPushed
+pub mod CallWays
+mod Places
+mod Standing
+mod Forms
+mod Lookups
+mod Fit
+mod Defining
+mod Branches
+mod NameAt

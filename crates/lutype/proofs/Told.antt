@@ -14,10 +14,10 @@ use Rattle.lustat_rules.specs.Told.{byte_of, number_of, RuleTold, Tells}
 use Rattle.lustat_rules.specs.Faults.{lesser_of, IsAtMost, IsJudged, IsFault, AreKept}
 use Rattle.lustat_rules.proofs.Judging.{judged_joined}
 use Rattle.lustat_rules.proofs.Stages.{stage_least}
-use Rattle.lustat_scope.proofs.Keeping.{broken_somewhere, view_item, item_view}
-use Rattle.lugraph.proofs.Marks.{below_or_not}
-use Rattle.lutype_calls.specs.CallGraph.{IsRecursive, NoneRecursiveBefore}
-use Rattle.lutype_faults.specs.Asked.{is_asked}
+use Rattle.lustat_rules.proofs.Keeping.{broken_somewhere, view_item, item_view}
+use Rattle.lubase.proofs.Marks.{below_or_not}
+use Rattle.lutype.specs.CallGraph.{IsRecursive, NoneRecursiveBefore}
+use Rattle.lutype.specs.Asked.{is_asked}
 use Rattle.lutype.specs.First.{IsRecursionFault, IsNameFault, IsToldFirst}
 
 stage_of : (rule : Rule) → IsTrue (is_asked rule) → stage rule ≤ 1

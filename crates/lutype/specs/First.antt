@@ -8,8 +8,8 @@ use Rattle.lustat_rules.specs.declared.error.StatError.{StatError}
 use Rattle.lustat_rules.specs.declared.error.StatError.TheVariants.{OutOfMemory, RecursiveNode}
 use Rattle.lustat_rules.specs.Faults.{IsFault}
 use Rattle.lustat_rules.specs.Least.{IsLeastFault}
-use Rattle.lutype_faults.specs.Asked.{is_asked}
-use Rattle.lutype_calls.specs.CallGraph.{NoneRecursiveBefore}
+use Rattle.lutype.specs.Asked.{is_asked}
+use Rattle.lutype.specs.CallGraph.{NoneRecursiveBefore}
 
 -- the first node of the text that reaches itself by calls is told at its name
 pub record IsRecursionFault (p : Program) (e : StatError) : Type 0 where

@@ -1,2 +1,10 @@
 pub mod Named
 pub mod First
+pub mod CallGraph
+pub mod CallAnswer
+pub mod Asked
+pub mod Forms
+pub mod CallRules
+pub mod PartRules
+pub mod Starts
+pub mod Tables

@@ -10,11 +10,9 @@ ghost use Rattle.lutype.specs.Named.{AreInOrder};
 
 use crate::search::least_fault;
 use crate::typed::Typed;
-use lustat_rules::StatError;
-use lustat_scope::Catalog;
+use crate::{CallOrder, call_order, with_recursion};
+use lustat_rules::{Catalog, StatError};
 use lutree::Program;
-use lutype_calls::{CallOrder, call_order};
-use lutype_faults::with_recursion;
 use std::alloc::Global;
 
 /// The place of a node's name in the text.

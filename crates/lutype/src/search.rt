@@ -2,15 +2,14 @@
 
 ghost use Rattle.std.specs.Prelude.{◌≡◌, IfOk};
 ghost use Rattle.lustat_rules.specs.Faults.{IsJudged, TypeFault, TypeKept, NameFault, NameKept, NodeFault, NodeKept, DeclarationFault, DeclarationKept, EquationFault, EquationKept, IsFault, AreKept};
-ghost use Rattle.lutype_faults.specs.Asked.{is_asked};
+ghost use Rattle.lutype.specs.Asked.{is_asked};
 
-use lustat_rules::{StatError, lesser};
-use lustat_scope::{Catalog, Scope, Stage};
-use lutree::{Declaration, DeclaredName, Equation, TypeDeclaration};
-use lutype_faults::{
-    declaration_fault, equation_fault, label_fault, name_fault, program_fault, type_fault,
+use crate::{
+    Definitions, declaration_fault, equation_fault, label_fault, name_fault, program_fault,
+    type_fault,
 };
-use lutype_rules::Definitions;
+use lustat_rules::{Catalog, Scope, Stage, StatError, lesser};
+use lutree::{Declaration, DeclaredName, Equation, TypeDeclaration};
 use std::alloc::{AllocError, Global};
 
 // The rules of names and types at the places of a program, with the name of its main node. The tests of a node share its definitions.
@@ -107,6 +106,6 @@ pub fn least_fault(
         (AreKept is_asked catalog.now main.now)) }
 {
     let stage = NameStage { catalog, main };
-    let of_places = lustat_scope::least_fault(alloc, &stage, catalog)?;
+    let of_places = lustat_rules::least_fault(alloc, &stage, catalog)?;
     Ok(lesser(program_fault(catalog, main), of_places))
 }

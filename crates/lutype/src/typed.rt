@@ -6,7 +6,7 @@ ghost use Rattle.lustat_rules.specs.Accepted.{IsNamed};
 ghost use Rattle.lustat_rules.specs.Naming.{IsCallOrder};
 ghost use Rattle.lutype.specs.Named.{AreInOrder};
 
-use lustat_scope::Catalog;
+use lustat_rules::Catalog;
 use lutree::Program;
 use std::marker::Model;
 

@@ -10,7 +10,7 @@ use Rattle.luflow.specs.Program.{FlatProgram, flow_at, flows_of, places, clock_r
 use Rattle.luflow.specs.Flats.{IsFlat, IsWithin}
 use Rattle.luflow.specs.Rank.{row}
 use Rattle.luworld.specs.Needs.{Distribution, flow_sites}
-use Rattle.lugraph.specs.Graph.{Graph, row_of, PointsTo, Reaches, IsCycle, one as one_edge, more as more_edges}
+use Rattle.lubase.specs.Graph.{Graph, row_of, PointsTo, Reaches, IsCycle, one as one_edge, more as more_edges}
 use Rattle.luways.specs.Ways.{named, Reads, Leads, IsParted, NoneParted}
 use Rattle.luways.specs.Ways.{one, more}
 use Rattle.luways.specs.Layers.{reads_in, same_sites, away, first_row, second_row, third_row, AreLayers}

@@ -15,7 +15,7 @@ use Rattle.luflow.specs.Flats.{IsFlat}
 use Rattle.luworld.specs.declared.link.Link.{Link}
 use Rattle.luworld.specs.Needs.{Distribution, IsPlan}
 use Rattle.luworld.proofs.Fitting.{fits}
-use Rattle.lugraph.specs.Graph.{Graph, MarksCycles}
+use Rattle.lubase.specs.Graph.{Graph, MarksCycles}
 use Rattle.lublock_plan.specs.Classes.{class_in}
 use Rattle.luways.specs.Ways.{IsSent, IsInitialised, IsPartedVariable, IsSentNil, NoneParted, GoesByRows, AreAll}
 use Rattle.luways.specs.Layers.{AreLayers}

@@ -5,7 +5,7 @@ use Rattle.std.specs.Global.{Global}
 use Rattle.std.proofs.lemmas.Bool.{cases_lt}
 use Rattle.luflow.specs.Program.{flows_of}
 use Rattle.luworld.specs.Needs.{Distribution}
-use Rattle.lugraph.specs.Graph.{Graph, row_of}
+use Rattle.lubase.specs.Graph.{Graph, row_of}
 use Rattle.luways.specs.Layers.{first_row, second_row, third_row, HasMore, AreLayers}
 
 row_before : (g : Graph) (r : Vec ℕ Global) (x : ℕ) → x < length g → row_of (g ++ r ∷ []) x ≡ row_of g x

@@ -5,7 +5,7 @@ use Rattle.std.specs.List.{filter}
 use Rattle.std.specs.Str.{bytes_eq}
 use Rattle.luflow.specs.Program.{flow_at, flows_of}
 use Rattle.luworld.specs.Needs.{Distribution, flow_sites}
-use Rattle.lugraph.specs.Graph.{Graph, row_of}
+use Rattle.lubase.specs.Graph.{Graph, row_of}
 use Rattle.luways.specs.Ways.{named}
 
 abbrev pub reads_in : Distribution → ℕ → List ℕ

@@ -8,9 +8,8 @@ ghost use Rattle.luways.specs.Ways.{IsSent, IsInitialised, IsPartedVariable, IsS
 
 use crate::layers::layers_of;
 use crate::nils::{least_nils, mark};
+use lubase::{Row, cycles_of};
 use lublock_plan::class_in;
-use lugraph::cycles_of;
-use lulist::Row;
 use luplace::Plan;
 use std::alloc::{AllocError, Global};
 

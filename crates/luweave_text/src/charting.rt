@@ -10,8 +10,8 @@ ghost use Rattle.luweave_text.specs.Charted.{cell, chart_line, crosses, filler, 
 
 use crate::text::site_name;
 use crate::tracing::put_item;
+use lubase::Name;
 use luchart::pieces::{put_copies, put_right};
-use lulist::Name;
 use luplace::Plan;
 use luweave::{LinkNo, Next, World};
 use std::alloc::{AllocError, Global};

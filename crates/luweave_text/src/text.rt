@@ -6,8 +6,8 @@ ghost use Rattle.luworld.specs.Needs.{sites_of};
 ghost use Rattle.luflow.specs.Types.{variable_names};
 ghost use Rattle.luflow.specs.Variables.{is_output_of, variable_name};
 
+use lubase::Name;
 use luflow::{Body, Datum, Flat, Msg, Role, Status, name_of};
-use lulist::Name;
 use luplace::{Link, Plan};
 use lusite::{Fault, Standing};
 use luweave::World;

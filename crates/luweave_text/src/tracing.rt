@@ -16,8 +16,8 @@ ghost use Rattle.luweave_text.specs.Traced.{item_line, next_line, one_more, open
 use crate::charting::{put_chart_line, put_heading};
 use crate::form::TraceForm;
 use crate::text::{put_message, site_name, variable_name};
+use lubase::Name;
 use luflow::Msg;
-use lulist::Name;
 use luplace::Plan;
 use luweave::{LinkNo, Next, Site, Turn, World};
 use std::alloc::{AllocError, Global};

@@ -1,5 +1,5 @@
 use Rattle.std.proofs.Common.{rules}
-use Rattle.lublock_forms.proofs.Steps.{is_count_on}
+use Rattle.lublock_kernels.proofs.Steps.{is_count_on}
 use Rattle.lublock.proofs.board.hits_on.Goals as goal
 
 pub returns-in-Some-read : goal.returns-in-Some-read

@@ -1,5 +1,5 @@
 use Rattle.std.proofs.Common.{◌≡◌, length}
-use Rattle.lublock_rows.specs.Rows.{Keeps}
+use Rattle.lublock_kernels.specs.Rows.{Keeps}
 use Rattle.lublock.proofs.board.put_all.Given as goal
 
 abbrev pub invariant-loop-m : goal.invariant-loop-m

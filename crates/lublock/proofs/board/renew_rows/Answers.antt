@@ -1,7 +1,7 @@
 use Rattle.std.proofs.Common.{arith, ◌≡◌, ◌<◌, length, refl, sym, ap, ◌∙◌}
 use Rattle.std.proofs.lemmas.Option.{slice_get_read, slice_get_past}
-use Rattle.lublock_forms.specs.Machine.{ticks_there, ticks_of}
-use Rattle.lublock_forms.proofs.Steps.{len_set}
+use Rattle.lublock_kernels.specs.Machine.{ticks_there, ticks_of}
+use Rattle.lublock_kernels.proofs.Steps.{len_set}
 use Rattle.lublock.proofs.Renewing.{rows_renewed, rows_beside, rows_left}
 use Rattle.lublock.proofs.board.renew_rows.Goals.{in-Some, in-None}
 use Rattle.lublock.proofs.board.renew_rows.Goals as goal

@@ -1,6 +1,6 @@
 use Rattle.std.proofs.Common.{◌≡◌, ◌<◌, ◌≤◌, ℕ, suc, length}
-use Rattle.lublock_rows.specs.Rows.{word_in}
-use Rattle.lublock_forms.specs.Machine.{row_of, ticks_of}
+use Rattle.lublock_kernels.specs.Rows.{word_in}
+use Rattle.lublock_kernels.specs.Machine.{row_of, ticks_of}
 use Rattle.lublock.proofs.board.renew_rows.Given as goal
 
 abbrev pub invariant-loop-i : goal.invariant-loop-i

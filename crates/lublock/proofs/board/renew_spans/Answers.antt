@@ -1,7 +1,7 @@
 use Rattle.std.proofs.Common.{arith, ◌≡◌, ◌<◌, Some, length, refl, sym, ap, ◌∙◌}
 use Rattle.std.specs.Prelude.{slice_get}
 use Rattle.std.proofs.lemmas.Option.{slice_get-get_or}
-use Rattle.lublock_forms.proofs.Steps.{len_set}
+use Rattle.lublock_kernels.proofs.Steps.{len_set}
 use Rattle.lublock.proofs.Renewing.{spans_renewed, spans_left, all_renewed}
 use Rattle.lublock.proofs.board.renew_spans.Goals as goal
 

@@ -1,8 +1,8 @@
 use Rattle.std.proofs.Common.{ℕ, subst, sym}
 use Rattle.luflow.specs.declared.form.Clock.{Clock}
 use Rattle.luflow.specs.declared.form.Clock.TheVariants.{On}
-use Rattle.lublock_forms.specs.Machine.{IsCount}
-use Rattle.lublock_forms.proofs.Steps.{weaker_some}
+use Rattle.lublock_kernels.specs.Machine.{IsCount}
+use Rattle.lublock_kernels.proofs.Steps.{weaker_some}
 use Rattle.lublock.proofs.board.ticks_on.Goals as goal
 
 pub returns-in-On : goal.returns-in-On

@@ -1,5 +1,5 @@
 use Rattle.std.proofs.Common.{◌<◌, ℕ}
-use Rattle.lublock_forms.specs.Machine.{ClosesAt}
+use Rattle.lublock_kernels.specs.Machine.{ClosesAt}
 use Rattle.lublock.proofs.closing.closes.Given as goal
 
 abbrev pub invariant-loop-i : goal.invariant-loop-i

@@ -1,5 +1,5 @@
 use Rattle.std.proofs.Common.{◌≡◌, ◌<◌, ◌≤◌, ℕ, suc}
-use Rattle.lublock_rows.specs.Rows.{word_in}
+use Rattle.lublock_kernels.specs.Rows.{word_in}
 use Rattle.lublock.proofs.closing.is_shifted.Given as goal
 
 abbrev pub invariant-loop-m : goal.invariant-loop-m

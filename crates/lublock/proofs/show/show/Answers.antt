@@ -1,9 +1,9 @@
 use Rattle.std.proofs.Common.{rules, ◌≡◌, ◌<◌, length, List, ℕ, ℤ, refl, subst, ap, ◌∙◌}
 use Rattle.std.specs.Prelude.{Vec}
 use Rattle.std.specs.declared.alloc.Global.{Global}
-use Rattle.lublock_forms.specs.Machine.{row_of}
+use Rattle.lublock_kernels.specs.Machine.{row_of}
 use Rattle.lublock.specs.Shown.{Column, IsShown, first_of}
-use Rattle.lublock_forms.proofs.Steps.{got}
+use Rattle.lublock_kernels.proofs.Steps.{got}
 use Rattle.lublock.proofs.Showing.{shown_more}
 use Rattle.lublock.proofs.show.show.Goals as goal
 

@@ -1,5 +1,5 @@
 use Rattle.std.proofs.Common.{◌≡◌, ◌<◌, ℕ, true}
-use Rattle.lublock_forms.specs.Parts.{knows}
+use Rattle.lublock_kernels.specs.Parts.{knows}
 use Rattle.lublock_site.specs.Marks.{marked, marked_part}
 use Rattle.lublock_site.proofs.block.are_all_sure.Given as goal
 

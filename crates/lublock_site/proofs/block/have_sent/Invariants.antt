@@ -1,6 +1,6 @@
 use Rattle.std.proofs.Common.{◌≡◌, ◌<◌, ℕ, Some}
 use Rattle.std.specs.Prelude.{slice_get}
-use Rattle.lublock_forms.specs.Machine.{ticks_of}
+use Rattle.lublock_kernels.specs.Machine.{ticks_of}
 use Rattle.lublock_site.specs.declared.outlets.Outlet.{Outlet}
 use Rattle.lublock_site.proofs.block.have_sent.Given as goal
 

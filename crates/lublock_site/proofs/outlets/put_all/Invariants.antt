@@ -1,5 +1,5 @@
 use Rattle.std.proofs.Common.{◌≡◌}
-use Rattle.lublock_forms.specs.Machine.{ticks_of}
+use Rattle.lublock_kernels.specs.Machine.{ticks_of}
 use Rattle.lublock_site.specs.Stations.{HasSent, MaySend}
 use Rattle.lublock_site.proofs.outlets.put_all.Given as goal
 

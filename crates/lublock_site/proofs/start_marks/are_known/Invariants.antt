@@ -1,6 +1,6 @@
 use Rattle.std.proofs.Common.{◌≡◌, ◌<◌, ℕ, true, Some}
 use Rattle.std.specs.Prelude.{slice_get}
-use Rattle.lublock_forms.specs.Parts.{knows}
+use Rattle.lublock_kernels.specs.Parts.{knows}
 use Rattle.lublock_site.specs.Marks.{marked_part}
 use Rattle.lublock_site.proofs.start_marks.are_known.Given as goal
 

@@ -1,7 +1,7 @@
 use Rattle.std.proofs.Common.{rules, suc, ◌≡◌, ◌<◌, length, List, ℤ, subst, sym, ap, refl}
-use Rattle.lublock_rows.specs.Rows.{Keeps, word_in}
-use Rattle.lublock_forms.specs.Machine.{row_there}
-use Rattle.lublock_forms.proofs.Steps.{got}
+use Rattle.lublock_kernels.specs.Rows.{Keeps, word_in}
+use Rattle.lublock_kernels.specs.Machine.{row_there}
+use Rattle.lublock_kernels.proofs.Steps.{got}
 use Rattle.lublock_site.proofs.Taking.{one_taken}
 use Rattle.lublock_site.proofs.steps.take_word.Goals as goal
 

@@ -7,8 +7,8 @@ use Rattle.luflow.specs.Program.{reads, FlatProgram}
 use Rattle.luflow.specs.Rank.{IsRankOrder, Chain}
 use Rattle.luflow.specs.Flats.{IsFlat}
 use Rattle.lutree.specs.Tree.{program_view}
-use Rattle.lucore_rank.specs.Answer.{IfOrdered, IfCyclic}
-use Rattle.lucore_rank.specs.Rank.{AreClosed, IsLeastOnCycle}
+use Rattle.lucore_laws.specs.Answer.{IfOrdered, IfCyclic}
+use Rattle.lucore_laws.specs.Rank.{AreClosed, IsLeastOnCycle}
 use Rattle.lucore.specs.Result.{IsFlatOf}
 use Rattle.lucore.proofs.Told.{too_large, listed_for, are_closed, few_if, flat_is, has_owner, owners_in, cycle_told}
 use Rattle.lucore.proofs.flattening.flatten.Goals as goal

@@ -1,6 +1,6 @@
 use Rattle.std.proofs.Common.{◌∙◌, ap}
 use Rattle.std.specs.Prelude.{is_some}
-use Rattle.lunames.specs.Places.{first_place}
+use Rattle.lubase.specs.Places.{first_place}
 use Rattle.luplace.proofs.Sited.{variable_sought}
 use Rattle.luplace.proofs.placing.is_variable.Goals as goal
 

@@ -1,6 +1,6 @@
 use Rattle.std.proofs.Common.{◌∙◌, ap, sym}
-use Rattle.lunames.specs.Places.{first_place}
-use Rattle.lunames.proofs.Sought.{at}
+use Rattle.lubase.specs.Places.{first_place}
+use Rattle.lubase.proofs.Sought.{at}
 use Rattle.luplace.proofs.Sited.{entry_sought}
 use Rattle.luplace.proofs.sought.entry_of.Goals as goal
 

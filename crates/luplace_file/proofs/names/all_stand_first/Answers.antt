@@ -1,7 +1,7 @@
 use Rattle.std.proofs.Common.{rules, ◌∙◌, ◌<◌, Some, sym, ap, length, arith}
 use Rattle.std.proofs.lemmas.Bool.{false≢true}
 use Rattle.std.proofs.lemmas.Option.{slice_get-get_or}
-use Rattle.lunames.specs.Places.{first_place}
+use Rattle.lubase.specs.Places.{first_place}
 use Rattle.luplace_file.proofs.Differing.{differ_where_first, not_first, one_first_more}
 use Rattle.luplace_file.proofs.names.all_stand_first.Goals as goal
 

@@ -2,9 +2,9 @@ use Rattle.std.proofs.Common.{Some, List, ℕ, sym, subst}
 use Rattle.lutree.specs.Places.{places_view}
 use Rattle.lutree.specs.Tree.{program_view}
 use Rattle.std.proofs.lemmas.Result.{err_from_is_err_and}
-use Rattle.lusdist_meaning.specs.Stopped.HasNoFlat.{unspelled, unruled}
-use Rattle.lusdist_meaning.specs.Stopped.StopsAtProgram.{program_unread, program_refused}
-use Rattle.lusdist_meaning.specs.Stopped.IsCheckStopped.{check_program}
+use Rattle.lusdist_call.specs.Stopped.HasNoFlat.{unspelled, unruled}
+use Rattle.lusdist_call.specs.Stopped.StopsAtProgram.{program_unread, program_refused}
+use Rattle.lusdist_call.specs.Stopped.IsCheckStopped.{check_program}
 use Rattle.lusdist_answers.proofs.answering.check_text.Goals as goal
 
 pub returns-clause-text : goal.returns-clause-text

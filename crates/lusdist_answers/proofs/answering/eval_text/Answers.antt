@@ -1,6 +1,6 @@
 use Rattle.std.proofs.Common.{refl, sym}
 use Rattle.std.proofs.lemmas.Result.{IfErr-weaker}
-use Rattle.lusdist_meaning.specs.Stopped.IsEvalRefused.{eval_mistaken, eval_stopped}
+use Rattle.lusdist_call.specs.Stopped.IsEvalRefused.{eval_mistaken, eval_stopped}
 use Rattle.lusdist_answers.proofs.answering.eval_text.Goals as goal
 
 pub returns-in-Some-clause-stopped : goal.returns-in-Some-clause-stopped

@@ -1,5 +1,5 @@
 use Rattle.std.proofs.lemmas.Result.{IfOk-weaker, IfErr-weaker, err_from_is_err_and}
-use Rattle.lutab_writing.specs.Outputs.{shown_of}
+use Rattle.lutab.specs.Outputs.{shown_of}
 use Rattle.lusdist_answers.proofs.Outcomes.{of_source, dumped_to, eval_stop, none_dumped, dumped_of}
 use Rattle.lusdist_answers.proofs.answering.evaluated_text.Goals as goal
 

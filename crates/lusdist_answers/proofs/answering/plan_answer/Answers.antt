@@ -1,5 +1,5 @@
 use Rattle.std.proofs.lemmas.Result.{err_from_is_err_and, IfErr-weaker, IfOk-weaker}
-use Rattle.lusdist_meaning.specs.Stopped.IsPlanStopped.{plan_files, plan_memory}
+use Rattle.lusdist_call.specs.Stopped.IsPlanStopped.{plan_files, plan_memory}
 use Rattle.lusdist_answers.proofs.answering.plan_answer.Goals as goal
 
 pub returns-clause-stopped : goal.returns-clause-stopped

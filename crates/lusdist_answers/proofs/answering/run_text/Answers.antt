@@ -1,6 +1,6 @@
 use Rattle.std.proofs.lemmas.Result.{IfOk-weaker, IfErr-weaker, err_from_is_err_and}
 use Rattle.std.specs.Prelude.{string_bytes}
-use Rattle.lusdist_meaning.specs.Stopped.IsRunStopped.{run_job}
+use Rattle.lusdist_call.specs.Stopped.IsRunStopped.{run_job}
 use Rattle.lusdist_answers.proofs.Ran.{is_ran}
 use Rattle.lusdist_answers.proofs.Dumps.{at_job_none, none_written, run_before, run_filed, run_stopped}
 use Rattle.lusdist_answers.proofs.answering.run_text.Goals as goal

@@ -3,9 +3,9 @@ use Rattle.luflow.specs.Program.{Table}
 use Rattle.luflow.specs.Sound.{IsFit}
 use Rattle.lueval_lines.specs.declared.error.EvalError.TheVariants.{Fault}
 use Rattle.lueval.specs.Whole.{IsAnswer}
-use Rattle.lutab_writing.specs.Outputs.{shown_of}
+use Rattle.lutab.specs.Outputs.{shown_of}
 use Rattle.luchart.proofs.CutLaws.{fit}
-use Rattle.lusdist_meaning.specs.Evaluated.{AreEvaluated}
+use Rattle.lusdist_call.specs.Evaluated.{AreEvaluated}
 use Rattle.lusdist_answers.proofs.Outcomes.{are_before, cut_fine}
 use Rattle.lusdist_answers.proofs.evaluating.columns_before.Goals as goal
 

@@ -1,7 +1,7 @@
 use Rattle.std.proofs.Common.{subst}
 use Rattle.lueval_lines.specs.declared.error.EvalError.TheVariants.{Fault}
 use Rattle.lueval.specs.Whole.{IsAnswer}
-use Rattle.lutab_writing.specs.Outputs.{shown_of}
+use Rattle.lutab.specs.Outputs.{shown_of}
 use Rattle.lusdist_answers.proofs.Outcomes.{shown_whole, unfiled_stop, unfiled_shown}
 use Rattle.std.proofs.lemmas.Result.{IfErr-weaker}
 use Rattle.lusdist_answers.proofs.evaluating.evaluation.Goals as goal

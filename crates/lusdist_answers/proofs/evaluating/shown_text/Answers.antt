@@ -1,6 +1,6 @@
 use Rattle.std.proofs.Common.{◌≡◌, ◌∙◌, Bool, ap, ap₂, sym, List, if◌then◌else◌}
 use Rattle.std.proofs.lemmas.Result.{IfOk-weaker}
-use Rattle.lutab_writing.specs.Outputs.{kinds_of, shown_of, column_text}
+use Rattle.lutab.specs.Outputs.{kinds_of, shown_of, column_text}
 use Rattle.luchart.specs.Chronogram.{chart_text}
 use Rattle.lusdist_answers.proofs.evaluating.shown_text.Goals as goal
 

@@ -1,6 +1,6 @@
 use Rattle.std.proofs.Common.{◌∙◌, ap, ap₂}
 use Rattle.std.proofs.lemmas.Result.{IfOk-weaker}
-use Rattle.lutab_writing.specs.Outputs.{kinds_of, shown_of}
+use Rattle.lutab.specs.Outputs.{kinds_of, shown_of}
 use Rattle.luchart.specs.Dump.{dump_text}
 use Rattle.lusdist_answers.proofs.evaluating.wave_text.Goals as goal
 

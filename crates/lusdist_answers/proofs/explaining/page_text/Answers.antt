@@ -1,8 +1,8 @@
 use Rattle.std.proofs.Common.{ℕ, List, Option, Bor, refl, sym, ap, ◌∙◌}
 use Rattle.std.specs.Prelude.{option_map}
-use Rattle.lusdist_stop.specs.declared.mistake.Mistake.TheVariants.{UnknownCode}
-use Rattle.lusdist_stop.specs.declared.stop.Stop.TheVariants.{Mistaken}
-use Rattle.lusdist_meaning.specs.Explained.IsExplainStopped.{explain_unknown}
+use Rattle.lusdist_call.specs.declared.mistake.Mistake.TheVariants.{UnknownCode}
+use Rattle.lusdist_call.specs.declared.stop.Stop.TheVariants.{Mistaken}
+use Rattle.lusdist_call.specs.Explained.IsExplainStopped.{explain_unknown}
 use Rattle.lusdist_answers.proofs.explaining.page_text.Goals as goal
 
 pub returns-in_ok-from_text-in-None-clause-stopped : goal.returns-in_ok-from_text-in-None-clause-stopped

@@ -4,7 +4,7 @@ use Rattle.luflow.specs.declared.variable.Enum.{Enum}
 use Rattle.luflow.specs.declared.variable.Variable.{Variable}
 use Rattle.luflow.specs.Tables.{OutputColumn}
 use Rattle.lutree.specs.declared.program.Kind.{Kind}
-use Rattle.lutab_writing.specs.Outputs.{kinds_of, shown_of}
+use Rattle.lutab.specs.Outputs.{kinds_of, shown_of}
 use Rattle.luchart.specs.declared.signal.Signal.{Signal as Borrowed}
 use Rattle.luchart.specs.Signals.{Signal, signals_of, signals_view}
 use Rattle.luweave_text.specs.Waves.{site_dump}

@@ -2,7 +2,7 @@ use Rattle.std.proofs.Common.{Some, List, ℕ, ◌<◌, length, sym, subst}
 use Rattle.std.proofs.lemmas.Result.{IfOk-weaker, IfErr-weaker, err_from_is_err_and}
 use Rattle.luflow.specs.Variables.{outputs_of}
 use Rattle.luworld.specs.Needs.{Distribution}
-use Rattle.lusdist_meaning.specs.Stopped.StopsAtJob.{no_plan, table_unread, table_refused}
+use Rattle.lusdist_call.specs.Stopped.StopsAtJob.{no_plan, table_unread, table_refused}
 use Rattle.lusdist_answers.proofs.Ran.{job_found}
 use Rattle.lusdist_answers.proofs.HasOutputs.{some_output}
 use Rattle.lusdist_answers.proofs.jobs.job_for.Goals as goal

@@ -1,7 +1,7 @@
 use Rattle.std.proofs.Common.{Some, List, ℕ, sym, subst}
 use Rattle.std.proofs.lemmas.Result.{err_from_is_err_and}
-use Rattle.lusdist_meaning.specs.Asked.{HasFlat}
-use Rattle.lusdist_meaning.specs.Stopped.StopsAtPlan.{no_program, place_unread, place_refused}
+use Rattle.lusdist_call.specs.Asked.{HasFlat}
+use Rattle.lusdist_call.specs.Stopped.StopsAtPlan.{no_program, place_unread, place_refused}
 use Rattle.lusdist_answers.proofs.planning.planned.Goals as goal
 
 pub returns-clause-plan : goal.returns-clause-plan

@@ -1,5 +1,5 @@
 use Rattle.std.proofs.lemmas.Result.{err_from_is_err_and}
-use Rattle.lusdist_meaning.specs.Stopped.IsReplayStopped.{replay_job}
+use Rattle.lusdist_call.specs.Stopped.IsReplayStopped.{replay_job}
 use Rattle.lusdist_answers.proofs.Dumps.{at_job_none, at_schedule_none, stops_at_schedule}
 use Rattle.lusdist_answers.proofs.replaying.job_and_turns.Goals as goal
 

@@ -1,7 +1,7 @@
 use Rattle.std.proofs.Common.{sym, subst}
 use Rattle.std.specs.Prelude.{string_bytes}
 use Rattle.std.proofs.lemmas.Result.{IfOk-weaker, IfErr-weaker, err_from_is_err_and}
-use Rattle.lusdist_meaning.specs.Asked.{IsAskedFor, IsNotedReplay}
+use Rattle.lusdist_call.specs.Asked.{IsAskedFor, IsNotedReplay}
 use Rattle.lusdist_answers.proofs.Dumps.{none_written, replay_filed, replay_unfiled, unfiled_unwritten}
 use Rattle.lusdist_answers.proofs.Replays.{is_replayed}
 use Rattle.lusdist_answers.proofs.replaying.replay_answer.Goals as goal

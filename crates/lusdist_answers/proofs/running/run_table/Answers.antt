@@ -1,7 +1,7 @@
 use Rattle.std.proofs.Common.{ap, ◌∙◌, inl, inr}
 use Rattle.std.proofs.lemmas.Result.{IfOk-weaker, IfErr-weaker, err_from_is_err_and}
 use Rattle.luworld.specs.Needs.{Distribution}
-use Rattle.lutab_writing.specs.Outputs.{output_text}
+use Rattle.lutab.specs.Outputs.{output_text}
 use Rattle.lusdist_answers.proofs.Dumps.{run_waves}
 use Rattle.lusdist_answers.proofs.running.run_table.Goals as goal
 

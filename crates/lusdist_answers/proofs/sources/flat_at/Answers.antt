@@ -1,6 +1,6 @@
 use Rattle.std.proofs.Common.{Some, List, ℕ, sym, subst}
 use Rattle.std.proofs.lemmas.Result.{err_from_is_err_and, IfOk-weaker, IfErr-weaker}
-use Rattle.lusdist_meaning.specs.Stopped.StopsAtProgram.{program_unread, program_refused}
+use Rattle.lusdist_call.specs.Stopped.StopsAtProgram.{program_unread, program_refused}
 use Rattle.lusdist_answers.proofs.sources.flat_at.Goals as goal
 
 pub returns-clause-flat : goal.returns-clause-flat

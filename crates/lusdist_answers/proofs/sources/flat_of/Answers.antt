@@ -1,7 +1,7 @@
 use Rattle.lutree.specs.Places.{places_view}
 use Rattle.lutree.specs.Tree.{program_view}
 use Rattle.std.proofs.lemmas.Result.{err_from_is_err_and, IfOk-weaker, IfErr-weaker}
-use Rattle.lusdist_meaning.specs.Stopped.HasNoFlat.{unspelled, unruled}
+use Rattle.lusdist_call.specs.Stopped.HasNoFlat.{unspelled, unruled}
 use Rattle.lusdist_answers.proofs.sources.flat_of.Goals as goal
 
 pub returns-clause-flat : goal.returns-clause-flat

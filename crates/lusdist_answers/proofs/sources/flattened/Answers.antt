@@ -2,7 +2,7 @@ use Rattle.std.proofs.Common.{ℕ, List, refl, subst}
 use Rattle.lutree.specs.declared.program.Program.{Program}
 use Rattle.lutree.specs.Tree.{program_view}
 use Rattle.lucore.specs.Result.{Refuses}
-use Rattle.lusdist_meaning.specs.Refused.IsToldOf.{rule, flat}
+use Rattle.lusdist_call.specs.Refused.IsToldOf.{rule, flat}
 use Rattle.lusdist_answers.proofs.sources.flattened.Goals as goal
 
 pub returns-in-Err-clause-told : goal.returns-in-Err-clause-told

@@ -3,10 +3,10 @@ use Rattle.lutree.specs.declared.program.Program.{Program}
 use Rattle.lutree.specs.Tree.{program_view}
 use Rattle.lustat_rules.specs.Accepted.{Passes}
 use Rattle.lustat_rules.specs.Faults.{IsJudged}
-use Rattle.lustat_classes.specs.Assigned.{LeftsKnown}
-use Rattle.lustat_classes.specs.Faults.{AreKept, IsFault, TellsBroken}
-use Rattle.lustat_classes.specs.Rows.{AreClasses, IfKept, IfBroken, fault_of, plain}
-use Rattle.lustat_classes.proofs.Rowing.{lefts}
+use Rattle.lustat_init.specs.Assigned.{LeftsKnown}
+use Rattle.lustat_init.specs.Faults.{AreKept, IsFault, TellsBroken}
+use Rattle.lustat_init.specs.Rows.{AreClasses, IfKept, IfBroken, fault_of, plain}
+use Rattle.lustat_init.proofs.Rowing.{lefts}
 use Rattle.lustat.proofs.Telling.{accepted_from, told_by_classes}
 use Rattle.lustat.proofs.First.{first_of_classes}
 use Rattle.lustat.proofs.stages.classes_of.Goals as goal

@@ -1,7 +1,7 @@
 use Rattle.std.proofs.Common.{◌∙◌, sym, ap}
 use Rattle.std.specs.Prelude.{option_map}
 use Rattle.lutree.specs.Tree.{node_view, view}
-use Rattle.lustat_scope.specs.ClockRefs.{the_clock}
+use Rattle.lustat_rules.specs.ClockRefs.{the_clock}
 use Rattle.lustat_clocks.proofs.Anchored.{only_base, only_anchor}
 use Rattle.lustat_clocks.proofs.anchor.fits_some.Goals as goal
 

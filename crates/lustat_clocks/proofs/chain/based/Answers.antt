@@ -2,9 +2,9 @@ use Rattle.std.proofs.Common.{◌≡◌, ◌+◌, ℕ, Some, length, sym, ap, �
 use Rattle.std.specs.Prelude.{slice_get, Vec}
 use Rattle.std.specs.Global.{Global}
 use Rattle.lutree.specs.Tree.{declaration_view}
-use Rattle.lustat_scope.specs.Lent.{lent_view}
+use Rattle.lustat_rules.specs.Lent.{lent_view}
 use Rattle.lustat_clocks.specs.Chains.{AreBased}
-use Rattle.lustat_scope.proofs.Lent.{lent_at, none_if, some_if}
+use Rattle.lustat_rules.proofs.Lent.{lent_at, none_if, some_if}
 use Rattle.lustat_clocks.proofs.Chaining.{based_push, based_skip}
 use Rattle.lustat_clocks.proofs.chain.based.Goals as goal
 use Rattle.lustat_clocks.proofs.chain.based.Goals.{then-is_none+in_ok-push, else-is_none}

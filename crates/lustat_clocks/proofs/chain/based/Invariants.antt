@@ -1,4 +1,4 @@
-use Rattle.lustat_scope.specs.Lent.{lent_view}
+use Rattle.lustat_rules.specs.Lent.{lent_view}
 use Rattle.lustat_clocks.specs.Chains.{AreBased}
 use Rattle.lustat_clocks.proofs.chain.based.Given as goal
 

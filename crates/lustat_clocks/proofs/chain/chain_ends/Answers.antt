@@ -1,12 +1,12 @@
 use Rattle.std.proofs.Common.{◌≡◌, ◌<◌, ◌∙◌, ◌↔◌, ℕ, List, length, refl, sym, ap, subst, All}
 use Rattle.std.proofs.lemmas.Result.{IfOk-weaker}
-use Rattle.lugraph.specs.Search.{Has}
+use Rattle.lubase.specs.Search.{Has}
 use Rattle.lutree.specs.Tree.{node_view}
 use Rattle.lustat_rules.specs.Scope.{declarations_of}
-use Rattle.lugraph.specs.declared.link.Link.{Link}
-use Rattle.lugraph.specs.Reach.{IsWithin, IsReached}
+use Rattle.lubase.specs.declared.link.Link.{Link}
+use Rattle.lubase.specs.Reach.{IsWithin, IsReached}
 use Rattle.lustat_clocks.specs.Chains.{AreBased, AreClocked, MarksEnds}
-use Rattle.lustat_scope.proofs.Lent.{same_lent, length_lent}
+use Rattle.lustat_rules.proofs.Lent.{same_lent, length_lent}
 use Rattle.lustat_clocks.proofs.Chaining.{ends, reaches, within, starts_within}
 use Rattle.lustat_clocks.proofs.chain.chain_ends.Goals as goal
 

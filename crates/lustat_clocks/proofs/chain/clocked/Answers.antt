@@ -1,11 +1,11 @@
 use Rattle.std.proofs.Common.{◌≡◌, ◌+◌, ◌∙◌, ℕ, Some, length, sym, ap, subst, arith}
 use Rattle.std.specs.Prelude.{slice_get, Vec}
 use Rattle.std.specs.Global.{Global}
-use Rattle.lugraph.specs.declared.link.Link.{Link}
+use Rattle.lubase.specs.declared.link.Link.{Link}
 use Rattle.lutree.specs.Tree.{declaration_view, node_view}
-use Rattle.lustat_scope.specs.Lent.{lent_view}
+use Rattle.lustat_rules.specs.Lent.{lent_view}
 use Rattle.lustat_clocks.specs.Chains.{AreClocked}
-use Rattle.lustat_scope.proofs.Lent.{lent_at}
+use Rattle.lustat_rules.proofs.Lent.{lent_at}
 use Rattle.lustat_clocks.proofs.Chaining.{clocked_push, clocked_skip}
 use Rattle.lustat_clocks.proofs.chain.clocked.Goals as goal
 use Rattle.lustat_clocks.proofs.chain.clocked.Goals.{in-Some+in_ok-push, in_default}

@@ -1,5 +1,5 @@
 use Rattle.lutree.specs.Tree.{node_view}
-use Rattle.lustat_scope.specs.Lent.{lent_view}
+use Rattle.lustat_rules.specs.Lent.{lent_view}
 use Rattle.lustat_clocks.specs.Chains.{AreClocked}
 use Rattle.lustat_clocks.proofs.chain.clocked.Given as goal
 

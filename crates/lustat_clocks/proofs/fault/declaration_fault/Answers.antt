@@ -5,8 +5,8 @@ use Rattle.lustat_rules.specs.Accepted.{Rule, DeclarationKeeps, not_a_clock, clo
 use Rattle.lustat_rules.specs.declared.error.StatError.TheVariants.{NotAClock, ClockedParameter, HiddenClock}
 use Rattle.lustat_rules.specs.Faults.{declared_in, lesser_of, IsJudged, DeclarationFault, DeclarationKept}
 use Rattle.lustat_rules.proofs.Judging.{judged_told}
-use Rattle.lustat_scope.proofs.Declared.{view_of_declared}
-use Rattle.lustat_scope.proofs.Keeping.{item_view}
+use Rattle.lustat_rules.proofs.Declared.{view_of_declared}
+use Rattle.lustat_rules.proofs.Keeping.{item_view}
 use Rattle.lustat_clocks.specs.Asked.{is_asked}
 use Rattle.lustat_clocks.proofs.Places.{declaration_judged}
 use Rattle.lustat_clocks.proofs.fault.declaration_fault.Goals as goal

@@ -5,7 +5,7 @@ use Rattle.lutree.specs.declared.expr.Pattern.{Pattern}
 use Rattle.lutree.specs.Tree as tree
 use Rattle.lutree.specs.Tree.{Tree, view, trees_of, views, node_view, Trees}
 use Rattle.lustat_rules.specs.Clocks.{HasClock, FitsInside, AllFitInside, BranchesFitInside}
-use Rattle.lustat_scope.specs.ClockRefs.{placed_view}
+use Rattle.lustat_rules.specs.ClockRefs.{placed_view}
 use Rattle.lustat_clocks.proofs.Branched.{branches_end}
 use Rattle.lutree.proofs.Views.{viewed-Binary, viewed-If, viewed-Unary, viewed-Call, viewed-Variable, viewed-Current, viewed-Merge}
 use Rattle.lutree.proofs.Tests.{of_three_forms, of_form, of_lent, both_held, both_failed, triple_held, triple_failed, of_list, list_more, list_failed, list_held}

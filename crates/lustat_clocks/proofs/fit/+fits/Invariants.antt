@@ -1,7 +1,7 @@
 use Rattle.std.proofs.Common.{◌↔◌, ◌≤◌, length, drop}
 use Rattle.lutree.specs.Tree.{views, trees_of, node_view}
 use Rattle.lustat_rules.specs.Clocks.{AllFitInside, BranchesFitInside}
-use Rattle.lustat_scope.specs.ClockRefs.{placed_view}
+use Rattle.lustat_rules.specs.ClockRefs.{placed_view}
 use Rattle.lustat_clocks.proofs.Branched.{FitFrom}
 use Rattle.lustat_clocks.proofs.fit.+fits.Given as goal
 

@@ -1,5 +1,5 @@
 use Rattle.lutree.specs.Tree.{node_view, view}
-use Rattle.lustat_scope.specs.ClockRefs.{placed_view}
+use Rattle.lustat_rules.specs.ClockRefs.{placed_view}
 use Rattle.lustat_rules.proofs.Fitting.{inside, outside}
 use Rattle.lustat_clocks.proofs.fit.fits_placed.Goals as goal
 

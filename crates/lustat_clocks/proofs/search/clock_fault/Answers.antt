@@ -3,8 +3,8 @@ use Rattle.std.proofs.lemmas.Result.{IfOk-weaker}
 use Rattle.lutree.specs.Tree.{program_view}
 use Rattle.lustat_rules.specs.Accepted.{Rule, ProgramKeeps}
 use Rattle.lustat_rules.specs.Faults.{IsJudged, ProgramFault, ProgramKept, TypeFault, TypeKept, NameFault, NameKept, NodeFault, NodeKept, DeclarationFault, DeclarationKept, EquationFault, EquationKept, IsFault, AreKept}
-use Rattle.lustat_scope.specs.Stages.{BrokenInType, KeptInType, BrokenInside, KeptInside, BrokenIn, KeptIn}
-use Rattle.lustat_scope.proofs.Keeping.{judged_program}
+use Rattle.lustat_rules.specs.Stages.{BrokenInType, KeptInType, BrokenInside, KeptInside, BrokenIn, KeptIn}
+use Rattle.lustat_rules.proofs.Keeping.{judged_program}
 use Rattle.lustat_clocks.specs.Asked.{is_asked}
 use Rattle.lustat_clocks.proofs.Places.{silent_judged}
 use Rattle.lustat_clocks.proofs.search.clock_fault.Goals as goal

@@ -1,7 +1,7 @@
 use Rattle.std.proofs.Common.{◌≤◌, length, drop}
 use Rattle.lulimits.specs.Limits.{most_names}
 use Rattle.lusyn_grammar.specs.Grammar.{Each}
-use Rattle.lusyn_labels.specs.Tables.{types_view}
+use Rattle.lusyn_parser.specs.Tables.{types_view}
 use Rattle.lusyn.specs.Texts.{HasLongType}
 use Rattle.lusyn.proofs.text.are_short.Given as goal
 

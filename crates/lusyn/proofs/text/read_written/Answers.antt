@@ -1,6 +1,6 @@
 use Rattle.std.proofs.Common.{Vec, Global, sym, rules}
 use Rattle.std.proofs.lemmas.Result.{err_from_is_err_and}
-use Rattle.lusyn_tokens.specs.declared.token.Lexeme.{Lexeme}
+use Rattle.lusyn_grammar.specs.declared.token.Lexeme.{Lexeme}
 use Rattle.lusyn.proofs.Whole.{lexer-only, lexer-refuses, scanned, parser-only, parser-refuses, many-only, many-refused, found-refuses, few-spelled, few-only}
 use Rattle.lutree.specs.Tree.{program_view}
 use Rattle.lusyn.proofs.Limits.{not_large}

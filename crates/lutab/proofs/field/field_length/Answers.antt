@@ -2,7 +2,7 @@ use Rattle.std.proofs.Common.{◌≡◌, ◌≤◌, ℕ, Bool, true, false, cond
 use Rattle.std.specs.List.{position_or_len}
 use Rattle.std.proofs.lemmas.List.Sums.{prefix_len-le-length}
 use Rattle.std.proofs.lemmas.Bool.Decides.{nat_tests}
-use Rattle.lutab_writing.specs.Text.{is_end}
+use Rattle.lutab.specs.Text.{is_end}
 use Rattle.lutab.proofs.field.field_length.Goals as goal
 
 -- a place that isn't before the end isn't told

@@ -1,6 +1,6 @@
 use Rattle.std.proofs.Common.{[], ap, ◌∙◌, ◌++◌, List, ℕ}
 use Rattle.std.specs.String.{string_bytes}
-use Rattle.lutab_writing.proofs.Joins.{field_behind}
+use Rattle.lutab.proofs.Joins.{field_behind}
 use Rattle.lutab.proofs.reading.header_of.Goals as goal
 
 pub loop-i-preserved : goal.loop-i-preserved

@@ -2,9 +2,9 @@ use Rattle.std.proofs.Common.{refl, subst, List, ℕ}
 use Rattle.lutree.specs.Tree.{program_view}
 use Rattle.lustat_rules.specs.Naming.{Reaches, IsCallOrder}
 use Rattle.lustat_rules.specs.Faults.{IsJudged, IsFault, AreKept}
-use Rattle.lutype_calls.specs.CallAnswer.{IfSorted, IfRecursive}
-use Rattle.lutype_calls.specs.CallGraph.{IsRecursive, NoneRecursiveBefore}
-use Rattle.lutype_faults.specs.Asked.{is_asked}
+use Rattle.lutype.specs.CallAnswer.{IfSorted, IfRecursive}
+use Rattle.lutype.specs.CallGraph.{IsRecursive, NoneRecursiveBefore}
+use Rattle.lutype.specs.Asked.{is_asked}
 use Rattle.lutype.proofs.Told.{named_from, told_alone, told_with, recursive_within}
 use Rattle.lutype.proofs.checked.order_of_names.Goals as goal
 

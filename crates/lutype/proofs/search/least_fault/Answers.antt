@@ -1,5 +1,5 @@
-use Rattle.lustat_scope.proofs.Keeping.{judged_program}
-use Rattle.lutype_faults.specs.Asked.{is_asked}
+use Rattle.lustat_rules.proofs.Keeping.{judged_program}
+use Rattle.lutype.specs.Asked.{is_asked}
 use Rattle.lutype.proofs.search.least_fault.Goals as goal
 
 pub returns : goal.returns

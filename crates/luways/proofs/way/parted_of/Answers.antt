@@ -1,6 +1,6 @@
 use Rattle.std.proofs.Common.{◌≡◌, ◌+◌, ℕ, List, Bool, length, ap, ap₂, sym, ◌∙◌, subst}
 use Rattle.luflow.specs.Program.{FlatProgram, flows_of}
-use Rattle.lugraph.specs.Graph.{Graph, MarksCycles}
+use Rattle.lubase.specs.Graph.{Graph, MarksCycles}
 use Rattle.luways.specs.Ways.{IsPartedVariable, AreAll}
 use Rattle.luways.specs.Sent.{marked}
 use Rattle.luways.proofs.Ending.{parted_all}

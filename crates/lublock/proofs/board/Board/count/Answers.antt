@@ -1,9 +1,9 @@
 use Rattle.std.proofs.Common.{rules, true, List, ℤ, subst, refl}
 use Rattle.std.specs.Prelude.{Vec}
 use Rattle.std.specs.declared.alloc.Global.{Global}
-use Rattle.lublock_forms.specs.declared.span.Span.{Span}
-use Rattle.lublock_forms.specs.Machine.{IsCount, IsLike}
-use Rattle.lublock_forms.proofs.Steps.{counted_more, like_count, got, marked_set}
+use Rattle.lublock_kernels.specs.declared.span.Span.{Span}
+use Rattle.lublock_kernels.specs.Machine.{IsCount, IsLike}
+use Rattle.lublock_kernels.proofs.Steps.{counted_more, like_count, got, marked_set}
 use Rattle.lublock.proofs.Settling.{settled_counted}
 use Rattle.lublock.proofs.board.Board.count.Goals as goal
 

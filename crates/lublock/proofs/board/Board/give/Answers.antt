@@ -1,10 +1,10 @@
 use Rattle.std.proofs.Common.{rules, List, set, ℤ, subst, ap, ◌∙◌, refl}
 use Rattle.std.specs.Prelude.{Vec}
 use Rattle.std.specs.declared.alloc.Global.{Global}
-use Rattle.lublock_forms.specs.declared.span.Span.{Span}
-use Rattle.lublock_rows.specs.Rows.{word_in}
+use Rattle.lublock_kernels.specs.declared.span.Span.{Span}
+use Rattle.lublock_kernels.specs.Rows.{word_in}
 use Rattle.luflow.specs.Packed.{data_in}
-use Rattle.lublock_forms.proofs.Steps.{put_back, solved_more, got, marked_set, not_taken, row_got, upto_got}
+use Rattle.lublock_kernels.proofs.Steps.{put_back, solved_more, got, marked_set, not_taken, row_got, upto_got}
 use Rattle.lublock.proofs.Settling.{settled_further, given_writes}
 use Rattle.lublock.proofs.board.Board.give.Goals as goal
 

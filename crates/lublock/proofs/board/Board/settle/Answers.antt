@@ -4,10 +4,10 @@ use Rattle.std.specs.declared.alloc.Global.{Global}
 use Rattle.luflow.specs.declared.form.Flow.{Flow}
 use Rattle.luflow.specs.declared.form.Form.TheVariants.{Pre}
 use Rattle.luflow.specs.Program.{flow_at}
-use Rattle.lublock_forms.specs.declared.span.Span.{Span}
-use Rattle.lublock_forms.specs.Machine.{IsClosed, upto_of, known_there}
-use Rattle.lublock_forms.specs.Wholes.{IsWholeAt}
-use Rattle.lublock_forms.proofs.Steps.{got, marked_set}
+use Rattle.lublock_kernels.specs.declared.span.Span.{Span}
+use Rattle.lublock_kernels.specs.Machine.{IsClosed, upto_of, known_there}
+use Rattle.lublock_kernels.specs.Wholes.{IsWholeAt}
+use Rattle.lublock_kernels.proofs.Steps.{got, marked_set}
 use Rattle.lublock.proofs.Settling.{settled_found, settled_here, found_stands}
 use Rattle.lublock.proofs.board.Board.settle.Goals as goal
 

@@ -1,7 +1,7 @@
 use Rattle.std.proofs.Common.{rules, true, ◌<◌, length, List, ℤ, subst, sym, ap, refl}
-use Rattle.lublock_rows.specs.Rows.{Keeps}
-use Rattle.lublock_forms.specs.Machine.{row_there}
-use Rattle.lublock_forms.proofs.Steps.{got, marked_set, not_taken, supposed_more}
+use Rattle.lublock_kernels.specs.Rows.{Keeps}
+use Rattle.lublock_kernels.specs.Machine.{row_there}
+use Rattle.lublock_kernels.proofs.Steps.{got, marked_set, not_taken, supposed_more}
 use Rattle.lublock.proofs.Settling.{settled_supposed}
 use Rattle.lublock.proofs.board.Board.suppose.Goals as goal
 

@@ -2,7 +2,7 @@ use Rattle.std.proofs.Common.{rules, ◌≡◌, ℕ, ◌+◌, ◌≤◌, List, S
 use Rattle.std.specs.Prelude.{slice_get}
 use Rattle.luflow.specs.Program.{FlatProgram, flows_of}
 use Rattle.luworld.specs.Runs.{streams_of}
-use Rattle.lublock_forms.specs.Parts.{knows}
+use Rattle.lublock_kernels.specs.Parts.{knows}
 use Rattle.lublock.specs.Boards.{IsAfter}
 use Rattle.lublock.specs.Shown.{AreKept, StaysNearIn}
 use Rattle.lublock.proofs.Showing.{kept_near}

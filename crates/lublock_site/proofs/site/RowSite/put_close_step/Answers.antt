@@ -3,7 +3,7 @@ use Rattle.std.specs.Prelude.{slice_get}
 use Rattle.std.proofs.lemmas.Option.{same_Some}
 use Rattle.luflow.specs.Program.{FlatProgram}
 use Rattle.luflow.proofs.Solutions.{some_at}
-use Rattle.lublock_forms.proofs.Steps.{got}
+use Rattle.lublock_kernels.proofs.Steps.{got}
 use Rattle.lublock_site.specs.Going.{HasSentAt, IsGoing}
 use Rattle.lublock_site.specs.Stations.{HasSent, MayClose}
 use Rattle.lublock_site.specs.declared.outlets.Outlet.{Outlet}

@@ -4,9 +4,9 @@ use Rattle.std.specs.declared.alloc.Global.{Global}
 use Rattle.std.proofs.lemmas.Option.{same_Some}
 use Rattle.luflow.specs.Program.{FlatProgram}
 use Rattle.luflow.proofs.Solutions.{some_at}
-use Rattle.lublock_forms.specs.declared.span.Span.{Span}
-use Rattle.lublock_forms.specs.Machine.{ticks_of}
-use Rattle.lublock_forms.proofs.Steps.{got}
+use Rattle.lublock_kernels.specs.declared.span.Span.{Span}
+use Rattle.lublock_kernels.specs.Machine.{ticks_of}
+use Rattle.lublock_kernels.proofs.Steps.{got}
 use Rattle.lublock_site.specs.Going.{HasSentAt, IsGoing}
 use Rattle.lublock_site.specs.Marks.{marked}
 use Rattle.lublock_site.specs.Stations.{HasSent, MaySend}

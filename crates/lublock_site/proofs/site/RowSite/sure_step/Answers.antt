@@ -1,7 +1,7 @@
 use Rattle.std.proofs.Common.{◌≡◌, Bool, List, sym, subst, ◌∙◌}
 use Rattle.luflow.specs.Program.{FlatProgram}
 use Rattle.lublock.specs.Boards.{StandsStill}
-use Rattle.lublock_forms.specs.Parts.{IsPart}
+use Rattle.lublock_kernels.specs.Parts.{IsPart}
 use Rattle.lublock_site.specs.Marks.{marked_part}
 use Rattle.lublock_site.specs.Sure.{AreSure}
 use Rattle.lublock_site.proofs.Moving.{going_sure}

@@ -3,9 +3,9 @@ use Rattle.std.specs.Prelude.{slice_get}
 use Rattle.std.proofs.lemmas.Option.{same_Some}
 use Rattle.luflow.specs.Program.{FlatProgram}
 use Rattle.luflow.proofs.Solutions.{some_at}
-use Rattle.lublock_forms.specs.declared.span.Span.{Span}
-use Rattle.lublock_forms.specs.Machine.{upto_of}
-use Rattle.lublock_forms.proofs.Steps.{got}
+use Rattle.lublock_kernels.specs.declared.span.Span.{Span}
+use Rattle.lublock_kernels.specs.Machine.{upto_of}
+use Rattle.lublock_kernels.proofs.Steps.{got}
 use Rattle.lublock.specs.Boards.{StandsStill}
 use Rattle.lublock_site.specs.Going.{HasBroughtAt, IsGoing}
 use Rattle.lublock_site.specs.Marks.{marked}

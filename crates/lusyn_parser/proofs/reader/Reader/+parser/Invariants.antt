@@ -2,7 +2,7 @@
 -- what was found is all that was to be taken.
 use Rattle.std.proofs.Common.{◌≡◌, ◌≤◌, ◌+◌, ◌-◌, ◌*◌, ◌^◌}
 use Rattle.lutree.specs.Tree.{view, views}
-use Rattle.lusyn_tokens.specs.declared.token.Fixed.TheVariants as f
+use Rattle.lusyn_grammar.specs.declared.token.Fixed.TheVariants as f
 use Rattle.lusyn_grammar.specs.Reading.{expr, climb, many, begins, further_operand, further_branch}
 use Rattle.lusyn_parser.specs.Gives.{ahead, branches_view}
 use Rattle.lusyn_parser.proofs.reader.Reader.+parser.Given as goal

@@ -1,6 +1,6 @@
 use Rattle.std.proofs.Common.{arith, refl, suc, length, ◌∙◌}
 use Rattle.std.proofs.lemmas.Result.{err_from_is_err_and}
-use Rattle.lusyn_tokens.specs.declared.token.Fixed.TheVariants as f
+use Rattle.lusyn_grammar.specs.declared.token.Fixed.TheVariants as f
 use Rattle.lusyn_grammar.specs.Reading.{declaration}
 use Rattle.lusyn_parser.proofs.PlacingPieces.{declares_along, declares_sign}
 use Rattle.lusyn_parser.proofs.Loops.{goes_after, refuses_after, stops_after, Fails-along, declarations-continues}

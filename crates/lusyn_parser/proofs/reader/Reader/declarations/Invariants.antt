@@ -1,6 +1,6 @@
 use Rattle.std.proofs.Common.{suc, ◌-◌, ◌≤◌, length, []}
 use Rattle.lutree.specs.Tree.{declarations_view}
-use Rattle.lusyn_tokens.specs.declared.token.Fixed.TheVariants as f
+use Rattle.lusyn_grammar.specs.declared.token.Fixed.TheVariants as f
 use Rattle.lusyn_grammar.specs.Reading.{many, begins, further_declaration}
 use Rattle.lusyn_parser.specs.Gives.{ahead}
 use Rattle.lusyn_parser.specs.Places.{Declares}

@@ -1,5 +1,5 @@
 use Rattle.std.proofs.Common.{refl}
-use Rattle.lusyn_tokens.specs.declared.token.Fixed.TheVariants as f
+use Rattle.lusyn_grammar.specs.declared.token.Fixed.TheVariants as f
 use Rattle.lusyn_parser.proofs.PlacingPieces.{declares_after}
 use Rattle.lusyn_parser.proofs.reader.Reader.ended_declaration.Goals as goal
 

@@ -1,5 +1,5 @@
 use Rattle.std.proofs.Common.{◌∙◌}
-use Rattle.lusyn_tokens.specs.declared.token.Fixed.TheVariants as f
+use Rattle.lusyn_grammar.specs.declared.token.Fixed.TheVariants as f
 use Rattle.lusyn_parser.proofs.PlacingPieces.{sign_first, if_placed}
 use Rattle.lusyn_parser.proofs.reader.Reader.equation.Goals as goal
 

@@ -1,6 +1,6 @@
 use Rattle.std.proofs.Common.{arith}
 use Rattle.std.proofs.lemmas.Result.{err_from_is_err_and}
-use Rattle.lusyn_tokens.specs.declared.token.Fixed.TheVariants as f
+use Rattle.lusyn_grammar.specs.declared.token.Fixed.TheVariants as f
 use Rattle.lusyn_parser.specs.Gives.{name_behind}
 use Rattle.lusyn_parser.proofs.PlacingPieces.{lists_along, lists_comma}
 use Rattle.lusyn_parser.proofs.Loops.{goes_after, refuses_after, stops_after}

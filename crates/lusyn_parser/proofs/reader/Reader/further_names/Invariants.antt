@@ -1,5 +1,5 @@
 use Rattle.std.proofs.Common.{suc, ◌-◌, ◌≤◌, length}
-use Rattle.lusyn_tokens.specs.declared.token.Fixed.TheVariants as f
+use Rattle.lusyn_grammar.specs.declared.token.Fixed.TheVariants as f
 use Rattle.lusyn_grammar.specs.Reading.{many, begins, further_name}
 use Rattle.lusyn_parser.specs.Gives.{ahead, names_view}
 use Rattle.lutree.specs.Places.{name_places}

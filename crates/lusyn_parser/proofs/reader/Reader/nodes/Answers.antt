@@ -1,6 +1,6 @@
 use Rattle.std.proofs.Common.{suc, length, sym, ◌∙◌}
 use Rattle.std.proofs.lemmas.Result.{err_from_is_err_and}
-use Rattle.lusyn_tokens.specs.declared.token.Fixed.TheVariants as f
+use Rattle.lusyn_grammar.specs.declared.token.Fixed.TheVariants as f
 use Rattle.lusyn_grammar.specs.Reading.{begins, further_node}
 use Rattle.lusyn_parser.proofs.Loops.{goes, refuses, stops, Fails-along, nodes-continues}
 use Rattle.lusyn_parser.proofs.reader.Reader.nodes.Goals as goal

@@ -1,5 +1,5 @@
 use Rattle.std.proofs.Common.{suc, ◌-◌, length, map, []}
-use Rattle.lusyn_tokens.specs.declared.token.Fixed.TheVariants as f
+use Rattle.lusyn_grammar.specs.declared.token.Fixed.TheVariants as f
 use Rattle.lusyn_grammar.specs.Reading.{many, begins, further_node}
 use Rattle.lusyn_parser.specs.Gives.{ahead, nodes_view}
 use Rattle.lusyn_parser.specs.Places.{Grows}

@@ -1,6 +1,6 @@
 use Rattle.std.proofs.Common.{sym, ◌∙◌}
 use denote.Enum.Bare.{same_true, same_false}
-use Rattle.lusyn_tokens.specs.contracts.token.Fixed.{the_type}
+use Rattle.lusyn_grammar.specs.contracts.token.Fixed.{the_type}
 use Rattle.lusyn_parser.proofs.Signs.{stands_here, other_stands}
 use Rattle.lusyn_parser.proofs.reader.Reader.passed.Goals as goal
 

@@ -1,6 +1,6 @@
 use Rattle.std.proofs.Common.{refl, suc, length, sym, ◌∙◌, []}
 use Rattle.std.proofs.lemmas.Result.{err_from_is_err_and}
-use Rattle.lusyn_tokens.specs.declared.token.Fixed.TheVariants as f
+use Rattle.lusyn_grammar.specs.declared.token.Fixed.TheVariants as f
 use Rattle.lusyn_grammar.specs.Reading.{begins, type_declaration, types}
 use Rattle.lusyn_parser.proofs.Loops.{starts, goes, refuses, stops}
 use Rattle.lusyn_parser.proofs.reader.Reader.types.Goals as goal

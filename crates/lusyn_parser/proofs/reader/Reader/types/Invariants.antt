@@ -1,5 +1,5 @@
 use Rattle.std.proofs.Common.{suc, ◌-◌, length, map, []}
-use Rattle.lusyn_tokens.specs.declared.token.Fixed.TheVariants as f
+use Rattle.lusyn_grammar.specs.declared.token.Fixed.TheVariants as f
 use Rattle.lusyn_grammar.specs.Reading.{many, begins, type_declaration}
 use Rattle.lusyn_parser.specs.Gives.{ahead, types_view}
 use Rattle.lusyn_parser.specs.Places.{TypesGrow}

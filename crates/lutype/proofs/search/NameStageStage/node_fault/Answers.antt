@@ -1,7 +1,7 @@
 use Rattle.std.proofs.Common.{subst}
 use Rattle.lutree.specs.declared.program.Node.{Node}
 use Rattle.lustat_rules.specs.Faults.{IsJudged, NodeFault, NodeKept}
-use Rattle.lutype_faults.specs.Asked.{is_asked}
+use Rattle.lutype.specs.Asked.{is_asked}
 use Rattle.lutype.proofs.search.NameStageStage.node_fault.Goals as goal
 
 pub returns : goal.returns

@@ -1,7 +1,0 @@
-mod Words
-pub mod Rights
-pub mod Frames
-mod Written
-pub mod Steps
-mod Carried
-pub mod Wholes

@@ -1,3 +1,0 @@
-mod Filling
-mod Counting
-mod Parting

@@ -1,0 +1,14 @@
+mod Walking
+mod Forms
+mod Named
+mod Fit
+mod Gather
+mod Found
+mod Owned
+mod Reaching
+mod Building
+mod Growing
+mod Capped
+mod Alike
+mod Formed
+mod Counting

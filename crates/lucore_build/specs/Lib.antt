@@ -1,0 +1,5 @@
+pub mod Walks
+pub mod Nodes
+pub mod Listed
+pub mod Operands
+pub mod Counted

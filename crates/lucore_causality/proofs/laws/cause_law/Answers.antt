@@ -1,6 +1,0 @@
-use Rattle.lucore_causality.proofs.ToSource.{to_source}
-use Rattle.lucore_causality.proofs.ToFlat.{to_flat}
-use Rattle.lucore_causality.proofs.laws.cause_law.Goals as goal
-
-pub returns : goal.returns
-returns c p main flat accepted some out = (to_source p main flat accepted some out, to_flat p main flat accepted some out)

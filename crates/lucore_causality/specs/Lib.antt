@@ -1,4 +1,0 @@
-pub mod Reads
-pub mod Laws
-pub mod Owners
-pub mod Vectors

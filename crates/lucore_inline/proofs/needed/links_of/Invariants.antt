@@ -1,6 +1,0 @@
-use Rattle.std.proofs.Common.{◌≡◌, ◌++◌, drop}
-use Rattle.lucore_inline.specs.Listed.{links_from}
-use Rattle.lucore_inline.proofs.needed.links_of.Given as goal
-
-abbrev pub invariant-loop-from : goal.invariant-loop-from
-invariant-loop-from l = links_from 0 l.graph ≡ l.links.items ++ links_from l.from (drop l.from l.graph)

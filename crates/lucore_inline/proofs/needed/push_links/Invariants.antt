@@ -1,6 +1,0 @@
-use Rattle.std.proofs.Common.{◌≡◌, ◌++◌, map, take}
-use Rattle.lugraph.specs.Reach.{link}
-use Rattle.lucore_inline.proofs.needed.push_links.Given as goal
-
-abbrev pub invariant-loop-to : goal.invariant-loop-to
-invariant-loop-to l = l.links.items ≡ l.initial.links.items ++ map (link l.from) (take l.to-index l.row)

@@ -1,6 +1,0 @@
-use Rattle.std.proofs.Common.{◌≡◌, replicate}
-use Rattle.lucore_inline.specs.Walks.{vacant}
-use Rattle.lucore_inline.proofs.node.vacant_flows.Given as goal
-
-abbrev pub invariant-loop : goal.invariant-loop
-invariant-loop l = l.flows.items ≡ replicate l.counter vacant

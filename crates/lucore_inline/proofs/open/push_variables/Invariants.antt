@@ -1,7 +1,0 @@
-use Rattle.std.proofs.Common.{◌≡◌, ◌++◌, take}
-use Rattle.lustat_scope.specs.Scopes.{spellings}
-use Rattle.lucore_inline.specs.Nodes.{flows_found}
-use Rattle.lucore_inline.proofs.open.push_variables.Given as goal
-
-abbrev pub invariant-loop-d : goal.invariant-loop-d
-invariant-loop-d l = l.flows.items ≡ l.initial.flows.items ++ flows_found l.places l.defined (spellings (take l.d-index l.declarations))

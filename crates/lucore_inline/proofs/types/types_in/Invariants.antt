@@ -1,7 +1,0 @@
-use Rattle.std.proofs.Common.{◌≡◌, map, take}
-use Rattle.lutree.specs.Tree.{type_view}
-use Rattle.lucore_list.specs.Layout.{enum_of}
-use Rattle.lucore_inline.proofs.types.types_in.Given as goal
-
-abbrev pub invariant-loop-declared : goal.invariant-loop-declared
-invariant-loop-declared l = l.all.items ≡ map enum_of (map type_view (take l.declared-index l.types))

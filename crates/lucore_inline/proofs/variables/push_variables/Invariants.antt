@@ -1,7 +1,0 @@
-use Rattle.std.proofs.Common.{◌≡◌, ◌++◌, take}
-use Rattle.lutree.specs.Tree.{declarations_view}
-use Rattle.lucore_list.specs.Layout.{variables_as}
-use Rattle.lucore_inline.proofs.variables.push_variables.Given as goal
-
-abbrev pub invariant-loop-declaration : goal.invariant-loop-declaration
-invariant-loop-declaration l = l.variables.items ≡ l.initial.variables.items ++ variables_as l.role (declarations_view (take l.declaration-index l.declarations))

@@ -1,0 +1,16 @@
+pub mod Reads
+pub mod CausalityLaws
+pub mod Owners
+pub mod CausalityVectors
+pub mod Layout
+pub mod ListLaws
+pub mod Open
+pub mod Sizes
+pub mod ListVectors
+pub mod Loop
+pub mod FaultLaws
+pub mod Rank
+pub mod Answer
+pub mod RankLaws
+pub mod Search
+pub mod SoundLaws

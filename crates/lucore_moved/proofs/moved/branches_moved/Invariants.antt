@@ -1,5 +1,0 @@
-use Rattle.std.proofs.Common.{◌≡◌, ◌+◌, map, take}
-use Rattle.lucore_moved.proofs.moved.branches_moved.Given as goal
-
-abbrev pub invariant-loop-branch : goal.invariant-loop-branch
-invariant-loop-branch l = l.moved.items ≡ map (λ x. l.base + x) (take l.branch-index l.branches)

@@ -1,9 +1,0 @@
-mod Deciding
-mod Counts
-mod Reading
-pub mod Orders
-mod Walks
-mod Stepping
-mod Cycles
-mod Heaps
-mod Free

@@ -1,6 +1,0 @@
-use Rattle.std.proofs.Common.{◌≡◌, take}
-use Rattle.lucore_rank.proofs.Reading.{lists_of}
-use Rattle.lucore_rank.proofs.cycle.graph_of.Given as goal
-
-abbrev pub invariant-loop-reads : goal.invariant-loop-reads
-invariant-loop-reads l = lists_of l.graph.items ≡ take l.reads-index l.rows

@@ -1,6 +1,0 @@
-use Rattle.lucore_rank.proofs.Orders.{straight}
-use Rattle.lucore_rank.proofs.Walks.{order_from_none}
-use Rattle.lucore_rank.proofs.laws.order_unless_cycle_law.Goals as goal
-
-pub returns : goal.returns
-returns c = λ rows closed. (λ some x chain. straight rows some.0 some.1 x chain, λ none. order_from_none rows closed none)

@@ -1,5 +1,0 @@
-use Rattle.lucore_rank.proofs.Orders.{reads_first}
-use Rattle.lucore_rank.proofs.laws.reads_first_law.Goals as goal
-
-pub returns : goal.returns
-returns c = λ rows order p x y ranked at h. reads_first rows order ranked p x y at h

@@ -1,5 +1,0 @@
-use Rattle.lucore_rank.proofs.Stepping.{IsSearching}
-use Rattle.lucore_rank.proofs.ranking.rank.Given as goal
-
-abbrev pub invariant-loop : goal.invariant-loop
-invariant-loop l = IsSearching l.rows l.missing.items l.ready l.order.items l.counter

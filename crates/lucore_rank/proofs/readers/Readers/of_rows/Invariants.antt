@@ -1,5 +1,0 @@
-use Rattle.lucore_rank.proofs.Reading.{AreFirstReaders}
-use Rattle.lucore_rank.proofs.readers.Readers.of_rows.Given as goal
-
-abbrev pub invariant-loop-place : goal.invariant-loop-place
-invariant-loop-place l = AreFirstReaders l.rows l.readers l.place

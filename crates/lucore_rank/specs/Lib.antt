@@ -1,4 +1,0 @@
-pub mod Rank
-pub mod Answer
-pub mod Laws
-pub mod Search

@@ -1,4 +1,0 @@
-mod Capped
-mod Alike
-mod Formed
-mod Counting

@@ -1,5 +1,0 @@
-use Rattle.lugraph.proofs.Ordering.{order_excludes_cycle}
-use Rattle.lugraph.proofs.laws.order_excludes_cycle_law.Goals as goal
-
-pub returns : goal.returns
-returns c = order_excludes_cycle

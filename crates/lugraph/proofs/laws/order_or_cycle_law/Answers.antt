@@ -1,5 +1,0 @@
-use Rattle.lugraph.proofs.Either.{order_or_cycle}
-use Rattle.lugraph.proofs.laws.order_or_cycle_law.Goals as goal
-
-pub returns : goal.returns
-returns c = order_or_cycle

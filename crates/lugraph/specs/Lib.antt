@@ -1,7 +1,0 @@
-pub mod Graph
-pub mod Answer
-pub mod Search
-pub mod Grouped
-pub mod States
-pub mod Reach
-pub mod ReachStates

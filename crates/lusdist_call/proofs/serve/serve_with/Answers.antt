@@ -1,0 +1,45 @@
+use Rattle.std.proofs.Common.{map, refl, inl, inr}
+use Rattle.std.specs.Prelude.{string_bytes}
+use Rattle.clap.specs.Words.{kind_of}
+use Rattle.lusdist_call.specs.Left.IsCallEnded.{asked, helped, mistaken, no_memory, no_help}
+use Rattle.lusdist_call.proofs.Ends.{done, quiet, kept, told, which, memory, help, mistake}
+use Rattle.lusdist_call.proofs.serve.serve_with.Goals as goal
+
+pub returns-in-Ok-clause-ended : goal.returns-in-Ok-clause-ended
+returns-in-Ok-clause-ended g c = asked c.in-Ok.request c.in-Ok.ensures.asked c.perform.ensures
+
+pub returns-in-Ok-clause-done : goal.returns-in-Ok-clause-done
+returns-in-Ok-clause-done g c = λ taken zero.
+    done (g.C.Commands.gives c.args.commands.now) (g.C.Commands.takes c.args.commands.now) (map string_bytes c.args.words.now) c.in-Ok.request c.in-Ok.ensures.asked c.perform.result _ c.perform.ensures zero
+
+pub returns-in-Ok-clause-refused : goal.returns-in-Ok-clause-refused
+returns-in-Ok-clause-refused g c = λ small.
+    kept (g.C.Commands.gives c.args.commands.now) (g.C.Commands.takes c.args.commands.now) (map string_bytes c.args.words.now) c.in-Ok.request c.in-Ok.ensures.asked c.perform.result _ small c.perform.ensures
+
+pub returns-in-Ok-clause-silent : goal.returns-in-Ok-clause-silent
+returns-in-Ok-clause-silent g c = λ zero none.
+    quiet (g.C.Commands.gives c.args.commands.now) (g.C.Commands.takes c.args.commands.now) (map string_bytes c.args.words.now) c.in-Ok.request c.in-Ok.ensures.asked c.perform.result _ none c.perform.ensures zero
+
+pub returns-in-Ok-clause-text : goal.returns-in-Ok-clause-text
+returns-in-Ok-clause-text g c = λ one.
+    told (g.C.Commands.gives c.args.commands.now) (g.C.Commands.takes c.args.commands.now) (map string_bytes c.args.words.now) c.in-Ok.request c.in-Ok.ensures.asked c.perform.result _ 1 (inl refl) c.perform.ensures one
+
+pub returns-in-Ok-clause-file : goal.returns-in-Ok-clause-file
+returns-in-Ok-clause-file g c = λ taken two.
+    told (g.C.Commands.gives c.args.commands.now) (g.C.Commands.takes c.args.commands.now) (map string_bytes c.args.words.now) c.in-Ok.request c.in-Ok.ensures.asked c.perform.result _ 2 (inr refl) c.perform.ensures two
+
+pub returns-in-Err-clause-ended : goal.returns-in-Err-clause-ended
+returns-in-Err-clause-ended g c =
+    let put = c.put_mistake.ensures in
+    let kind = kind_of c.in-Err.mistake in
+    elim c.in-Err.ensures.refused [
+      | inl none ↦ let m = put.memory none in no_memory m.0 (record { error = m.2; kept = m.1 })
+      | inr among ↦ elim (which kind) [
+        | memory none ↦ let m = put.memory none in no_memory m.0 (record { error = m.2; kept = m.1 })
+        | help asks ↦ elim (put.help asks) [
+          | inl zero ↦ helped kind among asks zero (put.silent zero)
+          | inr three ↦ no_help kind among asks three.0 (record { failed = three.1; error = three.2 })
+        ]
+        | mistake a b d ↦ mistaken kind among (λ asks. elim asks [ inl h ↦ b h | inr h ↦ d h ]) (put.other a b d) (put.kept b d)
+      ]
+    ]

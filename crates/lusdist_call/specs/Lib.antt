@@ -1,0 +1,16 @@
+pub mod Left
+pub mod Reasons
+pub mod Runs
+pub mod Explained
+pub mod Asked
+pub mod Refused
+pub mod Stopped
+pub mod Evaluated
+pub mod TellingText
+pub mod Waved
+pub mod Exact
+pub mod Ran
+pub mod Statuses
+pub mod Mistakes
+pub mod Lines
+pub mod Files

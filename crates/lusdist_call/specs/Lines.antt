@@ -1,0 +1,30 @@
+-- The line that tells why a call stops.
+use Rattle.std.specs.Prelude.{ℕ, List, ◌++◌, codes}
+use Rattle.std.specs.Fmt.{decimal}
+use Rattle.luflow.specs.Operators.{kind_text}
+use Rattle.lusyn.specs.Lines.{line_of as syntax_line}
+use Rattle.lustat_rules.specs.Lines.{line_of as rule_line}
+use Rattle.lucore.specs.Lines.{line_of as flat_line}
+use Rattle.luplace_file.specs.Lines.{line_of as place_line}
+use Rattle.lutab.specs.Lines.{line_of as table_line}
+use Rattle.lusdist_shell.specs.Lines.{line_of as schedule_line}
+use Rattle.lusdist_call.specs.Mistakes.{line_of as mistake_line}
+use Rattle.lusdist_call.specs.declared.stop.Stop.{Stop}
+use Rattle.lusdist_call.specs.declared.stop.Stop.TheVariants.{CannotRead, CannotWrite, NotAscii, Syntax, Rules, Flat, Place, Table, Schedule, Fault, LinkLost, NoThread, OutOfMemory, Mistaken}
+
+-- a code and a name, and what there is to tell; without the line feed that ends the line
+abbrev pub line_of : Stop → List ℕ
+line_of (CannotRead path) = codes "F01 CannotRead " ++ path
+line_of (CannotWrite path) = codes "F02 CannotWrite " ++ path
+line_of NotAscii = codes "E03 NotAscii"
+line_of (Syntax refusal) = syntax_line refusal
+line_of (Rules refusal) = rule_line refusal
+line_of (Flat refusal) = flat_line refusal
+line_of (Place refusal) = place_line refusal
+line_of (Table refusal) = table_line refusal
+line_of (Schedule refusal) = schedule_line refusal
+line_of (Fault variable instant kind) = codes "R1 Fault " ++ (variable ++ (codes " " ++ (decimal instant ++ (codes " " ++ kind_text kind))))
+line_of OutOfMemory = codes "R2 OutOfMemory"
+line_of LinkLost = codes "R3 LinkLost"
+line_of NoThread = codes "R4 NoThread"
+line_of (Mistaken mistake) = mistake_line mistake

@@ -1,0 +1,31 @@
+-- What is wrong with words that the command line takes, and the line that tells it.
+use Rattle.std.specs.Prelude.{ℕ, List, ◌++◌, codes, Option, Some, None, nat_lt, if◌then◌else◌}
+use Rattle.std.specs.Fmt.{decimal}
+use Rattle.lusdist_shell.specs.declared.request.EvalRequest.{EvalRequest}
+use Rattle.lusdist_call.specs.declared.mistake.Mistake.{Mistake}
+use Rattle.lusdist_call.specs.declared.mistake.Mistake.TheVariants.{UnknownCode, NoChart, Backwards}
+
+-- the line, without the line feed that ends it
+abbrev pub line_of : Mistake → List ℕ
+line_of (UnknownCode code) = codes "error: no page has the code " ++ code
+line_of NoChart = codes "error: --from and --to need --chronogram"
+line_of (Backwards from to) = codes "error: --from " ++ (decimal from ++ (codes " is after --to " ++ decimal to))
+
+-- instants are given for a chart alone
+abbrev pub chartless : Option ℕ → Option ℕ → Option Mistake
+chartless None None = None
+chartless None (Some to) = Some NoChart
+chartless (Some from) to = Some NoChart
+
+-- and the first isn't after the last
+abbrev pub unordered : ℕ → ℕ → Option Mistake
+unordered from to = if nat_lt to from then Some (Backwards from to) else None
+
+abbrev pub backwards : Option ℕ → Option ℕ → Option Mistake
+backwards None to = None
+backwards (Some from) None = None
+backwards (Some from) (Some to) = unordered from to
+
+-- what is wrong with what an evaluation is asked for
+abbrev pub mistake_in : EvalRequest → Option Mistake
+mistake_in request = if request.chronogram then backwards request.from request.to else chartless request.from request.to

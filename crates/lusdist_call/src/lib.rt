@@ -1,0 +1,50 @@
+//! Calls of the program: from the words of a command line to what is printed, by what each command answers; what such
+//! an answer means; and how a call ends.
+//!
+//! # A call
+//!
+//! - [`serve_with`]: a call, from its words to its exit status.
+//! - [`Commands`]: what each command but a run answers, and why a text is refused. `lusdist_answers` has it for files;
+//!   a run is handed beside it.
+//! - `asking`: what a call gets from a command and from a run, by the request as it stands.
+//! - `reasons`: what is reported of a refusal behind its line.
+//!
+//! It stands below what answers the commands, so that it is checked without all of that.
+//!
+//! # What a call means
+//!
+//! What each command answers, by what the files that it names say, and why it stops.
+//!
+//! - `specs/Asked.antt`: what the texts of a check, of a plan, of a replay and of a run say, and what their files gave.
+//! - `specs/Evaluated.antt`: what an evaluation prints and dumps, and what it says of a fault.
+//! - `specs/Exact.antt`: that an answer and a refusal exclude each other, and that there is one refusal.
+//! - `specs/Explained.antt`: what is printed of a code, and of which code nothing is.
+//! - `specs/Ran.antt`: what a run of a job on threads gives.
+//! - `specs/Refused.antt`: what a call that stops says of the program. `specs/Stopped.antt`: why a call stops before it
+//!   prints anything.
+//! - `specs/TellingText.antt`: what a world reports, and the text of it.
+//! - `specs/Waved.antt`: the dumps of runs and replays.
+//!
+//! # How a call ends, and its files
+//!
+//! - [`Stop`]: why a call stops, and with which status; [`Mistake`]: what is wrong with words that the command line
+//!   takes.
+//! - [`Said`]: what a call prints, and [`put_said`], which writes it.
+//! - [`read`] and [`file_text`]: a file that is read, and one into which a dump is written.
+#![tactic(auto)]
+
+mod asking;
+mod commands;
+mod files;
+mod mistake;
+mod reasons;
+mod said;
+mod serve;
+mod stop;
+
+pub use commands::Commands;
+pub use files::{file_text, read};
+pub use mistake::{Mistake, mistake_in};
+pub use said::{Said, put_said};
+pub use serve::serve_with;
+pub use stop::Stop;

@@ -1,3 +1,0 @@
-pub mod Left
-pub mod Reasons
-pub mod Runs

@@ -1,9 +1,0 @@
-pub mod Explained
-pub mod Asked
-pub mod Refused
-pub mod Stopped
-pub mod Evaluated
-pub mod TellingText
-pub mod Waved
-pub mod Exact
-pub mod Ran

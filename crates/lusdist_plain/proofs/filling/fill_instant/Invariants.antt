@@ -1,9 +1,0 @@
-use Rattle.std.proofs.Common.{◌≡◌}
-use Rattle.lusdist_plain.specs.Filled.{IsFilledTo}
-use Rattle.lusdist_plain.proofs.filling.fill_instant.Given as goal
-
-abbrev pub invariant-loop-place : goal.invariant-loop-place
-invariant-loop-place l = record {
-  filled : IsFilledTo l.flat l.inputs l.grid l.instant l.place-index;
-  instants : l.grid.instants ≡ l.initial.grid.instants;
-}

@@ -1,4 +1,0 @@
-pub mod Statuses
-pub mod Mistakes
-pub mod Lines
-pub mod Files

@@ -1,8 +1,0 @@
-mod Sourcing
-mod Spreading
-mod Leasts
-mod Telling
-mod Starting
-mod Equations
-pub mod Rowing
-mod Pushed

@@ -1,7 +1,0 @@
-use Rattle.std.proofs.Common.{map}
-use Rattle.lutree.specs.Tree.{equation_view}
-use Rattle.lustat_classes.specs.Linked.{AreStarts}
-use Rattle.lustat_classes.proofs.least.starts_of.Given as goal
-
-abbrev pub invariant-loop-i : goal.invariant-loop-i
-invariant-loop-i l = AreStarts (map equation_view l.equations) l.first l.i l.starts.items

@@ -1,5 +1,0 @@
-use Rattle.lustat_classes.specs.Rows.{plain, GiveLeastBelow}
-use Rattle.lustat_classes.proofs.search.rows_of.Given as goal
-
-abbrev pub invariant-loop-scope : goal.invariant-loop-scope
-invariant-loop-scope l = GiveLeastBelow l.scope-index l.scopes (plain l.rows.items)

@@ -1,3 +1,0 @@
-mod Beginning
-mod Tabled
-mod Naming

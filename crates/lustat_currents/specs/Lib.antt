@@ -1,3 +1,0 @@
-pub mod Currents
-pub mod Beginnings
-pub mod Tables

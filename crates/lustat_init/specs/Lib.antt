@@ -1,0 +1,10 @@
+pub mod Assigned
+pub mod Sources
+pub mod Linked
+pub mod Judged
+pub mod Faults
+pub mod Rows
+pub mod Served
+pub mod Currents
+pub mod Beginnings
+pub mod Tables

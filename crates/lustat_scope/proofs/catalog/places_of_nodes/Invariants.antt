@@ -1,6 +1,0 @@
-use Rattle.std.proofs.Common.{◌≡◌, map, take}
-use Rattle.lustat_scope.specs.Scopes.{node_spellings}
-use Rattle.lustat_scope.proofs.catalog.places_of_nodes.Given as goal
-
-abbrev pub invariant-loop-node : goal.invariant-loop-node
-invariant-loop-node l = map (λ n. n.now) l.names.items ≡ node_spellings (take l.node-index l.nodes)

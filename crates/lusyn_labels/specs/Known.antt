@@ -1,8 +1,0 @@
--- The types whose names a table has.
-use Rattle.std.specs.Prelude.{List}
-use Rattle.lutree.specs.Tree.{TypeTree}
-use Rattle.lusyn_labels.specs.declared.labels.Labels.{Labels}
-use Rattle.lusyn_labels.specs.Tables.{types_view}
-
-abbrev pub types_of : Labels → List TypeTree
-types_of labels = types_view labels.types.now

@@ -1,4 +1,0 @@
-pub mod Resolved
-pub mod Laws
-pub mod Tables
-pub mod Known

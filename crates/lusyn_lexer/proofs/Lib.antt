@@ -1,5 +1,0 @@
-pub mod Pieces
-mod ScanningLemmas
-mod Cuts
-mod Runs
-pub mod Whole

@@ -1,2 +1,0 @@
-pub mod Joins
-mod Written

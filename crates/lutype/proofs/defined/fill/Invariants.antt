@@ -1,0 +1,12 @@
+use Rattle.std.proofs.Common.{◌≡◌, map, take}
+use Rattle.lutree.specs.Tree.{equation_view}
+use Rattle.lustat_rules.specs.Scope.{lefts_of}
+use Rattle.lutype.specs.Starts.{AreStarts}
+use Rattle.lutype.proofs.defined.fill.Given as goal
+
+abbrev pub invariant-loop-equation : goal.invariant-loop-equation
+invariant-loop-equation l =
+    record {
+      names : map (λ n. n.now) l.names.items ≡ lefts_of (map equation_view (take l.equation-index l.equations));
+      starts : AreStarts l.equation-index (map equation_view l.equations) l.starts.items;
+    }

@@ -1,3 +1,0 @@
-pub mod CallPlaces
-mod CallsPushed
-pub mod CallWays

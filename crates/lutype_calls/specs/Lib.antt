@@ -1,2 +1,0 @@
-pub mod CallGraph
-pub mod CallAnswer

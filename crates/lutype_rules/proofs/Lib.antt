@@ -1,6 +1,0 @@
-mod Forms
-mod Lookups
-mod Fit
-mod Defining
-mod Branches
-mod NameAt

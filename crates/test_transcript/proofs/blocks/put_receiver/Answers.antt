@@ -1,0 +1,7 @@
+use denote.Param.Send.{sendable}
+use Rattle.std.proofs.Crossing.{crosses}
+use Rattle.lublock_site.proofs.Crosses.{station_field_send}
+use Rattle.test_transcript.proofs.blocks.put_receiver.Goals as goal
+
+pub join-report-requires-send-F : goal.join-report-requires-send-F
+join-report-requires-send-F g c κs within = search (sendable, crosses, station_field_send, c.type_bounds.sync-R) depth 20
