@@ -1,4 +1,5 @@
 mod Links
+mod Writing
 mod Taking
 mod Refitted
 mod Marked

@@ -24,8 +24,8 @@ use Rattle.lublock_site.specs.Tries.{IfGoes}
 use Rattle.lublock_site.specs.declared.sources.Source.{Source}
 use Rattle.lublock_site.specs.declared.outlets.Outlet.{Outlet}
 use Rattle.lublock_site.specs.Sites.{value_message}
-use Rattle.lublock_site.specs.Steps.{AreComing, HasTakenMessage, HasTakenMessages}
-use Rattle.lublock_site.specs.Stations.{Brings, BringsTicks, SendsTicks, Sends, HasBrought, HasSent, IsLater, MaySend, MayClose, IsMessageOut, AreMessagesOut}
+use Rattle.lublock_site.specs.Steps.{AreComing, HasTakenMessages}
+use Rattle.lublock_site.specs.Stations.{Brings, BringsTicks, SendsTicks, Sends, HasBrought, HasSent, IsLater, MaySend, MayClose, AreMessagesOut}
 use Rattle.lublock_site.proofs.Links.{carries, list_is}
 
 -- what holds anyway holds of a try
@@ -68,28 +68,9 @@ brought_more flat i a x b y c z f g = record {
   flows = g.flows ∙ f.flows;
 }
 
-pub taken_none : (flat : FlatProgram) (i : ℕ) (msgs : List Msg) (board : Board) → HasTakenMessages flat i msgs 0 board board
-taken_none flat i msgs board = record {
-  count = let e : upto_of board.spans.items i ≡ upto_of board.spans.items i + 0 = omega arith in e;
-  stands = λ part inputs σ t len free coming stands. stands;
-  kept = λ r h. h;
-  flows = refl;
-}
-
-pub taken_more : (flat : FlatProgram) (i : ℕ) (msgs : List Msg) (k : ℕ) (a b c : Board) → HasTakenMessages flat i msgs k a b → HasTakenMessage flat i msgs k b c → HasTakenMessages flat i msgs (k + 1) a c
-taken_more flat i msgs k a b c f (m, d, there, body, word) = record {
-  count = let e = f.count in let g = word.count in omega (arith, e, g);
-  stands = λ part inputs σ t len free coming stands.
-      let p : (presents (σ i) t + upto_of a.spans.items i) + k ≡ presents (σ i) t + upto_of b.spans.items i = let e = f.count in omega (arith, e) in
-      word.stands part inputs σ t len free (subst (λ (n : ℕ). message_at inputs σ i n ≡ Some d) p (coming k m d (omega arith) there body))
-      (f.stands part inputs σ t len free (λ j x e less is of. coming j x e (omega (arith, less)) is of) stands);
-  kept = λ r h. word.kept r (f.kept r h);
-  flows = word.flows ∙ f.flows;
-}
-
-module _ (flat : FlatProgram) (i : ℕ) (old new : Board) (x x' : Source) (msgs : List Msg) (n : ℕ) (long : length msgs ≡ n) (next : AreNextToTake x.rx msgs) (has : HasTakenAll msgs x.rx x'.rx) (words : HasTakenMessages flat i msgs n old new) (flow : x'.flow ≡ x.flow) (closed : x'.closed ≡ x.closed) (got : x'.got ≡ x.got + n) where
-  coming : (job : Run) (t : ℕ) → upto_of old.spans.items i ≡ x.got → BringsTicks job t i x.got x.rx → AreComing job.inputs (streams_of job) i (presents (streams_of job i) t + upto_of old.spans.items i) msgs n
-  coming job t even brings k m d less there body =
+module _ (flat : FlatProgram) (i : ℕ) (old new : Board) (x x' : Source) (msgs : List Msg) (n : ℕ) (long : length msgs ≡ n) (next : AreNextToTake x.rx msgs) (has : HasTakenAll msgs x.rx x'.rx) (words : HasTakenMessages flat i msgs old new) (flow : x'.flow ≡ x.flow) (closed : x'.closed ≡ x.closed) (got : x'.got ≡ x.got + n) where
+  coming : (job : Run) (t : ℕ) → upto_of old.spans.items i ≡ x.got → BringsTicks job t i x.got x.rx → AreComing job.inputs (streams_of job) i (presents (streams_of job i) t + upto_of old.spans.items i) msgs
+  coming job t even brings k m d there body =
       let here : slice_get (list_of job x.rx.link) (length x.rx.taken + k) ≡ Some m = subst (λ (j : Run). slice_get (list_of j x.rx.link) (length x.rx.taken + k) ≡ Some m) brings.job_is (next k m there) in
       let found = (carries job x.rx.link brings.listed).into (length x.rx.taken + k) d m here body in
       let p : length x.rx.taken + k ≡ (presents (streams_of job i) t + upto_of old.spans.items i) + k = let c = brings.count in omega (arith, c, even) in
@@ -103,7 +84,7 @@ module _ (flat : FlatProgram) (i : ℕ) (old new : Board) (x x' : Source) (msgs 
   brought_run = record {
     flow = flow;
     closed = closed;
-    even = λ e. (let c = words.count in omega (arith, e, c, got));
+    even = λ e. (let c = words.count in omega (arith, e, c, got, long));
     brings = λ job t brings. record {
       job_is = has.0 ∙ brings.job_is;
       listed = subst (λ (l : ℕ). l < length job.plan.links) (sym has.1) brings.listed;
@@ -129,25 +110,6 @@ may_put flat rows spans x msgs may are k m there =
     let out = (carries job x.tx.link sends.listed).out (x.number + k) d (subst (λ (f : ℕ). message_at job.inputs (streams_of job) f (x.number + k) ≡ Some d) (sym sends.flow_is) here) in
     subst (λ (j : Run). slice_get (list_of j x.tx.link) (length x.tx.put + k) ≡ Some m) (sym sends.job_is)
     (subst (λ (n : ℕ). slice_get (list_of job x.tx.link) (n + k) ≡ Some m) number (out ∙ ap (λ (y : Msg). Some y) (sym of.1)))
-
--- the messages of no tick, and of one more
-pub filled_none : (flat : FlatProgram) (rows : List (Vec ℤ Global)) (spans : List Span) (x : Outlet) (msgs : List Msg) → msgs ≡ [] → AreMessagesOut flat rows spans x msgs
-filled_none flat rows spans x msgs none = subst (AreMessagesOut flat rows spans x) (sym none) (λ k m there. absurd cc)
-
-pub filled_more : (flat : FlatProgram) (rows : List (Vec ℤ Global)) (spans : List Span) (x : Outlet) (old new : List Msg) (m : Msg) (k : ℕ) → length old ≡ k → new ≡ old ++ m ∷ [] → IsMessageOut flat rows spans x k m → AreMessagesOut flat rows spans x old → AreMessagesOut flat rows spans x new
-filled_more flat rows spans x old new m k long is out filled j y there =
-    let here : slice_get (old ++ m ∷ []) j ≡ Some y = ap (λ (xs : List Msg). slice_get xs j) (sym is) ∙ there in
-    elim (cases_lt j (length old)) [
-      | inl l ↦ filled j y (sym (slice_get-append_left old (m ∷ []) j l) ∙ here)
-      | inr l ↦
-          let inside = slice_get_within (old ++ m ∷ []) j y here in
-          let all = length-append old (m ∷ []) in
-          let at : j ≡ length old = omega (arith, l, inside, all) in
-          let last : slice_get (old ++ m ∷ []) (length old + 0) ≡ Some m = slice_get-append_right old (m ∷ []) 0 in
-          let plus : length old + 0 ≡ j = omega (arith, at) in
-          let same : m ≡ y = same_Some m y (sym last ∙ ap (λ (p : ℕ). slice_get (old ++ m ∷ []) p) plus ∙ here) in
-          subst (λ (z : Msg). IsMessageOut flat rows spans x j z) same (subst (λ (p : ℕ). IsMessageOut flat rows spans x p m) (sym long ∙ sym at) out)
-    ]
 
 -- nothing was put
 pub sends_still : (job : Run) (t i n : ℕ) (s s' : SenderView) → HasPutNothing s s' → SendsTicks job t i n s → SendsTicks job t i n s'

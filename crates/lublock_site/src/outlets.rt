@@ -1,12 +1,13 @@
 //! The sending ends of a site in rows: rows go out as messages. Nothing here waits.
 
-ghost use Rattle.std.specs.Prelude.{◌≡◌, ◌<◌, ◌≤◌, ◌+◌, true, false, length, IfSome};
+ghost use Rattle.std.specs.Prelude.{◌≡◌, ◌<◌, ◌≤◌, ◌+◌, true, length};
 ghost use Rattle.lublock_kernels.specs.Machine.{ticks_of};
 ghost use Rattle.lublock_site.specs.Tries.{IfGoes};
-ghost use Rattle.lublock_site.specs.Stations.{AreMessagesOut, HasSent, IsMessageOut, MayClose, MaySend};
+ghost use Rattle.lublock_site.specs.Stations.{AreMessagesOut, HasSent, MayClose, MaySend};
 
-use crate::steps::datum_out;
-use crate::tried::{Tried, done_if, run_len};
+use crate::steps::{fill_run, number_after};
+use crate::tried::{Tried, done_if};
+use lublock_kernels::forms::kind_at;
 use lublock_kernels::span::Span;
 use luflow::{Body, Flat, Msg};
 use lulink::{Offer, Tx};
@@ -20,43 +21,6 @@ pub struct Outlet {
     pub number: u32,
     /// Whether it has put the close.
     pub closed: bool,
-}
-
-/// The number of the k-th message from that of this number on.
-fn number_after(number: u32, k: usize) -> Option<u32>
-    ensures { IfSome result (λ n. n ≡ number + k) }
-{
-    match u32::try_from(k) {
-        Ok(k) => number.checked_add(k),
-        Err(_) => None,
-    }
-}
-
-/// The k-th tick from this one on.
-fn tick_after(tick: usize, k: usize) -> Option<usize>
-    ensures { IfSome result (λ n. n ≡ tick + k) }
-{
-    tick.checked_add(k)
-}
-
-/// The message of the k-th tick behind those that the end has sent. None where there is no datum, or no number.
-fn message_out(
-    flat: &Flat,
-    rows: &[Vec<i64>],
-    spans: &[Span],
-    outlet: &Outlet,
-    k: usize,
-) -> Option<Msg>
-    requires { outlet.now.sent + k < ticks_of spans.now outlet.now.flow }
-    ensures { IfSome result (IsMessageOut flat.now rows.now spans.now outlet.now k) }
-{
-    let tick = tick_after(outlet.sent, k)?;
-    let datum = datum_out(flat, rows, spans, outlet.flow, tick)?;
-    let no = number_after(outlet.number, k)?;
-    Some(Msg {
-        no,
-        body: Body::Value(datum),
-    })
 }
 
 /// Fills a run with the messages of the end's next ticks, up to tick `to`. False where one of them has no datum or no number.
@@ -74,15 +38,23 @@ fn fill(
         → AreMessagesOut flat.now rows.now spans.now outlet.now run.new.items }
     ensures within { result ≡ true → outlet.now.sent + length run.new.items ≤ to }
 {
-    run.clear();
-    let count = run_len(to - outlet.sent, run.capacity());
-    for k in 0..count {
-        let Some(msg) = message_out(flat, rows, spans, outlet, k) else {
-            return false;
-        };
-        run.push_reserved(msg);
+    let Some(kind) = kind_at(flat, outlet.flow) else {
+        return false;
+    };
+    let Some(row) = rows.get(outlet.flow) else {
+        return false;
+    };
+    if row.len() <= to {
+        return false;
     }
-    true
+    fill_run(
+        kind,
+        row.as_slice(),
+        outlet.sent,
+        outlet.number,
+        run,
+        to - outlet.sent,
+    )
 }
 
 /// Puts the messages of the end's next ticks, as many as there is room for and no more than one run. It is over where a message has no

@@ -1,13 +1,15 @@
 //! The receiving ends of a site in rows: messages come into the rows of taken flows. Nothing here waits.
 
-ghost use Rattle.std.specs.Prelude.{◌≡◌, true, length, slice_get};
+ghost use Rattle.std.specs.Prelude.{◌≡◌, true};
 ghost use Rattle.lublock_site.specs.Tries.{IfGoes};
-ghost use Rattle.lublock_site.specs.Steps.{HasTakenMessage, HasTakenMessages};
+ghost use Rattle.lublock_site.specs.Steps.{HasTakenMessages};
 ghost use Rattle.lublock_site.specs.Stations.{HasBrought, IsLater};
 
-use crate::steps::take_word;
-use crate::tried::{Tried, done_if, run_len};
+use crate::steps::write_messages;
+use crate::tried::{Tried, done_if};
 use lublock::Board;
+use lublock_kernels::forms::kind_at;
+use lublock_kernels::span::Span;
 use luflow::{Body, Flat, Msg};
 use lulink::Rx;
 
@@ -21,41 +23,33 @@ pub struct Source {
     pub closed: bool,
 }
 
-fn message_at(msgs: &[Msg], k: usize) -> Option<Msg>
-    ensures { result ≡ slice_get msgs.now k }
-{
-    msgs.get(k).copied()
-}
-
-/// Puts the datum of message k behind the words of flow i. False where there is no room, or where it isn't of the flow's type.
-fn take_message(flat: &Flat, board: &mut Board, i: usize, msgs: &[Msg], k: usize) -> bool
-    ensures { result ≡ true → HasTakenMessage flat.now i msgs.now k board.old board.new }
-{
-    let Some(msg) = message_at(msgs, k) else {
-        return false;
-    };
-    match msg.body {
-        Body::Close => false,
-        Body::Value(datum) => {
-            if take_word(flat, board, i, datum) {
-                return false;
-            }
-            true
-        }
-    }
-}
-
 /// Puts the data of messages behind the words of flow i, in order. False where there is no room, where one isn't of the flow's type, or is
 /// the close.
-fn take_messages(flat: &Flat, board: &mut Board, i: usize, msgs: &[Msg]) -> bool
-    ensures { result ≡ true → HasTakenMessages flat.now i msgs.now (length msgs.now) board.old
-        board.new }
+pub fn take_messages(flat: &Flat, board: &mut Board, i: usize, msgs: &[Msg]) -> bool
+    ensures { result ≡ true → HasTakenMessages flat.now i msgs.now board.old board.new }
 {
-    for k in 0..msgs.len() {
-        if !take_message(flat, board, i, msgs, k) {
-            return false;
-        }
+    let Some(kind) = kind_at(flat, i) else {
+        return false;
+    };
+    if board.spans.len() <= i || board.rows.len() <= i {
+        return false;
     }
+    let span = board.spans[i];
+    let room = board.rows[i].len();
+    if room <= span.upto || room - 1 - span.upto < msgs.len() {
+        return false;
+    }
+    if !write_messages(kind, &mut board.rows[i], span.upto, msgs) {
+        return false;
+    }
+    board.spans[i] = Span {
+        ticks: span.ticks,
+        upto: span.upto + msgs.len(),
+        was: span.was,
+        known: span.known,
+        supposed: span.supposed,
+        taken: span.taken,
+    };
     true
 }
 
@@ -71,8 +65,7 @@ fn poll_some(
         (HasBrought flat.now source.old.flow board.old source.old board.new source.new) }
 {
     run.clear();
-    let most = run_len(most, run.capacity());
-    let came = source.rx.poll_run(most, run);
+    let came = source.rx.poll_run(most.min(run.capacity()), run);
     let Some(got) = source.got.checked_add(came) else {
         return Tried::Over;
     };

@@ -1,21 +1,18 @@
 //! From messages into rows, and from rows into messages.
 
-ghost use Rattle.std.specs.Prelude.{◌≡◌, ◌<◌, ◌+◌, ℕ, suc, length, false, true, IfSome};
-ghost use Rattle.lublock_kernels.specs.Rows.{Keeps, word_in};
+ghost use Rattle.std.specs.Prelude.{◌≡◌, ◌≤◌, ◌<◌, ◌+◌, suc, length, true, IfSome};
+ghost use Rattle.lublock_kernels.specs.Rows.{Keeps};
 ghost use Rattle.lublock_kernels.specs.Words.{datum_at};
 ghost use Rattle.lublock_kernels.specs.Blocks.{Holds};
-ghost use Rattle.lublock_kernels.specs.Machine.{ticks_of};
-ghost use Rattle.lublock_site.specs.Steps.{HasTakenWord, IsMessageOf};
+ghost use Rattle.lublock_site.specs.Steps.{AreMessagesOf, AreWordsOf, HasMessage, HasWordOf};
 
-use lublock::Board;
-use lublock_kernels::forms::kind_at;
 use lublock_kernels::rows::{at, put};
 use lublock_kernels::singles::word_for;
-use lublock_kernels::span::Span;
-use luflow::{Datum, Flat};
+use luflow::{Body, Datum, Msg};
 use lutree::Kind;
 
 /// A word that holds a datum of this type: of nil any; none for a datum of another type.
+#[inline(always)]
 fn held_word(kind: Kind, datum: Datum) -> Option<i64>
     ensures { IfSome result (λ z. Holds kind z datum) }
 {
@@ -31,46 +28,49 @@ fn held_word(kind: Kind, datum: Datum) -> Option<i64>
     }
 }
 
-/// Puts the word of a row's tick, counted from 0.
-fn put_word(row: &mut Vec<i64>, tick: usize, word: i64)
-    requires { tick + 1 < length row.old.items }
-    ensures kept { Keeps tick row.old.items row.new.items }
-    ensures word { word_in row.new.items (suc tick) ≡ word }
+/// A word that holds the datum of message k; none where that is of another type, or is the close.
+#[inline(always)]
+fn word_of_message(kind: Kind, msgs: &[Msg], k: usize) -> Option<i64>
+    ensures { IfSome result (HasWordOf kind msgs.now k) }
 {
-    put(row.as_mut_slice(), tick, word);
+    let msg = msgs.get(k).copied()?;
+    match msg.body {
+        Body::Close => None,
+        Body::Value(datum) => {
+            let word = held_word(kind, datum)?;
+            Some(word)
+        }
+    }
 }
 
-/// Puts the datum of the next message of flow i behind its words; whether there is no room, or it isn't of the flow's type.
-pub fn take_word(flat: &Flat, board: &mut Board, i: usize, datum: Datum) -> bool
-    ensures { result ≡ false → HasTakenWord flat.now i datum board.old board.new }
+fn write_words(kind: Kind, row: &mut [i64], from: usize, msgs: &[Msg]) -> bool
+    requires room { suc (from + length msgs.now) ≤ length row.old }
+    ensures len { length row.new ≡ length row.old }
+    ensures kept { Keeps from row.old row.new }
+    ensures words { result ≡ true
+        → AreWordsOf kind msgs.now from row.new (length msgs.now) }
 {
-    let Some(kind) = kind_at(flat, i) else {
-        return true;
-    };
-    let Some(word) = held_word(kind, datum) else {
-        return true;
-    };
-    if board.spans.len() <= i || board.rows.len() <= i {
-        return true;
+    for k in 0..msgs.len() {
+        let Some(word) = word_of_message(kind, msgs, k) else {
+            return false;
+        };
+        put(row, from + k, word);
     }
-    let span = board.spans[i];
-    let room = board.rows[i].len();
-    if room <= 1 || room - 1 <= span.upto {
-        return true;
-    }
-    put_word(&mut board.rows[i], span.upto, word);
-    board.spans[i] = Span {
-        ticks: span.ticks,
-        upto: span.upto + 1,
-        was: span.was,
-        known: span.known,
-        supposed: span.supposed,
-        taken: span.taken,
-    };
-    false
+    true
+}
+
+/// Writes the data of messages as words of a row of this type, from tick `from` on. False where one of them is of another type, or the close.
+pub fn write_messages(kind: Kind, row: &mut Vec<i64>, from: usize, msgs: &[Msg]) -> bool
+    requires room { suc (from + length msgs.now) ≤ length row.old.items }
+    ensures kept { Keeps from row.old.items row.new.items }
+    ensures words { result ≡ true
+        → AreWordsOf kind msgs.now from row.new.items (length msgs.now) }
+{
+    write_words(kind, row.as_mut_slice(), from, msgs)
 }
 
 /// The datum that a word of this type stands for; none for a name of no such number.
+#[inline(always)]
 fn datum_for(kind: Kind, word: i64) -> Option<Datum>
     ensures { IfSome result (λ d. d ≡ datum_at kind word) }
 {
@@ -87,25 +87,52 @@ fn datum_for(kind: Kind, word: i64) -> Option<Datum>
     }
 }
 
-/// The datum of the message that goes out of flow i for its tick n in a right block.
-pub fn datum_out(
-    flat: &Flat,
-    rows: &[Vec<i64>],
-    spans: &[Span],
-    i: usize,
-    n: usize,
-) -> Option<Datum>
-    requires { n < ticks_of spans.now i }
-    ensures { IfSome result (IsMessageOf flat.now rows.now spans.now i n) }
+/// The number of the k-th message from that of this number on; none above the greatest number.
+#[inline(always)]
+pub fn number_after(number: u32, k: usize) -> Option<u32>
+    ensures { IfSome result (λ n. n ≡ number + k) }
 {
-    let Some(kind) = kind_at(flat, i) else {
-        return None;
-    };
-    let Some(row) = rows.get(i) else {
-        return None;
-    };
-    if row.len() <= 1 || row.len() - 1 <= n {
-        return None;
+    match u32::try_from(k) {
+        Ok(k) => number.checked_add(k),
+        Err(_) => None,
     }
-    datum_for(kind, at(row.as_slice(), n))
+}
+
+/// The message of this number on from another, whose datum is that of a row's tick.
+#[inline(always)]
+fn message_of(kind: Kind, row: &[i64], tick: usize, number: u32, k: usize) -> Option<Msg>
+    requires { suc (tick + k) < length row.now }
+    ensures { IfSome result (HasMessage kind row.now tick number k) }
+{
+    let datum = datum_for(kind, at(row, tick + k))?;
+    let no = number_after(number, k)?;
+    Some(Msg {
+        no,
+        body: Body::Value(datum),
+    })
+}
+
+/// Fills a run with the messages of a row's ticks from this one on, numbered from this number on: as many as it has room for, at most so
+/// many. False where a word is a name of no such number, or there is no number left.
+pub fn fill_run(
+    kind: Kind,
+    row: &[i64],
+    tick: usize,
+    number: u32,
+    run: &mut Vec<Msg>,
+    most: usize,
+) -> bool
+    requires row { suc (tick + most) ≤ length row.now }
+    ensures filled { result ≡ true → AreMessagesOf kind row.now tick number run.new.items }
+    ensures within { result ≡ true → length run.new.items ≤ most }
+{
+    run.clear();
+    let count = most.min(run.capacity());
+    for k in 0..count {
+        let Some(msg) = message_of(kind, row, tick, number, k) else {
+            return false;
+        };
+        run.push_reserved(msg);
+    }
+    true
 }

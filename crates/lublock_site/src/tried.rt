@@ -1,7 +1,5 @@
 //! What came of a try.
 
-ghost use Rattle.std.specs.Prelude.{◌≤◌};
-
 /// What came of a try.
 #[derive(Clone, Copy, Drop)]
 pub enum Tried {
@@ -16,12 +14,4 @@ pub enum Tried {
 /// What came of a try that could do some of it.
 pub fn done_if(done: bool) -> Tried {
     if done { Tried::Done } else { Tried::Blocked }
-}
-
-/// How many messages are moved at once: as many as are left, where there is room for them.
-pub fn run_len(left: usize, room: usize) -> usize
-    ensures left { result ≤ left }
-    ensures room { result ≤ room }
-{
-    if left < room { left } else { room }
 }

@@ -2,7 +2,7 @@
 //! replays a run turn by turn. What it does stands in the library `lusdist_answers`.
 #![tactic(auto)]
 
-use lusdist_answers::serve_words;
+use lusdist_answers::serve;
 use lusdist_shell::{Meter, RealFiles, Sink, put_unread};
 use std::process::ExitCode;
 use std::{env, io};
@@ -19,7 +19,7 @@ fn main(rt: HostRuntime) -> ExitCode {
         Ok(words) => {
             let files = RealFiles::new(&rt);
             let meter = Meter::new(&rt);
-            serve_words(&rt, rt.alloc(), &words, &files, &meter, &mut out, &mut err)
+            serve(&rt, rt.alloc(), &words, &files, &meter, &mut out, &mut err)
         }
         Err(e) => put_unread(&mut err, e.kind()),
     };

@@ -10,3 +10,4 @@ mod OneStatus
 mod Ran
 mod OneRefusal
 mod Dumps
+mod Ends

@@ -1,6 +1,6 @@
 //! The distributor: a call of the program by the files that its words name, and what each command answers from them: what is printed and dumped, or why it stops.
 //!
-//! - [`serve_words`]: a call, from its words to its exit status. How it ends stands in `lusdist_call`, which is handed what each command answers.
+//! - [`serve`]: a call, from its words to its exit status. What that means stands in `lusdist_call`.
 //! - [`answering`]: what a check, an evaluation, a plan and a run print; [`replaying`]: what a replay prints.
 //! - [`sources`]: from the texts of the files to a program, its flat program, a plan, a job, its turns, a table.
 //! - [`jobs`]: the job of a program, a placement and a table.
@@ -8,13 +8,12 @@
 //! - [`evaluating`]: the main variables of a program at a table, as a table or as a chart; [`running`]: the table of its outputs, made by its sites on
 //!   threads.
 //! - `filing`: dumps, each into the file that a request names.
-//! - [`explaining`]: a page of the manual. `reasons`: why a text is refused.
+//! - [`explaining`]: a page of the manual. `reasons`: why a text is refused; `refusals`: what is printed of that.
 //! - [`Stop`], [`Mistake`] of `lusdist_call`: why a call stops.
 //! - [`laws`]: a call has one outcome, one refusal and one status.
 #![tactic(auto)]
 
 pub mod answering;
-mod distributor;
 pub mod evaluating;
 pub mod explaining;
 mod filing;
@@ -22,10 +21,12 @@ pub mod jobs;
 pub mod laws;
 pub mod planning;
 mod reasons;
+mod refusals;
 pub mod replaying;
 pub mod running;
+mod serve;
 pub mod sources;
 
-pub use distributor::serve_words;
 pub use lusdist_call::{Mistake, Stop};
 pub use replaying::replayed;
+pub use serve::serve;

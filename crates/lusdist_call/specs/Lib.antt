@@ -1,6 +1,5 @@
 pub mod Left
 pub mod Reasons
-pub mod Runs
 pub mod Explained
 pub mod Asked
 pub mod Refused

@@ -1,15 +1,5 @@
-//! Calls of the program: from the words of a command line to what is printed, by what each command answers; what such
-//! an answer means; and how a call ends.
-//!
-//! # A call
-//!
-//! - [`serve_with`]: a call, from its words to its exit status.
-//! - [`Commands`]: what each command but a run answers, and why a text is refused. `lusdist_answers` has it for files;
-//!   a run is handed beside it.
-//! - `asking`: what a call gets from a command and from a run, by the request as it stands.
-//! - `reasons`: what is reported of a refusal behind its line.
-//!
-//! It stands below what answers the commands, so that it is checked without all of that.
+//! What a call of the program means: what each command answers by what its files say, why it stops, and how it ends. The commands
+//! themselves stand in `lusdist_answers`.
 //!
 //! # What a call means
 //!
@@ -24,6 +14,7 @@
 //!   prints anything.
 //! - `specs/TellingText.antt`: what a world reports, and the text of it.
 //! - `specs/Waved.antt`: the dumps of runs and replays.
+//! - `specs/Reasons.antt`: what goes behind the line of a refusal. `specs/Left.antt`: how a call ends, and what it leaves.
 //!
 //! # How a call ends, and its files
 //!
@@ -33,18 +24,12 @@
 //! - [`read`] and [`file_text`]: a file that is read, and one into which a dump is written.
 #![tactic(auto)]
 
-mod asking;
-mod commands;
 mod files;
 mod mistake;
-mod reasons;
 mod said;
-mod serve;
 mod stop;
 
-pub use commands::Commands;
 pub use files::{file_text, read};
 pub use mistake::{Mistake, mistake_in};
 pub use said::{Said, put_said};
-pub use serve::serve_with;
 pub use stop::Stop;

@@ -21,7 +21,7 @@ use crate::lines::put_line;
 use crate::paper::Paper;
 use crate::printing::put_printed;
 use crate::tries::{put_tried, words_of};
-use lusdist_answers::serve_words;
+use lusdist_answers::serve;
 use lusdist_shell::{Files, ReadError, RealFiles, Silent, Sink, WriteError, text_of};
 use std::alloc::{AllocError, Global};
 use std::cell::Cell;
@@ -199,7 +199,7 @@ fn put_answer<R: Threads + Wait + Clock + Sync>(
     let words = words_of(rt.alloc(), line)?;
     let mut out = Sink::new(Paper::new(rt.alloc(), is_full));
     let mut err = Sink::new(Vec::new(rt.alloc()));
-    let status = serve_words(
+    let status = serve(
         threads,
         rt.alloc(),
         &words,

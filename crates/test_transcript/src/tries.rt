@@ -1,6 +1,6 @@
 //! An example by many schedules at several capacities, and by several crews: each has to end as its evaluation does.
 
-use lusdist_answers::serve_words;
+use lusdist_answers::serve;
 use lusdist_shell::{Files, ReadError, Silent, Sink, WriteError, text_of};
 use std::alloc::{AllocError, Global};
 use std::io;
@@ -70,7 +70,7 @@ fn printed<R: Threads + Wait + Clock + Sync, F: Files>(
     let words = words_of(alloc, line)?;
     let mut out = Sink::new(Vec::new(alloc));
     let mut err = Sink::new(Vec::new(alloc));
-    if serve_words(threads, alloc, &words, files, &Silent, &mut out, &mut err) != 0 {
+    if serve(threads, alloc, &words, files, &Silent, &mut out, &mut err) != 0 {
         return Ok(String::new(alloc));
     }
     String::from_str(alloc, text_of(out.writer()).unwrap_or(""))

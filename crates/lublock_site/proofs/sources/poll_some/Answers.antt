@@ -13,7 +13,6 @@ returns c =
     let taken = c.poll_run-came.ensures.taken in
     let msgs = taken.0 in
     let is : c.as_slice.result.now ≡ msgs = c.as_slice.ensures.value ∙ taken.2 ∙ ap (λ (xs : List Msg). xs ++ msgs) c.clear.ensures.items in
-    let words : HasTakenMessages flat x.flow msgs (length msgs) old new = subst (λ (xs : List Msg). HasTakenMessages flat x.flow xs (length xs) old new) is (c.take_messages.ensures c.if-not-take_messages.false) in
-    let some : HasTakenMessages flat x.flow msgs c.poll_run-came.result old new = subst (λ (n : ℕ). HasTakenMessages flat x.flow msgs n old new) taken.1 words in
+    let words : HasTakenMessages flat x.flow msgs old new = subst (λ (xs : List Msg). HasTakenMessages flat x.flow xs old new) is (c.take_messages.ensures c.if-not-take_messages.false) in
     goes c.done_if.result _
-    (brought_run flat x.flow old new x (record x { rx = c.poll_run-came.new.self; got = c.in-Some.got }) msgs c.poll_run-came.result taken.1 taken.4 taken.3 some refl refl (search rules))
+    (brought_run flat x.flow old new x (record x { rx = c.poll_run-came.new.self; got = c.in-Some.got }) msgs c.poll_run-came.result taken.1 taken.4 taken.3 words refl refl (search rules))

@@ -2,31 +2,31 @@ use Rattle.std.proofs.Common.{map, refl, inl, inr}
 use Rattle.std.specs.Prelude.{string_bytes}
 use Rattle.clap.specs.Words.{kind_of}
 use Rattle.lusdist_call.specs.Left.IsCallEnded.{asked, helped, mistaken, no_memory, no_help}
-use Rattle.lusdist_call.proofs.Ends.{done, quiet, kept, told, which, memory, help, mistake}
-use Rattle.lusdist_call.proofs.serve.serve_with.Goals as goal
+use Rattle.lusdist_answers.proofs.Ends.{done, quiet, kept, told, which, memory, help, mistake}
+use Rattle.lusdist_answers.proofs.serve.serve.Goals as goal
 
 pub returns-in-Ok-clause-ended : goal.returns-in-Ok-clause-ended
 returns-in-Ok-clause-ended g c = asked c.in-Ok.request c.in-Ok.ensures.asked c.perform.ensures
 
 pub returns-in-Ok-clause-done : goal.returns-in-Ok-clause-done
 returns-in-Ok-clause-done g c = λ taken zero.
-    done (g.C.Commands.gives c.args.commands.now) (g.C.Commands.takes c.args.commands.now) (map string_bytes c.args.words.now) c.in-Ok.request c.in-Ok.ensures.asked c.perform.result _ c.perform.ensures zero
+    done (g.F.Files.gives c.args.files.now) (g.F.Files.takes c.args.files.now) (map string_bytes c.args.words.now) c.in-Ok.request c.in-Ok.ensures.asked c.perform.result _ c.perform.ensures zero
 
 pub returns-in-Ok-clause-refused : goal.returns-in-Ok-clause-refused
 returns-in-Ok-clause-refused g c = λ small.
-    kept (g.C.Commands.gives c.args.commands.now) (g.C.Commands.takes c.args.commands.now) (map string_bytes c.args.words.now) c.in-Ok.request c.in-Ok.ensures.asked c.perform.result _ small c.perform.ensures
+    kept (g.F.Files.gives c.args.files.now) (g.F.Files.takes c.args.files.now) (map string_bytes c.args.words.now) c.in-Ok.request c.in-Ok.ensures.asked c.perform.result _ small c.perform.ensures
 
 pub returns-in-Ok-clause-silent : goal.returns-in-Ok-clause-silent
 returns-in-Ok-clause-silent g c = λ zero none.
-    quiet (g.C.Commands.gives c.args.commands.now) (g.C.Commands.takes c.args.commands.now) (map string_bytes c.args.words.now) c.in-Ok.request c.in-Ok.ensures.asked c.perform.result _ none c.perform.ensures zero
+    quiet (g.F.Files.gives c.args.files.now) (g.F.Files.takes c.args.files.now) (map string_bytes c.args.words.now) c.in-Ok.request c.in-Ok.ensures.asked c.perform.result _ none c.perform.ensures zero
 
 pub returns-in-Ok-clause-text : goal.returns-in-Ok-clause-text
 returns-in-Ok-clause-text g c = λ one.
-    told (g.C.Commands.gives c.args.commands.now) (g.C.Commands.takes c.args.commands.now) (map string_bytes c.args.words.now) c.in-Ok.request c.in-Ok.ensures.asked c.perform.result _ 1 (inl refl) c.perform.ensures one
+    told (g.F.Files.gives c.args.files.now) (g.F.Files.takes c.args.files.now) (map string_bytes c.args.words.now) c.in-Ok.request c.in-Ok.ensures.asked c.perform.result _ 1 (inl refl) c.perform.ensures one
 
 pub returns-in-Ok-clause-file : goal.returns-in-Ok-clause-file
 returns-in-Ok-clause-file g c = λ taken two.
-    told (g.C.Commands.gives c.args.commands.now) (g.C.Commands.takes c.args.commands.now) (map string_bytes c.args.words.now) c.in-Ok.request c.in-Ok.ensures.asked c.perform.result _ 2 (inr refl) c.perform.ensures two
+    told (g.F.Files.gives c.args.files.now) (g.F.Files.takes c.args.files.now) (map string_bytes c.args.words.now) c.in-Ok.request c.in-Ok.ensures.asked c.perform.result _ 2 (inr refl) c.perform.ensures two
 
 pub returns-in-Err-clause-ended : goal.returns-in-Err-clause-ended
 returns-in-Err-clause-ended g c =

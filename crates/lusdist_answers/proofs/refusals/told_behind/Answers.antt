@@ -1,5 +1,5 @@
 use Rattle.std.proofs.Common.{rules}
-use Rattle.lusdist_call.proofs.reasons.told_behind.Goals as goal
+use Rattle.lusdist_answers.proofs.refusals.told_behind.Goals as goal
 
 pub returns-in-Ok : goal.returns-in-Ok
 returns-in-Ok g c = search rules

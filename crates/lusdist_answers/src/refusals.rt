@@ -1,11 +1,11 @@
-//! What is told of a refusal behind its line, where that is asked for.
+//! A refusal on the error stream: its line, and its reason behind it where that is asked for.
 
 ghost use Rattle.std.specs.Prelude.{◌≡◌, string_bytes};
 ghost use Rattle.lusdist_call.specs.Reasons.{asks_why, IsToldBehind, HasRefusal};
 
-use crate::Stop;
-use crate::commands::Commands;
-use lusdist_shell::{Request, Sink};
+use crate::reasons::reason;
+use lusdist_call::Stop;
+use lusdist_shell::{Files, Request, Sink};
 use std::alloc::Global;
 use std::io::Write;
 
@@ -23,36 +23,31 @@ fn asks_why(request: Request<'_>) -> bool
     }
 }
 
-/// What is told behind the line of a stop: where the request asks for it, where the stop stands in the text that is to blame, what is wrong there, and how
+/// What goes behind the line of a refusal: where the request asks for it, where that stands in the text that is to blame, what is wrong there, and how
 /// to mend it. The texts are read once more. Nothing where no text is to blame, where its file can't be read again, or where memory runs out.
-pub fn told_behind<C: Commands>(
-    commands: &C,
-    alloc: Global,
-    request: Request<'_>,
-    stop: &Stop,
-) -> String
-    ensures { IsToldBehind (C.gives commands.now) request.entry stop.now (string_bytes result) }
+fn told_behind<F: Files>(alloc: Global, files: &F, request: Request<'_>, stop: &Stop) -> String
+    ensures { IsToldBehind (F.gives files.now) request.entry stop.now (string_bytes result) }
 {
     if !asks_why(request) {
         return String::new(alloc);
     }
-    match commands.reason(alloc, request, stop) {
+    match reason(alloc, files, request, stop) {
         Ok(told) => told,
         Err(_) => String::new(alloc),
     }
 }
 
-/// Writes a refusal to the error stream: its line, and what is told behind it. Where memory runs out for that, the line alone.
-pub fn put_refusal<C: Commands, V: Write>(
-    commands: &C,
+/// Writes a refusal to the error stream: its line, and its reason behind it. Where memory runs out for that, the line alone.
+pub fn put_refusal<F: Files, V: Write>(
     alloc: Global,
+    files: &F,
     request: Request<'_>,
     stop: Stop,
     err: &mut Sink<V>,
 )
-    ensures { HasRefusal (C.gives commands.now) request.entry stop V.contents err.old err.new }
+    ensures { HasRefusal (F.gives files.now) request.entry stop V.contents err.old err.new }
 {
-    let told = told_behind(commands, alloc, request, &stop);
+    let told = told_behind(alloc, files, request, &stop);
     if told.is_empty() {
         err.put_line(stop);
         return;
