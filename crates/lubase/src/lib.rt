@@ -54,5 +54,5 @@ pub use number::Number;
 pub use order::{Order, cycles_of, order_of};
 pub use places::Places;
 pub use reach::reached;
-pub use row::Row;
+pub use row::{Row, number_at};
 pub use shared::SharedName;

@@ -1,6 +1,6 @@
 //! Lists that never change.
 
-ghost use Rattle.std.specs.Prelude.{◌≡◌};
+ghost use Rattle.std.specs.Prelude.{◌≡◌, slice_index};
 
 use std::marker::Model;
 
@@ -45,5 +45,15 @@ impl<T> Row<T> {
         ensures { result.now ≡ self.now }
     {
         self.items.as_slice()
+    }
+}
+
+/// The number at a place; 0 past the end.
+pub fn number_at(numbers: &[usize], place: usize) -> usize
+    ensures { result ≡ slice_index numbers.now place }
+{
+    match numbers.get(place) {
+        Some(number) => *number,
+        None => 0,
     }
 }

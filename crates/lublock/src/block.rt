@@ -198,7 +198,7 @@ impl Board {
             → IsSolved flat.now inputs.now t len (block_of self.new.rows.items
             self.new.spans.items) }
     {
-        let _flows = flat.flows();
+        flat.recall_invariant();
         if self.steps(alloc, flat, inputs, plan, t, len) {
             return true;
         }

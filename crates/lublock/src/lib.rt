@@ -20,6 +20,6 @@ mod stage;
 mod told;
 
 pub use board::Board;
+pub use lueval_lines::empty_columns;
 pub use run::block_outputs;
-pub use show::is_output;
-pub use told::{clear_others, empty_columns, show_part};
+pub use told::{clear_others, show_part};

@@ -10,10 +10,10 @@ ghost use Rattle.lueval.specs.Whole.{AreWholeOutputs, HasNoFault, IsAnswer, Keep
 ghost use Rattle.lublock.specs.Shown.{Column, IsRun, StandsAt};
 
 use crate::board::Board;
-use crate::show::is_output;
-use crate::told::{clear_others, empty_columns, show_flows};
+use crate::told::{clear_others, show_flows};
 use lublock_plan::{Plan, needed};
 use lueval::{EvalError, taken_outputs, whole_outputs};
+use lueval_lines::empty_columns;
 use luflow::{Flat, Inputs, Outputs, Status, Variable};
 use std::alloc::{AllocError, Global};
 
@@ -100,7 +100,7 @@ fn are_whole(variables: &[Variable], columns: &[Vec<Status>], instants: usize) -
         → slice_get columns.now v ≡ Some column → length column.items ≡ instants }
 {
     for v in 0..variables.len() {
-        if is_output(variables[v].role) && columns[v].len() != instants {
+        if variables[v].role.is_output() && columns[v].len() != instants {
             return false;
         }
     }
@@ -124,7 +124,7 @@ fn told(
     ensures outputs { IfOk result (AreWholeOutputs flat.now inputs.now) }
     ensures memory { IfErr result (λ e. e ≡ EvalError.OutOfMemory) }
 {
-    let _flows = flat.flows();
+    flat.recall_invariant();
     let outputs = taken_outputs(alloc, flat.variables(), columns)?;
     match Outputs::new(outputs) {
         Some(outputs) => Ok(outputs),
@@ -148,7 +148,7 @@ pub fn block_outputs(alloc: Global, flat: &Flat, inputs: &Inputs) -> Result<Outp
     ensures fault { IfErr result (IsAnswer flat.now inputs.now) }
     ensures tidy { KeepsAllTypes flat.now inputs.now }
 {
-    let _flows = flat.flows();
+    flat.recall_invariant();
     let instants = inputs.instants() as usize;
     match run(alloc, flat, inputs)? {
         Some(columns) if are_whole(flat.variables(), columns.as_slice(), instants) => {

@@ -1,6 +1,6 @@
 //! What is put out of a block: statuses at its instants.
 
-ghost use Rattle.std.specs.Prelude.{◌≡◌, ◌≤◌, ◌<◌, ◌+◌, ◌++◌, ◌∷◌, [], length, false, IfOk, IfSome, Some, slice_get, if◌then◌else◌};
+ghost use Rattle.std.specs.Prelude.{if◌then◌else◌, ◌≡◌, ◌≤◌, ◌<◌, ◌+◌, ◌++◌, ◌∷◌, [], length, false, IfOk, IfSome, Some, slice_get};
 ghost use Rattle.luflow.specs.declared.data.Status.{Status};
 ghost use Rattle.luflow.specs.Streams.{is_value};
 ghost use Rattle.lublock_kernels.specs.Machine.{row_of};
@@ -12,7 +12,7 @@ ghost use Rattle.lublock.specs.Shown.{IsAdded, IsShown, StaysNear, first_of, pre
 use crate::board::Board;
 use lublock_kernels::forms::flow_of;
 use lublock_kernels::rows::at;
-use luflow::{Clock, Datum, Flat, Role, Status};
+use luflow::{Clock, Datum, Flat, Status};
 use lutree::Kind;
 use std::alloc::{AllocError, Global};
 use std::mem;
@@ -155,23 +155,13 @@ fn column_of(columns: &[Vec<Status>], c: usize) -> Option<&Vec<Status>>
     columns.get(c)
 }
 
-/// Whether this is the role of an output.
-pub fn is_output(role: Role) -> bool
-    ensures { result ≡ is_output role }
-{
-    match role {
-        Role::Output => true,
-        Role::Input | Role::Local => false,
-    }
-}
-
 /// The instant of the first status in a main variable's column, in a block from `t` on: what is no output has the block's alone.
 pub fn first_of(flat: &Flat, v: usize, t: usize) -> usize
     ensures first { result ≡ first_of flat.now v t }
     ensures before { result ≤ t }
 {
     match flat.variables().get(v) {
-        Some(x) if is_output(x.role) => 0,
+        Some(x) if x.role.is_output() => 0,
         _ => t,
     }
 }
@@ -237,7 +227,7 @@ pub fn show(
     ensures near { IfOk result (λ none. none ≡ false
         → StaysNear flat.now t len board.now (λ r. r ≡ v) columns.old.items columns.new.items) }
 {
-    let _flows = flat.flows();
+    flat.recall_invariant();
     let Some(flow) = flow_of(flat, v) else {
         return Ok(true);
     };

@@ -1,6 +1,6 @@
 //! The columns of a run in blocks, for a part of a program as for a whole one: what a block has goes to their ends, and those of outputs are kept.
 
-ghost use Rattle.std.specs.Prelude.{◌≡◌, [], All, ℕ, length, false, IfOk, Some, slice_get};
+ghost use Rattle.std.specs.Prelude.{◌≡◌, ℕ, length, false, IfOk, Some, slice_get};
 ghost use Rattle.lublock.specs.Shown.{AreKept, StaysNear, StaysNearIn};
 
 use crate::board::Board;
@@ -65,20 +65,4 @@ pub fn clear_others(flat: &Flat, columns: &mut Vec<Vec<Status>>)
             columns[v].clear();
         }
     }
-}
-
-/// As many empty columns.
-///
-/// # Errors
-///
-/// Out of memory.
-pub fn empty_columns(alloc: Global, count: usize) -> Result<Vec<Vec<Status>>, AllocError>
-    ensures len { IfOk result (λ x. length x.items ≡ count) }
-    ensures empty { IfOk result (λ x. All (λ column. column.items ≡ []) x.items) }
-{
-    let mut columns = Vec::with_capacity(alloc, count)?;
-    for _v in 0..count {
-        columns.push_reserved(Vec::new(alloc));
-    }
-    Ok(columns)
 }

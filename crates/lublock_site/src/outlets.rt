@@ -144,7 +144,7 @@ pub fn put_close(flat: &Flat, outlet: &mut Outlet) -> Tried
     requires { MayClose flat.now outlet.old }
     ensures { IfGoes result (HasSent flat.now outlet.old outlet.new) }
 {
-    let _flows = flat.flows();
+    flat.recall_invariant();
     let msg = Msg {
         no: outlet.number,
         body: Body::Close,

@@ -112,7 +112,7 @@ fn frame_of(
     ensures own { IfOk result (λ o. IfSome o (λ frame. frame.own ≡ marks.own)) }
     ensures taken { IfOk result (λ o. IfSome o (λ frame. frame.taken ≡ marks.taken)) }
 {
-    let _plan = job.plan();
+    job.recall_invariant();
     let Some(none) = Inputs::new(0, Vec::new(alloc)) else {
         return Ok(None);
     };

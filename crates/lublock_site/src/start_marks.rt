@@ -7,7 +7,6 @@ ghost use Rattle.lublock_site.specs.Starts.{AreKnown, AreOutputs, AreOwnMarks, A
 
 use crate::parts::{is_marked, is_part};
 use crate::sources::Source;
-use lublock::is_output;
 use lublock_plan::needed_of;
 use luflow::Flat;
 use luplace::Plan;
@@ -103,7 +102,7 @@ fn is_told(plan: &Plan, site: u8, v: usize) -> bool
     ensures { result ≡ true → is_output_of plan.now.flat v ≡ true }
 {
     match plan.flat().variables().get(v) {
-        Some(variable) => is_output(variable.role) && home_of(plan, v) == Some(site),
+        Some(variable) => variable.role.is_output() && home_of(plan, v) == Some(site),
         None => false,
     }
 }

@@ -9,7 +9,7 @@ ghost use Rattle.lublock_site.specs.Starts.{IsFirstBoard, first_span};
 
 use crate::parts::is_marked;
 use crate::start_marks::Marks;
-use lublock::{Board, empty_columns, is_output};
+use lublock::{Board, empty_columns};
 use lublock_kernels::span::Span;
 use luflow::{Flat, Status, Values};
 use luplace::{Job, Plan};
@@ -116,7 +116,7 @@ pub fn first_board(alloc: Global, marks: &Marks, instants: usize) -> Result<Boar
 /// How many statuses of a main variable are kept at most: of an output those of all instants, of another variable those of a block.
 fn room_for(flat: &Flat, v: usize, all: usize, block: usize) -> usize {
     match flat.variables().get(v) {
-        Some(variable) if is_output(variable.role) => all,
+        Some(variable) if variable.role.is_output() => all,
         _ => block,
     }
 }

@@ -1,13 +1,10 @@
 //! What a site tells of its outputs when it has ended.
 
-ghost use Rattle.std.specs.Prelude.{◌≡◌, ◌<◌, ℕ, [], length, true, All, IfSome, Some, slice_get};
-ghost use Rattle.luflow.specs.Program.{Table};
-ghost use Rattle.luflow.specs.Streams.{Streams};
+ghost use Rattle.std.specs.Prelude.{◌≡◌, ◌<◌, [], length, true, IfSome, Some, slice_get};
 ghost use Rattle.luflow.specs.Variables.{is_output};
 ghost use Rattle.luflow.specs.declared.variable.Variable.{Variable};
-ghost use Rattle.lublock_site.specs.Telling.{AreLess, AreToldOf, IsTakenOut};
+ghost use Rattle.lublock_site.specs.Telling.{AreToldOf, IsTakenOut};
 
-use lublock::is_output;
 use luflow::{Flat, Status};
 use std::alloc::Global;
 use std::mem;
@@ -18,7 +15,7 @@ fn is_output_at(flat: &Flat, v: usize) -> bool
         → (x : Variable) × (slice_get flat.now.variables v ≡ Some x) × (is_output x.role ≡ true) }
 {
     match flat.variables().get(v) {
-        Some(variable) => is_output(variable.role),
+        Some(variable) => variable.role.is_output(),
         None => false,
     }
 }
@@ -43,7 +40,7 @@ pub fn told_outputs(
     requires { outputs.items ≡ [] }
     ensures { IfSome result (λ xs. AreToldOf flat.now columns.items instants xs.items) }
 {
-    let _flows = flat.flows();
+    flat.recall_invariant();
     let mut columns = columns;
     let mut outputs = outputs;
     for k in 0..told.len() {

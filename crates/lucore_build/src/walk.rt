@@ -1,6 +1,6 @@
 //! The walk of an expression.
 
-ghost use Rattle.std.specs.Prelude.{fold, ◌≡◌, ◌∷◌, ◌++◌, [], pos, length, map, IfOk, OnOk, unwrap_or};
+ghost use Rattle.std.specs.Prelude.{fold, ◌≡◌, ◌∷◌, ◌++◌, [], pos, length, IfOk, OnOk};
 ghost use Rattle.lutree.specs.Tree.{view, views, trees_of, node_view, program_view, declarations_view};
 ghost use Rattle.lutree.specs.Tree as tree;
 ghost use Rattle.lustat_rules.specs.Scope.{node_called};
@@ -19,7 +19,7 @@ use lubase::{Number, Row};
 use luflow::{Datum, Flow, Form};
 use lustat_rules::{Catalog, ClockRef, PatternRef, PlacedClock, Scope};
 use lutree::{Declaration, Expr, Infix, Kind, Pattern, Prefix};
-use lutype::{agreed_kind, is_of_kind, kind_of_binary, kind_of_choice, kind_of_unary};
+use lutype::{agreed_kind, is_of_kind, kind_of_binary, kind_of_choice, kind_of_unary, only_kind};
 use std::alloc::{AllocError, Global};
 
 // The datum of a number.
@@ -92,16 +92,6 @@ fn arguments_have_kinds(arguments: &[Operand], inputs: &[Declaration]) -> bool
         }
     }
     arguments.len() == inputs.len()
-}
-
-// The type of a node's one output.
-fn only_kind(outputs: &[Declaration]) -> Option<Kind>
-    ensures { result ≡ only (Some (map (λ d. d.kind) (declarations_view outputs.now))) }
-{
-    match outputs {
-        [d] => Some(d.kind),
-        _ => None,
-    }
 }
 
 // The type of a call.

@@ -1,10 +1,10 @@
 //! The statuses of the main variables so far, column by column.
 
-ghost use Rattle.std.specs.Prelude.{◌≡◌, ◌<◌, ◌≤◌, ◌+◌, ℕ, [], All, IfOk, length, slice_get, Some, vec_capacity};
+ghost use Rattle.std.specs.Prelude.{◌≡◌, ◌<◌, ◌≤◌, ◌+◌, [], All, IfOk, length, slice_get, vec_capacity};
 ghost use Rattle.std.specs.Option.{ForSome};
 ghost use Rattle.luflow.specs.Solution.{solution};
 ghost use Rattle.lueval_lines.specs.Cells.{statuses};
-ghost use Rattle.lueval_lines.specs.Columns.{Column, AreNew, AreEmpty, AreColumns, AreKept, AreAllKept, AreOnlyWanted, AreShown, IsLonger, is_wanted};
+ghost use Rattle.lueval_lines.specs.Columns.{AreNew, AreEmpty, AreColumns, AreKept, AreAllKept, AreOnlyWanted, AreShown, IsLonger, is_wanted};
 
 use crate::cell::{Cell, status};
 use luflow::{Flat, Inputs, Role, Status, Variable};
@@ -74,8 +74,14 @@ pub fn kept_of(
     Ok(kept)
 }
 
-fn empty_columns(alloc: Global, count: usize) -> Result<Vec<Vec<Status>>, AllocError>
-    ensures { IfOk result (λ columns. length columns.items ≡ count) }
+/// As many empty columns.
+///
+/// # Errors
+///
+/// Out of memory.
+pub fn empty_columns(alloc: Global, count: usize) -> Result<Vec<Vec<Status>>, AllocError>
+    ensures len { IfOk result (λ x. length x.items ≡ count) }
+    ensures empty { IfOk result (λ x. All (λ column. column.items ≡ []) x.items) }
 {
     let mut columns = Vec::with_capacity(alloc, count)?;
     for _v in 0..count {

@@ -28,7 +28,7 @@ mod streams;
 
 pub use answers::value_with;
 pub use cell::{Answer, Cell, cell_at, cell_of, is_absent, is_datum, is_on, newest, status};
-pub use columns::{Notes, Wanted, note};
+pub use columns::{Notes, Wanted, empty_columns, note};
 pub use error::EvalError;
 pub use line::{Code, Line, LineClock, column_of, line_at, line_of};
 pub use luflow::{Datum, Inputs, Outputs, Status};

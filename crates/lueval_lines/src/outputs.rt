@@ -6,18 +6,9 @@ ghost use Rattle.luflow.specs.Variables.{is_output};
 ghost use Rattle.lueval_lines.specs.Columns.{lists_of};
 ghost use Rattle.lueval_lines.specs.Outputs.{output_in, outputs_in, columns_in};
 
-use luflow::{Role, Status, Variable};
+use luflow::{Status, Variable};
 use std::alloc::{AllocError, Global};
 use std::mem;
-
-fn is_output(role: Role) -> bool
-    ensures { result ≡ is_output role }
-{
-    match role {
-        Role::Output => true,
-        Role::Input | Role::Local => false,
-    }
-}
 
 /// Takes the stream of a variable where the variable is an output.
 fn take_output(
@@ -29,7 +20,7 @@ fn take_output(
     ensures { OnOk result (outputs_view outputs.new.items ≡ outputs_view outputs.old.items
         ++ output_in x.now column.old.items) }
 {
-    if is_output(x.role) {
+    if x.role.is_output() {
         let name = String::from_str(alloc, x.name.as_str())?;
         let statuses = mem::replace(column, Vec::new(alloc));
         outputs.push((name, statuses))?;

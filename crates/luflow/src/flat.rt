@@ -4,7 +4,7 @@ ghost use Rattle.std.specs.Prelude.{◌≡◌, ◌<◌, ◌≤◌, length, slice
 ghost use Rattle.luflow.specs.Program.{FlatProgram};
 ghost use Rattle.luflow.specs.Flats.{IsFlat};
 ghost use Rattle.luflow.specs.Types.{variable_names};
-ghost use Rattle.luflow.specs.Variables.{inputs_of};
+ghost use Rattle.luflow.specs.Variables.{inputs_of, is_output_of, variable_name};
 ghost use Rattle.luflow.specs.declared.form.Flow.{Flow};
 
 use crate::form::{Clock, Flow};
@@ -95,6 +95,11 @@ impl Flat {
         }
     }
 
+    /// Does nothing. A proof has from it that the flows are sound and in order of rank.
+    pub fn recall_invariant(&self)
+        ensures { IsFlat self.now }
+    {}
+
     /// The types of the source program, in order of declaration; the kind of an enumeration holds its place here. Takes no
     /// memory.
     pub fn types(&self) -> &[Enum]
@@ -110,6 +115,26 @@ impl Flat {
         match self.variables.as_slice().get(variable) {
             Some(found) => names_of(self.types.as_slice(), found.kind),
             None => &[],
+        }
+    }
+
+    /// The name of a main variable; empty where there is none of that number. Takes no memory.
+    pub fn variable_name(&self, variable: usize) -> &str
+        ensures { result.now ≡ variable_name self.now variable }
+    {
+        match self.variables.as_slice().get(variable) {
+            Some(found) => found.name.as_str(),
+            None => "",
+        }
+    }
+
+    /// Whether a main variable is an output; not where there is none of that number. Takes no memory.
+    pub fn is_output(&self, variable: usize) -> bool
+        ensures { result ≡ is_output_of self.now variable }
+    {
+        match self.variables.as_slice().get(variable) {
+            Some(found) => found.role.is_output(),
+            None => false,
         }
     }
 
@@ -158,6 +183,7 @@ impl Flat {
     {
         self.variables.as_slice()
     }
+
     /// The inputs among the main variables, in order of declaration: the first ones. Takes no memory; the time grows with the
     /// number of main variables.
     pub fn inputs(&self) -> &[Variable]

@@ -2,7 +2,7 @@
 
 ghost use Rattle.std.specs.Prelude.{◌≡◌, length};
 ghost use Rattle.luflow.specs.Types.{name_of, names_of};
-ghost use Rattle.luflow.specs.Variables.{is_input, inputs_of};
+ghost use Rattle.luflow.specs.Variables.{is_input, is_output, inputs_of};
 
 use lubase::{Name, Row};
 use lutree::Kind;
@@ -13,6 +13,18 @@ pub enum Role {
     Input,
     Output,
     Local,
+}
+
+impl Role {
+    /// Whether a variable of this role is an output.
+    pub fn is_output(self) -> bool
+        ensures { result ≡ is_output self }
+    {
+        match self {
+            Role::Output => true,
+            Role::Input | Role::Local => false,
+        }
+    }
 }
 
 /// An enumeration of the program.

@@ -58,7 +58,7 @@ pub fn open_link(
         (λ ends. (ends.0.capacity ≡ capacity) × (ends.1.capacity ≡ capacity)) }
     ensures unseen { IfOk result (λ ends. (ends.0.seen ≡ []) × (ends.1.seen ≡ [])) }
 {
-    let _plan = job.plan();
+    job.recall_invariant();
     let room = usize::from(capacity);
     let terms = Terms {
         job: Snapshot::of(job),

@@ -83,9 +83,14 @@ impl Job {
         ensures { result ≡ record { plan = plan; inputs = inputs } }
     {
         let _few = inputs.instants();
-        let _flat = plan.flat();
+        plan.recall_invariant();
         Job { plan, inputs }
     }
+
+    /// Does nothing. A proof has from it that the plan is one and the inputs are those of its program.
+    pub fn recall_invariant(&self)
+        ensures { IsRun self.now }
+    {}
 
     /// The plan. Takes no memory.
     pub fn plan(&self) -> &Plan

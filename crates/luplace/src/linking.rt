@@ -4,9 +4,9 @@ ghost use Rattle.std.specs.Prelude.{◌≡◌, ◌≤◌, ◌++◌, length, slic
 ghost use Rattle.lulimits.specs.Limits.{most_sites};
 ghost use Rattle.luplace.specs.Marks.{marks_at, is_marked, sites_at, is_taken, some_links, links_below};
 
-use crate::lookup::{first_of, number_at, row_at};
+use crate::lookup::{first_of, row_at};
 use crate::marking::{is_marked, stands_at};
-use lubase::Row;
+use lubase::{Row, number_at};
 use luworld::Link;
 use std::alloc::{AllocError, Global};
 

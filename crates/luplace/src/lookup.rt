@@ -6,15 +6,6 @@ ghost use Rattle.luworld.specs.Needs.{is_in};
 
 use lubase::Row;
 
-pub fn number_at(numbers: &[usize], place: usize) -> usize
-    ensures { result ≡ slice_index numbers.now place }
-{
-    match numbers.get(place) {
-        Some(number) => *number,
-        None => 0,
-    }
-}
-
 pub fn row_at(rows: &[Row<u8>], place: usize) -> &[u8]
     ensures { result.now ≡ row rows.now place }
 {

@@ -6,8 +6,8 @@ ghost use Rattle.luworld.specs.Needs.{is_in};
 ghost use Rattle.luplace.specs.Placing.{bare};
 ghost use Rattle.luplace.specs.Marks.{is_marked, marked_all, clock_at, AreOwnMarks, AreMarks, AreAllMarks, marked_places, sites_at};
 
-use crate::lookup::{is_in, number_at, row_at};
-use lubase::Row;
+use crate::lookup::{is_in, row_at};
+use lubase::{Row, number_at};
 use luflow::{Clock, Flat, Flow, Form};
 use std::alloc::{AllocError, Global};
 

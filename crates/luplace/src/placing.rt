@@ -1,14 +1,13 @@
 //! Where a placement puts the variables of a program.
 
-ghost use Rattle.std.specs.Prelude.{◌≡◌, ◌⊎◌, true, map, IfOk, IfErr};
-ghost use Rattle.std.specs.List.{list_all};
+ghost use Rattle.std.specs.Prelude.{◌≡◌, ◌⊎◌, true, IfOk, IfErr};
 ghost use Rattle.std.specs.Str.{bytes_eq};
 ghost use Rattle.luflow.specs.Rank.{row};
 ghost use Rattle.luplace.specs.Placing.{is_variable, are_known, are_somewhere, sites_put, placed_by, entry_names, variable_names, are_together, refusal};
 
-use crate::lookup::{number_at, row_at};
+use crate::lookup::row_at;
 use crate::sought::{entry_places, sites_put, variable_places};
-use lubase::{Places, Row};
+use lubase::{Places, Row, number_at};
 use luflow::{Flat, Variable};
 use luplace_file::{Place, PlaceError, Placed};
 use std::alloc::{AllocError, Global};

@@ -8,10 +8,10 @@ ghost use Rattle.luflow.specs.Rank.{row};
 
 use crate::assembly::names_of;
 use crate::linking::links_of;
-use crate::lookup::{is_in, number_at, row_at};
+use crate::lookup::{is_in, row_at};
 use crate::marking::{all_marks, needs_of};
 use crate::placing::placed_by;
-use lubase::{Name, Row};
+use lubase::{Name, Row, number_at};
 use luflow::Flat;
 use luplace_file::{Place, PlaceError};
 use luworld::Link;
@@ -96,7 +96,7 @@ fn what_follows(
     })) }
 {
     let rows = all_marks(alloc, flat, placed, place.sites().len() as u8)?;
-    let _flat = flat.flows();
+    flat.recall_invariant();
     let variables = flat.variables().len();
     let links = links_of(alloc, rows.as_slice(), flat.owners(), placed, variables)?;
     let needs = needs_of(alloc, rows.as_slice())?;
@@ -169,6 +169,11 @@ impl Plan {
             capacity,
         }
     }
+
+    /// Does nothing. A proof has from it that the needs and the links are those of the placed program.
+    pub fn recall_invariant(&self)
+        ensures { IsPlan self.now }
+    {}
 
     /// The flat program. Takes no memory.
     pub fn flat(&self) -> &Flat

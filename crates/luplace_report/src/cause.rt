@@ -71,7 +71,7 @@ fn clocks_at(flat: &Flat, place: usize, variable: usize) -> bool
 fn needs_at(plan: &Plan, site: u8) -> &[usize]
     ensures { result.now ≡ row plan.now.needs site }
 {
-    let _flat = plan.flat();
+    plan.recall_invariant();
     if usize::from(site) < plan.sites().len() {
         plan.needs(site)
     } else {

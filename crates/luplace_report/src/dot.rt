@@ -5,7 +5,7 @@ ghost use Rattle.luplace_report.specs.Names.{Adds};
 ghost use Rattle.luplace_report.specs.Graph.{variable_node, variable_nodes, opening, label, point, box, boxes, when_text, head, edge, edges, graph_text};
 
 use crate::cause::{Cause, cause_of};
-use crate::names::{clock_of, owner_of, put_clock, site_name, variable_name};
+use crate::names::{clock_of, owner_of, put_clock, site_name};
 use luflow::{Clock, Flat};
 use luplace::{Link, Plan};
 use std::alloc::{AllocError, Global};
@@ -15,7 +15,7 @@ fn put_variable(text: &mut String, plan: &Plan, site: u8, variable: usize) -> Re
     ensures { Adds result text.old text.new (variable_node plan.now site variable) }
 {
     if plan.stands(variable, site) {
-        let name = variable_name(plan.flat(), variable);
+        let name = plan.flat().variable_name(variable);
         return writeln!(text, "    s{site}v{variable} [label=\"{name}\"];");
     }
     Ok(())
@@ -66,7 +66,7 @@ fn put_box(text: &mut String, plan: &Plan, site: u8) -> Result<(), AllocError>
 fn put_boxes(text: &mut String, plan: &Plan) -> Result<(), AllocError>
     ensures { Adds result text.old text.new (boxes plan.now) }
 {
-    let _flat = plan.flat();
+    plan.recall_invariant();
     let count = plan.sites().len() as u8;
     for site in 0..count {
         put_box(text, plan, site)?;
@@ -113,7 +113,7 @@ fn put_edge(text: &mut String, plan: &Plan, link: Link) -> Result<(), AllocError
     let flat = plan.flat();
     let flow = link.flow;
     let from = link.from;
-    let name = variable_name(flat, flow);
+    let name = flat.variable_name(flow);
     write!(text, "  s{from}v{flow} -> ")?;
     put_head(text, plan, link.to, cause_of(plan, link))?;
     write!(text, " [label=\"{name}")?;

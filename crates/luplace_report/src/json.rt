@@ -6,7 +6,7 @@ ghost use Rattle.serde_json.specs.View.{view, members_view};
 ghost use Rattle.luflow.specs.Rank.{row};
 ghost use Rattle.luplace_report.specs.Report.{site_data, names_data, sites_data, flow_data, flows_data, link_data, links_data, report_data, report_text};
 
-use crate::names::{clock_of, clock_text, site_name, type_of, variable_name};
+use crate::names::{clock_of, clock_text, site_name, type_of};
 use lubase::Name;
 use luplace::{Link, Plan};
 use serde_json::{Map, Value, put};
@@ -77,7 +77,7 @@ fn flow_value(alloc: Global, plan: &Plan, variable: usize) -> Result<Value, Allo
     let clock = clock_text(alloc, flat, clock_of(flat, variable))?;
     let mut members = Map::new(alloc);
     put(&mut members, alloc, "clock", Value::String(clock))?;
-    put_text(&mut members, alloc, "name", variable_name(flat, variable))?;
+    put_text(&mut members, alloc, "name", flat.variable_name(variable))?;
     let site = site_value(alloc, plan.sites(), sites_at(plan, variable))?;
     put(&mut members, alloc, "site", site)?;
     put_text(&mut members, alloc, "type", type_of(flat, variable))?;
@@ -103,7 +103,7 @@ fn link_value(alloc: Global, plan: &Plan, link: Link) -> Result<Value, AllocErro
     let clock = clock_text(alloc, flat, clock_of(flat, link.flow))?;
     let mut members = Map::new(alloc);
     put(&mut members, alloc, "clock", Value::String(clock))?;
-    put_text(&mut members, alloc, "flow", variable_name(flat, link.flow))?;
+    put_text(&mut members, alloc, "flow", flat.variable_name(link.flow))?;
     put_text(
         &mut members,
         alloc,

@@ -9,16 +9,6 @@ use luflow::{Clock, Datum, Enum, Flat, name_of};
 use lutree::Kind;
 use std::alloc::{AllocError, Global};
 
-/// The name of a main variable.
-pub fn variable_name(flat: &Flat, variable: usize) -> &str
-    ensures { result.now ≡ variable_name flat.now variable }
-{
-    match flat.variables().get(variable) {
-        Some(found) => found.name.as_str(),
-        None => "",
-    }
-}
-
 /// The main variable in whose equation the flow of a place stands.
 pub fn owner_of(flat: &Flat, place: usize) -> usize
     ensures { result ≡ slice_index flat.now.owners place }
@@ -33,7 +23,7 @@ pub fn owner_of(flat: &Flat, place: usize) -> usize
 pub fn owner_name(flat: &Flat, place: usize) -> &str
     ensures { result.now ≡ variable_name flat.now (slice_index flat.now.owners place) }
 {
-    variable_name(flat, owner_of(flat, place))
+    flat.variable_name(owner_of(flat, place))
 }
 
 /// The name of a site.
@@ -88,14 +78,14 @@ pub fn put_clock(text: &mut String, flat: &Flat, clock: Clock) -> Result<(), All
         Clock::Base => Ok(()),
         Clock::On(variable, Datum::Bool(false)) => {
             text.push_str("not ")?;
-            text.push_str(variable_name(flat, variable))
+            text.push_str(flat.variable_name(variable))
         }
         Clock::On(variable, Datum::Name(number)) => {
             let name = name_of(flat.variable_names(variable), number);
-            let on = variable_name(flat, variable);
+            let on = flat.variable_name(variable);
             write!(text, "{name}({on})")
         }
-        Clock::On(variable, _) => text.push_str(variable_name(flat, variable)),
+        Clock::On(variable, _) => text.push_str(flat.variable_name(variable)),
     }
 }
 

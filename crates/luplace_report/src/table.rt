@@ -1,12 +1,11 @@
 //! The report as tables for a terminal.
 
-ghost use Rattle.std.specs.Prelude.{◌≡◌, IfOk, count_by, slice_get, length, string_bytes};
-ghost use Rattle.luworld.specs.Needs.{sites_of};
+ghost use Rattle.std.specs.Prelude.{◌≡◌, IfOk, slice_get, string_bytes};
 ghost use Rattle.luplace_report.specs.Names.{Adds};
 ghost use Rattle.luplace_report.specs.Table.{flow_count, received_count, sent_count, item_count, site_row, site_rows, clock_cell, link_row, row_of, link_rows, reason, cause_row, cause_rows, rest_text, table_text, IsTableOf};
 
 use crate::cause::{Cause, cause_of};
-use crate::names::{clock_of, owner_name, put_clock, site_name, variable_name};
+use crate::names::{clock_of, owner_name, put_clock, site_name};
 use crate::way::put_way;
 use luflow::{Clock, Flat};
 use luplace::{Link, Plan};
@@ -58,7 +57,7 @@ fn put_site(text: &mut String, plan: &Plan, site: u8) -> Result<(), AllocError>
 fn put_sites(text: &mut String, plan: &Plan) -> Result<(), AllocError>
     ensures { Adds result text.old text.new (site_rows plan.now) }
 {
-    let _flat = plan.flat();
+    plan.recall_invariant();
     let count = plan.sites().len() as u8;
     for site in 0..count {
         put_site(text, plan, site)?;
@@ -81,7 +80,7 @@ fn put_link(text: &mut String, plan: &Plan, number: usize, link: Link) -> Result
     ensures { Adds result text.old text.new (link_row plan.now number link) }
 {
     let flat = plan.flat();
-    let flow = variable_name(flat, link.flow);
+    let flow = flat.variable_name(link.flow);
     let from = site_name(plan.sites(), link.from);
     let to = site_name(plan.sites(), link.to);
     write!(text, "{number}\t{flow}\t{from}\t{to}\t")?;
@@ -124,7 +123,7 @@ fn put_reason(
             write!(text, " since {reader} at {there} reads it")
         }
         Some(Cause::Clock(place)) => {
-            let clocked = variable_name(plan.flat(), place);
+            let clocked = plan.flat().variable_name(place);
             write!(text, " since the clock of {clocked} needs it")
         }
         None => Ok(()),
@@ -135,7 +134,7 @@ fn put_reason(
 fn put_cause(text: &mut String, plan: &Plan, number: usize, link: Link) -> Result<(), AllocError>
     ensures { Adds result text.old text.new (cause_row plan.now number link) }
 {
-    let flow = variable_name(plan.flat(), link.flow);
+    let flow = plan.flat().variable_name(link.flow);
     let from = site_name(plan.sites(), link.from);
     let to = site_name(plan.sites(), link.to);
     write!(text, "{number}\t{flow} crosses {from} -> {to}")?;

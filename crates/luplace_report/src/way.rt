@@ -1,10 +1,9 @@
 //! How the way of a plan is told.
 
-ghost use Rattle.std.specs.Prelude.{◌≡◌, string_bytes};
+ghost use Rattle.std.specs.Prelude.{◌≡◌};
 ghost use Rattle.luplace_report.specs.Names.{Adds};
 ghost use Rattle.luplace_report.specs.Way.{further_names, variable_list, sent_text, parted_text, nil_text, way_text, way_row};
 
-use crate::names::variable_name;
 use luflow::Flat;
 use luways::Way;
 use std::alloc::AllocError;
@@ -14,7 +13,7 @@ fn put_further(text: &mut String, flat: &Flat, variables: &[usize]) -> Result<()
     ensures { Adds result text.old text.new (further_names flat.now variables.now) }
 {
     for variable in variables {
-        let name = variable_name(flat, *variable);
+        let name = flat.variable_name(*variable);
         write!(text, ", {name}")?;
     }
     Ok(())
@@ -27,7 +26,7 @@ fn put_list(text: &mut String, flat: &Flat, variables: &[usize]) -> Result<(), A
     match variables {
         [] => Ok(()),
         [first, rest @ ..] => {
-            text.push_str(variable_name(flat, *first))?;
+            text.push_str(flat.variable_name(*first))?;
             put_further(text, flat, rest)
         }
     }

@@ -11,7 +11,7 @@ ghost use Rattle.lurun_rows.specs.Rows.{AreToldOf};
 ghost use Rattle.lurun_rows.specs.Collecting.{AreColumnsOf, HasReport, IsColumnOf, IsPlaceOf, heading_if, heading_view, headings_of};
 
 use lublock_site::report::RowReport;
-use luflow::{Flat, Outputs, Role, Status, Variable};
+use luflow::{Flat, Outputs, Status, Variable};
 use std::alloc::{AllocError, Global};
 
 /// Whether one of the reports is of the site.
@@ -45,16 +45,6 @@ pub struct Heading {
     pub name: String,
 }
 
-fn is_output(variable: &Variable) -> bool
-    ensures { result ≡ is_output variable.now.role }
-{
-    match variable.role {
-        Role::Input => false,
-        Role::Output => true,
-        Role::Local => false,
-    }
-}
-
 /// Adds the heading of a variable, if it is an output.
 fn add_heading(
     alloc: Global,
@@ -65,7 +55,7 @@ fn add_heading(
     ensures { OnOk result (map heading_view headings.new.items
         ≡ map heading_view headings.old.items ++ heading_if number variable.now) }
 {
-    if is_output(variable) {
+    if variable.role.is_output() {
         let name = String::from_str(alloc, variable.name.as_str())?;
         headings.push(Heading {
             variable: number,

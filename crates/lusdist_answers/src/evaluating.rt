@@ -93,7 +93,7 @@ fn columns_before(
     ensures { IfOk result (AreEvaluated flat.now inputs.now (shown_of all flat.now.variables)
         instant) }
 {
-    let _flows = flat.flows();
+    flat.recall_invariant();
     let before = cut(alloc, inputs, instant)?;
     match columns_of(alloc, flat, &before, all) {
         Ok(columns) => Ok(columns),
@@ -244,7 +244,7 @@ fn faulted<F: Files>(
     ensures stopped { IsStopped request.entry flat.now inputs.now result }
     ensures before { IsShownTo (F.takes files.now) request.entry flat.now inputs.now result }
 {
-    let _flows = flat.flows();
+    flat.recall_invariant();
     let (variable, instant, kind) = fault;
     match file_before(alloc, request, files, flat, inputs, instant) {
         Ok(()) => fault_stop(alloc, flat, variable, instant, kind),

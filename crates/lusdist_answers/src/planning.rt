@@ -28,7 +28,7 @@ pub fn planned<F: Files>(
     let flat = flat_at(alloc, files, program, main)?;
     let place_bytes = read(alloc, files, place)?;
     let plan = plan_of(alloc, flat, &place_bytes)?;
-    let _flat = plan.flat();
+    plan.recall_invariant();
     Ok(plan)
 }
 

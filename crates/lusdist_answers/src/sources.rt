@@ -107,7 +107,7 @@ pub fn inputs_in(alloc: Global, flat: &Flat, bytes: &[u8]) -> Result<Inputs, Sto
     ensures refused { IfErr result (IsTableRefused flat.now.types (inputs_of flat.now.variables)
         bytes.now) }
 {
-    let _flows = flat.flows();
+    flat.recall_invariant();
     let Some(text) = text_of(bytes) else {
         return Err(Stop::Table(TabError::BadHeader));
     };
@@ -146,7 +146,7 @@ pub fn job_of(alloc: Global, plan: Plan, bytes: &[u8]) -> Result<Job, Stop>
 {
     let inputs = inputs_in(alloc, plan.flat(), bytes)?;
     let job = Job::new(plan, inputs);
-    let _plan = job.plan();
+    job.recall_invariant();
     Ok(job)
 }
 

@@ -1,6 +1,6 @@
 //! From a plan to a site's program.
 
-ghost use Rattle.std.specs.Prelude.{◌≡◌, ◌≢◌, ℕ, ◌+◌, ◌<◌, ◌^◌, ◌&&◌, nat_eq, cond, List, [], ◌∷◌, ◌++◌, filter, map, length, IfOk, OnOk, Option, slice_get, slice_index, slice_set, true};
+ghost use Rattle.std.specs.Prelude.{◌≡◌, ◌≢◌, ℕ, ◌+◌, ◌<◌, ◌^◌, ◌&&◌, cond, List, [], ◌∷◌, ◌++◌, filter, map, length, IfOk, OnOk, Option, slice_get, slice_index, slice_set, true};
 ghost use Rattle.std.specs.List.{range_with_len};
 ghost use Rattle.std.specs.Option.{ForSome};
 ghost use Rattle.luworld.specs.Needs.{IsPlan, sites_of, home, stands};
@@ -13,9 +13,9 @@ ghost use Rattle.lueval_lines.specs.Operations.{IsLonger};
 
 use crate::carriers::{Carriers, carriers_of, take_row};
 use crate::program::{LinkNo, Part, Post, SiteProgram};
-use lubase::{Name, Row};
+use lubase::{Name, Row, number_at};
 use lueval_lines::{line_of, moved_branches, moved_line};
-use luflow::{Flat, Role, Variable};
+use luflow::{Flat, Variable};
 use luplace::Plan;
 use std::alloc::{AllocError, Global};
 use std::snapshot::Snapshot;
@@ -30,22 +30,12 @@ fn push_if(found: &mut Vec<usize>, wanted: bool, number: usize) -> Result<(), Al
     Ok(())
 }
 
-fn is_output(role: Role) -> bool
-    ensures { result ≡ is_output role }
-{
-    match role {
-        Role::Input => false,
-        Role::Output => true,
-        Role::Local => false,
-    }
-}
-
 /// Whether a place is that of an output.
 fn is_told(variables: &[Variable], place: usize) -> bool
     ensures { result ≡ role_at variables.now place }
 {
     match variables.get(place) {
-        Some(variable) => is_output(variable.role),
+        Some(variable) => variable.role.is_output(),
         None => false,
     }
 }
@@ -81,15 +71,6 @@ fn names_of(alloc: Global, flat: &Flat, places: &[usize]) -> Result<Vec<Name>, A
         names.push(name_of(alloc, flat, *place)?)?;
     }
     Ok(names)
-}
-
-fn number_at(numbers: &[usize], place: usize) -> usize
-    ensures { result ≡ slice_index numbers.now place }
-{
-    match numbers.get(place) {
-        Some(number) => *number,
-        None => 0,
-    }
 }
 
 fn first_of(sites: &[u8]) -> u8

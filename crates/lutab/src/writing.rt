@@ -3,14 +3,14 @@
 ghost use Rattle.std.specs.Prelude.{◌≡◌, ◌<◌, ◌≤◌, ◌-◌, ◌++◌, All, IfOk, OnOk, length, map, string_bytes, vec_len};
 ghost use Rattle.luflow.specs.Tables.{outputs_view};
 ghost use Rattle.luflow.specs.Types.{names_of};
-ghost use Rattle.luflow.specs.Variables.{is_output, outputs_of};
+ghost use Rattle.luflow.specs.Variables.{is_output};
 ghost use Rattle.lutab.specs.Text.{comma_before, datum_text, status_text, line_text};
 ghost use Rattle.lutab.specs.Outputs.{names_in, output_kinds, kinds_of, shown_of, statuses_at, names_text, lines_text, column_text, output_text};
 ghost use Rattle.lutab.specs.Buffers.{cells_view, stretch_of};
 
 use itoa::Buffer;
 use lubase::Name;
-use luflow::{Datum, Enum, Flat, Outputs, Role, Status, Variable, name_of, names_of};
+use luflow::{Datum, Enum, Flat, Outputs, Status, Variable, name_of, names_of};
 use lutree::Kind;
 use std::alloc::{AllocError, Global};
 
@@ -185,22 +185,13 @@ fn write_lines(
     Ok(out)
 }
 
-fn is_output(role: Role) -> bool
-    ensures { result ≡ is_output role }
-{
-    match role {
-        Role::Output => true,
-        Role::Input | Role::Local => false,
-    }
-}
-
 /// The types of the outputs among these variables, in order.
 fn output_kinds(alloc: Global, variables: &[Variable]) -> Result<Vec<Kind>, AllocError>
     ensures { IfOk result (λ v. v.items ≡ output_kinds variables.now) }
 {
     variables
         .iter()
-        .filter(|x| is_output(x.role))
+        .filter(|x| x.role.is_output())
         .map(|x| x.kind)
         .collect(alloc)
 }

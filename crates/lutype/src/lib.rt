@@ -79,4 +79,4 @@ pub use order::{CallOrder, call_order};
 pub use parts::merges_are_whole;
 pub use search::least_fault;
 pub use typed::Typed;
-pub use typing::is_well_typed;
+pub use typing::{is_well_typed, only_kind};

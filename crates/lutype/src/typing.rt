@@ -13,7 +13,7 @@ use lustat_rules::{Catalog, Scope};
 use lutree::{Declaration, Equation, Expr, Infix, Kind, Prefix};
 
 /// The type of a node's one output.
-fn only_kind(outputs: &[Declaration]) -> Option<Kind>
+pub fn only_kind(outputs: &[Declaration]) -> Option<Kind>
     ensures { result ≡ only (Some (map (λ d. d.kind) (declarations_view outputs.now))) }
 {
     match outputs {

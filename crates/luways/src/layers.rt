@@ -1,23 +1,15 @@
 //! The graph that tells parted cycles.
 
-ghost use Rattle.std.specs.Prelude.{◌≡◌, ◌<◌, ◌≤◌, ◌+◌, ◌++◌, All, IfOk, OnOk, map, slice_index};
+ghost use Rattle.std.specs.Prelude.{◌≡◌, ◌<◌, ◌≤◌, ◌+◌, ◌++◌, All, IfOk, OnOk, map};
 ghost use Rattle.lulimits.specs.Limits.{most_flows};
 ghost use Rattle.luflow.specs.Program.{flows_of};
 ghost use Rattle.luworld.specs.Needs.{flow_sites};
 ghost use Rattle.luways.specs.Layers.{same_sites, away, first_row, second_row, third_row, HasMore, AreLayers};
 
 use crate::named::named_of;
+use lubase::number_at;
 use luplace::Plan;
 use std::alloc::{AllocError, Global};
-
-fn number_at(numbers: &[usize], place: usize) -> usize
-    ensures { result ≡ slice_index numbers.now place }
-{
-    match numbers.get(place) {
-        Some(number) => *number,
-        None => 0,
-    }
-}
 
 /// The sites of a flow.
 fn sites_at(plan: &Plan, i: usize) -> &[u8]

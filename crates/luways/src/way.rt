@@ -1,8 +1,6 @@
 //! The way of a run.
 
-ghost use Rattle.std.specs.Prelude.{◌≡◌, ◌<◌, ◌+◌, ◌^◌, ◌⊎◌, ℕ, true, false, length, slice_set, slice_index_or, Contains, IfOk};
-ghost use Rattle.std.specs.List.{filter, range_with_len};
-ghost use Rattle.luways.specs.Nils.{AreLeast};
+ghost use Rattle.std.specs.Prelude.{◌≡◌, ◌<◌, ◌+◌, ◌^◌, ◌⊎◌, ℕ, false, length, slice_index_or, Contains, IfOk};
 ghost use Rattle.luways.specs.Sent.{marked, AreSentNils};
 ghost use Rattle.luways.specs.Ways.{IsSent, IsInitialised, IsPartedVariable, IsSentNil, AreAll, IsWayOf};
 
@@ -108,7 +106,7 @@ fn nils_of(alloc: Global, plan: &Plan) -> Result<Vec<usize>, AllocError>
 pub fn way_of(alloc: Global, plan: &Plan) -> Result<Way, AllocError>
     ensures { IfOk result (IsWayOf plan.now) }
 {
-    let _flat = plan.flat();
+    plan.recall_invariant();
     let parted = parted_of(alloc, plan)?;
     if !parted.is_empty() {
         return Ok(Way::Parted(Row::new(parted)));

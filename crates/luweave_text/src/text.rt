@@ -4,10 +4,10 @@ ghost use Rattle.std.specs.Prelude.{◌≡◌, ◌++◌, ℕ, List, IfOk, length
 ghost use Rattle.luweave_text.specs.WorldText.{datum_text, body_text, status_text, site_name, messages_text, carried_line, link_line, links_text, standing_text, site_line, AreSiteLines, output_line, statuses_text, AreOutputLines, IsWorldText, Adds};
 ghost use Rattle.luworld.specs.Needs.{sites_of};
 ghost use Rattle.luflow.specs.Types.{variable_names};
-ghost use Rattle.luflow.specs.Variables.{is_output_of, variable_name};
+ghost use Rattle.luflow.specs.Variables.{variable_name};
 
 use lubase::Name;
-use luflow::{Body, Datum, Flat, Msg, Role, Status, name_of};
+use luflow::{Body, Datum, Flat, Msg, Status, name_of};
 use luplace::{Link, Plan};
 use lusite::{Fault, Standing};
 use luweave::World;
@@ -45,16 +45,6 @@ fn put_status(text: &mut String, names: &[Name], status: Status) -> Result<(), A
     }
 }
 
-/// The name of a main variable.
-pub(crate) fn variable_name(flat: &Flat, variable: usize) -> &str
-    ensures { result.now ≡ variable_name flat.now variable }
-{
-    match flat.variables().get(variable) {
-        Some(found) => found.name.as_str(),
-        None => "",
-    }
-}
-
 /// The name of a site.
 pub(crate) fn site_name(names: &[Name], site: u8) -> &str
     ensures { result.now ≡ site_name names.now site }
@@ -75,7 +65,7 @@ fn put_link(
 ) -> Result<(), AllocError>
     ensures { Adds result text.old text.new (link_line plan.now link.now taken.now queued) }
 {
-    let flow = variable_name(plan.flat(), link.flow);
+    let flow = plan.flat().variable_name(link.flow);
     let names = plan.flat().variable_names(link.flow);
     let from = site_name(plan.sites(), link.from);
     let to = site_name(plan.sites(), link.to);
@@ -136,7 +126,7 @@ fn put_standing(text: &mut String, flat: &Flat, standing: Standing) -> Result<()
 fn put_fault(text: &mut String, flat: &Flat, fault: Fault) -> Result<(), AllocError>
     ensures { Adds result text.old text.new (standing_text flat.now (Standing.Faulted fault)) }
 {
-    let variable = variable_name(flat, fault.variable);
+    let variable = flat.variable_name(fault.variable);
     let instant = fault.instant;
     let kind = fault.kind.name();
     write!(text, "faulted {variable} {instant} {kind}")
@@ -159,7 +149,7 @@ fn put_sites(text: &mut String, plan: &Plan, world: &World) -> Result<(), AllocE
     ensures { IfOk result (λ _. (lines : List ℕ) × AreSiteLines world.now (sites_of plan.now) lines
         × (string_bytes text.new ≡ string_bytes text.old ++ lines)) }
 {
-    let _flat = plan.flat();
+    plan.recall_invariant();
     let count = plan.sites().len() as u8;
     for site in 0..count {
         put_site(text, plan, site, world.site(site).standing())?;
@@ -191,16 +181,6 @@ fn put_statuses(text: &mut String, names: &[Name], statuses: &[Status]) -> Resul
     Ok(())
 }
 
-/// Whether a main variable is an output.
-pub(crate) fn is_output(flat: &Flat, variable: usize) -> bool
-    ensures { result ≡ is_output_of flat.now variable }
-{
-    match flat.variables().get(variable) {
-        Some(found) => found.role == Role::Output,
-        None => false,
-    }
-}
-
 /// The lines of the outputs.
 fn put_outputs(text: &mut String, plan: &Plan, world: &World) -> Result<(), AllocError>
     requires { world.now.job.plan ≡ plan.now }
@@ -211,8 +191,8 @@ fn put_outputs(text: &mut String, plan: &Plan, world: &World) -> Result<(), Allo
     let flat = plan.flat();
     let mut k = 0;
     for variable in 0..flat.variables().len() {
-        if is_output(flat, variable) {
-            let name = variable_name(flat, variable);
+        if flat.is_output(variable) {
+            let name = flat.variable_name(variable);
             put_output(text, name, flat.variable_names(variable), world.outputs(k))?;
             k += 1;
         }

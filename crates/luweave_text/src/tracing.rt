@@ -1,6 +1,6 @@
 //! What the turns of a replay did, told line by line.
 
-ghost use Rattle.std.specs.Prelude.{◌≡◌, ◌++◌, ◌≤◌, ◌+◌, ℕ, List, Some, true, IfOk, is_some, length, slice_get, string_bytes};
+ghost use Rattle.std.specs.Prelude.{◌≡◌, ◌++◌, ◌≤◌, ◌+◌, ℕ, Some, true, IfOk, is_some, length, slice_get, string_bytes};
 ghost use Rattle.std.specs.Option.{ForSome};
 ghost use Rattle.luflow.specs.Types.{variable_names};
 ghost use Rattle.luflow.specs.Variables.{variable_name};
@@ -15,7 +15,7 @@ ghost use Rattle.luweave_text.specs.Traced.{item_line, next_line, one_more, open
 
 use crate::charting::{put_chart_line, put_heading};
 use crate::form::TraceForm;
-use crate::text::{put_message, site_name, variable_name};
+use crate::text::{put_message, site_name};
 use lubase::Name;
 use luflow::Msg;
 use luplace::Plan;
@@ -49,7 +49,7 @@ fn flow_of(plan: &Plan, link: LinkNo) -> usize
 fn flow_name(plan: &Plan, link: LinkNo) -> &str
     ensures { result.now ≡ variable_name plan.now.flat (carried plan.now link) }
 {
-    variable_name(plan.flat(), flow_of(plan, link))
+    plan.flat().variable_name(flow_of(plan, link))
 }
 
 /// The names of the type of the flow that a link carries.

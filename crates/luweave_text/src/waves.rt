@@ -1,6 +1,6 @@
 //! A value change dump of outputs, in which the sites are scopes.
 
-ghost use Rattle.std.specs.Prelude.{◌≡◌, ◌∷◌, ◌++◌, IfOk, OnOk, cond, if◌then◌else◌, [], slice_index, string_bytes};
+ghost use Rattle.std.specs.Prelude.{if◌then◌else◌, ◌≡◌, ◌∷◌, ◌++◌, IfOk, OnOk, cond, [], string_bytes};
 ghost use Rattle.luworld.specs.Needs.{stands};
 ghost use Rattle.luworld.specs.Runs.{outputs_of};
 ghost use Rattle.luchart.specs.Pieces.{Adds};
@@ -8,7 +8,8 @@ ghost use Rattle.luchart.specs.Signals.{signal_view, signals_view};
 ghost use Rattle.luchart.specs.Dump.{declaration};
 ghost use Rattle.luweave_text.specs.Waves.{scope, scope_end, scope_opening, scopes, site_dump, site_flows, site_header, variable_kind, variable_signal, AreOutputSignals};
 
-use crate::text::{is_output, site_name, variable_name};
+use crate::text::site_name;
+use lubase::number_at;
 use luchart::signal::{Signal, longest};
 use luchart::waves::{put_closing, put_declaration, put_opening, put_times};
 use luflow::{Flat, Status};
@@ -35,19 +36,9 @@ fn output_numbers(alloc: Global, plan: &Plan) -> Result<Vec<usize>, AllocError>
     let flat = plan.flat();
     let mut numbers = Vec::new(alloc);
     for v in 0..flat.variables().len() {
-        push_if(&mut numbers, is_output(flat, v), v)?;
+        push_if(&mut numbers, flat.is_output(v), v)?;
     }
     Ok(numbers)
-}
-
-/// The number at this place; 0 past the end.
-fn number_at(numbers: &[usize], place: usize) -> usize
-    ensures { result ≡ slice_index numbers.now place }
-{
-    match numbers.get(place) {
-        Some(number) => *number,
-        None => 0,
-    }
 }
 
 /// Adds the declaration of flow k, where the site computes the variable of this number.
@@ -126,7 +117,7 @@ fn put_scopes(
     requires { numbers.now ≡ outputs_of plan.now }
     ensures { Adds result text.old text.new (scopes plan.now (signals_view signals.now)) }
 {
-    let _flat = plan.flat();
+    plan.recall_invariant();
     let count = plan.sites().len() as u8;
     for site in 0..count {
         put_scope(text, plan, numbers, signals, site)?;
@@ -189,7 +180,7 @@ fn variable_signal<'a>(flat: &'a Flat, variable: usize, statuses: &'a [Status]) 
     ensures { signal_view result ≡ variable_signal flat.now variable statuses.now }
 {
     Signal {
-        name: variable_name(flat, variable),
+        name: flat.variable_name(variable),
         kind: variable_kind(flat, variable),
         names: flat.variable_names(variable),
         statuses,

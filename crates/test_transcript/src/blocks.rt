@@ -120,7 +120,7 @@ fn both_senders(alloc: Global, job: &Job, first: Tx, second: Tx) -> Result<Vec<T
     ensures { IfOk result (λ txs. (k : ℕ) (t : SenderView) → slice_get txs.items k ≡ Some t
         → IsUnusedSender job.now t) }
 {
-    let _plan = job.plan();
+    job.recall_invariant();
     let mut txs = Vec::with_capacity(alloc, 2)?;
     txs.push_reserved(first);
     txs.push_reserved(second);
@@ -134,7 +134,7 @@ fn both_receivers(alloc: Global, job: &Job, first: Rx, second: Rx) -> Result<Vec
     ensures { IfOk result (λ rxs. (k : ℕ) (t : ReceiverView) → slice_get rxs.items k ≡ Some t
         → IsUnusedReceiver job.now t) }
 {
-    let _plan = job.plan();
+    job.recall_invariant();
     let mut rxs = Vec::with_capacity(alloc, 2)?;
     rxs.push_reserved(first);
     rxs.push_reserved(second);

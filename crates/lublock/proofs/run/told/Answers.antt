@@ -12,7 +12,7 @@ unreachable-requires c =
     let inputs = c.args.inputs.now in
     let columns = c.args.columns.items in
     let is = c.in_ok-outputs.ensures ∙ ap (λ (xs : List Variable). outputs_in xs (lists_of columns)) c.variables.ensures in
-    let clash = c.in-None.ensures.when.1 (subst AreOutputs (sym is) (told_sound flat inputs columns c.flows-flows.ensures.flat c.requires.fit c.requires.run c.requires.whole c.requires.some)) in
+    let clash = c.in-None.ensures.when.1 (subst AreOutputs (sym is) (told_sound flat inputs columns c.recall_invariant.ensures c.requires.fit c.requires.run c.requires.whole c.requires.some)) in
     cc
 
 pub returns-clause-outputs : goal.returns-clause-outputs
@@ -21,4 +21,4 @@ returns-clause-outputs c =
     let inputs = c.args.inputs.now in
     let columns = c.args.columns.items in
     let is = c.in_ok-outputs.ensures ∙ ap (λ (xs : List Variable). outputs_in xs (lists_of columns)) c.variables.ensures in
-    told_outputs flat inputs columns c.flows-flows.ensures.flat c.requires.fit c.requires.run c.requires.whole c.in-Some.outputs (c.in-Some.ensures.outputs ∙ is)
+    told_outputs flat inputs columns c.recall_invariant.ensures c.requires.fit c.requires.run c.requires.whole c.in-Some.outputs (c.in-Some.ensures.outputs ∙ is)

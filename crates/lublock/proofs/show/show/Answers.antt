@@ -22,6 +22,6 @@ returns-clause-near c = λ e. record {
       (subst (λ (row : List ℤ). IsShown flat c.as_slice-taken.result.now first flow.kind row flow.clock c.args.t c.args.len c.index_mut.result.now.items new) words
       (subst (λ (old : Column). IsShown flat c.as_slice-taken.result.now first flow.kind c.in-Some-row_at.row.now flow.clock c.args.t c.args.len old.items new) c.replace-column.ensures.value
       (subst (λ (k : ℕ). IsShown flat c.as_slice-taken.result.now k flow.kind c.in-Some-row_at.row.now flow.clock c.args.t c.args.len c.replace-column.result.items new) c.first_of-first.ensures.first (c.in_ok-push_block.ensures c.if-branch.false)))) in
-      shown_more flat inputs σ c.args.t c.args.len c.args.board.now c.args.v c.flows-flows.ensures.flat fit sol within (right c.args.v refl)
+      shown_more flat inputs σ c.args.t c.args.len c.args.board.now c.args.v c.recall_invariant.ensures fit sol within (right c.args.v refl)
       columns flow c.index_mut.result.now c.replace-column.new.dest c.push_block.new.column inside (got columns c.args.v c.index_mut.result.now inside c.index_mut.ensures.value) (search rules) c.in-Some.ensures near shown;
 }

@@ -13,7 +13,7 @@ loop-k-preserved c =
     record {
       less = less_more c.args.columns.items c.loop-k.columns.items c.take_out-column.new.columns.items c.loop-k.invariant.less c.take_out-column.ensures.less;
       told = subst (AreToldOf c.args.flat.now c.args.columns.items c.args.instants) (search rules)
-          (told_more c.args.flat.now c.args.columns.items c.loop-k.columns.items c.args.instants c.loop-k.outputs.items _ out.0 c.take_out-column.result c.flows-flows.ensures.flat c.loop-k.invariant.less out.1 out.2 c.take_out-column.ensures.there (search rules) c.loop-k.invariant.told);
+          (told_more c.args.flat.now c.args.columns.items c.loop-k.columns.items c.args.instants c.loop-k.outputs.items _ out.0 c.take_out-column.result c.recall_invariant.ensures c.loop-k.invariant.less out.1 out.2 c.take_out-column.ensures.there (search rules) c.loop-k.invariant.told);
     }
 
 pub returns : goal.returns

@@ -8,22 +8,22 @@ use Rattle.lueval.proofs.Listing.{whole_outputs, sound_outputs}
 use Rattle.lueval.proofs.evaluator.whole_outputs.Goals as goal
 
 pub returns-in_err-notes-clause-only : goal.returns-in_err-notes-clause-only
-returns-in_err-notes-clause-only c = one_solution c.args.flat.now c.args.inputs.now c.flows-flows.ensures.flat
+returns-in_err-notes-clause-only c = one_solution c.args.flat.now c.args.inputs.now c.recall_invariant.ensures
 
 pub returns-in_err-notes-clause-tidy : goal.returns-in_err-notes-clause-tidy
-returns-in_err-notes-clause-tidy c = all_types c.args.flat.now c.args.inputs.now c.flows-flows.ensures.flat c.requires.fit
+returns-in_err-notes-clause-tidy c = all_types c.args.flat.now c.args.inputs.now c.recall_invariant.ensures c.requires.fit
 
 pub returns-in_err-outputs-clause-only : goal.returns-in_err-outputs-clause-only
-returns-in_err-outputs-clause-only c = one_solution c.args.flat.now c.args.inputs.now c.flows-flows.ensures.flat
+returns-in_err-outputs-clause-only c = one_solution c.args.flat.now c.args.inputs.now c.recall_invariant.ensures
 
 pub returns-in_err-outputs-clause-tidy : goal.returns-in_err-outputs-clause-tidy
-returns-in_err-outputs-clause-tidy c = all_types c.args.flat.now c.args.inputs.now c.flows-flows.ensures.flat c.requires.fit
+returns-in_err-outputs-clause-tidy c = all_types c.args.flat.now c.args.inputs.now c.recall_invariant.ensures c.requires.fit
 
 pub returns-clause-only : goal.returns-clause-only
-returns-clause-only c = one_solution c.args.flat.now c.args.inputs.now c.flows-flows.ensures.flat
+returns-clause-only c = one_solution c.args.flat.now c.args.inputs.now c.recall_invariant.ensures
 
 pub returns-clause-tidy : goal.returns-clause-tidy
-returns-clause-tidy c = all_types c.args.flat.now c.args.inputs.now c.flows-flows.ensures.flat c.requires.fit
+returns-clause-tidy c = all_types c.args.flat.now c.args.inputs.now c.recall_invariant.ensures c.requires.fit
 
 pub unreachable-requires : goal.unreachable-requires
 unreachable-requires c =
@@ -31,7 +31,7 @@ unreachable-requires c =
     let inputs = c.args.inputs.now in
     let notes = c.in_ok-notes.notes in
     let is = c.in_ok-outputs.ensures ∙ ap (λ (xs : List Variable). outputs_in xs (lists_of notes.columns.items)) c.variables.ensures in
-    let clash = c.in-None.ensures.when.1 (subst AreOutputs (sym is) (sound_outputs flat inputs notes c.flows-flows.ensures.flat c.in_ok-notes.ensures.notes c.requires.some)) in
+    let clash = c.in-None.ensures.when.1 (subst AreOutputs (sym is) (sound_outputs flat inputs notes c.recall_invariant.ensures c.in_ok-notes.ensures.notes c.requires.some)) in
     cc
 
 pub returns-clause-outputs : goal.returns-clause-outputs
@@ -40,4 +40,4 @@ returns-clause-outputs c =
     let inputs = c.args.inputs.now in
     let notes = c.in_ok-notes.notes in
     let is = c.in_ok-outputs.ensures ∙ ap (λ (xs : List Variable). outputs_in xs (lists_of notes.columns.items)) c.variables.ensures in
-    whole_outputs flat inputs notes c.flows-flows.ensures.flat c.in_ok-notes.ensures.notes c.in-Some.outputs (c.in-Some.ensures.outputs ∙ is)
+    whole_outputs flat inputs notes c.recall_invariant.ensures c.in_ok-notes.ensures.notes c.in-Some.outputs (c.in-Some.ensures.outputs ∙ is)

@@ -15,7 +15,7 @@ vacant-requires c =
     let room = c.from-room.ensures in
     let some_room = c.requires in (
       (omega arith),
-      subst (λ (j : Run). length (list_of j c.args.link) < 2 ^ 62) (sym c.of.ensures) (small_list c.args.job.now c.args.link c.plan-plan.ensures.run),
+      subst (λ (j : Run). length (list_of j c.args.link) < 2 ^ 62) (sym c.of.ensures) (small_list c.args.job.now c.args.link c.recall_invariant.ensures),
       inl record { words = refl; homes = refl; views = refl },
     )
 
@@ -41,7 +41,7 @@ invariant_of-tx c =
             slots = ap (λ x. x.shared.table_id.slots) b ∙ e.1;
             room = omega arith;
             below = omega arith;
-            small = subst (λ (j : Run). length (list_of j c.args.link) < 2 ^ 62) (sym c.of.ensures) (small_list c.args.job.now c.args.link c.plan-plan.ensures.run);
+            small = subst (λ (j : Run). length (list_of j c.args.link) < 2 ^ 62) (sym c.of.ensures) (small_list c.args.job.now c.args.link c.recall_invariant.ensures);
           }
           (s.0 ∙ e.2 ∙ sym (ap (λ x. x.shared.table_id) b)) (s.2 ∙ ap (λ (m : Holding). (seated Producer m.0, m.1)) e.4) refl refl refl refl;
     }
@@ -63,7 +63,7 @@ invariant_of-rx c =
             slots = ap (λ x. x.shared.table_id.slots) b ∙ e.1;
             room = omega arith;
             below = omega arith;
-            small = subst (λ (j : Run). length (list_of j c.args.link) < 2 ^ 62) (sym c.of.ensures) (small_list c.args.job.now c.args.link c.plan-plan.ensures.run);
+            small = subst (λ (j : Run). length (list_of j c.args.link) < 2 ^ 62) (sym c.of.ensures) (small_list c.args.job.now c.args.link c.recall_invariant.ensures);
           }
           (s.3 ∙ e.2 ∙ sym (ap (λ x. x.shared.table_id) b)) (s.4 ∙ ap (λ (m : Holding). (seated Consumer m.0, [])) e.4) refl refl refl refl;
     }

@@ -22,7 +22,7 @@ unreachable-requires c =
     let inputs = c.args.inputs.now in
     let n = c.args.instant in
     let told : IsAnswer flat c.in_ok-before.before (Fault c.in-Err-Fault._variable c.in-Err-Fault._instant c.in-Err-Fault._kind) = subst (IsAnswer flat c.in_ok-before.before) c.in-Err-Fault.field-0-is c.in-Err-Fault.ensures.fault in
-    cut_fine flat inputs n c.in-Err-Fault._variable c.in-Err-Fault._instant c.in-Err-Fault._kind c.flows-flows.ensures.flat c.requires.early c.requires.no_fault
+    cut_fine flat inputs n c.in-Err-Fault._variable c.in-Err-Fault._instant c.in-Err-Fault._kind c.recall_invariant.ensures c.requires.early c.requires.no_fault
     (subst (λ (t : Table). IsAnswer flat t (Fault c.in-Err-Fault._variable c.in-Err-Fault._instant c.in-Err-Fault._kind)) c.in_ok-before.ensures told)
 
 pub returns-in-Ok : goal.returns-in-Ok
@@ -31,5 +31,5 @@ returns-in-Ok c =
     let inputs = c.args.inputs.now in
     let n = c.args.instant in
     let xs = shown_of c.args.all flat.variables in
-    are_before flat inputs xs n c.in-Ok.columns c.flows-flows.ensures.flat c.requires.early
+    are_before flat inputs xs n c.in-Ok.columns c.recall_invariant.ensures c.requires.early
     (subst (λ (t : Table). AreEvaluated flat t xs t.instants c.in-Ok.columns) c.in_ok-before.ensures c.in-Ok.ensures.columns)

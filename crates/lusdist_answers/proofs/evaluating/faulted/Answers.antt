@@ -8,7 +8,7 @@ pub file_before-requires-clause-early : goal.file_before-requires-clause-early
 file_before-requires-clause-early g c =
     let flat = c.args.flat.now in
     let inputs = c.args.inputs.now in
-    let first = c.requires.told (solution flat inputs) (IsSolution-solution flat inputs c.flows-flows.ensures.flat.ordered) in
+    let first = c.requires.told (solution flat inputs) (IsSolution-solution flat inputs c.recall_invariant.ensures.ordered) in
     let early = first.early in
     omega (arith, early)
 
@@ -19,7 +19,7 @@ pub fault_stop-requires : goal.fault_stop-requires
 fault_stop-requires g c =
     let flat = c.args.flat.now in
     let inputs = c.args.inputs.now in
-    (c.requires.told (solution flat inputs) (IsSolution-solution flat inputs c.flows-flows.ensures.flat.ordered)).inside
+    (c.requires.told (solution flat inputs) (IsSolution-solution flat inputs c.recall_invariant.ensures.ordered)).inside
 
 pub returns-in-Ok-clause-stopped : goal.returns-in-Ok-clause-stopped
 returns-in-Ok-clause-stopped g c = told_stop c.args.request c.args.flat.now c.args.inputs.now c.args.fault.0 c.args.fault.1 c.args.fault.2 c.requires.told c.fault_stop.result c.fault_stop.ensures

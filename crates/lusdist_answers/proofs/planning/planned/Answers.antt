@@ -15,7 +15,7 @@ returns-clause-plan g c =
       place_given = subst (λ (b : List ℕ). gives c.args.place.now (Some b)) (sym c.deref.ensures.value) c.in_ok-place_bytes.ensures.given;
       flat = subst (HasFlat at.program c.args.main.now) (sym c.in_ok-plan.ensures.flat) at.flat_is;
       plan_of = c.in_ok-plan.ensures.plan;
-      is_plan = c.flat-flat.ensures.plan;
+      is_plan = c.recall_invariant.ensures;
     }
 
 pub returns-in_err-flat-clause-stopped : goal.returns-in_err-flat-clause-stopped

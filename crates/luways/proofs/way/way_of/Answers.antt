@@ -13,7 +13,7 @@ returns-then-not-is_empty-2 c =
     let e = sym c.new-then-not-is_empty-2.ensures in (
       subst (λ (xs : List ℕ). 0 < length xs) e some,
       subst (AreAll (IsSentNil plan)) e c.in_ok-nils.ensures.all,
-      none_listed plan c.flat-flat.ensures.plan.flat_is (subst (AreAll (IsPartedVariable plan)) none c.in_ok-parted.ensures),
+      none_listed plan c.recall_invariant.ensures.flat_is (subst (AreAll (IsPartedVariable plan)) none c.in_ok-parted.ensures),
     )
 
 pub returns : goal.returns
@@ -23,5 +23,5 @@ returns c =
     let parted = c.in_ok-parted.parted in
     let none = none_from parted.items parted.len parted.ok.0 (sym c.is_empty.ensures ∙ c.if-not-is_empty.false) in
     let nils = none_from vs.items vs.len vs.ok.0 (sym c.is_empty-2.ensures ∙ c.if-not-is_empty-2.false) in
-    rows_from plan c.flat-flat.ensures.plan.flat_is (subst (AreAll (IsPartedVariable plan)) none c.in_ok-parted.ensures)
+    rows_from plan c.recall_invariant.ensures.flat_is (subst (AreAll (IsPartedVariable plan)) none c.in_ok-parted.ensures)
     (subst (λ (xs : List ℕ). (v : ℕ) → IsSent plan v → Contains xs v ⊎ IsInitialised plan.flat v) nils c.in_ok-nils.ensures.others)

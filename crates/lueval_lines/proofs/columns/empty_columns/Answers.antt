@@ -1,8 +1,8 @@
 use Rattle.std.proofs.Common.{arith, ◌≡◌, [], ◌∷◌, length, length-append, sym, ap, subst}
 use Rattle.std.specs.Prelude.{All}
 use Rattle.std.proofs.lemmas.List.Elements.{All-push}
-use Rattle.lublock.specs.Shown.{Column}
-use Rattle.lublock.proofs.told.empty_columns.Goals as goal
+use Rattle.lueval_lines.specs.Columns.{Column}
+use Rattle.lueval_lines.proofs.columns.empty_columns.Goals as goal
 
 pub loop-v-preserved : goal.loop-v-preserved
 loop-v-preserved c =
