@@ -48,7 +48,7 @@ pub fn cut(alloc: Global, inputs: &Inputs, instants: u32) -> Result<Inputs, Allo
     requires { instants ≤ inputs.now.instants }
     ensures { IfOk result (λ x. x ≡ cut instants inputs.now) }
 {
-    let _few = inputs.instants();
+    inputs.recall_invariant();
     let columns = cut_columns(alloc, inputs.columns(), instants as usize)?;
     match Inputs::new(instants, columns) {
         Some(table) => Ok(table),

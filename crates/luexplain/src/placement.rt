@@ -9,7 +9,7 @@ use crate::near::is_near;
 use crate::said::{Found, Said, in_words, mended_by, told_of};
 use crate::sought::{entry_in, key_in, text_behind};
 use crate::words::Part;
-use lulimits::limits::LONGEST_PLACEMENT;
+use lulimits::limits::{LONGEST_PLACEMENT, MOST_SITES};
 use luplace_file::PlaceError;
 use lutree::Program;
 use std::alloc::{AllocError, Global};
@@ -181,8 +181,8 @@ fn said_of_sites(alloc: Global, blamed: Blamed) -> Result<Said, AllocError> {
         ),
         Blamed::Sites(count) => mended_by(
             alloc,
-            "The placement has @, and there may be from 1 to 16.",
-            &[Part::Count(count, "site")],
+            "The placement has @, and there may be from 1 to @.",
+            &[Part::Count(count, "site"), Part::Number(MOST_SITES)],
             "Name each site that variables stand at, and no others.",
         ),
         Blamed::Twice(Holder::Entry(key), name) => mended_by(

@@ -148,6 +148,11 @@ impl Inputs {
         }
     }
 
+    /// Does nothing. A proof has from it that the columns are as long as the table and have different names.
+    pub fn recall_invariant(&self)
+        ensures { IsTable self.now }
+    {}
+
     /// The number of instants, 0 to 1,000,000.
     pub fn instants(&self) -> u32
         ensures instants { result ≡ self.now.instants }

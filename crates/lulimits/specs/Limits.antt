@@ -53,6 +53,10 @@ longest_table = 67108864
 abbrev pub most_instants : ℕ
 most_instants = 1000000
 
+-- the most workers that serve the sites of a run
+abbrev pub most_workers : ℕ
+most_workers = 16
+
 -- the most bytes of a schedule's text
 abbrev pub longest_schedule : ℕ
 longest_schedule = 67108864

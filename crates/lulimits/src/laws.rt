@@ -1,12 +1,12 @@
 //! The limits of the code are those of the definitions. The function does nothing.
 
 ghost use Rattle.std.specs.Prelude.{◌≡◌};
-ghost use Rattle.lulimits.specs.Limits.{longest_program, longest_run, most_nodes, most_types, most_names, most_flows, longest_placement, longest_site_name, most_sites, most_capacity, usual_capacity, longest_table, most_instants, longest_schedule};
+ghost use Rattle.lulimits.specs.Limits.{longest_program, longest_run, most_nodes, most_types, most_names, most_flows, longest_placement, longest_site_name, most_sites, most_capacity, usual_capacity, longest_table, most_instants, most_workers, longest_schedule};
 
 use crate::limits::{
     LONGEST_PLACEMENT, LONGEST_PROGRAM, LONGEST_RUN, LONGEST_SCHEDULE, LONGEST_SITE_NAME,
     LONGEST_TABLE, MOST_CAPACITY, MOST_FLOWS, MOST_INSTANTS, MOST_NAMES, MOST_NODES, MOST_SITES,
-    MOST_TYPES, USUAL_CAPACITY,
+    MOST_TYPES, MOST_WORKERS, USUAL_CAPACITY,
 };
 
 /// Each limit of the code is the one of its name that contracts cite.
@@ -24,5 +24,6 @@ pub fn limits_law()
     ensures usual_capacity { USUAL_CAPACITY ≡ usual_capacity }
     ensures longest_table { LONGEST_TABLE ≡ longest_table }
     ensures most_instants { MOST_INSTANTS ≡ most_instants }
+    ensures most_workers { MOST_WORKERS ≡ most_workers }
     ensures longest_schedule { LONGEST_SCHEDULE ≡ longest_schedule }
 {}

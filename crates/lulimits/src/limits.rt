@@ -39,5 +39,8 @@ pub const LONGEST_TABLE: usize = 67_108_864;
 /// The most instants of a table.
 pub const MOST_INSTANTS: u32 = 1_000_000;
 
+/// The most workers that serve the sites of a run. The fewest is 1.
+pub const MOST_WORKERS: u64 = 16;
+
 /// The most bytes of a schedule's text.
 pub const LONGEST_SCHEDULE: usize = 67_108_864;

@@ -82,7 +82,7 @@ impl Job {
         requires { IsFit plan.flat inputs }
         ensures { result ≡ record { plan = plan; inputs = inputs } }
     {
-        let _few = inputs.instants();
+        inputs.recall_invariant();
         plan.recall_invariant();
         Job { plan, inputs }
     }
@@ -125,6 +125,11 @@ fn datum_in(columns: &[Row<Datum>], column: usize, instant: usize) -> Option<Dat
 }
 
 impl SiteInputs {
+    /// Does nothing. A proof has from it that the job's plan is one and its inputs are those of its program.
+    pub fn recall_invariant(&self)
+        ensures { IsRun self.now.job }
+    {}
+
     /// The site.
     pub fn site(&self) -> u8
         ensures site { result ≡ self.now.site }

@@ -2,6 +2,7 @@
 
 ghost use Rattle.std.specs.Prelude.{◌≡◌, ◌≤◌, ◌↔◌, IfOk, IsTrue, length, map};
 ghost use Rattle.lubase.specs.Places.{first_place};
+ghost use Rattle.lulimits.specs.Limits.{most_sites};
 ghost use Rattle.luplace_file.specs.Rules.{is_among, all_differ, are_sites, numbers_of};
 
 use lubase::{Name, Places, Row};
@@ -85,7 +86,7 @@ pub fn are_sites(sites: &[Name], names: &[Name]) -> bool
 
 /// The numbers of the sites that are named, in order.
 pub fn numbers_of(alloc: Global, sites: &[Name], names: &[Name]) -> Result<Row<u8>, AllocError>
-    requires { length sites.now ≤ 16 }
+    requires { length sites.now ≤ most_sites }
     ensures { IfOk result (λ numbers. numbers ≡ numbers_of sites.now names.now) }
 {
     let mut numbers = Vec::new(alloc);

@@ -2,6 +2,7 @@
 
 ghost use Rattle.std.specs.Prelude.{◌≡◌, ◌≤◌, true, IfOk, length, map};
 ghost use Rattle.std.specs.List.{list_all};
+ghost use Rattle.lulimits.specs.Limits.{most_sites};
 ghost use Rattle.luplace_file.specs.Answers.{Gives};
 ghost use Rattle.luplace_file.specs.Draft.{IsDraft};
 ghost use Rattle.luplace_file.specs.Rules.{is_known, is_capacity, is_site_count, is_in_range, all_differ, names_differ, are_sites, names_are_known, placed_at, size_of, stated, ruled};
@@ -85,7 +86,7 @@ fn names_are_known(draft: &Draft) -> bool
 }
 
 fn placed_at(alloc: Global, sites: &[Name], wanted: &Wanted) -> Result<Placed, AllocError>
-    requires { length sites.now ≤ 16 }
+    requires { length sites.now ≤ most_sites }
     ensures { IfOk result (λ placed. placed ≡ placed_at sites.now wanted.now) }
 {
     Ok(Placed {
@@ -96,7 +97,7 @@ fn placed_at(alloc: Global, sites: &[Name], wanted: &Wanted) -> Result<Placed, A
 
 /// Each variable at the sites that are named for it.
 fn all_placed(alloc: Global, sites: &[Name], place: &[Wanted]) -> Result<Row<Placed>, AllocError>
-    requires { length sites.now ≤ 16 }
+    requires { length sites.now ≤ most_sites }
     ensures { IfOk result (λ entries. entries ≡ map (placed_at sites.now) place.now) }
 {
     let mut entries = Vec::with_capacity(alloc, place.len())?;

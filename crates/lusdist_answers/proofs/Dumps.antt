@@ -43,6 +43,7 @@ use Rattle.lusdist_call.specs.Stopped.IsRunStopped.{run_unwritten, run_memory}
 use Rattle.lusdist_answers.proofs.Outcomes.{unread_none, program_none, table_none, told_none}
 use Rattle.lusdist_answers.proofs.Ran.{outputs_are, run_stop}
 use Rattle.lusdist_answers.proofs.Tellings.{output_true}
+use Rattle.lusdist_shell.specs.Files.{FileFacts}
 
 -- STOPS AT A FILE THAT IS READ
 
@@ -56,30 +57,30 @@ flat_none : (bytes main : List ℕ) (stop : Stop) → HasNoFlat bytes main stop 
 flat_none bytes main stop (unspelled refused) = program_none bytes stop refused
 flat_none bytes main stop (unruled tree places spelled are told) = told_none tree places main stop told
 
-pub at_program_none : (gives : List ℕ → Option (List ℕ) → Type 0) (path main : List ℕ) (stop : Stop) → StopsAtProgram gives path main stop → IsNoFault stop
+pub at_program_none : (gives : FileFacts) (path main : List ℕ) (stop : Stop) → StopsAtProgram gives path main stop → IsNoFault stop
 at_program_none gives path main stop (program_unread unread) = unread_none gives path stop unread
 at_program_none gives path main stop (program_refused program given none) = flat_none program main stop none
 
-pub at_table_none : (gives : List ℕ → Option (List ℕ) → Type 0) (path : List ℕ) (flat : FlatProgram) (stop : Stop) → StopsAtTable gives path flat stop → IsNoFault stop
+pub at_table_none : (gives : FileFacts) (path : List ℕ) (flat : FlatProgram) (stop : Stop) → StopsAtTable gives path flat stop → IsNoFault stop
 at_table_none gives path flat stop (no_table unread) = unread_none gives path stop unread
 at_table_none gives path flat stop (bad_table table given refused) = table_none flat.types (inputs_of flat.variables) table stop refused
 
-pub at_schedule_none : (gives : List ℕ → Option (List ℕ) → Type 0) (path : List ℕ) (stop : Stop) → StopsAtSchedule gives path stop → IsNoFault stop
+pub at_schedule_none : (gives : FileFacts) (path : List ℕ) (stop : Stop) → StopsAtSchedule gives path stop → IsNoFault stop
 at_schedule_none gives path stop (no_schedule unread) = unread_none gives path stop unread
 at_schedule_none gives path stop (bad_schedule schedule given refused) = schedule_none schedule stop refused
 
 -- a replay that stops at its schedule
-pub stops_at_schedule : (gives : List ℕ → Option (List ℕ) → Type 0) (request : ReplayRequest) (job : Run) (stop : Stop) → IsJobFor gives request.program.now request.place.now request.table.now request.main.now job → StopsAtSchedule gives request.schedule.now stop → IsReplayStopped gives request stop
+pub stops_at_schedule : (gives : FileFacts) (request : ReplayRequest) (job : Run) (stop : Stop) → IsJobFor gives request.program.now request.place.now request.table.now request.main.now job → StopsAtSchedule gives request.schedule.now stop → IsReplayStopped gives request stop
 stops_at_schedule gives request job stop is (no_schedule unread) = replay_unread job is unread
 stops_at_schedule gives request job stop is (bad_schedule schedule given refused) = replay_schedule job schedule is given refused
 
 -- an evaluation that stops at its table
-pub stops_at_table : (gives : List ℕ → Option (List ℕ) → Type 0) (request : EvalRequest) (flat : FlatProgram) (stop : Stop) → IsFlatAt gives request.program.now request.main.now flat → StopsAtTable gives request.table.now flat stop → IsEvalStopped gives request stop
+pub stops_at_table : (gives : FileFacts) (request : EvalRequest) (flat : FlatProgram) (stop : Stop) → IsFlatAt gives request.program.now request.main.now flat → StopsAtTable gives request.table.now flat stop → IsEvalStopped gives request stop
 stops_at_table gives request flat stop at (no_table unread) = eval_unread at.program flat at.given at.flat_is unread
 stops_at_table gives request flat stop at (bad_table table given refused) = eval_table at.program table flat at.given given at.flat_is refused
 
 -- the table that a file's bytes are
-pub table_found : {E : Type 0} (gives : List ℕ → Option (List ℕ) → Type 0) (path : List ℕ) (flat : FlatProgram) (table : List ℕ) → gives path (Some table) → (r : Result Inputs E)
+pub table_found : {E : Type 0} (gives : FileFacts) (path : List ℕ) (flat : FlatProgram) (table : List ℕ) → gives path (Some table) → (r : Result Inputs E)
     → IfOk r (λ inputs. IsTextOf flat.types (inputs_of flat.variables) inputs table) → IfOk r (λ _. is_too_long table ≡ false) → IfOk r (λ _. IsUtf8 table) → IfOk r (λ inputs. Fits flat inputs)
     → IfOk r (IsTableAt gives path flat)
 table_found gives path flat table given (Ok inputs) text short utf8 fits = record {
@@ -92,32 +93,32 @@ table_found gives path flat table given (Ok inputs) text short utf8 fits = recor
 }
 table_found gives path flat table given (Err e) text short utf8 fits = tt
 
-at_plan_none : (gives : List ℕ → Option (List ℕ) → Type 0) (path place_path main : List ℕ) (stop : Stop) → StopsAtPlan gives path place_path main stop → IsNoFault stop
+at_plan_none : (gives : FileFacts) (path place_path main : List ℕ) (stop : Stop) → StopsAtPlan gives path place_path main stop → IsNoFault stop
 at_plan_none gives path place_path main stop (no_program at) = at_program_none gives path main stop at
 at_plan_none gives path place_path main stop (place_unread program flat given has unread) = unread_none gives place_path stop unread
 at_plan_none gives path place_path main stop (place_refused program place flat given has place_given refused) = place_none flat place stop refused
 
-pub at_job_none : (gives : List ℕ → Option (List ℕ) → Type 0) (path place_path table_path main : List ℕ) (stop : Stop) → StopsAtJob gives path place_path table_path main stop → IsNoFault stop
+pub at_job_none : (gives : FileFacts) (path place_path table_path main : List ℕ) (stop : Stop) → StopsAtJob gives path place_path table_path main stop → IsNoFault stop
 at_job_none gives path place_path table_path main stop (no_plan at) = at_plan_none gives path place_path main stop at
 at_job_none gives path place_path table_path main stop (table_unread plan is unread) = unread_none gives table_path stop unread
 at_job_none gives path place_path table_path main stop (table_refused plan table is given refused) = table_none plan.flat.types (inputs_of plan.flat.variables) table stop refused
 
-pub none_written : (takes : List ℕ → Option (List ℕ) → Type 0) (stop : Stop) → IsNoFault stop → IsUnwritten takes stop
+pub none_written : (takes : FileFacts) (stop : Stop) → IsNoFault stop → IsUnwritten takes stop
 none_written takes stop none = λ path e. absurd (none.1 path e)
 
-pub run_unwritten_of : (takes : List ℕ → Option (List ℕ) → Type 0) (job : Run) (stop : Stop) → IsStopOfRun job stop → IsUnwritten takes stop
+pub run_unwritten_of : (takes : FileFacts) (job : Run) (stop : Stop) → IsStopOfRun job stop → IsUnwritten takes stop
 run_unwritten_of takes job stop h = λ path e. absurd (subst (IsStopOfRun job) e h)
 
 -- DUMPS THAT CAN'T BE WRITTEN
 
-pub unfiled_unwritten : (takes : List ℕ → Option (List ℕ) → Type 0) (wanted : Option (List ℕ)) (stop : Stop) → IsUnfiledAt takes wanted stop → IsUnwritten takes stop
+pub unfiled_unwritten : (takes : FileFacts) (wanted : Option (List ℕ)) (stop : Stop) → IsUnfiledAt takes wanted stop → IsUnwritten takes stop
 unfiled_unwritten takes wanted stop h = λ path e. let there : IsUnfiledAt takes wanted (CannotWrite path) = subst (IsUnfiledAt takes wanted) e h in there.1
 
 -- what is unfiled in one place is so in another that is the same
-pub memory_unfiled : (takes : List ℕ → Option (List ℕ) → Type 0) (wanted : Option (List ℕ)) (stop : Stop) → stop ≡ OutOfMemory → IsUnfiledAt takes wanted stop
+pub memory_unfiled : (takes : FileFacts) (wanted : Option (List ℕ)) (stop : Stop) → stop ≡ OutOfMemory → IsUnfiledAt takes wanted stop
 memory_unfiled takes wanted stop e = subst (IsUnfiledAt takes wanted) (sym e) tt
 
-pub replay_unfiled : (gives takes : List ℕ → Option (List ℕ) → Type 0) (request : ReplayRequest) (job : Run) (turns : List ℕ) → IsAskedFor gives request job turns → (stop : Stop) → IsUnfiledAt takes (replay_path request) stop → IsReplayStopped gives request stop
+pub replay_unfiled : (gives takes : FileFacts) (request : ReplayRequest) (job : Run) (turns : List ℕ) → IsAskedFor gives request job turns → (stop : Stop) → IsUnfiledAt takes (replay_path request) stop → IsReplayStopped gives request stop
 replay_unfiled gives takes request job turns asked (CannotRead path) h = absurd h
 replay_unfiled gives takes request job turns asked (CannotWrite path) h = replay_unwritten path h.0 job turns asked refl
 replay_unfiled gives takes request job turns asked NotAscii h = absurd h
@@ -133,7 +134,7 @@ replay_unfiled gives takes request job turns asked NoThread h = absurd h
 replay_unfiled gives takes request job turns asked (Mistaken mistake) h = absurd h
 replay_unfiled gives takes request job turns asked OutOfMemory h = replay_memory refl
 
-pub run_unfiled : (gives takes : List ℕ → Option (List ℕ) → Type 0) (request : RunRequest) (job : Run) → IsJobFor gives request.program.now request.place.now request.table.now request.main.now job → (stop : Stop) → IsUnfiledAt takes (run_path request) stop → IsRunStopped gives request stop
+pub run_unfiled : (gives takes : FileFacts) (request : RunRequest) (job : Run) → IsJobFor gives request.program.now request.place.now request.table.now request.main.now job → (stop : Stop) → IsUnfiledAt takes (run_path request) stop → IsRunStopped gives request stop
 run_unfiled gives takes request job asked (CannotRead path) h = absurd h
 run_unfiled gives takes request job asked (CannotWrite path) h = run_unwritten path h.0 job asked refl
 run_unfiled gives takes request job asked NotAscii h = absurd h
@@ -152,14 +153,14 @@ run_unfiled gives takes request job asked OutOfMemory h = run_memory refl
 -- DUMPS THAT WERE WRITTEN
 
 -- those of a run's outputs
-pub run_waves : {X : Type 0} (takes : List ℕ → Option (List ℕ) → Type 0) (request : RunRequest) (job : Run) (plan : Distribution) (outputs : List OutputColumn) → plan ≡ job.plan → AreRunOutputs job outputs
+pub run_waves : {X : Type 0} (takes : FileFacts) (request : RunRequest) (job : Run) (plan : Distribution) (outputs : List OutputColumn) → plan ≡ job.plan → AreRunOutputs job outputs
     → (r : Result X Stop) → OnOk r (IsFiledAt takes (run_path request) (run_dump request.main.now plan outputs)) → OnOk r (AreRunWaves takes request job)
 run_waves takes request job plan outputs same are (Ok x) filed =
     λ path wanted. (outputs, are, subst (λ (p : Distribution). takes path (Some (run_dump request.main.now p outputs))) same (filed path wanted))
 run_waves takes request job plan outputs same are (Err stop) filed = tt
 
 -- they are those of the program that was asked for
-pub run_filed : {X : Type 0} (gives takes : List ℕ → Option (List ℕ) → Type 0) (request : RunRequest) (job : Run) → IsJobFor gives request.program.now request.place.now request.table.now request.main.now job
+pub run_filed : {X : Type 0} (gives takes : FileFacts) (request : RunRequest) (job : Run) → IsJobFor gives request.program.now request.place.now request.table.now request.main.now job
     → (r : Result X Stop) → OnOk r (AreRunWaves takes request job) → OnOk r (IsRunDumped gives takes request)
 run_filed gives takes request job asked (Ok x) filed = λ path wanted.
     let found = filed path wanted in
@@ -167,16 +168,16 @@ run_filed gives takes request job asked (Ok x) filed = λ path wanted.
 run_filed gives takes request job asked (Err stop) filed = tt
 
 -- why a run of a job stops
-pub run_stopped : (gives takes : List ℕ → Option (List ℕ) → Type 0) (request : RunRequest) (job : Run) → IsJobFor gives request.program.now request.place.now request.table.now request.main.now job → (stop : Stop) → IsStopOfRun job stop ⊎ IsUnfiledAt takes (run_path request) stop → IsRunStopped gives request stop
+pub run_stopped : (gives takes : FileFacts) (request : RunRequest) (job : Run) → IsJobFor gives request.program.now request.place.now request.table.now request.main.now job → (stop : Stop) → IsStopOfRun job stop ⊎ IsUnfiledAt takes (run_path request) stop → IsRunStopped gives request stop
 run_stopped gives takes request job asked stop (inl told) = run_stop gives request job asked stop told
 run_stopped gives takes request job asked stop (inr unfiled) = run_unfiled gives takes request job asked stop unfiled
 
-pub run_before : (takes : List ℕ → Option (List ℕ) → Type 0) (wanted : Option (List ℕ)) (job : Run) (stop : Stop) → IsStopOfRun job stop ⊎ IsUnfiledAt takes wanted stop → IsUnwritten takes stop
+pub run_before : (takes : FileFacts) (wanted : Option (List ℕ)) (job : Run) (stop : Stop) → IsStopOfRun job stop ⊎ IsUnfiledAt takes wanted stop → IsUnwritten takes stop
 run_before takes wanted job stop (inl told) = run_unwritten_of takes job stop told
 run_before takes wanted job stop (inr unfiled) = unfiled_unwritten takes wanted stop unfiled
 
 -- that of a world
-pub world_filed : {X : Type 0} (takes : List ℕ → Option (List ℕ) → Type 0) (main : List ℕ) (plan : Distribution) (w : Progress) (path text : List ℕ) → w.job.plan ≡ plan → (told : (signals : List Signal) × AreOutputSignals w signals × (text ≡ site_dump main plan signals)) → (r : Result X Stop)
+pub world_filed : {X : Type 0} (takes : FileFacts) (main : List ℕ) (plan : Distribution) (w : Progress) (path text : List ℕ) → w.job.plan ≡ plan → (told : (signals : List Signal) × AreOutputSignals w signals × (text ≡ site_dump main plan signals)) → (r : Result X Stop)
     → OnOk r (takes path (Some text)) → OnOk r (IsWorldFiled takes main w path)
 world_filed takes main plan w path text same told (Ok x) filed =
     record {
@@ -187,7 +188,7 @@ world_filed takes main plan w path text same told (Ok x) filed =
 world_filed takes main plan w path text same told (Err stop) filed = tt
 
 -- what is known of an output of a world is a beginning of what the source gives it
-signals_true : (gives takes : List ℕ → Option (List ℕ) → Type 0) (request : ReplayRequest) (job : Run) (turns path : List ℕ) (asked : IsAskedFor gives request job turns) (waved : IsWaved takes request job turns path)
+signals_true : (gives takes : FileFacts) (request : ReplayRequest) (job : Run) (turns path : List ℕ) (asked : IsAskedFor gives request job turns) (waved : IsWaved takes request job turns path)
     → AreSignalsTrue asked.job_for.job_is.flat.tree request.main.now job.inputs waved.filed.signals
 signals_true gives takes request job turns path asked waved =
     let w = waved.world in
@@ -208,7 +209,7 @@ signals_true gives takes request job turns path asked waved =
     subst (λ (j : Run). AreSignalsTrue tree request.main.now j.inputs signals) waved.world_is.job_is found
 
 -- that of a replay
-pub replay_filed : {X : Type 0} (gives takes : List ℕ → Option (List ℕ) → Type 0) (request : ReplayRequest) (job : Run) (turns : List ℕ) → IsAskedFor gives request job turns → (r : Result X Stop) → OnOk r (AreWaved takes request job turns) → OnOk r (IsReplayDumped gives takes request)
+pub replay_filed : {X : Type 0} (gives takes : FileFacts) (request : ReplayRequest) (job : Run) (turns : List ℕ) → IsAskedFor gives request job turns → (r : Result X Stop) → OnOk r (AreWaved takes request job turns) → OnOk r (IsReplayDumped gives takes request)
 replay_filed gives takes request job turns asked (Ok x) filed = λ path wanted.
     let waved = filed path wanted in
     record { job = job; turns = turns; asked_for = asked; waved = waved; is_true = signals_true gives takes request job turns path asked waved }

@@ -1,5 +1,5 @@
 -- What the end of a call says.
-use Rattle.std.proofs.Common.{Option, ◌≡◌, ◌≢◌, ◌⊎◌, ℕ, Bool, false, List, [], subst, refl, sym, ◌∙◌, inl, inr, arith}
+use Rattle.std.proofs.Common.{◌≡◌, ◌≢◌, ◌⊎◌, ℕ, Bool, false, List, [], subst, refl, sym, ◌∙◌, inl, inr, arith}
 use Rattle.std.specs.Io.KnownBytes.{Appends}
 use Rattle.clap.specs.declared.error.kind.ErrorKind.{ErrorKind}
 use Rattle.clap.specs.declared.error.kind.ErrorKind.TheVariants as clap
@@ -22,6 +22,7 @@ use Rattle.lusdist_call.specs.Statuses.{status_of}
 use Rattle.lusdist_call.specs.Stopped.{IsRefusal}
 use Rattle.lusdist_call.specs.Left.{Streams, IsEnded, IsHelp}
 use Rattle.lusdist_call.specs.Left.IsEnded.{answered, refused, unwritten}
+use Rattle.lusdist_shell.specs.Files.{FileFacts}
 
 -- which kind of error the parser of the command line tells
 pub data Which (kind : ErrorKind) : Type 0 where
@@ -49,7 +50,7 @@ which clap.Format = mistake (λ h. cc) (λ h. cc) (λ h. cc)
 which clap.OutOfMemory = memory refl
 
 -- where no turns are to be told there are no notes
-no_notes : (gives : List ℕ → Option (List ℕ) → Type 0) (request : Request) (notes : List ℕ) → ((replay : ReplayRequest) → request ≡ Replay replay → replay.turns ≡ Nothing) → AreNotes gives request notes → notes ≡ []
+no_notes : (gives : FileFacts) (request : Request) (notes : List ℕ) → ((replay : ReplayRequest) → request ≡ Replay replay → replay.turns ≡ Nothing) → AreNotes gives request notes → notes ≡ []
 no_notes gives (Check request) notes quiet are = are
 no_notes gives (Eval request) notes quiet are = are
 no_notes gives (Plan request) notes quiet are = are
@@ -117,7 +118,7 @@ never_done stop e = elim (status_some stop) [
   | inr more ↦ elim more [ inl two ↦ absurd (omega (arith, e, two)) | inr three ↦ absurd (omega (arith, e, three)) ]
 ]
 
-module _ {W V : Type 0} (gives : List ℕ → Option (List ℕ) → Type 0) (takes : List ℕ → Option (List ℕ) → Type 0) (words : List (List ℕ)) (request : Request) (asked : IsAskedBy words request) (status : ℕ) (streams : Streams W V) where
+module _ {W V : Type 0} (gives : FileFacts) (takes : FileFacts) (words : List (List ℕ)) (request : Request) (asked : IsAskedBy words request) (status : ℕ) (streams : Streams W V) where
   -- where what is asked for is done, the answer is on the output
   pub done : IsEnded gives takes request status streams → status ≡ 0 → (text : List ℕ) × IsDone gives words text × Appends (streams.held_out streams.out.writer) (streams.held_out streams.out_after.writer) text
   done (answered text notes e answer noted filed out) zero = (text, record { request = request; asked = asked; answer = answer }, out.output)

@@ -72,6 +72,7 @@ use Rattle.lusdist_call.specs.Stopped.IsReplayStopped.{replay_job, replay_unread
 use Rattle.lusdist_call.specs.Stopped.IsRunStopped.{run_job, run_fault, run_lost, run_thread, run_unwritten, run_memory}
 use Rattle.lusdist_call.specs.Exact.{HasOneText, SaysNothing}
 use Rattle.std.proofs.lemmas.Option.{same_Some}
+use Rattle.lusdist_shell.specs.Files.{FileFacts}
 
 pub memory_is : (stop other : Stop) → stop ≡ other → SaysNothing other → SaysNothing stop
 memory_is stop other e h = subst SaysNothing (sym e) h
@@ -234,7 +235,7 @@ schedule_memory text turns (Mistaken mistake) is h = absurd h
 
 -- ---- each command
 
-module _ (gives : List ℕ → Option (List ℕ) → Type 0) (settled : HasOneText gives) where
+module _ (gives : FileFacts) (settled : HasOneText gives) where
   pub one_of : (path one other : List ℕ) → gives path (Some one) → gives path (Some other) → one ≡ other
   one_of path one other a b = same_Some one other (settled path (Some one) (Some other) a b)
 
@@ -391,5 +392,5 @@ module _ (gives : List ℕ → Option (List ℕ) → Type 0) (settled : HasOneTe
   one_outcome_of (AsksRun request) text stop answer stopped = run_outcome request text stop answer stopped
   one_outcome_of (Explain request) text stop answer stopped = explain_outcome (code_in request) text stop answer stopped
 
-pub one_outcome : (gives : List ℕ → Option (List ℕ) → Type 0) → HasOneText gives → (request : Request) (text : List ℕ) (stop : Stop) → IsAnswer gives request text → IsRequestStopped gives request stop → SaysNothing stop
+pub one_outcome : (gives : FileFacts) → HasOneText gives → (request : Request) (text : List ℕ) (stop : Stop) → IsAnswer gives request text → IsRequestStopped gives request stop → SaysNothing stop
 one_outcome gives settled request text stop answer stopped = one_outcome_of gives settled request text stop answer stopped

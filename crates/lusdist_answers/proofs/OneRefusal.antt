@@ -85,6 +85,7 @@ use Rattle.lusdist_call.specs.Explained.IsExplainStopped.{explain_unknown, expla
 use Rattle.lusdist_call.specs.declared.mistake.Mistake.TheVariants.{UnknownCode}
 use Rattle.lusdist_answers.proofs.Exclusive.{memory_is, none_some, text_memory, rules_memory, one_of, flats_one, flats_same}
 use Rattle.lusdist_answers.proofs.OneStatus.{never, past_program, past_table, fault_past, past_plan, replay_past, run_past}
+use Rattle.lusdist_shell.specs.Files.{FileFacts}
 
 -- ---- stops of one file, by what they say
 
@@ -226,7 +227,7 @@ schedule_told bytes (Mistaken mistake) h = absurd h
 
 -- A FILE THAT CAN'T BE READ
 
-unread_told : (gives : List ℕ → Option (List ℕ) → Type 0) (path : List ℕ) (stop : Stop) → IsUnread gives path stop → Tells_of (λ name. CannotRead name) (λ name. name ≡ path) stop
+unread_told : (gives : FileFacts) (path : List ℕ) (stop : Stop) → IsUnread gives path stop → Tells_of (λ name. CannotRead name) (λ name. name ≡ path) stop
 unread_told gives path (CannotRead name) h = speaks name h.0 refl
 unread_told gives path (CannotWrite written) h = absurd h
 unread_told gives path OutOfMemory h = silent tt
@@ -372,7 +373,7 @@ fault_one own inputs m n t u k l ordered h g =
 
 -- ---- two stops of one request
 
-module _ (gives : List ℕ → Option (List ℕ) → Type 0) (settled : HasOneText gives) where
+module _ (gives : FileFacts) (settled : HasOneText gives) where
   both_unread : (path : List ℕ) (a b : Stop) → IsUnread gives path a → IsUnread gives path b → (¬ SaysNothing a) → (¬ SaysNothing b) → a ≡ b
   both_unread path a b x y na nb =
       one_of_kind (λ name. CannotRead name) (λ name. name ≡ path) a b (λ m n h k. h ∙ sym k) (unread_told gives path a x) (unread_told gives path b y) na nb

@@ -40,6 +40,7 @@ use Rattle.lusdist_call.specs.Exact.{HasOneText, SaysNothing}
 use Rattle.lusdist_call.specs.Explained.{code_in, IsExplainStopped}
 use Rattle.lusdist_call.specs.Explained.IsExplainStopped.{explain_unknown, explain_memory}
 use Rattle.lusdist_answers.proofs.Exclusive.{memory_is, none_some, unread_memory, program_memory, plan_memory_of, job_memory_of, refused_memory, posed_flat}
+use Rattle.lusdist_shell.specs.Files.{FileFacts}
 
 -- ---- the status of a stop by what it is of
 
@@ -179,7 +180,7 @@ schedule_text bytes LinkLost h = tt
 schedule_text bytes NoThread h = tt
 schedule_text bytes (Mistaken mistake) h = absurd h
 
-unread_two : (gives : List ℕ → Option (List ℕ) → Type 0) (path : List ℕ) (stop : Stop) → IsUnread gives path stop → (¬ SaysNothing stop) → (status_of stop ≡ 2) × gives path None
+unread_two : (gives : FileFacts) (path : List ℕ) (stop : Stop) → IsUnread gives path stop → (¬ SaysNothing stop) → (status_of stop ≡ 2) × gives path None
 unread_two gives path (CannotRead name) h not = (refl, h.1)
 unread_two gives path (CannotWrite written) h not = absurd h
 unread_two gives path (Fault variable instant kind) h not = absurd h
@@ -197,7 +198,7 @@ unread_two gives path OutOfMemory h not = absurd (not tt)
 
 -- ---- two stops of one request
 
-module _ (gives : List ℕ → Option (List ℕ) → Type 0) (settled : HasOneText gives) where
+module _ (gives : FileFacts) (settled : HasOneText gives) where
   both_unread : (path other_path : List ℕ) (a b : Stop) → IsUnread gives path a → IsUnread gives other_path b → (¬ SaysNothing a) → (¬ SaysNothing b) → status_of a ≡ status_of b
   both_unread path other_path a b x y na nb = (unread_two gives path a x na).0 ∙ sym (unread_two gives other_path b y nb).0
 

@@ -1,5 +1,5 @@
 -- What an evaluation gives, in the words of the source.
-use Rattle.std.proofs.Common.{Option, ◌≡◌, ◌<◌, ◌≤◌, ◌+◌, ℕ, zero, suc, Bool, true, false, cond, List, [], ◌∷◌, length, filter, map, refl, sym, ap, ap₂, ◌∙◌, subst, inl, arith}
+use Rattle.std.proofs.Common.{◌≡◌, ◌<◌, ◌≤◌, ◌+◌, ℕ, zero, suc, Bool, true, false, cond, List, [], ◌∷◌, length, filter, map, refl, sym, ap, ap₂, ◌∙◌, subst, inl, arith}
 use Rattle.std.specs.Prelude.{Result, Ok, Err, Some, IfOk, OnOk, slice_get, string_bytes, IsUtf8}
 use Rattle.lutree.specs.Tree.{ProgramTree}
 use Rattle.luflow.specs.declared.data.Status.{Status}
@@ -42,6 +42,7 @@ use Rattle.lusdist_call.specs.Refused.IsToldOf.{rule, flat as told_flat}
 use Rattle.lusdist_call.specs.Files.{IsUnread}
 use Rattle.lusdist_call.specs.Stopped.{IsEvalStopped}
 use Rattle.lusdist_call.specs.Stopped.IsEvalStopped.{eval_fault, eval_unwritten, eval_memory}
+use Rattle.lusdist_shell.specs.Files.{FileFacts}
 
 -- the outputs among the streams of the main variables
 pub are_evaluated : (flat : FlatProgram) (inputs : Table) (streams : List (List Status)) (outputs : List OutputColumn) → AreStreams flat inputs streams → outputs ≡ outputs_in flat.variables streams → AreEvaluated flat inputs (outputs_of flat.variables) inputs.instants outputs
@@ -159,7 +160,7 @@ posed text main table tree flat inputs spelled flat_is table_is short utf8 fits 
     record { spelled = spelled; flat_is = flat_is; table_is = table_is; short = short; utf8 = utf8; agrees = flat_is.agrees inputs columns; one_meaning = flat_is.one_meaning inputs columns }
 
 -- the fault that is told is one of the source
-source_fault : (gives : List ℕ → Option (List ℕ) → Type 0) (request : EvalRequest) (flat : FlatProgram) (inputs : Table) (asked : IsPosedBy gives request flat inputs) (name : List ℕ) (instant : ℕ) (kind : FaultKind) → IsFaultTold flat inputs name instant kind
+source_fault : (gives : FileFacts) (request : EvalRequest) (flat : FlatProgram) (inputs : Table) (asked : IsPosedBy gives request flat inputs) (name : List ℕ) (instant : ℕ) (kind : FaultKind) → IsFaultTold flat inputs name instant kind
     → (σ : SourceStreams) → IsSourceSolution asked.tree request.main.now inputs σ → IsSourceFault asked.tree request.main.now inputs σ name instant kind
 source_fault gives request flat inputs asked name instant kind told σ solves =
     let is = asked.posed.flat_is in
@@ -169,7 +170,7 @@ source_fault gives request flat inputs asked name instant kind told σ solves =
     (is.faults inputs σ (solution flat inputs) solves solution_is first.place told.variable instant kind told.is first.fault first.owner told.there)
 
 -- where an evaluation of them stops, what was asked for stops so
-pub eval_stop : (gives : List ℕ → Option (List ℕ) → Type 0) (request : EvalRequest) (flat : FlatProgram) (inputs : Table) → IsPosedBy gives request flat inputs → (stop : Stop) → IsStopped request flat inputs stop → IsEvalStopped gives request stop
+pub eval_stop : (gives : FileFacts) (request : EvalRequest) (flat : FlatProgram) (inputs : Table) → IsPosedBy gives request flat inputs → (stop : Stop) → IsStopped request flat inputs stop → IsEvalStopped gives request stop
 eval_stop gives request flat inputs asked (CannotRead path) told = absurd told
 eval_stop gives request flat inputs asked (CannotWrite path) told = eval_unwritten path told flat inputs asked refl
 eval_stop gives request flat inputs asked NotAscii told = absurd told
@@ -187,7 +188,7 @@ eval_stop gives request flat inputs asked OutOfMemory told = eval_memory refl
 
 -- STOPS THAT TELL NO FAULT
 
-pub unread_none : (gives : List ℕ → Option (List ℕ) → Type 0) (path : List ℕ) (stop : Stop) → IsUnread gives path stop → IsNoFault stop
+pub unread_none : (gives : FileFacts) (path : List ℕ) (stop : Stop) → IsUnread gives path stop → IsNoFault stop
 unread_none gives path stop h = (λ name instant kind e. subst (IsUnread gives path) e h, λ there e. subst (IsUnread gives path) e h)
 
 pub program_none : (bytes : List ℕ) (stop : Stop) → IsProgramRefused bytes stop → IsNoFault stop
@@ -203,11 +204,11 @@ told_none tree places main stop (told_flat refusal is accepted refuses) =
     (λ name instant kind e. let clash : Flat refusal ≡ Fault name instant kind = sym is ∙ e in cc, λ path e. let clash : Flat refusal ≡ CannotWrite path = sym is ∙ e in cc)
 
 -- a stop that tells no fault needs no dump
-pub none_dumped : (gives : List ℕ → Option (List ℕ) → Type 0) (takes : List ℕ → Option (List ℕ) → Type 0) (request : EvalRequest) (stop : Stop) → IsNoFault stop → IsDumpedTo gives takes request stop
+pub none_dumped : (gives : FileFacts) (takes : FileFacts) (request : EvalRequest) (stop : Stop) → IsNoFault stop → IsDumpedTo gives takes request stop
 none_dumped gives takes request stop none = (λ name instant kind e. absurd (none.0 name instant kind e), λ path e. absurd (none.1 path e))
 
 -- where a dump can't be made, the evaluation stops so
-pub unfiled_stop : (takes : List ℕ → Option (List ℕ) → Type 0) (request : EvalRequest) (flat : FlatProgram) (inputs : Table) (stop : Stop) → IsUnfiled takes request stop → IsStopped request flat inputs stop
+pub unfiled_stop : (takes : FileFacts) (request : EvalRequest) (flat : FlatProgram) (inputs : Table) (stop : Stop) → IsUnfiled takes request stop → IsStopped request flat inputs stop
 unfiled_stop takes request flat inputs (CannotRead path) h = absurd h
 unfiled_stop takes request flat inputs (CannotWrite path) h = h.0
 unfiled_stop takes request flat inputs NotAscii h = absurd h
@@ -223,12 +224,12 @@ unfiled_stop takes request flat inputs NoThread h = absurd h
 unfiled_stop takes request flat inputs (Mistaken mistake) h = absurd h
 unfiled_stop takes request flat inputs OutOfMemory h = tt
 
-pub unfiled_shown : (takes : List ℕ → Option (List ℕ) → Type 0) (request : EvalRequest) (flat : FlatProgram) (inputs : Table) (stop : Stop) → IsUnfiled takes request stop → IsShownTo takes request flat inputs stop
+pub unfiled_shown : (takes : FileFacts) (request : EvalRequest) (flat : FlatProgram) (inputs : Table) (stop : Stop) → IsUnfiled takes request stop → IsShownTo takes request flat inputs stop
 unfiled_shown takes request flat inputs stop h =
     (λ name instant kind e. absurd (subst (IsUnfiled takes request) e h), λ path e. let there : IsUnfiled takes request (CannotWrite path) = subst (IsUnfiled takes request) e h in there.1)
 
 -- what was shown before a fault is a dump of the program's variables
-pub dumped_to : (gives : List ℕ → Option (List ℕ) → Type 0) (takes : List ℕ → Option (List ℕ) → Type 0) (request : EvalRequest) (flat : FlatProgram) (inputs : Table) → IsPosedBy gives request flat inputs → (stop : Stop) → IsShownTo takes request flat inputs stop → IsDumpedTo gives takes request stop
+pub dumped_to : (gives : FileFacts) (takes : FileFacts) (request : EvalRequest) (flat : FlatProgram) (inputs : Table) → IsPosedBy gives request flat inputs → (stop : Stop) → IsShownTo takes request flat inputs stop → IsDumpedTo gives takes request stop
 dumped_to gives takes request flat inputs asked stop shown =
     let before = λ (name : List ℕ) (instant : ℕ) (kind : FaultKind) (e : stop ≡ Fault name instant kind) (path : List ℕ) (wanted : wave_path request ≡ Some path).
     let h = shown.0 name instant kind e path wanted in
@@ -245,7 +246,7 @@ dumped_to gives takes request flat inputs asked stop shown =
     (before, shown.1)
 
 -- and what was shown is one
-pub dumped_of : (gives : List ℕ → Option (List ℕ) → Type 0) (takes : List ℕ → Option (List ℕ) → Type 0) (request : EvalRequest) (flat : FlatProgram) (inputs : Table) → IsPosedBy gives request flat inputs → (r : Result (String Global) Stop) → IfOk r (λ text. IsShown takes request flat inputs (string_bytes text)) → OnOk r (IsDumped gives takes request)
+pub dumped_of : (gives : FileFacts) (takes : FileFacts) (request : EvalRequest) (flat : FlatProgram) (inputs : Table) → IsPosedBy gives request flat inputs → (r : Result (String Global) Stop) → IfOk r (λ text. IsShown takes request flat inputs (string_bytes text)) → OnOk r (IsDumped gives takes request)
 dumped_of gives takes request flat inputs asked (Ok text) h = record {
   flat = flat;
   inputs = inputs;
@@ -257,13 +258,13 @@ dumped_of gives takes request flat inputs asked (Ok text) h = record {
 dumped_of gives takes request flat inputs asked (Err stop) h = tt
 
 -- columns that were shown and dumped
-pub shown_whole : (takes : List ℕ → Option (List ℕ) → Type 0) (request : EvalRequest) (flat : FlatProgram) (inputs : Table) (columns : List OutputColumn) → AreEvaluated flat inputs (shown_of request.all flat.variables) inputs.instants columns → HasNoFault flat inputs → (r : Result (String Global) Stop)
+pub shown_whole : (takes : FileFacts) (request : EvalRequest) (flat : FlatProgram) (inputs : Table) (columns : List OutputColumn) → AreEvaluated flat inputs (shown_of request.all flat.variables) inputs.instants columns → HasNoFault flat inputs → (r : Result (String Global) Stop)
     → IfOk r (λ text. string_bytes text ≡ shown_text request flat columns) → OnOk r (IsFiled takes request (wave_text request flat columns)) → IfOk r (λ text. IsShown takes request flat inputs (string_bytes text))
 shown_whole takes request flat inputs columns are fine (Ok text) is filed = record { columns = columns; are_columns = are; no_fault = fine; text_is = is; filed = filed }
 shown_whole takes request flat inputs columns are fine (Err stop) is filed = tt
 
 -- columns of the first instants that were dumped
-pub shown_before : {X : Type 0} (takes : List ℕ → Option (List ℕ) → Type 0) (request : EvalRequest) (flat : FlatProgram) (inputs : Table) (n : ℕ) (columns : List OutputColumn) → AreEvaluated flat inputs (shown_of request.all flat.variables) n columns → (r : Result X Stop)
+pub shown_before : {X : Type 0} (takes : FileFacts) (request : EvalRequest) (flat : FlatProgram) (inputs : Table) (n : ℕ) (columns : List OutputColumn) → AreEvaluated flat inputs (shown_of request.all flat.variables) n columns → (r : Result X Stop)
     → OnOk r (IsFiled takes request (wave_text request flat columns)) → OnOk r (AreShownBefore takes request flat inputs n)
 shown_before takes request flat inputs n columns are (Ok x) filed = λ path wanted. record { columns = columns; are_columns = are; filed = filed path wanted }
 shown_before takes request flat inputs n columns are (Err stop) filed = tt
@@ -286,7 +287,7 @@ told_stop request flat inputs variable instant kind told NoThread h = absurd h
 told_stop request flat inputs variable instant kind told (Mistaken mistake) h = absurd h
 told_stop request flat inputs variable instant kind told OutOfMemory h = tt
 
-pub told_shown : (takes : List ℕ → Option (List ℕ) → Type 0) (request : EvalRequest) (flat : FlatProgram) (inputs : Table) (variable instant : ℕ) (kind : FaultKind) → AreShownBefore takes request flat inputs instant → (stop : Stop) → IsStopFor flat variable instant kind stop → IsShownTo takes request flat inputs stop
+pub told_shown : (takes : FileFacts) (request : EvalRequest) (flat : FlatProgram) (inputs : Table) (variable instant : ℕ) (kind : FaultKind) → AreShownBefore takes request flat inputs instant → (stop : Stop) → IsStopFor flat variable instant kind stop → IsShownTo takes request flat inputs stop
 told_shown takes request flat inputs variable instant kind before stop h =
     let shown = λ (name : List ℕ) (t : ℕ) (k : FaultKind) (e : stop ≡ Fault name t k).
     let there : IsStopFor flat variable instant kind (Fault name t k) = subst (IsStopFor flat variable instant kind) e h in

@@ -1,5 +1,5 @@
 -- What a run of a job gives, in the words of the program that was asked for.
-use Rattle.std.proofs.Common.{◌≡◌, ℕ, ◌<◌, List, length, false, Option, Some, Result, Ok, Err, IfOk, IfErr, ◌⊎◌, MatchResult, refl, sym, ap, ◌∙◌, subst, inl, inr}
+use Rattle.std.proofs.Common.{◌≡◌, ℕ, ◌<◌, List, length, false, Some, Result, Ok, Err, IfOk, IfErr, ◌⊎◌, MatchResult, refl, sym, ap, ◌∙◌, subst, inl, inr}
 use Rattle.std.specs.Prelude.{IsUtf8}
 use Rattle.luflow.specs.Tables.{Fits}
 use Rattle.luflow.specs.Variables.{inputs_of}
@@ -36,9 +36,10 @@ use Rattle.lusdist_call.specs.Ran.{IsRunError, IsStopOfRun, IsRunTable}
 use Rattle.lusdist_call.specs.Stopped.{IsRunFault, IsRunStopped}
 use Rattle.lusdist_call.specs.Stopped.IsRunStopped.{run_fault, run_lost, run_thread, run_memory}
 use Rattle.lusdist_answers.proofs.Tellings.{owner_of}
+use Rattle.lusdist_shell.specs.Files.{FileFacts}
 
 -- the job of a plan and a table that the files give
-pub job_found : (gives : List ℕ → Option (List ℕ) → Type 0) (path place_path table_path main : List ℕ) (plan : Distribution) (table : List ℕ) → IsPlanFor gives path place_path main plan → gives table_path (Some table) → (result : Result Run Stop)
+pub job_found : (gives : FileFacts) (path place_path table_path main : List ℕ) (plan : Distribution) (table : List ℕ) → IsPlanFor gives path place_path main plan → gives table_path (Some table) → (result : Result Run Stop)
     → IfOk result (λ job. job.plan ≡ plan) → IfOk result (λ job. IsTextOf plan.flat.types (inputs_of plan.flat.variables) job.inputs table) → IfOk result (λ _. is_too_long table ≡ false) → IfOk result (λ _. IsUtf8 table) → IfOk result (λ job. Fits plan.flat job.inputs) → IfOk result IsRun
     → IfOk result (IsJobFor gives path place_path table_path main)
 job_found gives path place_path table_path main plan table found given (Ok job) same text short utf8 fits run =
@@ -85,7 +86,7 @@ no_fault_of job is fit none σ solves i t kind early fault =
     let bad : is_broken Broken ≡ false = ap is_broken (sym broken) ∙ whole in
     absurd cc
 
-module _ (gives : List ℕ → Option (List ℕ) → Type 0) (request : RunRequest) (job : Run) (asked : IsJobFor gives request.program.now request.place.now request.table.now request.main.now job) where
+module _ (gives : FileFacts) (request : RunRequest) (job : Run) (asked : IsJobFor gives request.program.now request.place.now request.table.now request.main.now job) where
   pub outputs_are : (outputs : List OutputColumn) → AreRunOutputs job outputs → AreOutputsOf asked.job_is.flat.tree request.main.now job.plan.flat job.inputs outputs
   outputs_are outputs are =
       let source = asked.job_is.flat.flat_is in

@@ -1,5 +1,5 @@
 -- What a replay prints is true of the program that was asked for.
-use Rattle.std.proofs.Common.{Option, ℕ, List, sym, subst}
+use Rattle.std.proofs.Common.{ℕ, List, sym, subst}
 use Rattle.luworld.specs.Needs.{IsPlan}
 use Rattle.luworld.specs.Runs.{Run}
 use Rattle.lusource.specs.Source.{SourceStreams, IsSourceSolution}
@@ -9,8 +9,9 @@ use Rattle.lumeaning.specs.Telling.{IsTrueOf}
 use Rattle.lusdist_shell.specs.declared.request.ReplayRequest.{ReplayRequest}
 use Rattle.lusdist_call.specs.Asked.{IsAskedFor, IsPrinted, IsReplayed}
 use Rattle.lusdist_answers.proofs.Tellings.{told_in, told_true}
+use Rattle.lusdist_shell.specs.Files.{FileFacts}
 
-pub is_replayed : (gives : List ℕ → Option (List ℕ) → Type 0) (request : ReplayRequest) (job : Run) (turns text : List ℕ) → IsAskedFor gives request job turns → IsPrinted job turns request.finish text → IsReplayed gives request text
+pub is_replayed : (gives : FileFacts) (request : ReplayRequest) (job : Run) (turns text : List ℕ) → IsAskedFor gives request job turns → IsPrinted job turns request.finish text → IsReplayed gives request text
 is_replayed gives request job turns text asked printed =
     let w = printed.world in
     let tree = asked.job_for.job_is.flat.tree in

@@ -1,5 +1,5 @@
 -- What the texts of a check, of a plan, of a replay and of a run say, and what their files gave.
-use Rattle.std.specs.Prelude.{◌≡◌, ℕ, false, List, Option, Some, Ok, IsUtf8, [], ◌∷◌, ◌++◌, Bool, true}
+use Rattle.std.specs.Prelude.{◌≡◌, ℕ, false, List, Some, Ok, IsUtf8, [], ◌∷◌, ◌++◌, Bool, true}
 use Rattle.lutree.specs.Tree.{ProgramTree}
 use Rattle.luflow.specs.Program.{FlatProgram, Table as Inputs}
 use Rattle.luworld.specs.Needs.{Distribution, IsPlan}
@@ -42,6 +42,7 @@ use Rattle.luflow.specs.Tables.{Fits, OutputColumn}
 use Rattle.lutab.specs.Outputs.{output_text}
 use Rattle.lusdist_call.specs.Evaluated.{AreOutputsOf, IsEvaluated}
 use Rattle.lusdist_call.specs.Explained.{code_in, explanation}
+use Rattle.lusdist_shell.specs.Files.{FileFacts}
 
 -- the flat program, from this main node, of the program that a text spells
 pub record HasFlat (text main : List ℕ) (flat : FlatProgram) : Type 0 where
@@ -50,13 +51,13 @@ pub record HasFlat (text main : List ℕ) (flat : FlatProgram) : Type 0 where
   pub flat_is : IsFlatOf tree main flat
 
 -- the flat program, from this main node, of the program that the file of a path gave
-pub record IsFlatAt (gives : List ℕ → Option (List ℕ) → Type 0) (path main : List ℕ) (flat : FlatProgram) : Type 0 where
+pub record IsFlatAt (gives : FileFacts) (path main : List ℕ) (flat : FlatProgram) : Type 0 where
   pub program : List ℕ
   pub given : gives path (Some program)
   pub flat_is : HasFlat program main flat
 
 -- the table of a flat program's inputs that the file of a path gave, which isn't too long, in UTF-8
-pub record IsTableAt (gives : List ℕ → Option (List ℕ) → Type 0) (path : List ℕ) (flat : FlatProgram) (inputs : Inputs) : Type 0 where
+pub record IsTableAt (gives : FileFacts) (path : List ℕ) (flat : FlatProgram) (inputs : Inputs) : Type 0 where
   pub table : List ℕ
   pub given : gives path (Some table)
   pub text : IsTextOf flat.types (inputs_of flat.variables) inputs table
@@ -85,7 +86,7 @@ pub record IsJobOf (program place table main : List ℕ) (job : Run) : Type 0 wh
   pub is_meant : (σ : SourceStreams) → IsSourceSolution flat.tree main job.inputs σ → IsMeant job σ
 
 -- The job of the program, the placement and the table that the files of three paths gave.
-pub record IsJobFor (gives : List ℕ → Option (List ℕ) → Type 0) (path place_path table_path main : List ℕ) (job : Run) : Type 0 where
+pub record IsJobFor (gives : FileFacts) (path place_path table_path main : List ℕ) (job : Run) : Type 0 where
   pub program : List ℕ
   pub place : List ℕ
   pub table : List ℕ
@@ -95,13 +96,13 @@ pub record IsJobFor (gives : List ℕ → Option (List ℕ) → Type 0) (path pl
   pub job_is : IsJobOf program place table main job
 
 -- the turns of the schedule that the file of a path gave
-pub record AreTurnsAt (gives : List ℕ → Option (List ℕ) → Type 0) (path turns : List ℕ) : Type 0 where
+pub record AreTurnsAt (gives : FileFacts) (path turns : List ℕ) : Type 0 where
   pub schedule : List ℕ
   pub given : gives path (Some schedule)
   pub turns_are : schedule_of schedule ≡ Ok turns
 
 -- a job and its turns are those of texts that the files of a request gave
-pub record IsAskedFor (gives : List ℕ → Option (List ℕ) → Type 0) (request : ReplayRequest) (job : Run) (turns : List ℕ) : Type 0 where
+pub record IsAskedFor (gives : FileFacts) (request : ReplayRequest) (job : Run) (turns : List ℕ) : Type 0 where
   pub job_for : IsJobFor gives request.program.now request.place.now request.table.now request.main.now job
   pub schedule_is : AreTurnsAt gives request.schedule.now turns
 
@@ -128,7 +129,7 @@ pub record IsPrinted (job : Run) (turns : List ℕ) (finish : Bool) (text : List
 
 -- The text of a replay of what a request asks for: that of the world of its job after its turns. What the text tells of links,
 -- sites and outputs is true of the program that the file spells, at the table that the file says: for each of its solutions.
-pub record IsReplayed (gives : List ℕ → Option (List ℕ) → Type 0) (request : ReplayRequest) (text : List ℕ) : Type 0 where
+pub record IsReplayed (gives : FileFacts) (request : ReplayRequest) (text : List ℕ) : Type 0 where
   pub job : Run
   pub turns : List ℕ
   pub asked_for : IsAskedFor gives request job turns
@@ -140,7 +141,7 @@ pub record IsReplayed (gives : List ℕ → Option (List ℕ) → Type 0) (reque
 
 -- The text of a run of what a request asks for: the table of the outputs of the program at the input table. Each is what every
 -- solution of the program that the file spells gives that variable at all instants, and no operator is a fault.
-pub record IsRan (gives : List ℕ → Option (List ℕ) → Type 0) (request : RunRequest) (text : List ℕ) : Type 0 where
+pub record IsRan (gives : FileFacts) (request : RunRequest) (text : List ℕ) : Type 0 where
   pub job : Run
   pub asked_for : IsJobFor gives request.program.now request.place.now request.table.now request.main.now job
   pub outputs : List OutputColumn
@@ -149,7 +150,7 @@ pub record IsRan (gives : List ℕ → Option (List ℕ) → Type 0) (request : 
 
 -- the text of a check of what a request asks for: the program that the file's bytes spell keeps all rules and has a flat program,
 -- and the text is its canonical one, which spells that program too if it isn't longer than a text may be
-pub record IsChecked (gives : List ℕ → Option (List ℕ) → Type 0) (request : CheckRequest) (text : List ℕ) : Type 0 where
+pub record IsChecked (gives : FileFacts) (request : CheckRequest) (text : List ℕ) : Type 0 where
   pub program : List ℕ
   pub tree : ProgramTree
   pub program_given : gives request.program.now (Some program)
@@ -161,7 +162,7 @@ pub record IsChecked (gives : List ℕ → Option (List ℕ) → Type 0) (reques
 
 -- The plan of the program and the placement that the files of two paths gave. Its needs and links are all that its flows and
 -- sites make, and no others.
-pub record IsPlanFor (gives : List ℕ → Option (List ℕ) → Type 0) (path place_path main : List ℕ) (plan : Distribution) : Type 0 where
+pub record IsPlanFor (gives : FileFacts) (path place_path main : List ℕ) (plan : Distribution) : Type 0 where
   pub program : List ℕ
   pub place : List ℕ
   pub program_given : gives path (Some program)
@@ -177,13 +178,13 @@ IsPlanText Table plan text = IsTableOf plan text
 IsPlanText Graph plan text = text ≡ graph_text plan
 
 -- the text of the plan that a request asks for
-pub record IsPlanned (gives : List ℕ → Option (List ℕ) → Type 0) (request : PlanRequest) (text : List ℕ) : Type 0 where
+pub record IsPlanned (gives : FileFacts) (request : PlanRequest) (text : List ℕ) : Type 0 where
   pub plan : Distribution
   pub asked_for : IsPlanFor gives request.program.now request.place.now request.main.now plan
   pub text_is : IsPlanText request.form plan text
 
 -- the text of what a request asks for
-abbrev pub IsAnswer : (List ℕ → Option (List ℕ) → Type 0) → Request → List ℕ → Type 0
+abbrev pub IsAnswer : FileFacts → Request → List ℕ → Type 0
 IsAnswer gives (Check request) text = IsChecked gives request text
 IsAnswer gives (Eval request) text = IsEvaluated gives request text
 IsAnswer gives (Plan request) text = IsPlanned gives request text
@@ -192,7 +193,7 @@ IsAnswer gives (AsksRun request) text = IsRan gives request text
 IsAnswer gives (Explain request) text = explanation (code_in request) ≡ Some text
 
 -- what a replay notes of the turns of what a request asks for
-pub record IsNotedReplay (gives : List ℕ → Option (List ℕ) → Type 0) (request : ReplayRequest) (notes : List ℕ) : Type 0 where
+pub record IsNotedReplay (gives : FileFacts) (request : ReplayRequest) (notes : List ℕ) : Type 0 where
   pub job : Run
   pub turns : List ℕ
   pub asked_for : IsAskedFor gives request job turns
@@ -200,7 +201,7 @@ pub record IsNotedReplay (gives : List ℕ → Option (List ℕ) → Type 0) (re
   pub notes_are : AreNotesOf job turns request.finish request.turns dones notes
 
 -- what is noted on the error stream beside an answer: the turns of a replay, where that is asked for
-abbrev pub AreNotes : (List ℕ → Option (List ℕ) → Type 0) → Request → List ℕ → Type 0
+abbrev pub AreNotes : FileFacts → Request → List ℕ → Type 0
 AreNotes gives (Replay request) notes = IsNotedReplay gives request notes
 AreNotes gives _ notes = notes ≡ []
 
@@ -209,7 +210,7 @@ abbrev pub AskForNoTrace : List (List ℕ) → Type 0
 AskForNoTrace words = (request : ReplayRequest) → IsAskedBy words (Replay request) → request.turns ≡ forms.Nothing
 
 -- the text of what the words ask for
-pub record IsDone (gives : List ℕ → Option (List ℕ) → Type 0) (words : List (List ℕ)) (text : List ℕ) : Type 0 where
+pub record IsDone (gives : FileFacts) (words : List (List ℕ)) (text : List ℕ) : Type 0 where
   pub request : Request
   pub asked : IsAskedBy words request
   pub answer : IsAnswer gives request text

@@ -25,6 +25,7 @@ use Rattle.lusdist_call.specs.Files.{IsFiledAt, IsUnfiledAt, IsUnwritten}
 use Rattle.lusdist_call.specs.Mistakes.{mistake_in}
 use Rattle.lusdist_call.specs.declared.stop.Stop.{Stop}
 use Rattle.lusdist_call.specs.declared.stop.Stop.TheVariants.{CannotWrite, Fault, OutOfMemory}
+use Rattle.lusdist_shell.specs.Files.{FileFacts}
 
 -- The program that a text spells, with its flat program and the table that another text says, which fits it and isn't too long.
 -- At that table the program has one meaning.
@@ -83,11 +84,11 @@ abbrev pub wave_text : EvalRequest → FlatProgram → List OutputColumn → Lis
 wave_text request flat columns = dump_text request.main.now flat.types (kinds_of (shown_of request.all flat.variables)) columns
 
 -- where a dump is asked for, this one was written into its file
-abbrev pub IsFiled : (List ℕ → Option (List ℕ) → Type 0) → EvalRequest → List ℕ → Type 0
+abbrev pub IsFiled : FileFacts → EvalRequest → List ℕ → Type 0
 IsFiled takes request text = IsFiledAt takes (wave_path request) text
 
 -- what a request asks for of a flat program and a table, as a text, and a dump of it in its file
-pub record IsShown (takes : List ℕ → Option (List ℕ) → Type 0) (request : EvalRequest) (flat : FlatProgram) (inputs : Table) (text : List ℕ) : Type 0 where
+pub record IsShown (takes : FileFacts) (request : EvalRequest) (flat : FlatProgram) (inputs : Table) (text : List ℕ) : Type 0 where
   pub columns : List OutputColumn
   pub are_columns : AreEvaluated flat inputs (shown_of request.all flat.variables) inputs.instants columns
   pub no_fault : HasNoFault flat inputs
@@ -95,13 +96,13 @@ pub record IsShown (takes : List ℕ → Option (List ℕ) → Type 0) (request 
   pub filed : IsFiled takes request (wave_text request flat columns)
 
 -- the dump of what a request asks for of the first n instants, in the file of this path
-pub record IsShownBefore (takes : List ℕ → Option (List ℕ) → Type 0) (request : EvalRequest) (flat : FlatProgram) (inputs : Table) (n : ℕ) (path : List ℕ) : Type 0 where
+pub record IsShownBefore (takes : FileFacts) (request : EvalRequest) (flat : FlatProgram) (inputs : Table) (n : ℕ) (path : List ℕ) : Type 0 where
   pub columns : List OutputColumn
   pub are_columns : AreEvaluated flat inputs (shown_of request.all flat.variables) n columns
   pub filed : takes path (Some (wave_text request flat columns))
 
 -- where a dump is asked for, that of the first n instants is in its file
-abbrev pub AreShownBefore : (List ℕ → Option (List ℕ) → Type 0) → EvalRequest → FlatProgram → Table → ℕ → Type 0
+abbrev pub AreShownBefore : FileFacts → EvalRequest → FlatProgram → Table → ℕ → Type 0
 AreShownBefore takes request flat inputs n = (path : List ℕ) → wave_path request ≡ Some path → IsShownBefore takes request flat inputs n path
 
 -- no operator is a fault before an instant
@@ -109,7 +110,7 @@ abbrev pub HasNoFaultBefore : FlatProgram → Table → ℕ → Type 0
 HasNoFaultBefore flat inputs n = (σ : Streams) → IsSolution flat inputs σ → (t q i : ℕ) (kind : FaultKind) → slice_get flat.order q ≡ Some i → t < n → ¬ IsFault flat inputs σ i t kind
 
 -- the program and the table that the files of a request gave
-pub record IsPosedBy (gives : List ℕ → Option (List ℕ) → Type 0) (request : EvalRequest) (flat : FlatProgram) (inputs : Table) : Type 0 where
+pub record IsPosedBy (gives : FileFacts) (request : EvalRequest) (flat : FlatProgram) (inputs : Table) : Type 0 where
   pub program : List ℕ
   pub table : List ℕ
   pub program_given : gives request.program.now (Some program)
@@ -119,7 +120,7 @@ pub record IsPosedBy (gives : List ℕ → Option (List ℕ) → Type 0) (reques
 
 -- The text of an evaluation: the outputs of the program that the files of a request gave, or all variables of its main node, in order of declaration, at the
 -- table that they gave; as a table or as a chart.
-pub record IsEvaluated (gives : List ℕ → Option (List ℕ) → Type 0) (request : EvalRequest) (text : List ℕ) : Type 0 where
+pub record IsEvaluated (gives : FileFacts) (request : EvalRequest) (text : List ℕ) : Type 0 where
   pub meant : mistake_in request ≡ None
   pub flat : FlatProgram
   pub inputs : Table
@@ -150,12 +151,12 @@ IsStopped request flat inputs OutOfMemory = Unit {0}
 IsStopped request flat inputs _ = ⊥
 
 -- where it stops at a fault, the dump has all instants before it; and where the dump can't be written, a write failed
-abbrev pub IsShownTo : (List ℕ → Option (List ℕ) → Type 0) → EvalRequest → FlatProgram → Table → Stop → Type 0
+abbrev pub IsShownTo : FileFacts → EvalRequest → FlatProgram → Table → Stop → Type 0
 IsShownTo takes request flat inputs stop =
     ((name : List ℕ) (instant : ℕ) (kind : FaultKind) → stop ≡ Fault name instant kind → AreShownBefore takes request flat inputs instant) × IsUnwritten takes stop
 
 -- a dump can't be made, or not be written into its file, to which a write failed
-abbrev pub IsUnfiled : (List ℕ → Option (List ℕ) → Type 0) → EvalRequest → Stop → Type 0
+abbrev pub IsUnfiled : FileFacts → EvalRequest → Stop → Type 0
 IsUnfiled takes request stop = IsUnfiledAt takes (wave_path request) stop
 
 -- a stop that tells no fault of an evaluation, and no file that can't be written
@@ -163,7 +164,7 @@ abbrev pub IsNoFault : Stop → Type 0
 IsNoFault stop = ((name : List ℕ) (instant : ℕ) (kind : FaultKind) → stop ≡ Fault name instant kind → ⊥) × ((path : List ℕ) → stop ≡ CannotWrite path → ⊥)
 
 -- The dump of an evaluation: the variables that the request asks for, of the program and at the table that its files gave, in the file that is asked for.
-pub record IsDumped (gives : List ℕ → Option (List ℕ) → Type 0) (takes : List ℕ → Option (List ℕ) → Type 0) (request : EvalRequest) : Type 0 where
+pub record IsDumped (gives : FileFacts) (takes : FileFacts) (request : EvalRequest) : Type 0 where
   pub flat : FlatProgram
   pub inputs : Table
   pub asked : IsPosedBy gives request flat inputs
@@ -172,7 +173,7 @@ pub record IsDumped (gives : List ℕ → Option (List ℕ) → Type 0) (takes :
   pub filed : IsFiled takes request (wave_text request flat columns)
 
 -- the same of the instants before one, in the file of this path
-pub record IsDumpedBefore (gives : List ℕ → Option (List ℕ) → Type 0) (takes : List ℕ → Option (List ℕ) → Type 0) (request : EvalRequest) (instant : ℕ) (path : List ℕ) : Type 0 where
+pub record IsDumpedBefore (gives : FileFacts) (takes : FileFacts) (request : EvalRequest) (instant : ℕ) (path : List ℕ) : Type 0 where
   pub flat : FlatProgram
   pub inputs : Table
   pub asked : IsPosedBy gives request flat inputs
@@ -182,13 +183,13 @@ pub record IsDumpedBefore (gives : List ℕ → Option (List ℕ) → Type 0) (t
 
 -- An evaluation that stops at a fault has dumped all instants before it, where a dump is asked for; and one that stops since its dump can't be written has tried a write,
 -- which failed.
-abbrev pub IsDumpedTo : (List ℕ → Option (List ℕ) → Type 0) → (List ℕ → Option (List ℕ) → Type 0) → EvalRequest → Stop → Type 0
+abbrev pub IsDumpedTo : FileFacts → FileFacts → EvalRequest → Stop → Type 0
 IsDumpedTo gives takes request stop =
     ((name : List ℕ) (instant : ℕ) (kind : FaultKind) → stop ≡ Fault name instant kind → (path : List ℕ) → wave_path request ≡ Some path → IsDumpedBefore gives takes request instant path) × IsUnwritten takes stop
 
 -- The first fault of the program and the table that the files of a request gave. It is a fault of the source: in each solution of the
 -- program an operator in the equation of that variable, or in an instance of a call there, has no result at that instant.
-pub record IsFaultOf (gives : List ℕ → Option (List ℕ) → Type 0) (request : EvalRequest) (name : List ℕ) (instant : ℕ) (kind : FaultKind) : Type 0 where
+pub record IsFaultOf (gives : FileFacts) (request : EvalRequest) (name : List ℕ) (instant : ℕ) (kind : FaultKind) : Type 0 where
   pub flat : FlatProgram
   pub inputs : Table
   pub asked : IsPosedBy gives request flat inputs

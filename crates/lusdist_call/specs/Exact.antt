@@ -13,9 +13,10 @@ use Rattle.lusdist_call.specs.declared.stop.Stop.TheVariants.{CannotWrite, Synta
 use Rattle.lusdist_call.specs.Asked.{IsAnswer}
 use Rattle.lusdist_call.specs.Stopped.{IsRequestStopped}
 use Rattle.lusdist_call.specs.Statuses.{status_of}
+use Rattle.lusdist_shell.specs.Files.{FileFacts}
 
 -- each file has one text, or none
-abbrev pub HasOneText : (List ℕ → Option (List ℕ) → Type 0) → Type 0
+abbrev pub HasOneText : FileFacts → Type 0
 HasOneText gives = (path : List ℕ) (one other : Option (List ℕ)) → gives path one → gives path other → one ≡ other
 
 -- a stop that says nothing of the files that are read: memory ran out, a dump couldn't be written, or a run was cut short, since a thread was refused or a site was left
@@ -34,13 +35,13 @@ SaysNothing _ = ⊥
 
 -- Where each file has one text or none, what has an answer isn't refused, unless by a stop that says nothing of them; and what is refused has no
 -- answer.
-abbrev pub HasOneOutcome : (List ℕ → Option (List ℕ) → Type 0) → Type 0
+abbrev pub HasOneOutcome : FileFacts → Type 0
 HasOneOutcome gives =
     HasOneText gives → (request : Request) (text : List ℕ) (stop : Stop)
     → IsAnswer gives request text → IsRequestStopped gives request stop → SaysNothing stop
 
 -- Two refusals of one request have one status, where each file has one text or none and neither says nothing of them.
-abbrev pub HasOneStatus : (List ℕ → Option (List ℕ) → Type 0) → Type 0
+abbrev pub HasOneStatus : FileFacts → Type 0
 HasOneStatus gives =
     HasOneText gives → (request : Request) (one other : Stop)
     → IsRequestStopped gives request one → IsRequestStopped gives request other
@@ -53,7 +54,7 @@ IsFaultOfRun request stop = ⊥
 
 -- Two refusals of one request are the same, where each file has one text or none, neither says nothing of them, and they are no faults of a run on
 -- threads.
-abbrev pub HasOneRefusal : (List ℕ → Option (List ℕ) → Type 0) → Type 0
+abbrev pub HasOneRefusal : FileFacts → Type 0
 HasOneRefusal gives =
     HasOneText gives → (request : Request) (one other : Stop)
     → IsRequestStopped gives request one → IsRequestStopped gives request other

@@ -12,6 +12,7 @@ use Rattle.lusdist_shell.specs.Sinks.{HasPut}
 use Rattle.lusdist_call.specs.Lines.{line_of}
 use Rattle.lusdist_call.specs.declared.stop.Stop.{Stop}
 use Rattle.lusdist_call.specs.declared.stop.Stop.TheVariants.{NotAscii, Syntax, Rules, Place, Table, Schedule}
+use Rattle.lusdist_shell.specs.Files.{FileFacts}
 
 -- whether a request asks why a text is refused
 abbrev pub asks_why : Request → Bool
@@ -71,7 +72,7 @@ abbrev pub reason_text : List ℕ → List ℕ → List ℕ → List ℕ
 reason_text at what mend = at ++ what ++ codes "\n" ++ mend ++ codes "\n"
 
 -- The reason of a stop, by what the file of the path gave.
-pub record IsReason (gives : List ℕ → Option (List ℕ) → Type 0) (path : List ℕ) (stop : Stop) (told : List ℕ) : Type 0 where
+pub record IsReason (gives : FileFacts) (path : List ℕ) (stop : Stop) (told : List ℕ) : Type 0 where
   pub text : List ℕ
   pub given : gives path (Some text)
   pub at : List ℕ
@@ -82,12 +83,12 @@ pub record IsReason (gives : List ℕ → Option (List ℕ) → Type 0) (path : 
 
 -- What is told behind the line of a stop: where that is asked for, its reason; or nothing, as where no text is to blame, where its file can't be read again,
 -- or where memory runs out.
-pub data IsToldBehind (gives : List ℕ → Option (List ℕ) → Type 0) (request : Request) (stop : Stop) (told : List ℕ) : Type 0 where
+pub data IsToldBehind (gives : FileFacts) (request : Request) (stop : Stop) (told : List ℕ) : Type 0 where
   nothing : told ≡ [] → IsToldBehind gives request stop told
   reason : asks_why request ≡ true → IsReason gives (blamed_path request stop) stop told → IsToldBehind gives request stop told
 
 -- the error stream has the line of a stop more, and behind it what is told of the stop
-pub record HasRefusal {V : Type 0} (gives : List ℕ → Option (List ℕ) → Type 0) (request : Request) (stop : Stop) (held : V → Option (List ℕ)) (old new : Sink V) : Type 0 where
+pub record HasRefusal {V : Type 0} (gives : FileFacts) (request : Request) (stop : Stop) (held : V → Option (List ℕ)) (old new : Sink V) : Type 0 where
   pub told : List ℕ
   pub behind : IsToldBehind gives request stop told
   pub put : HasPut held old new (line_of stop ++ 10 ∷ told)

@@ -1,5 +1,5 @@
 -- Why a call stops before it prints anything.
-use Rattle.std.specs.Prelude.{◌≡◌, ◌⊎◌, ℕ, List, Option, Some, None, Err}
+use Rattle.std.specs.Prelude.{◌≡◌, ◌⊎◌, ℕ, List, Some, None, Err}
 use Rattle.lutree.specs.Places.{ProgramPlaces}
 use Rattle.lutree.specs.Tree.{ProgramTree}
 use Rattle.luflow.specs.Program.{FlatProgram, Table}
@@ -34,6 +34,7 @@ use Rattle.lusdist_call.specs.Evaluated.{IsFaultOf, IsPosedBy, wave_path}
 use Rattle.lusdist_call.specs.Waved.{replay_path, run_path}
 use Rattle.lusdist_call.specs.Explained.{code_in, IsExplainStopped}
 use Rattle.lusdist_call.specs.Refused.{IsToldOf, IsProgramRefused, IsPlaceRefused, IsTableRefused}
+use Rattle.lusdist_shell.specs.Files.{FileFacts}
 
 -- the bytes of a schedule's file are refused so
 abbrev pub IsScheduleRefused : List ℕ → Stop → Type 0
@@ -46,34 +47,34 @@ pub data HasNoFlat (bytes main : List ℕ) (stop : Stop) : Type 0 where
   unruled : (tree : ProgramTree) (places : ProgramPlaces) → SpellsText bytes tree → ArePlacesOf bytes places → IsToldOf tree places main stop → HasNoFlat bytes main stop
 
 -- It stops at the table of this path: it can't be read, or is none of the program's.
-pub data StopsAtTable (gives : List ℕ → Option (List ℕ) → Type 0) (path : List ℕ) (flat : FlatProgram) (stop : Stop) : Type 0 where
+pub data StopsAtTable (gives : FileFacts) (path : List ℕ) (flat : FlatProgram) (stop : Stop) : Type 0 where
   no_table : IsUnread gives path stop → StopsAtTable gives path flat stop
   bad_table : (table : List ℕ) → gives path (Some table) → IsTableRefused flat.types (inputs_of flat.variables) table stop → StopsAtTable gives path flat stop
 
 -- It stops at the schedule of this path: it can't be read, or is none.
-pub data StopsAtSchedule (gives : List ℕ → Option (List ℕ) → Type 0) (path : List ℕ) (stop : Stop) : Type 0 where
+pub data StopsAtSchedule (gives : FileFacts) (path : List ℕ) (stop : Stop) : Type 0 where
   no_schedule : IsUnread gives path stop → StopsAtSchedule gives path stop
   bad_schedule : (schedule : List ℕ) → gives path (Some schedule) → IsScheduleRefused schedule stop → StopsAtSchedule gives path stop
 
 -- A call stops at the program of this path: it can't be read, or has no flat program from this main node.
-pub data StopsAtProgram (gives : List ℕ → Option (List ℕ) → Type 0) (path main : List ℕ) (stop : Stop) : Type 0 where
+pub data StopsAtProgram (gives : FileFacts) (path main : List ℕ) (stop : Stop) : Type 0 where
   program_unread : IsUnread gives path stop → StopsAtProgram gives path main stop
   program_refused : (program : List ℕ) → gives path (Some program) → HasNoFlat program main stop → StopsAtProgram gives path main stop
 
 -- It stops there, or, where the program has a flat program, at the placement of the other path.
-pub data StopsAtPlan (gives : List ℕ → Option (List ℕ) → Type 0) (path place_path main : List ℕ) (stop : Stop) : Type 0 where
+pub data StopsAtPlan (gives : FileFacts) (path place_path main : List ℕ) (stop : Stop) : Type 0 where
   no_program : StopsAtProgram gives path main stop → StopsAtPlan gives path place_path main stop
   place_unread : (program : List ℕ) (flat : FlatProgram) → gives path (Some program) → HasFlat program main flat → IsUnread gives place_path stop → StopsAtPlan gives path place_path main stop
   place_refused : (program place : List ℕ) (flat : FlatProgram) → gives path (Some program) → HasFlat program main flat → gives place_path (Some place) → IsPlaceRefused flat place stop → StopsAtPlan gives path place_path main stop
 
 -- a check of what a request asks for stops so
-pub data IsCheckStopped (gives : List ℕ → Option (List ℕ) → Type 0) (request : CheckRequest) (stop : Stop) : Type 0 where
+pub data IsCheckStopped (gives : FileFacts) (request : CheckRequest) (stop : Stop) : Type 0 where
   check_program : StopsAtProgram gives request.program.now request.main.now stop → IsCheckStopped gives request stop
   check_memory : stop ≡ OutOfMemory → IsCheckStopped gives request stop
 
 -- An evaluation of what a request asks for stops so: at its program; where that has a flat program, at its table; at the
 -- first fault; or, where both are as they should be, at the file of its dump, which can't be written.
-pub data IsEvalStopped (gives : List ℕ → Option (List ℕ) → Type 0) (request : EvalRequest) (stop : Stop) : Type 0 where
+pub data IsEvalStopped (gives : FileFacts) (request : EvalRequest) (stop : Stop) : Type 0 where
   eval_program : StopsAtProgram gives request.program.now request.main.now stop → IsEvalStopped gives request stop
   eval_unread : (program : List ℕ) (flat : FlatProgram) → gives request.program.now (Some program) → HasFlat program request.main.now flat → IsUnread gives request.table.now stop → IsEvalStopped gives request stop
   eval_table : (program table : List ℕ) (flat : FlatProgram) → gives request.program.now (Some program) → gives request.table.now (Some table) → HasFlat program request.main.now flat → IsTableRefused flat.types (inputs_of flat.variables) table stop → IsEvalStopped gives request stop
@@ -82,24 +83,24 @@ pub data IsEvalStopped (gives : List ℕ → Option (List ℕ) → Type 0) (requ
   eval_memory : stop ≡ OutOfMemory → IsEvalStopped gives request stop
 
 -- What a request asks of an evaluation stops so: at what can't be meant; or, where it can be, at its files and at a fault.
-pub data IsEvalRefused (gives : List ℕ → Option (List ℕ) → Type 0) (request : EvalRequest) (stop : Stop) : Type 0 where
+pub data IsEvalRefused (gives : FileFacts) (request : EvalRequest) (stop : Stop) : Type 0 where
   eval_mistaken : (mistake : Mistake) → mistake_in request ≡ Some mistake → stop ≡ Mistaken mistake → IsEvalRefused gives request stop
   eval_stopped : mistake_in request ≡ None → IsEvalStopped gives request stop → IsEvalRefused gives request stop
 
 -- a plan of what a request asks for stops so
-pub data IsPlanStopped (gives : List ℕ → Option (List ℕ) → Type 0) (request : PlanRequest) (stop : Stop) : Type 0 where
+pub data IsPlanStopped (gives : FileFacts) (request : PlanRequest) (stop : Stop) : Type 0 where
   plan_files : StopsAtPlan gives request.program.now request.place.now request.main.now stop → IsPlanStopped gives request stop
   plan_memory : stop ≡ OutOfMemory → IsPlanStopped gives request stop
 
 -- It stops as at a plan; or, where there is a plan, at the table of a third path.
-pub data StopsAtJob (gives : List ℕ → Option (List ℕ) → Type 0) (path place_path table_path main : List ℕ) (stop : Stop) : Type 0 where
+pub data StopsAtJob (gives : FileFacts) (path place_path table_path main : List ℕ) (stop : Stop) : Type 0 where
   no_plan : StopsAtPlan gives path place_path main stop → StopsAtJob gives path place_path table_path main stop
   table_unread : (plan : Distribution) → IsPlanFor gives path place_path main plan → IsUnread gives table_path stop → StopsAtJob gives path place_path table_path main stop
   table_refused : (plan : Distribution) (table : List ℕ) → IsPlanFor gives path place_path main plan → gives table_path (Some table) → IsTableRefused plan.flat.types (inputs_of plan.flat.variables) table stop → StopsAtJob gives path place_path table_path main stop
 
 -- A replay of what a request asks for stops so: at its job; where there is one, at its schedule; or, where all are as they should be, at the file of its
 -- dump, which can't be written.
-pub data IsReplayStopped (gives : List ℕ → Option (List ℕ) → Type 0) (request : ReplayRequest) (stop : Stop) : Type 0 where
+pub data IsReplayStopped (gives : FileFacts) (request : ReplayRequest) (stop : Stop) : Type 0 where
   replay_job : StopsAtJob gives request.program.now request.place.now request.table.now request.main.now stop → IsReplayStopped gives request stop
   replay_unread : (job : Run) → IsJobFor gives request.program.now request.place.now request.table.now request.main.now job → IsUnread gives request.schedule.now stop → IsReplayStopped gives request stop
   replay_schedule : (job : Run) (turns : List ℕ) → IsJobFor gives request.program.now request.place.now request.table.now request.main.now job → gives request.schedule.now (Some turns) → IsScheduleRefused turns stop → IsReplayStopped gives request stop
@@ -108,7 +109,7 @@ pub data IsReplayStopped (gives : List ℕ → Option (List ℕ) → Type 0) (re
 
 -- A fault of the run that a request asks for, told by the name of the main variable in whose equation it stands: it is the one at which a
 -- site of the run stopped, and a fault of the source.
-pub record IsRunFault (gives : List ℕ → Option (List ℕ) → Type 0) (request : RunRequest) (name : List ℕ) (instant : ℕ) (kind : FaultKind) : Type 0 where
+pub record IsRunFault (gives : FileFacts) (request : RunRequest) (name : List ℕ) (instant : ℕ) (kind : FaultKind) : Type 0 where
   pub job : Run
   pub asked_for : IsJobFor gives request.program.now request.place.now request.table.now request.main.now job
   pub site : ℕ
@@ -119,7 +120,7 @@ pub record IsRunFault (gives : List ℕ → Option (List ℕ) → Type 0) (reque
 
 -- A run of what a request asks for stops so: at its job; or, where there is one, at a fault, because a site was left by another or a
 -- thread was refused, or at the file of its dump, which can't be written.
-pub data IsRunStopped (gives : List ℕ → Option (List ℕ) → Type 0) (request : RunRequest) (stop : Stop) : Type 0 where
+pub data IsRunStopped (gives : FileFacts) (request : RunRequest) (stop : Stop) : Type 0 where
   run_job : StopsAtJob gives request.program.now request.place.now request.table.now request.main.now stop → IsRunStopped gives request stop
   run_fault : (name : List ℕ) (instant : ℕ) (kind : FaultKind) → stop ≡ Fault name instant kind → IsRunFault gives request name instant kind → IsRunStopped gives request stop
   run_lost : (job : Run) → IsJobFor gives request.program.now request.place.now request.table.now request.main.now job → stop ≡ LinkLost → IsRunStopped gives request stop
@@ -128,7 +129,7 @@ pub data IsRunStopped (gives : List ℕ → Option (List ℕ) → Type 0) (reque
   run_memory : stop ≡ OutOfMemory → IsRunStopped gives request stop
 
 -- what a request asks for stops so
-abbrev pub IsRequestStopped : (List ℕ → Option (List ℕ) → Type 0) → Request → Stop → Type 0
+abbrev pub IsRequestStopped : FileFacts → Request → Stop → Type 0
 IsRequestStopped gives (Check request) stop = IsCheckStopped gives request stop
 IsRequestStopped gives (Eval request) stop = IsEvalRefused gives request stop
 IsRequestStopped gives (Plan request) stop = IsPlanStopped gives request stop
@@ -137,7 +138,7 @@ IsRequestStopped gives (AsksRun request) stop = IsRunStopped gives request stop
 IsRequestStopped gives (Explain request) stop = IsExplainStopped (code_in request) stop
 
 -- what the words ask for stops so, with this status
-pub record IsRefusal (gives : List ℕ → Option (List ℕ) → Type 0) (words : List (List ℕ)) (status : ℕ) : Type 0 where
+pub record IsRefusal (gives : FileFacts) (words : List (List ℕ)) (status : ℕ) : Type 0 where
   pub request : Request
   pub asked : IsAskedBy words request
   pub stop : Stop

@@ -18,6 +18,7 @@ use Rattle.lusdist_shell.specs.declared.request.ReplayRequest.{ReplayRequest}
 use Rattle.lusdist_shell.specs.declared.request.RunRequest.{RunRequest}
 use Rattle.lusdist_call.specs.Asked.{IsAskedFor, IsJobFor, IsWorldOf}
 use Rattle.lusdist_call.specs.Evaluated.{AreOutputsOf}
+use Rattle.lusdist_shell.specs.Files.{FileFacts}
 
 -- the path of the file that a dump is asked to be written into
 abbrev pub run_path : RunRequest → Option (List ℕ)
@@ -31,14 +32,14 @@ abbrev pub run_dump : List ℕ → Distribution → List OutputColumn → List �
 run_dump main plan outputs = site_dump main plan (signals_of plan.flat.types (output_kinds plan.flat.variables) outputs)
 
 -- where a run of a job is asked for a dump, that of its outputs is in its file
-abbrev pub AreRunWaves : (List ℕ → Option (List ℕ) → Type 0) → RunRequest → Run → Type 0
+abbrev pub AreRunWaves : FileFacts → RunRequest → Run → Type 0
 AreRunWaves takes request job =
     (path : List ℕ) → run_path request ≡ Some path
     → (outputs : List OutputColumn) × AreRunOutputs job outputs × takes path (Some (run_dump request.main.now job.plan outputs))
 
 -- The dump of a run in the file of this path. Each output is what every solution of the program that the file spells gives it at all instants, and no
 -- operator is a fault.
-pub record IsRunFiled (gives : List ℕ → Option (List ℕ) → Type 0) (takes : List ℕ → Option (List ℕ) → Type 0) (request : RunRequest) (path : List ℕ) : Type 0 where
+pub record IsRunFiled (gives : FileFacts) (takes : FileFacts) (request : RunRequest) (path : List ℕ) : Type 0 where
   pub job : Run
   pub asked_for : IsJobFor gives request.program.now request.place.now request.table.now request.main.now job
   pub outputs : List OutputColumn
@@ -46,27 +47,27 @@ pub record IsRunFiled (gives : List ℕ → Option (List ℕ) → Type 0) (takes
   pub filed : takes path (Some (run_dump request.main.now job.plan outputs))
 
 -- where a run is asked for a dump, that is in its file
-abbrev pub IsRunDumped : (List ℕ → Option (List ℕ) → Type 0) → (List ℕ → Option (List ℕ) → Type 0) → RunRequest → Type 0
+abbrev pub IsRunDumped : FileFacts → FileFacts → RunRequest → Type 0
 IsRunDumped gives takes request = (path : List ℕ) → run_path request ≡ Some path → IsRunFiled gives takes request path
 
 -- the dump of the outputs of a world in the file of this path, each as far as it was passed
-pub record IsWorldFiled (takes : List ℕ → Option (List ℕ) → Type 0) (main : List ℕ) (w : Progress) (path : List ℕ) : Type 0 where
+pub record IsWorldFiled (takes : FileFacts) (main : List ℕ) (w : Progress) (path : List ℕ) : Type 0 where
   pub signals : List Signal
   pub are_signals : AreOutputSignals w signals
   pub filed : takes path (Some (site_dump main w.job.plan signals))
 
 -- where a replay is asked for a dump, that of its world is in its file
-abbrev pub IsWorldDumped : (List ℕ → Option (List ℕ) → Type 0) → ReplayRequest → Progress → Type 0
+abbrev pub IsWorldDumped : FileFacts → ReplayRequest → Progress → Type 0
 IsWorldDumped takes request w = (path : List ℕ) → replay_path request ≡ Some path → IsWorldFiled takes request.main.now w path
 
 -- the dump of the world of a job after its turns, which keeps what the source says, in the file of this path
-pub record IsWaved (takes : List ℕ → Option (List ℕ) → Type 0) (request : ReplayRequest) (job : Run) (turns : List ℕ) (path : List ℕ) : Type 0 where
+pub record IsWaved (takes : FileFacts) (request : ReplayRequest) (job : Run) (turns : List ℕ) (path : List ℕ) : Type 0 where
   pub world : Progress
   pub world_is : IsWorldOf job turns request.finish world
   pub faithful : IsFaithful world.job world.dones
   pub filed : IsWorldFiled takes request.main.now world path
 
-abbrev pub AreWaved : (List ℕ → Option (List ℕ) → Type 0) → ReplayRequest → Run → List ℕ → Type 0
+abbrev pub AreWaved : FileFacts → ReplayRequest → Run → List ℕ → Type 0
 AreWaved takes request job turns = (path : List ℕ) → replay_path request ≡ Some path → IsWaved takes request job turns path
 
 -- each output is a beginning of what a solution of the source gives it
@@ -77,7 +78,7 @@ AreSignalsTrue tree main inputs signals =
 
 -- The dump of a replay in the file of this path: that of the world of its job after its turns. What it says of an output is a beginning of what
 -- every solution of the program that the file spells gives it.
-pub record IsReplayFiled (gives : List ℕ → Option (List ℕ) → Type 0) (takes : List ℕ → Option (List ℕ) → Type 0) (request : ReplayRequest) (path : List ℕ) : Type 0 where
+pub record IsReplayFiled (gives : FileFacts) (takes : FileFacts) (request : ReplayRequest) (path : List ℕ) : Type 0 where
   pub job : Run
   pub turns : List ℕ
   pub asked_for : IsAskedFor gives request job turns
@@ -85,5 +86,5 @@ pub record IsReplayFiled (gives : List ℕ → Option (List ℕ) → Type 0) (ta
   pub is_true : AreSignalsTrue asked_for.job_for.job_is.flat.tree request.main.now job.inputs waved.filed.signals
 
 -- where a replay is asked for a dump, that is in its file
-abbrev pub IsReplayDumped : (List ℕ → Option (List ℕ) → Type 0) → (List ℕ → Option (List ℕ) → Type 0) → ReplayRequest → Type 0
+abbrev pub IsReplayDumped : FileFacts → FileFacts → ReplayRequest → Type 0
 IsReplayDumped gives takes request = (path : List ℕ) → replay_path request ≡ Some path → IsReplayFiled gives takes request path

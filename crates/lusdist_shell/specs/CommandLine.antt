@@ -1,5 +1,6 @@
 -- The command line of the program, in the words of the crate that parses it.
 use Rattle.std.specs.Prelude.{ℕ, [], ◌∷◌, true, codes, Some}
+use Rattle.lulimits.specs.Limits.{most_workers}
 use Rattle.clap.specs.Walk.{Rule, Text}
 use Rattle.clap.specs.Simple.{App, new_app, new_rule, on_top, with_rule, with_subcommand}
 use Rattle.clap.specs.declared.builder.action.ArgAction.TheVariants.{Set, SetTrue}
@@ -55,12 +56,9 @@ replay =
     with_rule (with_rule (with_rule (with_rule (with_rule (with_rule (with_rule (with_rule (judging (codes "replay"))
     (flag_rule (codes "finish"))) (flag_rule (codes "trace"))) (flag_rule (codes "chart"))) vcd_rule) (path_rule (codes "PROGRAM"))) (path_rule (codes "PLACE"))) (path_rule (codes "TABLE"))) (path_rule (codes "SCHEDULE"))
 
--- how many workers may serve the sites
+-- the fewest workers that may serve the sites
 abbrev pub fewest_workers : ℕ
 fewest_workers = 1
-
-abbrev pub most_workers : ℕ
-most_workers = 16
 
 -- `--workers W`, a decimal number from 1 to 16
 abbrev pub workers_rule : Rule

@@ -1,7 +1,11 @@
--- What it says of a file that a read gave no bytes.
+-- What files give and take.
 use Rattle.std.specs.Prelude.{ℕ, List, Option, None}
 use Rattle.lusdist_shell.specs.declared.files.ReadError.{ReadError}
 use Rattle.lusdist_shell.specs.declared.files.ReadError.TheVariants.{CannotRead, OutOfMemory}
+
+-- of a path: that a read may give these bytes, or none; or that these were written there, or a write failed
+abbrev pub FileFacts : Type 1
+FileFacts = List ℕ → Option (List ℕ) → Type 0
 
 -- the path gives none; or memory ran out, which says nothing of the file
 abbrev pub IsMissed : (Option (List ℕ) → Type 0) → ReadError → Type 0

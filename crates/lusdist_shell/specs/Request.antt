@@ -17,7 +17,8 @@ use Rattle.lusdist_shell.specs.declared.request.TurnsForm.TheVariants.{Nothing, 
 use Rattle.lusdist_shell.specs.declared.request.RunRequest.{RunRequest}
 use Rattle.lusdist_shell.specs.declared.request.Request.{Request}
 use Rattle.lusdist_shell.specs.declared.request.Request.TheVariants.{Check, Eval, Plan, Replay, Run, Explain}
-use Rattle.lusdist_shell.specs.CommandLine.{fewest_workers, most_workers, last_instant, lusdist}
+use Rattle.lulimits.specs.Limits.{most_workers}
+use Rattle.lusdist_shell.specs.CommandLine.{fewest_workers, last_instant, lusdist}
 
 -- the text that the matches of a command hold for an argument
 abbrev pub text_in : List Row → Text → Text

@@ -7,13 +7,11 @@ ghost use Rattle.lusdist_shell.specs.Arguments.{rule_in};
 
 use clap::builder::ValueParser;
 use clap::{Arg, ArgAction};
+use lulimits::limits::MOST_WORKERS;
 use std::alloc::Global;
 
 /// The fewest workers that may serve the sites.
 const FEWEST_WORKERS: u64 = 1;
-
-/// The most workers that may serve the sites.
-const MOST_WORKERS: u64 = 16;
 
 /// The last instant that a table may have.
 const LAST_INSTANT: u64 = 999_999;

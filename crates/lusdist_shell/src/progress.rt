@@ -1,5 +1,6 @@
 //! How far a run has come.
 
+use lulimits::limits::MOST_SITES;
 use std::io::Eprint;
 use std::sync::atomic::{AtomicU64, Ordering};
 use std::time::{Clock, Instant};
@@ -37,12 +38,12 @@ pub struct Meter<'a, R> {
     begun: Option<Instant>,
     sites: AtomicU64,
     instants: AtomicU64,
-    reached: [AtomicU64; 16],
+    reached: [AtomicU64; MOST_SITES],
     told: AtomicU64,
 }
 
-/// Sixteen sites that have done nothing.
-fn none_reached() -> [AtomicU64; 16] {
+/// As many sites as there may be, which have done nothing.
+fn none_reached() -> [AtomicU64; MOST_SITES] {
     [
         AtomicU64::new(0),
         AtomicU64::new(0),

@@ -8,6 +8,7 @@ ghost use Rattle.lusdist_shell.specs.Request.{text_in, is_given, form_in, turns_
 
 use crate::command::lusdist;
 use clap::{ArgMatches, Error};
+use lulimits::limits::MOST_WORKERS;
 use std::alloc::Global;
 
 /// What a check is asked of.
@@ -282,7 +283,7 @@ fn workers_of(text: Option<&str>) -> Option<u8>
     let Ok(workers) = text?.parse::<u8>() else {
         return None;
     };
-    if 1 <= workers && workers <= 16 {
+    if 1 <= workers && u64::from(workers) <= MOST_WORKERS {
         Some(workers)
     } else {
         None

@@ -96,7 +96,7 @@ impl Site {
         ensures site { IfOk result (λ x. x.site ≡ inputs.site) }
         ensures done { IfOk result (λ x. x.done ≡ 0) }
     {
-        let _run = inputs.site();
+        inputs.recall_invariant();
         let held = new_held(alloc, &program, inputs.instants())?;
         Ok(begun(program, inputs, held))
     }
@@ -192,7 +192,7 @@ impl Site {
         ensures few { result ≤ most_left }
         ensures run { IsRun self.now.job }
     {
-        let _run = self.desk.inputs.site();
+        self.desk.inputs.recall_invariant();
         if self.desk.fault.is_some() {
             return 0;
         }

@@ -10,16 +10,16 @@ returns-then-is_some-clause-left c =
     let a = c.self.inside.desk in
     let i = c.self.invariant in
     let P : SiteAt → Type 0 = λ v. 0 ≡ left_after (outline v.job (streams_of v.job)) v.site v.done in
-    subst P c.self.view_is (sym (desk_faulted a c.site-run.ensures.run i.set i.stands i.tells (sym c.is_some.ensures ∙ c.if-is_some.true)))
+    subst P c.self.view_is (sym (desk_faulted a c.recall_invariant.ensures i.set i.stands i.tells (sym c.is_some.ensures ∙ c.if-is_some.true)))
 
 pub returns-then-is_some-clause-run : goal.returns-then-is_some-clause-run
-returns-then-is_some-clause-run c = subst (λ (v : SiteAt). IsRun v.job) c.self.view_is c.site-run.ensures.run
+returns-then-is_some-clause-run c = subst (λ (v : SiteAt). IsRun v.job) c.self.view_is c.recall_invariant.ensures
 
 pub left-requires : goal.left-requires
 left-requires c =
     let i = c.self.invariant in
     let goes = sym c.is_some.ensures ∙ c.if-is_some.false in
-    record { run = c.site-run.ensures.run; set = i.set; stands = i.stands; going = goes; ready = i.ready goes }
+    record { run = c.recall_invariant.ensures; set = i.set; stands = i.stands; going = goes; ready = i.ready goes }
 
 pub returns-clause-left : goal.returns-clause-left
 returns-clause-left c =
@@ -27,4 +27,4 @@ returns-clause-left c =
     subst P c.self.view_is c.left.ensures.left
 
 pub returns-clause-run : goal.returns-clause-run
-returns-clause-run c = subst (λ (v : SiteAt). IsRun v.job) c.self.view_is c.site-run.ensures.run
+returns-clause-run c = subst (λ (v : SiteAt). IsRun v.job) c.self.view_is c.recall_invariant.ensures
