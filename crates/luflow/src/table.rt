@@ -148,7 +148,7 @@ impl Inputs {
         }
     }
 
-    /// Does nothing. A proof has from it that the columns are as long as the table and have different names.
+    /// Does nothing. A proof has from it that the table isn't too long and that each column has a value for each instant.
     pub fn recall_invariant(&self)
         ensures { IsTable self.now }
     {}
