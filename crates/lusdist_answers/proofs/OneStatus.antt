@@ -43,7 +43,7 @@ use Rattle.lusdist_answers.proofs.Exclusive.{memory_is, none_some, unread_memory
 
 -- ---- the status of a stop by what it is of
 
--- a stop of a text, and no want of memory
+-- a stop of a text, and not out of memory
 abbrev pub IsOfText : Stop → Type 0
 IsOfText (CannotRead path) = ⊥
 IsOfText (CannotWrite written) = ⊥

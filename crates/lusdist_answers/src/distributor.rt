@@ -63,14 +63,15 @@ impl<'a, F: Files> Commands for Distributor<'a, F> {
 
 /// One call of the program, of which the first word is the program's name. Answers the exit status: 0 where it is done,
 /// also where a site of a replay faulted, and for help; 1 where a text is refused; 2 for a mistake in the words or a file that
-/// can't be read; 3 for a fault of an evaluation or a run, a run that was cut short, want of memory, or output or a dump that can't be
-/// written. A refusal is one line on the error stream, with its reason behind it where that is asked for; where a replay is asked to tell its turns, they are told there. A run waits for its threads; the other commands wait for nobody.
+/// can't be read; 3 for a fault of an evaluation or a run, a run that was cut short, out of memory, or output or a dump that can't be
+/// written. A refusal is one line on the error stream, with its reason behind it where that is asked for; where a replay is asked to report its
+/// turns, they are reported there. A run waits for its threads; the other commands wait for nobody.
 ///
 /// Where a dump is asked for, its file is written before the answer: of an evaluation that of the whole table, or, where it stops at a
 /// fault, of all instants before it; of a run that of the whole outputs, and none where it stops; of a replay that of the outputs as far as
-/// they were passed. Where it can't be written, that is told in place of the answer or the fault.
+/// they were passed. Where it can't be written, that is reported in place of the answer or the fault.
 ///
-/// Where a run is asked to tell how far it has come, the progress is told, by the threads that serve the sites. It is handed the number
+/// Where a run is asked to say how far it has come, the progress is reported, by the threads that serve the sites. It is handed the number
 /// of a site and an instant and nothing of the values; what it does with them isn't in the contract.
 pub fn serve_words<R: Threads + Wait + Clock + Sync, F: Files, P: Progress, W: Write, V: Write>(
     rt: &R,
@@ -106,7 +107,7 @@ pub fn serve_words<R: Threads + Wait + Clock + Sync, F: Files, P: Progress, W: W
     ensures file { takes lusdist (map string_bytes words.entry.now) ≡ true → result ≡ 2
         → IsRefusal (F.gives files.now) (map string_bytes words.entry.now) 2 }
 
-    // Where the call is done and no turns are to be told, nothing goes to the error stream.
+    // Where the call is done and no turns are to be reported, nothing goes to the error stream.
     ensures silent { result ≡ 0 → AskForNoTrace (map string_bytes words.entry.now)
         → err.new ≡ err.old }
 {

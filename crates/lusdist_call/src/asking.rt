@@ -1,5 +1,5 @@
-//! What a call gets from a check, an evaluation, a replay and a run, by the request as it stands. What a call says speaks of all commands at once, and each of
-//! these has the few clauses of its own command.
+//! What a call gets from a check, an evaluation, a replay and a run, by the request as it stands. What a call says speaks of all commands at once,
+//! and each of these has the few clauses of its own command.
 
 ghost use Rattle.std.specs.Prelude.{IfOk, IfErr, OnOk, string_bytes};
 ghost use Rattle.lusdist_shell.specs.Request.{AreFew};

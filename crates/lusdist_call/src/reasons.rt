@@ -1,4 +1,4 @@
-//! What is told of a refusal behind its line, where that is asked for.
+//! What is reported of a refusal behind its line, where that is asked for.
 
 ghost use Rattle.std.specs.Prelude.{◌≡◌, string_bytes};
 ghost use Rattle.lusdist_call.specs.Reasons.{asks_why, IsToldBehind, HasRefusal};
@@ -23,8 +23,9 @@ fn asks_why(request: Request<'_>) -> bool
     }
 }
 
-/// What is told behind the line of a stop: where the request asks for it, where the stop stands in the text that is to blame, what is wrong there, and how
-/// to mend it. The texts are read once more. Nothing where no text is to blame, where its file can't be read again, or where memory runs out.
+/// What is reported behind the line of a stop: where the request asks for it, where the stop stands in the text that is to blame, what is wrong
+/// there, and how to mend it. The texts are read once more. Nothing where no text is to blame, where its file can't be read again, or where memory
+/// runs out.
 pub fn told_behind<C: Commands>(
     commands: &C,
     alloc: Global,
@@ -42,7 +43,7 @@ pub fn told_behind<C: Commands>(
     }
 }
 
-/// Writes a refusal to the error stream: its line, and what is told behind it. Where memory runs out for that, the line alone.
+/// Writes a refusal to the error stream: its line, and what is reported behind it. Where memory runs out for that, the line alone.
 pub fn put_refusal<C: Commands, V: Write>(
     commands: &C,
     alloc: Global,

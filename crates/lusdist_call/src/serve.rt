@@ -83,8 +83,8 @@ fn perform<
     }
 }
 
-/// One call of the program, by what its commands answer, and a run: `lusdist_answers::serve_words` hands it those of the distributor, and says there how a call ends.
-/// The first word is the program's name.
+/// One call of the program, by what its commands answer, and a run: `lusdist_answers::serve_words` hands it those of the distributor, and says there
+/// how a call ends. The first word is the program's name.
 pub fn serve_with<
     C: Commands,
     K: FnOnce(RunRequest<'_>) -> Result<String, Stop> + Drop,
@@ -118,7 +118,7 @@ pub fn serve_with<
     ensures file { takes lusdist (map string_bytes words.entry.now) ≡ true → result ≡ 2
         → IsRefusal (C.gives commands.now) (map string_bytes words.entry.now) 2 }
 
-    // Where the call is done and no turns are to be told, nothing goes to the error stream.
+    // Where the call is done and no turns are to be reported, nothing goes to the error stream.
     ensures silent { result ≡ 0 → AskForNoTrace (map string_bytes words.entry.now)
         → err.new ≡ err.old }
 {
