@@ -93,7 +93,7 @@ fn replay_of(alloc: Global, job: &Job) -> Result<String, Stop> {
     Ok(text_of_world(alloc, job.plan(), &world)?)
 }
 
-/// Both, of a job.
+/// The table of a job's outputs, and how its sites stand after the turns.
 fn both_of(alloc: Global, job: &Job) -> Result<(String, String), Stop>
     requires { 0 < length (outputs_of job.now.plan.flat.variables) }
 {

@@ -19,7 +19,7 @@ first_step names i z x lt =
     ap (λ ns. place_from i (texts ns) x) d
     ∙ ap (λ k. cond (bytes_eq ((get_or names i z).now) x) (Some i) (place_from (i + 1) (texts (drop k names)) x)) (sym (add-one i))
 
--- a place that is told has the name
+-- a place that is found has the name
 there_step : (a : ℕ) (y : List ℕ) (ys : List (List ℕ)) (x : List ℕ) (k : ℕ) (b : Bool) → bytes_eq y x ≡ b
     → (place_from (a + 1) ys x ≡ Some k → (j : ℕ) × (k ≡ a + 1 + j) × (slice_get ys j ≡ Some x))
     → cond b (Some a) (place_from (a + 1) ys x) ≡ Some k → (j : ℕ) × (k ≡ a + j) × (slice_get (y ∷ ys) j ≡ Some x)

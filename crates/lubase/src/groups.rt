@@ -1,7 +1,7 @@
-//! A search in depth that tells which vertices reach themselves.
+//! A search in depth that says which vertices reach themselves.
 //!
-//! The vertices that were entered and not left stand on a stack. It is cut into groups, at the places where they begin; the vertices of a group reach each other.
-//! An edge back into a group joins all groups from there on. A group is left when all edges of its vertices have been looked at.
+//! The vertices that were entered and not left stand on a stack. It is cut into groups, at the places where they begin; the vertices of a group reach
+//! each other. An edge back into a group joins all groups from there on. A group is left when all edges of its vertices have been looked at.
 
 ghost use Rattle.std.specs.Prelude.{◌≡◌, ◌<◌, ◌≤◌, ◌++◌, ◌∷◌, ◌⊎◌, ◌+◌, ◌↔◌, [], ℕ, IsTrue, Bool, true, false, length, slice_index, slice_set, take, unwrap_or, All, Contains, IfOk, OnOk, IfNone, IfSome};
 ghost use Rattle.std.specs.Bool.{OnTrue, OnFalse};
@@ -131,8 +131,8 @@ fn mark_group(
     }
 }
 
-/// A search: which vertices it has entered, which of them it has left, which of those reach themselves, the stack with the place of each vertex on it,
-/// the places where groups begin, and the frames.
+/// A search: which vertices it has entered, which of them it has left, which of those reach themselves, the stack with the place of each vertex on
+/// it, the places where groups begin, and the frames.
 #[derive(Drop)]
 pub struct Groups {
     pub entered: Vec<bool>,

@@ -45,7 +45,7 @@ impl Name {
         })
     }
 
-    /// The same name once more.
+    /// A copy of the name.
     pub fn copied(&self, alloc: Global) -> Result<Name, AllocError>
         ensures { IfOk result (λ name. name ≡ self.now) }
     {

@@ -45,7 +45,8 @@ impl SharedName {
         SharedName::new(alloc, Name::from_text(alloc, text)?)
     }
 
-    /// The same name for one owner more. It takes no memory; it is refused where there are as many owners as can be counted.
+    /// The name for one owner more, where it lies in memory already. It takes no memory; it is refused where there are as many owners as can be
+    /// counted.
     pub fn shared(&self) -> Result<SharedName, AllocError>
         ensures { IfOk result (λ shared. shared ≡ self.now) }
     {

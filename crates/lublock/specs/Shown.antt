@@ -26,7 +26,7 @@ use Rattle.lublock_kernels.specs.Machine.{block_of, row_of, upto_of, known_of}
 abbrev pub Column : Type 0
 Column = Vec Status Global
 
--- some statuses more, of which this tells each
+-- some statuses more, of which this says each
 pub record IsAdded (old new : List Status) (len : ℕ) (status : ℕ → Status) : Type 0 where
   pub long : length new ≡ length old + len
   pub kept : (m : ℕ) → m < length old → slice_get new m ≡ slice_get old m

@@ -1,6 +1,6 @@
 //! Evaluation in blocks of instants: a flow is a row of words, one for each tick of its clock in the block.
 //!
-//! - [`block_outputs`]: the outputs of a whole program at a table, or its first fault, as `lueval::whole_outputs` tells them.
+//! - [`block_outputs`]: the outputs of a whole program at a table, or its first fault, as `lueval::whole_outputs` reports them.
 //! - [`show_part`], [`clear_others`], [`empty_columns`]: the columns of main variables, which a block of a part puts out.
 //! - [`Board`]: the rows of a block, of a whole program or of a part of one.
 //!

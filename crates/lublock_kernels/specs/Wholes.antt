@@ -40,7 +40,8 @@ pub record IsSubPart (sub part : Part) : Type 0 where
   pub own : (i : ℕ) → sub.own i ≡ true → part.own i ≡ true
   pub taken : (i : ℕ) → sub.taken i ≡ true → part.taken i ≡ true
 
--- Rows that stand for a part stand for fewer of its flows: so what is whole so far can be seen to be right, and put to links, before the block is whole.
+-- Rows that stand for a part stand for fewer of its flows: so what is whole so far can be seen to be right, and put to links, before the block is
+-- whole.
 abbrev pub SubLaw : Type 0
 SubLaw =
     (sub part : Part) → IsSubPart sub part → (flat : FlatProgram) (inputs : Table) (σ : Streams) (t len : ℕ) (b : Block) (upto : ℕ → ℕ) (known supposed : ℕ → Bool)

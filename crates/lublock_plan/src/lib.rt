@@ -1,4 +1,4 @@
-//! In which order a block's flows are worked out, and a pass through each cycle. Whoever uses it looks at what it tells, so its calls, but
+//! In which order a block's flows are worked out, and a pass through each cycle. Whoever uses it looks at what it gives, so its calls, but
 //! [`class_in`], promise nothing but that they end.
 //!
 //! - [`Plan`], [`Step`]: the order of a program's flows; [`site_plan`], [`SitePlan`], [`SiteStep`]: that of what one site does.

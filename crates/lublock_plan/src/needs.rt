@@ -58,7 +58,7 @@ fn clock_variable(flat: &Flat, i: usize) -> Option<usize> {
     }
 }
 
-/// Whether a flow may be nil where its clock is first true, by these classes. One that they don't tell of may.
+/// Whether a flow may be nil where its clock is first true, by these classes. One that they don't name may.
 pub fn class_in(nils: &[bool], i: usize) -> bool
     ensures { result ≡ class_in nils.now i }
 {

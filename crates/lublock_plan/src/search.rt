@@ -156,7 +156,7 @@ impl Parts {
         Ok(Some(search.sorted(alloc, flat)?))
     }
 
-    /// How many there are.
+    /// How many parts there are.
     pub fn len(&self) -> usize {
         self.ends.len().saturating_sub(1)
     }

@@ -172,8 +172,8 @@ fn count_marked(marks: &[bool], flows: &[usize]) -> usize {
     flows.iter().filter(|i| is_marked(marks, **i)).count()
 }
 
-/// An order for what a site does in blocks of so many instants, given which flows it computes and which of the others it takes, the flow that each of its
-/// receiving ends brings, and the one that each of its sending ends carries. None where it doesn't work in blocks: of some cycle it computes some
+/// An order for what a site does in blocks of so many instants, given which flows it computes and which of the others it takes, the flow that each of
+/// its receiving ends brings, and the one that each of its sending ends carries. None where it doesn't work in blocks: of some cycle it computes some
 /// flows and not all, or a flow that it takes has no end, or the search for cycles takes more steps than are allowed.
 ///
 /// # Errors

@@ -1,4 +1,4 @@
--- What is told of an accepted program, from what is laid out for it.
+-- What is reported of an accepted program, from what is laid out for it.
 use Rattle.std.proofs.Common.{◌≡◌, ℕ, ◌<◌, ◌≤◌, List, [], length, map, Some, Bool, true, false, ⊎_elim, arith, subst}
 use Rattle.std.specs.Prelude.{slice_get, slice_index, All}
 use Rattle.std.proofs.lemmas.Bool.{cases_lt}

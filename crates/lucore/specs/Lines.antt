@@ -1,4 +1,4 @@
--- The line that tells why a program has no flat program.
+-- The line that reports why a program has no flat program.
 use Rattle.std.specs.Prelude.{ℕ, List, ◌++◌, codes}
 use Rattle.lucore.specs.declared.error.CoreError.{CoreError}
 use Rattle.lucore.specs.declared.error.CoreError.TheVariants.{TooLarge, Cycle, OutOfMemory}

@@ -40,7 +40,8 @@ HasAllFaults program main flat =
 
 -- The flat program of a source that keeps all rules and has no cycle: its list is the one of the layout, it is sound and in order of
 -- rank, and at every table that has the inputs' columns it has the same solutions as the source, which has one and no other as to
--- the variables of all its instances; its faults are faults of the source, and there are no others. A table that fits the flat program has these columns.
+-- the variables of all its instances; its faults are faults of the source, and there are no others. A table that fits the flat program has these
+-- columns.
 pub record IsFlatOf (program : ProgramTree) (main : List ℕ) (flat : FlatProgram) : Type 0 where
   pub accepted : IsAccepted program main
   pub causal : ¬ HasCycle program main
@@ -73,7 +74,7 @@ pub record ReadsItself (program : ProgramTree) (main : List ℕ) (name : List �
   pub leads : Leads program main occurrence occurrence
   pub owns : owners.owner laid_out.node occurrence ≡ slice_index flat.owners place
 
--- what a refusal tells of a program
+-- what a refusal reports of a program
 abbrev pub Refuses : ProgramTree → List ℕ → CoreError → Type 0
 Refuses program main TooLarge = IsTooLarge program main
 Refuses program main (Cycle name) = ReadsItself program main name

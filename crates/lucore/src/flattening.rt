@@ -55,7 +55,7 @@ fn ranking(alloc: Global, flows: &[Flow]) -> Result<Ranking, AllocError>
 ///
 /// # Errors
 ///
-/// `TooLarge` exactly where the list would have more than 4,096 flows, which is told before any of it is built. Otherwise `Cycle`
+/// `TooLarge` exactly where the list would have more than 4,096 flows, which is reported before any of it is built. Otherwise `Cycle`
 /// where a flow reads itself through a chain of reads at one instant, with the variable in whose equation the least such flow stands.
 /// `OutOfMemory` in place of any answer; nothing is kept.
 pub fn flatten(alloc: Global, program: &Checked) -> Result<Flat, CoreError>

@@ -46,7 +46,7 @@ sum_alike a b c d e f = sym (capped_both a b) ∙ ap (λ x. capped (x + capped b
 pub summed : (x y z a b : ℕ) → x ≡ capped a → y ≡ capped b → z ≡ capped (x + y) → z ≡ capped (a + b)
 summed x y z a b e f g = g ∙ ap (λ x. capped (x + y)) e ∙ ap (λ y. capped (capped a + y)) f ∙ capped_both a b
 
--- the count tells whether the number is more than 4,096
+-- the count says whether the number is more than 4,096
 pub large_to : (n : ℕ) → 4096 < capped n → 4096 < n
 large_to n h = go (split n) where
   go : (n < 4097) ⊎ (4097 ≤ n) → 4096 < n

@@ -98,7 +98,7 @@ count_of p f counts sizes are same = go (node_place p f) refl where
       let sized : j < length sizes = omega (arith, lt, are.count) in
       ap (size_at counts) e ∙ ap (λ xs. slice_index xs j) same ∙ get_or-map capped sizes j 0 0 sized ∙ sym (ap (λ x. capped (size_at sizes x)) e)
 
--- whether the count is more than 4,096 tells whether the size is
+-- whether the count is more than 4,096 says whether the size is
 pub is_too_large : (p : ProgramTree) (main counts : List ℕ) (x : ℕ) (large : Bool) → AreCounted p counts → x ≡ size_of p counts main →
     (IsTrue large ↔ (4096 < x)) → IsTooLarge p main large
 is_too_large p main counts x large (sizes, are, same) is tells =

@@ -91,7 +91,7 @@ module _ (p : ProgramTree) (l : List (List Flow)) (n : NodeTree) where
 
   -- ARGUMENTS
 
-  -- whatever stands behind these arguments is told their places
+  -- whatever stands behind these arguments gets their places
   pub record AreMade (all : Trees) (k : Option Condition) (old new : List Flow) (xs : List ℕ) : Type 0 where
     pub behind : (rest : List ℕ → Walking) (last : List Flow) (r : Root) → IsWalked (rest xs) new last r → IsWalked (walk_all p l n all k rest) old last r
 
@@ -140,7 +140,7 @@ module _ (p : ProgramTree) (l : List (List Flow)) (n : NodeTree) where
 
   -- BRANCHES
 
-  -- whatever stands behind these branches is told their places
+  -- whatever stands behind these branches gets their places
   pub record BranchesAreMade (c : List ℕ) (ps : List Pattern) (all : Trees) (old new : List Flow) (xs : List ℕ) : Type 0 where
     pub behind : (rest : List ℕ → Walking) (last : List Flow) (r : Root) → IsWalked (rest xs) new last r → IsWalked (walk_branches p l n c ps all rest) old last r
 

@@ -75,7 +75,7 @@ module _ (p : ProgramTree) (g : Graph) (s : AreRows p g) where
   pub start_inside : (size place : ℕ) → size ≡ length g → place < length p.nodes → All (λ v. v < size) (place ∷ [])
   start_inside size place is lt = All-cons (λ v. v < size) place [] (omega (arith, is, lt, s.long)) (All-nil (λ v. v < size))
 
-  -- marks that tell what is reached go with calls
+  -- marks that say what is reached go with calls
   pub closed : (starts : List ℕ) (marks : List Bool) → ((v : ℕ) → Has marks v ↔ IsReached starts (links_from 0 g) v) → AreClosed p marks
   closed starts marks exact i j n there has called =
       let edge : Contains (row_of g i) j = subst (λ row. Contains row j) (sym (s.rows i n there)) called in

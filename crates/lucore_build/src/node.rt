@@ -70,7 +70,7 @@ fn push_defined(
     Ok(())
 }
 
-/// The same number several times, behind those before.
+/// Puts a number several times behind the others.
 pub fn push_copies(owners: &mut Vec<usize>, owner: usize, count: usize) -> Result<(), AllocError>
     ensures { OnOk result (owners.new.items ≡ owners.old.items ++ replicate count owner) }
 {

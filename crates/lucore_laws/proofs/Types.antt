@@ -1,4 +1,4 @@
--- What the type of an expression tells of its operands.
+-- What the type of an expression says of its operands.
 use Rattle.std.proofs.Common.{◌≡◌, ℕ, zero, suc, ◌<◌, Bool, true, false, ◌&&◌, cond, nat_eq, List, [], ◌∷◌, length, map, Option, Some, None, refl, sym, ap, ◌∙◌, arith}
 use Rattle.std.specs.Prelude.{slice_get, option_map, unwrap_or, fold}
 use Rattle.std.proofs.lemmas.Option.{same_Some}

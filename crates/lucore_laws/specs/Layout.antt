@@ -73,7 +73,7 @@ Walking = ℕ → Walk
 abbrev pub leaf : Flow → Walking
 leaf flow s = record { inner = []; root = own flow }
 
--- an operand, and behind it the rest, which is told the operand's place
+-- an operand, and behind it the rest, which gets the operand's place
 abbrev pub after : Walking → (ℕ → Walking) → Walking
 after a rest s =
     record {
@@ -173,13 +173,13 @@ module _ (p : ProgramTree) (lists : List (List Flow)) (node : NodeTree) where
         walk_branches c ps all (λ branches. leaf (flow_of (tree.merge c ps all) k (Merge (variable_place c) branches)))
     walk (tree.call f all) k = walk_all all k (λ arguments. instance p lists f (clock_place node k) arguments)
 
-    -- the arguments of a call, and behind them the rest, which is told their places
+    -- the arguments of a call, and behind them the rest, which gets their places
     pub walk_all : Trees → Option Condition → (List ℕ → Walking) → Walking
     walk_all tree.none k rest = rest []
     walk_all (tree.more a all) k rest = after (walk a k) (λ x. walk_all all k (λ xs. rest (x ∷ xs)))
 
     -- the branches of a merge, each on the clock of its variable with the branch's pattern, and behind them the rest, which is
-    -- told their places
+    -- given their places
     pub walk_branches : List ℕ → List Pattern → Trees → (List ℕ → Walking) → Walking
     walk_branches c ps tree.none rest = rest []
     walk_branches c ps (tree.more a all) rest =

@@ -67,7 +67,7 @@ pub fn faults_law()
     ensures { FaultsLaw }
 {}
 
-/// And each fault of the source is a fault of the flat list.
+/// Each fault of the source is a fault of the flat list, at the same main variable.
 pub fn all_faults_law()
     ensures { AllFaultsLaw }
 {}

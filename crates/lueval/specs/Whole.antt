@@ -62,7 +62,7 @@ pub record IsFirstFault (flat : FlatProgram) (inputs : Table) (σ : Streams) (va
   pub fault : IsFault flat inputs σ place instant kind
   pub first : (u q i : ℕ) (other : FaultKind) → slice_get flat.order q ≡ Some i → IsEarlier u q instant rank → IsFault flat inputs σ i u other → ⊥
 
--- an error tells the first fault of the solution, or that memory ran out
+-- an error reports the first fault of the solution, or that memory ran out
 abbrev pub IsAnswer : FlatProgram → Table → EvalError → Type 0
 IsAnswer flat inputs (Fault variable instant kind) = (σ : Streams) → IsSolution flat inputs σ → IsFirstFault flat inputs σ variable instant kind
 IsAnswer flat inputs OutOfMemory = Unit {0}

@@ -9,7 +9,7 @@ use Rattle.luexplain.specs.Told.{whole}
 abbrev pub is_ascii : ℕ → Bool
 is_ascii b = nat_lt b 128
 
--- a text that is no program is told at the byte of its refusal, or at the first byte above 127
+-- a text that is no program is reported at the byte of its refusal, or at the first byte above 127
 abbrev pub place_of_syntax : List ℕ → List ℕ → SynError → List ℕ
 place_of_syntax path text (Syntax byte) = place path text byte
 place_of_syntax path text (NumberTooLarge byte) = place path text byte

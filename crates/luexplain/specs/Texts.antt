@@ -7,12 +7,12 @@ use Rattle.lusdist_shell.specs.declared.schedule.ScheduleError.TheVariants as sc
 use Rattle.luexplain.specs.Place.{place}
 use Rattle.luexplain.specs.Told.{IsTold, whole}
 
--- a schedule is told at the byte that is no turn
+-- a schedule is reported at the byte that is no turn
 abbrev pub place_of_schedule : List ℕ → List ℕ → ScheduleError → List ℕ
 place_of_schedule path text (schedules.BadSchedule byte) = place path text byte
 place_of_schedule path text schedules.LongSchedule = whole path
 place_of_schedule path text schedules.OutOfMemory = whole path
 
--- what is told stands at some byte of a text, or of the whole
+-- what is reported stands at some byte of a text, or of the whole
 abbrev pub IsToldSomewhere : List ℕ → List ℕ → String Global → Type 0
 IsToldSomewhere path text told = ((byte : ℕ) × IsTold (place path text byte) told) ⊎ IsTold (whole path) told

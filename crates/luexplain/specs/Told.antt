@@ -1,4 +1,4 @@
--- What is told of a refusal.
+-- What is reported of a refusal.
 use Rattle.std.specs.Prelude.{◌≡◌, ℕ, List, ◌++◌, codes, string_bytes}
 use Rattle.std.specs.declared.string.String.{String}
 use Rattle.std.specs.declared.alloc.Global.{Global}
@@ -19,7 +19,7 @@ pub record IsTold (place : List ℕ) (text : String Global) : Type 0 where
 abbrev pub whole : List ℕ → List ℕ
 whole path = path ++ codes "\n"
 
--- a broken rule is told at its byte, but that there is no main node in the whole
+-- a broken rule is reported at its byte, but that there is no main node in the whole
 abbrev pub place_of_rule : List ℕ → List ℕ → StatError → List ℕ
 place_of_rule path text NoMain = whole path
 place_of_rule path text OutOfMemory = whole path

@@ -137,7 +137,7 @@ fn root_of<'a>(scope: &Scope<'a>, marks: &[bool], e: &'a Expr) -> &'a Expr {
     at
 }
 
-/// How what needs a value is told in a sentence.
+/// How what needs a value is reported in a sentence.
 fn need_part(need: Need<'_>) -> Part<'_> {
     match need {
         Need::Output(y) => Part::Around("the output ", y, ""),
@@ -150,7 +150,7 @@ fn need_part(need: Need<'_>) -> Part<'_> {
     }
 }
 
-/// How a gap is told, with its cause; with what has it, where no cause is seen.
+/// How a gap is reported, with its cause; with what has it, where no cause is seen.
 fn said_of_gap<'a>(
     alloc: Global,
     spot: &Spot<'_, 'a>,

@@ -29,7 +29,7 @@ enum Side<'a> {
     Right,
 }
 
-/// How what stands on a clock is told in a sentence.
+/// How what stands on a clock is reported in a sentence.
 fn side_part<'a>(side: Side<'a>, clock: ClockRef<'a>) -> Part<'a> {
     match side {
         Side::Value(e) => Part::Value(e),
@@ -315,7 +315,7 @@ fn chain_of<'a>(
     Ok(names)
 }
 
-/// How a chain of clocks without an end is told.
+/// How a chain of clocks without an end is reported.
 fn said_of_chain<'a>(alloc: Global, names: &'a [&'a str]) -> Result<Said, AllocError> {
     mended_by(
         alloc,
@@ -358,7 +358,7 @@ fn declared_clock(declared: &Declaration) -> ClockRef<'_> {
     }
 }
 
-/// How a call of a main node with this clocked output is told.
+/// How a call of a main node with this clocked output is reported.
 fn said_of_call<'a>(
     alloc: Global,
     error: &StatError,

@@ -57,7 +57,7 @@ fn push_reads(
     }
 }
 
-/// The same of several expressions.
+/// Puts the variables that several expressions read behind others.
 #[cycle(reads)]
 fn push_all_reads(
     scope: &Scope,
@@ -136,7 +136,7 @@ fn circle_of<'a>(
     Ok(names)
 }
 
-/// How a circle of these variables is told; none where no equation shows it.
+/// How a circle of these variables is reported; none where no equation shows it.
 fn said_of_names<'a>(alloc: Global, names: &'a [&'a str]) -> Result<Said, AllocError> {
     let mend = "Put a `pre` into the circle, with a value for the first instant, as `0 -> pre x`.";
     if names.is_empty() {
@@ -207,7 +207,7 @@ fn told_at(
     told(where_in(alloc, path, text, byte)?, said)
 }
 
-/// What a person is told where a main variable depends on itself: its place, what is wrong, and how to mend it. `text` is the text of the file
+/// What a user reads where a main variable depends on itself: its place, what is wrong, and how to mend it. `text` is the text of the file
 /// of this path, `program` is what it spells, and `main` the name of the main node.
 ///
 /// # Errors
@@ -228,7 +228,7 @@ pub fn of_cycle(
     told_at(alloc, path, text, byte, &said)
 }
 
-/// What a person is told of a program with too many flows: the path of its file, what is wrong, and how to mend it.
+/// What a user reads about a program with too many flows: the path of its file, what is wrong, and how to mend it.
 ///
 /// # Errors
 ///
@@ -275,7 +275,7 @@ fn said_of_fault(
     )
 }
 
-/// What a person is told of a fault in the equation of a main variable at an instant: its place, what is wrong, and how to mend it. `text` is the
+/// What a user reads about a fault in the equation of a main variable at an instant: its place, what is wrong, and how to mend it. `text` is the
 /// text of the program's file, of this path, `program` is what it spells, and `main` the name of the main node.
 ///
 /// # Errors

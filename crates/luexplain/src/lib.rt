@@ -1,14 +1,15 @@
-//! What a person is told of a refusal: where it stands, what is wrong, and how to mend it.
+//! What a user reads about a refusal: where it stands, what is wrong, and how to mend it.
 //!
 //! - [`where_in`]: a place of a text: `PATH:LINE:COLUMN`, the line, and a caret under the place.
-//! - [`of_syntax`]: what is told of a text that is no program; [`of_rule`]: of a broken rule; [`of_cycle`], [`of_size`]: of a program without a flat
-//!   program; [`of_place`], [`of_table`], [`of_schedule`]: of the other texts; [`of_fault`]: of an operator without a value.
+//! - [`of_syntax`]: what is reported of a text that is no program; [`of_rule`]: of a broken rule; [`of_cycle`], [`of_size`]: of a program without a
+//!   flat program; [`of_place`], [`of_table`], [`of_schedule`]: of the other texts; [`of_fault`]: of an operator without a value.
 //! - [`laws`]: worked places.
 //!
-//! The parts: `place` (places), `said` (what is told, in lines), `words` and `spelling` (the parts of a sentence: names, expressions, types, clocks),
-//! `usual` (what is said of a rule alone), `find` (what stands at a byte, and the parts of an expression), `near` (names that differ by one letter), `bytes` (parts of a text),
-//! `circle` (the way from a vertex back to itself); `naming`, `typing`, `arity`, `clocks`, `classes` (broken rules, which `rule` chooses among),
-//! `syntax`, `flat`, `table`, `schedule`, `placement` (what of one is refused, `blame`, and where it stands in the text, `sought`).
+//! The parts: `place` (places), `said` (what is reported, in lines), `words` and `spelling` (the parts of a sentence: names, expressions, types,
+//! clocks), `usual` (what is said of a rule alone), `find` (what stands at a byte, and the parts of an expression), `near` (names that differ by one
+//! letter), `bytes` (parts of a text), `circle` (the way from a vertex back to itself); `naming`, `typing`, `arity`, `clocks`, `classes` (broken
+//! rules, which `rule` chooses among), `syntax`, `flat`, `table`, `schedule`, `placement` (what of one is refused, `blame`, and where it stands in
+//! the text, `sought`).
 #![tactic(auto)]
 
 mod arity;

@@ -68,7 +68,7 @@ fn twice_at(program: &Program, byte: usize) -> Option<Twice<'_>> {
     None
 }
 
-/// How a name is told that is declared twice.
+/// How a name is reported that is declared twice.
 fn said_of_twice(
     alloc: Global,
     error: &StatError,
@@ -307,7 +307,7 @@ fn near_unknown<'a>(
     }
 }
 
-/// How a name is told that isn't known; of a variable its node too.
+/// How a name is reported that isn't known; of a variable its node too.
 fn said_of_unknown<'a>(
     alloc: Global,
     program: &'a Program,
@@ -493,7 +493,7 @@ fn way_of<'a>(
     Ok(names)
 }
 
-/// How a circle of calls is told.
+/// How a circle of calls is reported.
 fn said_of_calls<'a>(
     alloc: Global,
     error: &StatError,

@@ -41,7 +41,7 @@ fn rule_of(error: &PlaceError) -> &'static str {
     }
 }
 
-/// How to mend it.
+/// How to mend a placement that is refused.
 fn mend_of(error: &PlaceError) -> &'static str {
     match error {
         PlaceError::NotToml => {
@@ -337,7 +337,7 @@ fn found_at(
     Ok(Found { byte: None, said })
 }
 
-/// What a person is told of a placement that is refused: its place, what is wrong, and how to mend it. `text` is the text of the file of this path,
+/// What a user reads about a placement that is refused: its place, what is wrong, and how to mend it. `text` is the text of the file of this path,
 /// `program` is the program whose variables it places, and `main` the name of the main node.
 ///
 /// # Errors

@@ -147,7 +147,7 @@ fn told_at(
     told(place_of_rule(alloc, path, text, error)?, said)
 }
 
-/// What a person is told where the static checks refuse a program: its place, what is wrong, and how to mend it. `text` is the text of the file
+/// What a user reads where the static checks refuse a program: its place, what is wrong, and how to mend it. `text` is the text of the file
 /// of this path, `program` is what it spells, and `main` the name of the main node.
 ///
 /// # Errors

@@ -1,4 +1,4 @@
-//! What is told: a place, what is wrong, and how to mend it.
+//! What is reported: a place, what is wrong, and how to mend it.
 
 ghost use Rattle.std.specs.Prelude.{◌≡◌, ◌++◌, codes, IfOk, string_bytes};
 ghost use Rattle.luexplain.specs.Texts.{IsToldSomewhere};

@@ -56,7 +56,7 @@ fn place_of_schedule(
     }
 }
 
-/// What a person is told of a schedule that is refused: its place, what is wrong, and how to mend it. `text` is the text of the file of this
+/// What a user reads about a schedule that is refused: its place, what is wrong, and how to mend it. `text` is the text of the file of this
 /// path.
 ///
 /// # Errors

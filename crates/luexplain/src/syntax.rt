@@ -119,7 +119,7 @@ fn said_of_syntax(alloc: Global, text: &[u8], error: &SynError) -> Result<Said, 
     }
 }
 
-/// Where a text is no program: at the byte that is told, or at the first above 127; where it is too long, and where memory ran out, in
+/// Where a text is no program: at the byte that is reported, or at the first above 127; where it is too long, and where memory ran out, in
 /// the whole.
 fn place_of_syntax(
     alloc: Global,
@@ -139,7 +139,7 @@ fn place_of_syntax(
     }
 }
 
-/// What a person is told of a text that is no program: its place, what is wrong, and how to mend it. `text` is the text of the file of this path.
+/// What a user reads about a text that is no program: its place, what is wrong, and how to mend it. `text` is the text of the file of this path.
 ///
 /// # Errors
 ///

@@ -36,7 +36,7 @@ enum Side<'a> {
     Right,
 }
 
-/// How what is of a type is told in a sentence.
+/// How what is of a type is reported in a sentence.
 fn side_part(side: Side<'_>) -> Part<'_> {
     match side {
         Side::Value(e) => Part::Value(e),

@@ -4,7 +4,7 @@ use crate::said::{Said, in_words};
 use lustat_rules::StatError;
 use std::alloc::{AllocError, Global};
 
-/// What is wrong.
+/// What is wrong where a rule is broken, in the usual words.
 fn rule_of(error: &StatError) -> &'static str {
     match error {
         StatError::DuplicateName { .. } => "One name is declared twice.",
@@ -34,7 +34,7 @@ fn rule_of(error: &StatError) -> &'static str {
     }
 }
 
-/// How to mend it.
+/// How to mend a broken rule, in the usual words.
 pub(crate) fn mend_of(error: &StatError) -> &'static str {
     match error {
         StatError::DuplicateName { .. } => "Give each its own name.",

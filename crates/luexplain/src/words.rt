@@ -12,10 +12,10 @@ use std::alloc::{AllocError, Global};
 /// How many bytes of a text are quoted.
 const QUOTED: usize = 60;
 
-/// How many of several names are told.
+/// How many of several names are reported.
 const TOLD: usize = 8;
 
-/// What is told of a clock.
+/// What is reported of a clock.
 #[derive(Clone, Copy)]
 pub(crate) enum Told {
     /// The base clock, or the clock `c`.
@@ -49,7 +49,7 @@ pub(crate) enum Part<'a> {
     Count(usize, &'a str),
     /// The name of a type of a program.
     Type(&'a Program, Kind),
-    /// A clock, and what is told of it.
+    /// A clock, and what is reported of it.
     Clock(ClockRef<'a>, Told),
     /// Names with commas between them; of many the first alone, and how many more there are.
     Names(&'a [&'a str]),
@@ -93,7 +93,7 @@ fn put_around(text: &mut String, before: &str, name: &str, behind: &str) -> Resu
     text.push_str(behind)
 }
 
-/// The name at this place among others; nothing where enough are told.
+/// The name at this place among others; nothing where enough are reported.
 fn put_listed(text: &mut String, place: usize, name: &str) -> Result<(), AllocError> {
     if place >= TOLD {
         return Ok(());
@@ -104,7 +104,7 @@ fn put_listed(text: &mut String, place: usize, name: &str) -> Result<(), AllocEr
     put_quoted(text, name.as_bytes())
 }
 
-/// How many of so many names aren't told.
+/// How many of so many names aren't reported.
 fn put_more(text: &mut String, count: usize) -> Result<(), AllocError> {
     if count <= TOLD {
         return Ok(());
@@ -140,7 +140,7 @@ fn put_variables(text: &mut String, declared: &[Declaration]) -> Result<(), Allo
     put_more(text, declared.len())
 }
 
-/// What the name at this place does to the next; nothing where enough are told.
+/// What the name at this place does to the next; nothing where enough are reported.
 fn put_step(text: &mut String, place: usize, does: &str, next: &str) -> Result<(), AllocError> {
     if place >= TOLD {
         return Ok(());
@@ -196,7 +196,7 @@ fn put_type(text: &mut String, program: &Program, kind: Kind) -> Result<(), Allo
     }
 }
 
-/// What is told of the clock with this variable and this pattern.
+/// What is reported of the clock with this variable and this pattern.
 fn put_on_clock(
     text: &mut String,
     name: &str,
@@ -228,7 +228,7 @@ fn put_value(text: &mut String, alloc: Global, e: &Expr) -> Result<(), AllocErro
     put_quoted(text, value.as_bytes())
 }
 
-/// A part of a sentence that tells of one thing or two.
+/// A part of a sentence that is about one thing or two.
 fn put_one(text: &mut String, alloc: Global, part: Part) -> Result<(), AllocError> {
     match part {
         Part::Words(words) => text.push_str(words),
@@ -247,7 +247,7 @@ fn put_one(text: &mut String, alloc: Global, part: Part) -> Result<(), AllocErro
     }
 }
 
-/// A part of a sentence.
+/// Adds a part of a sentence.
 fn put_part(text: &mut String, alloc: Global, part: Part) -> Result<(), AllocError> {
     match part {
         Part::Number(number) => write!(text, "{number}"),

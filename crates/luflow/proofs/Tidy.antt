@@ -58,7 +58,7 @@ zero_ok B e was false c z = int_ok B e was c z
 pub truth_ok : (B : Type 0) (e : Bool) (was : Option Bool) (b : Bool) → IsTidyOutcome B Truths e was (Gives (Truth b))
 truth_ok B e was b = (tt, λ n. let f : Truth b ≡ Nil = n in cc)
 
--- the type of what an operator gives, which the tables of types tell
+-- the type of what an operator gives, which the tables of types say
 abbrev sort_of : Exact → Option Kind
 sort_of (whole z) = Some Ints
 sort_of (divided y z) = Some Ints

@@ -17,7 +17,7 @@ use Rattle.luflow.specs.declared.form.FaultKind.TheVariants.{Overflow, DivZero}
 use Rattle.luflow.specs.declared.form.Outcome.{Outcome}
 use Rattle.luflow.specs.declared.form.Outcome.TheVariants.{Gives, Faults, Stuck}
 
--- how a fault is told
+-- how a fault is reported
 abbrev pub kind_text : FaultKind → List ℕ
 kind_text Overflow = codes "overflow"
 kind_text DivZero = codes "div-zero"

@@ -284,7 +284,7 @@ pub record ChainsAre : Type 0 where
   pub inner : marks (solution chained four_rows 6) 4 ≡
       known 1 ∷ Known Absent ∷ known 3 ∷ known 4 ∷ []
 
--- y is x, 7 or z, by the name that m has; b tells where that is Down; and z is there alone
+-- y is x, 7 or z, by the name that m has; b says where that is Down; and z is there alone
 pub record WaysAre : Type 0 where
   pub worked : IsWorked three_ways four_modes
   pub m : marks (solution three_ways four_modes 0) 4 ≡ map known_name (0 ∷ 2 ∷ 1 ∷ 1 ∷ [])

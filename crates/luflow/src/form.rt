@@ -81,7 +81,7 @@ impl Drop for Flow {
 }
 
 impl Form {
-    /// The same form once more.
+    /// A copy of the form.
     ///
     /// # Errors
     ///
@@ -109,7 +109,7 @@ impl Form {
 }
 
 impl Flow {
-    /// The same flow once more.
+    /// A copy of the flow.
     ///
     /// # Errors
     ///
@@ -135,7 +135,7 @@ pub enum FaultKind {
 }
 
 impl FaultKind {
-    /// How a fault of this kind is told.
+    /// How a fault of this kind is reported.
     pub fn name(self) -> &'static str
         ensures { result.now ≡ kind_text self }
     {

@@ -2,7 +2,8 @@
 //!
 //! - [`Datum`], [`Status`]: what a flow has at an instant.
 //! - [`Form`], [`Flow`], [`Clock`]: what a flow is made of; [`Outcome`], [`FaultKind`]: what its value may be.
-//! - [`Flat`], [`Variable`], [`Enum`], [`names_of`], [`name_of`]: a whole flat program, and how its names are spelled; [`Inputs`]: the table of its inputs, each input's [`Values`]; [`Outputs`]: that of its outputs.
+//! - [`Flat`], [`Variable`], [`Enum`], [`names_of`], [`name_of`]: a whole flat program, and how its names are spelled; [`Inputs`]: the table of its
+//!   inputs, each input's [`Values`]; [`Outputs`]: that of its outputs.
 //! - [`Msg`], [`Body`]: what a link carries.
 //! - [`laws`]: exactly one solution, what every solution keeps, and worked programs.
 //!

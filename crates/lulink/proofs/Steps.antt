@@ -33,7 +33,7 @@ has_left_word n true h = grind (arith, nat_tests)
 pub final_again : (seen : List ℕ) (w u : ℕ) → (has_left u ≡ true → u ≡ w) → IsFinal seen w → IsFinal (seen ++ u ∷ []) w
 final_again seen w u same f = All-push (λ x. has_left x ≡ true → x ≡ w) seen u f same
 
--- a word that doesn't tell that the end has left may change
+-- a word that doesn't say that the end has left may change
 still_here : (seen : List ℕ) (w v : ℕ) → has_left w ≡ false → IsFinal seen w → IsFinal seen v
 still_here seen w v here f = λ k d h on. absurd (true≢false (sym on ∙ ap has_left (f k d h on) ∙ here))
 
@@ -115,7 +115,7 @@ module _ (room : ℕ) (list : List Msg) (some_room : 0 < room) (small : length l
         },
       )
 
-  -- the head tells of no fewer messages than before
+  -- the head counts no fewer messages than before
   head_later : (n : ℕ) (r : Running room list s) → n ≡ word r.c.count r.c.left → IsLater r.p n
   head_later n r told =
       let begins = r.begins in
@@ -298,7 +298,7 @@ module _ (room : ℕ) (list : List Msg) (some_room : 0 < room) (small : length l
         },
       )
 
-  -- the tail tells of no fewer messages than before
+  -- the tail counts no fewer messages than before
   tail_later : (n : ℕ) (r : Running room list s) → n ≡ word r.p.count r.p.left → IsLater r.c n
   tail_later n r told =
       let begins = r.begins in

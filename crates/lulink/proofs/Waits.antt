@@ -103,7 +103,7 @@ take_done g h i m w l p = (
   ),
 )
 
--- a word that tells that the end has left is the last that was seen
+-- a word that says that the end has left is the last that was seen
 pub final_last : (seen : List ℕ) (w v : ℕ) → IsFinal (seen ++ w ∷ []) v → has_left w ≡ true → w ≡ v
 final_last [] w v f on = f 0 0 (omega arith) on
 final_last (u ∷ us) w v f on = final_last us w v (All-tail (λ x. has_left x ≡ true → x ≡ v) u (us ++ w ∷ []) f) on

@@ -29,7 +29,7 @@ pub record IsRing (at : TableId) (k : Terms) : Type 0 where
   pub below : k.capacity < 2 ^ 16
   pub small : length (told_list k) < 2 ^ 62
 
--- the slots of the next messages are held, as many as are counted, and the word that was loaded last tells of room for them
+-- the slots of the next messages are held, as many as are counted, and the word that was loaded last shows room for them
 pub record IsPutSide (at : TableId) (k : Terms) (t : PutSide) : Type 0 where
   pub ring : IsRing at k
   pub table : t.seat.table_id ≡ at
@@ -60,12 +60,12 @@ pub record IsTakeSide (at : TableId) (k : Terms) (t : TakeSide) : Type 0 where
   pub put : t.count + t.held ≤ number t.word
   pub listed : number t.word ≤ length (told_list k)
 
--- the slot of the next message is held, or the word that was loaded now tells that the ring is full
+-- the slot of the next message is held, or the word that was loaded now says that the ring is full
 abbrev pub SoughtRoom : Terms → PutSide → Bool → PutSide → Type 0
 SoughtRoom k s true t = (t.count ≡ s.count) × (t.seat.me.0.seen ≡ s.seat.me.0.seen) × (0 < t.held)
 SoughtRoom k s false t = (t.count ≡ s.count) × (t.seat.me.0.seen ≡ s.seat.me.0.seen ++ t.word ∷ []) × (s.count ≡ number t.word + k.capacity) × IsFinal s.seat.me.0.seen t.word
 
--- the slot of the next message is held, or the word that was loaded now tells that the ring is empty
+-- the slot of the next message is held, or the word that was loaded now says that the ring is empty
 abbrev pub SoughtMessage : TakeSide → Bool → TakeSide → Type 0
 SoughtMessage s true t = (t.count ≡ s.count) × (t.seat.me.0.seen ≡ s.seat.me.0.seen) × (0 < t.held)
 SoughtMessage s false t = (t.count ≡ s.count) × (t.seat.me.0.seen ≡ s.seat.me.0.seen ++ t.word ∷ []) × (s.count ≡ number t.word) × IsFinal s.seat.me.0.seen t.word

@@ -1,5 +1,5 @@
 -- The list of a link, whatever the link is made of.
-use Rattle.std.specs.Prelude.{◌≡◌, ℕ, List, ◌++◌, Some, slice_get}
+use Rattle.std.specs.Prelude.{◌≡◌, ℕ, List, Some, slice_get}
 use Rattle.luflow.specs.declared.message.Msg.{Msg}
 use Rattle.luworld.specs.Runs.{Run, link_list, streams_of}
 
@@ -10,7 +10,3 @@ list_of job link = link_list job (streams_of job) link
 -- a message is the next of a list of which so many are passed
 abbrev pub IsNextOf : List Msg → ℕ → Msg → Type 0
 IsNextOf list count m = slice_get list count ≡ Some m
-
--- a beginning of a list
-abbrev pub IsBeginning : List Msg → List Msg → Type 0
-IsBeginning xs ys = (rest : List Msg) × (xs ++ rest ≡ ys)

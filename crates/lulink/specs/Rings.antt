@@ -32,8 +32,9 @@ seated role v = record { role = role; room = v.room; list = v.list; count = 0; s
 abbrev pub IsEnd : Role → ℕ → List Msg → EndState → Type 0
 IsEnd role room list v = (v.role ≡ role) × (v.room ≡ room) × (v.list ≡ list)
 
--- The words are the two counts. Message k of the list lies in slot k mod room, from the head's count to the tail's, but for the first ones, whose slots the consumer has.
--- The other slots are at home too, and free, but for the next ones, which the producer has. What was put is a beginning of the list, and what was taken one of what was put.
+-- The words are the two counts. Message k of the list lies in slot k mod room, from the head's count to the tail's, but for the first ones, whose
+-- slots the consumer has. The other slots are at home too, and free, but for the next ones, which the producer has. What was put is a prefix of the
+-- list, and what was taken one of what was put.
 pub record Running (room : ℕ) (list : List Msg) (s : State (Option Msg) EndState) : Type 0 where
   pub p : EndState
   pub c : EndState
@@ -75,7 +76,7 @@ moved v k = record { role = v.role; room = v.room; list = v.list; count = v.coun
 abbrev pub departed : EndState → EndState
 departed v = record { role = v.role; room = v.room; list = v.list; count = v.count; seen = v.seen; last = v.last; held = v.held; left = true }
 
--- a word that tells of no fewer messages than the one that was loaded last, and of no more than there are
+-- a word that counts no fewer messages than the one that was loaded last, and of no more than there are
 abbrev pub IsLater : EndState → ℕ → Type 0
 IsLater v n = (number v.last ≤ number n) × (number n ≤ length v.list)
 

@@ -1,4 +1,5 @@
--- What each call of an end of a ring learns by the other end's word. A call that finds the ring full, or empty, or that asks whether the other end has left, goes by a word that was loaded in that call.
+-- What each call of an end of a ring learns by the other end's word. A call that finds the ring full, or empty, or that asks whether the other end
+-- has left, goes by a word that was loaded in that call.
 use Rattle.std.specs.Prelude.{◌≡◌, ℕ, ◌+◌, ◌<◌, ◌≤◌, List, [], ◌∷◌, ◌++◌, true, length, Option, Some, None}
 use Rattle.luflow.specs.declared.message.Msg.{Msg}
 use Rattle.lulink.specs.declared.sender.Offer.{Offer}
@@ -65,7 +66,7 @@ PolledRun most n r w q = (q.capacity ≡ r.capacity) × (q.seen ≡ r.seen ++ w 
 abbrev pub FoundRoom : SenderView → SenderView → Type 0
 FoundRoom s t = (ws : List ℕ) × (w : ℕ) × (t.capacity ≡ s.capacity) × (t.seen ≡ (s.seen ++ ws) ++ w ∷ []) × HadRoom s w
 
--- words were seen: at the last but one the ring was full, and the last told that the receiver had left
+-- words were seen: at the last but one the ring was full, and the last said that the receiver had left
 abbrev pub FoundFullAndGone : SenderView → SenderView → Type 0
 FoundFullAndGone s t = (ws : List ℕ) × (full : ℕ) × (gone : ℕ) × (t.capacity ≡ s.capacity) × (t.seen ≡ (s.seen ++ ws) ++ full ∷ gone ∷ []) × WasFull s full × (has_left gone ≡ true)
 
@@ -73,6 +74,6 @@ FoundFullAndGone s t = (ws : List ℕ) × (full : ℕ) × (gone : ℕ) × (t.cap
 abbrev pub FoundOne : ReceiverView → ReceiverView → Type 0
 FoundOne r q = (ws : List ℕ) × (w : ℕ) × (q.capacity ≡ r.capacity) × (q.seen ≡ (r.seen ++ ws) ++ w ∷ []) × HadOne r w
 
--- words were seen: the last told that the sender had left, and all that was put is taken
+-- words were seen: the last said that the sender had left, and all that was put is taken
 abbrev pub FoundNothingLeft : ReceiverView → ReceiverView → Type 0
 FoundNothingLeft r q = (ws : List ℕ) × (w : ℕ) × (q.capacity ≡ r.capacity) × (q.seen ≡ (r.seen ++ ws) ++ w ∷ []) × WasEmpty r w × (has_left w ≡ true)

@@ -7,7 +7,8 @@ use Rattle.lulink.specs.declared.sender.Offer.{Offer}
 use Rattle.lulink.specs.declared.sender.Offer.TheVariants.{Done, Full}
 use Rattle.lulink.specs.Lists.{list_of, IsNextOf}
 
--- The run, the link, the capacity, what was put, and the words by which its calls went, one for each try and each look. Each of them is a word of the receiver's that a load of this end gave: at that call, or where it told of room already, at an earlier one.
+-- The run, the link, the capacity, what was put, and the words by which its calls went, one for each try and each look. Each of them is a word of the
+-- receiver's that a load of this end gave: at that call, or where it showed room already, at an earlier one.
 pub record SenderView : Type 0 where
   pub job : Run
   pub link : ℕ
@@ -15,7 +16,8 @@ pub record SenderView : Type 0 where
   pub put : List Msg
   pub seen : List ℕ
 
--- The run, the link, the capacity, what was taken, and the words by which its calls went, one for each try and each look. Each of them is a word of the sender's that a load of this end gave: at that call, or where it told of a message already, at an earlier one.
+-- The run, the link, the capacity, what was taken, and the words by which its calls went, one for each try and each look. Each of them is a word of
+-- the sender's that a load of this end gave: at that call, or where it showed a message already, at an earlier one.
 pub record ReceiverView : Type 0 where
   pub job : Run
   pub link : ℕ

@@ -17,7 +17,7 @@ number w = if nat_lt w top then w else w - top
 abbrev pub has_left : ℕ → Bool
 has_left w = if nat_lt w top then false else true
 
--- a word that tells that the end has left is its last: each such word among those seen is this one
+-- a word that says that the end has left is its last: each such word among those seen is this one
 abbrev pub IsFinal : List ℕ → ℕ → Type 0
 IsFinal seen w = All (λ u. has_left u ≡ true → u ≡ w) seen
 
@@ -25,7 +25,8 @@ IsFinal seen w = All (λ u. has_left u ≡ true → u ≡ w) seen
 abbrev pub WasWord : ℕ → ℕ → Bool → Type 0
 WasWord u count left = (number u ≤ count) × (has_left u ≡ true → u ≡ word count left)
 
--- Where the two words stand in a table of words: as far apart as two lines of memory are, so that an end that stores its own word takes no line from the other end.
+-- Where the two words stand in a table of words: as far apart as two lines of memory are, so that an end that stores its own word takes no line from
+-- the other end.
 abbrev pub tail_at : ℕ
 tail_at = 0
 

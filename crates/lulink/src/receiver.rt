@@ -1,7 +1,8 @@
 //! The receiver's end.
 
 ghost use Rattle.std.specs.Prelude.{◌≡◌, ◌+◌, ◌≤◌, ℕ, length, vec_capacity, IfOk, IfErr, IfSome};
-ghost use Rattle.lulink.specs.Lists.{list_of, IsBeginning};
+ghost use Rattle.luworld.specs.Progress.{IsBeginning};
+ghost use Rattle.lulink.specs.Lists.{list_of};
 ghost use Rattle.lulink.specs.Words.{has_left, IsFinal};
 ghost use Rattle.lulink.specs.Views.{IsNextToTake, IsWholeAt, IsWholeAtClose, IsRunTaken, HasTaken, HasTakenNothing, TakenOrNot};
 ghost use Rattle.lulink.specs.Seen.{took_none, Polled, PolledRun, FoundOne, FoundNothingLeft};
@@ -50,7 +51,7 @@ impl Rx {
     }
 
     /// Takes the next message of the link's list, if it is there. `None`: nothing was taken. Looks at the sender's word once, or
-    /// not at all where the word that it saw last tells of a message; so `None` is as of this call. Never waits, and takes no
+    /// not at all where the word that it saw last shows a message; so `None` is as of this call. Never waits, and takes no
     /// memory.
     pub fn poll(&mut self) -> Option<Msg>
         ensures taken { TakenOrNot result self.old self.new }
@@ -64,8 +65,8 @@ impl Rx {
         self.side.take(ring)
     }
 
-    /// Takes as many messages as are there, at most so many, puts them behind those of the buffer, in order, and tells how many:
-    /// the sender sees all of that room at once. Looks at the sender's word once, or not at all where an earlier look told of as
+    /// Takes as many messages as are there, at most so many, puts them behind those of the buffer, in order, and says how many:
+    /// the sender sees all of that room at once. Looks at the sender's word once, or not at all where an earlier look showed as
     /// many messages; so where fewer were taken, the link was empty as of this call. Where none is asked for, it looks once, and
     /// takes nothing. Never waits, and takes no memory: the buffer has room for all that is asked for.
     pub fn poll_run(&mut self, most: usize, into: &mut Vec<Msg>) -> usize
@@ -115,7 +116,7 @@ impl Rx {
         unreachable!()
     }
 
-    /// What was taken is a beginning of the link's list.
+    /// What was taken is a prefix of the link's list.
     pub fn taken_begins_law(&self)
         ensures { IsBeginning self.now.taken (list_of self.now.job self.now.link) }
     {

@@ -1,4 +1,4 @@
-//! The rule of a link's ring, which holds between any two steps of its ends, and what each kind of step tells its own end.
+//! The rule of a link's ring, which holds between any two steps of its ends, and what each kind of step shows its own end.
 
 use atomic_table::{Play, Seat as TableSeat, Split, Table, TableRule};
 use luflow::Msg;
@@ -7,7 +7,7 @@ use std::alloc::Global;
 use std::collections::LinkedList;
 use std::snapshot::Snapshot;
 
-/// What a ring is told when it is made.
+/// What a ring is given when it is made.
 #[derive(Drop)]
 pub struct Terms {
     pub job: Snapshot<Job>,

@@ -1,7 +1,8 @@
 //! The sender's end.
 
 ghost use Rattle.std.specs.Prelude.{◌≡◌, ◌≤◌, ℕ, length, take, IfOk, IfErr};
-ghost use Rattle.lulink.specs.Lists.{list_of, IsBeginning};
+ghost use Rattle.luworld.specs.Progress.{IsBeginning};
+ghost use Rattle.lulink.specs.Lists.{list_of};
 ghost use Rattle.lulink.specs.Words.{has_left, IsFinal};
 ghost use Rattle.lulink.specs.Views.{IsNextToPut, AreNextToPut, HasPut, HasPutAll, HasPutNothing, PutOrBack};
 ghost use Rattle.lulink.specs.Seen.{put_none, Offered, OfferedRun, FoundRoom, FoundFullAndGone};
@@ -57,7 +58,7 @@ impl Tx {
     }
 
     /// Puts the next message of the link's list, if there is room. `Full` hands it back: nothing was put. Looks at the
-    /// receiver's word once, or not at all where the word that it saw last tells of room; so `Full` is as of this call.
+    /// receiver's word once, or not at all where the word that it saw last shows room; so `Full` is as of this call.
     /// Never waits, and takes no memory.
     pub fn offer(&mut self, msg: Msg) -> Offer
         requires { IsNextToPut self.old msg }
@@ -72,8 +73,8 @@ impl Tx {
         Offer::Done
     }
 
-    /// Puts as many of these messages, the next ones of the link's list, as there is room for, in order, and tells how many: the
-    /// receiver sees them all at once. Looks at the receiver's word once, or not at all where an earlier look told of room for
+    /// Puts as many of these messages, the next ones of the link's list, as there is room for, in order, and says how many: the
+    /// receiver sees them all at once. Looks at the receiver's word once, or not at all where an earlier look showed room for
     /// all of them; so where fewer were put, the link was full as of this call. An empty run looks once, and puts nothing. Never
     /// waits, and takes no memory.
     pub fn offer_run(&mut self, msgs: &[Msg]) -> usize
@@ -99,7 +100,7 @@ impl Tx {
 
     /// Puts the next message of the link's list. Waits while the link is full and the receiver is there; a link with room
     /// takes the message also where the receiver has left. `Gone` hands the message back: nothing was put. The link was full at
-    /// one look, and the receiver had left at the next; what it took between the two has made room, which an `offer` tells.
+    /// one look, and the receiver had left at the next; what it took between the two has made room, which an `offer` reports.
     /// Takes no memory.
     pub fn put<R: Wait>(&mut self, rt: &R, msg: Msg) -> Result<(), PutError>
         requires { IsNextToPut self.old msg }
@@ -124,7 +125,7 @@ impl Tx {
         unreachable!()
     }
 
-    /// What was put is a beginning of the link's list.
+    /// What was put is a prefix of the link's list.
     pub fn put_begins_law(&self)
         ensures { IsBeginning self.now.put (list_of self.now.job self.now.link) }
     {

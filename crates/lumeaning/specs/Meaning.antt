@@ -27,7 +27,7 @@ source_stream job σ v = σ [] (variable_name job.plan.flat v)
 abbrev pub source_list : Run → SourceStreams → ℕ → List Msg
 source_list job σ l = messages 0 (marks (source_stream job σ (carried job.plan l)) job.inputs.instants)
 
--- all statuses of a main variable in the source's words, none of them broken; a beginning of them
+-- all statuses of a main variable in the source's words, none of them broken; a prefix of them
 abbrev pub AreStatuses : Run → SourceStreams → ℕ → List Status → Type 0
 AreStatuses job σ v xs = map Known xs ≡ marks (source_stream job σ v) job.inputs.instants
 

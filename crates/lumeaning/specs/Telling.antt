@@ -1,4 +1,4 @@
--- What a distributed run tells, and when that is true of its source program: no site, plan or schedule is needed to read it.
+-- What a distributed run reports, and when that is true of its source program: no site, plan or schedule is needed to read it.
 use Rattle.std.specs.Prelude.{◌≡◌, ℕ, ◌+◌, ◌≤◌, List, [], length, map, All, Option, Some, None, slice_get, unwrap_or}
 use Rattle.std.specs.Option.{option_map, option_and_then}
 use Rattle.lutree.specs.declared.program.Kind.{Kind}
@@ -54,7 +54,7 @@ HasEndedSites told = All (λ (site : SiteTold). site.ending ≡ ended) told.site
 abbrev pub main_marks : Table → SourceStreams → List ℕ → List Mark
 main_marks inputs σ x = marks (σ [] x) inputs.instants
 
--- What was taken from a link is a beginning of its variable's present values, each once and in order, with the close behind
+-- What was taken from a link is a prefix of its variable's present values, each once and in order, with the close behind
 -- them; and there are no more messages than those.
 pub record IsLinkTrue (inputs : Table) (σ : SourceStreams) (link : LinkTold) : Type 0 where
   pub taken : IsBeginning link.taken (carried_bodies (main_marks inputs σ link.variable))
@@ -64,14 +64,14 @@ pub record IsLinkTrue (inputs : Table) (σ : SourceStreams) (link : LinkTold) : 
 abbrev pub IsLinkWhole : Table → SourceStreams → LinkTold → Type 0
 IsLinkWhole inputs σ link = link.taken ≡ carried_bodies (main_marks inputs σ link.variable)
 
--- what was told of an output is a beginning of its variable's statuses; all of them
+-- what was reported of an output is a prefix of its variable's statuses; all of them
 abbrev pub IsOutputTrue : Table → SourceStreams → OutputTold → Type 0
 IsOutputTrue inputs σ output = IsBeginning (map Known output.statuses) (main_marks inputs σ output.name)
 
 abbrev pub IsOutputWhole : Table → SourceStreams → OutputTold → Type 0
 IsOutputWhole inputs σ output = map Known output.statuses ≡ main_marks inputs σ output.name
 
--- a fault that is told is one of the source: an operator in the equation of this variable, or in an instance of a call there, has
+-- a fault that is reported is one of the source: an operator in the equation of this variable, or in an instance of a call there, has
 -- no result at this instant
 abbrev pub IsEndingTrue : ProgramTree → List ℕ → Table → SourceStreams → Ending → Type 0
 IsEndingTrue program main inputs σ ended = Unit {0}
@@ -92,7 +92,7 @@ names_of types (Some (kinds.Enum place size)) = unwrap_or (option_map (λ (t : T
 abbrev pub names_told : ProgramTree → List ℕ → List ℕ → List (List ℕ)
 names_told program main x = names_of program.types (option_and_then (λ (n : NodeTree). kind_of n x) (node_called program main))
 
--- What is told is true of the source program at the table: for each of its synchronous solutions, of each link, of each site's
+-- What is reported is true of the source program at the table: for each of its synchronous solutions, of each link, of each site's
 -- fault and of each output. Where every site has ended, links and outputs are whole. Data are spelled by the names that the program
 -- declares.
 pub record IsTrueOf (program : ProgramTree) (main : List ℕ) (inputs : Table) (told : Telling) : Type 0 where

@@ -115,7 +115,7 @@ needs_in_order [] k d l = absurd (omega arith)
 needs_in_order (m ∷ rows) zero d l = IsStrictlyIncreasing-filter (is_marked m) (range_with_len 0 (length m)) (range_increasing 0 (length m))
 needs_in_order (m ∷ rows) (suc k) d l = needs_in_order rows k d (omega arith)
 
--- what a site needs is told by the flows and where they stand alone
+-- what a site needs follows from the flows and where they stand alone
 module _ (p q : Distribution) (s : ℕ) (on : (i : ℕ) → stands p i s ≡ true → stands q i s ≡ true) (at : (i : ℕ) (flow : Flow) → flow_at p.flat i ≡ Some flow → flow_at q.flat i ≡ Some flow) where
   needed_too : (r : ℕ) → IsNeeded p s r → IsNeeded q s r
   needed_too x (read_there i r flow there here c) = read_there i r flow (on i there) (at i flow here) c

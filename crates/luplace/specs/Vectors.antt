@@ -23,7 +23,7 @@ pub record PlacingVectors : Type 0 where
   pub nowhere : sites_put (at_two_sites [] (entry (codes "c") (1 ∷ []) ∷ [])) (codes "y") ≡ []
   pub placed : placed_by sampled_sum.variables shared_clock ≡ (0 ∷ []) ∷ (0 ∷ 1 ∷ []) ∷ (0 ∷ []) ∷ (1 ∷ []) ∷ (0 ∷ []) ∷ []
   pub accepted : refusal sampled_sum shared_clock ≡ None
-  -- w is no variable, and x has no site: the first of the two is told
+  -- w is no variable, and x has no site: the first of the two is reported
   pub unknown : refusal sampled_sum (at_two_sites [] (entry (codes "w") (0 ∷ []) ∷ [])) ≡ Some UnknownVariable
   pub unplaced : refusal sampled_sum (at_two_sites [] (entry (codes "c") (0 ∷ []) ∷ [])) ≡ Some Unplaced
   -- two variables of one equation, which is the first's, at the same two sites, at one of them alone, and at two that differ

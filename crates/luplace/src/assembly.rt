@@ -5,7 +5,7 @@ ghost use Rattle.std.specs.Prelude.{◌≡◌, IfOk};
 use lubase::Name;
 use std::alloc::{AllocError, Global};
 
-/// The same names once more.
+/// Copies of the names.
 pub fn names_of(alloc: Global, names: &[Name]) -> Result<Vec<Name>, AllocError>
     ensures { IfOk result (λ copies. copies.items ≡ names.now) }
 {

@@ -150,7 +150,7 @@ fn site_marks(
     Ok(marks)
 }
 
-/// The marks of each site.
+/// For each site the marks of what it needs.
 pub fn all_marks(
     alloc: Global,
     flat: &Flat,

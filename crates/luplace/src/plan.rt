@@ -110,9 +110,9 @@ fn what_follows(
 
 impl Plan {
     /// The plan of a program and a placement as it was read: the program's main variables at the sites that the placement
-    /// puts them at, and what follows: a variable with several sites is computed, or read, at each of them. A placement is refused for the first of these: `UnknownVariable` where it places
-    /// what is no main variable, `Unplaced` where a main variable has no site, `SplitCall` where the variables of one
-    /// equation stand at different sites. `OutOfMemory` may come in place of any answer.
+    /// puts them at, and what follows: a variable with several sites is computed, or read, at each of them. A placement is refused for the first of
+    /// these: `UnknownVariable` where it places what is no main variable, `Unplaced` where a main variable has no site, `SplitCall` where the
+    /// variables of one equation stand at different sites. `OutOfMemory` may come in place of any answer.
     pub fn make(alloc: Global, flat: Flat, place: &Place) -> Result<Plan, PlaceError>
         ensures made { IfOk result (IsPlanOf flat place.now) }
         ensures refused { IfErr result (λ e. (e ≡ PlaceError.OutOfMemory)

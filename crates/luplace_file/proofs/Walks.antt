@@ -28,7 +28,7 @@ pub with_front-nil : {A : Type 0} (read : Option (List A)) → with_front [] rea
 with_front-nil (Some rest) = refl
 with_front-nil None = refl
 
--- a value that was told is there
+-- a value that was reported is there
 pub told_some : {A : Type 0} (o : Option A) (x : A) → or_bad_key o ≡ Ok x → o ≡ Some x
 told_some None x e = absurd cc
 told_some (Some y) x e = cc
@@ -51,7 +51,7 @@ some_texts_are (value ∷ rest) le = refl
 
 -- ---- a key that fails
 
--- an error that is told of a value that isn't there, unless memory ran out
+-- an error that is reported of a value that isn't there, unless memory ran out
 abbrev pub Fails : {A : Type 0} → Option A → PlaceError → Type 0
 Fails o e = (e ≡ OutOfMemory) ⊎ (or_bad_key o ≡ Err e)
 

@@ -3,7 +3,7 @@ use Rattle.std.specs.Prelude.{◌≡◌, ◌⊎◌, Option, Some, None, Result, 
 use Rattle.luplace_file.specs.declared.error.PlaceError.{PlaceError}
 use Rattle.luplace_file.specs.declared.error.PlaceError.TheVariants.{BadKey, OutOfMemory}
 
--- The call gives what is told, unless memory ran out.
+-- The call gives what is reported, unless memory ran out.
 abbrev pub Gives : {X : Type 0} → Result X PlaceError → Result X PlaceError → Type 0
 Gives told result = MatchResult result (λ x. told ≡ Ok x) (λ e. (e ≡ OutOfMemory) ⊎ (told ≡ Err e))
 

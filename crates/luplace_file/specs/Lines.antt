@@ -1,4 +1,4 @@
--- The line that tells a refusal of a placement.
+-- The line that reports a refusal of a placement.
 use Rattle.std.specs.Prelude.{ℕ, List, codes}
 use Rattle.luplace_file.specs.declared.error.PlaceError.{PlaceError}
 use Rattle.luplace_file.specs.declared.error.PlaceError.TheVariants.{NotToml, BadKey, UnknownSite, UnknownVariable, Unplaced, DuplicateSite, OutOfRange, SplitCall, OutOfMemory}

@@ -17,11 +17,11 @@ pub enum Version {
     One,
     /// One site or several in each value.
     Two,
-    /// None that is read. Its values may have several sites, so that this alone is told of it.
+    /// None that is read. Its values may have several sites, so that this alone is reported of it.
     Other,
 }
 
-/// The texts of an array.
+/// The names that the texts of an array are.
 fn texts_in(alloc: Global, values: &[Value]) -> Result<Row<Name>, PlaceError>
     ensures { Gives (or_bad_key (texts_in (items_view values.now))) result }
 {

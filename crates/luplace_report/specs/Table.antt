@@ -77,7 +77,7 @@ link_rows plan = flat_map (λ l. row_of (link_row plan l) (slice_get plan.links 
 
 -- CAUSES
 
--- why a variable crosses to a site: a reader is told by the main variable in whose equation it stands
+-- why a variable crosses to a site: a reader is named by the main variable in whose equation it stands
 abbrev pub reason : Distribution → ℕ → Option Cause → List ℕ
 reason plan s None = []
 reason plan s (Some (Reader i)) = codes " since " ++ (variable_name plan.flat (slice_index plan.flat.owners i) ++ (codes " at " ++ (site_name plan.names s ++ codes " reads it")))

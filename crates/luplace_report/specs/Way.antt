@@ -1,4 +1,4 @@
--- How the way of a plan is told:
+-- How the way of a plan is reported:
 --
 --   run     by rows
 --   run     item by item: a cycle of a, b is parted over sites

@@ -38,7 +38,7 @@ fn put_label(text: &mut String, plan: &Plan, site: u8) -> Result<(), AllocError>
     writeln!(text, "    label=\"{name}\";")
 }
 
-/// The point of a site.
+/// Adds the point of a site.
 fn put_point(text: &mut String, site: u8) -> Result<(), AllocError>
     ensures { Adds result text.old text.new (point site) }
 {
@@ -52,7 +52,7 @@ fn put_opening(text: &mut String, site: u8) -> Result<(), AllocError>
     writeln!(text, "  subgraph cluster_{site} {{")
 }
 
-/// The box of a site.
+/// Adds the box of a site.
 fn put_box(text: &mut String, plan: &Plan, site: u8) -> Result<(), AllocError>
     ensures { Adds result text.old text.new (box plan.now site) }
 {
@@ -106,7 +106,7 @@ fn put_head(
     }
 }
 
-/// The edge of a link.
+/// Adds the edge of a link.
 fn put_edge(text: &mut String, plan: &Plan, link: Link) -> Result<(), AllocError>
     ensures { Adds result text.old text.new (edge plan.now link) }
 {

@@ -69,7 +69,7 @@ fn sites_at(plan: &Plan, variable: usize) -> &[u8]
     }
 }
 
-/// A main variable.
+/// A main variable as an object.
 fn flow_value(alloc: Global, plan: &Plan, variable: usize) -> Result<Value, AllocError>
     ensures { IfOk result (λ value. view value ≡ flow_data plan.now variable) }
 {
@@ -84,7 +84,7 @@ fn flow_value(alloc: Global, plan: &Plan, variable: usize) -> Result<Value, Allo
     Ok(Value::Object(members))
 }
 
-/// The main variables.
+/// The main variables as an array.
 fn flows_value(alloc: Global, plan: &Plan) -> Result<Value, AllocError>
     ensures { IfOk result (λ value. view value ≡ flows_data plan.now) }
 {
@@ -95,7 +95,7 @@ fn flows_value(alloc: Global, plan: &Plan) -> Result<Value, AllocError>
     Ok(Value::Array(values))
 }
 
-/// A link.
+/// A link as an object.
 fn link_value(alloc: Global, plan: &Plan, link: Link) -> Result<Value, AllocError>
     ensures { IfOk result (λ value. view value ≡ link_data plan.now link) }
 {
@@ -114,7 +114,7 @@ fn link_value(alloc: Global, plan: &Plan, link: Link) -> Result<Value, AllocErro
     Ok(Value::Object(members))
 }
 
-/// The links.
+/// The links as an array.
 fn links_value(alloc: Global, plan: &Plan) -> Result<Value, AllocError>
     ensures { IfOk result (λ value. view value ≡ links_data plan.now) }
 {

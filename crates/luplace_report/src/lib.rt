@@ -3,7 +3,7 @@
 //! - [`report_json`]: the report as JSON on one line; [`report_table`]: as tables for a terminal; [`report_dot`]: as a graph.
 //! - [`cause_of`], [`Cause`]: why a link is there.
 //! - [`laws`]: each link of a plan has a cause, each edge has both ends, a site's items are counted; worked reports.
-//! - `names`: how variables, sites, types and clocks are named; `way`: how the way of a plan is told.
+//! - `names`: how variables, sites, types and clocks are named; `way`: how the way of a plan is reported.
 #![tactic(auto)]
 
 mod cause;

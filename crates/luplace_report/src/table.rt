@@ -172,7 +172,7 @@ fn put_rest(text: &mut String, plan: &Plan, way: &Way) -> Result<(), AllocError>
     put_way(text, plan.flat(), way)
 }
 
-/// The four tables.
+/// Adds the four tables of a plan.
 fn put_tables(text: &mut String, plan: &Plan, way: &Way) -> Result<(), AllocError>
     ensures { Adds result text.old text.new (table_text plan.now way.now) }
 {

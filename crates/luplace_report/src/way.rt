@@ -1,4 +1,4 @@
-//! How the way of a plan is told.
+//! How the way of a plan is reported.
 
 ghost use Rattle.std.specs.Prelude.{◌≡◌};
 ghost use Rattle.luplace_report.specs.Names.{Adds};
@@ -66,7 +66,7 @@ fn put_nil(text: &mut String, flat: &Flat, variables: &[usize]) -> Result<(), Al
     put_sent(text, variables)
 }
 
-/// The way of a plan.
+/// Adds the way of a plan.
 fn put_text(text: &mut String, flat: &Flat, way: &Way) -> Result<(), AllocError>
     ensures { Adds result text.old text.new (way_text flat.now way.now) }
 {
@@ -77,7 +77,7 @@ fn put_text(text: &mut String, flat: &Flat, way: &Way) -> Result<(), AllocError>
     }
 }
 
-/// The row of a plan's way.
+/// Adds the row of a plan's way.
 pub fn put_way(text: &mut String, flat: &Flat, way: &Way) -> Result<(), AllocError>
     ensures { Adds result text.old text.new (way_row flat.now way.now) }
 {

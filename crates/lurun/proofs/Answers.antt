@@ -32,7 +32,7 @@ module _ (job : Run) (stations : List StationAt) (reports : List SiteAt) (of : A
   pub run_answer : (result : Result (List OutputColumn) RunError) → ((j : Run) → AreToldOf j reports → IsCollected j reports result) → IsRunAnswer job stations result
   run_answer result collected = answer result (collected job (told_of job stations reports are of))
 
--- a run that has no reports, for want of memory or of a thread, may answer that
+-- a run that has no reports, since memory or a thread was refused, may answer that
 pub stopped : (job : Run) (stations : List StationAt) (error : RunError) → (error ≡ OutOfMemory) ⊎ (error ≡ NoThread) → IsRunAnswer job stations (Err error)
 stopped job stations error (inl is) = subst (λ (e : RunError). IsRunAnswer job stations (Err e)) (sym is) tt
 stopped job stations error (inr is) = subst (λ (e : RunError). IsRunAnswer job stations (Err e)) (sym is) tt

@@ -71,7 +71,7 @@ module _ (job : Run) (reports : List SiteAt) (of : AreToldOf job reports) (compl
     told_at : (p : ℕ) (r : SiteAt) (k : ℕ) (xs : List Status) → slice_get reports p ≡ Some r → IsOutput r.job r.site r.done k xs → IsOutput job r.site r.done k xs
     told_at p r k xs at is = subst (λ (j : Run). IsOutput j r.site r.done k xs) (job_at p r at) is
 
-    -- what is told of an output is all of it
+    -- what is reported of an output is all of it
     told_whole : (k v : ℕ) (xs : List Status) → slice_get (outputs_of job.plan) k ≡ Some v → IsToldBySome reports k xs → IsWhole job v xs
     told_whole k v xs out (OneTells p r at some is) =
         let told = told_at p r k xs at is in
@@ -125,7 +125,7 @@ module _ (job : Run) (reports : List SiteAt) (of : AreToldOf job reports) (compl
             none (are_outputs (omega (arith, some, n, a, b, len)));
       }
 
--- the same by what the first of the reports tells of its job
+-- the same by what the first of the reports says of its job
 module _ (job : Run) (reports : List SiteAt) (of : AreToldOf job reports) (first : SiteAt) (at : slice_get reports 0 ≡ Some first) (complete : are_complete (sites_of first.job.plan) reports ≡ true) (ok : IsJob first.job) (ended : All HasEnded reports)
     (names : List (List ℕ)) (columns : List OutputColumn) (names_is : names ≡ output_names first.job.plan) (are : AreColumns reports names columns) where
   same_job : first.job ≡ job

@@ -1,4 +1,4 @@
--- Columns, into which what the sites tell is moved one site after the other.
+-- Columns, into which what the sites report is moved one site after the other.
 use Rattle.std.proofs.Common.{◌≡◌, ℕ, ◌+◌, ◌<◌, ◌≤◌, List, [], ◌∷◌, ◌++◌, length, set, Some, Vec, Global, refl, sym, ap, ◌∙◌, subst, arith, inl, inr}
 use Rattle.std.specs.Prelude.{slice_get, string_bytes}
 use Rattle.std.specs.declared.string.String.{String}
@@ -15,13 +15,13 @@ use Rattle.lusite_program.proofs.Written.{slice_get-set_same, slice_get-set_othe
 use Rattle.lurun_reports.specs.Reports.{IsToldBySome, OneTells, NoneTells, AreColumns, IsFilled, later}
 use Rattle.lurun_reports.proofs.Lists.{slice_left, slice_seam, pushed_at, same_one}
 
--- what is told of an output, with one site more
+-- what is reported of an output, with one site more
 pub told_more : (reports : List SiteAt) (r : SiteAt) (k : ℕ) (told xs : List Status) → IsToldBySome reports k told → IsOutput r.job r.site r.done k xs → IsToldBySome (reports ++ r ∷ []) k (later told xs)
 told_more reports r k told [] (OneTells p q at some is) out = OneTells p q (slice_left reports (r ∷ []) p q at) some is
 told_more reports r k told [] (NoneTells empty all) out = NoneTells empty (pushed_at (λ p (q : SiteAt). IsOutput q.job q.site q.done k []) reports r out all)
 told_more reports r k told (x ∷ xs) before out = OneTells (length reports) r (slice_seam reports r) (omega arith) out
 
--- the first k columns have what a site tells too, and the others are as they were
+-- the first k columns have what a site reports too, and the others are as they were
 pub record AreMoved (r : SiteAt) (k : ℕ) (old new : List OutputColumn) : Type 0 where
   pub len : length new ≡ length old
   pub done : (j : ℕ) (y : OutputColumn) → j < k → slice_get old j ≡ Some y → (xs : List Status) × IsOutput r.job r.site r.done j xs × (slice_get new j ≡ Some (record { name = y.name; statuses = later y.statuses xs }))
@@ -47,7 +47,7 @@ one_moved r k old new new' xs are out filled = record {
   left = λ j l. filled.others j (λ e. omega (arith, l, e)) ∙ are.left j (omega (arith, l));
 }
 
--- all columns have what the site tells, if it tells nothing of those that are left
+-- all columns have what the site reports, if it reports nothing of those that are left
 pub all_moved : (r : SiteAt) (k : ℕ) (old new : List OutputColumn) → AreMoved r k old new → ((j : ℕ) → k ≤ j → j < length new → IsOutput r.job r.site r.done j [])
     → (reports : List SiteAt) (names : List (List ℕ)) → AreColumns reports names old → AreColumns (reports ++ r ∷ []) names new
 all_moved r k old new are rest reports names before = record {

@@ -1,4 +1,4 @@
--- Which fault reports tell, one after the other.
+-- Which fault reports name, one after the other.
 use Rattle.std.proofs.Common.{◌≡◌, ℕ, ◌≤◌, List, [], ◌∷◌, ◌++◌, length, Option, Some, None, sym, subst, arith}
 use Rattle.std.proofs.lemmas.List.Elements.{All-push}
 use Rattle.lusite.specs.declared.next.Fault.{Fault as SiteFault}

@@ -1,4 +1,4 @@
--- What the reports of a run's sites tell together.
+-- What the reports of a run's sites say together.
 use Rattle.std.specs.Prelude.{◌≡◌, ◌≢◌, ◌⊎◌, ℕ, ◌<◌, ◌≤◌, Bool, true, false, ◌&&◌, nat_eq, nat_lt, List, [], ◌∷◌, length, map, filter, All, Option, Some, None, slice_get, Result, MatchResult}
 use Rattle.std.specs.List.{range_with_len, list_all}
 use Rattle.luflow.specs.declared.data.Status.{Status}
@@ -80,17 +80,17 @@ SomeNotEnded reports = (k : ℕ) × (r : SiteAt) × (slice_get reports k ≡ Som
 abbrev pub SomeCut : List SiteAt → Type 0
 SomeCut reports = (k : ℕ) × (r : SiteAt) × (slice_get reports k ≡ Some r) × WasCut r
 
--- what one of the sites tells of output k, or nothing where none tells anything
+-- what one of the sites reports of output k, or nothing where none reports anything
 pub data IsToldBySome (reports : List SiteAt) (k : ℕ) (xs : List Status) : Type 0 where
   OneTells : (p : ℕ) (r : SiteAt) → slice_get reports p ≡ Some r → 0 < length xs → IsOutput r.job r.site r.done k xs → IsToldBySome reports k xs
   NoneTells : xs ≡ [] → ((p : ℕ) (r : SiteAt) → slice_get reports p ≡ Some r → IsOutput r.job r.site r.done k []) → IsToldBySome reports k xs
 
--- a column for each name: what the sites tell of the output of its number
+-- a column for each name: what the sites report of the output of its number
 pub record AreColumns (reports : List SiteAt) (names : List (List ℕ)) (columns : List OutputColumn) : Type 0 where
   pub len : length columns ≡ length names
   pub each : (k : ℕ) (x : OutputColumn) → slice_get columns k ≡ Some x → (slice_get names k ≡ Some x.name) × IsToldBySome reports k x.statuses
 
--- what one site more tells of an output, or what was told before where it tells nothing
+-- what one site more reports of an output, or what was reported before where it reports nothing
 abbrev pub later : List Status → List Status → List Status
 later told [] = told
 later told (x ∷ xs) = x ∷ xs
@@ -115,7 +115,7 @@ pub record AreCollected (job : Run) (reports : List SiteAt) (outputs : List Outp
   pub ended : All HasEnded reports
   pub are_outputs : AreOutputsOf job outputs
 
--- all sites of a run ended, and there is no output to tell
+-- all sites of a run ended, and there is no output to report
 pub record TellNothing (job : Run) (reports : List SiteAt) : Type 0 where
   pub complete : AreComplete job reports
   pub ended : All HasEnded reports
@@ -131,6 +131,6 @@ IsRefusalOf job reports OutOfMemory = Unit {0}
 IsRefusalOf job reports NoThread = ⊥
 
 -- What is collected from reports: of the refusals the first that has a reason, else the whole outputs, of a run without a
--- fault. Want of memory may come in place of any answer.
+-- fault. Out of memory may come in place of any answer.
 abbrev pub IsCollected : Run → List SiteAt → Result (List OutputColumn) RunError → Type 0
 IsCollected job reports result = MatchResult result (AreCollected job reports) (IsRefusalOf job reports)

@@ -1,4 +1,4 @@
-//! What the reports of a run's sites tell together.
+//! What the reports of a run's sites say together.
 
 ghost use Rattle.std.specs.Prelude.{◌≡◌, ℕ, ◌++◌, ◌∷◌, [], true, false, All, IfOk, OnOk, List, Some, length, filter, slice_get};
 ghost use Rattle.std.specs.List.{list_all, range_with_len};
@@ -118,7 +118,7 @@ fn blank_column(alloc: Global, name: &Name) -> Result<(String, Vec<Status>), All
     Ok((name, Vec::new(alloc)))
 }
 
-/// A column for each name: what no sites tell.
+/// A column for each name: what no sites report.
 fn blank_columns(alloc: Global, names: &[Name]) -> Result<Vec<(String, Vec<Status>)>, AllocError>
     ensures { IfOk result (λ columns. AreColumns [] names.now (outputs_view columns.items)) }
 {
@@ -143,7 +143,7 @@ fn fill(columns: &mut Vec<(String, Vec<Status>)>, k: usize, statuses: Vec<Status
     }
 }
 
-/// Moves what one site more tells into the columns.
+/// Moves what one site more reports into the columns.
 fn add_site(
     alloc: Global,
     columns: &mut Vec<(String, Vec<Status>)>,
@@ -163,7 +163,7 @@ fn add_site(
     Ok(())
 }
 
-/// Moves what the sites tell into the columns.
+/// Moves what the sites report into the columns.
 fn add_sites(
     alloc: Global,
     columns: &mut Vec<(String, Vec<Status>)>,

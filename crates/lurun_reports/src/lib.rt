@@ -1,4 +1,4 @@
-//! What the reports of a run's sites tell together.
+//! What the reports of a run's sites say together.
 //!
 //! - [`collect`]: the whole outputs of a job from one report of each of its sites, or why there are none.
 //! - [`RunError`]: why a run has no outputs.

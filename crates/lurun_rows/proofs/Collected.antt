@@ -1,4 +1,4 @@
--- Reports of all sites are collected: what was told goes to the columns.
+-- Reports of all sites are collected: what was reported goes to the columns.
 use Rattle.std.proofs.Common.{◌≡◌, ℕ, suc, ◌+◌, ◌<◌, Bool, true, false, cond, Option, filter, List, [], ◌∷◌, ◌++◌, length, map, get_or, Some, Vec, Global, refl, sym, ap, ap₂, ◌∙◌, subst, arith}
 use Rattle.std.specs.Prelude.{IfSome, None, slice_get, swap_remove, unwrap_or}
 use Rattle.std.specs.List.{range_with_len}
@@ -28,12 +28,12 @@ use Rattle.lublock_site.specs.RowStations.{RowTold, AreWhole, output_told, outpu
 use Rattle.lurun_rows.specs.Rows.{AreToldOf}
 use Rattle.lurun_rows.specs.Collecting.{HasReport, IsPlaceOf, heading_if, headings_below, headings_of, IsColumnOf, AreColumnsOf}
 
--- ---- what was told
+-- ---- what was reported
 
 abbrev Whole : Run → ℕ × List Status → Type 0
 Whole job x = IsWhole job x.0 x.1
 
--- what one report more tells comes behind what the others tell
+-- what one report more says comes behind what the others say
 pub told_more : (job : Run) (r : RowTold) (told part more : List (ℕ × Vec Status Global)) → r.job ≡ job → AreWhole r.job (outputs_told part) → more ≡ told ++ part → AreWhole job (outputs_told told) → AreWhole job (outputs_told more)
 told_more job r told part more same whole e before =
     All-same (Whole job) (outputs_told more) _ (ap outputs_told e ∙ map-append output_told told part)
@@ -132,7 +132,7 @@ no_fault job reports ok of have i t li lt =
     let sound = subst (IsSoundAt job) w.of_site (subst (λ (j : Run). IsSoundAt j w.report.site) same w.told.sound) in
     sound i t (ok.is_plan.stands_home i li) li lt
 
--- the same by what the first of the reports tells of its job
+-- the same by what the first of the reports says of its job
 pub collected : (job : Run) (reports : List RowTold) (first : RowTold) (hs : List (ℕ × List ℕ)) (columns : List OutputColumn) → AreToldOf job reports → slice_get reports 0 ≡ Some first → IsRun first.job
     → ((s : ℕ) → s < sites_of first.job.plan → HasReport reports s) → hs ≡ headings_of first.job.plan.flat → (AreToldOf job reports → AreColumnsOf job hs columns) → AreOutputsOf job columns
 collected job reports first hs columns of at run have e are =

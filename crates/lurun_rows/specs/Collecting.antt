@@ -1,4 +1,4 @@
--- What the reports of a run by rows tell together.
+-- What the reports of a run by rows say together.
 use Rattle.std.specs.Prelude.{◌≡◌, ℕ, List, [], ◌∷◌, if◌then◌else◌, length, map, filter, Some, slice_get, string_bytes, Vec}
 use Rattle.std.specs.declared.alloc.Global.{Global}
 use Rattle.std.specs.List.{range_with_len}
@@ -20,7 +20,7 @@ pub record HasReport (reports : List RowTold) (s : ℕ) : Type 0 where
   pub of_site : report.site ≡ s
   pub told : IsTold report
 
--- what was told of a variable stands at this place
+-- what was reported of a variable stands at this place
 abbrev pub IsPlaceOf : List (ℕ × Vec Status Global) → ℕ → ℕ → Type 0
 IsPlaceOf told v place = (x : ℕ × Vec Status Global) × (slice_get told place ≡ Some x) × (x.0 ≡ v)
 

@@ -1,4 +1,4 @@
-//! What the reports of a run by rows tell together.
+//! What the reports of a run by rows say together.
 
 ghost use Rattle.std.specs.Prelude.{◌≡◌, ◌<◌, ℕ, true, IfOk, IfSome, OnOk, map, ◌++◌};
 ghost use Rattle.luflow.specs.Tables.{output_view, outputs_view};
@@ -88,7 +88,7 @@ fn add_told(
     told.append(&mut more)
 }
 
-/// All outputs that the reports tell.
+/// All outputs that the reports have.
 fn told_by(alloc: Global, reports: Vec<RowReport>) -> Result<Vec<(usize, Vec<Status>)>, AllocError>
     ensures { (job : Run) → AreToldOf job reports.items
         → IfOk result (λ told. AreWhole job (outputs_told told.items)) }
@@ -100,7 +100,7 @@ fn told_by(alloc: Global, reports: Vec<RowReport>) -> Result<Vec<(usize, Vec<Sta
     Ok(told)
 }
 
-/// The place of what was told of a variable.
+/// The place of what was reported of a variable.
 fn place_of(told: &[(usize, Vec<Status>)], variable: usize) -> Option<usize>
     ensures { IfSome result (IsPlaceOf told.now variable) }
 {
@@ -112,7 +112,7 @@ fn place_of(told: &[(usize, Vec<Status>)], variable: usize) -> Option<usize>
     None
 }
 
-/// Takes the statuses of a variable out of what was told.
+/// Takes the statuses of a variable out of what was reported.
 fn take_told(told: &mut Vec<(usize, Vec<Status>)>, variable: usize) -> Option<Vec<Status>>
     ensures found { (job : Run) → AreWhole job (outputs_told told.old.items)
         → IfSome result (λ statuses. IsWhole job variable statuses.items) }
@@ -126,7 +126,7 @@ fn take_told(told: &mut Vec<(usize, Vec<Status>)>, variable: usize) -> Option<Ve
     Some(statuses)
 }
 
-/// The column of an output, whose statuses are taken out of what was told.
+/// The column of an output, whose statuses are taken out of what was reported.
 fn column_of(
     heading: Heading,
     told: &mut Vec<(usize, Vec<Status>)>,
@@ -141,7 +141,7 @@ fn column_of(
     Some((name, statuses))
 }
 
-/// A column for each output; none where one wasn't told.
+/// A column for each output; none where one wasn't reported.
 fn columns_of(
     alloc: Global,
     headings: Vec<Heading>,
@@ -161,7 +161,7 @@ fn columns_of(
     Ok(Some(columns))
 }
 
-/// The whole outputs of a job, from reports of its sites. None where a site has no report, where an output wasn't told, or where the
+/// The whole outputs of a job, from reports of its sites. None where a site has no report, where an output wasn't reported, or where the
 /// main node has none. The reports are gone: their statuses are moved into the answer, and not copied.
 ///
 /// # Errors

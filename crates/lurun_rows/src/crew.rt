@@ -65,7 +65,7 @@ fn deal_to(shares: &mut Vec<Vec<Seat>>, to: usize, seat: Seat) -> Result<(), All
     Ok(())
 }
 
-/// As many empty shares.
+/// So many empty shares.
 fn no_shares(alloc: Global, count: usize) -> Result<Vec<Vec<Seat>>, AllocError>
     ensures none { IfOk result (λ shares. length (dealt shares.items) ≡ 0) }
     ensures len { IfOk result (λ shares. vec_len shares ≡ count) }

@@ -2,7 +2,7 @@
 //!
 //! - [`row_stations`]: a station for each site of a job; `lublock_site` says what a station is.
 //! - [`run_rows`]: the whole outputs of a job whose stations go on until each is over, or none.
-//! - [`collect_rows`]: the outputs that the reports of all sites tell together.
+//! - [`collect_rows`]: the outputs that the reports of all sites say together.
 #![tactic(auto)]
 
 mod collecting;

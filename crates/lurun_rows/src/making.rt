@@ -156,7 +156,7 @@ fn goes_by_rows(alloc: Global, plan: &Plan) -> Result<bool, AllocError>
 }
 
 /// The stations of a job whose runs go by rows, in order of sites, over one copy of its program: all links are open, with the plan's
-/// capacity, and each end is at its site. None where the plan's runs don't go by rows, as `luways::way_of` tells, or where one of the
+/// capacity, and each end is at its site. None where the plan's runs don't go by rows, as `luways::way_of` says, or where one of the
 /// sites can't be a station.
 ///
 /// # Errors

@@ -13,7 +13,7 @@ use std::sync::Wait;
 use std::thread;
 use std::time::{Duration, Instant};
 
-/// A station as a worker goes round it, and the instant that the gate was told last.
+/// A station as a worker goes round it, and the instant that the gate was called with last.
 #[derive(Drop)]
 pub struct Seat {
     station: RowStation,
@@ -46,7 +46,7 @@ impl Seat {
         self.station.site()
     }
 
-    /// Tells the gate the instant at which the station stands, if that is news.
+    /// Calls the gate with the instant at which the station stands, if that is news.
     fn tell<G: Gate>(&mut self, gate: &G)
         ensures { self.new ≡ self.old }
     {
@@ -57,7 +57,7 @@ impl Seat {
         }
     }
 
-    /// Goes on until the station is blocked or over, and tells the gate.
+    /// Goes on until the station is blocked or over, and calls the gate.
     fn go<G: Gate>(&mut self, gate: &G) -> Went
         ensures { self.new ≡ self.old }
     {
@@ -70,7 +70,7 @@ impl Seat {
         went
     }
 
-    /// What the site tells; none where it didn't end. The ends are left.
+    /// What the site reports; none where it didn't end. The ends are left.
     fn report(self) -> Option<RowReport>
         ensures { IfSome result (λ r. (r.job ≡ self.job) × (r.site ≡ self.site)) }
     {
@@ -140,7 +140,7 @@ const PATIENCE: u32 = 1000;
 /// What a yield costs in which somebody else had the processor.
 const SLOW: u32 = 100;
 
-/// So many microseconds of a yield tell that nobody else wanted the processor.
+/// So many microseconds of a yield show that nobody else wanted the processor.
 const AT_ONCE: u32 = 5;
 
 /// How long the sleep is, in microseconds.

@@ -67,7 +67,7 @@ counted {X} p xs n x at = go (p x) refl
     go true e = let h = count_yes p xs n x at e in let s : suc n ≡ n + 1 = omega arith in let y = ap (λ k. count_by p (take k xs)) s in omega (arith, h, y)
     go false e = let h = count_no p xs n x at e in let s : suc n ≡ n + 1 = omega arith in let y = ap (λ k. count_by p (take k xs)) s in omega (arith, h, y)
 
--- ---- ends of any kind, each with its job, link, and count of messages; p tells the items that move the end of a link
+-- ---- ends of any kind, each with its job, link, and count of messages; p says which items move the end of a link
 
 module _ {T : Type 0} (job : T → Run) (link : T → ℕ) (len : T → ℕ) (p : ℕ → Item → Bool) where
   abbrev pub count : Run → ℕ → ℕ → ℕ → ℕ

@@ -84,7 +84,7 @@ impl Seat {
         }
     }
 
-    /// Tries the item at hand.
+    /// Tries the item at hand, and says how that went.
     fn try_item(&mut self) -> Tried
         ensures moved { Moves (is_done result) self.old.at self.new.at }
         ensures site { IsSameSite self.old.at self.new.at }
@@ -132,7 +132,7 @@ impl Seat {
         unreachable!()
     }
 
-    /// Leaves the ends.
+    /// The report of the station's site; its ends are left.
     fn report(self) -> SiteReport
         ensures { ReportsFor self result }
     {
@@ -243,7 +243,7 @@ fn deal_to(shares: &mut Vec<Vec<Seat>>, to: usize, seat: Seat) -> Result<(), All
     Ok(())
 }
 
-/// As many empty shares.
+/// So many empty shares.
 fn no_shares(alloc: Global, count: usize) -> Result<Vec<Vec<Seat>>, AllocError>
     ensures none { IfOk result (λ shares. length (dealt shares.items) ≡ 0) }
     ensures len { IfOk result (λ shares. vec_len shares ≡ count) }

@@ -187,7 +187,7 @@ world_filed takes main plan w path text same told (Ok x) filed =
     }
 world_filed takes main plan w path text same told (Err stop) filed = tt
 
--- what is known of an output of a world is a beginning of what the source gives it
+-- what is known of an output of a world is a prefix of what the source gives it
 signals_true : (gives takes : FileFacts) (request : ReplayRequest) (job : Run) (turns path : List ℕ) (asked : IsAskedFor gives request job turns) (waved : IsWaved takes request job turns path)
     → AreSignalsTrue asked.job_for.job_is.flat.tree request.main.now job.inputs waved.filed.signals
 signals_true gives takes request job turns path asked waved =

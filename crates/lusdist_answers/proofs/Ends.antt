@@ -24,7 +24,7 @@ use Rattle.lusdist_call.specs.Left.{Streams, IsEnded, IsHelp}
 use Rattle.lusdist_call.specs.Left.IsEnded.{answered, refused, unwritten}
 use Rattle.lusdist_shell.specs.Files.{FileFacts}
 
--- which kind of error the parser of the command line tells
+-- which kind of error the parser of the command line reports
 pub data Which (kind : ErrorKind) : Type 0 where
   memory : kind ≡ clap.OutOfMemory → Which kind
   help : IsHelp kind → Which kind
@@ -49,7 +49,7 @@ which clap.Io = mistake (λ h. cc) (λ h. cc) (λ h. cc)
 which clap.Format = mistake (λ h. cc) (λ h. cc) (λ h. cc)
 which clap.OutOfMemory = memory refl
 
--- where no turns are to be told there are no notes
+-- where no turns are to be reported there are no notes
 no_notes : (gives : FileFacts) (request : Request) (notes : List ℕ) → ((replay : ReplayRequest) → request ≡ Replay replay → replay.turns ≡ Nothing) → AreNotes gives request notes → notes ≡ []
 no_notes gives (Check request) notes quiet are = are
 no_notes gives (Eval request) notes quiet are = are
@@ -125,7 +125,7 @@ module _ {W V : Type 0} (gives : FileFacts) (takes : FileFacts) (words : List (L
   done (refused stop e stops filed err) zero = absurd (never_done stop (sym e ∙ zero))
   done (unwritten text e answer filed none begun) zero = absurd (omega (arith, e, zero))
 
-  -- where it is done and no turns are to be told, nothing goes to the error stream
+  -- where it is done and no turns are to be reported, nothing goes to the error stream
   pub quiet : AskForNoTrace words → IsEnded gives takes request status streams → status ≡ 0 → streams.err_after ≡ streams.err
   quiet none (answered text notes e answer noted filed out) zero =
       out.silent (no_notes gives request notes (λ replay is. none replay (subst (IsAskedBy words) is asked)) noted)

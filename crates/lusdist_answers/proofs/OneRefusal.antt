@@ -89,7 +89,7 @@ use Rattle.lusdist_shell.specs.Files.{FileFacts}
 
 -- ---- stops of one file, by what they say
 
--- a stop says nothing, or it tells this kind of refusal of which P is true
+-- a stop says nothing, or it reports this kind of refusal of which P is true
 data Tells_of {E : Type 0} (kind : E → Stop) (P : E → Type 0) (stop : Stop) : Type 0 where
   silent : SaysNothing stop → Tells_of kind P stop
   speaks : (e : E) → P e → stop ≡ kind e → Tells_of kind P stop
@@ -99,7 +99,7 @@ one_of_kind kind P a b one (silent h) y na nb = absurd (na h)
 one_of_kind kind P a b one (speaks e h is) (silent k) na nb = absurd (nb k)
 one_of_kind kind P a b one (speaks e h is) (speaks f k also) na nb = is ∙ ap kind (one e f h k) ∙ sym also
 
--- bytes that are no text are told so, others by what is true of them
+-- bytes that are no text are reported so, others by what is true of them
 abbrev Of : {E : Type 0} → List ℕ → E → (E → Type 0) → E → Type 0
 Of bytes bad P e = ((e ≡ bad) × (¬ IsUtf8 bytes)) ⊎ (IsUtf8 bytes × P e)
 
@@ -243,7 +243,7 @@ unread_told gives path LinkLost h = absurd h
 unread_told gives path NoThread h = absurd h
 unread_told gives path (Mistaken mistake) h = absurd h
 
--- ---- what is told of a program that is spelled
+-- ---- what is reported of a program that is spelled
 
 order : (a b : ℕ) → (a < b) ⊎ ((a ≡ b) ⊎ (b < a))
 order zero zero = inr (inl refl)
@@ -488,7 +488,7 @@ module _ (gives : FileFacts) (settled : HasOneText gives) where
         let there = subst (λ t. IsScheduleRefused t b) (one_of gives settled request.schedule.now others turns others_given given) y in
         one_of_kind (λ e. Schedule e) (λ e. schedule_of turns ≡ Err e) a b (λ e f h k. err_same (schedule_of turns) e f h k) (schedule_told turns a x) (schedule_told turns b there) na nb
 
-  -- a fault of a run is told on threads
+  -- a fault of a run is reported on threads
   run_told : (request : RunRequest) (stop : Stop) (name : List ℕ) (instant : ℕ) (kind : FaultKind) → stop ≡ Fault name instant kind → IsFaultOfRun (AsksRun request) stop
   run_told request stop name instant kind e = subst (IsFaultOfRun (AsksRun request)) (sym e) tt
 

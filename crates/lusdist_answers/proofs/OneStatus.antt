@@ -44,7 +44,7 @@ use Rattle.lusdist_shell.specs.Files.{FileFacts}
 
 -- ---- the status of a stop by what it is of
 
--- a stop of a text, and no want of memory
+-- a stop of a text, and not out of memory
 abbrev pub IsOfText : Stop → Type 0
 IsOfText (CannotRead path) = ⊥
 IsOfText (CannotWrite written) = ⊥

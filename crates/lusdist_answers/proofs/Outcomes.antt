@@ -159,7 +159,7 @@ posed text main table tree flat inputs spelled flat_is table_is short utf8 fits 
     let columns = flat_is.columns inputs fits in
     record { spelled = spelled; flat_is = flat_is; table_is = table_is; short = short; utf8 = utf8; agrees = flat_is.agrees inputs columns; one_meaning = flat_is.one_meaning inputs columns }
 
--- the fault that is told is one of the source
+-- the fault that is reported is one of the source
 source_fault : (gives : FileFacts) (request : EvalRequest) (flat : FlatProgram) (inputs : Table) (asked : IsPosedBy gives request flat inputs) (name : List ℕ) (instant : ℕ) (kind : FaultKind) → IsFaultTold flat inputs name instant kind
     → (σ : SourceStreams) → IsSourceSolution asked.tree request.main.now inputs σ → IsSourceFault asked.tree request.main.now inputs σ name instant kind
 source_fault gives request flat inputs asked name instant kind told σ solves =
@@ -203,7 +203,7 @@ told_none tree places main stop (rule refusal read is tells same there first) =
 told_none tree places main stop (told_flat refusal is accepted refuses) =
     (λ name instant kind e. let clash : Flat refusal ≡ Fault name instant kind = sym is ∙ e in cc, λ path e. let clash : Flat refusal ≡ CannotWrite path = sym is ∙ e in cc)
 
--- a stop that tells no fault needs no dump
+-- a stop that reports no fault needs no dump
 pub none_dumped : (gives : FileFacts) (takes : FileFacts) (request : EvalRequest) (stop : Stop) → IsNoFault stop → IsDumpedTo gives takes request stop
 none_dumped gives takes request stop none = (λ name instant kind e. absurd (none.0 name instant kind e), λ path e. absurd (none.1 path e))
 

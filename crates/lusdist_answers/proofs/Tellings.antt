@@ -1,4 +1,4 @@
--- What a world tells is the text of the world, and true of each source of its job.
+-- What a world reports is the text of the world, and true of each source of its job.
 use Rattle.std.proofs.Common.{◌≡◌, ℕ, ◌+◌, ◌<◌, ◌≤◌, List, [], ◌∷◌, ◌++◌, length, take, drop, map, filter, flat_map, Option, Some, None, refl, sym, ap, ap₂, ◌∙◌, subst, arith, length-append}
 use Rattle.std.specs.Prelude.{slice_get, slice_index, All, get_or, codes, unwrap_or}
 use Rattle.std.specs.Fmt.{decimal}
@@ -49,11 +49,11 @@ bodies : (n : ℕ) (bs : List Body) → map (λ (m : Msg). m.body) (numbered n b
 bodies n [] = refl
 bodies n (b ∷ bs) = ap (λ xs. b ∷ xs) (bodies (n + 1) bs)
 
--- a beginning, each of whose elements is changed alike
+-- a prefix, each of whose elements is changed alike
 begins_mapped : {A B : Type 0} (f : A → B) (xs ys : List A) → IsBeginning xs ys → IsBeginning (map f xs) (map f ys)
 begins_mapped f xs ys h = (map f h.0, sym (map-append f xs h.0) ∙ ap (map f) h.1)
 
--- the marks before an instant are a beginning of those before a later one
+-- the marks before an instant are a prefix of those before a later one
 marks_begin : (s : Stream) (m n : ℕ) → m ≤ n → IsBeginning (marks s m) (marks s n)
 marks_begin s m n le =
     (drop m (marks s n), ap (λ xs. xs ++ drop m (marks s n)) (sym (take-map-range_with_len s 0 n m le)) ∙ take-append-drop m (marks s n))
@@ -78,7 +78,7 @@ pub record Owner (job : Run) (place v : ℕ) : Type 0 where
   pub inside : number < length job.plan.flat.variables
   pub named : variable.name ≡ variable_name job.plan.flat v
 
--- a fault at which a site stopped is told by the variable of its flow
+-- a fault at which a site stopped is reported by the variable of its flow
 pub owner_of : (job : Run) (s : ℕ) (fault : Fault) → IsFlat job.plan.flat → (at : IsFaultAt job s fault) → Owner job at.place fault.variable
 owner_of job s fault is at =
     let flat = job.plan.flat in
@@ -93,7 +93,7 @@ module _ (w : Progress) where
   abbrev there : ℕ → List LinkTold
   there l = link_there w (slice_get w.job.plan.links l) l
 
-  -- what holds of each link that is there holds of all that is told
+  -- what holds of each link that is there holds of all that is reported
   all_links : (P : LinkTold → Type 0) → ((l : ℕ) (link : Link) → slice_get w.job.plan.links l ≡ Some link → P (link_told w link l)) → (ls : List ℕ) → All P (flat_map there ls)
   all_links P h [] = All-nil P
   all_links P h (l ∷ ls) = go (slice_get w.job.plan.links l) refl (all_links P h ls)
@@ -119,7 +119,7 @@ module _ (w : Progress) where
       go None = refl
       go (Some link) = line_is link l ∙ sym (append-nil (link_text (link_told w link l)))
 
-  -- the sites that lines of sites tell of
+  -- the sites that lines of sites report
   pub record SitesOf (n : ℕ) (lines : List ℕ) : Type 0 where
     pub told : List SiteTold
     pub len : length told ≡ n
@@ -150,7 +150,7 @@ module _ (w : Progress) where
         text = flat_map-append site_text before.told (site ∷ []) ∙ ap₂ ◌++◌ before.text (append-nil (site_text site) ∙ site_is n standing);
       }
 
-  -- the outputs that lines of outputs tell of
+  -- the outputs that lines of outputs report
   pub record OutputsOf (v k : ℕ) (lines : List ℕ) : Type 0 where
     pub told : List OutputTold
     pub len : length told ≡ k
@@ -175,7 +175,7 @@ module _ (w : Progress) where
         text = flat_map-append output_text before.told (output ∷ []) ∙ ap₂ ◌++◌ before.text (append-nil (output_text output));
       }
 
-  -- what the text of a world tells
+  -- what the text of a world reports
   pub record ToldIn (text : List ℕ) : Type 0 where
     pub told : Telling
     pub by : IsToldBy w told
@@ -246,7 +246,7 @@ module _ (w : Progress) where
     output_whole all k output told =
         (faithful.outputs σ k output.statuses meant told.collected told.variable told.there).1 all ∙ ap (λ x. marks (σ [] x) w.job.inputs.instants) (sym told.named)
 
-  -- a fault that is told of a site is one of the source
+  -- a fault that is reported of a site is one of the source
   ending_true : (program : ProgramTree) (main : List ℕ) (σ : SourceStreams) → IsFlat w.job.plan.flat → HasSourceFaults program main w.job.plan.flat → IsSourceSolution program main w.job.inputs σ
       → (s : ℕ) (standing : Standing) → IsStanding w.job s (done w.dones s) standing → IsEndingTrue program main w.job.inputs σ (ending_of w.job.plan.flat standing)
   ending_true program main σ is faults solves s Ended stands = tt

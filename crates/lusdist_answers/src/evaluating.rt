@@ -186,7 +186,7 @@ fn file_part<F: Files>(
     file_wave(alloc, request, files, flat, &columns)
 }
 
-/// The same, where a dump is asked for; else nothing is evaluated.
+/// Writes the dump of the instants before a fault into its file, where one is asked for; else nothing is evaluated.
 fn file_before<F: Files>(
     alloc: Global,
     request: EvalRequest<'_>,

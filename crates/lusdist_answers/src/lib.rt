@@ -1,12 +1,13 @@
-//! The distributor: a call of the program by the files that its words name, and what each command answers from them: what is printed and dumped, or why it stops.
+//! The distributor: a call of the program by the files that its words name, and what each command answers from them: what is printed and dumped, or
+//! why it stops.
 //!
 //! - [`serve`]: a call, from its words to its exit status. What that means stands in `lusdist_call`.
 //! - [`answering`]: what a check, an evaluation, a plan and a run print; [`replaying`]: what a replay prints.
 //! - [`sources`]: from the texts of the files to a program, its flat program, a plan, a job, its turns, a table.
 //! - [`jobs`]: the job of a program, a placement and a table.
 //! - [`planning`]: the plan of a program at a placement, and its texts.
-//! - [`evaluating`]: the main variables of a program at a table, as a table or as a chart; [`running`]: the table of its outputs, made by its sites on
-//!   threads.
+//! - [`evaluating`]: the main variables of a program at a table, as a table or as a chart; [`running`]: the table of its outputs, made by its sites
+//!   on threads.
 //! - `filing`: dumps, each into the file that a request names.
 //! - [`explaining`]: a page of the manual. `reasons`: why a text is refused; `refusals`: what is printed of that.
 //! - [`Stop`], [`Mistake`] of `lusdist_call`: why a call stops.

@@ -59,7 +59,7 @@ pub fn replayed(alloc: Global, job: &Job, turns: &[u8], finish: bool) -> Result<
     Ok(world)
 }
 
-/// The same world, and what each turn that moved did.
+/// The world that the turns make of a job's new sites, and what each turn that moved did.
 fn traced(
     alloc: Global,
     job: &Job,
@@ -78,7 +78,7 @@ fn traced(
     Ok((world, notes))
 }
 
-/// The same world, and the notes of its turns.
+/// The world that the turns make of a job's new sites, and the notes of these turns.
 fn noted(
     alloc: Global,
     job: &Job,

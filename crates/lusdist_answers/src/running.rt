@@ -39,7 +39,7 @@ impl<'p, P: Progress> Gate for Open<'p, P> {
     }
 }
 
-/// The gate for a run of a job: it tells the progress where that is given.
+/// The gate for a run of a job: it reports the progress where that is given.
 fn gate_for<'p, P: Progress>(job: &Job, progress: Option<&'p P>) -> Open<'p, P> {
     if let Some(progress) = progress {
         progress.begin(job.plan().sites().len(), job.instants());
@@ -139,7 +139,7 @@ fn stop_of(alloc: Global, job: &Job, error: RunError) -> Stop
 }
 
 /// The outputs of a job that is run by so many workers, 1 to 16, or with a thread for each site; or why there are
-/// none. All its threads have ended when it returns. Where a progress is given, it is told how far the sites have come.
+/// none. All its threads have ended when it returns. Where a progress is given, it gets how far the sites have come.
 fn run_outputs<R: Threads + Wait + Clock + Sync, P: Progress>(
     rt: &R,
     alloc: Global,

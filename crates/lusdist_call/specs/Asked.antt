@@ -127,7 +127,7 @@ pub record IsPrinted (job : Run) (turns : List ℕ) (finish : Bool) (text : List
   pub faithful : IsFaithful world.job world.dones
   pub text_is : IsWorldText world text
 
--- The text of a replay of what a request asks for: that of the world of its job after its turns. What the text tells of links,
+-- The text of a replay of what a request asks for: that of the world of its job after its turns. What the text reports of links,
 -- sites and outputs is true of the program that the file spells, at the table that the file says: for each of its solutions.
 pub record IsReplayed (gives : FileFacts) (request : ReplayRequest) (text : List ℕ) : Type 0 where
   pub job : Run
@@ -171,7 +171,7 @@ pub record IsPlanFor (gives : FileFacts) (path place_path main : List ℕ) (plan
   pub plan_of : IsPlanOfText place plan
   pub is_plan : IsPlan plan
 
--- a plan, in the form that is asked for: the report on a line, the tables, which tell the way that the plan's runs go, or the graph
+-- a plan, in the form that is asked for: the report on a line, the tables, which report the way that the plan's runs go, or the graph
 abbrev pub IsPlanText : PlanForm → Distribution → List ℕ → Type 0
 IsPlanText Report plan text = text ≡ report_text plan ++ 10 ∷ []
 IsPlanText Table plan text = IsTableOf plan text
@@ -205,7 +205,7 @@ abbrev pub AreNotes : FileFacts → Request → List ℕ → Type 0
 AreNotes gives (Replay request) notes = IsNotedReplay gives request notes
 AreNotes gives _ notes = notes ≡ []
 
--- the words ask for no turns to be told
+-- the words ask for no turns to be reported
 abbrev pub AskForNoTrace : List (List ℕ) → Type 0
 AskForNoTrace words = (request : ReplayRequest) → IsAskedBy words (Replay request) → request.turns ≡ forms.Nothing
 

@@ -68,8 +68,8 @@ pub record AreEvaluated (flat : FlatProgram) (inputs : Table) (variables : List 
   pub named : map (λ (c : OutputColumn). c.name) columns ≡ map (λ (x : Variable). x.name) variables
   pub each : (k : ℕ) (c : OutputColumn) → slice_get columns k ≡ Some c → IsColumnOf flat inputs n c
 
--- The variables that a request asks for, in the form that it asks for: as a table with a line for each instant, or as a chart of the instants from one to
--- another.
+-- The variables that a request asks for, in the form that it asks for: as a table with a line for each instant, or as a chart of the instants from
+-- one to another.
 abbrev pub shown_text : EvalRequest → FlatProgram → List OutputColumn → List ℕ
 shown_text request flat columns =
     if request.chronogram then chart_text flat.types (kinds_of (shown_of request.all flat.variables)) columns request.from request.to
@@ -118,8 +118,8 @@ pub record IsPosedBy (gives : FileFacts) (request : EvalRequest) (flat : FlatPro
   pub tree : ProgramTree
   pub posed : IsPosed program request.main.now table tree flat inputs
 
--- The text of an evaluation: the outputs of the program that the files of a request gave, or all variables of its main node, in order of declaration, at the
--- table that they gave; as a table or as a chart.
+-- The text of an evaluation: the outputs of the program that the files of a request gave, or all variables of its main node, in order of declaration,
+-- at the table that they gave; as a table or as a chart.
 pub record IsEvaluated (gives : FileFacts) (request : EvalRequest) (text : List ℕ) : Type 0 where
   pub meant : mistake_in request ≡ None
   pub flat : FlatProgram
@@ -137,7 +137,7 @@ pub record IsFaultTold (flat : FlatProgram) (inputs : Table) (name : List ℕ) (
   pub named : name ≡ is.name
   pub first : (σ : Streams) → IsSolution flat inputs σ → IsFirstFault flat inputs σ variable instant kind
 
--- a stop tells this fault, of the variable of this number, or that memory ran out
+-- a stop reports this fault, of the variable of this number, or that memory ran out
 abbrev pub IsStopFor : FlatProgram → ℕ → ℕ → FaultKind → Stop → Type 0
 IsStopFor flat variable instant kind (Fault name t k) = (x : Variable) × (slice_get flat.variables variable ≡ Some x) × (name ≡ x.name) × (t ≡ instant) × (k ≡ kind)
 IsStopFor flat variable instant kind OutOfMemory = Unit {0}
@@ -159,11 +159,12 @@ IsShownTo takes request flat inputs stop =
 abbrev pub IsUnfiled : FileFacts → EvalRequest → Stop → Type 0
 IsUnfiled takes request stop = IsUnfiledAt takes (wave_path request) stop
 
--- a stop that tells no fault of an evaluation, and no file that can't be written
+-- a stop that reports no fault of an evaluation, and no file that can't be written
 abbrev pub IsNoFault : Stop → Type 0
 IsNoFault stop = ((name : List ℕ) (instant : ℕ) (kind : FaultKind) → stop ≡ Fault name instant kind → ⊥) × ((path : List ℕ) → stop ≡ CannotWrite path → ⊥)
 
--- The dump of an evaluation: the variables that the request asks for, of the program and at the table that its files gave, in the file that is asked for.
+-- The dump of an evaluation: the variables that the request asks for, of the program and at the table that its files gave, in the file that is asked
+-- for.
 pub record IsDumped (gives : FileFacts) (takes : FileFacts) (request : EvalRequest) : Type 0 where
   pub flat : FlatProgram
   pub inputs : Table
@@ -181,8 +182,8 @@ pub record IsDumpedBefore (gives : FileFacts) (takes : FileFacts) (request : Eva
   pub are_columns : AreVariablesAt asked.tree request.main.now inputs (shown_of request.all flat.variables) instant columns
   pub filed : takes path (Some (wave_text request flat columns))
 
--- An evaluation that stops at a fault has dumped all instants before it, where a dump is asked for; and one that stops since its dump can't be written has tried a write,
--- which failed.
+-- An evaluation that stops at a fault has dumped all instants before it, where a dump is asked for; and one that stops since its dump can't be
+-- written has tried a write, which failed.
 abbrev pub IsDumpedTo : FileFacts → FileFacts → EvalRequest → Stop → Type 0
 IsDumpedTo gives takes request stop =
     ((name : List ℕ) (instant : ℕ) (kind : FaultKind) → stop ≡ Fault name instant kind → (path : List ℕ) → wave_path request ≡ Some path → IsDumpedBefore gives takes request instant path) × IsUnwritten takes stop

@@ -19,7 +19,8 @@ use Rattle.lusdist_shell.specs.Files.{FileFacts}
 abbrev pub HasOneText : FileFacts → Type 0
 HasOneText gives = (path : List ℕ) (one other : Option (List ℕ)) → gives path one → gives path other → one ≡ other
 
--- a stop that says nothing of the files that are read: memory ran out, a dump couldn't be written, or a run was cut short, since a thread was refused or a site was left
+-- a stop that says nothing of the files that are read: memory ran out, a dump couldn't be written, or a run was cut short, since a thread was refused
+-- or a site was left
 abbrev pub SaysNothing : Stop → Type 0
 SaysNothing (Syntax syn.OutOfMemory) = Unit {0}
 SaysNothing (Rules rules.OutOfMemory) = Unit {0}
@@ -47,7 +48,7 @@ HasOneStatus gives =
     → IsRequestStopped gives request one → IsRequestStopped gives request other
     → (¬ SaysNothing one) → (¬ SaysNothing other) → status_of one ≡ status_of other
 
--- a fault that a run on threads tells, which is one at which a site stopped
+-- a fault that a run on threads reports, which is one at which a site stopped
 abbrev pub IsFaultOfRun : Request → Stop → Type 0
 IsFaultOfRun (AsksRun request) (Fault name instant kind) = Unit {0}
 IsFaultOfRun request stop = ⊥

@@ -20,6 +20,6 @@ IsUnfiledAt takes wanted (CannotWrite path) = (wanted ≡ Some path) × takes pa
 IsUnfiledAt takes wanted OutOfMemory = Unit {0}
 IsUnfiledAt takes wanted _ = ⊥
 
--- where a stop tells that a file can't be written, a write to it failed
+-- where a stop says that a file can't be written, a write to it failed
 abbrev pub IsUnwritten : FileFacts → Stop → Type 0
 IsUnwritten takes stop = (path : List ℕ) → stop ≡ CannotWrite path → takes path None

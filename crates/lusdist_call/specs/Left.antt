@@ -51,7 +51,8 @@ pub record HasNoOutput {W V : Type 0} (streams : Streams W V) : Type 0 where
   pub failed : streams.out_after.failed ≡ true
   pub error : HasLine streams.held_err streams.err streams.err_after (codes "F02 CannotWrite")
 
--- where a dump is asked for, it is in its file: of an evaluation that of the whole table, of a run that of the whole outputs, of a replay that of its end
+-- where a dump is asked for, it is in its file: of an evaluation that of the whole table, of a run that of the whole outputs, of a replay that of its
+-- end
 abbrev pub AreFiled : FileFacts → FileFacts → Request → Type 0
 AreFiled gives takes (Eval request) = IsDumped gives takes request
 AreFiled gives takes (Replay request) = IsReplayDumped gives takes request
@@ -65,8 +66,8 @@ AreFiledTo gives takes (Replay request) stop = IsUnwritten takes stop
 AreFiledTo gives takes (AsksRun request) stop = IsUnwritten takes stop
 AreFiledTo gives takes _ stop = Unit {0}
 
--- What is asked for ends with this status: with 0 where the answer is printed, with its notes on the error stream, with that of a refusal, whose line is told, and its reason where that is asked for, or with
--- 3 where the answer couldn't be written, of which the output has a beginning.
+-- What is asked for ends with this status: with 0 where the answer is printed, with its notes on the error stream, with that of a refusal, whose line
+-- is reported, and its reason where that is asked for, or with 3 where the answer couldn't be written, of which the output has a prefix.
 pub data IsEnded {W V : Type 0} (gives : FileFacts) (takes : FileFacts) (request : Request) (status : ℕ) (streams : Streams W V) : Type 0 where
   answered : (text notes : List ℕ) → status ≡ 0 → IsAnswer gives request text → AreNotes gives request notes → AreFiled gives takes request → HasOutput streams text notes → IsEnded gives takes request status streams
   refused : (stop : Stop) → status ≡ status_of stop → IsRequestStopped gives request stop → AreFiledTo gives takes request stop → HasStopped gives request stop streams → IsEnded gives takes request status streams

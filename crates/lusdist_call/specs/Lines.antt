@@ -1,4 +1,4 @@
--- The line that tells why a call stops.
+-- The line that reports why a call stops.
 use Rattle.std.specs.Prelude.{ℕ, List, ◌++◌, codes}
 use Rattle.std.specs.Fmt.{decimal}
 use Rattle.luflow.specs.Operators.{kind_text}
@@ -12,7 +12,7 @@ use Rattle.lusdist_call.specs.Mistakes.{line_of as mistake_line}
 use Rattle.lusdist_call.specs.declared.stop.Stop.{Stop}
 use Rattle.lusdist_call.specs.declared.stop.Stop.TheVariants.{CannotRead, CannotWrite, NotAscii, Syntax, Rules, Flat, Place, Table, Schedule, Fault, LinkLost, NoThread, OutOfMemory, Mistaken}
 
--- a code and a name, and what there is to tell; without the line feed that ends the line
+-- a code and a name, and what there is to report; without the line feed that ends the line
 abbrev pub line_of : Stop → List ℕ
 line_of (CannotRead path) = codes "F01 CannotRead " ++ path
 line_of (CannotWrite path) = codes "F02 CannotWrite " ++ path

@@ -1,4 +1,4 @@
--- What is wrong with words that the command line takes, and the line that tells it.
+-- What is wrong with words that the command line takes, and the line that reports it.
 use Rattle.std.specs.Prelude.{ℕ, List, ◌++◌, codes, Option, Some, None, nat_lt, if◌then◌else◌}
 use Rattle.std.specs.Fmt.{decimal}
 use Rattle.lusdist_shell.specs.declared.request.EvalRequest.{EvalRequest}

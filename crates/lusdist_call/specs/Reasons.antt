@@ -1,4 +1,5 @@
--- What is told of a refusal behind its line, where the words ask for it: the place in the text that is refused, what is wrong there, and how to mend it.
+-- What is reported of a refusal behind its line, where the words ask for it: the place in the text that is refused, what is wrong there, and how to
+-- mend it.
 use Rattle.std.specs.Prelude.{◌≡◌, ◌⊎◌, ℕ, true, Bool, false, List, [], ◌∷◌, ◌++◌, codes, Option, Some}
 use Rattle.luexplain.specs.Place.{place}
 use Rattle.luexplain.specs.Told.{place_of_rule, whole}
@@ -59,7 +60,8 @@ blamed_path request _ = program_path request
 
 -- PLACES
 
--- Where a stop stands in the text of this path: of a refused program and of a refused schedule exactly at the byte that the line tells; else at some byte, or in the whole.
+-- Where a stop stands in the text of this path: of a refused program and of a refused schedule exactly at the byte that the line reports; else at
+-- some byte, or in the whole.
 abbrev pub StandsAt : List ℕ → List ℕ → Stop → List ℕ → Type 0
 StandsAt path text NotAscii at = at ≡ place_of_syntax path text texts.NotAscii
 StandsAt path text (Syntax e) at = at ≡ place_of_syntax path text e
@@ -81,13 +83,13 @@ pub record IsReason (gives : FileFacts) (path : List ℕ) (stop : Stop) (told : 
   pub mend : List ℕ
   pub is : told ≡ reason_text at what mend
 
--- What is told behind the line of a stop: where that is asked for, its reason; or nothing, as where no text is to blame, where its file can't be read again,
--- or where memory runs out.
+-- What is reported behind the line of a stop: where that is asked for, its reason; or nothing, as where no text is to blame, where its file can't be
+-- read again, or where memory runs out.
 pub data IsToldBehind (gives : FileFacts) (request : Request) (stop : Stop) (told : List ℕ) : Type 0 where
   nothing : told ≡ [] → IsToldBehind gives request stop told
   reason : asks_why request ≡ true → IsReason gives (blamed_path request stop) stop told → IsToldBehind gives request stop told
 
--- the error stream has the line of a stop more, and behind it what is told of the stop
+-- the error stream has the line of a stop more, and behind it what is reported of the stop
 pub record HasRefusal {V : Type 0} (gives : FileFacts) (request : Request) (stop : Stop) (held : V → Option (List ℕ)) (old new : Sink V) : Type 0 where
   pub told : List ℕ
   pub behind : IsToldBehind gives request stop told

@@ -23,9 +23,9 @@ use Rattle.lutab.specs.Table.{IsRefused as IsRefusedTable}
 use Rattle.lusdist_call.specs.declared.stop.Stop.{Stop}
 use Rattle.lusdist_call.specs.declared.stop.Stop.TheVariants.{NotAscii, Syntax, Rules, Flat, Place as PlaceStop, Table}
 
--- A rule that the program breaks, where all rules of the stages before it are kept: of its own stage the fault of the least byte, at equal bytes of the
--- least number, each at its place, as a program in memory with this tree and these places has them. Or, of a program that keeps all rules, why it has
--- no flat program.
+-- A rule that the program breaks, where all rules of the stages before it are kept: of its own stage the fault of the least byte, at equal bytes of
+-- the least number, each at its place, as a program in memory with this tree and these places has them. Or, of a program that keeps all rules, why it
+-- has no flat program.
 pub data IsToldOf (tree : ProgramTree) (places : ProgramPlaces) (main : List ℕ) (stop : Stop) : Type 0 where
   rule : (refusal : StatError) (read : Program) → stop ≡ Rules refusal → Tells 3 tree main refusal → tree ≡ program_view read → places ≡ places_view read → IsToldFirst read main refusal → IsToldOf tree places main stop
   flat : (refusal : CoreError) → stop ≡ Flat refusal → IsAccepted tree main → Refuses tree main refusal → IsToldOf tree places main stop
@@ -36,12 +36,12 @@ IsProgramRefused bytes NotAscii = ¬ IsUtf8 bytes
 IsProgramRefused bytes (Syntax e) = (e ≡ syntax.OutOfMemory) ⊎ (IsUtf8 bytes × IsRefusedProgram bytes e)
 IsProgramRefused bytes _ = ⊥
 
--- the bytes of a table's file are no text, which is told as a bad header, or a text that is refused so
+-- the bytes of a table's file are no text, which is reported as a bad header, or a text that is refused so
 abbrev pub IsTableRefused : List Enum → List Variable → List ℕ → Stop → Type 0
 IsTableRefused types inputs bytes (Table e) = ((e ≡ table.BadHeader) × (¬ IsUtf8 bytes)) ⊎ (IsUtf8 bytes × (e ≢ table.OutOfMemory → IsRefusedTable types inputs bytes e))
 IsTableRefused types inputs bytes _ = ⊥
 
--- the bytes of a placement's file are no text, which is told as no TOML, or a text that is refused so, or one whose placement is refused so for
+-- the bytes of a placement's file are no text, which is reported as no TOML, or a text that is refused so, or one whose placement is refused so for
 -- the program
 abbrev pub IsPlaceRefused : FlatProgram → List ℕ → Stop → Type 0
 IsPlaceRefused program bytes (PlaceStop e) =

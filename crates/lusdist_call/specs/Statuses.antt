@@ -9,7 +9,8 @@ use Rattle.lusdist_shell.specs.declared.schedule.ScheduleError.TheVariants as sc
 use Rattle.lusdist_call.specs.declared.stop.Stop.{Stop}
 use Rattle.lusdist_call.specs.declared.stop.Stop.TheVariants.{CannotRead, CannotWrite, Syntax, Rules, Flat, Place, Table, Schedule, Fault, LinkLost, NoThread, OutOfMemory, Mistaken}
 
--- 3 where an evaluation or a run is a fault, a dump can't be written, a run was cut short or memory ran out, 2 where a file can't be read or the words are wrong, and 1 where a text is refused
+-- 3 where an evaluation or a run is a fault, a dump can't be written, a run was cut short or memory ran out, 2 where a file can't be read or the
+-- words are wrong, and 1 where a text is refused
 abbrev pub status_of : Stop → ℕ
 status_of (CannotRead path) = 2
 status_of (Mistaken mistake) = 2

@@ -98,8 +98,8 @@ pub data StopsAtJob (gives : FileFacts) (path place_path table_path main : List 
   table_unread : (plan : Distribution) → IsPlanFor gives path place_path main plan → IsUnread gives table_path stop → StopsAtJob gives path place_path table_path main stop
   table_refused : (plan : Distribution) (table : List ℕ) → IsPlanFor gives path place_path main plan → gives table_path (Some table) → IsTableRefused plan.flat.types (inputs_of plan.flat.variables) table stop → StopsAtJob gives path place_path table_path main stop
 
--- A replay of what a request asks for stops so: at its job; where there is one, at its schedule; or, where all are as they should be, at the file of its
--- dump, which can't be written.
+-- A replay of what a request asks for stops so: at its job; where there is one, at its schedule; or, where all are as they should be, at the file of
+-- its dump, which can't be written.
 pub data IsReplayStopped (gives : FileFacts) (request : ReplayRequest) (stop : Stop) : Type 0 where
   replay_job : StopsAtJob gives request.program.now request.place.now request.table.now request.main.now stop → IsReplayStopped gives request stop
   replay_unread : (job : Run) → IsJobFor gives request.program.now request.place.now request.table.now request.main.now job → IsUnread gives request.schedule.now stop → IsReplayStopped gives request stop
@@ -107,7 +107,7 @@ pub data IsReplayStopped (gives : FileFacts) (request : ReplayRequest) (stop : S
   replay_unwritten : (path : List ℕ) → replay_path request ≡ Some path → (job : Run) (turns : List ℕ) → IsAskedFor gives request job turns → stop ≡ CannotWrite path → IsReplayStopped gives request stop
   replay_memory : stop ≡ OutOfMemory → IsReplayStopped gives request stop
 
--- A fault of the run that a request asks for, told by the name of the main variable in whose equation it stands: it is the one at which a
+-- A fault of the run that a request asks for, reported by the name of the main variable in whose equation it stands: it is the one at which a
 -- site of the run stopped, and a fault of the source.
 pub record IsRunFault (gives : FileFacts) (request : RunRequest) (name : List ℕ) (instant : ℕ) (kind : FaultKind) : Type 0 where
   pub job : Run

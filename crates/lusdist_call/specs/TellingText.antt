@@ -1,4 +1,4 @@
--- What a world tells, and the text of it.
+-- What a world reports, and the text of it.
 use Rattle.std.specs.Prelude.{◌≡◌, ℕ, List, [], ◌∷◌, ◌++◌, length, map, flat_map, codes, Option, Some, None, slice_get}
 use Rattle.std.specs.List.{range_with_len}
 use Rattle.std.specs.Fmt.{decimal}
@@ -42,7 +42,7 @@ output_text output = output_line output.name output.names output.statuses
 abbrev pub telling_text : Telling → List ℕ
 telling_text told = flat_map link_text told.links ++ (flat_map site_text told.sites ++ flat_map output_text told.outputs)
 
--- what a world tells of one of its links, and of all
+-- what a world reports of one of its links, and of all
 abbrev pub link_told : Progress → Link → ℕ → LinkTold
 link_told w link l =
     record {
@@ -66,7 +66,7 @@ ending_of flat Ended = ended
 ending_of flat Cut = open_yet
 ending_of flat (Faulted fault) = faulted (variable_name flat fault.variable) fault.instant fault.kind
 
--- what a world tells of one of its sites, as it stands, and of one of its outputs, as far as it was collected
+-- what a world reports of one of its sites, as it stands, and of one of its outputs, as far as it was collected
 pub record IsSiteTold (w : Progress) (s : ℕ) (site : SiteTold) : Type 0 where
   pub standing : Standing
   pub stands : IsStanding w.job s (done w.dones s) standing
@@ -80,7 +80,7 @@ pub record IsOutputTold (w : Progress) (k : ℕ) (output : OutputTold) : Type 0 
   pub spelled : output.names ≡ variable_names w.job.plan.flat variable
   pub collected : IsCollected w.job w.dones k output.statuses
 
--- what a world tells: of all its links, its sites and its outputs, each in order
+-- what a world reports: of all its links, its sites and its outputs, each in order
 pub record IsToldBy (w : Progress) (told : Telling) : Type 0 where
   pub links : told.links ≡ links_told w
   pub sites_len : length told.sites ≡ sites_of w.job.plan

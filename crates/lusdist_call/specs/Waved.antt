@@ -70,13 +70,13 @@ pub record IsWaved (takes : FileFacts) (request : ReplayRequest) (job : Run) (tu
 abbrev pub AreWaved : FileFacts → ReplayRequest → Run → List ℕ → Type 0
 AreWaved takes request job turns = (path : List ℕ) → replay_path request ≡ Some path → IsWaved takes request job turns path
 
--- each output is a beginning of what a solution of the source gives it
+-- each output is a prefix of what a solution of the source gives it
 abbrev pub AreSignalsTrue : ProgramTree → List ℕ → Table → List Signal → Type 0
 AreSignalsTrue tree main inputs signals =
     (σ : SourceStreams) → IsSourceSolution tree main inputs σ → (k : ℕ) (signal : Signal) → slice_get signals k ≡ Some signal
     → IsBeginning (map Known signal.statuses) (main_marks inputs σ signal.name)
 
--- The dump of a replay in the file of this path: that of the world of its job after its turns. What it says of an output is a beginning of what
+-- The dump of a replay in the file of this path: that of the world of its job after its turns. What it says of an output is a prefix of what
 -- every solution of the program that the file spells gives it.
 pub record IsReplayFiled (gives : FileFacts) (takes : FileFacts) (request : ReplayRequest) (path : List ℕ) : Type 0 where
   pub job : Run

@@ -27,7 +27,7 @@ impl Said {
 }
 
 /// Writes an answer to the output, and then its notes to the error stream. Answers the status: 0, or 3 where the output can't be
-/// written, which the error stream then tells, and no notes.
+/// written, which the error stream then reports, and no notes.
 pub fn put_said<W: Write, V: Write>(out: &mut Sink<W>, err: &mut Sink<V>, said: &Said) -> u8
     ensures status { (result ≡ 0) ⊎ ((result ≡ 3) × (out.new.failed ≡ true)) }
     ensures written { result ≡ 0 → Appends (W.contents out.old.writer) (W.contents out.new.writer)

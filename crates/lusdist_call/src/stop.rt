@@ -100,8 +100,8 @@ impl From<AllocError> for Stop {
 }
 
 impl Stop {
-    /// The exit status: 1 where a text is refused, 2 where the words are wrong or a file can't be read, 3 where an evaluation or a run is a fault, a dump can't
-    /// be written, a run was cut short or memory ran out.
+    /// The exit status: 1 where a text is refused, 2 where the words are wrong or a file can't be read, 3 where an evaluation or a run is a fault, a
+    /// dump can't be written, a run was cut short or memory ran out.
     pub fn status(&self) -> u8
         ensures { result ≡ status_of self.now }
     {

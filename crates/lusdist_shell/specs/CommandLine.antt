@@ -18,7 +18,7 @@ main_rule = record (new_rule (codes "main")) { long = Some (codes "main"); value
 abbrev pub flag_rule : Text → Rule
 flag_rule name = record (new_rule name) { long = Some name; action = Some SetTrue }
 
--- a command that judges a program: `[--main NAME] [--explain]`
+-- a command that checks a program: `[--main NAME] [--explain]`
 abbrev pub judging : Text → App
 judging name = with_rule (with_rule (new_app name) main_rule) (flag_rule (codes "explain"))
 

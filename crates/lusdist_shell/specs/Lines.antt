@@ -1,4 +1,4 @@
--- The line that tells a refusal of a schedule.
+-- The line that reports a refusal of a schedule.
 use Rattle.std.specs.Prelude.{ℕ, List, ◌++◌, codes, decimal}
 use Rattle.lusdist_shell.specs.declared.schedule.ScheduleError.{ScheduleError}
 use Rattle.lusdist_shell.specs.declared.schedule.ScheduleError.TheVariants.{BadSchedule, LongSchedule, OutOfMemory}

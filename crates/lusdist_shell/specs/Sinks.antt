@@ -15,6 +15,6 @@ HasLine contents old new line = HasPut contents old new (line ++ 10 ∷ [])
 abbrev pub HasLineOf : {W : Type 0} → (W → Option (List ℕ)) → Sink W → Sink W → Option (List ℕ) → Type 0
 HasLineOf contents old new output = IfSome output (HasLine contents old new)
 
--- the stream has a beginning of the bytes more: all of them, or those before a failing write
+-- the stream has a prefix of the bytes more: all of them, or those before a failing write
 abbrev pub HasBeginning : {W : Type 0} → (W → Option (List ℕ)) → Sink W → Sink W → List ℕ → Type 0
 HasBeginning contents old new bytes = (n : ℕ) × Appends (contents old.writer) (contents new.writer) (take n bytes)

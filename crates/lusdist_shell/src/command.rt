@@ -60,13 +60,13 @@ const EXPLAIN: Argument<'static> = Argument::Flag {
     help: "Where a text is refused, shows its line and says what is wrong and how to mend it",
 };
 
-/// Whether an evaluation tells all main variables.
+/// Whether an evaluation reports all main variables.
 const ALL: Argument<'static> = Argument::Flag {
     name: "all",
     help: "Prints all variables of the main node in place of its outputs alone",
 };
 
-/// Whether an evaluation is told as a chart.
+/// Whether an evaluation is reported as a chart.
 const CHRONOGRAM: Argument<'static> = Argument::Flag {
     name: "chronogram",
     help: "Prints a chart over time in place of the table: a row for each flow, a column for each instant",
@@ -94,13 +94,13 @@ const SITE_VCD: Argument<'static> = Argument::Vcd {
     help: "Writes the outputs over time into FILE too, as a value change dump with the sites as scopes",
 };
 
-/// Whether a plan is told as a table.
+/// Whether a plan is reported as a table.
 const TEXT: Argument<'static> = Argument::Flag {
     name: "text",
     help: "Prints a table for a terminal in place of the report",
 };
 
-/// Whether a plan is told as a graph.
+/// Whether a plan is reported as a graph.
 const DOT: Argument<'static> = Argument::Flag {
     name: "dot",
     help: "Prints a graph for Graphviz in place of the report, also beside --text",
@@ -112,7 +112,7 @@ const FINISH: Argument<'static> = Argument::Flag {
     help: "Goes on after the schedule until no site can do anything more",
 };
 
-/// Whether a replay tells what each turn did.
+/// Whether a replay says what each turn did.
 const TRACE: Argument<'static> = Argument::Flag {
     name: "trace",
     help: "Tells on the error stream what each turn did that moved, a line each",
@@ -124,7 +124,7 @@ const CHART: Argument<'static> = Argument::Flag {
     help: "Draws the same there: a column for each site, a row for each turn, also beside --trace",
 };
 
-/// Whether a run tells how far it has come.
+/// Whether a run says how far it has come.
 const PROGRESS: Argument<'static> = Argument::Flag {
     name: "progress",
     help: "Tells on the error stream how many instants the slowest site has done, at most twice a second",

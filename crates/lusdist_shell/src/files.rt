@@ -35,7 +35,7 @@ pub trait Files {
     /// failed. It is known by writing alone.
     ghost takes: { Self → List ℕ → Option (List ℕ) → Type 0 };
 
-    /// Writes the bytes into the file at the path, in place of what it had. After an error it has what it had, or a beginning of the bytes. To
+    /// Writes the bytes into the file at the path, in place of what it had. After an error it has what it had, or a prefix of the bytes. To
     /// files that are only read each write fails.
     fn write(&self, path: &str, bytes: &[u8]) -> Result<(), WriteError>
         ensures taken { OnOk result (takes self.now path.now (Some bytes.now)) }

@@ -11,7 +11,7 @@ const PAUSE: u64 = 500;
 /// Every how many instants of a site the clock is looked at.
 const STRIDE: u64 = 64;
 
-/// What is told how far the sites of a run have come. It is handed nothing of the values.
+/// What gets reports of how far the sites of a run have come. It is handed nothing of the values.
 pub trait Progress: Sync {
     /// A run of so many sites and instants begins.
     fn begin(&self, sites: usize, instants: u32);
@@ -20,7 +20,7 @@ pub trait Progress: Sync {
     fn reach(&self, site: u8, instant: u32);
 }
 
-/// Tells nobody.
+/// Reports to nobody.
 #[derive(Drop)]
 pub struct Silent;
 
@@ -30,7 +30,7 @@ impl Progress for Silent {
     fn reach(&self, _site: u8, _instant: u32) {}
 }
 
-/// Tells on the error stream how many instants the slowest site has done, at most twice a second: a line such as
+/// Reports on the error stream how many instants the slowest site has done, at most twice a second: a line such as
 /// `4096 of 100000 instants`. A line that can't be written, or a clock that can't be read, is passed over.
 #[derive(Drop)]
 pub struct Meter<'a, R> {
@@ -65,7 +65,7 @@ fn none_reached() -> [AtomicU64; MOST_SITES] {
 }
 
 impl<'a, R: Clock + Eprint> Meter<'a, R> {
-    /// A meter that tells its lines by this runtime, half a second from now at the earliest.
+    /// A meter that writes its lines by this runtime, half a second from now at the earliest.
     pub fn new(runtime: &'a R) -> Self {
         Meter {
             runtime,
@@ -83,7 +83,7 @@ impl<'a, R: Clock + Eprint> Meter<'a, R> {
         u64::try_from(age.as_millis()).ok()
     }
 
-    /// Whether the next line is due. Of several threads that ask at once one is told so.
+    /// Whether the next line is due. Of several threads that ask at once one gets that answer.
     fn is_due(&self) -> bool {
         let Some(now) = self.age() else {
             return false;
@@ -110,7 +110,7 @@ impl<'a, R: Clock + Eprint> Meter<'a, R> {
         least
     }
 
-    /// Tells a line.
+    /// Writes a line.
     fn tell(&self) {
         let all = self.instants.load(Ordering::Relaxed);
         let _ = eprintln!(self.runtime; "{} of {} instants", self.slowest(), all);

@@ -12,7 +12,7 @@ use clap::error::ErrorKind;
 use std::io;
 use std::io::Write;
 
-/// The status of what was written to the output: 0, or 3 where it couldn't be written, which the error stream then tells.
+/// The status of what was written to the output: 0, or 3 where it couldn't be written, which the error stream then reports.
 fn written<W: Write, V: Write>(out: &Sink<W>, err: &mut Sink<V>) -> u8
     ensures status { (result ≡ 0) ⊎ ((result ≡ 3) × (out.now.failed ≡ true)) }
     ensures silent { result ≡ 0 → (err.new ≡ err.old) × (out.now.failed ≡ false) }
@@ -27,7 +27,7 @@ fn written<W: Write, V: Write>(out: &Sink<W>, err: &mut Sink<V>) -> u8
 }
 
 /// Writes the bytes to the output, and answers the program's status: 0, or 3 where they can't be written, which the error
-/// stream then tells.
+/// stream then reports.
 pub fn put_out<W: Write, V: Write>(out: &mut Sink<W>, err: &mut Sink<V>, bytes: &[u8]) -> u8
     ensures status { (result ≡ 0) ⊎ ((result ≡ 3) × (out.new.failed ≡ true)) }
     ensures written { result ≡ 0 → Appends (W.contents out.old.writer)
@@ -50,7 +50,7 @@ pub fn put_notes<V: Write>(err: &mut Sink<V>, notes: &[u8])
     }
 }
 
-/// Tells on the error stream why the words of the command line can't be read, and answers the program's status: 3 for want
+/// Reports on the error stream why the words of the command line can't be read, and answers the program's status: 3 where it is out
 /// of memory, and else 2, since a word is no text.
 pub fn put_unread<V: Write>(err: &mut Sink<V>, why: io::ErrorKind) -> u8
     ensures memory { why ≡ NoMemory → (result ≡ 3)
@@ -67,7 +67,7 @@ pub fn put_unread<V: Write>(err: &mut Sink<V>, why: io::ErrorKind) -> u8
 }
 
 /// Shows what the parser of the command line says: help on the output with status 0, a mistake on the error stream with
-/// status 2, and want of memory with status 3.
+/// status 2, and out of memory with status 3.
 pub fn put_mistake<W: Write, V: Write>(
     out: &mut Sink<W>,
     err: &mut Sink<V>,

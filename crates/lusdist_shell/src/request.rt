@@ -33,9 +33,9 @@ pub struct EvalRequest<'a> {
     pub program: &'a str,
     /// The path of the input table.
     pub table: &'a str,
-    /// Whether all main variables are told, and not the outputs alone.
+    /// Whether all main variables are reported, and not the outputs alone.
     pub all: bool,
-    /// Whether they are told as a chart.
+    /// Whether they are reported as a chart.
     pub chronogram: bool,
     /// The first instant of the chart, counted from 0, where it is given.
     pub from: Option<u32>,
@@ -45,7 +45,7 @@ pub struct EvalRequest<'a> {
     pub vcd: Option<&'a str>,
 }
 
-/// How a plan is told.
+/// How a plan is reported.
 #[derive(Clone, Copy)]
 pub enum PlanForm {
     /// As the report, for other programs.
@@ -67,11 +67,11 @@ pub struct PlanRequest<'a> {
     pub program: &'a str,
     /// The path of the placement.
     pub place: &'a str,
-    /// How the plan is told.
+    /// How the plan is reported.
     pub form: PlanForm,
 }
 
-/// What a replay tells of its turns on the error stream.
+/// What a replay reports of its turns on the error stream.
 #[derive(Clone, Copy)]
 pub enum TurnsForm {
     /// Nothing.
@@ -99,7 +99,7 @@ pub struct ReplayRequest<'a> {
     pub schedule: &'a str,
     /// Whether it goes on after the schedule until no turn moves.
     pub finish: bool,
-    /// What is told of its turns on the error stream.
+    /// What is reported of its turns on the error stream.
     pub turns: TurnsForm,
     /// The path of the file that a dump of its outputs goes into, where one is asked for.
     pub vcd: Option<&'a str>,
@@ -120,7 +120,7 @@ pub struct RunRequest<'a> {
     pub table: &'a str,
     /// How many threads serve the sites, 1 to 16; where there is none, each site has a thread of its own.
     pub workers: Option<u8>,
-    /// Whether it is told on the error stream how far the sites have come.
+    /// Whether it is reported on the error stream how far the sites have come.
     pub progress: bool,
     /// Whether values are passed one by one, also where the sites could work in blocks.
     pub items: bool,
@@ -219,7 +219,7 @@ fn eval_in<'a>(matches: &ArgMatches<'a>) -> EvalRequest<'a>
     }
 }
 
-/// How the plan is to be told: as a graph, even where a table is asked for too.
+/// How the plan is to be reported: as a graph, even where a table is asked for too.
 fn form_in<'a>(matches: &ArgMatches<'a>) -> PlanForm
     ensures { result ≡ form_in (rows_of (found_of matches.now)) }
 {
@@ -245,7 +245,7 @@ fn plan_in<'a>(matches: &ArgMatches<'a>) -> PlanRequest<'a>
     }
 }
 
-/// How the turns are to be told: as a chart, even where lines are asked for too.
+/// How the turns are to be reported: as a chart, even where lines are asked for too.
 fn turns_in<'a>(matches: &ArgMatches<'a>) -> TurnsForm
     ensures { result ≡ turns_in (rows_of (found_of matches.now)) }
 {
@@ -362,7 +362,7 @@ pub fn parse<'a>(alloc: Global, words: &'a [String]) -> Result<Request<'a>, Erro
     ensures asked { IfOk result (IsAskedBy (map string_bytes words.entry.now)) }
     ensures few { IfOk result HasFewWorkers }
 
-    // Words that the command line takes are refused for want of memory alone.
+    // Words that the command line takes are refused only where memory ran out.
     ensures taken { IfErr result (λ e. takes lusdist (map string_bytes words.entry.now) ≡ true
         → kind_of e ≡ OutOfMemory) }
 

@@ -1,4 +1,4 @@
--- A site tells a fault exactly where its script stopped at one.
+-- A site reports a fault exactly where its script stopped at one.
 use Rattle.std.proofs.Common.{◌≡◌, ℕ, inl, inr, false, length, ◌∙◌, subst, arith}
 use Rattle.std.specs.Prelude.{slice_index, IsSome}
 use Rattle.std.proofs.lemmas.Option.{slice_get_within}

@@ -28,7 +28,7 @@ use Rattle.lusite_program.proofs.Posts.{part_there}
 use Rattle.lusite.proofs.Skips.{stands_skip, logged_skip, before_skip}
 use Rattle.lusite_program.proofs.Ranks.{AreUnknown, rank_le, rank_in, rank_next, unknown_first, unknown_next, places_has}
 
--- the ranks that the parts tell are those of the flows that the site knows
+-- the ranks that the parts say are those of the flows that the site knows
 pub ranks_found : (plan : Distribution) (s : ℕ) → IsOrdered plan.flat → filter (λ p. knows_in (unwrap_or (slice_get (parts_of plan s) (slice_index plan.flat.order p)) no_part)) (range_with_len 0 (length plan.flat.order)) ≡ ranks_of plan s
 ranks_found plan s ordered =
     let p : SitePlan = record { plan = plan; site = s } in

@@ -1,4 +1,4 @@
--- What a site tells of its outputs.
+-- What a site reports of its outputs.
 use Rattle.std.proofs.Common.{◌≡◌, ℕ, ◌+◌, ◌<◌, ◌≤◌, inl, inr, Bool, true, false, cond, List, [], length, map, nat_eq, Option, None, Some, refl, sym, ap, ◌∙◌, subst, arith}
 use Rattle.std.specs.Prelude.{slice_get, slice_index, ◌&&◌, nat_lt}
 use Rattle.std.proofs.lemmas.Bool.{cases_lt, eq-eqb, ne_eqb}
@@ -47,7 +47,7 @@ within_all t n b le = elim (cases_lt t n) [
   | inr g ↦ let z = none_late t n b g in omega (arith, z, le)
 ]
 
--- what a site tells of an output
+-- what a site reports of an output
 pub output_is : (a : Desk) → IsSet a → StandsAt a → IsLoggedAt a → (is_faulted a ≡ false → IsReadyAt a) → (k : ℕ) (xs : List Status) → xs ≡ log_at a (slice_get (outputs_of a.program.plan) k) → IsOutput a.inputs.job a.inputs.site (done_of a) k xs
 output_is a set st logged ready k xs e =
     let job = a.inputs.job in

@@ -23,7 +23,7 @@ use Rattle.lusite_program.proofs.Posts.{both}
 
 -- ---- items without a stop
 
--- a beginning of items without a stop has none
+-- a prefix of items without a stop has none
 front_free : (plan : Outline) (before xs : List Item) (n k : ℕ) → k ≤ n → NoStop plan before (take n xs) → NoStop plan before (take k xs)
 front_free plan before [] n zero le h = tt
 front_free plan before [] n (suc k) le h = tt

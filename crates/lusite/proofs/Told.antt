@@ -147,7 +147,7 @@ passed_some a g l = ap₂ (λ x y. a.place + add_if (x && not y)) (lt-ltb 0 a.st
 passed_none : (a : Desk) → a.step ≡ 0 → passed_to a ≡ a.place
 passed_none a e = let z = ap (λ j. a.place + add_if (nat_lt 0 j && not (is_faulted a))) e in z ∙ (let w : a.place + 0 ≡ a.place = omega arith in w)
 
--- what the machine asks of the flow at hand is whether it is to be told
+-- what the machine asks of the flow at hand is whether it is to be reported
 noted_is : (a : Desk) → Going a → a.place < length a.program.plan.flat.order → is_noted a (slice_index a.program.plan.flat.order a.place) ≡ (nat_lt a.instant a.inputs.job.inputs.instants && is_wanted a.inputs.job a.inputs.site (slice_index a.inputs.job.plan.flat.order a.place))
 noted_is a g lp =
     let i = slice_index a.inputs.job.plan.flat.order a.place in
@@ -223,7 +223,7 @@ note_step a g logged (inl some) =
     subst (λ (k : ℕ). IsLogged a.inputs.job a.inputs.site (logs_of a) a.instant k) e logged
 note_step a g logged (inr late) = logged_late a.inputs.job a.inputs.site (logs_of a) a.instant (passed_to a) (a.place + add_if (nat_lt 0 (a.step + 1) && not (is_faulted a))) late logged
 
--- whether an absent status is to be told
+-- whether an absent status is to be reported
 eq_zero : (n : ℕ) → 0 < n → (n == 0) ≡ false
 eq_zero n l = elim (bool_cases (n == 0)) [ inl e ↦ let h = eqb-true n 0 e in absurd (omega arith) | inr e ↦ e ]
 

@@ -142,7 +142,7 @@ last_item a kind g ready next c =
     let place : length items - 1 ≡ done_of a = omega (arith, whole, more) in
     ap (slice_get items) place ∙ hand_next a h ∙ (work_at a (Faults kind) g ready next c).1.item
 
--- a fault that the machine tells is one of the solution, and of the last computation
+-- a fault that the machine reports is one of the solution, and of the last computation
 pub work_fault : (a : Desk) (fault : Fault) (g : Going a) → IsReadyAt a → IsLocalNext a.inputs.job a.inputs.site (done_of a) → Computes a (slice_index a.program.plan.flat.order a.place) (flow_at a.program.plan.flat (slice_index a.program.plan.flat.order a.place)) (Faults fault.kind) → fault.variable ≡ slice_index a.program.plan.flat.owners (slice_index a.program.plan.flat.order a.place) → fault.instant ≡ a.instant → IsFaultAt a.inputs.job a.inputs.site fault
 work_fault a fault g ready next c ev et =
     let job = a.inputs.job in

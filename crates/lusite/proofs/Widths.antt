@@ -289,7 +289,7 @@ module _ (a : Desk) (g : Going a) where
       let w = widths_end a.program false a.program.plan.flat.order a.place (omega (arith, k, ep)) in
       (z ∙ omega (arith, w), omega (arith, ej))
 
--- a desk that tells a fault has faulted
+-- a desk that reports a fault has faulted
 pub desk_faulted : (a : Desk) → IsRun a.inputs.job → IsSet a → StandsAt a → TellsFault a → is_faulted a ≡ true → left_after (outline a.inputs.job (streams_of a.inputs.job)) a.inputs.site (done_of a) ≡ 0
 desk_faulted a run set st tells bad = go a.fault refl bad
   where

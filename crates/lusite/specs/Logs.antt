@@ -12,13 +12,13 @@ use Rattle.lusite.specs.Machine.{is_faulted}
 abbrev pub logs_of : Desk → List LogView
 logs_of a = logs_in a.program a.logs.items
 
--- what site s, with n items done, tells of the output that is flow i: its statuses so far, which are those that it has passed
+-- what site s, with n items done, reports of the output that is flow i: its statuses so far, which are those that it has passed
 pub record IsTold (job : Run) (s n i : ℕ) (xs : List Status) : Type 0 where
   pub begun : IsBegun job i xs
   pub passed : AreAllPassed job s n i xs
   pub whole : n ≡ length (script job (streams_of job) s) → HasNoStop job s → IsWhole job i xs
 
--- output k at site s: told where the site is the output's home, and nothing elsewhere or where there is no such output
+-- output k at site s: reported where the site is the output's home, and nothing elsewhere or where there is no such output
 pub record IsOutput (job : Run) (s n k : ℕ) (xs : List Status) : Type 0 where
   pub told : (i : ℕ) → slice_get (outputs_of job.plan) k ≡ Some i → home job.plan i ≡ s → IsTold job s n i xs
   pub elsewhere : (i : ℕ) → slice_get (outputs_of job.plan) k ≡ Some i → (home job.plan i ≡ s → ⊥) → xs ≡ []

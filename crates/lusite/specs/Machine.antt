@@ -125,7 +125,7 @@ pub record IsSet (a : Desk) : Type 0 where
   pub pasts_fit : length a.lasts.items ≡ length a.counts.items
   pub logs_fit : length a.logs.items ≡ length (places_of a.program.plan a.program.site)
 
--- the fault that a machine tells is one
+-- the fault that a machine reports is one
 abbrev pub TellsFault : Desk → Type 0
 TellsFault a = (fault : Fault) → a.fault ≡ Some fault → IsFaultAt a.inputs.job a.inputs.site fault
 

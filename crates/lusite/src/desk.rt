@@ -208,7 +208,7 @@ impl Desk {
         self.post().told
     }
 
-    /// Whether the status of the flow at hand is to be told at this instant.
+    /// Whether the status of the flow at hand is to be reported at this instant.
     #[inline(always)]
     fn noted(&self) -> bool
         requires set { IsSet self.now }
@@ -220,7 +220,7 @@ impl Desk {
         self.instant < self.inputs.instants() && self.told_here()
     }
 
-    /// Whether the flow at hand, whose items are all done, is to be told as absent.
+    /// Whether the flow at hand, whose items are all done, is to be reported as absent.
     #[inline(always)]
     fn absent_noted(&self) -> bool
         requires set { IsSet self.now }
@@ -237,7 +237,7 @@ impl Desk {
         requires { IsSet self.now }
         ensures { result ≡ told_at self.now (slice_get (outputs_of self.now.program.plan) k) }
     {
-        self.program.reported(k).is_some()
+        self.program.reported_flow(k).is_some()
     }
 
     /// The statuses so far of output k; nothing where another site reports it.
@@ -245,7 +245,7 @@ impl Desk {
         requires { IsSet self.now }
         ensures { result.now ≡ log_at self.now (slice_get (outputs_of self.now.program.plan) k) }
     {
-        let Some(number) = self.program.reported(k) else {
+        let Some(number) = self.program.reported_flow(k) else {
             return &[];
         };
         match self.logs.get(number) {
@@ -557,7 +557,7 @@ impl Desk {
         }
     }
 
-    /// The put at hand is done.
+    /// Goes on behind the put at hand, which is done.
     pub fn sent(&mut self)
         requires set { IsSet self.old }
         requires stands { StandsAt self.old }

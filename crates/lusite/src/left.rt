@@ -25,7 +25,7 @@ fn width(post: &Post, early: bool) -> usize
 }
 
 impl Desk {
-    /// The same of all flows from number `row` of the site's on.
+    /// How many items all flows from number `row` of the site's on have where they are present.
     fn widths(&self, row: usize, early: bool) -> u64
         requires run { IsRun self.now.inputs.job }
         requires set { IsSet self.now }

@@ -124,7 +124,7 @@ impl SiteReport {
         self.site.standing()
     }
 
-    /// Output k as far as the site passed it: a beginning of its statuses, and all of them where the site has ended; empty
+    /// Output k as far as the site passed it: a prefix of its statuses, and all of them where the site has ended; empty
     /// where another site reports it, and where there is no output k. Takes no memory.
     pub fn outputs(&self, k: usize) -> &[Status]
         ensures { IsOutput self.now.job self.now.site self.now.done k result.now }
@@ -132,7 +132,7 @@ impl SiteReport {
         self.site.outputs(k)
     }
 
-    /// All outputs, by number, each as [`SiteReport::outputs`] tells it: they are moved out of the report, and not copied.
+    /// All outputs, by number, each as [`SiteReport::outputs`] reports it: they are moved out of the report, and not copied.
     pub fn into_outputs(self, alloc: Global) -> Result<Vec<Vec<Status>>, AllocError>
         ensures len { IfOk result (λ rows. length rows.items ≡ length (outputs_of self.job.plan)) }
         ensures each { IfOk result (λ rows. (k : ℕ) → IsOutput self.job self.site self.done k

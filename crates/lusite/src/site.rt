@@ -154,8 +154,8 @@ impl Site {
         self.desk.offer()
     }
 
-    /// Output k so far: a beginning of its statuses before its first broken one, and all of them where the site has ended;
-    /// empty where another site reports it, and where there is no output k. A present status is told with its computation,
+    /// Output k so far: a prefix of its statuses before its first broken one, and all of them where the site has ended;
+    /// empty where another site reports it, and where there is no output k. A present status is reported with its computation,
     /// an absent one when all items before it are done. Takes no memory.
     pub fn outputs(&self, k: usize) -> &[Status]
         ensures { IsOutput self.now.job self.now.site self.now.done k result.now }
@@ -163,7 +163,7 @@ impl Site {
         self.desk.output(k)
     }
 
-    /// All outputs so far, as `outputs` tells them, moved out.
+    /// All outputs so far, as `outputs` reports them, moved out.
     pub(crate) fn into_outputs(self, alloc: Global) -> Result<Vec<Vec<Status>>, AllocError>
         ensures len { IfOk result (λ rows. length rows.items ≡ length (outputs_of self.job.plan)) }
         ensures each { IfOk result (λ rows. (k : ℕ) → IsOutput self.job self.site self.done k
@@ -213,7 +213,7 @@ impl Site {
         }
     }
 
-    /// The put at hand is done.
+    /// Goes on behind the put at hand, which is done.
     pub fn sent(&mut self)
         requires { IsPutNext self.old.job self.old.site self.old.done }
         ensures job { self.new.job ≡ self.old.job }

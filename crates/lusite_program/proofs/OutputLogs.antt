@@ -29,7 +29,7 @@ logs_row p all ordered len k i e =
     let same = get_or_from_slice_get ps k i 0 e in
     put_same (replicate (flows_of p.plan.flat) no_log) ps (map log_view all) k i (places_once p ordered) (m ∙ len) (omega (arith, l, same, n)) e
 
--- what is told of an output
+-- what is reported of an output
 pub reported_there : (plan : Distribution) (s : ℕ) (told : List (Option ℕ)) (k i : ℕ) → AreReported plan s told → slice_get (outputs_of plan) k ≡ Some i → Reports plan s i (unwrap_or (slice_get told k) None)
 reported_there plan s told k i are there =
     let l = slice_get_within (outputs_of plan) k i there in
@@ -80,7 +80,7 @@ view_row xs k = ap view_items (slice_get-map log_view xs k) ∙ go (slice_get xs
     go None = refl
     go (Some x) = refl
 
--- what is told of an output, by what the site's program says of it
+-- what is reported of an output, by what the site's program says of it
 module _ (p : SitePlan) (inside : (i : ℕ) (k : ℕ) → slice_get (outputs_of p.plan) k ≡ Some i → i < flows_of p.plan.flat) where
   told_no : (logs : List LogView) (k : ℕ) (o : Option ℕ) → slice_get (outputs_of p.plan) k ≡ o → ((i : ℕ) → o ≡ Some i → Reports p.plan p.site i None) → log_in p logs o ≡ []
   told_no logs k None there h = refl

@@ -51,7 +51,7 @@ pub struct Held {
     pub logs: Vec<Vec<Status>>,
 }
 
-/// What a new site holds: nothing is shown, no flow was present, and there is room for what is told.
+/// What a new site holds: nothing is shown, no flow was present, and there is room for what is reported.
 pub fn new_held(alloc: Global, program: &SiteProgram, instants: u32) -> Result<Held, AllocError>
     ensures shown { IfOk result (λ x. x.shown.items
         ≡ replicate (length (places_of program.now.plan program.now.site)) Absent) }

@@ -80,7 +80,7 @@ pub fn drawn(
     let count = program.outputs();
     let mut rows = Vec::with_capacity(alloc, count)?;
     for k in 0..count {
-        let row = draw_reported(alloc, &mut logs, program.reported(k));
+        let row = draw_reported(alloc, &mut logs, program.reported_flow(k));
         rows.push_reserved(row);
     }
     Ok(rows)

@@ -115,7 +115,7 @@ pub fn link_of(post: &Post, links: &[LinkNo], j: usize) -> LinkNo
     }
 }
 
-/// The number that is told of output k, if one is.
+/// The number that is reported of output k, if one is.
 fn number_of(told: &[Option<usize>], k: usize) -> Option<usize>
     ensures { result ≡ unwrap_or (slice_get told.now k) Option.None }
 {
@@ -165,7 +165,7 @@ impl SiteProgram {
     }
 
     /// The number, among the flows that the site computes or takes, of that which is output k, where the site reports it.
-    pub fn reported(&self, k: usize) -> Option<usize>
+    pub fn reported_flow(&self, k: usize) -> Option<usize>
         ensures there { (i : ℕ) → slice_get (outputs_of self.now.plan) k ≡ Option.Some i
             → Reports self.now.plan self.now.site i result }
         ensures beyond { slice_get (outputs_of self.now.plan) k ≡ Option.None

@@ -312,7 +312,7 @@ fn number_in(numbers: &[u16], place: usize) -> usize
 }
 
 /// The number of an output's flow, where the site reports it.
-fn reported(plan: &Plan, site: u8, numbers: &[u16], place: usize) -> Option<usize>
+fn reported_flow(plan: &Plan, site: u8, numbers: &[u16], place: usize) -> Option<usize>
     requires plan { IsPlan plan.now }
     requires numbers { AreNumbers plan.now site numbers.now }
     requires output { is_output_of plan.now.flat place ≡ true }
@@ -325,7 +325,7 @@ fn reported(plan: &Plan, site: u8, numbers: &[u16], place: usize) -> Option<usiz
     None
 }
 
-/// The same for each main output, in order of declaration.
+/// For each main output the number of its flow, where the site reports it; in order of declaration.
 fn all_reported(
     alloc: Global,
     plan: &Plan,
@@ -340,7 +340,7 @@ fn all_reported(
 {
     let mut told = Vec::with_capacity(alloc, outputs.len())?;
     for k in 0..outputs.len() {
-        told.push_reserved(reported(plan, site, numbers, outputs[k]));
+        told.push_reserved(reported_flow(plan, site, numbers, outputs[k]));
     }
     Ok(told)
 }

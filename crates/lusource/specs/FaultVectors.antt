@@ -60,7 +60,7 @@ pub record ProgramFaultsAre : Type 0 where
   -- y is at fault at the second instant, and not at the first
   pub own : IsSourceFault (program_of (divide ∷ [])) (codes "divide") one_zero falling (codes "y") 1 DivZero
   pub not_before : ¬ IsSourceFault (program_of (divide ∷ [])) (codes "divide") one_zero falling (codes "y") 0 DivZero
-  -- it is told of the main variable in whose equation the call stands
+  -- it is reported of the main variable in whose equation the call stands
   pub called : IsSourceFault calls_divide (codes "main") one_zero falling (codes "z") 1 DivZero
   pub of_main : ¬ IsSourceFault calls_divide (codes "main") one_zero falling (codes "y") 1 DivZero
 

@@ -40,7 +40,7 @@ pub fn one_meaning_law()
     ensures { OneMeaningLaw }
 {}
 
-/// Where worked expressions are at fault and where they aren't, and of which main variable a fault in a called node is told.
+/// Where worked expressions are at fault and where they aren't, and of which main variable a fault in a called node is reported.
 pub fn fault_vectors_law()
     ensures { FaultVectorsLaw }
 {}

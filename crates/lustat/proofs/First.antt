@@ -1,4 +1,4 @@
--- What each stage tells is told first.
+-- What each stage reports is reported first.
 use Rattle.std.proofs.Common.{◌≡◌, ◌∙◌, ◌/◌, inl, inr, ℕ, List, Option, Some, None, refl, ap, arith}
 use Rattle.lutree.specs.declared.program.Program.{Program}
 use Rattle.lutree.specs.Tree.{program_view}
@@ -15,7 +15,7 @@ use Rattle.lustat_init.specs.Faults.{IsFault as IsClassFault, AreKept as AreClas
 use Rattle.lustat.specs.First.{stage_told, IsToldFirst}
 use Rattle.lustat.proofs.Telling.{second}
 
--- only the want of memory tells no rule
+-- only out of memory reports no rule
 no_rule : (e : StatError) → rule_of e ≡ None → e ≡ OutOfMemory
 no_rule (DuplicateName byte) h = absurd (cc)
 no_rule (UnknownName byte) h = absurd (cc)
@@ -35,7 +35,7 @@ no_rule (MaybeNil byte) h = absurd (cc)
 no_rule (CurrentMayBeNil byte) h = absurd (cc)
 no_rule OutOfMemory h = refl
 
--- the stage of the rule that a refusal tells
+-- the stage of the rule that a refusal reports
 stage_of_told : (e : StatError) (rule : Rule) → rule_of e ≡ Some rule → stage_told e ≡ stage rule
 stage_of_told e rule told = ap (λ n. n / 10) (ap number_told told)
 

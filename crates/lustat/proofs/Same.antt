@@ -1,4 +1,4 @@
--- What is told of a program goes by its tree and its places alone, and is one thing.
+-- What is reported of a program goes by its tree and its places alone, and is one thing.
 use Rattle.std.proofs.Common.{◌≡◌, ◌∙◌, ◌<◌, ◌≤◌, ◌⊎◌, inl, inr, ℕ, nat_eq, Bool, if◌then◌else◌, List, ◌++◌, map, Option, Some, None, refl, sym, ap, subst, arith}
 use Rattle.std.specs.Prelude.{slice_get}
 use Rattle.std.proofs.lemmas.List.{map-append}
@@ -189,7 +189,7 @@ module _ (p q : Program) (main : List ℕ) (trees : program_view p ≡ program_v
 least_along : (F G : StatError → Type 0) (e : StatError) → ((f : StatError) → F f → G f) → ((f : StatError) → G f → F f) → IsLeastFault F e → IsLeastFault G e
 least_along F G e to back h = (to e h.0, λ f fault. h.1 f (back f fault))
 
--- what is told of a program is told of each with its tree and its places
+-- what is reported of a program is reported of each with its tree and its places
 pub told_along : (p q : Program) (main : List ℕ) (e : StatError) → program_view p ≡ program_view q → places_view p ≡ places_view q → IsToldFirst p main e → IsToldFirst q main e
 told_along p q main e trees places (memory h) = memory h
 told_along p q main e trees places (names s h) = names s (least_along (IsNameFault p main) (IsNameFault q main) e (name_of p q main trees places) (name_of q p main (sym trees) (sym places)) h)
@@ -249,7 +249,7 @@ broken_kept tree main r (breaks.node i n at never) keeps = never (keeps.nodes i 
 broken_kept tree main r (breaks.declaration i j n d at there never) keeps = never (keeps.declarations i j n d at there)
 broken_kept tree main r (breaks.equation i j n q at there never) keeps = never (keeps.equations i j n q at there)
 
--- of two refusals that are told neither is of a stage before the other's
+-- of two refusals that are reported neither is of a stage before the other's
 not_earlier : (tree : ProgramTree) (main : List ℕ) (e f : StatError) → Tells 3 tree main e → Tells 3 tree main f → 0 < stage_told e → stage_told e < stage_told f → ⊥
 not_earlier tree main e f told other some less = by_rules (rule_of e) (rule_of f) refl refl told other
   where
@@ -261,7 +261,7 @@ not_earlier tree main e f told other some less = by_rules (rule_of e) (rule_of f
         let two = ap number_told also in
         broken_kept tree main r h.1.broken (k.1.before r (omega (arith, one, two, less)))
 
--- two refusals that are told of one program are one, where memory lasts
+-- two refusals that are reported of one program are one, where memory lasts
 pub one_told : (p : Program) (main : List ℕ) (e f : StatError) → Tells 3 (program_view p) main e → Tells 3 (program_view p) main f → IsToldFirst p main e → IsToldFirst p main f
     → (e ≡ OutOfMemory → ⊥) → (f ≡ OutOfMemory → ⊥) → e ≡ f
 one_told p main e f tells also (memory h) y ne nf = absurd (ne h)

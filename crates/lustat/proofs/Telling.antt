@@ -32,7 +32,7 @@ accepted_from p main named clocked begun current_may_be_nil = begun current_may_
 
 -- WHAT IS TOLD
 
--- what the first stage tells
+-- what the first stage reports
 later_told : (p : ProgramTree) (main : List ℕ) (o : Option Rule) → RuleTold 1 p main o → RuleTold 3 p main o
 later_told p main None h = h
 later_told p main (Some rule) h = ((let le = h.0 in omega (arith, le)), h.1)

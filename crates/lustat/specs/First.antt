@@ -1,4 +1,4 @@
--- What is told first.
+-- What is reported first.
 use Rattle.std.specs.Prelude.{◌≡◌, ◌/◌, ℕ, List}
 use Rattle.lutree.specs.declared.program.Program.{Program}
 use Rattle.lustat_rules.specs.declared.error.StatError.{StatError}

@@ -56,7 +56,7 @@ fn later_stages(alloc: Global, typed: &Typed) -> Result<Vec<Vec<bool>>, StatErro
 ///
 /// # Errors
 ///
-/// An error other than the want of memory tells a rule that is broken, where all rules of the stages before are kept: of its stage the
+/// An error other than out of memory reports a rule that is broken, where all rules of the stages before are kept: of its stage the
 /// fault of the least byte, at equal bytes that of the least number, each at its place in the text. Of several nodes that reach
 /// themselves by calls only the first in order of text is thought of.
 pub fn check<'a>(

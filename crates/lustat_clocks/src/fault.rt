@@ -39,7 +39,7 @@ pub fn declaration_fault(
     lesser(clock, lesser(parameter, hidden))
 }
 
-/// The least fault of an equation. `unclocked` is what [`crate::main_is_unclocked`] tells.
+/// The least fault of an equation. `unclocked` is what [`crate::main_is_unclocked`] reports.
 pub fn equation_fault(
     catalog: &Catalog,
     scope: &Scope,

@@ -95,7 +95,7 @@ fn all_call_no(arguments: &[Expr], name: &str) -> bool
 }
 
 /// `E22` at an equation: the main node is called only where all its outputs are on the base clock.
-/// `unclocked` is what [`main_is_unclocked`] tells. Takes no memory.
+/// `unclocked` is what [`main_is_unclocked`] reports. Takes no memory.
 pub fn calls_unclocked(equation: &Equation, main: &str, unclocked: bool) -> bool
     ensures { (p : ProgramTree)
         → (IsTrue unclocked ↔ IfSome (node_called p main.now) HasUnclockedOutputs)

@@ -126,7 +126,7 @@ same_condition c d e = cc
 pub stray_started : (n : NodeTree) (x : List ℕ) → clock_of n x ≡ None → IsStarted n x
 stray_started n x at = record { clock = λ c has. absurd (no_clock c (sym at ∙ has)) }
 
--- what the mark of its declared clock tells of a variable
+-- what the mark of its declared clock says of a variable
 pub is_started : (n : NodeTree) (x : List ℕ) (marks : List Bool) (clocks : List Clock) (i : ℕ) (b : Bool) → AreMarked (IsBegun (all_begun n.equations)) marks clocks
     → clock_of n x ≡ slice_get clocks i → b ≡ unwrap_or (slice_get marks i) true → IsTrue b ↔ IsStarted n x
 is_started n x marks clocks i b marked at e = by_clock (clock_of n x) refl

@@ -1,4 +1,4 @@
--- From the tests of single rules to a judgement of an equation.
+-- From the tests of single rules to the check of an equation.
 use Rattle.std.proofs.Common.{◌↔◌, ◌⊎◌, inl, inr, ℕ, List, Option, IsTrue, refl, sym, true≢false}
 use Rattle.lutree.specs.Tree.{EquationTree, NodeTree}
 use Rattle.lustat_rules.specs.Accepted.{Rule, duplicate_name, unknown_name, unknown_node, type_mismatch, wrong_arity, undefined, defined_twice, recursive_node, no_main, bad_merge, clock_mismatch, not_a_clock, clocked_parameter, hidden_clock, maybe_nil, current_may_be_nil}

@@ -1,4 +1,4 @@
--- The least classes tell whether a node has classes.
+-- The least classes say whether a node has classes.
 use Rattle.std.proofs.Common.{◌≡◌, inl, inr, ◌∙◌, ℕ, Bool, true, false, List, [], ◌∷◌, ◌++◌, Some, None, IsTrue, refl, sym, ap, subst, true≢false, All, Contains}
 use Rattle.std.specs.Bool.{IsFalse}
 use Rattle.std.specs.Option.{IfSome}

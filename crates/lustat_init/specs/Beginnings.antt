@@ -52,7 +52,7 @@ abbrev pub IsBegun : List Begun → Clock → Type 0
 IsBegun bs None = Unit {0}
 IsBegun bs (Some c) = Contains bs (record { name = c.variable; pattern = c.pattern })
 
--- a mark for each of some clocks, which tells what holds of it
+-- a mark for each of some clocks, which says what holds of it
 abbrev pub AreMarked : (Clock → Type 0) → List Bool → List Clock → Type 0
 AreMarked P [] [] = Unit {0}
 AreMarked P [] (k ∷ ks) = ⊥

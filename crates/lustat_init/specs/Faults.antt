@@ -1,4 +1,4 @@
--- The faults of initialisation, each told at its equation.
+-- The faults of initialisation, each reported at its equation.
 use Rattle.std.specs.Prelude.{◌≡◌, ℕ, Bool, List, Some, nat_eq}
 use Rattle.lutree.specs.declared.program.Equation.{Equation}
 use Rattle.lutree.specs.declared.program.Node.{Node}
@@ -44,7 +44,7 @@ AreKept nodes = KeptAmong nodes (λ _ n. InNodeKept n)
 abbrev pub IsFault : List Node → StatError → Type 0
 IsFault nodes = FaultAmong nodes (λ _ n. InNodeFault n)
 
--- a refusal tells a rule of initialisation that the program breaks
+-- a refusal reports a rule of initialisation that the program breaks
 pub record TellsBroken (p : ProgramTree) (main : List ℕ) (e : StatError) : Type 0 where
   pub rule : Rule
   pub told : rule_of e ≡ Some rule

@@ -47,7 +47,7 @@ abbrev pub IfBroken : Initialised → (StatError → Type 0) → Type 0
 IfBroken (Kept rows) P = Unit {0}
 IfBroken (Broken e) P = P e
 
--- the fault that is told
+-- the fault that is reported
 abbrev pub fault_of : Initialised → Option StatError
 fault_of (Kept rows) = None
 fault_of (Broken e) = Some e

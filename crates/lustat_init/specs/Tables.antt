@@ -1,4 +1,4 @@
--- What the marks of a node tell.
+-- What the marks of a node say.
 use Rattle.std.specs.Prelude.{map}
 use Rattle.lutree.specs.Tree.{equation_view}
 use Rattle.lustat_rules.specs.Faults.{declared_in}

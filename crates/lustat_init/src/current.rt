@@ -118,7 +118,7 @@ impl<'a> Firsts<'a> {
         }
     }
 
-    // Likewise in the arguments of a call or the branches of a merge.
+    // Whether each `current` in the arguments of a call or the branches of a merge starts.
     #[cycle(currents)]
     fn arguments_start(&self, scope: &Scope, arguments: &[Expr]) -> bool
         requires { scope.now ≡ self.now }

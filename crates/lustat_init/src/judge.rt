@@ -80,7 +80,7 @@ fn push_samplers<'a>(names: &mut Vec<&'a str>, e: &'a Expr) -> Result<(), AllocE
     }
 }
 
-// Likewise in the arguments of a call or the branches of a merge.
+// Puts the samplers in the arguments of a call or the branches of a merge behind others.
 #[cycle(samplers)]
 fn push_samplers_of_all<'a>(
     names: &mut Vec<&'a str>,
@@ -95,7 +95,7 @@ fn push_samplers_of_all<'a>(
     Ok(())
 }
 
-// Likewise on the right of equations.
+// Puts the samplers on the right of equations behind others.
 fn push_samplers_of_equations<'a>(
     names: &mut Vec<&'a str>,
     equations: &'a [Equation],

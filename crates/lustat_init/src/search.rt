@@ -23,7 +23,7 @@ pub enum Initialised {
     /// The classes of each node, in order of text: for each a mark by place of declaration, true for class 1. Behind the marks of a
     /// node's variables stand others.
     Kept(Vec<Vec<bool>>),
-    /// The fault that is told.
+    /// The fault that is reported.
     Broken(StatError),
 }
 
@@ -51,7 +51,7 @@ impl<'r, 'a> Stage<'a> for ClassStage<'r, 'a> {
 
     ghost serves = { λ s n prepared. Serves n prepared.named prepared.firsts prepared.marks.now };
 
-    // No rule of initialisation is told at a type, at a node or at a declaration.
+    // No rule of initialisation is reported at a type, at a node or at a declaration.
     ghost breaks_type = { λ _ _ _ _. ⊥ };
 
     ghost keeps_type = { λ _ _ _. Unit {0} };
@@ -159,7 +159,7 @@ fn nodes_fault(
 }
 
 /// Whether a program keeps the rules of initialisation: the least classes of each node, or the least fault, that of the least byte,
-/// at equal bytes that of the least number. Classes are judged at each equation with the least classes of its node.
+/// at equal bytes that of the least number. Classes are checked at each equation with the least classes of its node.
 ///
 /// What the equations define has to be declared, as the rules of names ask ([`crate::laws::lefts_law`]). The time grows with the
 /// size of the program.

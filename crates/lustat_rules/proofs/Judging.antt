@@ -129,7 +129,7 @@ judged_all xs F Q k best end before =
     (λ h j x there. h j x (let lt = slice_get_within xs j x there in omega (arith, lt, end)) there)
     before
 
--- the same of what was told
+-- the same of what was reported
 pub judged_told : (rule : Rule) (byte : ℕ) (Kept : Type 0) (b : Bool) (e : StatError) (o : Option StatError) → o ≡ (if b then None else Some e) → rule_of e ≡ Some rule → byte_of e ≡ byte → (IsTrue b ↔ Kept)
     → IsJudged (RuleFault rule byte Kept) Kept o
 judged_told rule byte Kept b e o is r at same = subst (IsJudged (RuleFault rule byte Kept) Kept) (sym is) (judged_rule rule byte Kept b e r at same)
@@ -142,6 +142,6 @@ pub judged_step : {A : Type 0} (xs : List A) (F : ℕ → A → StatError → Ty
 judged_step xs F Q k x best o r at is before here =
     subst (IsJudged (FaultBefore (k + 1) xs F) (KeptBefore (k + 1) xs Q)) (sym is) (judged_more xs F Q k x best o at before here)
 
--- two judgements joined
+-- two checks joined
 pub judged_joined : (S T : StatError → Type 0) (P Q : Type 0) (a b r : Option StatError) → r ≡ lesser_of a b → IsJudged S P a → IsJudged T Q b → IsJudged (λ e. S e ⊎ T e) (P × Q) r
 judged_joined S T P Q a b r is s t = subst (IsJudged (λ e. S e ⊎ T e) (P × Q)) (sym is) (judged_both S T P Q a b s t)

@@ -66,7 +66,7 @@ kept_everywhere asked p main whole types nodes rule one =
         subst (λ m. EquationKeeps (program_view p) main rule m j q) v.2
         (subst (λ q. EquationKeeps (program_view p) main rule (node_view v.0) j q) w.2 ((nodes i v.0 v.1).equations j w.0 w.1 rule one))
 
--- a rule that a refusal tells, of those that were asked for, is broken
+-- a rule that a refusal reports, of those that were asked for, is broken
 pub record IsBroken (asked : Rule → Bool) (p : Program) (main : List ℕ) (e : StatError) : Type 0 where
   pub rule : Rule
   pub told : rule_of e ≡ Some rule

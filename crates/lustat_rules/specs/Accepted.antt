@@ -127,7 +127,7 @@ module _ (p : ProgramTree) (main : List ℕ) where
   abbrev pub IsAccepted : Type 0
   IsAccepted = (rule : Rule) → Keeps rule
 
-  -- a refusal tells a rule that is broken, where all rules of the stages before it are kept
+  -- a refusal reports a rule that is broken, where all rules of the stages before it are kept
   pub record IsRefused (rule : Rule) : Type 0 where
     pub broken : Breaks rule
     pub before : (other : Rule) → stage other < stage rule → Keeps other

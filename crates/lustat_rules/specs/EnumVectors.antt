@@ -209,7 +209,7 @@ pub record EnumMergesAre : Type 0 where
   pub truths_turned : breaks Rule.bad_merge (defines (codes "y") (tree.merge (codes "c") (patterns.Truth false ∷ patterns.Truth true ∷ []) (tree.more x (tree.more x tree.none))))
   pub names_on_a_bool : keeps Rule.bad_merge (defines (codes "y") (merge_one (codes "c") (patterns.Label up) x))
   pub names_on_an_int : switch_keeps Rule.bad_merge (merge_one (codes "x") (patterns.Label up) x)
-  -- types aren't judged of a merge that isn't whole
+  -- types aren't checked of a merge that isn't whole
   pub unjudged : switch_keeps Rule.type_mismatch (merge_one (codes "m") (patterns.Label up) m)
 
 -- CLOCKS

@@ -21,17 +21,17 @@ declared_in n = n.inputs ++ (n.outputs ++ n.locals)
 abbrev pub is_before : StatError → StatError → Bool
 is_before e f = nat_lt (byte_of e) (byte_of f) || (nat_eq (byte_of e) (byte_of f) && nat_lt (number_of e) (number_of f))
 
--- of two faults the one that is told
+-- of two faults the one that is reported
 abbrev pub lesser_of : Option StatError → Option StatError → Option StatError
 lesser_of None b = b
 lesser_of (Some e) None = Some e
 lesser_of (Some e) (Some f) = if is_before f e then Some f else Some e
 
--- a fault is told no later than another
+-- a fault is reported no later than another
 abbrev pub IsAtMost : StatError → StatError → Type 0
 IsAtMost e f = (byte_of e < byte_of f) ⊎ ((byte_of e ≡ byte_of f) × (number_of e ≤ number_of f))
 
--- A search is right: where it tells nothing, all is kept, and there is no fault. What it tells is a fault, and no other is told before it.
+-- A search is right: where it reports nothing, all is kept, and there is no fault. What it reports is a fault, and no other is reported before it.
 abbrev pub IsJudged : (StatError → Type 0) → Type 0 → Option StatError → Type 0
 IsJudged IsFault Kept None = Kept × ((e : StatError) → IsFault e → ⊥)
 IsJudged IsFault Kept (Some e) = IsFault e × ((f : StatError) → IsFault f → IsAtMost e f)
@@ -48,7 +48,7 @@ KeptAmong {A} xs Kept = (j : ℕ) (x : A) → slice_get xs j ≡ Some x → Kept
 
 -- the rules that a search asks for
 module _ (asked : Rule → Bool) where
-  -- a refusal tells one of these rules, broken at this byte
+  -- a refusal reports one of these rules, broken at this byte
   pub record FaultAt (byte : ℕ) (Kept : Rule → Type 0) (e : StatError) : Type 0 where
     pub rule : Rule
     pub told : rule_of e ≡ Some rule

@@ -1,4 +1,4 @@
--- The line that tells a broken rule.
+-- The line that reports a broken rule.
 use Rattle.std.specs.Prelude.{ℕ, List, ◌++◌, codes}
 use Rattle.std.specs.Fmt.{decimal}
 use Rattle.lustat_rules.specs.declared.error.StatError.{StatError}

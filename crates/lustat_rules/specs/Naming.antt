@@ -88,7 +88,7 @@ pub record IsNewVariable (p : ProgramTree) (n : NodeTree) (i : ℕ) (d : Declara
 
 -- E11: each name is a variable of the node, and each type and each name of an enumeration is the program's
 
--- the type at the place that a kind tells, with as many names as it tells
+-- the type at the place that a kind gives, with as many names as it gives
 abbrev pub IsEnumeration : ProgramTree → Kind → TypeTree → Type 0
 IsEnumeration p (Enum place size) t = (slice_get p.types place ≡ Some t) × (length t.names ≡ size)
 IsEnumeration p kind t = ⊥

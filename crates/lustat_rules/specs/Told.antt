@@ -1,4 +1,4 @@
--- What a refusal tells: a rule, and a place in the text.
+-- What a refusal reports: a rule, and a place in the text.
 use Rattle.std.specs.Prelude.{◌≤◌, ℕ, List, Option, Some, None}
 use Rattle.lutree.specs.Tree.{ProgramTree}
 use Rattle.lustat_rules.specs.Accepted.{Rule, number, stage, IsRefused}
@@ -6,7 +6,7 @@ use Rattle.lustat_rules.specs.Accepted as accepted
 use Rattle.lustat_rules.specs.declared.error.StatError.{StatError}
 use Rattle.lustat_rules.specs.declared.error.StatError.TheVariants.{DuplicateName, UnknownName, UnknownNode, TypeMismatch, WrongArity, Undefined, DefinedTwice, RecursiveNode, ClockMismatch, NotAClock, ClockedParameter, HiddenClock, MaybeNil, CurrentMayBeNil, NoMain, BadMerge, OutOfMemory}
 
--- the rule that a refusal tells; none where memory ran out
+-- the rule that a refusal reports; none where memory ran out
 abbrev pub rule_of : StatError → Option Rule
 rule_of (DuplicateName byte) = Some accepted.duplicate_name
 rule_of (UnknownName byte) = Some accepted.unknown_name
@@ -26,7 +26,7 @@ rule_of (MaybeNil byte) = Some accepted.maybe_nil
 rule_of (CurrentMayBeNil byte) = Some accepted.current_may_be_nil
 rule_of OutOfMemory = None
 
--- the byte that it tells; 0 where it tells none
+-- the byte that it reports; 0 where it reports none
 abbrev pub byte_of : StatError → ℕ
 byte_of (DuplicateName byte) = byte
 byte_of (UnknownName byte) = byte
@@ -50,7 +50,7 @@ abbrev pub number_told : Option Rule → ℕ
 number_told None = 0
 number_told (Some rule) = number rule
 
--- the number of the rule that it tells; 0 where it tells none
+-- the number of the rule that it reports; 0 where it reports none
 abbrev pub number_of : StatError → ℕ
 number_of e = number_told (rule_of e)
 
@@ -59,6 +59,6 @@ abbrev pub RuleTold : ℕ → ProgramTree → List ℕ → Option Rule → Type 
 RuleTold stages p main None = Unit {0}
 RuleTold stages p main (Some rule) = (stage rule ≤ stages) × IsRefused p main rule
 
--- what a refusal says, where the first stages are checked; the want of memory says nothing of the program
+-- what a refusal says, where the first stages are checked; out of memory says nothing of the program
 abbrev pub Tells : ℕ → ProgramTree → List ℕ → StatError → Type 0
 Tells stages p main e = RuleTold stages p main (rule_of e)

@@ -115,8 +115,8 @@ abbrev pub IsSign : Pattern → Type 0
 IsSign (patterns.Truth b) = Unit {0}
 IsSign (patterns.Label l) = ⊥
 
--- The patterns of a merge on a variable of a type: of an enumeration all its names, and `true` and `false` on a bool, if none of them is a name. Others
--- are a matter of clocks.
+-- The patterns of a merge on a variable of a type: of an enumeration all its names, and `true` and `false` on a bool, if none of them is a name.
+-- Others are a matter of clocks.
 abbrev pub PatternsAre : Option Kind → List Pattern → Type 0
 PatternsAre (Some (Enum place size)) ps = AreNames (Enum place size) size ps
 PatternsAre (Some Truths) ps = All IsSign ps → ps ≡ patterns.Truth true ∷ patterns.Truth false ∷ []

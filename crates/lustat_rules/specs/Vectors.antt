@@ -207,7 +207,7 @@ pub record TypedEquations : Type 0 where
   pub truth_for_int : breaks Rule.type_mismatch (defines (codes "y") c)
   pub sum_of_truth : breaks Rule.type_mismatch (defines (codes "y") (plus x c))
   pub pair_turned : breaks Rule.type_mismatch (defines_both (codes "c") (codes "y") (call_one (codes "two") x))
-  -- where a name isn't known, types aren't judged
+  -- where a name isn't known, types aren't checked
   pub unknown_is_unjudged : keeps Rule.type_mismatch (defines (codes "y") (plus w c))
 
 pub record ClockedEquations : Type 0 where

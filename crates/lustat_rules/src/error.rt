@@ -13,40 +13,40 @@ use thiserror::Error;
 #[derive(Clone, Copy, Debug, PartialEq, Eq, Error)]
 pub enum StatError {
     /// Two types, two names of enumerations, two nodes, or two variables of a node, have one name, or a variable has that of a name
-    /// of an enumeration. Told at the later name, or at the variable.
+    /// of an enumeration. Reported at the later name, or at the variable.
     DuplicateName { byte: usize },
-    /// A name is no variable of the node, no type, or no name of an enumeration. Told at the equation, or at the variable whose type or
+    /// A name is no variable of the node, no type, or no name of an enumeration. Reported at the equation, or at the variable whose type or
     /// clock it is.
     UnknownName { byte: usize },
-    /// A call is of no node. Told at the equation.
+    /// A call is of no node. Reported at the equation.
     UnknownNode { byte: usize },
-    /// An equation whose names, calls, arities and merges are in order is ill typed. Told at the equation.
+    /// An equation whose names, calls, arities and merges are in order is ill typed. Reported at the equation.
     TypeMismatch { byte: usize },
-    /// A call has another number of arguments, or of outputs, than it needs. Told at the equation.
+    /// A call has another number of arguments, or of outputs, than it needs. Reported at the equation.
     WrongArity { byte: usize },
-    /// An output or a local has no equation. Told at its declaration.
+    /// An output or a local has no equation. Reported at its declaration.
     Undefined { byte: usize },
-    /// An equation defines a variable that another one defines, one twice, or an input. Told at the later equation.
+    /// An equation defines a variable that another one defines, one twice, or an input. Reported at the later equation.
     DefinedTwice { byte: usize },
-    /// A node reaches itself by calls. Told at its name.
+    /// A node reaches itself by calls. Reported at its name.
     RecursiveNode { byte: usize },
     /// No node has the name of the main node.
     NoMain,
-    /// The branches of a merge aren't those of its variable's type. Told at the equation.
+    /// The branches of a merge aren't those of its variable's type. Reported at the equation.
     BadMerge { byte: usize },
-    /// A right side doesn't fit the clock of what it defines. Told at the equation.
+    /// A right side doesn't fit the clock of what it defines. Reported at the equation.
     ClockMismatch { byte: usize },
-    /// The variable of a clock or of a merge isn't of its type, or its chain of clocks doesn't end. Told at the equation or the
+    /// The variable of a clock or of a merge isn't of its type, or its chain of clocks doesn't end. Reported at the equation or the
     /// declaration.
     NotAClock { byte: usize },
-    /// A parameter has a clock where it may have none. Told at its declaration, or at the equation that calls.
+    /// A parameter has a clock where it may have none. Reported at its declaration, or at the equation that calls.
     ClockedParameter { byte: usize },
-    /// An output of the main node has a clock that a local names. Told at its declaration.
+    /// An output of the main node has a clock that a local names. Reported at its declaration.
     HiddenClock { byte: usize },
-    /// A value may be missing where it is needed. Told at the equation with the operand that may be missing, or that defines the
+    /// A value may be missing where it is needed. Reported at the equation with the operand that may be missing, or that defines the
     /// output or the variable that a clock names.
     MaybeNil { byte: usize },
-    /// `current` of a variable whose clock may be false at first. Told at the equation.
+    /// `current` of a variable whose clock may be false at first. Reported at the equation.
     CurrentMayBeNil { byte: usize },
     /// Memory ran out, which says nothing of the program.
     OutOfMemory,
@@ -106,7 +106,7 @@ impl StatError {
         }
     }
 
-    /// The number of the rule; 0 where no rule is told.
+    /// The number of the rule; 0 where no rule is reported.
     pub fn number(&self) -> u8
         ensures { result ≡ number_of self.now }
     {

@@ -1,4 +1,4 @@
-//! Of several faults the one that is told.
+//! Of several faults the one that is reported.
 
 ghost use Rattle.std.specs.Prelude.{◌≡◌, Some, None, if◌then◌else◌};
 ghost use Rattle.lustat_rules.specs.Faults.{is_before, lesser_of};

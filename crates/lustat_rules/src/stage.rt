@@ -22,7 +22,7 @@ pub trait Stage<'a> {
     /// What the tests of a node's places share.
     type Prepared: Drop;
 
-    /// The program that is judged.
+    /// The program that is checked.
     ghost program: { Self → Program };
 
     /// What was prepared serves a node.

@@ -21,7 +21,7 @@ Refuses (Ok found) error = ⊥
 Refuses (Err e.OutOfMemory) error = Unit {0}
 Refuses (Err told) error = told ≡ error
 
--- a refusal stays as the lexer tells it
+-- a refusal stays as the lexer reports it
 abbrev pub refusal : LexError → SynError
 refusal l.TooLong = e.TooLong
 refusal l.NotAscii = e.NotAscii
@@ -30,7 +30,7 @@ refusal (l.NumberTooLarge byte) = e.NumberTooLarge byte
 refusal (l.LongRun byte) = e.LongRun byte
 refusal l.OutOfMemory = e.OutOfMemory
 
--- and as the parser tells it
+-- and as the parser reports it
 abbrev pub syntax_refusal : ParseError → SynError
 syntax_refusal (p.Syntax byte) = e.Syntax byte
 syntax_refusal p.OutOfMemory = e.OutOfMemory

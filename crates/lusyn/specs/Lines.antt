@@ -1,4 +1,4 @@
--- The line that tells a refusal of a text.
+-- The line that reports a refusal of a text.
 use Rattle.std.specs.Prelude.{ℕ, List, ◌++◌, codes}
 use Rattle.std.specs.Fmt.{decimal}
 use Rattle.lusyn.specs.declared.error.SynError.{SynError}

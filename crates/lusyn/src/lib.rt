@@ -1,6 +1,6 @@
 //! The reader: from a text to the syntax tree that it spells, and back.
 //!
-//! [`read_program`] reads a text of the whole language, or tells by a [`SynError`] why it spells no program. [`print_program`]
+//! [`read_program`] reads a text of the whole language, or reports by a [`SynError`] why it spells no program. [`print_program`]
 //! gives the canonical text of a program, which is read back as the same program.
 //!
 //! Crate `lusyn_grammar` cuts the text into tokens and defines the grammar. Crate `lusyn_parser` reads the tokens by it, and

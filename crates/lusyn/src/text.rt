@@ -77,10 +77,10 @@ pub fn read_program(alloc: Global, text: &str) -> Result<Program, SynError>
     ensures places { IfOk result (λ found. ArePlacesOf text.now (places_view found)) }
     // What is spelled so is read, unless memory runs out. So no text spells two programs.
     ensures only { (tree : ProgramTree) → SpellsText text.now tree → IsAnswered result tree }
-    // A refusal other than want of memory is true of the text.
+    // A refusal other than out of memory is true of the text.
     ensures refused { IfErr result (λ error. (error ≡ SynError.OutOfMemory)
         ⊎ IsRefused text.now error) }
-    // A refusal that is true of the text is told, unless memory runs out. So no text has two.
+    // A refusal that is true of the text is reported, unless memory runs out. So no text has two.
     ensures refuses { (error : SynError) → IsRefused text.now error → Refuses result error }
 {
     let written = read_written(alloc, text)?;

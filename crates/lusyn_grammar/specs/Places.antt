@@ -1,5 +1,5 @@
--- The places of a program's parts, as its tokens tell them: where the names of its types and of their enumerations, the names of its nodes, its declared names and
--- its equations begin.
+-- The places of a program's parts, as its tokens give them: where the names of its types and of their enumerations, the names of its nodes, its
+-- declared names and its equations begin.
 use Rattle.std.specs.Prelude.{ℕ, Bool, true, false, not, ◌||◌, List, [], ◌∷◌, if◌then◌else◌}
 use Rattle.lutree.specs.Places.{TypePlaces, NodePlaces, ProgramPlaces}
 use Rattle.lusyn_grammar.specs.declared.token.Fixed.{Fixed}

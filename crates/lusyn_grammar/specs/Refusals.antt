@@ -35,7 +35,7 @@ HasLargeNumber text byte =
 abbrev pub HasLongRun : List ℕ → ℕ → Type 0
 HasLongRun text byte = (ts : List Placed) × HasTokens text ts × IsTooMany ts byte
 
--- this refusal is true of the text, and none of those before it in order; want of memory is none of a text
+-- this refusal is true of the text, and none of those before it in order; out of memory is none of a text
 abbrev pub IsRefused : List ℕ → LexError → Type 0
 IsRefused text e.TooLong = longest_program < length text
 IsRefused text e.NotAscii = (length text ≤ longest_program) × IsNotAscii text

@@ -3,7 +3,7 @@
 use std::alloc::{AllocError, AllocFailed};
 use thiserror::Error;
 
-/// Why a text is refused. Its text is the line that a program prints. Of a text the first of these that is true is told.
+/// Why a text is refused. Its text is the line that a program prints. Of a text the first of these that is true is reported.
 #[derive(Debug, Drop, Error)]
 pub enum LexError {
     /// The text has more than 1,048,576 bytes.

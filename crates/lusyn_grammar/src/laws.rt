@@ -18,7 +18,7 @@ pub fn refusal_law()
     ensures { RefusalLaw }
 {}
 
-/// What stands before a refused token is the beginning of a text. So a refused token is the first with which no text goes on.
+/// What stands before a refused token is a prefix of a text. So a refused token is the first with which no text goes on.
 pub fn beginning_law()
     ensures { BeginningLaw }
 {}

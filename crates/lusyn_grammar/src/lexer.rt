@@ -291,7 +291,7 @@ pub fn lex(alloc: Global, text: &str) -> Result<Vec<Lexeme<'_>>, LexError>
     ensures tokens { IfOk result (λ found. IsLexed text.now (located found.items)) }
     // Its tokens are answered, unless memory runs out. So no text has two lists of tokens.
     ensures only { (ts : List Placed) → IsLexed text.now ts → Lexes (λ v. v.items) result (Ok ts) }
-    // A refusal other than want of memory is true of the text.
+    // A refusal other than out of memory is true of the text.
     ensures refused { IfErr result (λ error. (error ≡ LexError.OutOfMemory)
         ⊎ IsRefused text.now error) }
     // A refusal that is true of the text is answered, unless memory runs out. So no text has two.

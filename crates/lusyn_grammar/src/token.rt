@@ -97,7 +97,7 @@ pub enum Fixed {
 }
 
 impl Fixed {
-    /// How it is spelled.
+    /// How the token is spelled.
     pub fn text(self) -> &'static str
         ensures { result.now ≡ tokens.text_of self }
     {

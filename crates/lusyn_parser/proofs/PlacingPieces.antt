@@ -1,4 +1,4 @@
--- The places that each function of the parser answers are those that its tokens tell.
+-- The places that each function of the parser answers are those that its tokens give.
 use Rattle.std.proofs.Common.{◌≡◌, ◌+◌, ℕ, Bool, true, false, List, [], ◌∷◌, ◌++◌, Option, Some, None, Result, Ok, Err, IfOk, refl, ap, sym, ◌∙◌, append_assoc}
 use Rattle.std.proofs.lemmas.List.{map-append}
 use Rattle.lutree.specs.declared.expr.Pattern.{Pattern}

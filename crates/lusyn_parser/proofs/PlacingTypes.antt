@@ -1,4 +1,4 @@
--- The places of types and of the names of their enumerations are those that the tokens tell.
+-- The places of types and of the names of their enumerations are those that the tokens give.
 use Rattle.std.proofs.Common.{◌≡◌, ℕ, List, [], ◌∷◌, ◌++◌, map, Ok, refl, ap, sym, ◌∙◌, append_assoc}
 use Rattle.std.proofs.lemmas.List.{map-append, append-nil}
 use Rattle.lutree.specs.declared.program.TypeDeclaration.{TypeDeclaration}

@@ -71,7 +71,7 @@ module _ (read : Reader) (n least : ℕ) where
         ∙ ap (λ (y : Tree). levelled x.level y (ahead ls next)) (sym found)
         ∙ ap (λ (m : ℕ). levelled x.level (view x.found) (ahead ls m)) (sym behind)
 
--- of want of memory nothing is said
+-- where memory ran out nothing is said
 pub fails_any : {Y Z : Type 0} (ls : List Lexeme) (error : Stop) (x : Y) (read : Result Z (List Tok)) → Fails ls error (given x) → Fails ls error read
 fails_any ls stops_by.OutOfMemory x read h = tt
 fails_any ls (stops_by.Refused q) x read h = absurd cc

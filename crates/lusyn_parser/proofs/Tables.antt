@@ -19,7 +19,7 @@ use Rattle.lusyn_parser.specs.Tables.{types_view, mark, marked, marks_of, names_
 
 -- WHAT IS FOUND
 
--- what a name stands for, where its place in the row, counted from a number on, is told
+-- what a name stands for, where its place in the row, counted from a number on, is given
 abbrev pub Told : List Label → List ℕ → ℕ → Option ℕ → Type 0
 Told ls x i None = label_among ls x ≡ None
 Told ls x i (Some k) = (j : ℕ) × (k ≡ i + j) × (m : Kind × ℕ) × (slice_get (marks_of ls) j ≡ Some m) × (label_among ls x ≡ Some (marked x m))

@@ -87,7 +87,7 @@ cuts (x ∷ b) (y ∷ c) r s e =
     let C : Placed → Type 0 = λ z. Cuts (x ∷ b) (z ∷ c) r s in
     subst C one (cuts_behind x b c r s (cuts b c r s others))
 
--- what is wrong at a token is no beginning with that token
+-- what is wrong at a token is no prefix with that token
 not_begun : (before rest behind : List Placed) (x : Placed) (mid : List Placed) → NoneGoesOn (unplaced before) (unplaced rest) → rest ≡ x ∷ (mid ++ behind) → (others : List Tok) (found : ProgramTree)
     → Spells (unplaced (before ++ x ∷ mid) ++ others) found → ⊥
 not_begun before rest behind x mid none e others found s =

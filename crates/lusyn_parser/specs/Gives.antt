@@ -26,7 +26,7 @@ use Rattle.lusyn_parser.specs.declared.pieces.WrittenType.TheVariants as y
 abbrev pub ahead : List Lexeme → ℕ → List Tok
 ahead ls at = toks (drop at ls)
 
--- reading is refused at this very token; of want of memory nothing is said
+-- reading is refused at this very token; where memory ran out nothing is said
 abbrev pub Fails : {Y : Type 0} → List Lexeme → Stop → Result Y (List Tok) → Type 0
 Fails ls (Refused at) read = read ≡ Err (ahead ls at)
 Fails ls OutOfMemory read = Unit {0}

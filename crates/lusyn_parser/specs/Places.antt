@@ -1,4 +1,4 @@
--- The places that the functions of the parser answer, against those that the tokens tell.
+-- The places that the functions of the parser answer, against those that the tokens give.
 use Rattle.std.specs.Prelude.{◌≡◌, ◌+◌, ◌++◌, ◌∷◌, ℕ, false, true, [], List, drop}
 use Rattle.lutree.specs.Places.{TypePlaces, NodePlaces, declaration_places, equation_places}
 use Rattle.lutree.specs.declared.program.Declaration.{Declaration}
@@ -18,8 +18,8 @@ pub record TellsNames (F : List Placed → List ℕ) : Type 0 where
   pub name : (p : ℕ) (x : List ℕ) (xs : List Placed) → F ((p, identifier x) ∷ xs) ≡ p ∷ F xs
   pub comma : (p : ℕ) (xs : List Placed) → F ((p, fixed f.Comma) ∷ xs) ≡ F xs
 
--- From one token to another, what was found has grown by the names there: as each such function tells, together with what stands from the second token on
--- it is what was found before together with what stands from the first token on.
+-- From one token to another, what was found has grown by the names there: as each such function says, together with what stands from the second
+-- token on it is what was found before together with what stands from the first token on.
 pub record Lists (ls : List Lexeme) (at next : ℕ) (old new : List ℕ) : Type 0 where
   pub same : (F : List Placed → List ℕ) → TellsNames F → new ++ F (from ls next) ≡ old ++ F (from ls at)
 

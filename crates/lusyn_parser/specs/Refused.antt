@@ -1,4 +1,4 @@
--- What a refusal tells.
+-- What a refusal reports.
 use Rattle.std.specs.Prelude.{◌≡◌, ℕ, List, [], ◌∷◌, ◌++◌, map, Result, Ok, Err}
 use Rattle.lutree.specs.Tree.{ProgramTree, program_view}
 use Rattle.lutree.specs.declared.program.Program.{Program}
@@ -32,7 +32,7 @@ pub record IsWrongFrom (ts : List Placed) (end byte : ℕ) : Type 0 where
   pub begun : (others : List Tok) × (found : ProgramTree) × Spells (unplaced before ++ others) found
   pub none : NoneGoesOn (unplaced before) (unplaced rest)
 
--- the error is true of these tokens; want of memory is none of theirs
+-- the error is true of these tokens; out of memory is none of theirs
 abbrev pub IsRefused : List Placed → ℕ → ParseError → Type 0
 IsRefused ts end e.OutOfMemory = Unit {0}
 IsRefused ts end (e.Syntax byte) = IsWrongFrom ts end byte

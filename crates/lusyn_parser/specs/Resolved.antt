@@ -1,5 +1,6 @@
--- What the names of a program stand for: each name of an enumeration is a label, which knows its type and its number there, and each type that is told by a name is
--- the enumeration of that name. Types and their names count from 0, in order of text; of two that have one name the first counts. What no type has stays as it is.
+-- What the names of a program stand for: each name of an enumeration is a label, which knows its type and its number there, and each type that is
+-- given by a name is the enumeration of that name. Types and their names count from 0, in order of text; of two that have one name the first counts.
+-- What no type has stays as it is.
 use Rattle.std.specs.Prelude.{ℕ, ◌+◌, List, [], ◌∷◌, ◌++◌, length, map, Option, Some, None, if◌then◌else◌}
 use Rattle.std.specs.Str.{bytes_eq}
 use Rattle.lutree.specs.declared.expr.Label.{Label}
@@ -87,7 +88,7 @@ module _ (types : List TypeTree) where
     resolved_trees t.none = t.none
     resolved_trees (t.more a xs) = t.more (resolved_tree a) (resolved_trees xs)
 
--- a type that is told by a name
+-- a type that is given by a name
 abbrev pub resolved_kind : List TypeTree → Kind → Option (List ℕ) → Kind
 resolved_kind types kind None = kind
 resolved_kind types kind (Some x) = or_else kind (kind_of types x)

@@ -73,7 +73,7 @@ impl<'t> Reader<'t> {
         Ok((found, self.after(Fixed::Close, next)?))
     }
 
-    /// The same names without their places.
+    /// The names of a tuple on the left of an equation, without their places.
     fn tuple_left(&self, at: usize) -> Result<(Row<Name>, usize), Stop>
         ensures names { Reads self.now.tokens.now at (λ a. a) result
             (reading.tuple_names (suc (length self.now.tokens.now))) }

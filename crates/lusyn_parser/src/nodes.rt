@@ -140,9 +140,9 @@ pub fn parse_tokens(alloc: Global, tokens: &[Lexeme<'_>], end: usize) -> Result<
     ensures places { IfOk result (λ found. places_view found ≡ places_in (located tokens.now)) }
     // What is spelled so is answered, unless memory runs out. So no tokens spell two programs.
     ensures only { (tree : ProgramTree) → Spells (toks tokens.now) tree → IsAnswered result tree }
-    // The tokens before the one that is told begin a program, and no program goes on with it.
+    // The tokens before the one that is reported begin a program, and no program goes on with it.
     ensures refused { IfErr result (IsRefused (located tokens.now) end) }
-    // Where that is so at a place, it is told, unless memory runs out.
+    // Where that is so at a place, it is reported, unless memory runs out.
     ensures refuses { (byte : ℕ) → IsWrongFrom (located tokens.now) end byte
         → IsRefusedAt result byte }
 {

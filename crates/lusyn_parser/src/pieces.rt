@@ -226,7 +226,7 @@ fn pattern_shared(pattern: &Pattern) -> Result<Pattern, Stop>
     }
 }
 
-/// The same clock once more, with the same names in memory.
+/// A copy of the clock, with the same names in memory.
 pub(crate) fn shared(clock: &Option<Condition>) -> Result<Option<Condition>, Stop>
     ensures ok { IfOk result (λ copy. copy ≡ clock.now) }
     ensures err { IfErr result (λ e. e ≡ Stop.OutOfMemory) }

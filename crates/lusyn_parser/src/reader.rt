@@ -254,7 +254,7 @@ impl<'t> Reader<'t> {
         Ok((found, self.after(Fixed::Close, next)?))
     }
 
-    /// After `current`.
+    /// The expression `current x`, from behind its first word on.
     fn current(&self, at: usize) -> Result<(Expr, usize), Stop>
         ensures within { IfOk result (λ x. at ≤ x.1) }
         ensures current { Reads self.now.tokens.now at view result reading.current }

@@ -376,7 +376,7 @@ shown-apart : {A W : Type 0} (g : Fixed) (part : A → Pieces → Pieces) (of : 
 shown-apart g part of view one [] ps = refl
 shown-apart g part of view one (x ∷ xs) ps = one x (each (behind g part) xs ps) ∙ ap (of (view x)) (shown-each (behind g part) (led g of) view (shown-behind g part of view one) xs ps)
 
--- a clock is told by names alone
+-- a clock is given by names alone
 pattern-bare : (p : Pattern) (x : List ℕ) (ts : List Tok) → grammar.pattern_tokens p x ts ≡ grammar.pattern_tokens (bare_pattern p) x ts
 pattern-bare (patterns.Truth b) x ts = refl
 pattern-bare (patterns.Label l) x ts = refl

@@ -267,7 +267,7 @@ found names word k e =
           both_ways (test (get_or names j [])) (fails_before_first test names j [] (omega (arith, l, c.1))) ((bytes_eq-Decides (get_or names j []) word).1 (here ∙ is)),
     )
 
--- a name that a field tells is found again
+-- a name that a field spells is found again
 found_again : (names : List (List ℕ)) (k : ℕ) (told : IsTold names k) → position (λ name. bytes_eq name told.name) names ≡ Some k
 found_again names k told =
     let test : List ℕ → Bool = λ name. bytes_eq name told.name in

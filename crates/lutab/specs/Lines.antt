@@ -1,4 +1,4 @@
--- The line that tells a refusal of a table.
+-- The line that reports a refusal of a table.
 use Rattle.std.specs.Prelude.{ℕ, List, ◌++◌, codes}
 use Rattle.std.specs.Fmt.{decimal}
 use Rattle.lutab.specs.declared.error.TabError.{TabError}

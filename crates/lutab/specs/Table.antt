@@ -1,4 +1,4 @@
--- The text of a table of inputs, and what is told of a text that is none.
+-- The text of a table of inputs, and what is reported of a text that is none.
 use Rattle.std.specs.Prelude.{◌≡◌, ◌⊎◌, ℕ, zero, suc, ◌+◌, ◌<◌, List, [], ◌∷◌, ◌++◌, length, map, All, Bool, true, false, not, ◌||◌, nat_lt, nat_eq, count_by, position, take, Result, Err, slice_index_or}
 use Rattle.std.specs.List.{flat_map}
 use Rattle.std.specs.Option.{option_map_or}
@@ -42,14 +42,14 @@ sorts_of types inputs = sorts_in types (kinds_of inputs)
 abbrev pub table_text : List Sort → Table → List ℕ
 table_text sorts table = line_text (map (λ c. c.name) table.columns) ++ flat_map (row_text sorts) (rows_of table.columns table.instants)
 
--- each value of these columns is one that a text tells
+-- each value of these columns is one that a text spells
 abbrev pub AreWords : List Sort → List Column → Type 0
 AreWords [] columns = Unit {0}
 AreWords (s ∷ sorts) [] = Unit {0}
 AreWords (s ∷ sorts) (c ∷ columns) = All (IsWord s.names) c.values × AreWords sorts columns
 
 -- The text is the spelling of this table of these inputs in a program with these enumerations: numbers have 64 bits, and names are
--- told by what is spelled.
+-- found by what is spelled.
 pub record IsTextOf (types : List Enum) (inputs : List Variable) (table : Table) (text : List ℕ) : Type 0 where
   pub columns : AreColumnsOf inputs table.columns
   pub is_table : IsTable table

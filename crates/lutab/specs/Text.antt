@@ -52,7 +52,7 @@ row_text sorts row = line_text (fields_text sorts row)
 abbrev pub is_end : ℕ → Bool
 is_end byte = nat_eq byte 44 || nat_eq byte 10
 
--- A name that a field tells: it has neither a comma nor a line feed, and none before it is spelled so. All names of a program that was
+-- A name that a field spells: it has neither a comma nor a line feed, and none before it is spelled so. All names of a program that was
 -- read are such.
 pub record IsTold (names : List (List ℕ)) (k : ℕ) : Type 0 where
   pub name : List ℕ
@@ -60,7 +60,7 @@ pub record IsTold (names : List (List ℕ)) (k : ℕ) : Type 0 where
   pub plain : All (λ b. is_end b ≡ false) name
   pub first : (j : ℕ) (other : List ℕ) → j < k → slice_get names j ≡ Some other → other ≢ name
 
--- a value that a text tells: a number has 64 bits, with a sign
+-- a value that a text spells: a number has 64 bits, with a sign
 abbrev pub IsWord : List (List ℕ) → Datum → Type 0
 IsWord names (Int z) = FitsSigned w64 z
 IsWord names (Truth b) = Unit {0}

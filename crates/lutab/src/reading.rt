@@ -145,10 +145,10 @@ pub fn read_inputs(alloc: Global, flat: &Flat, text: &str) -> Result<Inputs, Tab
     // Each text that spells a table and isn't too long is read, and spells no other.
     ensures only { (table : Table) → IsTextOf flat.now.types (inputs_of flat.now.variables) table
         text.now → is_too_long text.now ≡ false → Answers result (Ok table) }
-    // What is told is true of the text, and nothing before it in order is.
+    // What is reported is true of the text, and nothing before it in order is.
     ensures refused { IfErr result (λ e. e ≢ OutOfMemory → IsRefused flat.now.types
         (inputs_of flat.now.variables) text.now e) }
-    // What is true of the text, and nothing before it in order, is told.
+    // What is true of the text, and nothing before it in order, is reported.
     ensures refuses { (e : Refusal) → IsRefused flat.now.types (inputs_of flat.now.variables)
         text.now e → Answers result (Err e) }
     ensures fits { IfOk result (λ table. Fits flat.now table) }

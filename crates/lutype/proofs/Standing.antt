@@ -47,7 +47,7 @@ first_of n place d found b at is same =
     let law = stands_first names d.name place there in
     (λ h. law.0 (sym is ∙ same.0 h), λ h. same.1 (is ∙ law.1 h))
 
--- a variable that stands first, where that tells whether a name of an enumeration is spelled so
+-- a variable that stands first, where that says whether a name of an enumeration is spelled so
 pub variable_is_new : (p : Program) (n : Node) (place : ℕ) (d : Declaration) (found : Option ℕ) (b label : Bool) → slice_get (declared_in n) place ≡ Some d
     → found ≡ first_place (names_of (declarations_of (node_view n))) d.name → (IsTrue b ↔ (found ≡ Some place)) → (IsTrue label ↔ Contains (labels_of (program_view p).types) d.name)
     → b ≡ true → IsTrue (not label) ↔ IsNewVariable (program_view p) (node_view n) place (declaration_view d)

@@ -1,4 +1,4 @@
--- What the check of names and types tells first.
+-- What the check of names and types reports first.
 use Rattle.std.specs.Prelude.{◌≡◌, ◌⊎◌, ℕ, List, Some, slice_get}
 use Rattle.lutree.specs.declared.program.Node.{Node}
 use Rattle.lutree.specs.declared.program.Program.{Program}
@@ -11,7 +11,7 @@ use Rattle.lustat_rules.specs.Least.{IsLeastFault}
 use Rattle.lutype.specs.Asked.{is_asked}
 use Rattle.lutype.specs.CallGraph.{NoneRecursiveBefore}
 
--- the first node of the text that reaches itself by calls is told at its name
+-- the first node of the text that reaches itself by calls is reported at its name
 pub record IsRecursionFault (p : Program) (e : StatError) : Type 0 where
   pub place : ℕ
   pub node : Node

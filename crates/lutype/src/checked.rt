@@ -54,7 +54,7 @@ fn order_of_names(alloc: Global, catalog: &Catalog, main: &str) -> Result<Vec<us
 ///
 /// # Errors
 ///
-/// An error other than the want of memory tells a rule that is broken: that of the least byte, at equal bytes that of the
+/// An error other than out of memory reports a rule that is broken: that of the least byte, at equal bytes that of the
 /// least number. Of several nodes that reach themselves only the first in order of text is thought of, at its name.
 pub fn names<'a>(alloc: Global, program: &'a Program, main: &'a str) -> Result<Typed<'a>, StatError>
     ensures program { IfOk result (λ typed. typed.program ≡ program.now) }

@@ -7,7 +7,7 @@ ghost use Rattle.lustat_rules.specs.Naming.{IsEnumeration, LabelKnown, PatternKn
 use lustat_rules::Catalog;
 use lutree::{Declaration, DeclaredName, Kind, Label, Pattern, TypeDeclaration};
 
-/// The type at the place that a kind tells, if it has as many names as that tells.
+/// The type at the place that a kind gives, if it has as many names as that gives.
 fn enumeration<'a>(catalog: &Catalog<'a>, kind: Kind) -> Option<&'a TypeDeclaration>
     ensures some { IfSome result
         (λ t. IsEnumeration (program_view catalog.now) kind (type_view t.now)) }

@@ -194,7 +194,7 @@ pub fn equation_fault(
     )
 }
 
-/// Of a fault, if there is one, and that of recursion the one that is told.
+/// Of a fault, if there is one, and that of recursion the one that is reported.
 pub fn with_recursion(found: Option<StatError>, recursion: StatError) -> StatError
     ensures { Some result ≡ lesser_of found (Some recursion) }
 {

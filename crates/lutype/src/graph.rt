@@ -48,7 +48,7 @@ fn push_calls(catalog: &Catalog, e: &Expr, row: &mut Vec<usize>) -> Result<(), A
     }
 }
 
-// The same of all arguments of a call or branches of a merge.
+// Puts the nodes that all arguments of a call or branches of a merge call behind others.
 #[cycle(calls)]
 fn push_all_calls(
     catalog: &Catalog,

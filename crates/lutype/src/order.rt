@@ -11,7 +11,7 @@ use lubase::{Order, order_of};
 use lustat_rules::Catalog;
 use std::alloc::{AllocError, Global};
 
-/// What [`call_order`] finds. Nodes are told by their places in order of text, from 0.
+/// What [`call_order`] finds. Nodes are given by their places in order of text, from 0.
 #[derive(Drop)]
 pub enum CallOrder {
     /// All nodes, each once, and each behind those that it calls.
@@ -23,7 +23,7 @@ pub enum CallOrder {
 /// An order of a program's nodes in which calls go backward, or the first node in order of text that reaches itself by calls.
 ///
 /// A call means the first node of its name; where there is none, it is passed over. There is an order exactly where no name reaches itself.
-/// A node that merely calls a recursive one isn't told.
+/// A node that merely calls a recursive one isn't reported.
 /// The expected time grows with the length of the program.
 ///
 /// # Errors

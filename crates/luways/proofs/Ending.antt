@@ -68,7 +68,7 @@ range_has n v lt =
     let z : 0 + v ≡ v = omega arith in
     (v, omega (arith, length-range_with_len 0 n, lt), get_or-range_with_len 0 n v v lt ∙ z)
 
--- what marks tell exactly is listed in order
+-- what marks name exactly is listed in order
 all_marked : (P : ℕ → Type 0) (marks : List Bool) (from count : ℕ) → ((v : ℕ) → v < count → slice_index_or marks (from + v) false ≡ true → P v) → ((v : ℕ) → P v → (v < count) × (slice_index_or marks (from + v) false ≡ true)) → AreAll P (marked marks from count)
 all_marked P marks from count there back =
     let p : ℕ → Bool = λ x. slice_index_or marks (from + x) false in

@@ -1,4 +1,4 @@
--- The flows that are sent and may be nil, and numbers of which marks tell.
+-- The flows that are sent and may be nil, and numbers that marks name.
 use Rattle.std.specs.Prelude.{◌≡◌, ◌<◌, ◌+◌, ℕ, Bool, true, false, List, length, Some, slice_get, slice_index_or}
 use Rattle.std.specs.List.{filter, range_with_len}
 use Rattle.luflow.specs.Program.{flows_of}
@@ -7,7 +7,7 @@ use Rattle.luworld.specs.Needs.{Distribution}
 use Rattle.lublock_plan.specs.Classes.{class_in}
 use Rattle.luways.specs.Ways.{IsSent}
 
--- the numbers below a count of which the marks from a place on tell
+-- the numbers below a count of which the marks from a place on say
 abbrev pub marked : List Bool → ℕ → ℕ → List ℕ
 marked marks from count = filter (λ v. slice_index_or marks (from + v) false) (range_with_len 0 count)
 

@@ -1,4 +1,4 @@
-//! The graph that tells parted cycles.
+//! The graph that shows parted cycles.
 
 ghost use Rattle.std.specs.Prelude.{◌≡◌, ◌<◌, ◌≤◌, ◌+◌, ◌++◌, All, IfOk, OnOk, map};
 ghost use Rattle.lulimits.specs.Limits.{most_flows};

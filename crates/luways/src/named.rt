@@ -7,7 +7,7 @@ ghost use Rattle.luways.specs.Ways.{named};
 use luflow::{Clock, Flat, Flow, Form};
 use std::alloc::{AllocError, Global};
 
-/// An operand more.
+/// Adds an operand.
 fn put_one(named: &mut Vec<usize>, a: usize) -> Result<(), AllocError>
     ensures { OnOk result (named.new.items ≡ named.old.items ++ places (Form.Pre a)) }
 {
@@ -15,7 +15,7 @@ fn put_one(named: &mut Vec<usize>, a: usize) -> Result<(), AllocError>
     Ok(())
 }
 
-/// Two operands more.
+/// Adds two operands.
 fn put_two(named: &mut Vec<usize>, a: usize, b: usize) -> Result<(), AllocError>
     ensures { OnOk result (named.new.items ≡ named.old.items ++ places (Form.Arrow a b)) }
 {
@@ -24,7 +24,7 @@ fn put_two(named: &mut Vec<usize>, a: usize, b: usize) -> Result<(), AllocError>
     Ok(())
 }
 
-/// Three operands more.
+/// Adds three operands.
 fn put_three(named: &mut Vec<usize>, c: usize, a: usize, b: usize) -> Result<(), AllocError>
     ensures { OnOk result (named.new.items ≡ named.old.items ++ places (Form.If c a b)) }
 {
@@ -34,7 +34,7 @@ fn put_three(named: &mut Vec<usize>, c: usize, a: usize, b: usize) -> Result<(),
     Ok(())
 }
 
-/// The operands of a form.
+/// Adds the operands of a form.
 fn put_operands(named: &mut Vec<usize>, form: &Form) -> Result<(), AllocError>
     ensures { OnOk result (named.new.items ≡ named.old.items ++ places form.now) }
 {
@@ -56,7 +56,7 @@ fn put_operands(named: &mut Vec<usize>, form: &Form) -> Result<(), AllocError>
     }
 }
 
-/// The variable of a clock.
+/// Adds the variable of a clock.
 fn put_clock(named: &mut Vec<usize>, clock: Clock) -> Result<(), AllocError>
     ensures { OnOk result (named.new.items ≡ named.old.items ++ clock_reads clock) }
 {

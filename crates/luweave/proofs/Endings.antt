@@ -102,7 +102,7 @@ module _ (job : Run) (sites : List SiteAt) (lanes : List Lane) (capacity : ℕ) 
       slice_in : (s : ℕ) (v : SiteAt) → slice_get sites s ≡ Some v → s < sites_of job.plan
       slice_in s v at = let l = slice_get_within sites s v at in omega (arith, l, sites_len)
 
-  -- what one of the sites tells is what the output's home tells
+  -- what one of the sites reports is what the output's home reports
   collected_at : (k s i : ℕ) (xs : List Status) (v : SiteAt) → slice_get sites s ≡ Some v → IsOutput v.job v.site v.done k xs → slice_get (outputs_of job.plan) k ≡ Some i → home job.plan i ≡ s → IsBegun job i xs × AreAllPassed job (home job.plan i) (done (dones_of sites) (home job.plan i)) i xs × (AllEnded job (dones_of sites) → IsWhole job i xs)
   collected_at k s i xs v at told out at_home =
       let e = w.sites_are s v at in
@@ -130,7 +130,7 @@ module _ (job : Run) (sites : List SiteAt) (lanes : List Lane) (capacity : ℕ) 
       let v = some_at sites h lh in
       collected_at k h i xs v.0 v.1 (subst (λ (ys : List Status). IsOutput v.0.job v.0.site v.0.done k ys) (sym empty) (tells h lh v.0 v.1)) out refl
 
-  -- what is no output is told nothing
+  -- of what is no output nothing is reported
   pub none_beyond : (k : ℕ) (xs : List Status) → IsToldBySome sites k xs → slice_get (outputs_of job.plan) k ≡ None → xs ≡ []
   none_beyond k xs (OneTells s ls some tells) out =
       let v = some_at sites s ls in

@@ -355,7 +355,7 @@ take_drop zero xs = refl
 take_drop (suc n) [] = refl
 take_drop (suc n) (x ∷ xs) = ap (λ ys. x ∷ ys) (take_drop n xs)
 
--- what was taken, and that with what waits behind it, are beginnings of the list
+-- what was taken, and that with what waits behind it, are prefixes of the list
 pub take_begins : (n : ℕ) (xs : List Msg) → IsBeginning (take n xs) xs
 take_begins n xs = (drop n xs, take_drop n xs)
 

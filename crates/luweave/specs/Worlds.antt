@@ -13,7 +13,7 @@ use Rattle.lusite.specs.Logs.{IsOutput}
 use Rattle.luworld.specs.Progress.{AllEnded}
 use Rattle.lusite.specs.Sites.{SiteAt}
 
--- what a lane holds after so many puts and takes: a beginning of the link's list
+-- what a lane holds after so many puts and takes: a prefix of the link's list
 pub record IsLaneAt (job : Run) (l : ℕ) (lane : Lane) (puts takes : ℕ) : Type 0 where
   pub put_is : lane.put.items ≡ take puts (link_list job (streams_of job) l)
   pub put_len : length lane.put.items ≡ puts
@@ -110,7 +110,7 @@ IsLater job dones later = (turns : List ℕ) × (run (system_of job) dones turns
 abbrev pub IsDone : SiteAt → Type 0
 IsDone v = (v.done ≡ length (script v.job (streams_of v.job) v.site)) × HasNoStop v.job v.site
 
--- what one of the sites tells of output k, or nothing where none tells anything
+-- what one of the sites reports of output k, or nothing where none reports anything
 abbrev pub TellsAt : List SiteAt → ℕ → List Status → ℕ → Type 0
 TellsAt sites k xs s = (v : SiteAt) → slice_get sites s ≡ Some v → IsOutput v.job v.site v.done k xs
 

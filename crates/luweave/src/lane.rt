@@ -35,7 +35,7 @@ impl Lane {
         &self.put[self.taken..]
     }
 
-    /// One message more waits.
+    /// Puts a message behind those that wait.
     pub fn put(&mut self, msg: Msg)
         requires { length self.old.put.items < vec_capacity self.old.put }
         ensures items { self.new.put.items ≡ self.old.put.items ++ msg ∷ [] }

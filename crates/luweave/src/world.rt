@@ -153,7 +153,7 @@ impl World {
 }
 
 impl World {
-    /// What was taken from a link: a beginning of its list, also as the source says it, and the whole list where all sites
+    /// What was taken from a link: a prefix of its list, also as the source says it, and the whole list where all sites
     /// have ended. Takes no memory.
     pub fn taken(&self, link: LinkNo) -> &[Msg]
         requires { link < length self.now.job.plan.links }
@@ -300,7 +300,7 @@ fn all_ended(sites: &Vec<Site>) -> bool
     true
 }
 
-/// The statuses of output k that one of the sites tells.
+/// The statuses of output k that one of the sites reports.
 fn outputs_in(sites: &Vec<Site>, k: usize) -> &[Status]
     ensures { IsToldBySome sites.now.items k result.now }
 {
@@ -314,7 +314,7 @@ fn outputs_in(sites: &Vec<Site>, k: usize) -> &[Status]
 }
 
 impl World {
-    /// Output k so far: a beginning of its statuses before its first broken one, also as the source says it, as many as its
+    /// Output k so far: a prefix of its statuses before its first broken one, also as the source says it, as many as its
     /// site has passed; the whole output where all sites have ended; empty where there is no output k. Takes no memory.
     pub fn outputs(&self, k: usize) -> &[Status]
         ensures collected { IsCollected self.now.job self.now.dones k result.now }

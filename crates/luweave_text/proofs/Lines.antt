@@ -40,7 +40,7 @@ pub run_append : (sys : System) (world : World) (xs ys : List ℕ) → run sys w
 run_append sys world [] ys = refl
 run_append sys world (s ∷ xs) ys = run_append sys (step sys world s) xs ys
 
--- more turns were given, and so many are told then
+-- more turns were given, and so many are reported then
 pub record HasTold (form : TraceForm) (w : Progress) (before : ℕ) (text : List ℕ) (told : ℕ) (dones text' : List ℕ) : Type 0 where
   pub has : HasMore form w before text dones text'
   pub told_is : told ≡ told_of form w before has.more
@@ -88,7 +88,7 @@ module _ (form : TraceForm) (w next : Progress) (s : ℕ) (left rest : List ℕ)
       ∙ append_assoc text (turn_text form w told s) (trace_text form (after w s) (one_more told (turn_text form w told s)) rest)
       ∙ ap (λ (ts : List ℕ). text ++ trace_text form w told ts) (sym first) ∙ e
 
--- what is told of turns, and of more turns behind them
+-- what is reported of turns, and of more turns behind them
 pub traced_on : (form : TraceForm) (w next : Progress) (turns more : List ℕ) (told : ℕ) (start text text2 : List ℕ) → next ≡ at w turns → told ≡ told_of form w 0 turns
     → text ≡ start ++ trace_text form w 0 turns → text2 ≡ text ++ trace_text form next told more → text2 ≡ start ++ trace_text form w 0 (turns ++ more)
 traced_on form w next turns more told start text text2 is em et e =

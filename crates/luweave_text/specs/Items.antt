@@ -1,4 +1,4 @@
--- What an item of a site is told as.
+-- What an item of a site is reported as.
 use Rattle.std.specs.Prelude.{ℕ, List, [], ◌++◌, codes, Option, Some, None, slice_get}
 use Rattle.std.specs.Fmt.{decimal}
 use Rattle.luflow.specs.declared.message.Msg.{Msg}

@@ -1,4 +1,4 @@
--- What the turns of a replay did, told turn by turn.
+-- What the turns of a replay did, reported turn by turn.
 use Rattle.std.specs.Prelude.{◌≡◌, ℕ, ◌+◌, Bool, true, false, List, [], ◌∷◌, ◌++◌, codes, Option, Some, None}
 use Rattle.std.specs.Fmt.{decimal}
 use Rattle.luworld.specs.declared.turn.Turn.{Turn}
@@ -13,7 +13,7 @@ use Rattle.luweave_text.specs.WorldText.{site_name}
 use Rattle.luweave_text.specs.Items.{item_text}
 use Rattle.luweave_text.specs.Charted.{chart_line, heading}
 
--- a line: how many turns are told before, the site, and what it does next
+-- a line: how many turns are reported before, the site, and what it does next
 abbrev pub item_line : Progress → ℕ → ℕ → Item → List ℕ
 item_line w n s item = decimal n ++ (codes " " ++ (site_name w.job.plan.names s ++ (codes " " ++ (item_text w s item ++ 10 ∷ []))))
 
@@ -23,7 +23,7 @@ next_line form w n s None = []
 next_line Lines w n s (Some item) = item_line w n s item
 next_line Chart w n s (Some item) = chart_line w n s item
 
--- a turn that moves is told, and the others aren't
+-- a turn that moves is reported, and the others aren't
 abbrev pub line_if : Turn → List ℕ → List ℕ
 line_if Moved line = line
 line_if Blocked line = []
@@ -35,7 +35,7 @@ turn_of w s = turn (system_of w.job) w.dones s
 abbrev pub turn_text : TraceForm → Progress → ℕ → ℕ → List ℕ
 turn_text form w n s = line_if (turn_of w s) (next_line form w n s (next_item (system_of w.job) w.dones s))
 
--- how many turns are told then
+-- how many turns are reported then
 abbrev pub one_more : ℕ → List ℕ → ℕ
 one_more n [] = n
 one_more n (b ∷ text) = n + 1
@@ -44,17 +44,17 @@ one_more n (b ∷ text) = n + 1
 abbrev pub after : Progress → ℕ → Progress
 after w s = record w { dones = step (system_of w.job) w.dones s }
 
--- what is told of turns in order, where so many are told before
+-- what is reported of turns in order, where so many are reported before
 unfoldable pub trace_text : TraceForm → Progress → ℕ → List ℕ → List ℕ
 trace_text form w n [] = []
 trace_text form w n (s ∷ turns) = turn_text form w n s ++ trace_text form (after w s) (one_more n (turn_text form w n s)) turns
 
--- how many turns are told then
+-- how many turns are reported then
 unfoldable pub told_of : TraceForm → Progress → ℕ → List ℕ → ℕ
 told_of form w n [] = n
 told_of form w n (s ∷ turns) = told_of form (after w s) (one_more n (turn_text form w n s)) turns
 
--- more turns were given, each told where it moved
+-- more turns were given, each reported where it moved
 pub record HasMore (form : TraceForm) (w : Progress) (told : ℕ) (text dones text' : List ℕ) : Type 0 where
   pub more : List ℕ
   pub dones_are : dones ≡ run (system_of w.job) w.dones more
@@ -69,7 +69,7 @@ abbrev pub opening : TraceForm → Distribution → List ℕ
 opening Lines plan = []
 opening Chart plan = heading plan.names
 
--- The world after turns, and, where it is to be finished, after more until none moves, and no others; and what is told of all these turns.
+-- The world after turns, and, where it is to be finished, after more until none moves, and no others; and what is reported of all these turns.
 pub record IsTraced (job : Run) (turns : List ℕ) (finish : Bool) (form : TraceForm) (dones : List ℕ) (text : List ℕ) : Type 0 where
   pub more : List ℕ
   pub dones_are : dones ≡ reached (system_of job) (turns ++ more)

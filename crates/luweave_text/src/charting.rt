@@ -101,7 +101,7 @@ fn filler(site: u8, target: u8, column: usize) -> &'static str
     }
 }
 
-/// The cell of a column.
+/// Adds the cell of a column.
 fn put_cell(
     text: &mut String,
     sites: usize,
@@ -124,7 +124,7 @@ fn put_cell(
     Ok(())
 }
 
-/// The cells of a row.
+/// Adds the cells of a row.
 fn put_cells(
     text: &mut String,
     sites: usize,
@@ -160,7 +160,7 @@ fn put_row(
     text.push_str("\n")
 }
 
-/// The row of what a site does next.
+/// Adds the row of what a site does next.
 fn put_item_row(
     alloc: Global,
     text: &mut String,
@@ -189,7 +189,7 @@ fn put_item_row(
     )
 }
 
-/// The same as far as the chart goes: behind its last row a line says that there are more.
+/// Adds the row of what a site does next, as far as the chart goes: behind its last row a line says that there are more.
 pub(crate) fn put_chart_line(
     alloc: Global,
     text: &mut String,

@@ -1,6 +1,6 @@
-//! How the turns of a replay are told.
+//! How the turns of a replay are reported.
 
-/// How the turns of a replay are told.
+/// How the turns of a replay are reported.
 #[derive(Clone, Copy)]
 pub enum TraceForm {
     /// A line for each turn that moves.

@@ -1,4 +1,4 @@
-//! What is told of a world as a text.
+//! What is reported of a world as a text.
 //!
 //! - [`text_of_world`]: its links, sites and outputs as they stand.
 //! - [`trace`]: the world after turns, and what each of them did, line by line or as a chart ([`TraceForm`]).

@@ -35,7 +35,7 @@ pub(crate) fn put_message(text: &mut String, names: &[Name], message: Msg) -> Re
     }
 }
 
-/// A space and a status.
+/// Adds a space and a status.
 fn put_status(text: &mut String, names: &[Name], status: Status) -> Result<(), AllocError>
     ensures { Adds result text.old text.new (status_text names.now status) }
 {
@@ -72,7 +72,7 @@ fn put_link(
     put_carried(text, flow, names, from, to, taken, queued)
 }
 
-/// The same of a flow of this name, whose type has these names, between sites of these names.
+/// Adds the line of a link: of a flow of this name, whose type has these names, between sites of these names.
 fn put_carried(
     text: &mut String,
     flow: &str,
@@ -90,7 +90,7 @@ fn put_carried(
     writeln!(text, " queued {queued}")
 }
 
-/// What each message says.
+/// Adds what each message says.
 fn put_messages(text: &mut String, names: &[Name], messages: &[Msg]) -> Result<(), AllocError>
     ensures { Adds result text.old text.new (messages_text names.now messages.now) }
 {
@@ -100,7 +100,7 @@ fn put_messages(text: &mut String, names: &[Name], messages: &[Msg]) -> Result<(
     Ok(())
 }
 
-/// The lines of the links.
+/// Adds the lines of the links.
 fn put_links(text: &mut String, plan: &Plan, world: &World) -> Result<(), AllocError>
     requires { world.now.job.plan ≡ plan.now }
     ensures { Adds result text.old text.new (links_text world.now (length plan.now.links)) }
@@ -112,7 +112,7 @@ fn put_links(text: &mut String, plan: &Plan, world: &World) -> Result<(), AllocE
     Ok(())
 }
 
-/// How a site stands.
+/// Adds how a site stands.
 fn put_standing(text: &mut String, flat: &Flat, standing: Standing) -> Result<(), AllocError>
     ensures { Adds result text.old text.new (standing_text flat.now standing) }
 {
@@ -142,7 +142,7 @@ fn put_site(text: &mut String, plan: &Plan, site: u8, standing: Standing) -> Res
     text.push('\n')
 }
 
-/// The lines of the sites.
+/// Adds the lines of the sites.
 fn put_sites(text: &mut String, plan: &Plan, world: &World) -> Result<(), AllocError>
     requires plan_is { world.now.job.plan ≡ plan.now }
     requires all_sites { length world.now.dones ≡ sites_of plan.now }

@@ -1,4 +1,4 @@
-//! What the turns of a replay did, told line by line.
+//! What the turns of a replay did, reported line by line.
 
 ghost use Rattle.std.specs.Prelude.{◌≡◌, ◌++◌, ◌≤◌, ◌+◌, ℕ, Some, true, IfOk, is_some, length, slice_get, string_bytes};
 ghost use Rattle.std.specs.Option.{ForSome};
@@ -121,7 +121,7 @@ fn put_line(
     text.push('\n')
 }
 
-/// What a turn of the site is told as, if it moves; nothing where the site does nothing more.
+/// What a turn of the site is reported as, if it moves; nothing where the site does nothing more.
 fn next_line(
     alloc: Global,
     plan: &Plan,
@@ -147,7 +147,7 @@ fn next_line(
     Ok(line)
 }
 
-/// A turn, told where it moves. Answers how many are told then.
+/// A turn, reported where it moves. Answers how many are reported then.
 fn traced_turn(
     alloc: Global,
     text: &mut String,
@@ -180,7 +180,7 @@ fn traced_turn(
     }
 }
 
-/// Turns in order, each told where it moves. Answers how many are told.
+/// Turns in order, each reported where it moves. Answers how many are reported.
 fn traced_turns(
     alloc: Global,
     text: &mut String,
@@ -204,7 +204,7 @@ fn traced_turns(
     Ok(told)
 }
 
-/// Gives the turn of the least site that can move until none can, each told.
+/// Gives the turn of the least site that can move until none can, each reported.
 fn traced_finish(
     alloc: Global,
     text: &mut String,
@@ -243,7 +243,8 @@ fn opening(alloc: Global, plan: &Plan, form: TraceForm) -> Result<String, AllocE
 
 /// The world of new sites after the turns of a schedule, in order; and, where it is to be finished, after more, each of the
 /// least site that can move, until none can. With it, for each turn that moved, how many had moved before, the site,
-/// and what it did: a line each, or a row each of a chart of at most 1,000 rows, which has a column for each site. The sites are gone where memory ran out.
+/// and what it did: a line each, or a row each of a chart of at most 1,000 rows, which has a column for each site. The sites are gone where memory
+/// ran out.
 pub fn trace(
     alloc: Global,
     plan: &Plan,

@@ -36,7 +36,7 @@ lt-false a b le = go (nat_lt a b) refl
 pub one_more : {X Y : Type 0} (f : X → List Y) (xs : List X) (x : X) → flat_map f (xs ++ x ∷ []) ≡ flat_map f xs ++ f x
 one_more f xs x = flat_map-append f xs (x ∷ []) ∙ ap (λ ys. flat_map f xs ++ ys) (append-nil (f x))
 
--- the beginning of a list made of pieces
+-- a prefix of a list made of pieces
 pub take_pieces : {X Y : Type 0} (f : X → List Y) (xs : List X) (i k : ℕ) (x : X) → slice_get xs i ≡ Some x → k ≤ length (f x) → take (length (flat_map f (take i xs)) + k) (flat_map f xs) ≡ flat_map f (take i xs) ++ take k (f x)
 take_pieces f [] i k x e le = cc
 take_pieces f (y ∷ xs) zero k x e le =

@@ -1,4 +1,4 @@
--- How far a run has come: what its links have carried, what waits in them, and what was told of its outputs.
+-- How far a run has come: what its links have carried, what waits in them, and what was reported of its outputs.
 use Rattle.std.specs.Prelude.{◌≡◌, ◌↔◌, ℕ, ◌<◌, ◌≤◌, cond, List, ◌++◌, length, map, take, drop, Some, slice_get, slice_index}
 use Rattle.luflow.specs.declared.data.Status.{Status}
 use Rattle.luflow.specs.declared.message.Msg.{Msg}
@@ -16,7 +16,7 @@ pub record Progress : Type 0 where
   pub job : Run
   pub dones : List ℕ
 
--- a beginning of a list
+-- a prefix of a list
 abbrev pub IsBeginning : {A : Type 0} → List A → List A → Type 0
 IsBeginning {A} xs ys = (rest : List A) × (xs ++ rest ≡ ys)
 
@@ -38,7 +38,7 @@ AllEnded job dones = (s : ℕ) → s < sites_of job.plan → HasEnded (outline j
 abbrev pub IsFirst : Run → ℕ → List Status → ℕ → Type 0
 IsFirst job i xs m = map Known xs ≡ marks (streams_of job i) m
 
--- a beginning of flow i's statuses before its first broken one; all of them
+-- a prefix of flow i's statuses before its first broken one; all of them
 abbrev pub IsBegun : Run → ℕ → List Status → Type 0
 IsBegun job i xs = (m : ℕ) × (m ≤ job.inputs.instants) × IsFirst job i xs m
 
@@ -59,7 +59,7 @@ pub record IsPassed (job : Run) (s n p t : ℕ) : Type 0 where
 abbrev pub AreAllPassed : Run → ℕ → ℕ → ℕ → List Status → Type 0
 AreAllPassed job s n i xs = (p t : ℕ) → slice_get job.plan.flat.order p ≡ Some i → t < job.inputs.instants → (t < length xs) ↔ IsPassed job s n p t
 
--- output k: a beginning of its statuses before its first broken one, as many as its home has passed, and all of them where
+-- output k: a prefix of its statuses before its first broken one, as many as its home has passed, and all of them where
 -- all sites have ended
 abbrev pub IsCollected : Run → List ℕ → ℕ → List Status → Type 0
 IsCollected job dones k xs = (i : ℕ) → slice_get (outputs_of job.plan) k ≡ Some i → IsBegun job i xs × AreAllPassed job (home job.plan i) (done dones (home job.plan i)) i xs × (AllEnded job dones → IsWhole job i xs)

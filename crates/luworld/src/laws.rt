@@ -12,7 +12,7 @@ pub fn counts_law()
     ensures { CountsLaw }
 {}
 
-/// What a turn changes.
+/// A turn changes what one site has done, by one item at most.
 pub fn turn_law()
     ensures { TurnLaw }
 {}

@@ -6,7 +6,7 @@
 //!
 //! The definitions stand in `specs/`: `World` (items, systems, turns), `Reach` (reachable items), `Outline` (a plan in the
 //! abstract, its scripts), `Laws`, `OutlineLaws`; and `Needs`, `Runs` (a plan of a flat program, its links, one run's scripts
-//! and lists), `Progress` (what was taken, waits and was told), `RunLaws`. `Vectors` and `RunVectors` have worked examples.
+//! and lists), `Progress` (what was taken, waits and was reported), `RunLaws`. `Vectors` and `RunVectors` have worked examples.
 #![tactic(auto)]
 
 pub mod laws;

@@ -14,7 +14,7 @@ sender room list put = record { role = Producer; room = room; list = list; done 
 abbrev pub receiver : ℕ → List Msg → List Msg → Progress
 receiver room list taken = record { role = Consumer; room = room; list = list; done = taken }
 
--- what was put is what was taken and then what the channel holds; it is a beginning of the list
+-- what was put is what was taken and then what the channel holds; it is a prefix of the list
 pub record Running (items : List Msg) (views : List Progress) : Type 0 where
   pub room : ℕ
   pub list : List Msg

@@ -1,7 +1,8 @@
 //! The receiver's end.
 
 ghost use Rattle.std.specs.Prelude.{◌≡◌, IfOk, IfErr, IfSome};
-ghost use Rattle.lulink.specs.Lists.{list_of, IsBeginning};
+ghost use Rattle.luworld.specs.Progress.{IsBeginning};
+ghost use Rattle.lulink.specs.Lists.{list_of};
 ghost use Rattle.lulink.specs.Views.{IsNextToTake, IsWholeAt, HasTaken, HasTakenNothing, TakenOrNot};
 
 use crate::doors::Doors;
@@ -83,7 +84,7 @@ impl Rx {
         unreachable!()
     }
 
-    /// What was taken is a beginning of the link's list.
+    /// What was taken is a prefix of the link's list.
     pub fn taken_begins_law(&self)
         ensures { IsBeginning self.now.taken (list_of self.now.job self.now.link) }
     {

@@ -1,4 +1,4 @@
-//! The rule of a link's channel: what was put is what was taken and then what the channel holds, and it is a beginning of the link's list.
+//! The rule of a link's channel: what was put is what was taken and then what the channel holds, and it is a prefix of the link's list.
 
 ghost use Rattle.std.specs.Prelude.{◌≡◌, []};
 ghost use Rattle.test_channel_link.specs.Links.{fresh, sender, receiver};

@@ -1,7 +1,8 @@
 //! The sender's end.
 
 ghost use Rattle.std.specs.Prelude.{◌≡◌, IfOk, IfErr};
-ghost use Rattle.lulink.specs.Lists.{list_of, IsBeginning};
+ghost use Rattle.luworld.specs.Progress.{IsBeginning};
+ghost use Rattle.lulink.specs.Lists.{list_of};
 ghost use Rattle.lulink.specs.Views.{IsNextToPut, HasPut, HasPutNothing, PutOrBack};
 
 use crate::doors::Doors;
@@ -66,7 +67,7 @@ impl Tx {
 
     /// Puts the next message of the link's list. Waits while the link is full and the receiver is there; a link with room
     /// takes the message also where the receiver has left. `Gone` hands the message back: nothing was put. The link was full at
-    /// one look, and the receiver had left at the next; what it took between the two has made room, which an `offer` tells.
+    /// one look, and the receiver had left at the next; what it took between the two has made room, which an `offer` reports.
     /// Takes no memory.
     pub fn put<R: Wait>(&mut self, rt: &R, msg: Msg) -> Result<(), PutError>
         requires { IsNextToPut self.old msg }
@@ -88,7 +89,7 @@ impl Tx {
         unreachable!()
     }
 
-    /// What was put is a beginning of the link's list.
+    /// What was put is a prefix of the link's list.
     pub fn put_begins_law(&self)
         ensures { IsBeginning self.now.put (list_of self.now.job self.now.link) }
     {

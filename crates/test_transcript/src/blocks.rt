@@ -26,7 +26,7 @@ use std::{io, thread};
 /// How often a loop looks before it counts as a failure.
 const LOOKS: u64 = 10_000_000;
 
-/// A gate at which each of two sites waits, where they are to meet, the first time that it is told of, until the other one is told of too.
+/// A gate at which each of two sites waits, where they are to meet, the first time that it is named, until the other one is named too.
 #[derive(Drop)]
 struct Meeting {
     meet: bool,
@@ -35,7 +35,7 @@ struct Meeting {
     failed: AtomicU64,
 }
 
-/// Waits until a site has been told of. False where it isn't.
+/// Waits until a site has been named. False where it isn't.
 fn is_told(count: &AtomicU64) -> bool {
     for _ in 0..LOOKS {
         if count.load(Ordering::SeqCst) > 0 {
@@ -202,7 +202,7 @@ fn receiving<'l>(
     }
 }
 
-/// Goes on until the station is over; what it tells.
+/// Goes on until the station is over; what it reports.
 fn gone_on<R: Wait>(rt: &R, mut station: RowStation) -> Option<RowReport> {
     for _ in rt.forever() {
         match station.go() {
@@ -255,7 +255,7 @@ fn fed(feeders: (Feeder<'_>, Feeder<'_>)) -> bool {
     false
 }
 
-/// Writes what a station tells: the outputs, by the numbers of their variables.
+/// Writes what a station reports: the outputs, by the numbers of their variables.
 fn put_told(rt: &HostRuntime, report: Option<RowReport>) -> io::Result<()> {
     let Some(report) = report else {
         return println!(rt; "= cut");
@@ -267,7 +267,7 @@ fn put_told(rt: &HostRuntime, report: Option<RowReport>) -> io::Result<()> {
     Ok(())
 }
 
-/// Runs the station of the first site, and writes what it tells and what came from its two links.
+/// Runs the station of the first site, and writes what it reports and what came from its two links.
 fn put_sender<R: Threads + Wait + Sync>(threads: &R, rt: &HostRuntime, job: &Job) -> io::Result<()>
     requires { 1 < sites_of job.now.plan }
 {
@@ -290,7 +290,7 @@ fn put_sender<R: Threads + Wait + Sync>(threads: &R, rt: &HostRuntime, job: &Job
     put_taken(rt, &second, second.len())
 }
 
-/// Runs the station of the second site, fed with the lists of its two links, and writes what it tells.
+/// Runs the station of the second site, fed with the lists of its two links, and writes what it reports.
 fn put_receiver<R: Threads + Wait + Sync>(
     threads: &R,
     rt: &HostRuntime,

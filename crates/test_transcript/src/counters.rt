@@ -235,7 +235,7 @@ fn is_handed(alloc: Global, job: &Job) -> Result<bool, AllocError> {
     Ok(needs && are_given(&own, &other))
 }
 
-/// The same, of a copy at another site.
+/// Whether two sites are handed their inputs, of which the second computes a copy.
 pub fn is_copy_handed(alloc: Global) -> bool {
     let program = "node main(x: int) returns (y: int); let y = x; tel";
     let place = "sites = [\"A\", \"B\"]\n[place]\nx = \"A\"\ny = \"B\"\n";

@@ -45,7 +45,7 @@ pub struct Watch {
 }
 
 impl Watch {
-    /// A gate of the rule that a word tells: `open`, `meet`, `hold`, or a seed.
+    /// A gate of the rule that a word names: `open`, `meet`, `hold`, or a seed.
     pub fn new(word: &str) -> Watch {
         let rule = match word {
             "open" => Rule::Open,

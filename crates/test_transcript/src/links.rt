@@ -28,7 +28,7 @@ use std::thread::Threads;
 use std::time::Instant;
 use test_reference::list_of_link;
 
-/// What is told where a list isn't passed as it is.
+/// What is reported where a list isn't passed as it is.
 const OTHERWISE: &str = "not just its list";
 
 /// Does a case with both ends of a link, whose list this is. Where it goes wrong, what was expected.

@@ -161,7 +161,7 @@ fn put_left(
     put_taken(rt, plain.second, takes_in(plain.script, counts.1, 1))
 }
 
-/// Writes what two sites leave, and what both reports tell together.
+/// Writes what two sites leave, and what both reports say together.
 fn put_all(
     rt: &HostRuntime,
     job: &Job,
@@ -173,7 +173,7 @@ fn put_all(
     put_outputs(rt, job, collect(rt.alloc(), reports))
 }
 
-/// Drives the two sites of a job up to the numbers of items that a line tells, by what the plain programs say, and writes what both leave.
+/// Drives the two sites of a job up to the numbers of items that a line names, by what the plain programs say, and writes what both leave.
 fn put_sites<R: Threads + Wait + Sync>(
     threads: &R,
     rt: &HostRuntime,
@@ -204,8 +204,8 @@ pub fn lists_of(alloc: Global, job: &Job) -> Result<(Vec<Msg>, Vec<Msg>), AllocE
     Ok((first, second))
 }
 
-/// Drives the two sites of a job up to the numbers of items that a line tells, and writes what both leave, what was taken from the
-/// first two links, and what both reports tell together.
+/// Drives the two sites of a job up to the numbers of items that a line names, and writes what both leave, what was taken from the
+/// first two links, and what both reports say together.
 pub fn put_driven<R: Threads + Wait + Sync>(
     threads: &R,
     rt: &HostRuntime,

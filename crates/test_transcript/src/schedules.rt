@@ -175,7 +175,7 @@ fn all_agree_after(
 /// Turns to begin with: none, or those of the first messages.
 const FIRST: &[&[u8]] = &[&[], &[0, 0, 0, 0, 0, 1, 1, 1, 1, 1, 2, 2, 2, 2, 2]];
 
-/// Whether that is so behind each of these beginnings.
+/// Whether all agree behind each of these prefixes of a schedule.
 fn all_agree(alloc: Global, job: &Job, plain: &Plain, scripts: &[Row<Item>]) -> Result<bool, Stop>
     requires { AreScripts job.now scripts.now }
 {
@@ -187,19 +187,19 @@ fn all_agree(alloc: Global, job: &Job, plain: &Plain, scripts: &[Row<Item>]) -> 
     Ok(true)
 }
 
-/// The same, by the scripts of a job.
+/// Whether all agree, by the scripts of a job.
 fn all_agree_by(alloc: Global, job: &Job, plain: &Plain) -> Result<bool, Stop> {
     let scripts = scripts_of(alloc, job)?;
     all_agree(alloc, job, plain, &scripts)
 }
 
-/// The same, of a job.
+/// Whether all agree, of a job.
 fn all_agree_of(alloc: Global, job: &Job) -> Result<bool, Stop> {
     let plain = plain_of(alloc, job)?;
     all_agree_by(alloc, job, &plain)
 }
 
-/// The same, of a ring of three sites.
+/// Whether all agree, of a ring of three sites.
 pub fn all_agree_in_ring(alloc: Global) -> bool {
     match job_of_texts(alloc, RING, THREE_SITES, "\n\n\n") {
         Some(job) => all_agree_of(alloc, &job).unwrap_or(false),

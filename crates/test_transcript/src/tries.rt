@@ -84,7 +84,7 @@ pub fn text_in<F: Files>(alloc: Global, files: &F, path: &str) -> Result<String,
     String::from_str(alloc, text_of(&bytes).unwrap_or(""))
 }
 
-/// Adds the line of a replay that tells the output of a column.
+/// Adds the line of a replay that reports the output of a column.
 fn push_output(text: &mut String, table: &str, column: usize) -> Result<(), AllocError> {
     text.push_str("output")?;
     for line in table.lines() {
@@ -94,7 +94,7 @@ fn push_output(text: &mut String, table: &str, column: usize) -> Result<(), Allo
     text.push('\n')
 }
 
-/// The lines of a replay that tell the outputs of this table, all of them whole.
+/// The lines of a replay that report the outputs of this table, all of them whole.
 fn output_lines(alloc: Global, table: &str) -> Result<String, AllocError> {
     let mut text = String::new(alloc);
     let columns = table.lines().next().unwrap_or("").split(',').count();
@@ -115,7 +115,7 @@ fn with_capacity(alloc: Global, place: &str, capacity: u16) -> Result<String, Al
     Ok(text)
 }
 
-/// A schedule by chance: s becomes (s * 1103515245 + 12345) mod 2^31, and the next site is s div 65536, mod 4.
+/// A random schedule: s becomes (s * 1103515245 + 12345) mod 2^31, and the next site is s div 65536, mod 4.
 fn schedule_of(alloc: Global, seed: u32) -> Result<String, AllocError> {
     let mut text = String::new(alloc);
     let mut state = seed;
@@ -167,7 +167,7 @@ fn replays_kept<R: Threads + Wait + Clock + Sync, F: Files>(
     Ok(kept)
 }
 
-/// The same, at the capacity that the files have, of an example with this table.
+/// How many random schedules keep the outputs of an example with this table, at the capacity that the files have.
 fn schedules_kept<R: Threads + Wait + Clock + Sync, F: Files>(
     threads: &R,
     alloc: Global,

@@ -349,7 +349,7 @@ fn lends(checked: &Checked) -> bool {
     }
 }
 
-/// The same of a program that is checked.
+/// Whether a program that is checked lends what it has.
 fn lends_all(alloc: Global, program: &Program) -> bool {
     match check(alloc, program, "main") {
         Ok(checked) => lends(&checked),
@@ -357,7 +357,7 @@ fn lends_all(alloc: Global, program: &Program) -> bool {
     }
 }
 
-/// The same of a text.
+/// Whether the program of a text lends what it has, once it is checked.
 fn lends_of_text(alloc: Global, text: &str) -> bool {
     match read_program(alloc, text) {
         Ok(program) => lends_all(alloc, &program),

@@ -80,7 +80,7 @@ const GRAPHS: &[Case] = &[
     ),
 ];
 
-/// The same of a graph by its lists.
+/// Whether order and cycles are these, of a graph by its lists.
 fn are_so(
     alloc: Global,
     rows: &[&[usize]],

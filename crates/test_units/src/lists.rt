@@ -19,7 +19,7 @@ fn is_name(alloc: Global, name: &Name) -> Result<bool, AllocError> {
     Ok(is_speed(name) && is_speed(&name.copied(alloc)?))
 }
 
-/// The same of a name of a text.
+/// Whether a name that is made of a text and its copy are that text.
 fn is_named(alloc: Global) -> Result<bool, AllocError> {
     let name = Name::new(String::from_str(alloc, "speed")?);
     is_name(alloc, &name)

@@ -1,4 +1,4 @@
-//! What a stage alone tells of programs that an earlier stage refuses: texts, and programs that no text has, with an equation
+//! What a stage alone reports of programs that an earlier stage refuses: texts, and programs that no text has, with an equation
 //! that has no variable on its left.
 
 use lubase::{Name, Number, Row, SharedName};
@@ -39,7 +39,7 @@ fn has_class_fault(
     }
 }
 
-/// Whether a stage tells this fault of what is looked up.
+/// Whether a stage reports this fault of what is looked up.
 fn tells_of(
     alloc: Global,
     stage: Stage,
@@ -53,7 +53,7 @@ fn tells_of(
     }
 }
 
-/// Whether a stage tells this fault of a program.
+/// Whether a stage reports this fault of a program.
 fn tells(
     alloc: Global,
     stage: Stage,
@@ -71,7 +71,7 @@ const TEXTS: &[(Stage, &str, StatError)] = &[
         "node main(x: int) returns (y: int); let y = main(x); y = x; tel",
         StatError::DefinedTwice { byte: 53 },
     ),
-    // What is an input and an output is told as an input.
+    // What is an input and an output is reported as an input.
     (
         Stage::Clocks,
         "node main(y: int when l) returns (y: int when l); var l: bool; let l = true; tel",
@@ -95,7 +95,7 @@ const TEXTS: &[(Stage, &str, StatError)] = &[
     ),
 ];
 
-/// Whether a stage tells this fault of a text.
+/// Whether a stage reports this fault of a text.
 fn tells_of_text(alloc: Global, stage: Stage, text: &str, fault: StatError) -> bool {
     match read_program(alloc, text) {
         Ok(program) => tells(alloc, stage, &program, Some(fault)).unwrap_or(false),
@@ -220,7 +220,7 @@ fn nameless(alloc: Global, right: Right) -> Result<Program, AllocError> {
     })
 }
 
-/// Whether a stage tells this fault of it.
+/// Whether a stage reports this fault of it.
 fn tells_of_nameless(
     alloc: Global,
     stage: Stage,
@@ -238,13 +238,13 @@ const MISMATCH: Option<StatError> = Some(StatError::ClockMismatch { byte: 7 });
 const MAYBE_NIL: Option<StatError> = Some(StatError::MaybeNil { byte: 7 });
 
 const NAMELESS: &[(Stage, Right, Option<StatError>)] = &[
-    // A value for no variable is told, and no value for no variable.
+    // A value for no variable is reported, and no value for no variable.
     (Stage::Names, Right::One, WRONG_ARITY),
     (Stage::Names, Right::Call, WRONG_ARITY),
-    // A right side of any clock is kept, and one of no clock told.
+    // A right side of any clock is kept, and one of no clock reported.
     (Stage::Clocks, Right::Sampled, None),
     (Stage::Clocks, Right::Mixed, MISMATCH),
-    // A right side of class 1 is kept, and an unmet need told.
+    // A right side of class 1 is kept, and an unmet need reported.
     (Stage::Classes, Right::Before, None),
     (Stage::Classes, Right::BeforeTwice, MAYBE_NIL),
 ];
@@ -287,7 +287,7 @@ fn are_meant(alloc: Global, program: &Program) -> Result<bool, AllocError> {
     Ok(finds(&catalog) && catalog.scopes().iter().take(1).all(looks_up))
 }
 
-/// The same of a text.
+/// Whether both are so of the program of a text.
 fn are_meant_in(alloc: Global, text: &str) -> bool {
     match read_program(alloc, text) {
         Ok(program) => are_meant(alloc, &program).unwrap_or(false),

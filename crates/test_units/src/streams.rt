@@ -67,7 +67,7 @@ fn is_answer_at(alloc: Global, flat: &Flat, table: Table, want: Want) -> Result<
     }
 }
 
-/// The same of a text.
+/// Whether this is the answer of the program of a text at a table.
 fn is_answered(alloc: Global, text: &str, table: Table, want: Want) -> bool {
     match flat_of(alloc, text) {
         Some(flat) => is_answer_at(alloc, &flat, table, want).unwrap_or(false),
@@ -172,7 +172,7 @@ fn fits_so(
     }
 }
 
-/// The same of the program above.
+/// Whether a table fits the program `SAMPLES`, as is wanted.
 fn fits_samples(alloc: Global, table: Table, want: Option<bool>) -> bool {
     match flat_of(alloc, SAMPLES) {
         Some(flat) => fits_so(alloc, &flat, table, want).unwrap_or(false),
@@ -234,7 +234,7 @@ fn is_written_of(
     }
 }
 
-/// The same of a program.
+/// Whether the outputs of a program are written as this text.
 fn is_written(alloc: Global, program: &str, columns: &[&[Status]], text: &str) -> bool {
     match flat_of(alloc, program) {
         Some(flat) => is_written_of(alloc, &flat, columns, text).unwrap_or(false),

@@ -31,7 +31,7 @@ fn fill<R: Wait, S: Sends, D: Receives>(
     expect(rx.polls(rt) == Some(ZERO), "0 is taken")
 }
 
-/// It is filled again.
+/// A link of one message that was emptied is filled again.
 fn refill<R: Wait, S: Sends, D: Receives>(
     rt: &R,
     tx: &mut Feeder<'_, S>,

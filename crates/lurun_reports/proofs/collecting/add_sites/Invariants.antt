@@ -5,7 +5,7 @@ use Rattle.lusite.specs.Sites.{SiteAt}
 use Rattle.lurun_reports.specs.Reports.{AreColumns}
 use Rattle.lurun_reports.proofs.collecting.add_sites.Given as goal
 
--- what the reports so far tell is moved
+-- what the reports so far say is moved
 abbrev pub invariant-loop-report : goal.invariant-loop-report
 invariant-loop-report l = record {
   reports : List SiteAt;

@@ -7,7 +7,7 @@ use Rattle.lurun_rows.specs.Collecting.{heading_view}
 use Rattle.lurun_rows.proofs.Collected.{AreFirst, AreLeft}
 use Rattle.lurun_rows.proofs.collecting.columns_of.Given as goal
 
--- the columns of the first headings, the headings that are left, and what was told of them
+-- the columns of the first headings, the headings that are left, and what was reported of them
 abbrev pub invariant-loop-heading : goal.invariant-loop-heading
 invariant-loop-heading l = record {
   room : vec_len l.columns + into_iter_len l.heading-iterator ≤ vec_capacity l.columns;

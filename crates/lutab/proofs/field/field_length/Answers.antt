@@ -5,7 +5,7 @@ use Rattle.std.proofs.lemmas.Bool.Decides.{nat_tests}
 use Rattle.lutab.specs.Text.{is_end}
 use Rattle.lutab.proofs.field.field_length.Goals as goal
 
--- a place that isn't before the end isn't told
+-- a place that isn't before the end isn't reported
 untold : (i n : ℕ) (b : Bool) → nat_lt i n ≡ b → i ≤ n → cond b (Some i) None ≡ None → n ≡ i
 untold i n true e le h = cc
 untold i n false e le h = grind (arith, nat_tests)

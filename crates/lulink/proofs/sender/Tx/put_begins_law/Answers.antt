@@ -1,7 +1,8 @@
 use Rattle.std.proofs.Common.{subst, drop}
 use Rattle.std.specs.Arc.{arc_value}
 use Rattle.std.proofs.lemmas.List.{take-append-drop}
-use Rattle.lulink.specs.Lists.{list_of, IsBeginning}
+use Rattle.luworld.specs.Progress.{IsBeginning}
+use Rattle.lulink.specs.Lists.{list_of}
 use Rattle.lulink.specs.Views.{SenderView}
 use Rattle.lulink.specs.Insides.{told_list}
 use Rattle.lulink.proofs.sender.Tx.put_begins_law.Goals as goal

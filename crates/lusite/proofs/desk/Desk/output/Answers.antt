@@ -11,12 +11,12 @@ use Rattle.lusite.proofs.desk.Desk.output.Goals as goal
 pub returns-in_default : goal.returns-in_default
 returns-in_default c =
     let a = c.args.self.now in
-    desk_untold a c.requires c.args.k (λ i there. subst (Reports a.program.plan a.program.site i) c.in_default.is (c.reported.ensures.there i there))
+    desk_untold a c.requires c.args.k (λ i there. subst (Reports a.program.plan a.program.site i) c.in_default.is (c.reported_flow.ensures.there i there))
 
 pub returns-in-Some-get : goal.returns-in-Some-get
 returns-in-Some-get c =
     let a = c.args.self.now in
-    let told = desk_told a c.requires c.args.k c.in-Some.number (λ i there. subst (Reports a.program.plan a.program.site i) c.in-Some.is (c.reported.ensures.there i there)) (λ none. none-some c.in-Some.number (sym (c.reported.ensures.beyond none) ∙ c.in-Some.is)) in
+    let told = desk_told a c.requires c.args.k c.in-Some.number (λ i there. subst (Reports a.program.plan a.program.site i) c.in-Some.is (c.reported_flow.ensures.there i there)) (λ none. none-some c.in-Some.number (sym (c.reported_flow.ensures.beyond none) ∙ c.in-Some.is)) in
     let deref = c.deref.result.now in
     let lookup = c.in-Some-get.ensures.lookup in
     let l = ltb-true c.in-Some.number (length deref) (sym lookup.0) in
@@ -26,7 +26,7 @@ returns-in-Some-get c =
 pub returns-in-None : goal.returns-in-None
 returns-in-None c =
     let a = c.args.self.now in
-    let told = desk_told a c.requires c.args.k c.in-Some.number (λ i there. subst (Reports a.program.plan a.program.site i) c.in-Some.is (c.reported.ensures.there i there)) (λ none. none-some c.in-Some.number (sym (c.reported.ensures.beyond none) ∙ c.in-Some.is)) in
+    let told = desk_told a c.requires c.args.k c.in-Some.number (λ i there. subst (Reports a.program.plan a.program.site i) c.in-Some.is (c.reported_flow.ensures.there i there)) (λ none. none-some c.in-Some.number (sym (c.reported_flow.ensures.beyond none) ∙ c.in-Some.is)) in
     let past = lt_no c.in-Some.number (length c.deref.result.now) (sym c.in-None.ensures.lookup.0) in
     let none : slice_get a.logs.items c.in-Some.number ≡ None = ap (λ (xs : List Log). slice_get xs c.in-Some.number) (sym c.deref.ensures.value) ∙ slice_get_past c.deref.result.now c.in-Some.number past in
     sym (told ∙ ap row_items none)

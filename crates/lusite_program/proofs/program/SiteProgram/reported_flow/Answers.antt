@@ -3,7 +3,7 @@ use Rattle.std.specs.Prelude.{slice_get, unwrap_or}
 use Rattle.luworld.specs.Runs.{outputs_of}
 use Rattle.lusite_program.specs.Programs.{SitePlan, Reports}
 use Rattle.lusite_program.proofs.OutputLogs.{reported_there, reported_beyond}
-use Rattle.lusite_program.proofs.program.SiteProgram.reported.Goals as goal
+use Rattle.lusite_program.proofs.program.SiteProgram.reported_flow.Goals as goal
 
 pub returns-clause-there : goal.returns-clause-there
 returns-clause-there c =
