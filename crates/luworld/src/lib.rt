@@ -4,9 +4,9 @@
 //! - [`Turn`]: what one turn of a site does; [`Link`]: a link of a plan.
 //! - [`laws`]: the laws, each the contract of a function that does nothing.
 //!
-//! The definitions stand in `specs/`: `World` (items, systems, turns), `Reach` (reachable items), `Outline` (a plan in the
-//! abstract, its scripts), `Laws`, `OutlineLaws`; and `Needs`, `Runs` (a plan of a flat program, its links, one run's scripts
-//! and lists), `Progress` (what was taken, waits and was reported), `RunLaws`. `Vectors` and `RunVectors` have worked examples.
+//! The definitions stand in `specs/`: `Systems` (items, systems, turns), `Reach` (reachable items), `Outline` (a plan in the
+//! abstract, its scripts), `Laws`, `OutlineLaws`; and `Needs`, `Jobs` (a plan of a flat program, its links, one run's scripts
+//! and lists), `WorldViews` (what was taken, waits and was reported), `RunLaws`. `Vectors` and `RunVectors` have worked examples.
 #![tactic(auto)]
 
 pub mod laws;
