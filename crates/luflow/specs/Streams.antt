@@ -9,7 +9,7 @@ use Rattle.luflow.specs.declared.form.Clock.TheVariants.{Base, On}
 use Rattle.luflow.specs.Program.{Table}
 use Rattle.luflow.specs.Operators.{int_same}
 
--- A status, or what a fault leaves. (Lustre: a flow is a sequence of values with a clock; "broken" is the profile's.)
+-- A status, or what a fault leaves. (Lustre: a flow is a sequence of values with a clock; "broken" stands for what a fault leaves.)
 pub data Mark : Type 0 where
   Known : Status → Mark
   Broken : Mark

@@ -33,7 +33,7 @@ pre_stream k a t = under (k t) (gives (before a t))
 abbrev pub arrow_stream : Ticks → Stream → Stream → Stream
 arrow_stream k a b t = under (k t) (on_two (arrow_of (ticked k t)) (datum_of (a t)) (datum_of (b t)))
 
--- `a when c`: a, on the clock c
+-- `a when c`: a, at the ticks of the clock c
 abbrev pub when_stream : Ticks → Stream → Stream
 when_stream k a t = under (k t) (gives (datum_of (a t)))
 
