@@ -54,7 +54,7 @@ impl Board {
         self.solve(alloc, flat, inputs, t, i, to)
     }
 
-    /// Supposes what the `pre`s of a pace give.
+    /// Supposes what the `pre`s of a clock give.
     fn suppose_all(&mut self, backs: &[Back]) -> bool
         ensures stands { (flat : FlatProgram) (inputs : Table) (t len : ℕ)
             → StandsStill flat inputs t len self.old self.new }
@@ -71,7 +71,7 @@ impl Board {
         false
     }
 
-    /// Supposes what the other `pre`s of a pace give, which have the words of some of its `pre`s.
+    /// Supposes what the other `pre`s of a clock give, which have the words of some of its `pre`s.
     fn suppose_twins(&mut self, pace: &Pace) -> bool
         ensures stands { (flat : FlatProgram) (inputs : Table) (t len : ℕ)
             → StandsStill flat inputs t len self.old self.new }

@@ -149,7 +149,7 @@ from_inside plan is fits l k e =
 pub to_inside : (plan : Distribution) → Fits plan → (l : ℕ) (k : Link) → slice_get plan.links l ≡ Some k → k.to < sites_of plan
 to_inside plan fits l k e = subst (λ (o : Option Link). unwrap_or (option_map (λ (x : Link). x.to) o) 0 < sites_of plan) e (fits.receivers l)
 
--- a bench with the ends of all links is a new station
+-- an assembly with the ends of all links is a new station
 pub new_station : (job : Run) (s : ℕ) (b : Bench) → IsBench job (length job.plan.links) s b → IsNewStation b.site b.txs.items b.rxs.items
 new_station job s b is = record {
   new = is.new;

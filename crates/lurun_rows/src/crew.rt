@@ -19,7 +19,7 @@ use std::sync::Wait;
 use std::thread;
 use std::thread::{Promise, PromisedHandle, Scope, Threads};
 
-/// A worker's promise: its reports are of its seats.
+/// A worker's promise: its reports are of its stations.
 #[derive(Drop)]
 pub struct ReportsOf(Snapshot<Vec<Seat>>);
 
@@ -31,7 +31,7 @@ impl Promise<Vec<RowReport>> for ReportsOf {
 
 type Worker = PromisedHandle<Vec<RowReport>, ReportsOf>;
 
-/// Starts a worker. An error where the thread is refused: its seats are dropped then, and so their ends are left.
+/// Starts a worker. An error where the thread is refused: its stations are dropped then, and so their ends are left.
 fn start<'s, E, R: Wait + Clock + Sync, G: Gate>(
     scope: &Scope<'s, E>,
     rt: &'s R,
@@ -77,7 +77,7 @@ fn no_shares(alloc: Global, count: usize) -> Result<Vec<Vec<Seat>>, AllocError>
     Ok(shares)
 }
 
-/// The seats of each worker: worker i has the sites whose number leaves i, divided by the number of workers.
+/// The stations of each worker: worker i has the sites whose number leaves i, divided by the number of workers.
 fn deal(alloc: Global, stations: Vec<RowStation>, workers: u8) -> Result<Vec<Vec<Seat>>, AllocError>
     requires { 0 < workers }
     ensures { IfOk result (λ shares. IsPermutation stations.items (dealt shares.items)) }
@@ -100,7 +100,7 @@ fn hand_of(alloc: Global, seats: Vec<Seat>) -> Result<Hand, AllocError>
     Ok(Hand { seats, reports })
 }
 
-/// The hands of the shares that have a seat.
+/// The shares that have a station, with room for its report.
 fn hands_of(alloc: Global, shares: Vec<Vec<Seat>>) -> Result<Vec<Hand>, AllocError>
     ensures all { IfOk result (λ hands. held hands.items ≡ dealt shares.items) }
     ensures new { IfOk result (λ hands. All IsNewHand hands.items) }
@@ -114,7 +114,7 @@ fn hands_of(alloc: Global, shares: Vec<Vec<Seat>>) -> Result<Vec<Hand>, AllocErr
     Ok(hands)
 }
 
-/// The hands of the workers that have a seat.
+/// The shares of the workers that have a station.
 fn hands_for(alloc: Global, stations: Vec<RowStation>, workers: u8) -> Result<Vec<Hand>, AllocError>
     requires { 0 < workers }
     ensures all { IfOk result (λ hands. IsPermutation stations.items (held hands.items)) }
@@ -125,7 +125,7 @@ fn hands_for(alloc: Global, stations: Vec<RowStation>, workers: u8) -> Result<Ve
     hands_of(alloc, shares)
 }
 
-/// Starts a worker for each hand, up to the first that is refused: false there, and the hands that are left are dropped.
+/// Starts a worker for each share, up to the first that is refused: false there, and the shares that are left are dropped.
 fn start_all<'s, E, R: Wait + Clock + Sync, G: Gate>(
     scope: &Scope<'s, E>,
     rt: &'s R,
@@ -175,7 +175,7 @@ fn join_all<R: Threads>(rt: &R, workers: Vec<Worker>, mut all: Vec<RowReport>) -
 /// # Errors
 ///
 /// [`RunError::NoThread`] where a thread was refused, whatever the others report; [`RunError::OutOfMemory`] where there is no room for all
-/// hands, workers and reports, and then none was started.
+/// shares, workers and reports, and then none was started.
 pub fn reports_by_rows<R: Threads + Wait + Clock + Sync, G: Gate>(
     rt: &R,
     alloc: Global,

@@ -28,7 +28,7 @@ impl Model for Seat {
     ghost view = { λ a. a.station };
 }
 
-/// A seat for a new station.
+/// A new station, as a worker serves it.
 pub fn seat_of(station: RowStation) -> Seat
     ensures { result ≡ station }
 {
@@ -79,7 +79,7 @@ impl Seat {
     }
 }
 
-/// A worker's seats, and room for a report of each.
+/// A worker's stations, and room for a report of each.
 #[derive(Drop)]
 pub struct Hand {
     pub seats: Vec<Seat>,
@@ -95,7 +95,7 @@ fn go_at<G: Gate>(seats: &mut Vec<Seat>, at: usize, gate: &G) -> Went
     seat.go(gate)
 }
 
-/// Takes out a seat whose station is over. Its report is kept, if it has one.
+/// Takes out a station that is over. Its report is kept, if it has one.
 fn take_out(hand: &mut Hand, at: usize)
     requires at { at < vec_len hand.old.seats }
     requires room { HasRoom hand.old }
@@ -109,7 +109,7 @@ fn take_out(hand: &mut Hand, at: usize)
     }
 }
 
-/// Goes round the seats once: whether a station moved or was over.
+/// Goes round the stations once: whether a station moved or was over.
 fn go_round<G: Gate>(hand: &mut Hand, gate: &G) -> bool
     requires { HasRoom hand.old }
     ensures room { HasRoom hand.new }
@@ -171,7 +171,7 @@ fn rest<R: Clock>(rt: &R, idle: u32) -> u32 {
     idle + SLOW
 }
 
-/// Goes round the seats until all stations are over.
+/// Goes round the stations until all are over.
 pub fn serve<R: Wait + Clock, G: Gate>(rt: &R, mut hand: Hand, gate: &G) -> Vec<RowReport>
     requires { IsNewHand hand }
     ensures { AreReportsOf hand.seats.items result.items }

@@ -53,7 +53,7 @@ none_dealt all done e = subst (λ ds. IsPermutation all (ds ++ all)) (sym e) (Is
 pub nothing_dealt : {B : Type 0} (all done left : List B) → done ≡ [] → left ≡ all → IsPermutation all (done ++ left)
 nothing_dealt all done left e same = subst (λ ls. IsPermutation all (done ++ ls)) (sym same) (none_dealt all done e)
 
--- a worker has started with the first of the hands that are left
+-- a worker has started with the first of the shares that are left
 pub started_on : {W H B : Type 0} (f : W → List B) (h : H → List B) (ws more : List W) (w : W) (left rest : List H) (x : H) (all : List B) → more ≡ ws ++ w ∷ [] → left ≡ x ∷ rest → f w ≡ h x → flat_map f ws ++ flat_map h left ≡ all → flat_map f more ++ flat_map h rest ≡ all
 started_on f h ws more w left rest x all e next same was =
     ap (λ ps. ps ++ flat_map h rest) (flat_push f ws more w e ∙ ap (λ ps. flat_map f ws ++ ps) same) ∙ append_assoc (flat_map f ws) (h x) (flat_map h rest) ∙ ap (λ hs. flat_map f ws ++ flat_map h hs) (sym next) ∙ was
@@ -91,14 +91,14 @@ part_length stations part are =
 pub places_append : (xs ys : List StationAt) → places (xs ++ ys) ≡ places xs ++ places ys
 places_append xs ys = map-append (λ (s : StationAt). place_of s.at) xs ys
 
--- a seat has gone on
+-- a station has gone on
 pub seat_kept : (seats : List StationAt) (i : ℕ) (s t : StationAt) → slice_get seats i ≡ Some s → IsSameSite s.at t.at → places (slice_set seats i t) ≡ places seats
 seat_kept seats i s t here same =
     let f : StationAt → Run × ℕ = λ x. place_of x.at in
     let d = f s in
     map-set f seats i t ∙ ap (set (map f seats) i) (ap₂ (λ (j : Run) (n : ℕ). (j, n)) same.0 same.1 ∙ sym (get_or_from_slice_get (map f seats) i d d (slice_get-map f seats i ∙ ap (option_map f) here))) ∙ set-get_or (map f seats) i d
 
--- a seat is taken out, and the last one comes into its place
+-- a station is taken out, and the last one comes into its place
 pub seat_out : (seats rest : List StationAt) (i : ℕ) (s : StationAt) (r : SiteAt) → i < length seats → s ≡ get_or seats i s → rest ≡ swap_remove seats i s → ReportsFor s r → IsPermutation (places seats) (place_of r ∷ places rest)
 seat_out seats rest i s r l is e of =
     let moved = IsPermutation-map (λ (x : StationAt). place_of x.at) seats (s ∷ swap_remove seats i s) (IsPermutation-swap_remove seats i s l is) in

@@ -18,7 +18,7 @@ dealt seats = flat_map (λ s. s.items) seats
 abbrev pub held : List Hand → List StationAt
 held hands = flat_map (λ h. h.seats.items) hands
 
--- no report yet, and room for one of each seat
+-- no report yet, and room for one of each station
 pub record HasRoom (hand : Hand) : Type 0 where
   pub none : hand.reports.items ≡ []
   pub room : length hand.seats.items ≤ vec_capacity hand.reports

@@ -160,7 +160,7 @@ fn take_out(seats: &mut Vec<Seat>, at: usize) -> SiteReport
     seat.report()
 }
 
-/// Goes round the seats until all are over.
+/// Goes round the stations until all are over.
 fn serve<R: Wait, G: Gate>(
     rt: &R,
     mut seats: Vec<Seat>,
@@ -189,7 +189,7 @@ fn serve<R: Wait, G: Gate>(
     reports
 }
 
-/// A worker's promise: its reports are those of its seats.
+/// A worker's promise: its reports are those of its stations.
 #[derive(Drop)]
 pub struct ReportsOf(Snapshot<Vec<Seat>>);
 
@@ -201,14 +201,14 @@ impl Promise<Vec<SiteReport>> for ReportsOf {
 
 type Worker = PromisedHandle<Vec<SiteReport>, ReportsOf>;
 
-/// A worker's seats, and room for a report of each.
+/// A worker's stations, and room for a report of each.
 #[derive(Drop)]
 pub struct Hand {
     pub seats: Vec<Seat>,
     pub reports: Vec<SiteReport>,
 }
 
-/// Starts a worker. An error where the thread is refused: its seats are dropped then, and so their ends are left.
+/// Starts a worker. An error where the thread is refused: its stations are dropped then, and so their ends are left.
 fn start<'s, E, R: Wait + Sync, G: Gate>(
     scope: &Scope<'s, E>,
     rt: &'s R,
@@ -255,7 +255,7 @@ fn no_shares(alloc: Global, count: usize) -> Result<Vec<Vec<Seat>>, AllocError>
     Ok(shares)
 }
 
-/// The seats of each worker: worker i has the sites whose number leaves i, divided by the number of workers.
+/// The stations of each worker: worker i has the sites whose number leaves i, divided by the number of workers.
 fn deal(alloc: Global, stations: Vec<Station>, workers: u8) -> Result<Vec<Vec<Seat>>, AllocError>
     requires { 0 < workers }
     ensures { IfOk result (λ shares. IsPermutation stations.items (dealt shares.items)) }
@@ -278,7 +278,7 @@ fn hand_of(alloc: Global, seats: Vec<Seat>) -> Result<Hand, AllocError>
     Ok(Hand { seats, reports })
 }
 
-/// The hands of the shares that have a seat.
+/// The shares that have a station, with room for its report.
 fn hands_of(alloc: Global, shares: Vec<Vec<Seat>>) -> Result<Vec<Hand>, AllocError>
     ensures all { IfOk result (λ hands. held hands.items ≡ dealt shares.items) }
     ensures room { IfOk result (λ hands. All HasRoom hands.items) }
@@ -292,7 +292,7 @@ fn hands_of(alloc: Global, shares: Vec<Vec<Seat>>) -> Result<Vec<Hand>, AllocErr
     Ok(hands)
 }
 
-/// The hands of the workers that have a seat.
+/// The shares of the workers that have a station.
 fn hands_for(alloc: Global, stations: Vec<Station>, workers: u8) -> Result<Vec<Hand>, AllocError>
     requires { 0 < workers }
     ensures all { IfOk result (λ hands. IsPermutation stations.items (held hands.items)) }
@@ -303,7 +303,7 @@ fn hands_for(alloc: Global, stations: Vec<Station>, workers: u8) -> Result<Vec<H
     hands_of(alloc, shares)
 }
 
-/// Starts a worker for each hand, up to the first that is refused: false there, and the hands that are left are dropped.
+/// Starts a worker for each share, up to the first that is refused: false there, and the shares that are left are dropped.
 fn start_all<'s, E, R: Wait + Sync, G: Gate>(
     scope: &Scope<'s, E>,
     rt: &'s R,
@@ -349,7 +349,7 @@ fn join_all<R: Threads>(rt: &R, workers: Vec<Worker>, mut all: Vec<SiteReport>) 
 }
 
 /// The reports of stations that a crew serves: worker i has the sites whose number leaves i, divided by the number of workers, and goes round
-/// them; without a site it isn't started. It is handed neither the job nor its inputs. Room for all hands, workers and reports
+/// them; without a site it isn't started. It is handed neither the job nor its inputs. Room for all shares, workers and reports
 /// is made before the first worker starts. All started threads have been joined when it returns.
 ///
 /// # Errors

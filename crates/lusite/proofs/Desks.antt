@@ -1,4 +1,4 @@
--- The same, for the desk of a site.
+-- The same, for the state of a site.
 use Rattle.std.proofs.Common.{inl, inr, ◌≡◌, ℕ, ◌+◌, ◌<◌, ◌≤◌, Bool, true, false, List, length, set, Some, sym, ap, ap₂, ◌∙◌, subst, arith}
 use Rattle.std.specs.Prelude.{slice_get, slice_index, All}
 use Rattle.std.proofs.lemmas.Bool.{cases_lt}
@@ -15,7 +15,7 @@ use Rattle.lusite.specs.Machine.{is_faulted, Stands, StandsAt, IsSet, IsReadyAt,
 use Rattle.lusite.proofs.Machine.{there, stands_pass, stands_tick, size_here}
 use Rattle.lusite_program.proofs.Posts.{part_there}
 
--- the facts of a desk that goes on, about its job
+-- the facts of a state that goes on, about its job
 pub record Going (a : Desk) : Type 0 where
   pub set : IsSet a
   pub stands : Stands a.inputs.job a.inputs.site (shown_of a) (pasts_of a) a.instant a.place a.step false

@@ -1,4 +1,4 @@
--- The logs of the outputs that a desk reports.
+-- The logs of the outputs that a state reports.
 use Rattle.std.proofs.Common.{◌≡◌, ℕ, ◌<◌, ◌≤◌, [], length, Option, Some, None, refl, sym, ap, ◌∙◌, subst, arith}
 use Rattle.std.specs.Prelude.{slice_get, is_some}
 use Rattle.luflow.specs.Program.{flows_of}
@@ -14,7 +14,7 @@ use Rattle.lusite_program.proofs.OutputLogs.{untold, told, view_row}
 use Rattle.lusite_program.proofs.Posts.{output_there, part_there}
 use Rattle.lusite.proofs.Rows.{log_row}
 
--- the log of an output that a desk reports
+-- the log of an output that a state reports
 module _ (a : Desk) (set_up : IsSet a) where
   output_inside : (i : ℕ) (k : ℕ) → slice_get (outputs_of a.program.plan) k ≡ Some i → i < flows_of a.program.plan.flat
   output_inside i k e =

@@ -10,7 +10,7 @@ use Rattle.lusite.specs.declared.desk.Desk.{Desk}
 use Rattle.lusite.specs.Machine.{StandsAt, IsSameRun, is_faulted, done_of}
 use Rattle.lusite.specs.Sites.{SiteAt, site_at}
 
--- a desk with an item before it hasn't faulted
+-- a state with an item before it hasn't faulted
 pub not_stopped : (a : Desk) (x : Item) → StandsAt a → slice_get (script a.inputs.job (streams_of a.inputs.job) a.inputs.site) (done_of a) ≡ Some x → is_faulted a ≡ false
 not_stopped a x st e = elim (bool_cases (is_faulted a)) [
   | inl bad ↦
@@ -20,7 +20,7 @@ not_stopped a x st e = elim (bool_cases (is_faulted a)) [
   | inr goes ↦ goes
 ]
 
--- what a contract sees of it, from desk a over b to d
+-- what a contract sees of it, from state a over b to d
 module _ (a b d : Desk) (v : SiteAt) (is : site_at a ≡ v) (one : IsSameRun a b) (two : IsSameRun b d) where
   pub same_job : d.inputs.job ≡ v.job
   same_job = ap (λ (t : SiteTable). t.job) (two.inputs_is ∙ one.inputs_is) ∙ ap (λ (w : SiteAt). w.job) is

@@ -140,7 +140,7 @@ pub wanted_known : (job : Run) (s i : ℕ) → IsJob job → i < flows_of job.pl
 wanted_known job s i ok li wanted =
     subst (λ (h : ℕ). stands job.plan i h ≡ true) (eqb-true (home job.plan i) s (and_parts (nat_eq (home job.plan i) s) (is_output_of job.plan.flat i) wanted).0) (ok.is_plan.stands_home i li)
 
--- for the desk
+-- for the state
 passed_some : (a : Desk) → Going a → 0 < a.step → passed_to a ≡ a.place + 1
 passed_some a g l = ap₂ (λ x y. a.place + add_if (x && not y)) (lt-ltb 0 a.step l) g.goes
 

@@ -227,7 +227,7 @@ module _ (job : Run) (ok : IsJob job) (s : ℕ) where
   unfolding items_before cell
   left_end = left_over plan s
 
--- what is left of a desk that goes on
+-- what is left of a state that goes on
 module _ (a : Desk) (g : Going a) where
   abbrev site_plan : Outline
   site_plan = outline a.inputs.job (streams_of a.inputs.job)
@@ -289,7 +289,7 @@ module _ (a : Desk) (g : Going a) where
       let w = widths_end a.program false a.program.plan.flat.order a.place (omega (arith, k, ep)) in
       (z ∙ omega (arith, w), omega (arith, ej))
 
--- a desk that reports a fault has faulted
+-- a state that reports a fault has faulted
 pub desk_faulted : (a : Desk) → IsRun a.inputs.job → IsSet a → StandsAt a → TellsFault a → is_faulted a ≡ true → left_after (outline a.inputs.job (streams_of a.inputs.job)) a.inputs.site (done_of a) ≡ 0
 desk_faulted a run set st tells bad = go a.fault refl bad
   where

@@ -126,7 +126,7 @@ module _ (job : Run) (sites : List SiteAt) (lanes : List Lane) (capacity s : ℕ
     pub step_is : dones_of (set sites s (more v)) ≡ step (system_of job) (dones_of sites) s
     step_is = dones_is ∙ sym (step_moved (system_of job) (dones_of sites) s moved_is)
 
-    -- the world after the item, by its lanes
+    -- the world after the item, by its queues
     world_with : (lanes' : List Lane) → length lanes' ≡ length lanes → ((l : ℕ) (lane : Lane) → slice_get lanes' l ≡ Some lane → IsLaneAt job l lane (put_count (system_of job) (dones_of sites) l + cond (puts l item) 1 0) (taken_count (system_of job) (dones_of sites) l + cond (takes l item) 1 0)) → IsWorld job (set sites s (more v)) lanes' capacity
     world_with lanes' len all =
         let wired = is_wired job w.is_job in
@@ -151,7 +151,7 @@ module _ (job : Run) (sites : List SiteAt) (lanes : List Lane) (capacity s : ℕ
   world_work i t here =
       world_with (Compute i t) here tt lanes refl (λ l lane e. lane_along job l lane (put_count (system_of job) (dones_of sites) l) (put_count (system_of job) (dones_of sites) l + 0) (taken_count (system_of job) (dones_of sites) l) (taken_count (system_of job) (dones_of sites) l + 0) (no_more (put_count (system_of job) (dones_of sites) l)) (no_more (taken_count (system_of job) (dones_of sites) l)) (w.lanes_are l lane e))
 
-  -- the lane of a link, and whether it has room or a message
+  -- the queue of a link, and whether it has room or a message
   pub lane_at : (l : ℕ) → l < length job.plan.links → (lane : Lane) × (slice_get lanes l ≡ Some lane) × IsLane job (dones_of sites) l lane
   lane_at l lt =
       let x = some_at lanes l (omega (arith, w.lanes_len)) in
@@ -254,7 +254,7 @@ module _ (job : Run) (sites : List SiteAt) (lanes : List Lane) (capacity : ℕ) 
       let e = (is_wired job w.is_job).no_more_sites s (omega (arith, n, long)) in
       ap (λ (xs : List Item). turn_at (system_of job) (dones_of sites) (slice_get xs (done (dones_of sites) s))) e
 
-  -- a lane takes no more than was put
+  -- a queue takes no more than was put
   pub lane_order : (l : ℕ) (x : Lane) → slice_get lanes l ≡ Some x → x.taken ≤ length x.put.items
   lane_order l x e =
       let k = w.lanes_are l x e in

@@ -13,7 +13,7 @@ use Rattle.lusite.specs.Logs.{IsOutput}
 use Rattle.luworld.specs.Progress.{AllEnded}
 use Rattle.lusite.specs.Sites.{SiteAt}
 
--- what a lane holds after so many puts and takes: a prefix of the link's list
+-- what a queue holds after so many puts and takes: a prefix of the link's list
 pub record IsLaneAt (job : Run) (l : ℕ) (lane : Lane) (puts takes : ℕ) : Type 0 where
   pub put_is : lane.put.items ≡ take puts (link_list job (streams_of job) l)
   pub put_len : length lane.put.items ≡ puts
@@ -38,7 +38,7 @@ pub record IsWorld (job : Run) (sites : List SiteAt) (lanes : List Lane) (capaci
   pub lanes_are : (l : ℕ) (lane : Lane) → slice_get lanes l ≡ Some lane → IsLane job (dones_of sites) l lane
   pub good : IsGood (system_of job) (dones_of sites)
 
--- what a put and a take do to the lanes
+-- what a put and a take do to the queues
 pub record IsPutInto (lanes : List Lane) (l : ℕ) (x : Lane) (msg : Msg) (lanes' : List Lane) : Type 0 where
   pub lane : Lane
   pub is : lanes' ≡ slice_set lanes l lane
@@ -67,7 +67,7 @@ some_of (Some x) = nat_lt x.taken (length x.put.items)
 abbrev pub some_in : List Lane → ℕ → Bool
 some_in lanes l = some_of (slice_get lanes l)
 
--- a site and a lane before any turn
+-- a site and a queue before any turn
 pub record IsNewSite (job : Run) (s : ℕ) (v : SiteAt) : Type 0 where
   pub job_is : v.job ≡ job
   pub site_is : v.site ≡ s

@@ -18,7 +18,7 @@ pub fn next_of(sites: &Vec<Site>, s: usize) -> Next
     sites[s].next()
 }
 
-/// Whether the lane has room.
+/// Whether the queue has room.
 pub fn has_room(lanes: &Vec<Lane>, l: usize, capacity: usize) -> bool
     requires lens { ForSome (slice_get lanes.now.items l) (λ x. x.taken ≤ length x.put.items) }
     ensures { result ≡ room_in lanes.now.items l capacity }

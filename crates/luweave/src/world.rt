@@ -243,7 +243,7 @@ fn queued_at(lanes: &Vec<Lane>, l: usize) -> &[Msg]
     lanes[l].queued()
 }
 
-/// Empty lanes with room for all messages of a run.
+/// Empty queues with room for all messages of a run.
 fn new_lanes(alloc: Global, links: usize, room: u32) -> Result<Vec<Lane>, AllocError>
     ensures len { IfOk result (λ x. length x.items ≡ links) }
     ensures each { IfOk result (λ x. (l : ℕ) → ForSome (slice_get x.items l)

@@ -4,7 +4,7 @@ use Rattle.std.specs.Vec.Iter.{into_iter_items}
 use Rattle.lurun_threads.specs.Crew.{dealt}
 use Rattle.lurun_threads.proofs.crew.deal.Given as goal
 
--- the seats that are dealt, and the stations that are left
+-- the stations that are dealt, and those that are left
 abbrev pub invariant-loop-station : goal.invariant-loop-station
 invariant-loop-station l = record {
   len : vec_len l.shares ≡ l.count;

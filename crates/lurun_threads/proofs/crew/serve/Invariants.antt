@@ -3,7 +3,7 @@ use Rattle.std.specs.List.Sorted.{IsPermutation}
 use Rattle.lurun_threads.specs.Stations.{place_of, places}
 use Rattle.lurun_threads.proofs.crew.serve.Given as goal
 
--- the reports so far, and the seats that are left
+-- the reports so far, and the stations that are left
 abbrev pub invariant-loop : goal.invariant-loop
 invariant-loop g l = record {
   room : vec_len l.reports + vec_len l.seats ≤ vec_capacity l.reports;
