@@ -8,7 +8,7 @@ ghost use Rattle.luflow.specs.Variables.{outputs_of};
 use luplace::Job;
 use lusdist_answers::evaluating::evaluation;
 use lusdist_answers::jobs::job_for;
-use lusdist_answers::{Stop, replayed};
+use lusdist_answers::{CallError, replayed};
 use lusdist_shell::{EvalRequest, Files, ReadError, WriteError};
 use luweave_text::text_of_world;
 use std::alloc::Global;
@@ -81,20 +81,20 @@ impl Files for Texts {
 }
 
 /// The table of the outputs of a job.
-fn table_of(alloc: Global, job: &Job) -> Result<String, Stop>
+fn table_of(alloc: Global, job: &Job) -> Result<String, CallError>
     requires { 0 < length (outputs_of job.now.plan.flat.variables) }
 {
     evaluation(alloc, OUTPUTS, &Texts, job.plan().flat(), job.inputs())
 }
 
 /// How the sites of a job stand after the turns.
-fn replay_of(alloc: Global, job: &Job) -> Result<String, Stop> {
+fn replay_of(alloc: Global, job: &Job) -> Result<String, CallError> {
     let world = replayed(alloc, job, &TURNS, true)?;
     Ok(text_of_world(alloc, job.plan(), &world)?)
 }
 
 /// The table of a job's outputs, and how its sites stand after the turns.
-fn both_of(alloc: Global, job: &Job) -> Result<(String, String), Stop>
+fn both_of(alloc: Global, job: &Job) -> Result<(String, String), CallError>
     requires { 0 < length (outputs_of job.now.plan.flat.variables) }
 {
     let table = table_of(alloc, job)?;
@@ -103,13 +103,13 @@ fn both_of(alloc: Global, job: &Job) -> Result<(String, String), Stop>
 }
 
 /// The table of the design's outputs, and how its sites stand after the turns.
-fn told(alloc: Global) -> Result<(String, String), Stop> {
+fn reported(alloc: Global) -> Result<(String, String), CallError> {
     let job = job_for(alloc, &Texts, "design", "placement", "table", "main")?;
     both_of(alloc, &job)
 }
 
 fn main(rt: HostRuntime) -> io::Result<()> {
-    match told(rt.alloc()) {
+    match reported(rt.alloc()) {
         Ok((table, world)) => print!(rt; "{table}\n{world}"),
         Err(stop) => println!(rt; "{stop}"),
     }

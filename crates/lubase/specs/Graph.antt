@@ -1,5 +1,7 @@
--- Directed graphs. The vertices are the places of a list, and each place has a list of the places that it points to.
-use Rattle.std.specs.Prelude.{◌≡◌, ◌<◌, ◌⊎◌, ◌↔◌, ℕ, Bool, false, IsTrue, List, [], Option, Some, None, length, slice_get, slice_index, slice_index_or, All, Contains, Vec}
+-- Directed graphs. The vertices are the places of a list, and each place has a list of the places that it
+-- points to.
+use Rattle.std.specs.Prelude.{◌≡◌, ◌<◌, ◌⊎◌, ◌↔◌, ℕ, Bool, false, IsTrue, List, [], Option, Some, None}
+use Rattle.std.specs.Prelude.{length, slice_get, slice_index, slice_index_or, All, Contains, Vec}
 use Rattle.std.specs.Global.{Global}
 
 abbrev pub Graph : Type 0
@@ -31,8 +33,10 @@ IsCycle g v = Reaches g v v
 pub record IsOrder (g : Graph) (order : List ℕ) : Type 0 where
   pub all : (v : ℕ) → v < length g → Contains order v
   pub inside : All (λ v. v < length g) order
-  pub once : (i j : ℕ) → i < length order → j < length order → slice_index order i ≡ slice_index order j → i ≡ j
-  pub behind : (i j : ℕ) → i < length order → j < length order → PointsTo g (slice_index order i) (slice_index order j) → j < i
+  pub once : (i j : ℕ) → i < length order → j < length order → slice_index order i ≡ slice_index order j
+      → i ≡ j
+  pub behind : (i j : ℕ) → i < length order → j < length order → PointsTo g (slice_index order i)
+      (slice_index order j) → j < i
 
 -- where there is an order, no vertex reaches itself
 abbrev pub OrderExcludesCycle : Type 0

@@ -1,5 +1,6 @@
 -- A search for vertices that reach themselves, between two steps.
-use Rattle.std.specs.Prelude.{◌≡◌, ◌<◌, ◌≤◌, ◌+◌, ◌*◌, ◌⊎◌, ℕ, Bool, not, List, Some, length, count_by, slice_get, slice_index, Contains}
+use Rattle.std.specs.Prelude.{◌≡◌, ◌<◌, ◌≤◌, ◌+◌, ◌*◌, ◌⊎◌, ℕ, Bool, not, List, Some, length, count_by}
+use Rattle.std.specs.Prelude.{slice_get, slice_index, Contains}
 use Rattle.lubase.specs.declared.groups.Frame.{Frame}
 use Rattle.lubase.specs.Graph.{Graph, row_of, PointsTo, Reaches}
 use Rattle.lubase.specs.Search.{Has, Lacks, Each, EachPair}
@@ -15,22 +16,27 @@ SameGroup bounds i j = (b : ℕ) → Contains bounds b → b ≤ j → b ≤ i
 -- a place of the stack that an edge leads back to, or the place from which edges are looked at
 abbrev pub IsLow : List Bool → List Bool → List ℕ → List ℕ → ℕ → ℕ → Type 0
 IsLow entered left places row here low =
-    (low ≡ here) ⊎ ((k : ℕ) × (k < length row) × (slice_index row k < length entered) × Has entered (slice_index row k) × Lacks left (slice_index row k) × (slice_index places (slice_index row k) ≡ low))
+    (low ≡ here) ⊎ ((k : ℕ) × (k < length row) × (slice_index row k < length entered)
+    × Has entered (slice_index row k) × Lacks left (slice_index row k)
+    × (slice_index places (slice_index row k) ≡ low))
 
 -- what stands in a row between two places is no vertex, or is entered, and left or at a place from `low` on
 abbrev pub IsLooked : List Bool → List Bool → List ℕ → List ℕ → ℕ → ℕ → ℕ → Type 0
 IsLooked entered left places row from to low =
     (k : ℕ) → from ≤ k → k < to → slice_index row k < length entered →
-    Has entered (slice_index row k) × (Lacks left (slice_index row k) → low ≤ slice_index places (slice_index row k))
+    Has entered (slice_index row k) × (Lacks left (slice_index row k)
+    → low ≤ slice_index places (slice_index row k))
 
 module _ (g : Graph) (left : List Bool) (stack bounds : List ℕ) where
   -- what an edge from a place leads to: no vertex, one that is left, or one of the same group or a later one
   abbrev pub IsSettled : ℕ → ℕ → Type 0
-  IsSettled j w = w < length g → Has left w ⊎ ((p : ℕ) × (p < length stack) × (slice_index stack p ≡ w) × SameGroup bounds p j)
+  IsSettled j w = w < length g → Has left w ⊎ ((p : ℕ) × (p < length stack) × (slice_index stack p ≡ w)
+      × SameGroup bounds p j)
 
   -- all edges of a place up to one of its row
   abbrev pub IsSettledTo : ℕ → ℕ → Type 0
-  IsSettledTo j n = (k : ℕ) → k < n → k < length (row_of g (slice_index stack j)) → IsSettled j (slice_index (row_of g (slice_index stack j)) k)
+  IsSettledTo j n = (k : ℕ) → k < n → k < length (row_of g (slice_index stack j))
+      → IsSettled j (slice_index (row_of g (slice_index stack j)) k)
 
 -- a frame of a place
 abbrev pub HasFrame : List Frame → ℕ → Type 0
@@ -57,21 +63,26 @@ pub record IsMarking (g : Graph) (entered left looped : List Bool) (places : Lis
 -- the stack and its groups
 pub record IsStack (g : Graph) (entered left : List Bool) (places stack bounds : List ℕ) : Type 0 where
   pub stands : (j : ℕ) → j < length stack → Stands g entered left places stack j
-  pub found : (v : ℕ) → Has entered v → Lacks left v → (slice_index places v < length stack) × (slice_index stack (slice_index places v) ≡ v)
+  pub found : (v : ℕ) → Has entered v → Lacks left v → (slice_index places v < length stack)
+      × (slice_index stack (slice_index places v) ≡ v)
   pub forward : (i j : ℕ) → i < j → j < length stack → Reaches g (slice_index stack i) (slice_index stack j)
-  pub back : (i j : ℕ) → i < j → j < length stack → SameGroup bounds i j → Reaches g (slice_index stack j) (slice_index stack i)
+  pub back : (i j : ℕ) → i < j → j < length stack → SameGroup bounds i j → Reaches g (slice_index stack j)
+      (slice_index stack i)
   pub rising : IsRising bounds
   pub begun : 0 < length stack → Contains bounds 0
 
 -- the frames: those places of which edges are still to be looked at
-pub record AreFrames (g : Graph) (left : List Bool) (stack bounds : List ℕ) (frames : List Frame) : Type 0 where
+pub record AreFrames (g : Graph) (left : List Bool) (stack bounds : List ℕ)
+    (frames : List Frame) : Type 0 where
   pub inside : Each (λ f. f.place < length stack) frames
   pub rise : EachPair (λ f h. f.place < h.place) frames
   pub bounded : (b : ℕ) → Contains bounds b → HasFrame frames b
   pub looked : Each (λ f. IsSettledTo g left stack bounds f.place f.next) frames
-  pub finished : (j : ℕ) → j < length stack → HasFrame frames j ⊎ IsSettledTo g left stack bounds j (length (row_of g (slice_index stack j)))
+  pub finished : (j : ℕ) → j < length stack → HasFrame frames j
+      ⊎ IsSettledTo g left stack bounds j (length (row_of g (slice_index stack j)))
 
-pub record IsGrouping (g : Graph) (entered left looped : List Bool) (places stack bounds : List ℕ) (frames : List Frame) : Type 0 where
+pub record IsGrouping (g : Graph) (entered left looped : List Bool) (places stack bounds : List ℕ)
+    (frames : List Frame) : Type 0 where
   pub marking : IsMarking g entered left looped places
   pub standing : IsStack g entered left places stack bounds
   pub framed : AreFrames g left stack bounds frames
@@ -87,13 +98,17 @@ pub record IsLeft (old new : List Bool) (stack : List ℕ) (from to : ℕ) : Typ
   pub within : (j : ℕ) → from ≤ j → j < to → Has new (slice_index stack j)
   pub only : (v : ℕ) → Has new v → Has old v ⊎ ((j : ℕ) × (from ≤ j) × (j < to) × (slice_index stack j ≡ v))
 
--- a vertex of the group that begins at a place reaches itself, if the group has another one or if it points to itself
+-- a vertex of the group that begins at a place reaches itself, if the group has another one or if it points
+-- to itself
 abbrev pub ComesBack : Graph → List ℕ → ℕ → ℕ → Type 0
 ComesBack g stack from v = (from + 1 < length stack) ⊎ Contains (row_of g v) v
 
--- what reaches itself afterwards: what did before, and those of the vertices between two places that come back
+-- what reaches itself afterwards: what did before, and those of the vertices between two places that come
+-- back
 pub record IsFlagged (g : Graph) (old new : List Bool) (stack : List ℕ) (from to : ℕ) : Type 0 where
   pub long : length new ≡ length old
   pub kept : (v : ℕ) → Has old v → Has new v
-  pub within : (j : ℕ) → from ≤ j → j < to → ComesBack g stack from (slice_index stack j) → Has new (slice_index stack j)
-  pub only : (v : ℕ) → Has new v → Has old v ⊎ ((j : ℕ) × (from ≤ j) × (j < to) × (slice_index stack j ≡ v) × ComesBack g stack from v)
+  pub within : (j : ℕ) → from ≤ j → j < to → ComesBack g stack from (slice_index stack j)
+      → Has new (slice_index stack j)
+  pub only : (v : ℕ) → Has new v → Has old v ⊎ ((j : ℕ) × (from ≤ j) × (j < to) × (slice_index stack j ≡ v)
+      × ComesBack g stack from v)

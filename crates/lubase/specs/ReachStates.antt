@@ -23,8 +23,10 @@ pub record IsEntered (row : List ℕ) (old new : List Bool) (before after : List
   pub only : (v : ℕ) → Contains after v → Contains before v ⊎ Contains row v
   pub steps : steps_left new after ≡ steps_left old before
 
--- All starts are marked, and what is marked is reached. What a marked number is linked to is marked, or the number is on the stack.
-pub record IsSearching (starts : List ℕ) (links : List Link) (rows : Graph) (marks : List Bool) (stack : List ℕ) : Type 0 where
+-- All starts are marked, and what is marked is reached. What a marked number is linked to is marked, or the
+-- number is on the stack.
+pub record IsSearching (starts : List ℕ) (links : List Link) (rows : Graph) (marks : List Bool)
+    (stack : List ℕ) : Type 0 where
   pub long : length marks ≡ length rows
   pub started : All (Has marks) starts
   pub sound : (v : ℕ) → Has marks v → IsReached starts links v

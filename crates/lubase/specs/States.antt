@@ -18,8 +18,10 @@ IsVisiting g s visit = IsSearch g s.entered.items s.placed.items (s.path.items +
 
 -- a search for vertices that reach themselves, between two steps
 abbrev pub IsGroups : Graph → Groups → Type 0
-IsGroups g s = IsGrouping g s.entered.items s.left.items s.looped.items s.places.items s.stack.items s.bounds.items s.frames.items
+IsGroups g s = IsGrouping g s.entered.items s.left.items s.looped.items s.places.items s.stack.items
+    s.bounds.items s.frames.items
 
 -- the same, where the last frame has been taken off
 abbrev pub IsFramed : Graph → Groups → Frame → Type 0
-IsFramed g s frame = IsGrouping g s.entered.items s.left.items s.looped.items s.places.items s.stack.items s.bounds.items (s.frames.items ++ frame ∷ [])
+IsFramed g s frame = IsGrouping g s.entered.items s.left.items s.looped.items s.places.items s.stack.items
+    s.bounds.items (s.frames.items ++ frame ∷ [])

@@ -8,7 +8,7 @@ use Rattle.luflow.specs.declared.data.Status.{Status}
 use Rattle.luflow.specs.declared.variable.Variable.{Variable}
 use Rattle.luflow.specs.declared.variable.Role.{Role}
 use Rattle.luflow.specs.declared.variable.Role.TheVariants.{Input, Output, Local}
-use Rattle.luflow.specs.Program.{FlatProgram, Table, flows_of}
+use Rattle.luflow.specs.Program.{FlatView, InputsView, flows_of}
 use Rattle.luflow.specs.Streams.{Mark, Known, Streams, clock_at, ticked}
 use Rattle.luflow.specs.Messages.{marks}
 use Rattle.luflow.specs.Solution.{IsSolution, solution}
@@ -38,7 +38,7 @@ is_role Input e = absurd cc
 is_role Output e = refl
 is_role Local e = absurd cc
 
-abbrev pub AreLong : FlatProgram → Table → List Column → Type 0
+abbrev pub AreLong : FlatView → InputsView → List Column → Type 0
 AreLong flat inputs columns = (v : ℕ) (x : Variable) (column : Column) → slice_get flat.variables v ≡ Some x → is_output x.role ≡ true → slice_get columns v ≡ Some column → length column.items ≡ inputs.instants
 
 pub on_ok : {X E : Type 0} (P : Type 0) (r : Result X E) → P → OnOk r P
@@ -46,7 +46,7 @@ on_ok P (Ok x) p = p
 on_ok P (Err e) p = tt
 
 -- a whole column of an output, in a solution
-module _ (flat : FlatProgram) (inputs : Table) (columns : List Column) (σ : Streams) (is_flat : IsFlat flat) (fit : IsFit flat inputs) (sol : IsSolution flat inputs σ) (near : AreNear flat σ inputs.instants columns) (v : ℕ) (x : Variable) (column : Column) (there : slice_get flat.variables v ≡ Some x) (output : is_output x.role ≡ true) (at : slice_get columns v ≡ Some column) (long : length column.items ≡ inputs.instants) where
+module _ (flat : FlatView) (inputs : InputsView) (columns : List Column) (σ : Streams) (is_flat : IsFlat flat) (fit : IsFit flat inputs) (sol : IsSolution flat inputs σ) (near : AreNear flat σ inputs.instants columns) (v : ℕ) (x : Variable) (column : Column) (there : slice_get flat.variables v ≡ Some x) (output : is_output x.role ≡ true) (at : slice_get columns v ≡ Some column) (long : length column.items ≡ inputs.instants) where
   known_at : (m : ℕ) (s : Status) → slice_get column.items m ≡ Some s → σ v m ≡ Known s
   known_at m s is =
       let lv : v < flows_of flat = (let l = slice_get_within flat.variables v x there in let k = is_flat.variables_first in omega (arith, l, k)) in
@@ -58,12 +58,12 @@ module _ (flat : FlatProgram) (inputs : Table) (columns : List Column) (σ : Str
       let same : first_of flat v inputs.instants + m ≡ m = ap (λ (k : ℕ). k + m) first ∙ (let none : 0 + m ≡ m = omega arith in none) in
       subst (λ (k : ℕ). IsNear (σ v k) s) same (near.near v column at m s is))
 
-  pub told_column : map Known column.items ≡ marks (σ v) inputs.instants
-  told_column =
+  pub reported_column : map Known column.items ≡ marks (σ v) inputs.instants
+  reported_column =
       listed column.items (σ v) 0 (λ m s is. (let e : 0 + m ≡ m = omega arith in ap (σ v) e ∙ known_at m s is))
       ∙ ap (λ (n : ℕ). map (σ v) (range_with_len 0 n)) long
 
-module _ (flat : FlatProgram) (inputs : Table) (columns : List Column) (is_flat : IsFlat flat) (fit : IsFit flat inputs) (run : IsRun flat inputs columns) where
+module _ (flat : FlatView) (inputs : InputsView) (columns : List Column) (is_flat : IsFlat flat) (fit : IsFit flat inputs) (run : IsRun flat inputs columns) where
   one : IsSolution flat inputs (solution flat inputs)
   one = IsSolution-solution flat inputs is_flat.ordered
 
@@ -73,10 +73,10 @@ module _ (flat : FlatProgram) (inputs : Table) (columns : List Column) (is_flat 
 
   pub known : AreLong flat inputs columns → (v : ℕ) (x : Variable) (column : Column) → slice_get flat.variables v ≡ Some x → is_output x.role ≡ true → slice_get columns v ≡ Some column → map Known column.items ≡ marks (solution flat inputs v) inputs.instants
   known whole v x column there output at =
-      told_column flat inputs columns (solution flat inputs) is_flat fit one (run.near (solution flat inputs) one) v x column there output at (whole v x column there output at)
+      reported_column flat inputs columns (solution flat inputs) is_flat fit one (run.near (solution flat inputs) one) v x column there output at (whole v x column there output at)
 
-  pub told_outputs : AreLong flat inputs columns → (outputs : List OutputColumn) → outputs ≡ outputs_in flat.variables (lists_of columns) → AreWholeOutputs flat inputs outputs
-  told_outputs whole outputs e = outputs_of_columns flat inputs columns is_flat (run.sound (solution flat inputs) one) run.len (known whole) outputs e
+  pub reported_outputs : AreLong flat inputs columns → (outputs : List OutputColumn) → outputs ≡ outputs_in flat.variables (lists_of columns) → AreWholeOutputs flat inputs outputs
+  reported_outputs whole outputs e = outputs_of_columns flat inputs columns is_flat (run.sound (solution flat inputs) one) run.len (known whole) outputs e
 
-  pub told_sound : AreLong flat inputs columns → 0 < length (outputs_of flat.variables) → AreOutputs (outputs_in flat.variables (lists_of columns))
-  told_sound whole some = sound_columns flat inputs columns is_flat (run.sound (solution flat inputs) one) run.len (known whole) some
+  pub reported_sound : AreLong flat inputs columns → 0 < length (outputs_of flat.variables) → AreOutputs (outputs_in flat.variables (lists_of columns))
+  reported_sound whole some = sound_columns flat inputs columns is_flat (run.sound (solution flat inputs) one) run.len (known whole) some

@@ -5,14 +5,14 @@ use Rattle.std.specs.declared.alloc.Global.{Global}
 use Rattle.std.proofs.lemmas.Bool.{cases_lt, cases_eq}
 use Rattle.std.proofs.lemmas.Option.{slice_get-get_or, slice_get_past}
 use Rattle.luflow.specs.declared.form.Flow.{Flow}
-use Rattle.luflow.specs.Program.{FlatProgram, flow_at}
+use Rattle.luflow.specs.Program.{FlatView, flow_at}
 use Rattle.lublock_kernels.specs.Rows.{word_in}
 use Rattle.lublock_kernels.specs.declared.span.Span.{Span}
 use Rattle.lublock_kernels.specs.Machine.{IsConstant, ticks_there, upto_there, was_there, known_there, taken_there, ticks_of, upto_of, was_of, known_of, taken_of, row_of, row_there}
 use Rattle.lublock_kernels.proofs.Steps.{get_other, get_same}
 
 -- the span of a flow as it is when the next block begins
-pub record Renewed (flat : FlatProgram) (old new : List Span) (r : ℕ) : Type 0 where
+pub record Renewed (flat : FlatView) (old new : List Span) (r : ℕ) : Type 0 where
   pub was : was_of new r ≡ was_of old r || nat_lt 0 (ticks_of old r)
   pub upto : (n : ℕ) (flow : Flow) → flow_at flat r ≡ Some flow → n < upto_of new r → IsConstant flow.form × (n < ticks_of old r)
   pub known : known_of new r ≡ false
@@ -29,7 +29,7 @@ none_kept true true ticks is = refl
 none_kept true false ticks is = absurd cc
 none_kept false taken ticks is = refl
 
-module _ (flat : FlatProgram) (old : List Span) where
+module _ (flat : FlatView) (old : List Span) where
   -- the same span
   renewed_same : (spans new : List Span) (r : ℕ) → slice_get new r ≡ slice_get spans r → Renewed flat old spans r → Renewed flat old new r
   renewed_same spans new r e h = record {

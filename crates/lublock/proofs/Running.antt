@@ -3,7 +3,7 @@ use Rattle.std.proofs.Common.{◌≡◌, ◌≢◌, ℕ, zero, suc, ◌+◌, ◌
 use Rattle.std.specs.Prelude.{All}
 use Rattle.std.proofs.lemmas.Bool.{cases_lt}
 use Rattle.luflow.specs.declared.data.Datum.TheVariants.{Nil}
-use Rattle.luflow.specs.Program.{FlatProgram, Table}
+use Rattle.luflow.specs.Program.{FlatView, InputsView}
 use Rattle.luflow.specs.Streams.{Streams, Broken}
 use Rattle.luflow.proofs.Solutions.{some_at}
 use Rattle.lublock_kernels.specs.declared.span.Span.{Span}
@@ -19,7 +19,7 @@ use Rattle.lublock.specs.Shown.{Column, AllNear, AreKept, IsReady, IsRightBlock,
 use Rattle.lublock.proofs.Showing.{empty_near, kept_near}
 
 -- a board that is ready stands, whatever the block's length
-pub ready_stands : (flat : FlatProgram) (inputs : Table) (σ : Streams) (t len : ℕ) (board : Board) → IsReady flat inputs σ t board → StandsOn whole flat inputs σ t len board
+pub ready_stands : (flat : FlatView) (inputs : InputsView) (σ : Streams) (t len : ℕ) (board : Board) → IsReady flat inputs σ t board → StandsOn whole flat inputs σ t len board
 ready_stands flat inputs σ t len board ready = record {
   marked = λ i taken. absurd (let e : false ≡ true = taken in cc);
   stands = record {
@@ -32,7 +32,7 @@ ready_stands flat inputs σ t len board ready = record {
   };
 }
 
-pub after_ready : (flat : FlatProgram) (inputs : Table) (σ : Streams) (t len : ℕ) (old new : Board) → IsRight flat inputs σ t len (block_of old.rows.items old.spans.items) → IsSolved flat inputs t len (block_of old.rows.items old.spans.items) → IsAfter flat old new → IsReady flat inputs σ (t + len) new
+pub after_ready : (flat : FlatView) (inputs : InputsView) (σ : Streams) (t len : ℕ) (old new : Board) → IsRight flat inputs σ t len (block_of old.rows.items old.spans.items) → IsSolved flat inputs t len (block_of old.rows.items old.spans.items) → IsAfter flat old new → IsReady flat inputs σ (t + len) new
 after_ready flat inputs σ t len old new right solved after = record {
   begins = λ r flow there.
       let e = right.ends r flow there in
@@ -50,11 +50,11 @@ after_ready flat inputs σ t len old new right solved after = record {
 }
 
 -- what is right in a block is put out, in each solution
-pub all_near : (flat : FlatProgram) (inputs : Table) (t len : ℕ) (board : Board) (shown : ℕ → Type 0) (old new : List Column) → IsFit flat inputs → t + len ≤ inputs.instants → StaysNear flat t len board shown old new → IsRightBlock flat inputs t len board → AllNear flat inputs t old → AllNear flat inputs t new
+pub all_near : (flat : FlatView) (inputs : InputsView) (t len : ℕ) (board : Board) (shown : ℕ → Type 0) (old new : List Column) → IsFit flat inputs → t + len ≤ inputs.instants → StaysNear flat t len board shown old new → IsRightBlock flat inputs t len board → AllNear flat inputs t old → AllNear flat inputs t new
 all_near flat inputs t len board shown old new fit within stays right all = λ σ sol. stays.near inputs σ fit sol within (λ v is n flow there l. (right σ sol).at v n flow there l) (all σ sol)
 
 -- one block more
-pub stands_on : (flat : FlatProgram) (inputs : Table) (t len : ℕ) (before old new : Board) (columns columns' kept : List Column) → StandsAt flat inputs t before columns → IsRightBlock flat inputs t len old → ((σ : Streams) → IsSolution flat inputs σ → IsSolved flat inputs t len (block_of old.rows.items old.spans.items)) → IsAfter flat old new → AllNear flat inputs t columns' → AreKept flat columns' kept → StandsAt flat inputs (t + len) new kept
+pub stands_on : (flat : FlatView) (inputs : InputsView) (t len : ℕ) (before old new : Board) (columns columns' kept : List Column) → StandsAt flat inputs t before columns → IsRightBlock flat inputs t len old → ((σ : Streams) → IsSolution flat inputs σ → IsSolved flat inputs t len (block_of old.rows.items old.spans.items)) → IsAfter flat old new → AllNear flat inputs t columns' → AreKept flat columns' kept → StandsAt flat inputs (t + len) new kept
 stands_on flat inputs t len before old new columns columns' kept stands right solved after near are = record {
   ready = λ σ sol. after_ready flat inputs σ t len old new (right σ sol) (solved σ sol) after;
   near = λ σ sol. kept_near flat σ t (t + len) columns' kept (near σ sol) are;
@@ -93,7 +93,7 @@ pub board_len : (board : Board) (n : ℕ) → board.spans.items ≡ replicate n 
 board_len board n is = ap length is ∙ fresh_len n
 
 -- before the first block
-pub stands_first : (flat : FlatProgram) (inputs : Table) (n : ℕ) (board : Board) (columns : List Column) → board.spans.items ≡ replicate n fresh → All (λ (column : Column). column.items ≡ []) columns → StandsAt flat inputs 0 board columns
+pub stands_first : (flat : FlatView) (inputs : InputsView) (n : ℕ) (board : Board) (columns : List Column) → board.spans.items ≡ replicate n fresh → All (λ (column : Column). column.items ≡ []) columns → StandsAt flat inputs 0 board columns
 stands_first flat inputs n board columns is empty = record {
   ready = λ σ sol. record {
     begins = λ r flow there. record {

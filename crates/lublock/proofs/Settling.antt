@@ -8,7 +8,7 @@ use Rattle.luflow.specs.declared.data.Datum.{Datum}
 use Rattle.luflow.specs.declared.form.Form.{Form}
 use Rattle.luflow.specs.declared.form.Form.TheVariants.{Input, Constant, Copied, Unary, Binary, If, Pre, Arrow, When, Current, Merge}
 use Rattle.luflow.specs.declared.form.Flow.{Flow}
-use Rattle.luflow.specs.Program.{FlatProgram, Table, flow_at, column_of}
+use Rattle.luflow.specs.Program.{FlatView, InputsView, flow_at, column_of}
 use Rattle.luflow.specs.Streams.{Streams}
 use Rattle.lublock_kernels.specs.declared.span.Span.{Span}
 use Rattle.lublock_kernels.specs.Blocks.{Block, datum_at}
@@ -80,7 +80,7 @@ module _ (spans : List Span) (i : ℕ) (span : Span) (there : slice_get spans i 
       (record { still = λ was. let w = settled_span was in (w.0, w.1, refl) })
 
 -- what was supposed of flow i is what its form asks for
-module _ (part : Part) (flat : FlatProgram) (inputs : Table) (σ : Streams) (t len : ℕ) (rows : List (Vec ℤ Global)) (spans : List Span) (i : ℕ) (span : Span) (there : slice_get spans i ≡ Some span) where
+module _ (part : Part) (flat : FlatView) (inputs : InputsView) (σ : Streams) (t len : ℕ) (rows : List (Vec ℤ Global)) (spans : List Span) (i : ℕ) (span : Span) (there : slice_get spans i ≡ Some span) where
   abbrev found : Span
   found = record { ticks = span.ticks; upto = span.upto; was = span.was; known = span.known; supposed = false; taken = span.taken }
 
@@ -146,7 +146,7 @@ module _ (part : Part) (flat : FlatProgram) (inputs : Table) (σ : Streams) (t l
       }
 
 -- the words of a flow are those that its form asks for in each table in which it reads the same
-module _ (flat : FlatProgram) (given table : Table) (t : ℕ) (b : Block) (upto : ℕ → ℕ) (known : ℕ → Bool) (i : ℕ) (flow : Flow) (n : ℕ) where
+module _ (flat : FlatView) (given table : InputsView) (t : ℕ) (b : Block) (upto : ℕ → ℕ) (known : ℕ → Bool) (i : ℕ) (flow : Flow) (n : ℕ) where
   done_form : (form : Form) → ((c : ℕ) → form ≡ Input c → column_of given c ≡ column_of table c) → IsDone flat given t b upto known i flow form n → IsDone flat table t b upto known i flow form n
   done_form (Input c) same h = (ap (λ (xs : List _). slice_get xs (t + n)) (sym (same c refl)) ∙ h.0, tt)
   done_form (Constant d) same h = h
@@ -160,11 +160,11 @@ module _ (flat : FlatProgram) (given table : Table) (t : ℕ) (b : Block) (upto 
   done_form (Current a) same h = h
   done_form (Merge c xs) same h = h
 
-pub written_in : (flat : FlatProgram) (given table : Table) (t : ℕ) (rows : List (Vec ℤ Global)) (spans : List Span) (i : ℕ) (flow : Flow) (from to : ℕ) (row : List ℤ) → flow_at flat i ≡ Some flow → ReadsSame flat given table i → WritesForm flat given t rows spans i flow flow.form from to row → WritesForm flat table t rows spans i flow flow.form from to row
+pub written_in : (flat : FlatView) (given table : InputsView) (t : ℕ) (rows : List (Vec ℤ Global)) (spans : List Span) (i : ℕ) (flow : Flow) (from to : ℕ) (row : List ℤ) → flow_at flat i ≡ Some flow → ReadsSame flat given table i → WritesForm flat given t rows spans i flow flow.form from to row → WritesForm flat table t rows spans i flow flow.form from to row
 written_in flat given table t rows spans i flow from to row there same h b with' n l l' = done_form flat given table t b (upto_of spans) (known_of spans) i flow n flow.form (λ c is. same flow c there is) (h b with' n l l')
 
 -- the words of an input are those of its column
-pub given_writes : (flat : FlatProgram) (table : Table) (values : List Datum) (t : ℕ) (rows : List (Vec ℤ Global)) (spans : List Span) (i : ℕ) (flow : Flow) (from to : ℕ) (row : List ℤ) → flow_at flat i ≡ Some flow → IsGiven flat table values i → (c : ℕ) × (flow.form ≡ Input c)
+pub given_writes : (flat : FlatView) (table : InputsView) (values : List Datum) (t : ℕ) (rows : List (Vec ℤ Global)) (spans : List Span) (i : ℕ) (flow : Flow) (from to : ℕ) (row : List ℤ) → flow_at flat i ≡ Some flow → IsGiven flat table values i → (c : ℕ) × (flow.form ≡ Input c)
     → ((n : ℕ) → from ≤ n → n < to → slice_get values (t + n) ≡ Some (datum_at flow.kind (word_in row (suc n)))) → WritesForm flat table t rows spans i flow flow.form from to row
 given_writes flat table values t rows spans i flow from to row there given is words b with' n l l' =
     let here : slice_get (column_of table is.0) (t + n) ≡ Some (datum_at flow.kind (b.word i (suc n))) =

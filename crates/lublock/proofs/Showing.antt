@@ -13,7 +13,7 @@ use Rattle.luflow.specs.declared.data.Status.TheVariants.{Absent, Present}
 use Rattle.luflow.specs.declared.form.Clock.{Clock}
 use Rattle.luflow.specs.declared.form.Clock.TheVariants.{Base, On}
 use Rattle.luflow.specs.declared.form.Flow.{Flow}
-use Rattle.luflow.specs.Program.{FlatProgram, Table, flow_at}
+use Rattle.luflow.specs.Program.{FlatView, InputsView, flow_at}
 use Rattle.luflow.specs.Streams.{Mark, Known, Broken, Streams, is_value, truth_in, clock_at, ticked}
 use Rattle.luflow.specs.Solution.{IsSolution}
 use Rattle.luflow.specs.Sound.{IsFit, IsTidyMark, ClockFits}
@@ -121,13 +121,13 @@ no_status : (column : Column) (m : ℕ) (s : Status) → column.items ≡ [] →
 no_status column m s empty at = let none : List Status = [] in let f : slice_get none m ≡ Some s = ap (λ (xs : List Status). slice_get xs m) (sym empty) ∙ at in cc
 
 -- columns without statuses are near
-pub empty_near : (flat : FlatProgram) (σ : Streams) (t : ℕ) (columns : List Column) → All (λ (column : Column). column.items ≡ []) columns → AreNear flat σ t columns
+pub empty_near : (flat : FlatView) (σ : Streams) (t : ℕ) (columns : List Column) → All (λ (column : Column). column.items ≡ []) columns → AreNear flat σ t columns
 empty_near flat σ t columns empty = record {
   near = λ v x there m s at. absurd (no_status x m s (all_at (λ (column : Column). column.items ≡ []) columns v x empty there) at);
 }
 
 -- what is kept stays near, from whichever instant on the others begin
-pub kept_near : (flat : FlatProgram) (σ : Streams) (t u : ℕ) (old new : List Column) → AreNear flat σ t old → AreKept flat old new → AreNear flat σ u new
+pub kept_near : (flat : FlatView) (σ : Streams) (t u : ℕ) (old new : List Column) → AreNear flat σ t old → AreKept flat old new → AreNear flat σ u new
 kept_near flat σ t u old new near kept = record {
   near = λ v x there m s at. elim (kept v x there) [
     | inl h ↦ subst (λ (k : ℕ). IsNear (σ v (k + m)) s) (h.0 t ∙ sym (h.0 u)) (near.near v x h.1 m s at)
@@ -136,7 +136,7 @@ kept_near flat σ t u old new near kept = record {
 }
 
 -- main variables are put out one after another
-module _ (flat : FlatProgram) (t len : ℕ) (board : Board) (shown : ℕ → Type 0) where
+module _ (flat : FlatView) (t len : ℕ) (board : Board) (shown : ℕ → Type 0) where
   pub stays_same : (columns : List Column) → StaysNear flat t len board shown columns columns
   stays_same columns = record { near = λ inputs σ fit sol within right near. near }
 
@@ -147,13 +147,13 @@ module _ (flat : FlatProgram) (t len : ℕ) (board : Board) (shown : ℕ → Typ
   }
 
 -- what a part knows is right where it is
-pub stays_in : (flat : FlatProgram) (t len : ℕ) (board : Board) (needs : List ℕ) (old new : List Column) → StaysNear flat t len board (λ v. (k : ℕ) × (slice_get needs k ≡ Some v)) old new → StaysNearIn flat t len board needs old new
+pub stays_in : (flat : FlatView) (t len : ℕ) (board : Board) (needs : List ℕ) (old new : List Column) → StaysNear flat t len board (λ v. (k : ℕ) × (slice_get needs k ≡ Some v)) old new → StaysNearIn flat t len board needs old new
 stays_in flat t len board needs old new stays = record {
   near = λ part inputs σ fit sol within known right.
       stays.near inputs σ fit sol within (λ v is n flow there l. right.at v n flow there (known is.0 v is.1) l);
 }
 
-module _ (flat : FlatProgram) (inputs : Table) (σ : Streams) (t len : ℕ) (board : Board) (v : ℕ) (is_flat : IsFlat flat) (fit : IsFit flat inputs) (sol : IsSolution flat inputs σ) (within : t + len ≤ inputs.instants) (right : IsRightFlow flat inputs σ t len board v) where
+module _ (flat : FlatView) (inputs : InputsView) (σ : Streams) (t len : ℕ) (board : Board) (v : ℕ) (is_flat : IsFlat flat) (fit : IsFit flat inputs) (sol : IsSolution flat inputs σ) (within : t + len ≤ inputs.instants) (right : IsRightFlow flat inputs σ t len board v) where
   mark : (r n : ℕ) (flow : Flow) → flow_at flat r ≡ Some flow → n < len → IsTidyMark flow.kind (is_flat.sound.class r) (ticked (clock_at inputs σ flow.clock) (t + n)) (clock_at inputs σ flow.clock (t + n)) (σ r (t + n))
   mark r n flow is l = tidy flat inputs σ is_flat.ordered is_flat.sound fit sol r (t + n) (slice_get_within flat.flows r flow is) (omega (arith, within)) flow is
 

@@ -2,7 +2,7 @@
 
 ghost use Rattle.std.specs.Prelude.{◌≡◌, ◌≤◌, ◌<◌, ◌+◌, ℕ, All, length, true, false, IsTrue};
 ghost use Rattle.luflow.specs.Streams.{Streams};
-ghost use Rattle.luflow.specs.Program.{FlatProgram, Table, flows_of};
+ghost use Rattle.luflow.specs.Program.{FlatView, InputsView, flows_of};
 ghost use Rattle.luflow.specs.Solution.{IsSolution};
 ghost use Rattle.luflow.specs.Sound.{IsFit};
 ghost use Rattle.lublock_kernels.specs.Blocks.{IsRight, IsSolved};
@@ -13,7 +13,7 @@ ghost use Rattle.lublock_kernels.specs.Machine.{IsWhole, block_of};
 use crate::board::Board;
 use crate::closing::closes;
 use lublock_kernels::span::Span;
-use lublock_plan::{Back, Cycle, Pace, Plan, Step};
+use lublock_plan::{Cycle, CycleClock, CyclePre, Plan, Step};
 use luflow::{Flat, Inputs};
 use std::alloc::Global;
 
@@ -55,16 +55,16 @@ impl Board {
     }
 
     /// Supposes what the `pre`s of a clock give.
-    fn suppose_all(&mut self, backs: &[Back]) -> bool
-        ensures stands { (flat : FlatProgram) (inputs : Table) (t len : ℕ)
+    fn suppose_all(&mut self, cycle_pres: &[CyclePre]) -> bool
+        ensures stands { (flat : FlatView) (inputs : InputsView) (t len : ℕ)
             → StandsStill flat inputs t len self.old self.new }
         ensures flows { length self.new.spans.items ≡ length self.old.spans.items }
     {
-        for back in backs {
-            let Some(words) = back.words.as_slice().get(..back.count) else {
+        for cycle_pre in cycle_pres {
+            let Some(words) = cycle_pre.words.as_slice().get(..cycle_pre.count) else {
                 return true;
             };
-            if self.suppose(back.flow, words) {
+            if self.suppose(cycle_pre.flow, words) {
                 return true;
             }
         }
@@ -72,16 +72,16 @@ impl Board {
     }
 
     /// Supposes what the other `pre`s of a clock give, which have the words of some of its `pre`s.
-    fn suppose_twins(&mut self, pace: &Pace) -> bool
-        ensures stands { (flat : FlatProgram) (inputs : Table) (t len : ℕ)
+    fn suppose_twins(&mut self, cycle_clock: &CycleClock) -> bool
+        ensures stands { (flat : FlatView) (inputs : InputsView) (t len : ℕ)
             → StandsStill flat inputs t len self.old self.new }
         ensures flows { length self.new.spans.items ≡ length self.old.spans.items }
     {
-        for twin in &pace.twins {
-            let Some(back) = pace.backs.get(twin.back) else {
+        for twin in &cycle_clock.twins {
+            let Some(cycle_pre) = cycle_clock.cycle_pres.get(twin.cycle_pre) else {
                 return true;
             };
-            let Some(words) = back.words.as_slice().get(..back.count) else {
+            let Some(words) = cycle_pre.words.as_slice().get(..cycle_pre.count) else {
                 return true;
             };
             if self.suppose(twin.flow, words) {
@@ -93,7 +93,7 @@ impl Board {
 
     /// How many ticks a cycle has whose clock is that of this flow.
     fn ticks_of(&mut self, flat: &Flat, len: usize, lead: Option<usize>) -> Option<usize>
-        ensures stands { (inputs : Table) (t : ℕ)
+        ensures stands { (inputs : InputsView) (t : ℕ)
             → StandsStill flat.now inputs t len self.old self.new }
         ensures flows { length self.new.spans.items ≡ length self.old.spans.items }
     {
@@ -111,7 +111,7 @@ impl Board {
 
     /// Goes through a cycle, instant by instant, and supposes what its `pre`s give; whether that can't be.
     pub fn cycle(&mut self, flat: &Flat, len: usize, cycle: &mut Cycle) -> bool
-        ensures stands { (inputs : Table) (t : ℕ)
+        ensures stands { (inputs : InputsView) (t : ℕ)
             → StandsStill flat.now inputs t len self.old self.new }
         ensures flows { length self.new.spans.items ≡ length self.old.spans.items }
     {
@@ -119,11 +119,11 @@ impl Board {
             return true;
         };
         cycle.run(self.rows.as_slice(), ticks);
-        for pace in &cycle.paces {
-            if self.suppose_all(pace.backs.as_slice()) {
+        for cycle_clock in &cycle.cycle_clocks {
+            if self.suppose_all(cycle_clock.cycle_pres.as_slice()) {
                 return true;
             }
-            if self.suppose_twins(pace) {
+            if self.suppose_twins(cycle_clock) {
                 return true;
             }
         }

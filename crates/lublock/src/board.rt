@@ -1,7 +1,7 @@
 //! The rows of all flows, and how far each has come in the block.
 
 ghost use Rattle.std.specs.Prelude.{◌≡◌, ◌≤◌, ◌<◌, ◌+◌, slice_get, ◌||◌, ◌&&◌, not, ℕ, suc, length, true, false, cond, IfOk, IfSome, Some, nat_lt, replicate};
-ghost use Rattle.luflow.specs.Program.{FlatProgram, Table, flow_at};
+ghost use Rattle.luflow.specs.Program.{FlatView, InputsView, flow_at};
 ghost use Rattle.luflow.specs.declared.form.Flow.{Flow};
 ghost use Rattle.lublock_kernels.specs.Rows.{Keeps, word_in};
 ghost use Rattle.lublock_kernels.specs.Words.{datum_at};
@@ -135,7 +135,7 @@ impl Board {
     /// Counts the ticks of flow i in a block of `len` instants, where they aren't counted yet; whether they can't be. Where flow `like` has the same
     /// clock and was counted, it has as many.
     pub fn count(&mut self, flat: &Flat, len: usize, i: usize, like: usize) -> bool
-        ensures stands { (inputs : Table) (t : ℕ)
+        ensures stands { (inputs : InputsView) (t : ℕ)
             → StandsStill flat.now inputs t len self.old self.new }
         ensures flows { length self.new.spans.items ≡ length self.old.spans.items }
     {
@@ -193,7 +193,7 @@ impl Board {
         i: usize,
         to: usize,
     ) -> bool
-        ensures stands { (len : ℕ) (table : Table) → ReadsSame flat.now inputs.now table i
+        ensures stands { (len : ℕ) (table : InputsView) → ReadsSame flat.now inputs.now table i
             → StandsStill flat.now table t len self.old self.new }
         ensures flows { length self.new.spans.items ≡ length self.old.spans.items }
     {
@@ -266,7 +266,7 @@ impl Board {
         i: usize,
         to: usize,
     ) -> bool
-        ensures stands { (len : ℕ) (table : Table) → IsGiven flat.now table (data_in values.now) i
+        ensures stands { (len : ℕ) (table : InputsView) → IsGiven flat.now table (data_in values.now) i
             → StandsStill flat.now table t len self.old self.new }
         ensures flows { length self.new.spans.items ≡ length self.old.spans.items }
     {
@@ -341,7 +341,7 @@ impl Board {
     /// Supposes the words of a flow, of which it has none yet; whether they can't be put. Nothing is known of them before it is seen that they
     /// are right.
     pub fn suppose(&mut self, i: usize, words: &[i64]) -> bool
-        ensures stands { (flat : FlatProgram) (inputs : Table) (t len : ℕ)
+        ensures stands { (flat : FlatView) (inputs : InputsView) (t len : ℕ)
             → StandsStill flat inputs t len self.old self.new }
         ensures flows { length self.new.spans.items ≡ length self.old.spans.items }
     {

@@ -6,7 +6,7 @@
 //!
 //! - `board`, `block`: all rows, and the steps of one block; `closing`, `stage`: whether what a cycle supposed is right, and where all words of
 //!   a flow are found.
-//! - `show`, `told`, `run`: statuses at a block's instants; columns of them; block after block.
+//! - `show`, `reported`, `run`: statuses at a block's instants; columns of them; block after block.
 //!
 //! The words of one flow are those of `lublock_kernels`.
 #![tactic(auto)]
@@ -14,12 +14,12 @@
 mod block;
 mod board;
 mod closing;
+mod reported;
 mod run;
 mod show;
 mod stage;
-mod told;
 
 pub use board::Board;
 pub use lueval_lines::empty_columns;
+pub use reported::{clear_others, show_part};
 pub use run::block_outputs;
-pub use told::{clear_others, show_part};

@@ -10,7 +10,7 @@ ghost use Rattle.lueval.specs.Whole.{AreWholeOutputs, HasNoFault, IsAnswer, Keep
 ghost use Rattle.lublock.specs.Shown.{Column, IsRun, StandsAt};
 
 use crate::board::Board;
-use crate::told::{clear_others, show_flows};
+use crate::reported::{clear_others, show_flows};
 use lublock_plan::{Plan, needed};
 use lueval::{EvalError, taken_outputs, whole_outputs};
 use lueval_lines::empty_columns;
@@ -108,7 +108,7 @@ fn are_whole(variables: &[Variable], columns: &[Vec<Status>], instants: usize) -
 }
 
 /// The outputs among the columns of a whole run.
-fn told(
+fn reported(
     alloc: Global,
     flat: &Flat,
     inputs: &Inputs,
@@ -152,7 +152,7 @@ pub fn block_outputs(alloc: Global, flat: &Flat, inputs: &Inputs) -> Result<Outp
     let instants = inputs.instants() as usize;
     match run(alloc, flat, inputs)? {
         Some(columns) if are_whole(flat.variables(), columns.as_slice(), instants) => {
-            told(alloc, flat, inputs, columns)
+            reported(alloc, flat, inputs, columns)
         }
         _ => whole_outputs(alloc, flat, inputs),
     }

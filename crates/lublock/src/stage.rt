@@ -1,7 +1,7 @@
 //! Where all words of a flow are found, before the block is whole.
 
 ghost use Rattle.std.specs.Prelude.{◌≡◌, ◌≤◌, ℕ, false, true, length};
-ghost use Rattle.luflow.specs.Program.{Table, flow_at};
+ghost use Rattle.luflow.specs.Program.{InputsView, flow_at};
 ghost use Rattle.luflow.specs.declared.form.Flow.{Flow};
 ghost use Rattle.luflow.specs.declared.form.Form.{Form};
 ghost use Rattle.lublock_kernels.specs.Machine.{IsClosed, upto_of};
@@ -53,7 +53,7 @@ impl Board {
     /// Looks whether flow i has all its words and, where they were supposed, whether they are what its form asks for; true where something is
     /// missing or wrong.
     pub fn settle(&mut self, flat: &Flat, i: usize) -> bool
-        ensures stands { (inputs : Table) (t len : ℕ)
+        ensures stands { (inputs : InputsView) (t len : ℕ)
             → StandsStill flat.now inputs t len self.old self.new }
         ensures settled { result ≡ false → IsSettled self.new.spans.items i }
         ensures flows { length self.new.spans.items ≡ length self.old.spans.items }

@@ -10,7 +10,7 @@ use Rattle.luflow.specs.declared.form.Form.{Form}
 use Rattle.luflow.specs.declared.form.Form.TheVariants.{Input, Constant, Copied, Unary, Binary, If, Pre, Arrow, When, Current, Merge}
 use Rattle.luflow.specs.declared.form.Flow.{Flow}
 use Rattle.luflow.specs.declared.form.Outcome.TheVariants.{Gives}
-use Rattle.luflow.specs.Program.{FlatProgram, Table, flow_at}
+use Rattle.luflow.specs.Program.{FlatView, InputsView, flow_at}
 use Rattle.luflow.specs.Operators.{is_zero, single_of, double_of}
 use Rattle.luflow.specs.Streams.{Streams, is_value}
 use Rattle.luflow.specs.Values.{branch_of}
@@ -22,7 +22,7 @@ pub hits_same : (b b' : Block) (u : Kind) (c : ℕ) (d : Datum) (n : ℕ) → ((
 hits_same b b' u c d zero same = refl
 hits_same b b' u c d (suc n) same = ap₂ (λ (k : ℕ) (z : ℤ). k + once (is_value d (datum_at u z))) (hits_same b b' u c d n (λ m l. same m (omega arith))) (same (suc n) (omega arith))
 
-module _ (flat : FlatProgram) (inputs : Table) (t : ℕ) (b b' : Block) (upto upto' : ℕ → ℕ) (known known' : ℕ → Bool) (grows : Grows b b' upto upto' known known') where
+module _ (flat : FlatView) (inputs : InputsView) (t : ℕ) (b b' : Block) (upto upto' : ℕ → ℕ) (known known' : ℕ → Bool) (grows : Grows b b' upto upto' known known') where
   same : (r n : ℕ) → n < upto r → b'.word r (suc n) ≡ b.word r (suc n)
   same r n l = grows.words r (suc n) (omega arith)
 

@@ -10,7 +10,7 @@ use Rattle.luflow.specs.declared.form.Clock.TheVariants.{On}
 use Rattle.luflow.specs.declared.form.Form.{Form}
 use Rattle.luflow.specs.declared.form.Form.TheVariants.{When, Current, Merge}
 use Rattle.luflow.specs.declared.form.Flow.{Flow}
-use Rattle.luflow.specs.Program.{FlatProgram, Table}
+use Rattle.luflow.specs.Program.{FlatView, InputsView}
 use Rattle.luflow.specs.Streams.{is_value}
 use Rattle.luflow.specs.Values.{branch_of}
 use Rattle.lublock_kernels.specs.declared.span.Span.{Span}
@@ -36,13 +36,13 @@ value_same : (c c' : ℕ) (d d' : Datum) → On c d ≡ On c' d' → d ≡ d'
 value_same c c' d d' e = cc
 
 -- what holds at this variable, this value and its type
-at_clock : (P : ℕ → Datum → Kind → Type 0) (flat : FlatProgram) (c c' : ℕ) (d d' : Datum) (u u' : Kind) → On c d ≡ On c' d' → kind_at flat c ≡ Some u → kind_at flat c' ≡ Some u' → P c d u → P c' d' u'
+at_clock : (P : ℕ → Datum → Kind → Type 0) (flat : FlatView) (c c' : ℕ) (d d' : Datum) (u u' : Kind) → On c d ≡ On c' d' → kind_at flat c ≡ Some u → kind_at flat c' ≡ Some u' → P c d u → P c' d' u'
 at_clock P flat c c' d d' u u' clock is is' p =
     let e : c ≡ c' = variable_same c c' d d' clock in
     let kinds : u ≡ u' = same_Some u u' (sym is ∙ ap (kind_at flat) e ∙ is') in
     subst (λ (x : ℕ). P x d' u') e (subst (λ (x : Datum). P c x u') (value_same c c' d d' clock) (subst (λ (x : Kind). P c d x) kinds p))
 
-module _ (flat : FlatProgram) (inputs : Table) (t : ℕ) (rows : List (Vec ℤ Global)) (spans : List Span) (i : ℕ) (flow : Flow) (to : ℕ) (row : List ℤ) where
+module _ (flat : FlatView) (inputs : InputsView) (t : ℕ) (rows : List (Vec ℤ Global)) (spans : List Span) (i : ℕ) (flow : Flow) (to : ℕ) (row : List ℤ) where
   pub is_when : (c : ℕ) (d : Datum) (u : Kind) (ticks a : ℕ) (z x : List ℤ) → flow.clock ≡ On c d → kind_at flat c ≡ Some u → ticks ≡ ticks_of spans c → known_of spans c ≡ true → IsRead rows spans c ticks z → IsRead rows spans a ticks x → IsGathered u d ticks z x row
       → WritesForm flat inputs t rows spans i flow (When a) 0 to row
   is_when c d u ticks a z x clock kind counted known rz rx gathered b with n l l' =
@@ -108,5 +108,5 @@ branches_more rows spans u to c k xs row new before now stays j x l there = elim
 ]
 
 -- written for a form, written for the flow of that form
-pub for_flow : (flat : FlatProgram) (inputs : Table) (t : ℕ) (rows : List (Vec ℤ Global)) (spans : List Span) (i : ℕ) (flow : Flow) (form : Form) (from to : ℕ) (row : List ℤ) → flow.form ≡ form → WritesForm flat inputs t rows spans i flow form from to row → WritesForm flat inputs t rows spans i flow flow.form from to row
+pub for_flow : (flat : FlatView) (inputs : InputsView) (t : ℕ) (rows : List (Vec ℤ Global)) (spans : List Span) (i : ℕ) (flow : Flow) (form : Form) (from to : ℕ) (row : List ℤ) → flow.form ≡ form → WritesForm flat inputs t rows spans i flow form from to row → WritesForm flat inputs t rows spans i flow flow.form from to row
 for_flow flat inputs t rows spans i flow form from to row is written = subst (λ (f : Form). WritesForm flat inputs t rows spans i flow f from to row) (sym is) written

@@ -1,5 +1,6 @@
 -- Rows of words that are filled tick by tick.
-use Rattle.std.specs.Prelude.{◌≡◌, ◌≢◌, ℕ, zero, suc, ◌+◌, ◌<◌, ◌≤◌, List, ℤ, pos, Bool, true, false, not, slice_index_or, Option, Some, None}
+use Rattle.std.specs.Prelude.{◌≡◌, ◌≢◌, ℕ, zero, suc, ◌+◌, ◌<◌, ◌≤◌, List, ℤ, pos, Bool, true, false, not}
+use Rattle.std.specs.Prelude.{slice_index_or, Option, Some, None}
 use Rattle.lutree.specs.declared.program.Kind.{Kind}
 use Rattle.lutree.specs.declared.program.Kind.TheVariants.{Int as Ints, Bool as Truths, Enum}
 use Rattle.lutree.specs.declared.expr.UnaryOperator.{UnaryOperator}
@@ -60,10 +61,12 @@ IsDouble op u x y z = double_of op (datum_at u x) (datum_at u y) ≡ Gives (datu
 
 -- at each of these ticks
 abbrev pub AreSingles : UnaryOperator → ℕ → ℕ → List ℤ → List ℤ → Type 0
-AreSingles op from to x row = (n : ℕ) → from ≤ n → n < to → IsSingle op (word_in x (suc n)) (word_in row (suc n))
+AreSingles op from to x row = (n : ℕ) → from ≤ n → n < to → IsSingle op (word_in x (suc n))
+    (word_in row (suc n))
 
 abbrev pub AreDoubles : BinaryOperator → Kind → ℕ → ℕ → List ℤ → List ℤ → List ℤ → Type 0
-AreDoubles op u from to x y row = (n : ℕ) → from ≤ n → n < to → IsDouble op u (word_in x (suc n)) (word_in y (suc n)) (word_in row (suc n))
+AreDoubles op u from to x y row = (n : ℕ) → from ≤ n → n < to → IsDouble op u (word_in x (suc n))
+    (word_in y (suc n)) (word_in row (suc n))
 
 -- how often a row has a value of this type at its first n ticks
 abbrev pub hits_in : List ℤ → Kind → Datum → ℕ → ℕ
@@ -73,20 +76,24 @@ hits_in row u d (suc n) = hits_in row u d n + once (is_value d (datum_at u (word
 -- one word for each tick at which another row has a value, in order
 abbrev pub IsGathered : Kind → Datum → ℕ → List ℤ → List ℤ → List ℤ → Type 0
 IsGathered u d ticks c a row =
-    (m : ℕ) → m < ticks → is_value d (datum_at u (word_in c (suc m))) ≡ true → word_in row (suc (hits_in c u d m)) ≡ word_in a (suc m)
+    (m : ℕ) → m < ticks → is_value d (datum_at u (word_in c (suc m))) ≡ true
+    → word_in row (suc (hits_in c u d m)) ≡ word_in a (suc m)
 
 -- at each tick the word of the last tick at which another row had a value
 abbrev pub IsHeld : Kind → Datum → ℕ → ℕ → List ℤ → List ℤ → List ℤ → Type 0
-IsHeld u d to limit c a row = (n : ℕ) → n < to → (word_in row (suc n) ≡ word_in a (hits_in c u d (suc n))) × (hits_in c u d (suc n) ≤ limit)
+IsHeld u d to limit c a row = (n : ℕ) → n < to → (word_in row (suc n) ≡ word_in a (hits_in c u d (suc n)))
+    × (hits_in c u d (suc n) ≤ limit)
 
 -- at each tick at which another row has a value, the next word
 abbrev pub IsSpread : Kind → Datum → ℕ → ℕ → List ℤ → List ℤ → List ℤ → Type 0
 IsSpread u d to limit c x row =
-    (n : ℕ) → n < to → is_value d (datum_at u (word_in c (suc n))) ≡ true → (word_in row (suc n) ≡ word_in x (suc (hits_in c u d n))) × (hits_in c u d n < limit)
+    (n : ℕ) → n < to → is_value d (datum_at u (word_in c (suc n))) ≡ true
+    → (word_in row (suc n) ≡ word_in x (suc (hits_in c u d n))) × (hits_in c u d n < limit)
 
 -- at the other ticks the words stay
 abbrev pub StaysElsewhere : Kind → Datum → ℕ → List ℤ → List ℤ → List ℤ → Type 0
-StaysElsewhere u d to c old new = (n : ℕ) → n < to → is_value d (datum_at u (word_in c (suc n))) ≡ false → word_in new (suc n) ≡ word_in old (suc n)
+StaysElsewhere u d to c old new = (n : ℕ) → n < to → is_value d (datum_at u (word_in c (suc n))) ≡ false
+    → word_in new (suc n) ≡ word_in old (suc n)
 
 -- the value of a type at which a merge takes the branch of this number
 abbrev pub branch_datum : Kind → ℕ → Option Datum

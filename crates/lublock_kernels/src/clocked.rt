@@ -4,7 +4,7 @@ ghost use Rattle.std.specs.Prelude.{◌≡◌, ◌<◌, ◌+◌, ℕ, length, tr
 ghost use Rattle.lutree.specs.declared.program.Kind.{Kind};
 ghost use Rattle.luflow.specs.declared.form.Flow.{Flow};
 ghost use Rattle.luflow.specs.declared.form.Form.{Form};
-ghost use Rattle.luflow.specs.Program.{Table};
+ghost use Rattle.luflow.specs.Program.{InputsView};
 ghost use Rattle.lublock_kernels.specs.Blocks.{clock_of};
 ghost use Rattle.lublock_kernels.specs.Rows.{Keeps};
 ghost use Rattle.lublock_kernels.specs.Machine.{IsBranch, StaysBeside, WritesForm, known_of, ticks_of};
@@ -39,7 +39,7 @@ fn gather_on(
     ensures len { length row.new ≡ length row.old }
     ensures kept { Keeps 0 row.old row.new }
     ensures words { result ≡ false
-        → (inputs : Table) (t i : ℕ) (flow : Flow) → flow.clock ≡ Clock.On c datum
+        → (inputs : InputsView) (t i : ℕ) (flow : Flow) → flow.clock ≡ Clock.On c datum
         → WritesForm flat.now inputs t rows.now spans.now i flow (Form.When a) 0 to row.new }
 {
     let Some(kind) = kind_at(flat, c) else {
@@ -72,7 +72,7 @@ pub fn solve_when(
     ensures len { length row.new ≡ length row.old }
     ensures kept { Keeps from row.old row.new }
     ensures words { result ≡ false
-        → (inputs : Table) (t i : ℕ) (flow : Flow) → flow.clock ≡ clock
+        → (inputs : InputsView) (t i : ℕ) (flow : Flow) → flow.clock ≡ clock
         → WritesForm flat.now inputs t rows.now spans.now i flow (Form.When a) from to row.new }
 {
     match clock {
@@ -96,7 +96,7 @@ fn hold_on(
     ensures len { length row.new ≡ length row.old }
     ensures kept { Keeps 0 row.old row.new }
     ensures words { result ≡ false
-        → (inputs : Table) (t i : ℕ) (flow : Flow) → clock_of flat.now a ≡ Some (Clock.On c datum)
+        → (inputs : InputsView) (t i : ℕ) (flow : Flow) → clock_of flat.now a ≡ Some (Clock.On c datum)
         → WritesForm flat.now inputs t rows.now spans.now i flow (Form.Current a) 0 to row.new }
 {
     let Some(kind) = kind_at(flat, c) else {
@@ -125,7 +125,7 @@ pub fn solve_current(
     requires { to < length row.old }
     ensures len { length row.new ≡ length row.old }
     ensures kept { Keeps from row.old row.new }
-    ensures words { result ≡ false → (inputs : Table) (t i : ℕ) (flow : Flow)
+    ensures words { result ≡ false → (inputs : InputsView) (t i : ℕ) (flow : Flow)
         → WritesForm flat.now inputs t rows.now spans.now i flow (Form.Current a) from to row.new }
 {
     match clock_at(flat, a) {
@@ -204,7 +204,7 @@ pub fn solve_merge(
     ensures len { length row.new ≡ length row.old }
     ensures kept { Keeps from row.old row.new }
     ensures words { result ≡ false
-        → (inputs : Table) (t i : ℕ) (flow : Flow) → WritesForm flat.now inputs t rows.now spans.now
+        → (inputs : InputsView) (t i : ℕ) (flow : Flow) → WritesForm flat.now inputs t rows.now spans.now
         i flow (Form.Merge c branches.now) from to row.new }
 {
     if from != 0 {

@@ -4,7 +4,7 @@ ghost use Rattle.std.specs.Prelude.{◌≡◌, ◌<◌, ◌+◌, ℕ, length, tr
 ghost use Rattle.lutree.specs.declared.program.Kind.{Kind};
 ghost use Rattle.luflow.specs.declared.form.Flow.{Flow};
 ghost use Rattle.luflow.specs.declared.form.Form.{Form};
-ghost use Rattle.luflow.specs.Program.{FlatProgram, Table, column_of, flow_at};
+ghost use Rattle.luflow.specs.Program.{FlatView, InputsView, column_of, flow_at};
 ghost use Rattle.luflow.specs.Operators.{makes};
 ghost use Rattle.luflow.specs.Packed.{data_in};
 ghost use Rattle.lublock_kernels.specs.Blocks.{kind_at, clock_of};
@@ -104,7 +104,7 @@ pub fn solve_constant(
     ensures len { length row.new ≡ length row.old }
     ensures kept { Keeps from row.old row.new }
     ensures words { result ≡ false
-        → (flat : FlatProgram) (inputs : Table) (t i : ℕ) (flow : Flow) → flow.kind ≡ kind
+        → (flat : FlatView) (inputs : InputsView) (t i : ℕ) (flow : Flow) → flow.kind ≡ kind
         → WritesForm flat inputs t rows.now spans.now i flow (Form.Constant datum) from to row.new }
 {
     let (word, none) = word_for(kind, datum);
@@ -127,7 +127,7 @@ pub fn solve_copied(
     ensures len { length row.new ≡ length row.old }
     ensures kept { Keeps from row.old row.new }
     ensures words { result ≡ false
-        → (flat : FlatProgram) (inputs : Table) (t i : ℕ) (flow : Flow)
+        → (flat : FlatView) (inputs : InputsView) (t i : ℕ) (flow : Flow)
         → WritesForm flat inputs t rows.now spans.now i flow (Form.Copied a) from to row.new }
 {
     match read(rows, spans, a, to) {
@@ -151,7 +151,7 @@ pub fn solve_unary(
     ensures len { length row.new ≡ length row.old }
     ensures kept { Keeps from row.old row.new }
     ensures words { result ≡ false
-        → (flat : FlatProgram) (inputs : Table) (t i : ℕ) (flow : Flow) → flow.kind ≡ kind
+        → (flat : FlatView) (inputs : InputsView) (t i : ℕ) (flow : Flow) → flow.kind ≡ kind
         → WritesForm flat inputs t rows.now spans.now i flow (Form.Unary op a) from to row.new }
 {
     match read(rows, spans, a, to) {
@@ -173,7 +173,7 @@ pub fn solve_pre(
     ensures len { length row.new ≡ length row.old }
     ensures kept { Keeps from row.old row.new }
     ensures words { result ≡ false
-        → (flat : FlatProgram) (inputs : Table) (t i : ℕ) (flow : Flow)
+        → (flat : FlatView) (inputs : InputsView) (t i : ℕ) (flow : Flow)
         → WritesForm flat inputs t rows.now spans.now i flow (Form.Pre a) from to row.new }
 {
     if to == 0 {
@@ -201,7 +201,7 @@ pub fn solve_binary(
     ensures len { length row.new ≡ length row.old }
     ensures kept { Keeps from row.old row.new }
     ensures words { result ≡ false
-        → (flat : FlatProgram) (inputs : Table) (t i : ℕ) (flow : Flow) → kind_at flat a ≡ Some kind
+        → (flat : FlatView) (inputs : InputsView) (t i : ℕ) (flow : Flow) → kind_at flat a ≡ Some kind
         → flow.kind ≡ makes op
         → WritesForm flat inputs t rows.now spans.now i flow (Form.Binary op a b) from to row.new }
 {
@@ -229,7 +229,7 @@ pub fn solve_if(
     ensures len { length row.new ≡ length row.old }
     ensures kept { Keeps from row.old row.new }
     ensures words { result ≡ false
-        → (flat : FlatProgram) (inputs : Table) (t i : ℕ) (flow : Flow)
+        → (flat : FlatView) (inputs : InputsView) (t i : ℕ) (flow : Flow)
         → WritesForm flat inputs t rows.now spans.now i flow (Form.If c a b) from to row.new }
 {
     let Some(z) = read(rows, spans, c, to) else {
@@ -259,7 +259,7 @@ pub fn solve_arrow(
     ensures len { length row.new ≡ length row.old }
     ensures kept { Keeps from row.old row.new }
     ensures words { result ≡ false
-        → (flat : FlatProgram) (inputs : Table) (t : ℕ) (flow : Flow)
+        → (flat : FlatView) (inputs : InputsView) (t : ℕ) (flow : Flow)
         → WritesForm flat inputs t rows.now spans.now i flow (Form.Arrow a b) from to row.new }
 {
     let Some(x) = read(rows, spans, a, to) else {
@@ -287,7 +287,7 @@ pub fn solve_input(
     ensures len { length row.new ≡ length row.old }
     ensures kept { Keeps from row.old row.new }
     ensures words { result ≡ false
-        → (flat : FlatProgram) (i : ℕ) (flow : Flow) → flow.kind ≡ kind
+        → (flat : FlatView) (i : ℕ) (flow : Flow) → flow.kind ≡ kind
         → WritesForm flat inputs.now t rows.now spans.now i flow (Form.Input c) from to row.new }
 {
     match column_at(inputs, c) {

@@ -3,7 +3,7 @@
 ghost use Rattle.std.specs.Prelude.{◌≡◌, ◌<◌, ℕ, length, true, false};
 ghost use Rattle.luflow.specs.declared.form.Flow.{Flow};
 ghost use Rattle.luflow.specs.declared.form.Form.{Form};
-ghost use Rattle.luflow.specs.Program.{Table};
+ghost use Rattle.luflow.specs.Program.{InputsView};
 ghost use Rattle.luflow.specs.Operators.{makes};
 ghost use Rattle.lublock_kernels.specs.Rows.{Keeps};
 ghost use Rattle.lublock_kernels.specs.Machine.{WritesForm};
@@ -64,7 +64,7 @@ fn solve_operator(
     ensures len { length row.new ≡ length row.old }
     ensures kept { Keeps from row.old row.new }
     ensures words { result ≡ false
-        → (inputs : Table) (t i : ℕ) (flow : Flow) → flow.kind ≡ kind → WritesForm flat.now inputs t
+        → (inputs : InputsView) (t i : ℕ) (flow : Flow) → flow.kind ≡ kind → WritesForm flat.now inputs t
         rows.now spans.now i flow (Form.Binary op a b) from to row.new }
 {
     if !is_result(op, kind) {

@@ -3,15 +3,15 @@
 //!
 //! - [`Plan`], [`Step`]: the order of a program's flows; [`site_plan`], [`SitePlan`], [`SiteStep`]: that of what one site does.
 //! - [`needed`], [`needed_of`]: the main variables that are put out; [`never_nil_guess`], [`class_in`]: which flows may be nil.
-//! - [`Cycle`], [`Pace`], [`Back`], [`Twin`]: a cycle of flows, and what its `pre`s give.
+//! - [`Cycle`], [`CycleClock`], [`CyclePre`], [`Twin`]: a cycle of flows, and what its `pre`s give.
 #![tactic(auto)]
 
 mod brief;
-mod course;
 mod cycle;
+mod cycle_clock;
+mod cycle_code;
 mod lines;
 mod needs;
-mod pace;
 mod pass;
 mod plan;
 mod reads;
@@ -19,7 +19,7 @@ mod search;
 mod site;
 
 pub use cycle::Cycle;
+pub use cycle_clock::{CycleClock, CyclePre, Twin};
 pub use needs::{class_in, needed, needed_of, never_nil_guess};
-pub use pace::{Back, Pace, Twin};
 pub use plan::{Plan, Step};
 pub use site::{SitePlan, SiteStep, site_plan};

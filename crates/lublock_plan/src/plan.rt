@@ -1,8 +1,8 @@
 //! The order in which a block's flows are worked out. What is read is tested where it is read, so nothing depends on the order but the
 //! time that it takes.
 
-use crate::course::put;
 use crate::cycle::Cycle;
+use crate::cycle_code::put;
 use crate::reads::is_pre;
 use crate::search::{Parts, is_cycle};
 use luflow::{Clock, Datum, Flat};

@@ -1,6 +1,6 @@
 //! The parts of a program: cycles, and flows that don't lead to themselves.
 
-use crate::course::{at, put};
+use crate::cycle_code::{at, put};
 use crate::reads::{read_of, reads_itself};
 use luflow::Flat;
 use std::alloc::{AllocError, Global};

@@ -1,8 +1,8 @@
 //! The order in which one site works out a block of its flows, takes the words of others from links, and puts its own to them. The order of the
 //! program's parts is the same at each site.
 
-use crate::course::{at, put};
 use crate::cycle::Cycle;
+use crate::cycle_code::{at, put};
 use crate::needs::is_marked;
 use crate::plan::{Plan, Step, new_places};
 use crate::search::Parts;

@@ -5,11 +5,11 @@ use Rattle.std.proofs.lemmas.Bool.{cases_lt}
 use Rattle.std.proofs.lemmas.Option.{slice_get_within}
 use Rattle.luflow.specs.declared.form.Form.{Form}
 use Rattle.luflow.specs.declared.form.Flow.{Flow}
-use Rattle.luflow.specs.Program.{FlatProgram, Table, flow_at, flows_of}
+use Rattle.luflow.specs.Program.{FlatView, InputsView, flow_at, flows_of}
 use Rattle.luflow.specs.Streams.{Streams, Broken}
 use Rattle.luflow.specs.Messages.{presents}
 use Rattle.luflow.proofs.Solutions.{some_at}
-use Rattle.luworld.specs.Runs.{Run, streams_of}
+use Rattle.luworld.specs.Jobs.{JobView, streams_of}
 use Rattle.lulink.specs.Views.{SenderView, ReceiverView}
 use Rattle.lublock_kernels.specs.Blocks.{Block, SolvesAt, datum_at}
 use Rattle.lublock_kernels.specs.Parts.{Part, IsPart, IsRightIn, IsSolvedIn, GoesOut, knows}
@@ -28,7 +28,7 @@ use Rattle.lublock_site.specs.declared.outlets.Outlet.{Outlet}
 use Rattle.lublock_site.specs.declared.site.Frame.{Frame}
 use Rattle.lublock_site.proofs.Moving.{is_flat, solved}
 
-module _ (job : Run) (site : ℕ) (frame : Frame) (is : IsFrame job site frame) (t len : ℕ) (within : t + len ≤ job.inputs.instants) (board : Board) (sure : List Bool) (sheet : IsSheet job frame t len board sure) (all : AreAllSure (flows_of job.plan.flat) frame.own.items frame.taken.items sure) where
+module _ (job : JobView) (site : ℕ) (frame : Frame) (is : IsFrame job site frame) (t len : ℕ) (within : t + len ≤ job.inputs.instants) (board : Board) (sure : List Bool) (sheet : IsSheet job frame t len board sure) (all : AreAllSure (flows_of job.plan.flat) frame.own.items frame.taken.items sure) where
   abbrev part : Part
   part = part_in frame
 

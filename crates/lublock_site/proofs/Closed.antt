@@ -6,7 +6,7 @@ use Rattle.std.proofs.lemmas.Option.{slice_get_within, get_or_from_slice_get}
 use Rattle.luflow.specs.declared.form.Form.{Form}
 use Rattle.luflow.specs.declared.form.Flow.{Flow}
 use Rattle.luflow.specs.declared.form.Clock.{Clock}
-use Rattle.luflow.specs.Program.{FlatProgram, flow_at, places, clock_reads}
+use Rattle.luflow.specs.Program.{FlatView, flow_at, places, clock_reads}
 use Rattle.lublock_kernels.specs.declared.span.Span.{Span}
 use Rattle.lublock_kernels.specs.Parts.{Part, IsPart, knows}
 use Rattle.lublock.specs.Boards.{IsSettled, KeepsSettled}
@@ -65,7 +65,7 @@ module _ (own taken : List Bool) where
   pub sure_knows : (sure : List Bool) (r : ℕ) → knows (sure_part own taken sure) r ≡ true → knows (marked_part own taken) r ≡ true
   sure_knows sure r h = part_known (marked own r) (marked taken r) (marked sure r) h
 
-  module _ (flat : FlatProgram) (is_part : IsPart flat (marked_part own taken)) (old new : List Bool) (flows : List ℕ) (more : IsMarkedMore old new flows) (reads : (k i : ℕ) → slice_get flows k ≡ Some i → ReadsSure flat own new i) (closed : IsPart flat (sure_part own taken old)) where
+  module _ (flat : FlatView) (is_part : IsPart flat (marked_part own taken)) (old new : List Bool) (flows : List ℕ) (more : IsMarkedMore old new flows) (reads : (k i : ℕ) → slice_get flows k ≡ Some i → ReadsSure flat own new i) (closed : IsPart flat (sure_part own taken old)) where
     -- what these read is known and sure
     now_known : (rs : List ℕ) → All (λ (r : ℕ). knows (marked_part own taken) r ≡ true) rs → All (λ (r : ℕ). marked new r ≡ true) rs → All (λ (r : ℕ). knows (sure_part own taken new) r ≡ true) rs
     now_known rs known sure = λ k d l. knows_sure new (get_or rs k d) (known k d l) (sure k d l)
@@ -105,14 +105,14 @@ settled_more old new flows spans spans' more kept now before i is = elim (more.a
 ]
 
 -- what is sure stays so where what was settled does
-pub sure_still : (flat : FlatProgram) (own taken : List Bool) (spans spans' : List Span) (sure : List Bool) → KeepsSettled spans spans' → AreSure flat own taken spans sure → AreSure flat own taken spans' sure
+pub sure_still : (flat : FlatView) (own taken : List Bool) (spans spans' : List Span) (sure : List Bool) → KeepsSettled spans spans' → AreSure flat own taken spans sure → AreSure flat own taken spans' sure
 sure_still flat own taken spans spans' sure kept are = record {
   closed = are.closed;
   settled = λ i is. kept i (are.settled i is);
 }
 
 -- no flow is sure yet
-pub none_sure : (flat : FlatProgram) (own taken : List Bool) (spans : List Span) (sure : List Bool) → ((i : ℕ) → marked sure i ≡ false) → AreSure flat own taken spans sure
+pub none_sure : (flat : FlatView) (own taken : List Bool) (spans : List Span) (sure : List Bool) → ((i : ℕ) → marked sure i ≡ false) → AreSure flat own taken spans sure
 none_sure flat own taken spans sure none = record {
   closed = record {
     operands = λ i flow there both. absurd (let e : true ≡ false = sym (and_right (marked own i) (marked sure i) both) ∙ none i in cc);

@@ -7,7 +7,7 @@ mod Passing
 mod Closed
 mod Moving
 mod Behind
-mod Telling
+mod Reporting
 mod Reported
 mod Starting
 pub mod Crosses

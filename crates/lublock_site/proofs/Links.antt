@@ -10,12 +10,12 @@ use Rattle.luflow.specs.declared.message.Body.TheVariants.{Value, Close}
 use Rattle.luflow.specs.Messages.{marks, clean_list, is_whole, numbered, messages}
 use Rattle.luflow.proofs.Solutions.{some_at}
 use Rattle.luworld.specs.declared.link.Link.{Link}
-use Rattle.luworld.specs.Needs.{Distribution}
-use Rattle.luworld.specs.Runs.{Run, Fits, flow_of_link, carried, messages_of, link_list, streams_of}
+use Rattle.luworld.specs.Needs.{PlanView}
+use Rattle.luworld.specs.Jobs.{JobView, IsCoherent, flow_of_link, carried, messages_of, link_list, streams_of}
 use Rattle.lublock_kernels.specs.Parts.{IsPart}
 use Rattle.lublock_site.specs.Sites.{part_of, value_message, CarriesFlow}
 
-pub site_part : (plan : Distribution) (s : ℕ) → Fits plan → IsPart plan.flat (part_of plan s)
+pub site_part : (plan : PlanView) (s : ℕ) → IsCoherent plan → IsPart plan.flat (part_of plan s)
 site_part plan s fits = record {
   operands = λ i flow is own. fits.needs_operands s i flow is own;
   clocks = λ i flow is known. fits.needs_clock s i flow is known;
@@ -47,7 +47,7 @@ value_in b n (x ∷ xs) zero d msg is body =
     ap (λ (y : Datum). Some y) (same_value x d (ap (λ (m : Msg). m.body) e ∙ body))
 value_in b n (x ∷ xs) (suc k) d msg is body = value_in b (n + 1) xs k d msg is body
 
-module _ (job : Run) (l : ℕ) (inside : l < length job.plan.links) where
+module _ (job : JobView) (l : ℕ) (inside : l < length job.plan.links) where
   flow_is : flow_of_link job.plan l ≡ Some (carried job.plan l)
   flow_is =
       let k = some_at job.plan.links l inside in

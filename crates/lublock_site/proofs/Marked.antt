@@ -8,7 +8,7 @@ use Rattle.luflow.specs.declared.form.Clock.TheVariants.{Base, On}
 use Rattle.luflow.specs.declared.form.Form.{Form}
 use Rattle.luflow.specs.declared.form.Form.TheVariants.{Input, Constant, Copied, Unary, Binary, If, Pre, Arrow, When, Current, Merge}
 use Rattle.luflow.specs.declared.form.Flow.{Flow}
-use Rattle.luflow.specs.Program.{FlatProgram, flow_at, places, clock_reads}
+use Rattle.luflow.specs.Program.{FlatView, flow_at, places, clock_reads}
 use Rattle.luflow.proofs.Solutions.{some_at}
 use Rattle.lublock_kernels.specs.Parts.{Part, IsPart, knows}
 use Rattle.lublock_site.specs.Marks.{PlacesKnown, ClockKnown}
@@ -50,7 +50,7 @@ module _ (known : ℕ → Bool) where
   clock_known Base h = all_none Known
   clock_known (On c d) h = one c h
 
-pub part_of_marks : (flat : FlatProgram) (part : Part) → ((i : ℕ) (flow : Flow) → flow_at flat i ≡ Some flow → part.own i ≡ true → PlacesKnown (knows part) flow.form)
+pub part_of_marks : (flat : FlatView) (part : Part) → ((i : ℕ) (flow : Flow) → flow_at flat i ≡ Some flow → part.own i ≡ true → PlacesKnown (knows part) flow.form)
     → ((i : ℕ) (flow : Flow) → flow_at flat i ≡ Some flow → knows part i ≡ true → ClockKnown (knows part) flow.clock) → IsPart flat part
 part_of_marks flat part forms clocks = record {
   operands = λ i flow there own. places_known (knows part) flow.form (forms i flow there own);

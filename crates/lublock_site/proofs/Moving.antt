@@ -6,13 +6,13 @@ use Rattle.std.specs.declared.alloc.Global.{Global}
 use Rattle.luflow.specs.declared.message.Msg.{Msg}
 use Rattle.std.proofs.lemmas.Option.{same_Some, slice_get_within}
 use Rattle.luflow.specs.declared.form.Flow.{Flow}
-use Rattle.luflow.specs.Program.{FlatProgram, Table, flow_at, flows_of}
+use Rattle.luflow.specs.Program.{FlatView, InputsView, flow_at, flows_of}
 use Rattle.luflow.specs.Streams.{Streams, before}
 use Rattle.luflow.specs.Solution.{IsSolution}
 use Rattle.luflow.specs.Sound.{IsFit}
 use Rattle.luflow.specs.Flats.{IsFlat}
 use Rattle.luflow.proofs.Solutions.{IsSolution-solution, some_at}
-use Rattle.luworld.specs.Runs.{Run, IsRun, streams_of}
+use Rattle.luworld.specs.Jobs.{JobView, IsJobView, streams_of}
 use Rattle.lublock_kernels.specs.declared.span.Span.{Span}
 use Rattle.lublock_kernels.specs.Parts.{Part, IsPart, IsRightIn, GoesOut, knows}
 use Rattle.lublock_kernels.specs.Wholes.{IsWholeAt}
@@ -37,7 +37,7 @@ use Rattle.lublock_site.specs.declared.site.RowSite.{RowSite}
 use Rattle.lublock_site.proofs.Closed.{and_left, and_right, sure_still, sure_is, sure_knows, knows_sure}
 
 -- the rows stand still
-pub sheet_still : (job : Run) (frame : Frame) (t len : ℕ) (a b : Board) (sure : List Bool) → StandsStill job.plan.flat job.inputs t len a b → IsSheet job frame t len a sure → IsSheet job frame t len b sure
+pub sheet_still : (job : JobView) (frame : Frame) (t len : ℕ) (a b : Board) (sure : List Bool) → StandsStill job.plan.flat job.inputs t len a b → IsSheet job frame t len a sure → IsSheet job frame t len b sure
 sheet_still job frame t len a b sure still sheet = record {
   stands = still.still (part_in frame) (streams_of job) sheet.stands;
   sure = sure_still job.plan.flat frame.own.items frame.taken.items a.spans.items b.spans.items sure still.kept sheet.sure;
@@ -56,14 +56,14 @@ going_still x b going still = record {
 }
 
 -- the run's solution, and what it rests on
-pub is_flat : (job : Run) → IsRun job → IsFlat job.plan.flat
+pub is_flat : (job : JobView) → IsJobView job → IsFlat job.plan.flat
 is_flat job run = run.plan_is.flat_is
 
-pub solved : (job : Run) → IsRun job → IsSolution job.plan.flat job.inputs (streams_of job)
+pub solved : (job : JobView) → IsJobView job → IsSolution job.plan.flat job.inputs (streams_of job)
 solved job run = IsSolution-solution job.plan.flat job.inputs (is_flat job run).ordered
 
 -- what is sure is right, and goes out as messages
-module _ (job : Run) (site : ℕ) (frame : Frame) (is : IsFrame job site frame) (t len : ℕ) (within : t + len ≤ job.inputs.instants) (board : Board) (sure : List Bool) (sheet : IsSheet job frame t len board sure) where
+module _ (job : JobView) (site : ℕ) (frame : Frame) (is : IsFrame job site frame) (t len : ℕ) (within : t + len ≤ job.inputs.instants) (board : Board) (sure : List Bool) (sheet : IsSheet job frame t len board sure) where
   abbrev sub : Part
   sub = sure_part frame.own.items frame.taken.items sure
 
@@ -111,7 +111,7 @@ module _ (X : Type 0) (P : X → Type 0) where
       (λ ne is. old j z (sym (get_other xs k j y ne) ∙ is))
 
 -- an end has put messages
-pub ends_sent : (job : Run) (frame : Frame) (t : ℕ) (sources : List Source) (outlets : List Outlet) (k : ℕ) (x y : Outlet) → slice_get outlets k ≡ Some x → HasSent job.plan.flat x y → AreEnds job frame t sources outlets → AreEnds job frame t sources (set outlets k y)
+pub ends_sent : (job : JobView) (frame : Frame) (t : ℕ) (sources : List Source) (outlets : List Outlet) (k : ℕ) (x y : Outlet) → slice_get outlets k ≡ Some x → HasSent job.plan.flat x y → AreEnds job frame t sources outlets → AreEnds job frame t sources (set outlets k y)
 ends_sent job frame t sources outlets k x y there sent ends = record {
   sources = ends.sources;
   outlets = all_set Outlet (λ (o : Outlet). Sends job.plan.flat job t o) outlets k x y there (sent.sends job t (ends.outlets k x there)) ends.outlets;
@@ -129,7 +129,7 @@ going_sent x outlets k o p going there are sent = record {
 }
 
 -- an end has taken messages
-pub ends_brought : (job : Run) (frame : Frame) (t : ℕ) (flat : FlatProgram) (a b : Board) (sources : List Source) (outlets : List Outlet) (k : ℕ) (x y : Source) → slice_get sources k ≡ Some x → HasBrought flat x.flow a x b y → AreEnds job frame t sources outlets → AreEnds job frame t (set sources k y) outlets
+pub ends_brought : (job : JobView) (frame : Frame) (t : ℕ) (flat : FlatView) (a b : Board) (sources : List Source) (outlets : List Outlet) (k : ℕ) (x y : Source) → slice_get sources k ≡ Some x → HasBrought flat x.flow a x b y → AreEnds job frame t sources outlets → AreEnds job frame t (set sources k y) outlets
 ends_brought job frame t flat a b sources outlets k x y there brought ends = record {
   sources = all_set Source (λ (s : Source). Brings job t s) sources k x y there
       (record { ticks = λ unclosed. subst (λ (i : ℕ). BringsTicks job t i y.got y.rx) (sym brought.flow) (brought.brings job t ((ends.sources k x there).ticks (sym brought.closed ∙ unclosed))) }) ends.sources;

@@ -8,9 +8,9 @@ use Rattle.luworld.proofs.Cursor.{slice_get-append_left, slice_get-append_right}
 use Rattle.luflow.specs.declared.data.Datum.{Datum}
 use Rattle.luflow.specs.declared.message.Msg.{Msg}
 use Rattle.luflow.specs.declared.message.Body.TheVariants.{Value, Close}
-use Rattle.luflow.specs.Program.{FlatProgram, flow_at}
+use Rattle.luflow.specs.Program.{FlatView, flow_at}
 use Rattle.luflow.specs.Messages.{presents, marks, messages}
-use Rattle.luworld.specs.Runs.{Run, carried, streams_of, link_list}
+use Rattle.luworld.specs.Jobs.{JobView, carried, streams_of, link_list}
 use Rattle.luworld.proofs.Messages.{close_at}
 use Rattle.lulink.specs.Lists.{list_of}
 use Rattle.lulink.specs.Views.{SenderView, ReceiverView, HasTakenAll, HasTakenNothing, HasPutAll, HasPutNothing, AreNextToTake, AreNextToPut, IsNextToPut}
@@ -35,7 +35,7 @@ goes Blocked P p = p
 goes Over P p = tt
 
 -- a look that took nothing changes nothing of what was brought
-pub brings_still : (job : Run) (t i n : ℕ) (r r' : ReceiverView) → HasTakenNothing r r' → BringsTicks job t i n r → BringsTicks job t i n r'
+pub brings_still : (job : JobView) (t i n : ℕ) (r r' : ReceiverView) → HasTakenNothing r r' → BringsTicks job t i n r → BringsTicks job t i n r'
 brings_still job t i n r r' has brings = record {
   job_is = has.0 ∙ brings.job_is;
   listed = subst (λ (l : ℕ). l < length job.plan.links) (sym has.1) brings.listed;
@@ -43,7 +43,7 @@ brings_still job t i n r r' has brings = record {
   count = ap length has.2 ∙ brings.count;
 }
 
-pub brought_none : (flat : FlatProgram) (i : ℕ) (board : Board) (x x' : Source) → x'.flow ≡ x.flow → x'.closed ≡ x.closed → x'.got ≡ x.got → HasTakenNothing x.rx x'.rx → HasBrought flat i board x board x'
+pub brought_none : (flat : FlatView) (i : ℕ) (board : Board) (x x' : Source) → x'.flow ≡ x.flow → x'.closed ≡ x.closed → x'.got ≡ x.got → HasTakenNothing x.rx x'.rx → HasBrought flat i board x board x'
 brought_none flat i board x x' flow closed got has = record {
   flow = flow;
   closed = closed;
@@ -54,10 +54,10 @@ brought_none flat i board x x' flow closed got has = record {
   flows = refl;
 }
 
-pub brought_same : (flat : FlatProgram) (i : ℕ) (board : Board) (x : Source) → HasBrought flat i board x board x
+pub brought_same : (flat : FlatView) (i : ℕ) (board : Board) (x : Source) → HasBrought flat i board x board x
 brought_same flat i board x = brought_none flat i board x x refl refl refl (refl, refl, refl)
 
-pub brought_more : (flat : FlatProgram) (i : ℕ) (a : Board) (x : Source) (b : Board) (y : Source) (c : Board) (z : Source) → HasBrought flat i a x b y → HasBrought flat i b y c z → HasBrought flat i a x c z
+pub brought_more : (flat : FlatView) (i : ℕ) (a : Board) (x : Source) (b : Board) (y : Source) (c : Board) (z : Source) → HasBrought flat i a x b y → HasBrought flat i b y c z → HasBrought flat i a x c z
 brought_more flat i a x b y c z f g = record {
   flow = g.flow ∙ f.flow;
   closed = g.closed ∙ f.closed;
@@ -68,10 +68,10 @@ brought_more flat i a x b y c z f g = record {
   flows = g.flows ∙ f.flows;
 }
 
-module _ (flat : FlatProgram) (i : ℕ) (old new : Board) (x x' : Source) (msgs : List Msg) (n : ℕ) (long : length msgs ≡ n) (next : AreNextToTake x.rx msgs) (has : HasTakenAll msgs x.rx x'.rx) (words : HasTakenMessages flat i msgs old new) (flow : x'.flow ≡ x.flow) (closed : x'.closed ≡ x.closed) (got : x'.got ≡ x.got + n) where
-  coming : (job : Run) (t : ℕ) → upto_of old.spans.items i ≡ x.got → BringsTicks job t i x.got x.rx → AreComing job.inputs (streams_of job) i (presents (streams_of job i) t + upto_of old.spans.items i) msgs
+module _ (flat : FlatView) (i : ℕ) (old new : Board) (x x' : Source) (msgs : List Msg) (n : ℕ) (long : length msgs ≡ n) (next : AreNextToTake x.rx msgs) (has : HasTakenAll msgs x.rx x'.rx) (words : HasTakenMessages flat i msgs old new) (flow : x'.flow ≡ x.flow) (closed : x'.closed ≡ x.closed) (got : x'.got ≡ x.got + n) where
+  coming : (job : JobView) (t : ℕ) → upto_of old.spans.items i ≡ x.got → BringsTicks job t i x.got x.rx → AreComing job.inputs (streams_of job) i (presents (streams_of job i) t + upto_of old.spans.items i) msgs
   coming job t even brings k m d there body =
-      let here : slice_get (list_of job x.rx.link) (length x.rx.taken + k) ≡ Some m = subst (λ (j : Run). slice_get (list_of j x.rx.link) (length x.rx.taken + k) ≡ Some m) brings.job_is (next k m there) in
+      let here : slice_get (list_of job x.rx.link) (length x.rx.taken + k) ≡ Some m = subst (λ (j : JobView). slice_get (list_of j x.rx.link) (length x.rx.taken + k) ≡ Some m) brings.job_is (next k m there) in
       let found = (carries job x.rx.link brings.listed).into (length x.rx.taken + k) d m here body in
       let p : length x.rx.taken + k ≡ (presents (streams_of job i) t + upto_of old.spans.items i) + k = let c = brings.count in omega (arith, c, even) in
       subst (λ (q : ℕ). message_at job.inputs (streams_of job) i q ≡ Some d) p
@@ -97,7 +97,7 @@ module _ (flat : FlatProgram) (i : ℕ) (old new : Board) (x x' : Source) (msgs 
   }
 
 -- the messages of an end's next ticks are the next of its link
-pub may_put : (flat : FlatProgram) (rows : List (Vec ℤ Global)) (spans : List Span) (x : Outlet) (msgs : List Msg) → MaySend flat rows spans x → AreMessagesOut flat rows spans x msgs → AreNextToPut x.tx msgs
+pub may_put : (flat : FlatView) (rows : List (Vec ℤ Global)) (spans : List Span) (x : Outlet) (msgs : List Msg) → MaySend flat rows spans x → AreMessagesOut flat rows spans x msgs → AreNextToPut x.tx msgs
 may_put flat rows spans x msgs may are k m there =
     let of = are k m there in
     let d = of.0 in
@@ -108,11 +108,11 @@ may_put flat rows spans x msgs may are k m there =
     let p : presents (streams_of job x.flow) may.first + (x.sent + k) ≡ x.number + k = let c = sends.count in omega (arith, c, number) in
     let here : message_at job.inputs (streams_of job) x.flow (x.number + k) ≡ Some d = subst (λ (n : ℕ). message_at job.inputs (streams_of job) x.flow n ≡ Some d) p found in
     let out = (carries job x.tx.link sends.listed).out (x.number + k) d (subst (λ (f : ℕ). message_at job.inputs (streams_of job) f (x.number + k) ≡ Some d) (sym sends.flow_is) here) in
-    subst (λ (j : Run). slice_get (list_of j x.tx.link) (length x.tx.put + k) ≡ Some m) (sym sends.job_is)
+    subst (λ (j : JobView). slice_get (list_of j x.tx.link) (length x.tx.put + k) ≡ Some m) (sym sends.job_is)
     (subst (λ (n : ℕ). slice_get (list_of job x.tx.link) (n + k) ≡ Some m) number (out ∙ ap (λ (y : Msg). Some y) (sym of.1)))
 
 -- nothing was put
-pub sends_still : (job : Run) (t i n : ℕ) (s s' : SenderView) → HasPutNothing s s' → SendsTicks job t i n s → SendsTicks job t i n s'
+pub sends_still : (job : JobView) (t i n : ℕ) (s s' : SenderView) → HasPutNothing s s' → SendsTicks job t i n s → SendsTicks job t i n s'
 sends_still job t i n s s' has sends = record {
   job_is = has.0 ∙ sends.job_is;
   listed = subst (λ (l : ℕ). l < length job.plan.links) (sym has.1) sends.listed;
@@ -123,7 +123,7 @@ sends_still job t i n s s' has sends = record {
 pub put_nothing : (s s' s'' : SenderView) → HasPutNothing s s' → HasPutNothing s' s'' → HasPutNothing s s''
 put_nothing s s' s'' f g = (g.0 ∙ f.0, g.1 ∙ f.1, g.2 ∙ f.2)
 
-pub sent_none : (flat : FlatProgram) (x x' : Outlet) → x'.flow ≡ x.flow → x'.sent ≡ x.sent → x'.number ≡ x.number → x'.closed ≡ x.closed → HasPutNothing x.tx x'.tx → HasSent flat x x'
+pub sent_none : (flat : FlatView) (x x' : Outlet) → x'.flow ≡ x.flow → x'.sent ≡ x.sent → x'.number ≡ x.number → x'.closed ≡ x.closed → HasPutNothing x.tx x'.tx → HasSent flat x x'
 sent_none flat x x' flow sent number closed has = record {
   flow = flow;
   sends = λ job t h. record {
@@ -133,14 +133,14 @@ sent_none flat x x' flow sent number closed has = record {
   };
 }
 
-pub sent_same : (flat : FlatProgram) (x : Outlet) → HasSent flat x x
+pub sent_same : (flat : FlatView) (x : Outlet) → HasSent flat x x
 sent_same flat x = record { flow = refl; sends = λ job t h. h }
 
-pub sent_more : (flat : FlatProgram) (x y z : Outlet) → HasSent flat x y → HasSent flat y z → HasSent flat x z
+pub sent_more : (flat : FlatView) (x y z : Outlet) → HasSent flat x y → HasSent flat y z → HasSent flat x z
 sent_more flat x y z f g = record { flow = g.flow ∙ f.flow; sends = λ job t h. g.sends job t (f.sends job t h) }
 
 -- so many messages were put
-pub sent_run : (flat : FlatProgram) (x x' : Outlet) (msgs : List Msg) (n : ℕ) → length msgs ≡ n → x.closed ≡ false → x'.flow ≡ x.flow → x'.sent ≡ x.sent + n → x'.number ≡ x.number + n → x'.closed ≡ x.closed → HasPutAll msgs x.tx x'.tx → HasSent flat x x'
+pub sent_run : (flat : FlatView) (x x' : Outlet) (msgs : List Msg) (n : ℕ) → length msgs ≡ n → x.closed ≡ false → x'.flow ≡ x.flow → x'.sent ≡ x.sent + n → x'.number ≡ x.number + n → x'.closed ≡ x.closed → HasPutAll msgs x.tx x'.tx → HasSent flat x x'
 sent_run flat x x' msgs n long unclosed flow sent number closed has =
     let more : length x'.tx.put ≡ length x.tx.put + n = ap length has.2 ∙ length-append x.tx.put msgs ∙ ap (λ (m : ℕ). length x.tx.put + m) long in
     record {
@@ -160,7 +160,7 @@ sent_run flat x x' msgs n long unclosed flow sent number closed has =
     }
 
 -- the close was put
-pub sent_close : (flat : FlatProgram) (x x' : Outlet) → x'.flow ≡ x.flow → x'.closed ≡ true → HasSent flat x x'
+pub sent_close : (flat : FlatView) (x x' : Outlet) → x'.flow ≡ x.flow → x'.closed ≡ true → HasSent flat x x'
 sent_close flat x x' flow closed = record {
   flow = flow;
   sends = λ job t h. record {
@@ -171,7 +171,7 @@ sent_close flat x x' flow closed = record {
 }
 
 -- behind the last instant the close is the next message
-pub may_close : (flat : FlatProgram) (x : Outlet) → MayClose flat x → IsNextToPut x.tx (record { no = x.number; body = Close })
+pub may_close : (flat : FlatView) (x : Outlet) → MayClose flat x → IsNextToPut x.tx (record { no = x.number; body = Close })
 may_close flat x may =
     let job = may.job in
     let sends = may.sends.ticks may.unclosed in
@@ -184,11 +184,11 @@ may_close flat x may =
     subst (λ (n : ℕ). slice_get (messages 0 (marks (σ x.flow) job.inputs.instants)) n ≡ Some (record { no = n; body = Close })) k here in
     let listed : slice_get (list_of job x.tx.link) x.number ≡ Some (record { no = x.number; body = Close }) =
     ap (λ (xs : List Msg). slice_get xs x.number) (list_is job x.tx.link sends.listed ∙ ap (λ (i : ℕ). messages 0 (marks (σ i) job.inputs.instants)) sends.flow_is) ∙ close in
-    subst (λ (j : Run). slice_get (list_of j x.tx.link) (length x.tx.put) ≡ Some (record { no = x.number; body = Close })) (sym sends.job_is)
+    subst (λ (j : JobView). slice_get (list_of j x.tx.link) (length x.tx.put) ≡ Some (record { no = x.number; body = Close })) (sym sends.job_is)
     (subst (λ (m : ℕ). slice_get (list_of job x.tx.link) m ≡ Some (record { no = x.number; body = Close })) number listed)
 
 -- the messages of an end that has put some may be put
-pub may_still : (flat : FlatProgram) (rows : List (Vec ℤ Global)) (spans : List Span) (x y : Outlet) → MaySend flat rows spans x → HasSent flat x y → y.closed ≡ x.closed → MaySend flat rows spans y
+pub may_still : (flat : FlatView) (rows : List (Vec ℤ Global)) (spans : List Span) (x y : Outlet) → MaySend flat rows spans x → HasSent flat x y → y.closed ≡ x.closed → MaySend flat rows spans y
 may_still flat rows spans x y may sent closed = record {
   job = may.job;
   first = may.first;
@@ -201,7 +201,7 @@ may_still flat rows spans x y may sent closed = record {
 }
 
 -- an end that went on, of the same flow
-pub brought_on : (flat : FlatProgram) (a : Board) (x : Source) (b : Board) (y : Source) (c : Board) (z : Source) → HasBrought flat x.flow a x b y → HasBrought flat y.flow b y c z → HasBrought flat x.flow a x c z
+pub brought_on : (flat : FlatView) (a : Board) (x : Source) (b : Board) (y : Source) (c : Board) (z : Source) → HasBrought flat x.flow a x b y → HasBrought flat y.flow b y c z → HasBrought flat x.flow a x c z
 brought_on flat a x b y c z f g = brought_more flat x.flow a x b y c z f (subst (λ (i : ℕ). HasBrought flat i b y c z) f.flow g)
 
 -- receiving ends that went on

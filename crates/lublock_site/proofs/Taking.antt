@@ -7,7 +7,7 @@ use Rattle.std.proofs.lemmas.Option.{same_Some, slice_get_within}
 use Rattle.luflow.specs.declared.data.Datum.{Datum}
 use Rattle.lutree.specs.declared.program.Kind.{Kind}
 use Rattle.luflow.specs.declared.form.Flow.{Flow}
-use Rattle.luflow.specs.Program.{FlatProgram, Table, flow_at}
+use Rattle.luflow.specs.Program.{FlatView, InputsView, flow_at}
 use Rattle.luflow.specs.Streams.{Streams}
 use Rattle.luflow.specs.Messages.{presents}
 use Rattle.lublock_kernels.specs.declared.span.Span.{Span}
@@ -29,7 +29,7 @@ use Rattle.lublock_site.specs.declared.outlets.Outlet.{Outlet}
 abbrev pub with_words : Span → ℕ → Span
 with_words span n = record { ticks = span.ticks; upto = span.upto + n; was = span.was; known = span.known; supposed = span.supposed; taken = span.taken }
 
-kind_of : (flat : FlatProgram) (i : ℕ) (flow : Flow) (kind : Kind) → Some kind ≡ kind_at flat i → flow_at flat i ≡ Some flow → kind ≡ flow.kind
+kind_of : (flat : FlatView) (i : ℕ) (flow : Flow) (kind : Kind) → Some kind ≡ kind_at flat i → flow_at flat i ≡ Some flow → kind ≡ flow.kind
 kind_of flat i flow kind is there = same_Some kind flow.kind (is ∙ ap (option_map (λ (f : Flow). f.kind)) there)
 
 rest_of : (a b : ℕ) → a ≤ b → (k : ℕ) × (a + k ≡ b)
@@ -37,14 +37,14 @@ rest_of zero b l = (b, refl)
 rest_of (suc a) zero l = absurd (omega (arith, l))
 rest_of (suc a) (suc b) l = let r = rest_of a b (omega (arith, l)) in (r.0, ap suc r.1)
 
-module _ (flat : FlatProgram) (i : ℕ) (msgs : List Msg) (old new : Board) (v : Vec ℤ Global) (span : Span) (kind : Kind) (inside : i < length old.rows.items) (in_spans : i < length old.spans.items) (there : slice_get old.spans.items i ≡ Some span) (kind_is : Some kind ≡ kind_at flat i) (keeps : Keeps span.upto (row_of old.rows.items i) v.items) (words : AreWordsOf kind msgs span.upto v.items (length msgs)) (rows_are : new.rows.items ≡ set old.rows.items i v) (spans_are : new.spans.items ≡ set old.spans.items i (with_words span (length msgs))) where
+module _ (flat : FlatView) (i : ℕ) (msgs : List Msg) (old new : Board) (v : Vec ℤ Global) (span : Span) (kind : Kind) (inside : i < length old.rows.items) (in_spans : i < length old.spans.items) (there : slice_get old.spans.items i ≡ Some span) (kind_is : Some kind ≡ kind_at flat i) (keeps : Keeps span.upto (row_of old.rows.items i) v.items) (words : AreWordsOf kind msgs span.upto v.items (length msgs)) (rows_are : new.rows.items ≡ set old.rows.items i v) (spans_are : new.spans.items ≡ set old.spans.items i (with_words span (length msgs))) where
   upto_is : upto_of old.spans.items i ≡ span.upto
   upto_is = ap upto_there there
 
-  abbrev StandsAs : (part : Part) (inputs : Table) (σ : Streams) (t len : ℕ) → List (Vec ℤ Global) → List Span → Type 0
+  abbrev StandsAs : (part : Part) (inputs : InputsView) (σ : Streams) (t len : ℕ) → List (Vec ℤ Global) → List Span → Type 0
   StandsAs part inputs σ t len rows spans = Stands part flat inputs σ t len (block_of rows spans) (upto_of spans) (known_of spans) (supposed_of spans)
 
-  word_comes : (inputs : Table) (σ : Streams) (t : ℕ) → AreComing inputs σ i (presents (σ i) t + upto_of old.spans.items i) msgs → (n : ℕ) (flow : Flow) → flow_at flat i ≡ Some flow → span.upto ≤ n → n < span.upto + length msgs
+  word_comes : (inputs : InputsView) (σ : Streams) (t : ℕ) → AreComing inputs σ i (presents (σ i) t + upto_of old.spans.items i) msgs → (n : ℕ) (flow : Flow) → flow_at flat i ≡ Some flow → span.upto ≤ n → n < span.upto + length msgs
       → (d : Datum) × (message_at inputs σ i (presents (σ i) t + n) ≡ Some d) × Holds flow.kind (word_in v.items (suc n)) d
   word_comes inputs σ t coming n flow here l l' =
       let (k, at) = rest_of span.upto n l in
@@ -57,7 +57,7 @@ module _ (flat : FlatProgram) (i : ℕ) (msgs : List Msg) (old new : Board) (v :
         subst (λ (q : ℕ). Holds flow.kind (word_in v.items (suc q)) d) at (subst (λ (s : Kind). Holds s (word_in v.items (suc (span.upto + k))) d) (kind_of flat i flow kind kind_is here) holds),
       )
 
-  words_stand : (part : Part) (inputs : Table) (σ : Streams) (t len : ℕ) → part.own i ≡ false → AreComing inputs σ i (presents (σ i) t + upto_of old.spans.items i) msgs
+  words_stand : (part : Part) (inputs : InputsView) (σ : Streams) (t len : ℕ) → part.own i ≡ false → AreComing inputs σ i (presents (σ i) t + upto_of old.spans.items i) msgs
       → StandsAs part inputs σ t len old.rows.items old.spans.items → StandsAs part inputs σ t len (set old.rows.items i v) (set old.spans.items i (with_words span (length msgs)))
   words_stand part inputs σ t len free coming stands =
       came_more part flat inputs σ t len old.rows.items old.spans.items i v inside span (span.upto + length msgs) there (omega arith) keeps free (word_comes inputs σ t coming) stands
@@ -73,7 +73,7 @@ module _ (flat : FlatProgram) (i : ℕ) (msgs : List Msg) (old new : Board) (v :
     flows = ap length spans_are ∙ len_set old.spans.items i (with_words span (length msgs));
   }
 
-pub is_message : (flat : FlatProgram) (rows : List (Vec ℤ Global)) (spans : List Span) (i n : ℕ) (kind : Kind) (d : Datum) (row : Vec ℤ Global) → n < ticks_of spans i → Some kind ≡ kind_at flat i → slice_get rows i ≡ Some row → d ≡ datum_at kind (word_in row.items (suc n)) → IsMessageOf flat rows spans i n d
+pub is_message : (flat : FlatView) (rows : List (Vec ℤ Global)) (spans : List Span) (i n : ℕ) (kind : Kind) (d : Datum) (row : Vec ℤ Global) → n < ticks_of spans i → Some kind ≡ kind_at flat i → slice_get rows i ≡ Some row → d ≡ datum_at kind (word_in row.items (suc n)) → IsMessageOf flat rows spans i n d
 is_message flat rows spans i n kind d row few kind_is there is inputs σ t len flow here goes why =
     let row_is : row_of rows i ≡ row.items = ap row_there there in
     goes.exact n few why
@@ -82,7 +82,7 @@ is_message flat rows spans i n kind d row few kind_is there is inputs σ t len f
     ∙ ap (λ (x : Datum). Some x) (sym is)
 
 -- a run of a row's messages is that of the end's next ticks
-pub are_messages : (flat : FlatProgram) (rows : List (Vec ℤ Global)) (spans : List Span) (x : Outlet) (msgs : List Msg) (kind : Kind) (row : Vec ℤ Global) → x.sent + length msgs ≤ ticks_of spans x.flow → Some kind ≡ kind_at flat x.flow → slice_get rows x.flow ≡ Some row → AreMessagesOf kind row.items x.sent x.number msgs → AreMessagesOut flat rows spans x msgs
+pub are_messages : (flat : FlatView) (rows : List (Vec ℤ Global)) (spans : List Span) (x : Outlet) (msgs : List Msg) (kind : Kind) (row : Vec ℤ Global) → x.sent + length msgs ≤ ticks_of spans x.flow → Some kind ≡ kind_at flat x.flow → slice_get rows x.flow ≡ Some row → AreMessagesOf kind row.items x.sent x.number msgs → AreMessagesOut flat rows spans x msgs
 are_messages flat rows spans x msgs kind row within kind_is there are k m m_is =
     let few = slice_get_within msgs k m m_is in
     let d = datum_at kind (word_in row.items (suc (x.sent + k))) in

@@ -1,12 +1,13 @@
 -- Where a site in rows stands.
-use Rattle.std.specs.Prelude.{◌≡◌, ◌≢◌, ℕ, ◌+◌, ◌<◌, ◌≤◌, Bool, true, List, Vec, ℤ, length, Some, slice_get, slice_set}
+use Rattle.std.specs.Prelude.{◌≡◌, ◌≢◌, ℕ, ◌+◌, ◌<◌, ◌≤◌, Bool, true, List, Vec, ℤ, length, Some, slice_get}
+use Rattle.std.specs.Prelude.{slice_set}
 use Rattle.std.specs.Arc.{arc_value}
 use Rattle.std.specs.declared.alloc.Global.{Global}
-use Rattle.luflow.specs.Program.{Table, flow_at, flows_of}
-use Rattle.luflow.specs.Program.{FlatProgram}
+use Rattle.luflow.specs.Program.{InputsView, flow_at, flows_of}
+use Rattle.luflow.specs.Program.{FlatView}
 use Rattle.luflow.specs.Streams.{Streams, Broken}
 use Rattle.luworld.specs.Needs.{sites_of, stands}
-use Rattle.luworld.specs.Runs.{Run, IsRun, streams_of}
+use Rattle.luworld.specs.Jobs.{JobView, IsJobView, streams_of}
 use Rattle.lublock_kernels.specs.declared.span.Span.{Span}
 use Rattle.lublock_kernels.specs.Parts.{Part, IsPart, knows}
 use Rattle.lublock_kernels.specs.Machine.{ticks_of}
@@ -27,36 +28,41 @@ use Rattle.lublock_site.specs.declared.site.RowSite.{RowSite}
 abbrev pub part_in : Frame → Part
 part_in frame = marked_part frame.own.items frame.taken.items
 
--- What stays is that of a site of a run: its flows are a part of the program, with all that stand there, and its inputs have their columns.
-pub record IsFrame (job : Run) (site : ℕ) (frame : Frame) : Type 0 where
-  pub run : IsRun job
+-- What stays is that of a site of a run: its flows are a part of the program, with all that stand there, and
+-- its inputs have their columns.
+pub record IsFrame (job : JobView) (site : ℕ) (frame : Frame) : Type 0 where
+  pub run : IsJobView job
   pub inside : site < sites_of job.plan
   pub flat : arc_value frame.flat ≡ job.plan.flat
   pub part : IsPart job.plan.flat (part_in frame)
-  pub own : (i : ℕ) → i < flows_of job.plan.flat → stands job.plan i site ≡ true → marked frame.own.items i ≡ true
+  pub own : (i : ℕ) → i < flows_of job.plan.flat → stands job.plan i site ≡ true
+      → marked frame.own.items i ≡ true
   pub given : AreGiven job.inputs frame.given.items
   pub needs : (k v : ℕ) → slice_get frame.needs.items k ≡ Some v → knows (part_in frame) v ≡ true
   pub instants : frame.instants ≡ job.inputs.instants
 
 -- The rows stand in the block, and of some flows all is sure.
-pub record IsSheet (job : Run) (frame : Frame) (t len : ℕ) (board : Board) (marks : List Bool) : Type 0 where
+pub record IsSheet (job : JobView) (frame : Frame) (t len : ℕ) (board : Board)
+    (marks : List Bool) : Type 0 where
   pub stands : StandsOn (part_in frame) job.plan.flat job.inputs (streams_of job) t len board
   pub sure : AreSure job.plan.flat frame.own.items frame.taken.items board.spans.items marks
 
 -- a flow that is computed or taken here
-pub record IsKnown (job : Run) (frame : Frame) (i : ℕ) : Type 0 where
+pub record IsKnown (job : JobView) (frame : Frame) (i : ℕ) : Type 0 where
   pub there : i < flows_of job.plan.flat
   pub known : knows (part_in frame) i ≡ true
 
 -- the ends of the site's links, in a block from instant t on
-pub record AreEnds (job : Run) (frame : Frame) (t : ℕ) (xs : List Source) (ys : List Outlet) : Type 0 where
+pub record AreEnds (job : JobView) (frame : Frame) (t : ℕ) (xs : List Source)
+    (ys : List Outlet) : Type 0 where
   pub sources : (k : ℕ) (x : Source) → slice_get xs k ≡ Some x → Brings job t x
   pub outlets : (k : ℕ) (x : Outlet) → slice_get ys k ≡ Some x → Sends job.plan.flat job t x
   pub taken : (k : ℕ) (x : Source) → slice_get xs k ≡ Some x → IsKnown job frame x.flow
   pub sent : (k : ℕ) (x : Outlet) → slice_get ys k ≡ Some x → IsKnown job frame x.flow
 
--- what lies before instant t: the statuses of some variables, and no flow that is computed or taken here is broken
-pub record IsPast (job : Run) (frame : Frame) (t : ℕ) (columns : List Column) : Type 0 where
+-- what lies before instant t: the statuses of some variables, and no flow that is computed or taken here is
+-- broken
+pub record IsPast (job : JobView) (frame : Frame) (t : ℕ) (columns : List Column) : Type 0 where
   pub near : AreNear job.plan.flat (streams_of job) t columns
   pub sound : (i u : ℕ) → IsKnown job frame i → u < t → streams_of job i u ≢ Broken
 
@@ -73,24 +79,28 @@ abbrev pub IsSameRun : RowSite → RowSite → Type 0
 IsSameRun x y = (y.job.value ≡ x.job.value) × (y.site ≡ x.site)
 
 -- receiving end k has taken messages, and the other ends are as they were
-abbrev pub HasBroughtAt : FlatProgram → ℕ → Board → List Source → Board → List Source → Type 0
-HasBroughtAt flat k board sources board' sources' = (x : Source) → slice_get sources k ≡ Some x → (y : Source) × (sources' ≡ slice_set sources k y) × HasBrought flat x.flow board x board' y
+abbrev pub HasBroughtAt : FlatView → ℕ → Board → List Source → Board → List Source → Type 0
+HasBroughtAt flat k board sources board' sources' = (x : Source) → slice_get sources k ≡ Some x
+    → (y : Source) × (sources' ≡ slice_set sources k y) × HasBrought flat x.flow board x board' y
 
 -- the messages of sending end k may be put
-abbrev pub MaySendAt : FlatProgram → List (Vec ℤ Global) → List Span → ℕ → List Outlet → ℕ → Type 0
-MaySendAt flat rows spans k outlets to = (x : Outlet) → slice_get outlets k ≡ Some x → MaySend flat rows spans x × (to ≡ ticks_of spans x.flow)
+abbrev pub MaySendAt : FlatView → List (Vec ℤ Global) → List Span → ℕ → List Outlet → ℕ → Type 0
+MaySendAt flat rows spans k outlets to = (x : Outlet) → slice_get outlets k ≡ Some x
+    → MaySend flat rows spans x × (to ≡ ticks_of spans x.flow)
 
 -- receiving end k has taken the close, or nothing, and the other ends are as they were
 abbrev pub IsLaterAt : ℕ → List Source → List Source → Type 0
-IsLaterAt k sources sources' = (x : Source) → slice_get sources k ≡ Some x → (y : Source) × (sources' ≡ slice_set sources k y) × IsLater x y
+IsLaterAt k sources sources' = (x : Source) → slice_get sources k ≡ Some x
+    → (y : Source) × (sources' ≡ slice_set sources k y) × IsLater x y
 
 -- the close of sending end k may be put
-abbrev pub MayCloseAt : FlatProgram → ℕ → List Outlet → Type 0
+abbrev pub MayCloseAt : FlatView → ℕ → List Outlet → Type 0
 MayCloseAt flat k outlets = (x : Outlet) → slice_get outlets k ≡ Some x → MayClose flat x
 
 -- sending end k has put messages, and the other ends are as they were
-abbrev pub HasSentAt : FlatProgram → ℕ → List Outlet → List Outlet → Type 0
-HasSentAt flat k outlets outlets' = (x : Outlet) → slice_get outlets k ≡ Some x → (y : Outlet) × (outlets' ≡ slice_set outlets k y) × HasSent flat x y
+abbrev pub HasSentAt : FlatView → ℕ → List Outlet → List Outlet → Type 0
+HasSentAt flat k outlets outlets' = (x : Outlet) → slice_get outlets k ≡ Some x
+    → (y : Outlet) × (outlets' ≡ slice_set outlets k y) × HasSent flat x y
 
 -- all is found in the block, and all ticks of the links were passed
 pub record IsWholeSite (x : RowSite) : Type 0 where

@@ -8,6 +8,6 @@ pub mod Tries
 pub mod Going
 pub mod Blocks
 pub mod RowStations
-pub mod Telling
+pub mod Reporting
 pub mod Insides
 pub mod Starts

@@ -2,7 +2,7 @@
 
 ghost use Rattle.std.specs.Prelude.{◌≡◌, ℕ, true, Option, IfSome, Some, length, false};
 ghost use Rattle.luflow.specs.Packed.{data_in};
-ghost use Rattle.luflow.specs.Program.{Table, flow_at};
+ghost use Rattle.luflow.specs.Program.{InputsView, flow_at};
 ghost use Rattle.luflow.specs.declared.form.Flow.{Flow};
 ghost use Rattle.luflow.specs.declared.form.Form.{Form};
 ghost use Rattle.lublock.specs.Boards.{IsGiven, StandsStill};
@@ -15,7 +15,7 @@ use std::alloc::Global;
 
 /// The column of flow i, if it is an input whose column is here.
 fn column_of<'a>(flat: &Flat, given: &'a [Option<Values>], i: usize) -> Option<&'a Values>
-    ensures { IfSome result (λ values. (table : Table) → AreGiven table given.now
+    ensures { IfSome result (λ values. (table : InputsView) → AreGiven table given.now
         → IsGiven flat.now table (data_in values.now) i) }
 {
     let flow = flat.flows().get(i)?;
@@ -59,7 +59,7 @@ pub fn own_column(
     i: usize,
     like: usize,
 ) -> bool
-    ensures stands { (table : Table) → AreGiven table given.now
+    ensures stands { (table : InputsView) → AreGiven table given.now
         → StandsStill flat.now table t len board.old board.new }
     ensures flows { length board.new.spans.items ≡ length board.old.spans.items }
 {

@@ -2,7 +2,7 @@
 
 ghost use Rattle.std.specs.Prelude.{◌≡◌, map};
 ghost use Rattle.luworld.specs.Needs.{sites_of};
-ghost use Rattle.lublock_site.specs.RowStations.{AreWhole, IsRowReport, IsTold, outputs_told};
+ghost use Rattle.lublock_site.specs.RowStations.{AreWhole, IsRowReport, IsReported, outputs_reported};
 ghost use Rattle.std.specs.Arc.{arc_value};
 
 use luflow::{Flat, Status};
@@ -36,20 +36,20 @@ impl Drop for RowReport {
 
 impl Model for RowReport {
     ghost use Rattle.std.specs.Arc.{arc_value};
-    ghost use Rattle.lublock_site.specs.RowStations.{RowTold, IsRowReport, outputs_told};
+    ghost use Rattle.lublock_site.specs.RowStations.{RowReportView, IsRowReport, outputs_reported};
 
-    ghost Value = { RowTold };
+    ghost Value = { RowReportView };
 
     ghost view = { λ a. record {
       job = a.job.value;
       site = a.site;
-      outputs = outputs_told a.outputs.items;
+      outputs = outputs_reported a.outputs.items;
     } };
 
     ghost invariant = { λ a. IsRowReport (record {
       job = a.job.value;
       site = a.site;
-      outputs = outputs_told a.outputs.items;
+      outputs = outputs_reported a.outputs.items;
     }) a.sites (arc_value a.flat) };
 }
 
@@ -65,12 +65,12 @@ impl RowReport {
         requires { IsRowReport (record {
           job = job.value;
           site = site;
-          outputs = outputs_told outputs.items;
+          outputs = outputs_reported outputs.items;
         }) sites (arc_value flat) }
         ensures { result ≡ record {
           job = job.value;
           site = site;
-          outputs = outputs_told outputs.items;
+          outputs = outputs_reported outputs.items;
         } }
     {
         RowReport {
@@ -85,7 +85,7 @@ impl RowReport {
     /// The number of the site, from 0. Takes no memory.
     pub fn site(&self) -> u8
         ensures site { result ≡ self.now.site }
-        ensures told { IsTold self.now }
+        ensures reported { IsReported self.now }
     {
         self.site
     }
@@ -93,7 +93,7 @@ impl RowReport {
     /// The number of sites of the run, 1 to 16. Takes no memory.
     pub fn sites(&self) -> u8
         ensures sites { result ≡ sites_of self.now.job.plan }
-        ensures told { IsTold self.now }
+        ensures reported { IsReported self.now }
     {
         self.sites
     }
@@ -107,8 +107,8 @@ impl RowReport {
 
     /// The outputs, each by the number of its variable: they are moved out of the report, and not copied.
     pub fn into_outputs(self) -> Vec<(usize, Vec<Status>)>
-        ensures outputs { outputs_told result.items ≡ self.outputs }
-        ensures whole { AreWhole self.job (outputs_told result.items) }
+        ensures outputs { outputs_reported result.items ≡ self.outputs }
+        ensures whole { AreWhole self.job (outputs_reported result.items) }
     {
         let RowReport {
             job: _,

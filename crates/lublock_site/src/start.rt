@@ -12,7 +12,7 @@ use crate::outlets::Outlet;
 use crate::site::{Frame, INSTANTS, RowSite};
 use crate::sources::Source;
 use crate::start_ends::{outlets_of, room_for_run, sources_of};
-use crate::start_marks::{Marks, marks_of, needs_of, told_outputs};
+use crate::start_marks::{Marks, marks_of, needs_of, reported_outputs};
 use crate::start_rows::{first_board, first_columns, given_columns};
 use lublock_plan::{SitePlan, site_plan};
 use luflow::{Flat, Inputs};
@@ -155,7 +155,7 @@ pub fn start(
     ensures going { IfOk result (λ o. IfSome o (λ x. IsGoing x.0)) }
     ensures at { IfOk result
         (λ o. IfSome o (λ x. (x.0.job.value ≡ job.now) × (x.0.site ≡ site))) }
-    ensures told { IfOk result (λ o. IfSome o (λ x. AreOutputs job.now.plan.flat x.1.items)) }
+    ensures reported { IfOk result (λ o. IfSome o (λ x. AreOutputs job.now.plan.flat x.1.items)) }
 {
     let Some(ends) = ends_of(alloc, job, site, txs, rxs)? else {
         return Ok(None);
@@ -166,8 +166,8 @@ pub fn start(
     let Some(mut order) = order_of(alloc, plan.flat(), &ends, len)? else {
         return Ok(None);
     };
-    let told = told_outputs(alloc, plan, site)?;
-    let Some(needs) = needs_of(alloc, plan.flat(), &ends.marks, told.as_slice())? else {
+    let reported = reported_outputs(alloc, plan, site)?;
+    let Some(needs) = needs_of(alloc, plan.flat(), &ends.marks, reported.as_slice())? else {
         return Ok(None);
     };
     let columns = first_columns(alloc, plan.flat(), needs.as_slice(), all, len)?;
@@ -193,5 +193,5 @@ pub fn start(
         len,
         at: 0,
     };
-    Ok(Some((row_site, told)))
+    Ok(Some((row_site, reported)))
 }

@@ -98,7 +98,7 @@ fn home_of(plan: &Plan, v: usize) -> Option<u8> {
 }
 
 /// Whether a main variable is an output that a site tells: the site is the first of the variable's.
-fn is_told(plan: &Plan, site: u8, v: usize) -> bool
+fn is_reported(plan: &Plan, site: u8, v: usize) -> bool
     ensures { result ≡ true → is_output_of plan.now.flat v ≡ true }
 {
     match plan.flat().variables().get(v) {
@@ -112,16 +112,16 @@ fn is_told(plan: &Plan, site: u8, v: usize) -> bool
 /// # Errors
 ///
 /// Out of memory.
-pub fn told_outputs(alloc: Global, plan: &Plan, site: u8) -> Result<Vec<usize>, AllocError>
-    ensures { IfOk result (λ told. AreOutputs plan.now.flat told.items) }
+pub fn reported_outputs(alloc: Global, plan: &Plan, site: u8) -> Result<Vec<usize>, AllocError>
+    ensures { IfOk result (λ reported. AreOutputs plan.now.flat reported.items) }
 {
-    let mut told = Vec::new(alloc);
+    let mut reported = Vec::new(alloc);
     for v in 0..plan.flat().variables().len() {
-        if is_told(plan, site, v) {
-            told.push(v)?;
+        if is_reported(plan, site, v) {
+            reported.push(v)?;
         }
     }
-    Ok(told)
+    Ok(reported)
 }
 
 /// Whether all these variables are computed or taken.

@@ -8,9 +8,9 @@ ghost use Rattle.lublock_site.specs.Tries.{is_over};
 ghost use Rattle.lublock_site.specs.RowStations.{IsRowAt, IsUnusedSender, IsUnusedReceiver};
 
 use crate::report::RowReport;
+use crate::reported::reported_outputs;
 use crate::site::{Frame, RowSite};
 use crate::start::start;
-use crate::told::told_outputs;
 use crate::tried::Tried;
 use luflow::{Flat, Status};
 use lulink::{Rx, Tx};
@@ -39,7 +39,7 @@ pub enum Went {
 pub struct RowStation {
     inner: RowSite,
     /// The outputs that the site reports, and room for them.
-    told: Vec<usize>,
+    reported: Vec<usize>,
     outputs: Vec<(usize, Vec<Status>)>,
     sites: u8,
     /// Whether it can't go on.
@@ -51,7 +51,7 @@ impl Drop for RowStation {
     fn drop(self) {
         let Self {
             inner: _,
-            told: _,
+            reported: _,
             outputs: _,
             sites: _,
             cut: _,
@@ -60,10 +60,10 @@ impl Drop for RowStation {
 }
 
 impl Model for RowStation {
-    ghost use Rattle.lublock_site.specs.RowStations.{RowAt};
+    ghost use Rattle.lublock_site.specs.RowStations.{RowStationView};
     ghost use Rattle.lublock_site.specs.Insides.{IsStation};
 
-    ghost Value = { RowAt };
+    ghost Value = { RowStationView };
 
     ghost view = { λ a. record { job = a.inner.job.value; site = a.inner.site } };
 
@@ -104,11 +104,11 @@ impl RowStation {
     {
         let sites = job.plan().sites().len() as u8;
         match start(alloc, job, site, flat, txs, rxs)? {
-            Some((inner, told)) => {
-                let outputs = Vec::with_capacity(alloc, told.len())?;
+            Some((inner, reported)) => {
+                let outputs = Vec::with_capacity(alloc, reported.len())?;
                 Ok(Some(RowStation {
                     inner,
-                    told,
+                    reported,
                     outputs,
                     sites,
                     cut: false,
@@ -176,7 +176,7 @@ impl RowStation {
         }
         let RowStation {
             inner,
-            told,
+            reported,
             outputs,
             sites,
             cut: _,
@@ -208,7 +208,14 @@ impl RowStation {
             needs: _,
             instants,
         } = frame;
-        let told = told_outputs(alloc, &flat, told.as_slice(), columns, outputs, instants)?;
-        Some(RowReport::new(job, site, sites, flat, told))
+        let reported = reported_outputs(
+            alloc,
+            &flat,
+            reported.as_slice(),
+            columns,
+            outputs,
+            instants,
+        )?;
+        Some(RowReport::new(job, site, sites, flat, reported))
     }
 }

@@ -1,7 +1,7 @@
 //! Which flows of a block are sure: all their words are found, and so are those that they were found from.
 
 ghost use Rattle.std.specs.Prelude.{◌≡◌, ◌⊎◌, ◌∷◌, [], ℕ, List, Bool, true, false, length, Some, slice_get};
-ghost use Rattle.luflow.specs.Program.{Table, flow_at};
+ghost use Rattle.luflow.specs.Program.{InputsView, flow_at};
 ghost use Rattle.luflow.specs.declared.form.Flow.{Flow};
 ghost use Rattle.lublock.specs.Boards.{IsSettled, StandsStill};
 ghost use Rattle.lublock_kernels.specs.Parts.{IsPart};
@@ -14,7 +14,7 @@ use luflow::Flat;
 
 /// Looks whether these flows have all their words, and whether what was supposed of them is right; true where something is missing or wrong.
 fn settle_all(flat: &Flat, board: &mut Board, flows: &[usize]) -> bool
-    ensures stands { (inputs : Table) (t len : ℕ)
+    ensures stands { (inputs : InputsView) (t len : ℕ)
         → StandsStill flat.now inputs t len board.old board.new }
     ensures settled { result ≡ false → (k i : ℕ) → slice_get flows.now k ≡ Some i
         → IsSettled board.new.spans.items i }
@@ -81,7 +81,7 @@ pub fn admit(
     sure: &mut Vec<bool>,
     flows: &[usize],
 ) -> bool
-    ensures stands { (inputs : Table) (t len : ℕ)
+    ensures stands { (inputs : InputsView) (t len : ℕ)
         → StandsStill flat.now inputs t len board.old board.new }
     ensures sure { result ≡ false → (taken : List Bool)
         → IsPart flat.now (marked_part own.now taken)

@@ -14,7 +14,7 @@ use Rattle.luflow.specs.declared.form.Form.{Form}
 use Rattle.luflow.specs.declared.form.Form.TheVariants.{Input, Constant, Copied, Unary, Binary, If, Pre, Arrow, When, Current, Merge}
 use Rattle.luflow.specs.declared.form.Flow.{Flow}
 use Rattle.luflow.specs.declared.form.FaultKind.{FaultKind}
-use Rattle.luflow.specs.Program.{FlatProgram, Table, Column, flow_at, flows_of, places, clock_reads, form_reads, reads, data_of, IsOrdered}
+use Rattle.luflow.specs.Program.{FlatView, InputsView, Column, flow_at, flows_of, places, clock_reads, form_reads, reads, data_of, IsOrdered}
 use Rattle.luflow.specs.Streams.{Streams, datum_of, clock_at, truth_in}
 use Rattle.luflow.specs.Values.{gives, on_two, arrow_of, value_at, under}
 use Rattle.luflow.specs.Solution.{says, IsSolution}
@@ -35,11 +35,11 @@ long n m (c ∷ cs) le all =
     let first : length c.values ≡ m = All-head (λ (column : Column). length column.values ≡ m) c cs all in
     All-cons (λ column. length column.values ≡ n) (cut_column n c) (map (cut_column n) cs) (length-take-le n c.values (omega (arith, first, le))) (long n m cs le (All-tail (λ (column : Column). length column.values ≡ m) c cs all))
 
-pub is_table : (n : ℕ) (inputs : Table) → n ≤ inputs.instants → IsTable inputs → IsTable (cut n inputs)
+pub is_table : (n : ℕ) (inputs : InputsView) → n ≤ inputs.instants → IsTable inputs → IsTable (cut n inputs)
 is_table n inputs le is = let few = is.few in record { few = omega (arith, le, few); long = long n inputs.instants inputs.columns le is.long }
 
 -- each column as the code has it is long enough
-pub long_enough : (n : ℕ) (inputs : Table) (xs : List (String Global × Values)) → columns_view xs ≡ inputs.columns → n ≤ inputs.instants → IsTable inputs → All (λ x. n ≤ length (data_in x.1)) xs
+pub long_enough : (n : ℕ) (inputs : InputsView) (xs : List (String Global × Values)) → columns_view xs ≡ inputs.columns → n ≤ inputs.instants → IsTable inputs → All (λ x. n ≤ length (data_in x.1)) xs
 long_enough n inputs xs e le is = λ k d lt.
     let h = subst (λ (cs : List Column). All (λ column. length column.values ≡ inputs.instants) cs) (sym e) is.long k (column_view d) (omega (arith, lt, length-map xs column_view)) in
     let same = ap (λ (column : Column). length column.values) (get_or-map column_view xs k d) in
@@ -61,7 +61,7 @@ column_cut n (suc c) (x ∷ columns) t lt = column_cut n c columns t lt
 lt_true : (a b : ℕ) → a < b → nat_lt a b ≡ true
 lt_true a b lt = grind (arith)
 
-module _ (flat : FlatProgram) (ordered : IsOrdered flat) where
+module _ (flat : FlatView) (ordered : IsOrdered flat) where
   same_earlier : (σ σ' : Streams) (m q u v : ℕ) → SameTo flat σ σ' m → u * length flat.order + q ≤ m → v < u → (r : ℕ) → r < flows_of flat → σ r v ≡ σ' r v
   same_earlier σ σ' m q u v same le l r lr =
       let w = rank_of flat ordered r lr in
@@ -86,7 +86,7 @@ module _ (flat : FlatProgram) (ordered : IsOrdered flat) where
         clock_then = λ v l. All-weaker (λ r. r < flows_of flat) (λ r. σ r v ≡ σ' r v) (same_earlier σ σ' m q u v same le l) (clock_reads flow.clock) (ordered.clocks_in (slice_index flat.order q) flow is);
       }
 
-module _ (n : ℕ) (inputs : Table) (le : n ≤ inputs.instants) where
+module _ (n : ℕ) (inputs : InputsView) (le : n ≤ inputs.instants) where
   fit_for : (s : Kind) (form : Form) → IsFitFor inputs s form → IsFitFor (cut n inputs) s form
   fit_for s (Input c) h = λ t lt. let w = h t (omega (arith, lt, le)) in (w.0, column_cut n c inputs.columns t lt ∙ w.1, w.2)
   fit_for s (Constant d) h = h
@@ -101,7 +101,7 @@ module _ (n : ℕ) (inputs : Table) (le : n ≤ inputs.instants) where
   fit_for s (Merge c xs) h = h
 
   -- what fits a program fits it when it is cut
-  pub fit : (flat : FlatProgram) → IsFit flat inputs → IsFit flat (cut n inputs)
+  pub fit : (flat : FlatView) → IsFit flat inputs → IsFit flat (cut n inputs)
   fit flat is = record { columns = λ i flow there. fit_for flow.kind flow.form (is.columns i flow there) }
 
   clock_cut : (σ : Streams) (clock : Clock) (t : ℕ) → t < n → clock_at (cut n inputs) σ clock t ≡ clock_at inputs σ clock t
@@ -127,7 +127,7 @@ module _ (n : ℕ) (inputs : Table) (le : n ≤ inputs.instants) where
 
   -- SOLUTIONS
 
-  module _ (flat : FlatProgram) (ordered : IsOrdered flat) (σ σ' : Streams) (solves : IsSolution flat inputs σ) (solves' : IsSolution flat (cut n inputs) σ') where
+  module _ (flat : FlatView) (ordered : IsOrdered flat) (σ σ' : Streams) (solves : IsSolution flat inputs σ) (solves' : IsSolution flat (cut n inputs) σ') where
     same_to : (m : ℕ) → m ≤ n * length flat.order → SameTo flat σ' σ m
     same_to zero few = record { at = λ q u lq l. absurd (omega arith) }
     same_to (suc m) few = record {

@@ -5,8 +5,11 @@
 --   switches  1   1   1   1   2
 --   heated    1   2   3   4   .
 --
--- It is cut into strips, one under the other with an empty line between two; each begins with a row of instants.
-use Rattle.std.specs.Prelude.{ℕ, ◌+◌, ◌-◌, ◌*◌, ◌/◌, ◌^◌, ◌<◌, ◌≤◌, min, max, true, false, List, [], ◌++◌, length, map, codes, flat_map, nat_eq, Option, Some, None, unwrap_or, if◌then◌else◌}
+-- It is cut into strips, one under the other with an empty line between two; each begins with a row of
+-- instants.
+use Rattle.std.specs.Prelude.{ℕ, ◌+◌, ◌-◌, ◌*◌, ◌/◌, ◌^◌, ◌<◌, ◌≤◌, min, max, true, false, List, [], ◌++◌}
+use Rattle.std.specs.Prelude.{length, map, codes, flat_map, nat_eq, Option, Some, None, unwrap_or}
+use Rattle.std.specs.Prelude.{if◌then◌else◌}
 use Rattle.std.specs.Fmt.{decimal}
 use Rattle.std.specs.List.{range_with_len}
 use Rattle.std.specs.Option.{option_map_or}
@@ -25,7 +28,8 @@ use Rattle.luchart.specs.declared.layout.Layout.{Layout}
 
 -- CELLS
 
--- the mark that fills a cell of a truth value, so that its row is a wave: `#` where it is true, `_` where it is false, `.` where it is absent
+-- the mark that fills a cell of a truth value, so that its row is a wave: `#` where it is true, `_` where it
+-- is false, `.` where it is absent
 abbrev pub mark_of : Kind → Status → Option (List ℕ)
 mark_of kinds.Bool Absent = Some (codes ".")
 mark_of kinds.Bool (Present (datum.Bool true)) = Some (codes "#")
@@ -43,7 +47,8 @@ filled width names status (Some mark) = repeated mark width
 filled width names status None = at_right width (word_of names status)
 
 abbrev pub cell : ℕ → Signal → ℕ → List ℕ
-cell width signal t = filled width signal.names (status_at signal t) (mark_of signal.kind (status_at signal t))
+cell width signal t = filled width signal.names (status_at signal t)
+    (mark_of signal.kind (status_at signal t))
 
 -- WIDTHS
 
@@ -77,11 +82,13 @@ widest_row first count signals = largest (map (row_breadth first count) signals)
 abbrev pub widest_name : List Signal → ℕ
 widest_name signals = largest (map (λ (s : Signal). room_for s.name) signals)
 
--- all cells are as wide as the widest, and as the number of the last instant; they have one column where all are marks
+-- all cells are as wide as the widest, and as the number of the last instant; they have one column where all
+-- are marks
 abbrev pub cell_width : ℕ → ℕ → ℕ
 cell_width widest last = if nat_eq widest 0 then 1 else max widest last
 
--- A chart shows so many instants from the first on, one at least, in cells of this width behind names in a margin.
+-- A chart shows so many instants from the first on, one at least, in cells of this width behind names in a
+-- margin.
 abbrev pub layout_of : List Signal → ℕ → ℕ → Layout
 layout_of signals first count =
     let last = room_for (decimal (first + (count - 1))) in
@@ -104,7 +111,8 @@ pub record IsLaidOut (layout : Layout) : Type 0 where
 abbrev pub stride : Layout → ℕ
 stride layout = if nat_eq layout.width 1 then 10 else 1
 
--- how many instants a strip has: as many as there is room for, and one at least; where each tenth has its number, whole tens
+-- how many instants a strip has: as many as there is room for, and one at least; where each tenth has its
+-- number, whole tens
 abbrev pub strip_length : Layout → ℕ
 strip_length layout = max 1 ((line_width - layout.margin) / layout.width / stride layout * stride layout)
 
@@ -113,7 +121,8 @@ strip_length layout = max 1 ((line_width - layout.margin) / layout.width / strid
 -- a row: the name in the margin, and the cells of so many instants from this one on
 abbrev pub row : Layout → ℕ → ℕ → Signal → List ℕ
 row layout start count signal =
-    at_left layout.margin signal.name ++ (flat_map (cell layout.width signal) (range_with_len start count) ++ codes "\n")
+    at_left layout.margin signal.name ++ (flat_map (cell layout.width signal) (range_with_len start count)
+    ++ codes "\n")
 
 -- the number of an instant at the right of so many columns: its last digit stands above the last of them
 abbrev pub number : ℕ → ℕ → List ℕ
@@ -122,11 +131,13 @@ number width t = at_right width (decimal t)
 -- the numbers behind that of the first instant, one each stride
 abbrev pub numbers : Layout → ℕ → ℕ → List ℕ
 numbers layout start count =
-    flat_map (λ k. number (stride layout * layout.width) (start + (k + 1) * stride layout)) (range_with_len 0 ((count - 1) / stride layout))
+    flat_map (λ k. number (stride layout * layout.width) (start + (k + 1) * stride layout))
+    (range_with_len 0 ((count - 1) / stride layout))
 
 -- the row of instants
 abbrev pub head : Layout → ℕ → ℕ → List ℕ
-head layout start count = number (layout.margin + layout.width) start ++ (numbers layout start count ++ codes "\n")
+head layout start count = number (layout.margin + layout.width) start ++ (numbers layout start count
+    ++ codes "\n")
 
 -- STRIPS
 
@@ -147,11 +158,13 @@ gap k = if nat_eq k 0 then [] else codes "\n"
 
 abbrev pub strip : Layout → List Signal → ℕ → List ℕ
 strip layout signals k =
-    gap k ++ (head layout (strip_start layout k) (strip_count layout k) ++ rows layout (strip_start layout k) (strip_count layout k) signals)
+    gap k ++ (head layout (strip_start layout k) (strip_count layout k) ++ rows layout (strip_start layout k)
+    (strip_count layout k) signals)
 
 -- as many strips as the instants take
 abbrev pub strips : Layout → List Signal → List ℕ
-strips layout signals = flat_map (strip layout signals) (range_with_len 0 ((layout.count - 1) / strip_length layout + 1))
+strips layout signals =
+    flat_map (strip layout signals) (range_with_len 0 ((layout.count - 1) / strip_length layout + 1))
 
 -- THE CHART
 
@@ -161,7 +174,8 @@ names signals = flat_map (λ (s : Signal). s.name ++ codes "\n") signals
 
 -- so many instants of flows, from the first on
 abbrev pub chart : List Signal → ℕ → ℕ → List ℕ
-chart signals first count = if nat_eq count 0 then names signals else strips (layout_of signals first count) signals
+chart signals first count = if nat_eq count 0 then names signals
+    else strips (layout_of signals first count) signals
 
 -- the first of so many instants that is shown, and how many are, where the first and the last may be given
 abbrev pub first_shown : Option ℕ → ℕ
@@ -170,7 +184,8 @@ first_shown from = unwrap_or from 0
 abbrev pub count_shown : ℕ → Option ℕ → Option ℕ → ℕ
 count_shown instants from to = min instants (option_map_or (λ t. t + 1) to instants) - first_shown from
 
--- Columns of these types at the instants from one to another, both of which are shown; without one from the first instant, and without the other to
+-- Columns of these types at the instants from one to another, both of which are shown; without one from the
+-- first instant, and without the other to
 -- the last.
 abbrev pub chart_text : List Enum → List Kind → List OutputColumn → Option ℕ → Option ℕ → List ℕ
 chart_text types kinds columns from to =

@@ -14,9 +14,11 @@
 --   b10 v1
 --   #13
 --
--- Each flow has a code, `v` and its number. An instant is a time; those at which no flow changes are left out, and the last time is that behind the
+-- Each flow has a code, `v` and its number. An instant is a time; those at which no flow changes are left
+-- out, and the last time is that behind the
 -- last instant.
-use Rattle.std.specs.Prelude.{ℕ, zero, suc, Bool, true, false, not, List, [], ◌∷◌, ◌++◌, length, codes, flat_map, nat_eq, ℤ, Option, Some, None, slice_get, if◌then◌else◌}
+use Rattle.std.specs.Prelude.{ℕ, zero, suc, Bool, true, false, not, List, [], ◌∷◌, ◌++◌, length, codes}
+use Rattle.std.specs.Prelude.{flat_map, nat_eq, ℤ, Option, Some, None, slice_get, if◌then◌else◌}
 use Rattle.std.specs.Int.{w64, cast_unsigned}
 use Rattle.std.specs.Fmt.{decimal, digits}
 use Rattle.std.specs.List.{range_with_len}
@@ -95,7 +97,8 @@ variable_type (kinds.Enum place size) = codes "string 1"
 
 abbrev pub declaration : ℕ → Signal → List ℕ
 declaration k signal =
-    codes "$var " ++ (variable_type signal.kind ++ (codes " " ++ (code k ++ (codes " " ++ (signal.name ++ codes " $end\n")))))
+    codes "$var " ++ (variable_type signal.kind
+    ++ (codes " " ++ (code k ++ (codes " " ++ (signal.name ++ codes " $end\n")))))
 
 -- what is made of a flow, where there is one
 abbrev pub made_of : (Signal → List ℕ) → Option Signal → List ℕ
@@ -104,7 +107,8 @@ made_of made (Some signal) = made signal
 
 -- what is made of each flow, by its number
 abbrev pub of_flows : (ℕ → Signal → List ℕ) → List Signal → List ℕ
-of_flows made signals = flat_map (λ k. made_of (made k) (slice_get signals k)) (range_with_len 0 (length signals))
+of_flows made signals = flat_map (λ k. made_of (made k) (slice_get signals k))
+    (range_with_len 0 (length signals))
 
 abbrev pub declarations : List Signal → List ℕ
 declarations signals = of_flows declaration signals
@@ -125,7 +129,8 @@ header main signals = opening main ++ (declarations signals ++ closing)
 -- a flow's new value, where it changes
 abbrev pub change : ℕ → ℕ → Signal → List ℕ
 change t k signal =
-    if changes signal t then value signal.kind signal.names (status_at signal t) ++ (code k ++ codes "\n") else []
+    if changes signal t then value signal.kind signal.names (status_at signal t) ++ (code k ++ codes "\n")
+    else []
 
 abbrev pub all_changes : List Signal → ℕ → List ℕ
 all_changes signals t = of_flows (change t) signals

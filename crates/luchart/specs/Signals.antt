@@ -13,7 +13,8 @@ use Rattle.luflow.specs.Types.{names_of}
 use Rattle.luchart.specs.Pieces.{largest}
 use Rattle.luchart.specs.declared.signal.Signal.{Signal as Borrowed}
 
--- a flow: its name, its type, the names of its type where that is an enumeration, and what it has at each instant
+-- a flow: its name, its type, the names of its type where that is an enumeration, and what it has at each
+-- instant
 pub record Signal : Type 0 where
   pub name : List ℕ
   pub kind : Kind

@@ -1,3 +1,3 @@
 mod RankOrders
 mod Whole
-mod Told
+mod Reported

@@ -13,7 +13,7 @@ use Rattle.std.proofs.lemmas.Cmp.{nat_eq_equiv}
 use Rattle.std.proofs.lemmas.Map.Keys.{IsDistinct-push}
 use Rattle.std.proofs.lemmas.Map.Steps.{length-le_from_distinct_below}
 use Rattle.luflow.specs.declared.form.Flow.{Flow}
-use Rattle.luflow.specs.Program.{FlatProgram, IsOrdered, flow_at, flows_of, places, clock_reads, reads}
+use Rattle.luflow.specs.Program.{FlatView, IsOrdered, flow_at, flows_of, places, clock_reads, reads}
 use Rattle.luflow.specs.Rank.{reads_of, has, row, is_ready, IsNext, IsRankOrder}
 
 eqb-comm : (a b : ℕ) → eqb a b ≡ eqb b a
@@ -153,7 +153,7 @@ module _ (rows : List (List ℕ)) (order : List ℕ) (ranked : IsRankOrder rows 
       (sym (ap (list_all (λ y. has (take p order) y)) e) ∙ reads_ranked rows (take p order) x next.ready)
 
 -- a flat program whose order is the defined one has each flow once, after all that it reads
-pub is_ordered : (flat : FlatProgram) → IsRankOrder (reads_of flat) flat.order
+pub is_ordered : (flat : FlatView) → IsRankOrder (reads_of flat) flat.order
     → ((i : ℕ) (flow : Flow) → flow_at flat i ≡ Some flow → All (λ r. r < flows_of flat) (places flow.form))
     → ((i : ℕ) (flow : Flow) → flow_at flat i ≡ Some flow → All (λ r. r < flows_of flat) (clock_reads flow.clock))
     → IsOrdered flat

@@ -9,11 +9,11 @@ use Rattle.lutree.specs.Tree.{NodeTree, ProgramTree}
 use Rattle.luflow.specs.declared.form.Form.{Form}
 use Rattle.luflow.specs.declared.form.Form.TheVariants.{Input, Constant, Copied, Unary, Binary, If, Pre, Arrow, When, Current, Merge}
 use Rattle.luflow.specs.declared.form.Flow.{Flow}
-use Rattle.luflow.specs.Program.{FlatProgram, Table, IsOrdered, flows_of, places, form_reads, clock_reads, reads}
+use Rattle.luflow.specs.Program.{FlatView, InputsView, IsOrdered, flows_of, places, form_reads, clock_reads, reads}
 use Rattle.luflow.specs.Rank.{IsRankOrder, Chain, one, more, has, row, reads_of}
 use Rattle.luflow.specs.declared.variable.Role.TheVariants as role
 use Rattle.luflow.specs.Variables.{inputs_of}
-use Rattle.luflow.specs.Tables.{Fits}
+use Rattle.luflow.specs.Tables.{FitsProgram}
 use Rattle.luflow.specs.Flats.{IsFlat}
 use Rattle.luflow.proofs.Fitting.{as_many}
 use Rattle.lusource.specs.Agreement.{Agrees}
@@ -24,7 +24,7 @@ use Rattle.lucore_laws.specs.ListLaws.{DefineSomething, IsClosed, HasColumns}
 use Rattle.lucore_laws.specs.CausalityLaws.{HasCycle}
 use Rattle.lucore_laws.proofs.ToFlat.{to_flat}
 use Rattle.lucore_laws.proofs.Closed as closing
-use Rattle.lucore_laws.proofs.NodeFaults.{faults_told, faults_found}
+use Rattle.lucore_laws.proofs.NodeFaults.{faults_reported, faults_found}
 use Rattle.lucore_laws.proofs.Whole as meaning
 use Rattle.lucore_laws.proofs.Flats as flats
 use Rattle.lucore_laws.proofs.Roles.{variable_of, inputs_are}
@@ -80,7 +80,7 @@ chain_inside rows x z (more x' y z' c h) = chain_inside rows x y c
 pub define_something : (p : ProgramTree) (main : List ℕ) → IsAccepted p main → DefineSomething p
 define_something p main accepted i j node q n e = ((accepted Rule.wrong_arity).equations i j node q n e).some
 
-module _ (p : ProgramTree) (main : List ℕ) (flat : FlatProgram) (accepted : IsAccepted p main) (out : IsLaidOut p main flat) where
+module _ (p : ProgramTree) (main : List ℕ) (flat : FlatView) (accepted : IsAccepted p main) (out : IsLaidOut p main flat) where
   pub closed : IsClosed flat
   closed = closing.closed p main flat accepted (define_something p main accepted) out
 
@@ -97,7 +97,7 @@ module _ (p : ProgramTree) (main : List ℕ) (flat : FlatProgram) (accepted : Is
       straight flows.0 flows.1
 
   -- a table of its inputs has their columns
-  columns : (inputs : Table) → Fits flat inputs → HasColumns p main inputs
+  columns : (inputs : InputsView) → FitsProgram flat inputs → HasColumns p main inputs
   columns inputs fits node is =
       let same : out.node ≡ node = same_Some out.node node (sym out.is_main ∙ is) in
       let many = as_many (inputs_of flat.variables) inputs.columns fits in
@@ -110,7 +110,7 @@ module _ (p : ProgramTree) (main : List ℕ) (flat : FlatProgram) (accepted : Is
   whole few ranked straight =
       let something = define_something p main accepted in
       let is_flat : IsFlat flat = flats.is_flat p main flat accepted something out (ordered ranked) ranked few in
-      let agrees : (inputs : Table) → HasColumns p main inputs → Agrees p main inputs flat = λ inputs columns. meaning.agrees p main inputs flat accepted something out (ordered ranked) columns in
+      let agrees : (inputs : InputsView) → HasColumns p main inputs → Agrees p main inputs flat = λ inputs columns. meaning.agrees p main inputs flat accepted something out (ordered ranked) columns in
       record {
         accepted = accepted;
         causal = causal straight;
@@ -119,7 +119,7 @@ module _ (p : ProgramTree) (main : List ℕ) (flat : FlatProgram) (accepted : Is
         columns = columns;
         agrees = agrees;
         one_meaning = λ inputs columns. one_meaning p main inputs flat is_flat.ordered (agrees inputs columns) (meaning.instances_law p main flat accepted something out is_flat.ordered);
-        faults = λ inputs σ τ source solves i v t kind x fault owner there. faults_told p main inputs flat accepted something out is_flat.ordered σ τ source solves i v t kind x fault owner there;
+        faults = λ inputs σ τ source solves i v t kind x fault owner there. faults_reported p main inputs flat accepted something out is_flat.ordered σ τ source solves i v t kind x fault owner there;
         all_faults = λ inputs σ τ source solves name t kind fault.
             let h = faults_found p main inputs flat accepted something out is_flat.ordered σ τ source solves name t kind fault in
             (h.0, h.3);

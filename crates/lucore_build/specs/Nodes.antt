@@ -1,5 +1,6 @@
 -- What the equations of a node make, equation by equation.
-use Rattle.std.specs.Prelude.{ℕ, suc, ◌+◌, List, [], ◌∷◌, ◌++◌, length, map, flat_map, replicate, Option, Some, None, unwrap_or, slice_get}
+use Rattle.std.specs.Prelude.{ℕ, suc, ◌+◌, List, [], ◌∷◌, ◌++◌, length, map, flat_map, replicate, Option}
+use Rattle.std.specs.Prelude.{Some, None, unwrap_or, slice_get}
 use Rattle.lutree.specs.Tree.{DeclarationTree, EquationTree, NodeTree, ProgramTree}
 use Rattle.luflow.specs.declared.form.Clock.{Clock}
 use Rattle.luflow.specs.declared.form.Form.TheVariants.{Copied, Input}
@@ -26,7 +27,8 @@ flows_named node k root j (x ∷ xs) = flow_named node k root j x ∷ flows_name
 abbrev pub defined_flows : ProgramTree → List (List Flow) → NodeTree → List EquationTree → ℕ → List Flow
 defined_flows p lists node [] s = []
 defined_flows p lists node (q ∷ qs) s =
-    flows_named node (clock_place node (left_clock p lists node q)) (walk_right p lists node q s).root 0 q.left
+    flows_named node (clock_place node (left_clock p lists node q))
+    (walk_right p lists node q s).root 0 q.left
     ++ defined_flows p lists node qs (s + length (walk_right p lists node q s).inner)
 
 -- the flow at a place that a look-up found; where it found none, the constant nil
@@ -52,6 +54,8 @@ abbrev pub number_at : List ℕ → ℕ → Option ℕ → ℕ
 number_at numbers otherwise None = otherwise
 number_at numbers otherwise (Some i) = unwrap_or (slice_get numbers i) otherwise
 
--- the owners of variables, looked up by their names among those of left sides; where there is none, the variable's own place
+-- the owners of variables, looked up by their names among those of left sides; where there is none, the
+-- variable's own place
 abbrev pub owners_found : NodeTree → List (List ℕ) → List ℕ → List (List ℕ) → List ℕ
-owners_found node names owners = map (λ x. number_at owners (place_of (variables_of node) x) (first_place names x))
+owners_found node names owners =
+    map (λ x. number_at owners (place_of (variables_of node) x) (first_place names x))

@@ -54,7 +54,8 @@ infix_kind FollowedBy a b = agreed a b
 abbrev pub infix_walk : Clock → Infix → Operand → Operand → Walking
 infix_walk k (Data op) x y = leaf (flow_on k (double_kind op x.kind y.kind) (Binary op x.place y.place))
 infix_walk k Starts x y = leaf (flow_on k (agreed x.kind y.kind) (Arrow x.place y.place))
-infix_walk k FollowedBy x y = after (leaf (flow_on k y.kind (Pre y.place))) (λ z. leaf (flow_on k (agreed x.kind y.kind) (Arrow x.place z)))
+infix_walk k FollowedBy x y = after (leaf (flow_on k y.kind (Pre y.place)))
+    (λ z. leaf (flow_on k (agreed x.kind y.kind) (Arrow x.place z)))
 
 -- the types of the arguments of a call
 abbrev pub kinds_of : List Operand → List (Option Kind)

@@ -21,7 +21,7 @@ use std::alloc::{AllocError, Global};
 /// A flat list: the flows, for each flow the number of the main variable in whose equation it stands, the main variables, and the
 /// program's types.
 #[derive(Drop)]
-pub struct Laid {
+pub struct FlatList {
     pub flows: Vec<Flow>,
     pub owners: Vec<usize>,
     pub variables: Vec<Variable>,
@@ -118,7 +118,7 @@ fn laid_at(
     catalog: &Catalog,
     order: &[usize],
     place: usize,
-) -> Result<Laid, AllocError>
+) -> Result<FlatList, AllocError>
     requires calls { IsCallOrder (program_view catalog.now) order.now }
     requires inside { place < length (program_view catalog.now).nodes }
     ensures list { IfOk result (λ laid. ForSome (slice_get (program_view catalog.now).nodes place)
@@ -134,7 +134,7 @@ fn laid_at(
     let list = list_at(alloc, catalog, &lists, place)?;
     let variables = variables_in(alloc, catalog.scopes()[place].node())?;
     let types = types_in(alloc, catalog.program().types.as_slice())?;
-    Ok(Laid {
+    Ok(FlatList {
         flows: list.flows,
         owners: list.owners,
         variables,
@@ -155,7 +155,7 @@ pub fn lay_out(
     catalog: &Catalog,
     order: &[usize],
     main: &str,
-) -> Result<Laid, AllocError>
+) -> Result<FlatList, AllocError>
     requires calls { IsCallOrder (program_view catalog.now) order.now }
     ensures { IfOk result (IsListOf (program_view catalog.now) main.now) }
 {
@@ -164,7 +164,7 @@ pub fn lay_out(
             let laid = laid_at(alloc, catalog, order, place)?;
             Ok(laid)
         }
-        None => Ok(Laid {
+        None => Ok(FlatList {
             flows: Vec::new(alloc),
             owners: Vec::new(alloc),
             variables: Vec::new(alloc),

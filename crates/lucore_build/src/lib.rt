@@ -9,7 +9,7 @@
 //!
 //! # The list
 //!
-//! - [`lay_out`], [`Laid`]: the flows of the main node's list, their owners and the main variables.
+//! - [`lay_out`], [`FlatList`]: the flows of the main node's list, their owners and the main variables.
 //!
 //! Each node has one open list, made once, in an order in which calls go backward, and only of nodes that the main node
 //! reaches. An expression is walked once: its inner flows are put behind those before, and the walk gives its root and
@@ -36,7 +36,7 @@ mod types;
 mod variables;
 mod walk;
 
-pub use laying::{Laid, lay_out};
+pub use laying::{FlatList, lay_out};
 pub use moved::push_moved;
 pub use nodes::{is_too_large, sizes};
 pub use operand::{Operand, sum_of};

@@ -8,7 +8,7 @@ use Rattle.luflow.specs.declared.form.Form.TheVariants.{Input}
 use Rattle.luflow.specs.declared.form.Flow.{Flow}
 use Rattle.luflow.specs.declared.variable.Variable.{Variable}
 use Rattle.luflow.specs.declared.variable.Role.TheVariants as role
-use Rattle.luflow.specs.Program.{FlatProgram, places, clock_reads}
+use Rattle.luflow.specs.Program.{FlatView, places, clock_reads}
 use Rattle.luflow.specs.Variables.{inputs_of}
 use Rattle.luflow.specs.Flats.{IsWithin, IsTypeAmong}
 use Rattle.lusource.specs.Names.{variables_of}
@@ -35,7 +35,7 @@ use Rattle.lucore_laws.proofs.Ruling.{ruling}
 use Rattle.lucore_laws.proofs.Variables.{variable_kind}
 use Rattle.lucore_laws.proofs.FlowTypes.{lists_typed, typed_at}
 
-module _ (p : ProgramTree) (main : List ℕ) (flat : FlatProgram) (accepted : IsAccepted p main) (some : DefineSomething p) (out : IsLaidOut p main flat) where
+module _ (p : ProgramTree) (main : List ℕ) (flat : FlatView) (accepted : IsAccepted p main) (some : DefineSomething p) (out : IsLaidOut p main flat) where
   abbrev node : NodeTree
   node = out.node
 

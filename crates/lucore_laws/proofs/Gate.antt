@@ -14,7 +14,7 @@ use Rattle.luflow.specs.declared.form.Outcome.{Outcome}
 use Rattle.luflow.specs.declared.form.Outcome.TheVariants.{Gives, Faults, Stuck}
 use Rattle.luflow.specs.declared.form.Flow.{Flow}
 use Rattle.luflow.specs.Operators.{single_of, double_of, choice_of}
-use Rattle.luflow.specs.Program.{FlatProgram, Table, IsOrdered, column_of, form_reads, clock_reads}
+use Rattle.luflow.specs.Program.{FlatView, InputsView, IsOrdered, column_of, form_reads, clock_reads}
 use Rattle.luflow.specs.Streams.{Stream, Streams, Ticks, datum_of, base_clock, clock_at, ticked, before}
 use Rattle.luflow.specs.Values.{gives, on_one, on_two, on_three, arrow_of, merge_of, under, value_at}
 use Rattle.luflow.specs.Solution.{IsSolution, says}
@@ -34,7 +34,7 @@ gate (Some true) Stuck = refl
 abbrev IsOnClock : Ticks → Stream → Type 0
 IsOnClock k s = s ≡ when_stream k s
 
-module _ (flat : FlatProgram) (inputs : Table) (n : ℕ) (fits : AreFit flat.flows n) where
+module _ (flat : FlatView) (inputs : InputsView) (n : ℕ) (fits : AreFit flat.flows n) where
   abbrev pub column_stream : ℕ → Stream
   column_stream r t = under (base_clock inputs t) (gives (slice_get (column_of inputs r) t))
 

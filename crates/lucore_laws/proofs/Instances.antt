@@ -5,7 +5,7 @@ use Rattle.std.proofs.lemmas.Option.{slice_get_within, same_Some}
 use Rattle.lutree.specs.Tree.{Tree, DeclarationTree, EquationTree, NodeTree, ProgramTree}
 use Rattle.lutree.specs.Tree as tree
 use Rattle.luflow.specs.declared.form.Flow.{Flow}
-use Rattle.luflow.specs.Program.{FlatProgram}
+use Rattle.luflow.specs.Program.{FlatView}
 use Rattle.lusource.specs.Names.{variables_of, name_at, clock_of, AreDistinct}
 use Rattle.lustat_rules.specs.Scope.{declarations_of, node_called}
 use Rattle.lustat_rules.specs.Scope as rules
@@ -30,7 +30,7 @@ joined : (f : Occurrence → ℕ) (xs ys : List Occurrence) → map f (xs ++ ys)
 joined f [] ys = refl
 joined f (x ∷ xs) ys = ap (λ l. f x ∷ l) (joined f xs ys)
 
-module _ (p : ProgramTree) (lists : List (List Flow)) (main : List ℕ) (flat : FlatProgram) (node : NodeTree) (facts : NodeFacts p node) (here : Instance) (apart : (f : List ℕ) (n : NodeTree) → node_called p f ≡ Some n → AreDistinct (variables_of n))
+module _ (p : ProgramTree) (lists : List (List Flow)) (main : List ℕ) (flat : FlatView) (node : NodeTree) (facts : NodeFacts p node) (here : Instance) (apart : (f : List ℕ) (n : NodeTree) → node_called p f ≡ Some n → AreDistinct (variables_of n))
     (node_is : node_called p here.node ≡ Some node) (m : Model ℕ) (found : find p lists main here.path ≡ record { node = here.node; on = m.on }) (base_is : m.base ≡ map (spotted p lists main) here.clock)
     (given_are : (r : ℕ) → r < length node.inputs → m.given r ≡ map (spotted p lists main) (if_there (slice_get here.arguments r)))
     (values : (n : ℕ) (q : EquationTree) → slice_get node.equations n ≡ Some q → IfSome (value_count p q.right) (λ count. length q.left ≡ count))

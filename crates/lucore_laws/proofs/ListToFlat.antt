@@ -15,7 +15,7 @@ use Rattle.luflow.specs.Streams.{Stream, Ticks, truth_in}
 use Rattle.lusource.specs.Names.{variables_of, place_of, clock_of, name_at, outputs_in, output_name, AreDistinct}
 use Rattle.lustat_rules.specs.Scope.{node_called}
 use Rattle.lusource.specs.StreamOperators.{constant_stream, unary_stream, binary_stream, choice_stream, pre_stream, arrow_stream, when_stream, current_stream, merge_stream}
-use Rattle.lusource.specs.Source.{Named, Site, Path, SourceStreams, HoldsAt, condition, first_pattern, next_patterns, pattern_value, ticks, calls, calls_in, value, values, branches, output, sites, sites_in, branch_sites}
+use Rattle.lusource.specs.Source.{Named, CallInstance, Path, SourceStreams, HoldsAt, condition, first_pattern, next_patterns, pattern_value, ticks, calls, calls_in, value, values, branches, output, sites, sites_in, branch_sites}
 use Rattle.lucore_laws.specs.Layout.{Root, Walking, root_flows, made, root_place, place, behind, leaf, after, list_of, inputs_in, instance, moved, clock_place, flow_of, variable_place, walk, walk_all, walk_branches}
 use Rattle.lucore_laws.specs.Layout.Root.{own, at}
 use Rattle.lucore_laws.proofs.Each.{Each, each_left, each_right, each_join, each_shift, mapped}
@@ -135,10 +135,10 @@ module _ (p : ProgramTree) (lists : List (List Flow)) (node : NodeTree) (Below :
   abbrev pub Placed : Model → ℕ → Spot → Type 0
   Placed m i spot = HasInstances p lists spot.node (λ y. m.on (spot.at + y)) (λ path. σ (i ∷ path))
 
-  abbrev pub Solved : ℕ → List Site → Type 0
+  abbrev pub Solved : ℕ → List CallInstance → Type 0
   Solved i xs = Each (λ j c. (path : Path) → HoldsAt p c.node c.base c.arguments (λ ρ. σ (j ∷ ρ)) path) i xs
 
-  pub solved_then : (i : ℕ) (a b : List Site) (n : ℕ) → length a ≡ n → Solved i (a ++ b) → Solved (i + n) b
+  pub solved_then : (i : ℕ) (a b : List CallInstance) (n : ℕ) → length a ≡ n → Solved i (a ++ b) → Solved (i + n) b
   solved_then i a b n e h = subst (λ n. Solved (i + n) b) e (each_right _ i a b h)
 
   ticks_agree : (m : Model) (k : Option Condition) → KnownClock k → Agree m → clock_ticks base m.on (clock_place node k) ≡ ticks base var k
@@ -259,7 +259,7 @@ module _ (p : ProgramTree) (lists : List (List Flow)) (node : NodeTree) (Below :
           (λ m q j. ap (λ t. merge_stream t (m.on cp) (map m.on xs)) (ticks_agree m k known (ag m q.0)) ∙ ap (λ u. merge_stream (K k) u (map m.on xs)) (ag m q.0 c well.0) ∙ ap (merge_stream (K k) (var c)) q.1))
       makes A ag (tree.call f all) k i w known well sol =
           let SA = sites_in p node base var below all k i in
-          let site : Site = record { node = f; base = K k; arguments = values p node base var below all k i } in
+          let site : CallInstance = record { node = f; base = K k; arguments = values p node base var below all k i } in
           let last = (solved_then i SA (site ∷ []) (calls_in all) (length-sites_in p node base var below all k i) sol).0 in
           makes_all A ag all k i w (λ xs. instance p lists f (clock_place node k) xs) (spot_at f) (output p node base var below (tree.call f all) k i) known well.1 (each_left _ i SA (site ∷ []) sol)
           (λ xs l. makes_instance (λ m. A m × (map m.on xs ≡ values p node base var below all k i)) f k xs (i + calls_in all) w (values p node base var below all k i) (λ m q. (ag m q.0, q.1)) known (subst (λ n. CallIs p node Below f n w) (sym l) well.0) last)

@@ -16,7 +16,7 @@ use Rattle.luflow.specs.Streams.{Stream, Ticks}
 use Rattle.lusource.specs.Names.{variables_of, place_of, clock_of, name_at, output_name, outputs_in, AreDistinct}
 use Rattle.lustat_rules.specs.Scope.{names_of, declarations_of, node_called}
 use Rattle.lusource.specs.StreamOperators.{constant_stream, unary_stream, binary_stream, choice_stream, pre_stream, arrow_stream, when_stream, current_stream, merge_stream}
-use Rattle.lusource.specs.Source.{Named, Site, condition, first_pattern, next_patterns, ticks, calls, calls_in, value, values, branches, output, sites, sites_in, branch_sites}
+use Rattle.lusource.specs.Source.{Named, CallInstance, condition, first_pattern, next_patterns, ticks, calls, calls_in, value, values, branches, output, sites, sites_in, branch_sites}
 use Rattle.lucore_laws.specs.Layout.{Root, Walking, root_flows, made, root_place, place, behind, leaf, after, list_of, inputs_in, instance, clock_place, flow_of, variable_place, walk, walk_all, walk_branches}
 use Rattle.lucore_laws.specs.Layout.Root.{own, at}
 use Rattle.lucore_laws.proofs.Each.{Each, each_left, each_right, each_join, mapped_at}
@@ -72,7 +72,7 @@ module _ (p : ProgramTree) (lists : List (List Flow)) (node : NodeTree) (Below :
   within i x = of_spot (slice_get all_spots i) (λ spot. m.on (spot.at + place_named (node_called p spot.node) x))
 
   -- the call of this number has a solution of its node's list
-  pub record Served (i : ℕ) (c : Site) : Type 0 where
+  pub record Served (i : ℕ) (c : CallInstance) : Type 0 where
     pub spot : Spot
     pub there : slice_get all_spots i ≡ Some spot
     pub same : c.node ≡ spot.node
@@ -87,7 +87,7 @@ module _ (p : ProgramTree) (lists : List (List Flow)) (node : NodeTree) (Below :
   Stand i xs = Each (λ j x. slice_get all_spots j ≡ Some x) i xs
 
   -- Where the instances stand and the inner flows hold, the root has these streams, and these calls are served.
-  abbrev pub Means : Walking → (ℕ → List Spot) → ℕ → ℕ → (ℕ → Stream) → List Site → Type 0
+  abbrev pub Means : Walking → (ℕ → List Spot) → ℕ → ℕ → (ℕ → Stream) → List CallInstance → Type 0
   Means w sp i width val found =
       (s : ℕ) → Stand i (sp s) → Hold base m s (w s).inner → ((j : ℕ) → j < width → root_stream base m (w s).root j ≡ val j) × Each Served i found
 
@@ -98,7 +98,7 @@ module _ (p : ProgramTree) (lists : List (List Flow)) (node : NodeTree) (Below :
   operand_at s inner (own f) v hold e = (each_right (FlowHolds base m) s inner (f ∷ []) hold).0 ∙ e
   operand_at s inner (at a) v hold e = let z : a ≡ a + 0 = omega arith in ap m.on z ∙ e
 
-  means_after : (a : Walking) (rest : ℕ → Walking) (spa spr : ℕ → List Spot) (i na w : ℕ) (va val : ℕ → Stream) (A B C : List Site)
+  means_after : (a : Walking) (rest : ℕ → Walking) (spa spr : ℕ → List Spot) (i na w : ℕ) (va val : ℕ → Stream) (A B C : List CallInstance)
       → ((s : ℕ) → length (spa s) ≡ na) → length A ≡ na → C ≡ A ++ B → Means a spa i 1 va A
       → ((x : ℕ) → m.on x ≡ va 0 → Means (rest x) spr (i + na) w val B) → Means (after a rest) (spots_after a spa spr) i w val C
   means_after a rest spa spr i na w va val A B C ls la joined first then s stand hold =
@@ -111,13 +111,13 @@ module _ (p : ProgramTree) (lists : List (List Flow)) (node : NodeTree) (Below :
       (t.0, subst (Each Served i) (sym joined) (each_join Served i A B f.1 (subst (λ n. Each Served (i + n) B) (sym la) t.1)))
 
   -- an operator with one operand, and with two
-  means_one : (a : Walking) (operator : ℕ → Flow) (spa : ℕ → List Spot) (i na w : ℕ) (va val : ℕ → Stream) (A : List Site)
+  means_one : (a : Walking) (operator : ℕ → Flow) (spa : ℕ → List Spot) (i na w : ℕ) (va val : ℕ → Stream) (A : List CallInstance)
       → ((s : ℕ) → length (spa s) ≡ na) → length A ≡ na → Means a spa i 1 va A
       → ((x : ℕ) → m.on x ≡ va 0 → (j : ℕ) → flow_stream base m (operator x) ≡ val j) → Means (after a (λ x. leaf (operator x))) (spots_after a spa no_spots) i w val A
   means_one a operator spa i na w va val A ls la first h =
       means_after a (λ x. leaf (operator x)) spa no_spots i na w va val A [] A ls la (sym (append-nil A)) first (λ x e. means_leaf (operator x) (i + na) w val (λ j lt. h x e j))
 
-  means_two : (a b : Walking) (operator : ℕ → ℕ → Flow) (spa spb : ℕ → List Spot) (i na nb w : ℕ) (va vb val : ℕ → Stream) (A B : List Site)
+  means_two : (a b : Walking) (operator : ℕ → ℕ → Flow) (spa spb : ℕ → List Spot) (i na nb w : ℕ) (va vb val : ℕ → Stream) (A B : List CallInstance)
       → ((s : ℕ) → length (spa s) ≡ na) → length A ≡ na → ((s : ℕ) → length (spb s) ≡ nb) → length B ≡ nb → Means a spa i 1 va A → Means b spb (i + na) 1 vb B
       → ((x y : ℕ) → m.on x ≡ va 0 → m.on y ≡ vb 0 → (j : ℕ) → flow_stream base m (operator x y) ≡ val j)
       → Means (after a (λ x. after b (λ y. leaf (operator x y)))) (spots_after a spa (spots_after b spb no_spots)) i w val (A ++ B)
@@ -232,7 +232,7 @@ module _ (p : ProgramTree) (lists : List (List Flow)) (node : NodeTree) (Below :
         (λ xs l e. means_instance f k xs (i + calls_in all) w (values p node base var within all k i) (subst (λ n. CallIs p node Below f n w) (sym l) well.0) e)
 
     -- the arguments of a call, and the rest
-    pub means_all : (all : Trees) (k : Option Condition) (i w : ℕ) (rest : List ℕ → Walking) (spr : ℕ → List Spot) (result : ℕ → Stream) (B C : List Site) → AllWell p node Below all → C ≡ sites_in p node base var within all k i ++ B
+    pub means_all : (all : Trees) (k : Option Condition) (i w : ℕ) (rest : List ℕ → Walking) (spr : ℕ → List Spot) (result : ℕ → Stream) (B C : List CallInstance) → AllWell p node Below all → C ≡ sites_in p node base var within all k i ++ B
         → ((xs : List ℕ) → length xs ≡ length (trees_in all) → map m.on xs ≡ values p node base var within all k i → Means (rest xs) spr (i + calls_in all) w result B)
         → Means (walk_all p lists node all k rest) (spots_all p lists node all k spr) i w result C
     means_all tree.none k i w rest spr result B C well joined h =
@@ -249,7 +249,7 @@ module _ (p : ProgramTree) (lists : List (List Flow)) (node : NodeTree) (Below :
         subst (λ n. Means (rest (x ∷ xs)) spr n w result B) z (h (x ∷ xs) (ap suc l) (ap (λ y. y ∷ map m.on xs) (is_value a k i x e) ∙ ap (λ ys. val a k i ∷ ys) e'))))
 
     -- the branches of a merge, and the rest
-    pub means_branches : (c : List ℕ) (ps : List Pattern) (all : Trees) (i w : ℕ) (rest : List ℕ → Walking) (spr : ℕ → List Spot) (result : ℕ → Stream) (B C : List Site) → AllWell p node Below all → C ≡ branch_sites p node base var within c ps all i ++ B
+    pub means_branches : (c : List ℕ) (ps : List Pattern) (all : Trees) (i w : ℕ) (rest : List ℕ → Walking) (spr : ℕ → List Spot) (result : ℕ → Stream) (B C : List CallInstance) → AllWell p node Below all → C ≡ branch_sites p node base var within c ps all i ++ B
         → ((xs : List ℕ) → map m.on xs ≡ branches p node base var within c ps all i → Means (rest xs) spr (i + calls_in all) w result B)
         → Means (walk_branches p lists node c ps all rest) (spots_branches p lists node c ps all spr) i w result C
     means_branches c ps tree.none i w rest spr result B C well joined h =

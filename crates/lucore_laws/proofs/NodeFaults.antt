@@ -18,7 +18,7 @@ use Rattle.luflow.specs.declared.form.Clock.TheVariants.{Base, On}
 use Rattle.luflow.specs.declared.form.FaultKind.{FaultKind}
 use Rattle.luflow.specs.declared.form.Flow.{Flow}
 use Rattle.luflow.specs.declared.variable.Variable.{Variable}
-use Rattle.luflow.specs.Program.{Table}
+use Rattle.luflow.specs.Program.{InputsView}
 use Rattle.luflow.specs.Streams.{Streams, Ticks, base_clock, clock_at}
 use Rattle.lusource.specs.Names.{variables_of, place_of, clock_of, name_at, AreDistinct}
 use Rattle.lusource.specs.Source.{SourceStreams, calls}
@@ -39,7 +39,7 @@ use Rattle.lucore_laws.proofs.Names.{get-front, get-behind, all_at, contains_get
 use Rattle.lucore_laws.proofs.Open.{Model, clock_ticks, FlowHolds, Hold, Solves, solves_hold}
 use Rattle.lucore_laws.proofs.Roots.{parts, length-front, front, others, get-input, get-other, name_cases, any_cases, LeftRoots, Roots, roots_stand, get-variable}
 use Rattle.lucore_laws.proofs.SourceFaults as expressions
-use Rattle.lucore_laws.proofs.SourceFaults.{FlowFails, form_fails, SomeFails, Owned, Tells, seen, Told, FormFails}
+use Rattle.lucore_laws.proofs.SourceFaults.{FlowFails, form_fails, SomeFails, Owned, ReportsFlow, seen, ReportsAndShows, FormFails}
 use Rattle.lucore_laws.proofs.Spots.{Spot, spots, equation_spots, node_spots, spots_in, length-spots, place_named}
 use Rattle.lucore_laws.proofs.ListToSource.{name_there}
 use Rattle.lucore_laws.proofs.Well.{IsWell, Known}
@@ -87,13 +87,13 @@ same_member [] y j x e = cc
 same_member (z ∷ xs) y zero x e = refl
 same_member (z ∷ xs) y (suc j) x e = same_member xs y j x e
 
-module _ (p : ProgramTree) (lists : List (List Flow)) (node : NodeTree) (facts : NodeFacts p node) (base : Ticks) (m : Model) (σ : SourceStreams) (t : ℕ) (kind : FaultKind) (apart : (f : List ℕ) (n : NodeTree) → node_called p f ≡ Some n → AreDistinct (variables_of n)) (told : (f : List ℕ) → Below node f → Told p lists t kind f)
+module _ (p : ProgramTree) (lists : List (List Flow)) (node : NodeTree) (facts : NodeFacts p node) (base : Ticks) (m : Model) (σ : SourceStreams) (t : ℕ) (kind : FaultKind) (apart : (f : List ℕ) (n : NodeTree) → node_called p f ≡ Some n → AreDistinct (variables_of n)) (reported : (f : List ℕ) → Below node f → ReportsAndShows p lists t kind f)
     (agree : (x : List ℕ) → Known p node (Below node) x → m.on (variable_place p lists node x) ≡ σ [] x) (f : List ℕ) (found : node_called p f ≡ Some node) where
   abbrev IsKnown : Option Condition → Type 0
-  IsKnown = expressions.KnownClock p lists node (Below node) base m σ t kind apart told agree
+  IsKnown = expressions.KnownClock p lists node (Below node) base m σ t kind apart reported agree
 
   abbrev IsPlaced : ℕ → Spot → Type 0
-  IsPlaced = expressions.Placed p lists node (Below node) base m σ t kind apart told agree
+  IsPlaced = expressions.Placed p lists node (Below node) base m σ t kind apart reported agree
 
   known_one : (x : List ℕ) (k : Option Condition) → option_map (λ (d : DeclarationTree). d.clock) (rules.meaning node x) ≡ Some k → IsKnown k
   known_one x None e = tt
@@ -107,7 +107,7 @@ module _ (p : ProgramTree) (lists : List (List Flow)) (node : NodeTree) (facts :
 
   abbrev Fails : ℕ → List EquationTree → ℕ → List ℕ → Type 0
   Fails depth =
-      faults.EquationFails p node base (σ []) (λ i. σ (i ∷ [])) t kind (expressions.CallFails p lists node (Below node) base m σ t kind apart told agree depth)
+      faults.EquationFails p node base (σ []) (λ i. σ (i ∷ [])) t kind (expressions.CallFails p lists node (Below node) base m σ t kind apart reported agree depth)
 
   abbrev G : List ℕ → Type 0
   G v = SomeFails p t kind f base σ v
@@ -123,7 +123,7 @@ module _ (p : ProgramTree) (lists : List (List Flow)) (node : NodeTree) (facts :
   first_known q lefts some =
       all_at (Known p node (Below node)) q.left 0 (name_at q.left 0) lefts (name_there q.left 0 some)
 
-  root_says : (q : EquationTree) (root : Root) (j : ℕ) (x : List ℕ) → place (name_at q.left 0) < length (variables_of node) → expressions.RootTells p lists node (Below node) base m σ t kind apart told agree (G (name_at q.left 0)) root → Says (root_flow p lists node q root j x) (place (name_at q.left 0))
+  root_says : (q : EquationTree) (root : Root) (j : ℕ) (x : List ℕ) → place (name_at q.left 0) < length (variables_of node) → expressions.RootReports p lists node (Below node) base m σ t kind apart reported agree (G (name_at q.left 0)) root → Says (root_flow p lists node q root j x) (place (name_at q.left 0))
   root_says q (own flow) j x known r h = (name_at q.left 0, known, refl, r h)
   root_says q (at i) j x known r h = absurd h.1
 
@@ -134,7 +134,7 @@ module _ (p : ProgramTree) (lists : List (List Flow)) (node : NodeTree) (facts :
   abbrev Here : List Flow → List ℕ → List ℕ → Type 0
   Here flows owners v = (x : ℕ) × (flow : Flow) × (slice_get flows x ≡ Some flow) × FlowFails base m t kind flow × (slice_get owners x ≡ Some (place v))
 
-  here_left : (xs ys : List Flow) (os : List ℕ) (v w : List ℕ) → w ≡ v → expressions.Found p lists node (Below node) base m σ t kind apart told agree xs → Here (xs ++ ys) (replicate (length xs) (place w) ++ os) v
+  here_left : (xs ys : List Flow) (os : List ℕ) (v w : List ℕ) → w ≡ v → expressions.Found p lists node (Below node) base m σ t kind apart reported agree xs → Here (xs ++ ys) (replicate (length xs) (place w) ++ os) v
   here_left xs ys os v w same h =
       let lt = slice_get_within xs h.0 h.1 h.2 in
       let l = length-replicate (length xs) (place w) in
@@ -146,7 +146,7 @@ module _ (p : ProgramTree) (lists : List (List Flow)) (node : NodeTree) (facts :
 
   -- a root that is at fault is the flow of its first variable
   root_here : (q : EquationTree) (root : Root) (v : List ℕ) → name_at q.left 0 ≡ v → 0 < length q.left → owner_of node node.equations (name_at q.left 0) ≡ place (name_at q.left 0) → place (name_at q.left 0) < length (variables_of node) → (¬ rules.IsInput node (name_at q.left 0))
-      → LeftRoots p lists node (λ x f. variable_flow p lists node node.equations (variable_count p lists node) x ≡ f) q root → expressions.RootFound p lists node (Below node) base m σ t kind apart told agree root → Shown v
+      → LeftRoots p lists node (λ x f. variable_flow p lists node node.equations (variable_count p lists node) x ≡ f) q root → expressions.RootFound p lists node (Below node) base m σ t kind apart reported agree root → Shown v
   root_here q (own flow) v same some owner known out roots h =
       let x = name_at q.left 0 in
       let O = owner_of node node.equations in
@@ -192,21 +192,21 @@ module _ (p : ProgramTree) (lists : List (List Flow)) (node : NodeTree) (facts :
       let v = name_at q.left 0 in
       let ok = sound 0 q refl in
       let here = ok.known in
-      let r = seen p lists node (Below node) base m σ t kind apart told agree clock_known q.right k i (length q.left) (G v) (clock_known v) (well 0 q refl) (λ d h. g d v (inl (refl, h))) s (each_left _ i S T placed) (each_left (FlowHolds base m) s w.inner (inner_flows p lists node qs s') hold) in
+      let r = seen p lists node (Below node) base m σ t kind apart reported agree clock_known q.right k i (length q.left) (G v) (clock_known v) (well 0 q refl) (λ d h. g d v (inl (refl, h))) s (each_left _ i S T placed) (each_left (FlowHolds base m) s w.inner (inner_flows p lists node qs s') hold) in
       let placed' = subst (λ n. Each IsPlaced (i + n) T) (length-spots p lists node q.right k s) (each_right _ i S T placed) in
       let rest = equations_say qs s' (i + calls q.right) (λ j q e. well (suc j) q e) (λ j q e. sound (suc j) q e) roots.1 (λ d v h. g d v (inr h)) placed' (each_right (FlowHolds base m) s w.inner (inner_flows p lists node qs s') hold) in (
         pairs_join Says w.inner (inner_flows p lists node qs s') (replicate (length w.inner) (place v)) (inner_owners p lists node qs s')
             (pairs_alike Says (place v) s w.inner (own_flows v here s w.inner r.1.0)) rest.0,
         λ x. either (list_any (λ y. bytes_eq y x) q.left) (root_flow p lists node q w.root (place_of q.left x) x) (variable_flow p lists node qs s' x) (place v) (owner_of node qs x) (root_says q w.root (place_of q.left x) x here r.1.1) (rest.1 x),
         λ d u h. ⊎_elim
-            (λ (h : (v ≡ u) × expressions.Fails p lists node (Below node) base m σ t kind apart told agree d q.right k i).
+            (λ (h : (v ≡ u) × expressions.Fails p lists node (Below node) base m σ t kind apart reported agree d q.right k i).
             expressions.both (here_left w.inner (inner_flows p lists node qs s') (inner_owners p lists node qs s') u v h.0) (root_here q w.root u h.0 ok.some ok.owner here ok.out roots.0) (r.2 (d, h.1)))
             (λ (h : Fails d qs (i + calls q.right) u).
             expressions.both (here_right w.inner (inner_flows p lists node qs s') (inner_owners p lists node qs s') (place v) u) (λ y. y) (rest.2 d u h))
             h,
       )
     where
-      own_flows : (v : List ℕ) → place v < length (variables_of node) → (s : ℕ) (xs : List Flow) → Each (expressions.FlowTells p lists node (Below node) base m σ t kind apart told agree (G v)) s xs → Each (λ j flow. Says flow (place v)) s xs
+      own_flows : (v : List ℕ) → place v < length (variables_of node) → (s : ℕ) (xs : List Flow) → Each (expressions.FlowReports p lists node (Below node) base m σ t kind apart reported agree (G v)) s xs → Each (λ j flow. Says flow (place v)) s xs
       own_flows v here s [] h = tt
       own_flows v here s (flow ∷ xs) h = (λ fails. (v, here, refl, h.0 fails), own_flows v here (suc s) xs h.1)
 
@@ -310,7 +310,7 @@ module _ (p : ProgramTree) (lists : List (List Flow)) (are : AreLists p lists) (
       let z : i ≡ 0 + i = omega arith in
       subst (λ i. HasInstances p lists spot.node (λ y. τ (spot.at + y)) (λ path. σ (i ∷ path))) z (placed f node found τ σ has i spot e))
 
-  step : (f : List ℕ) → ((g : List ℕ) → Calls p f g → Told p lists t kind g) → Told p lists t kind f
+  step : (f : List ℕ) → ((g : List ℕ) → Calls p f g → ReportsAndShows p lists t kind g) → ReportsAndShows p lists t kind f
   step f rest = (
     λ node found base m σ sol has x flow there fails.
         let l = listed p lists are f node found in
@@ -321,15 +321,15 @@ module _ (p : ProgramTree) (lists : List (List Flow)) (are : AreLists p lists) (
         (r.0, r.1, ap (λ l. slice_get l r.0) l ∙ r.2, r.3, r.4, r.5),
   )
 
-  pub told_all : (f : List ℕ) → Told p lists t kind f
-  told_all = by_calls p never (Told p lists t kind) step
+  pub reported_all : (f : List ℕ) → ReportsAndShows p lists t kind f
+  reported_all = by_calls p never (ReportsAndShows p lists t kind) step
 
-clock_same : (inputs : Table) (τ : Streams) (c : Clock) (t : ℕ) → clock_at inputs τ c t ≡ clock_ticks (base_clock inputs) τ c t
+clock_same : (inputs : InputsView) (τ : Streams) (c : Clock) (t : ℕ) → clock_at inputs τ c t ≡ clock_ticks (base_clock inputs) τ c t
 clock_same inputs τ Base t = refl
 clock_same inputs τ (On c d) t = refl
 
-pub faults_told : FaultsLaw
-faults_told p main inputs flat accepted some out ordered σ τ sol sol' i v t kind x fault owner variable =
+pub faults_reported : FaultsLaw
+faults_reported p main inputs flat accepted some out ordered σ τ sol sol' i v t kind x fault owner variable =
     let node = out.node in
     let fs : (f : List ℕ) (n : NodeTree) → node_called p f ≡ Some n → NodeFacts p n = facts p main accepted some in
     let never = never_round p main accepted some in
@@ -337,7 +337,7 @@ faults_told p main inputs flat accepted some out ordered σ τ sol sol' i v t ki
     let m = model flat inputs (length node.inputs) (flat_fits p main flat accepted some out) τ in
     let solved = to_open flat inputs (length node.inputs) (flat_fits p main flat accepted some out) τ sol' in
     let has : HasInstances p out.lists main τ σ = λ path n x here c. fun_ext (λ t. sym (same_flow p main flat accepted some out inputs ordered σ τ sol sol' path n x here c t)) in
-    let r = (told_all p out.lists out.are_lists fs never t kind main).0 node out.is_main (base_clock inputs) m σ (subst (Solves (base_clock inputs) m) (sym are) solved) has i fault.flow (ap (λ l. slice_get l i) are ∙ fault.there) (sym (clock_same inputs τ fault.flow.clock t) ∙ fault.clock, form_fails τ t kind fault.flow.form fault.fault) in
+    let r = (reported_all p out.lists out.are_lists fs never t kind main).0 node out.is_main (base_clock inputs) m σ (subst (Solves (base_clock inputs) m) (sym are) solved) has i fault.flow (ap (λ l. slice_get l i) are ∙ fault.there) (sym (clock_same inputs τ fault.flow.clock t) ∙ fault.clock, form_fails τ t kind fault.flow.form fault.fault) in
     let w = r.2.0 in
     let same : v ≡ r.0 = same_Some v r.0 (sym owner ∙ ap (λ l. slice_get l i) out.owners ∙ r.1) in
     let name : slice_get (variables_of node) v ≡ Some x.name =
@@ -369,7 +369,7 @@ faults_found p main inputs flat accepted some out ordered σ τ sol sol' v t kin
     let m = model flat inputs (length node.inputs) (flat_fits p main flat accepted some out) τ in
     let solved = to_open flat inputs (length node.inputs) (flat_fits p main flat accepted some out) τ sol' in
     let has : HasInstances p out.lists main τ σ = λ path n x here c. fun_ext (λ t. sym (same_flow p main flat accepted some out inputs ordered σ τ sol sol' path n x here c t)) in
-    let r = (told_all p out.lists out.are_lists fs never t kind main).1 node out.is_main (base_clock inputs) m σ (subst (Solves (base_clock inputs) m) (sym are) solved) has v source in
+    let r = (reported_all p out.lists out.are_lists fs never t kind main).1 node out.is_main (base_clock inputs) m σ (subst (Solves (base_clock inputs) m) (sym are) solved) has v source in
     let n = place_of (variables_of node) v in
     let named = mapped_some (λ (x : Variable). x.name) (slice_get (main_variables node) n) v (sym (slice_get-map (λ (x : Variable). x.name) (main_variables node) n) ∙ ap (λ l. slice_get l n) (main_names node) ∙ get_place (variables_of node) v r.5) in
     let fault : IsFault flat inputs τ r.0 t kind = record {

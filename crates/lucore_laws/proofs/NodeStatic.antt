@@ -21,7 +21,7 @@ use Rattle.lusource.specs.Source.{next_patterns}
 use Rattle.lustat_rules.specs.Scope.{names_of, declarations_of, node_called}
 use Rattle.lustat_rules.specs.Scope as rules
 use Rattle.lustat_rules.specs.Naming.{Calls, Reaches}
-use Rattle.lustat_rules.specs.Clocks.{HasClock, FitsInside}
+use Rattle.lustat_rules.specs.Clocks.{HasClock, FitsClockInside}
 use Rattle.lustat_rules.proofs.Fitting.{inside}
 use Rattle.lucore_laws.specs.Layout.{Root, Walking, walk, walk_all, walk_branches, walk_right, left_clock, root_flow, inner_flows, variable_flow, variable_place, variable_count, clock_place, input_flows, list_of, node_flows, AreLists}
 use Rattle.lucore_laws.specs.Layout.Root.{own, at}
@@ -48,7 +48,7 @@ module _ (p : ProgramTree) (lists : List (List Flow)) (node : NodeTree) where
   branch_root P c ps tree.none rest h s = h [] s
   branch_root P c ps (tree.more a all) rest h s = branch_root P c (next_patterns ps) all _ (λ xs s. h _ s) _
 
-  root_clock : (e : Tree) (k : Option Condition) (s : ℕ) → FitsInside node e k → RootClock (clock_place node k) (walk p lists node e k s).root
+  root_clock : (e : Tree) (k : Option Condition) (s : ℕ) → FitsClockInside node e k → RootClock (clock_place node k) (walk p lists node e k s).root
   root_clock (tree.number n) k s fits = refl
   root_clock (tree.truth b) k s fits = refl
   root_clock (tree.label x) k s fits = refl
@@ -91,7 +91,7 @@ module _ (p : ProgramTree) (lists : List (List Flow)) (node : NodeTree) (facts :
   nv = variable_count p lists node
 
   -- the clock of a left side
-  left_is : (j : ℕ) (q : EquationTree) → slice_get node.equations j ≡ Some q → (k : Option Condition) × All (λ x. HasClock node x k) q.left × FitsInside node q.right k × (left_clock p lists node q ≡ k)
+  left_is : (j : ℕ) (q : EquationTree) → slice_get node.equations j ≡ Some q → (k : Option Condition) × All (λ x. HasClock node x k) q.left × FitsClockInside node q.right k × (left_clock p lists node q ≡ k)
   left_is j q e =
       let a = facts.agree j q e in
       let first = all_at (λ x. HasClock node x a.0) q.left 0 (name_at q.left 0) a.1 (name_there q.left 0 (facts.some j q e)) in
@@ -111,7 +111,7 @@ module _ (p : ProgramTree) (lists : List (List Flow)) (node : NodeTree) (facts :
       let t = there 0 q refl in
       let l = left_is t.0 q t.1 in
       let root = (walk_right p lists node q s).root in
-      let rc = root_clock p lists node q.right (left_clock p lists node q) s (subst (FitsInside node q.right) (sym l.3) l.2) in
+      let rc = root_clock p lists node q.right (left_clock p lists node q) s (subst (FitsClockInside node q.right) (sym l.3) l.2) in
       let rc' = subst (λ k. RootClock (clock_place node k) root) l.3 rc in (
         each_all (λ j x. OnClock x (root_flow p lists node q root j x)) 0 q.left (λ j x e. left_on q root (0 + j) x l.0 (all_at (λ x. HasClock node x l.0) q.left j x l.1 e) l.3 rc'),
         clocks_from qs (s + length (walk_right p lists node q s).inner) (λ j q e. there (suc j) q e),
@@ -166,8 +166,8 @@ module _ (p : ProgramTree) (lists : List (List Flow)) (node : NodeTree) (facts :
     clock_there None known = All-nil (InList L)
     clock_there (Some c) known = let l = long in all_cons (InList L) (variable_place p lists node c.variable) [] (omega (arith, known)) (All-nil (InList L))
 
-    abbrev Fits : List ℕ → Flow → Type 0
-    Fits x f = FlowFits L 0 f
+    abbrev FlowFitsList : List ℕ → Flow → Type 0
+    FlowFitsList x f = FlowFits L 0 f
 
     left_fits : (q : EquationTree) (root : Root) (j w : ℕ) (x : List ℕ) → j < w → RootFits L 0 (clock_place node (left_clock p lists node q)) w root → FlowFits L 0 (root_flow p lists node q root j x)
     left_fits q (own f) j w x lt h = h.0
@@ -178,7 +178,7 @@ module _ (p : ProgramTree) (lists : List (List Flow)) (node : NodeTree) (facts :
           copy = h j lt;
         }
 
-    equations_fit : (qs : List EquationTree) (s : ℕ) → ((j : ℕ) (q : EquationTree) → slice_get qs j ≡ Some q → (i : ℕ) × (slice_get node.equations i ≡ Some q)) → Stands L 0 s (inner_flows p lists node qs s) → Fit L 0 s (inner_flows p lists node qs s) × Roots p lists node Fits qs s
+    equations_fit : (qs : List EquationTree) (s : ℕ) → ((j : ℕ) (q : EquationTree) → slice_get qs j ≡ Some q → (i : ℕ) × (slice_get node.equations i ≡ Some q)) → Stands L 0 s (inner_flows p lists node qs s) → Fit L 0 s (inner_flows p lists node qs s) × Roots p lists node FlowFitsList qs s
     equations_fit [] s there stand = (tt, tt)
     equations_fit (q ∷ qs) s there stand =
         let t = there 0 q refl in
@@ -187,10 +187,10 @@ module _ (p : ProgramTree) (lists : List (List Flow)) (node : NodeTree) (facts :
         let w = walk_right p lists node q s in
         let s' = s + length w.inner in
         let rest = inner_flows p lists node qs s' in
-        let r = static p lists node (Below node) L 0 long variables callee_fits callee_outputs clock_known q.right k (length q.left) (clock_known (name_at q.left 0)) (facts.rights t.0 q t.1) (subst (FitsInside node q.right) (sym l.3) l.2) s (each_left (λ x f. slice_get L x ≡ Some f) s w.inner rest stand) in
+        let r = static p lists node (Below node) L 0 long variables callee_fits callee_outputs clock_known q.right k (length q.left) (clock_known (name_at q.left 0)) (facts.rights t.0 q t.1) (subst (FitsClockInside node q.right) (sym l.3) l.2) s (each_left (λ x f. slice_get L x ≡ Some f) s w.inner rest stand) in
         let e = equations_fit qs s' (λ j q e. there (suc j) q e) (each_right (λ x f. slice_get L x ≡ Some f) s w.inner rest stand) in (
           each_join (λ x f. FlowFits L 0 f) s w.inner rest r.0 e.0,
-          (each_all (λ j x. Fits x (root_flow p lists node q w.root j x)) 0 q.left (λ j x at. let lt = slice_get_within q.left j x at in left_fits q w.root (0 + j) (length q.left) x (omega (arith, lt)) r.1), e.1),
+          (each_all (λ j x. FlowFitsList x (root_flow p lists node q w.root j x)) 0 q.left (λ j x at. let lt = slice_get_within q.left j x at in left_fits q w.root (0 + j) (length q.left) x (omega (arith, lt)) r.1), e.1),
         )
 
     -- a flow of the list fits, and one that is an input has its number as its place
@@ -232,7 +232,7 @@ module _ (p : ProgramTree) (lists : List (List Flow)) (node : NodeTree) (facts :
         let z : 0 + length (front p lists node) ≡ nv = omega arith in
         let inner_stands = subst (λ s. Stands L 0 s inner) z (each_right (λ x f. slice_get L x ≡ Some f) 0 (front p lists node) inner stands') in
         let q = equations_fit node.equations nv (λ j q e. (j, e)) inner_stands in
-        let vars = each_map At F (0 + length ins) (others p lists node) (each_all (λ x name. At x (F name)) (0 + length ins) (others p lists node) (λ j x e. at_inner _ (F x) (rooted p lists node Fits node.equations nv x q.1 (other_has_equation p lists node facts j x e)))) in
+        let vars = each_map At F (0 + length ins) (others p lists node) (each_all (λ x name. At x (F name)) (0 + length ins) (others p lists node) (λ j x e. at_inner _ (F x) (rooted p lists node FlowFitsList node.equations nv x q.1 (other_has_equation p lists node facts j x e)))) in
         let fronts = each_join At 0 ins (map F (others p lists node)) (inputs_fit node.inputs 0 (omega arith)) vars in
         let inner_fit = each_imp (λ x f. FlowFits L 0 f) At nv inner at_inner q.0 in
         let all = each_join At 0 (front p lists node) inner fronts (subst (λ s. Each At s inner) (sym z) inner_fit) in

@@ -9,7 +9,7 @@ use Rattle.luflow.specs.declared.form.Flow.{Flow}
 use Rattle.luflow.specs.Streams.{Stream, Ticks}
 use Rattle.lusource.specs.Names.{variables_of, name_at, clock_of, AreDistinct}
 use Rattle.lustat_rules.specs.Scope.{names_of, declarations_of, node_called}
-use Rattle.lusource.specs.Source.{Named, Site, calls, output, LeftHolds, EquationsHold, all_sites, sites, InstanceHolds, Path, SourceStreams, If, sites_of, HoldsAt}
+use Rattle.lusource.specs.Source.{Named, CallInstance, calls, output, LeftHolds, EquationsHold, all_sites, sites, InstanceHolds, Path, SourceStreams, If, sites_of, HoldsAt}
 use Rattle.lustat_rules.specs.Scope as rules
 use Rattle.lustat_rules.specs.Naming.{Calls, Reaches}
 use Rattle.lucore_laws.specs.Layout.{Root, walk_right, left_clock, root_flow, inner_flows, variable_flow, variable_place, variable_count, input_flows, node_flows, AreLists}
@@ -59,7 +59,7 @@ module _ (p : ProgramTree) (lists : List (List Flow)) (node : NodeTree) (facts :
   abbrev IsPlaced : Model → ℕ → Spot → Type 0
   IsPlaced = Placed p lists node (Below node) base σ apart gives
 
-  abbrev AreSolved : ℕ → List Site → Type 0
+  abbrev AreSolved : ℕ → List CallInstance → Type 0
   AreSolved = Solved p lists node (Below node) base σ apart gives
 
   known_one : (x : List ℕ) (k : Option Condition) → option_map (λ (d : DeclarationTree). d.clock) (rules.meaning node x) ≡ Some k → IsKnown k

@@ -7,7 +7,7 @@ use Rattle.luflow.specs.declared.form.Flow.{Flow}
 use Rattle.luflow.specs.Streams.{Stream, Ticks}
 use Rattle.lusource.specs.Names.{variables_of, AreDistinct}
 use Rattle.lustat_rules.specs.Scope.{declarations_of, node_called}
-use Rattle.lusource.specs.Source.{Named, Site, calls, output, LeftHolds, EquationsHold, all_sites, sites, InstanceHolds, Path, If, sites_of, HoldsAt}
+use Rattle.lusource.specs.Source.{Named, CallInstance, calls, output, LeftHolds, EquationsHold, all_sites, sites, InstanceHolds, Path, If, sites_of, HoldsAt}
 use Rattle.lustat_rules.specs.Scope as rules
 use Rattle.lustat_rules.specs.Naming.{Calls, Reaches}
 use Rattle.lucore_laws.specs.Layout.{Root, walk_right, left_clock, root_flow, inner_flows, variable_flow, variable_place, variable_count, list_of, node_flows, AreLists}
@@ -37,7 +37,7 @@ module _ (p : ProgramTree) (lists : List (List Flow)) (node : NodeTree) (facts :
   abbrev inside : ℕ → Named
   inside = within p lists node (Below node) base m all_spots apart
 
-  abbrev IsServed : ℕ → Site → Type 0
+  abbrev IsServed : ℕ → CallInstance → Type 0
   IsServed = Served p lists node (Below node) base m all_spots apart
 
   abbrev HasRoot : List ℕ → Flow → Type 0
@@ -134,7 +134,7 @@ module _ (p : ProgramTree) (lists : List (List Flow)) (are : AreLists p lists) (
   BelowHolds base m i path o =
       If (slice_get (sites_of p o base (own_streams o m) (inner_streams o m)) i) (λ site. HoldsAt p site.node site.base site.arguments (path_streams o m i) path)
 
-  below_holds : (node : NodeTree) (base : Ticks) (m : Model) (i : ℕ) (path : Path) → NodeFacts p node → Each (Served p lists node (Below node) base m (node_spots p lists node) apart) 0 (sites_of p (Some node) base (own_streams (Some node) m) (inner_streams (Some node) m)) → ((g : List ℕ) → Below node g → Reads g) → (o : Option Site) → slice_get (sites_of p (Some node) base (own_streams (Some node) m) (inner_streams (Some node) m)) i ≡ o → If o (λ site. HoldsAt p site.node site.base site.arguments (path_streams (Some node) m i) path)
+  below_holds : (node : NodeTree) (base : Ticks) (m : Model) (i : ℕ) (path : Path) → NodeFacts p node → Each (Served p lists node (Below node) base m (node_spots p lists node) apart) 0 (sites_of p (Some node) base (own_streams (Some node) m) (inner_streams (Some node) m)) → ((g : List ℕ) → Below node g → Reads g) → (o : Option CallInstance) → slice_get (sites_of p (Some node) base (own_streams (Some node) m) (inner_streams (Some node) m)) i ≡ o → If o (λ site. HoldsAt p site.node site.base site.arguments (path_streams (Some node) m i) path)
   below_holds node base m i path fs served rest None e = tt
   below_holds node base m i path fs served rest (Some c) e =
       let z : 0 + i ≡ i = omega arith in

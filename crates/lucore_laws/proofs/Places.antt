@@ -8,7 +8,7 @@ use Rattle.lutree.specs.declared.expr.Infix.TheVariants.{Data as Data2, Arrow as
 use Rattle.lutree.specs.Tree.{Tree, Trees, EquationTree, NodeTree, ProgramTree}
 use Rattle.lutree.specs.Tree as tree
 use Rattle.luflow.specs.declared.form.Flow.{Flow}
-use Rattle.luflow.specs.Program.{FlatProgram}
+use Rattle.luflow.specs.Program.{FlatView}
 use Rattle.luflow.specs.Rank.{has, row, reads_of}
 use Rattle.lusource.specs.Names.{clock_of, name_at}
 use Rattle.lustat_rules.specs.Scope.{node_called}
@@ -140,7 +140,7 @@ module _ (p : ProgramTree) (lists : List (List Flow)) (main : List ℕ) where
   IsOperator (variable path x) = ⊥
   IsOperator (operator path t) = Unit {0}
 
-  module _ (flat : FlatProgram) where
+  module _ (flat : FlatView) where
     -- a place reads another
     abbrev pub FlatReads : ℕ → ℕ → Type 0
     FlatReads x y = has (row (reads_of flat) x) y ≡ true

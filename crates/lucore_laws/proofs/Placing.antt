@@ -11,7 +11,7 @@ use Rattle.lutree.specs.Tree.{Tree, Trees, list_of as trees_in, EquationTree, No
 use Rattle.lutree.specs.Tree as tree
 use Rattle.luflow.specs.declared.form.Flow.{Flow}
 use Rattle.luflow.specs.declared.form.Form.TheVariants.{Pre, Merge}
-use Rattle.luflow.specs.Program.{FlatProgram}
+use Rattle.luflow.specs.Program.{FlatView}
 use Rattle.lusource.specs.Names.{variables_of, clock_of, output_name, AreDistinct}
 use Rattle.lustat_rules.specs.Scope.{node_called}
 use Rattle.lusource.specs.Source.{condition, first_pattern, next_patterns}
@@ -44,7 +44,7 @@ lone_there f (v ∷ vs) (suc r) = lone_there f vs r
 same_given : (f : Occurrence → ℕ) (on : ℕ → ℕ) (xs : List ℕ) (vs : List Occurrence) (r : ℕ) → map f vs ≡ map on xs → r < length xs → on (slice_index xs r) ∷ [] ≡ map f (if_there (slice_get vs r))
 same_given f on xs vs r e lt = lone_on on xs r lt ∙ ap (λ l. lone (slice_get l r)) (sym e) ∙ lone_there f vs r
 
-module _ (p : ProgramTree) (lists : List (List Flow)) (main : List ℕ) (flat : FlatProgram) (node : NodeTree) (Below : List ℕ → Type 0) (here : Instance) (apart : (f : List ℕ) (n : NodeTree) → node_called p f ≡ Some n → AreDistinct (variables_of n))
+module _ (p : ProgramTree) (lists : List (List Flow)) (main : List ℕ) (flat : FlatView) (node : NodeTree) (Below : List ℕ → Type 0) (here : Instance) (apart : (f : List ℕ) (n : NodeTree) → node_called p f ≡ Some n → AreDistinct (variables_of n))
     (node_is : node_called p here.node ≡ Some node) (m : Model ℕ) (found : find p lists main here.path ≡ record { node = here.node; on = m.on }) (base_is : m.base ≡ map (spotted p lists main) here.clock) where
   abbrev G : ℕ → ℕ → Type 0
   G = FlatReads p lists main flat

@@ -8,7 +8,7 @@ use Rattle.luflow.specs.declared.form.Clock.{Clock}
 use Rattle.luflow.specs.declared.form.Clock.TheVariants.{Base, On as Sampled}
 use Rattle.luflow.specs.declared.form.Form.{Form}
 use Rattle.luflow.specs.declared.form.Form.TheVariants.{Input, Constant, Copied, Unary, Binary, If, Pre, Arrow, When, Current, Merge}
-use Rattle.luflow.specs.Program.{FlatProgram}
+use Rattle.luflow.specs.Program.{FlatView}
 use Rattle.luflow.specs.Sound.{IsOn, clock_values, BeginsWith, BranchesFit, FormFits, ClockFits}
 use Rattle.lucore_laws.specs.Layout.{list_of}
 use Rattle.lucore_laws.proofs.Names.{listed}
@@ -20,7 +20,7 @@ use Rattle.lucore_laws.proofs.Ruling.{ruling}
 use Rattle.lucore_laws.proofs.SoundNodes.{lists_sound}
 use Rattle.lucore_laws.proofs.Roles.{output_at}
 
-module _ (flat : FlatProgram) (ins : List DeclarationTree) (class : ℕ → Bool) where
+module _ (flat : FlatView) (ins : List DeclarationTree) (class : ℕ → Bool) where
   is_on : (k : Clock) (s : Kind) (r : ℕ) → On flat.flows k s r → IsOn flat k s r
   is_on k s r o = record { form = o.form; there = o.there }
 

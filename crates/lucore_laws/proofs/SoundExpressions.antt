@@ -25,7 +25,7 @@ use Rattle.lusource.specs.Source.{condition, pattern_value}
 use Rattle.lustat_rules.specs.Scope as rules
 use Rattle.lustat_rules.specs.Typing.{agreed_all, type_of, types_of, call_kinds, right_types}
 use Rattle.lustat_rules.specs.Parts.{EachPart, EachPartOf}
-use Rattle.lustat_rules.specs.Clocks.{pattern_kind, HasClock, FitsInside, AllFitInside, BranchesFitInside, clocks_in, clocks_in_all}
+use Rattle.lustat_rules.specs.Clocks.{pattern_kind, HasClock, FitsClockInside, AllFitInside, BranchesFitInside, clocks_in, clocks_in_all}
 use Rattle.lustat_rules.specs.Classes.{Classes, is_one, NeedsMet, AllReady, currents_in, currents_in_all, IsTrueAtFirst, ClockIsTrueAtFirst}
 use Rattle.lucore_laws.specs.Layout.{Walking, leaf, after, list_of, inputs_in, instance, moved, clock_place, flow_of, variable_place, walk, walk_all, walk_branches}
 use Rattle.lucore_laws.specs.Layout.Root.{at}
@@ -120,7 +120,7 @@ module _ (p : ProgramTree) (lists : List (List Flow)) (node : NodeTree) (Below :
     pub record Keeps (e : Tree) (k : Option Condition) (w : ℕ) : Type 0 where
       pub clocked : Clocked k
       pub well : IsWell p node Below e w
-      pub fits : FitsInside node e k
+      pub fits : FitsClockInside node e k
       pub needs : NeedsMet a e
       pub zeros : All IsZero (clocks_in e)
       pub parts : EachPart (IsGoodPart node) e
@@ -320,7 +320,7 @@ module _ (p : ProgramTree) (lists : List (List Flow)) (node : NodeTree) (Below :
           let clocked : Clocked (Some c) = (keeps.well.0, (kc, has), sampled, zero) in
           subst (λ k. SoundIn Assigned (walk p lists node e k) (clock_place node k) (t ∷ []) (is_one a e)) (sym fits.0)
           (sound_after L ins Assigned (walk p lists node b kc) (λ x. leaf (flow_of p lists node e (Some c) (When x))) (clock_place node kc) (clock_place node (Some c)) t (t ∷ []) (is_one a b) (is_one a e)
-          (sound b kc t (record { clocked = clocked_by c.variable; well = keeps.well.1; fits = subst (FitsInside node b) (sym same) fits.1.2; needs = keeps.needs; zeros = all_left IsZero (clocks_in b) (c.variable ∷ []) keeps.zeros; parts = keeps.parts.0; starts = keeps.starts }) ty)
+          (sound b kc t (record { clocked = clocked_by c.variable; well = keeps.well.1; fits = subst (FitsClockInside node b) (sym same) fits.1.2; needs = keeps.needs; zeros = all_left IsZero (clocks_in b) (c.variable ∷ []) keeps.zeros; parts = keeps.parts.0; starts = keeps.starts }) ty)
           (λ x on. own_leaf (λ class. Assigned class × AtMost (class x) (is_one a b)) e (Some c) t (When x) (is_one a e) ty clocked
           (λ class q. (q.0, (cv, pattern_value c.pattern, pattern_kind c.pattern, clock_place node kc, refl, variables c.variable kc (pattern_kind c.pattern) has sampled.0, on, q.1)))))
       sound (tree.current x) k t keeps ty =

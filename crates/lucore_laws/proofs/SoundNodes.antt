@@ -15,7 +15,7 @@ use Rattle.lusource.specs.Names.{variables_of, name_at, clock_of}
 use Rattle.lustat_rules.specs.Scope.{names_of, declarations_of, node_called}
 use Rattle.lustat_rules.specs.Scope as rules
 use Rattle.lustat_rules.specs.Naming.{Calls, Reaches}
-use Rattle.lustat_rules.specs.Clocks.{HasClock, FitsInside}
+use Rattle.lustat_rules.specs.Clocks.{HasClock, FitsClockInside}
 use Rattle.lustat_rules.specs.Classes.{is_one, IsHeld, IsRaised, NeedsMet}
 use Rattle.lustat_rules.proofs.Fitting.{inside}
 use Rattle.lucore_laws.specs.Layout.{Root, walk_right, left_clock, root_flow, inner_flows, variable_flow, variable_place, variable_count, clock_place, input_flows, list_of, node_flows, AreLists}
@@ -68,11 +68,11 @@ module _ (p : ProgramTree) (lists : List (List Flow)) (node : NodeTree) (facts :
   -- EQUATIONS
 
   -- the clock of a left side
-  left_fits : (j : ℕ) (q : EquationTree) → slice_get node.equations j ≡ Some q → FitsInside node q.right (left_clock p lists node q)
+  left_fits : (j : ℕ) (q : EquationTree) → slice_get node.equations j ≡ Some q → FitsClockInside node q.right (left_clock p lists node q)
   left_fits j q e =
       let k = facts.agree j q e in
       let first = all_at (λ x. HasClock node x k.0) q.left 0 (name_at q.left 0) k.1 (name_there q.left 0 (facts.some j q e)) in
-      subst (FitsInside node q.right) (sym (clock_named (declarations_of node) (name_at q.left 0) k.0 first)) (inside k.2)
+      subst (FitsClockInside node q.right) (sym (clock_named (declarations_of node) (name_at q.left 0) k.0 first)) (inside k.2)
 
   left_sound : (class : Classing) (q : EquationTree) (kinds : List Kind) (e : Bool) (root : Root) → HasClasses class → RootOn L (clock_place node (left_clock p lists node q)) kinds root → RootMost L node.inputs class kinds e root
       → map (rules.kind_of node) q.left ≡ map Some kinds → (j : ℕ) (x : List ℕ) → slice_get q.left j ≡ Some x → AtMost e (a x) → FlowSound L node.inputs class (a x) (root_flow p lists node q root (0 + j) x)

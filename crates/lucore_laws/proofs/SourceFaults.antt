@@ -112,8 +112,8 @@ Owned p node t kind f base σ o =
     (v : List ℕ) × (place_of (variables_of node) v < length (variables_of node)) × (o ≡ place_of (variables_of node) v) × SomeFails p t kind f base σ v
 
 -- what is shown of a node's list, along calls
-abbrev pub Tells : ProgramTree → List (List Flow) → ℕ → FaultKind → List ℕ → Type 0
-Tells p lists t kind f =
+abbrev pub ReportsFlow : ProgramTree → List (List Flow) → ℕ → FaultKind → List ℕ → Type 0
+ReportsFlow p lists t kind f =
     (n : NodeTree) → node_called p f ≡ Some n → (base : Ticks) (m : Model) (σ : SourceStreams) → Solves base m (list_of p lists f) → HasInstances p lists f m.on σ
     → (x : ℕ) (flow : Flow) → slice_get (list_of p lists f) x ≡ Some flow → FlowFails base m t kind flow
     → (o : ℕ) × (slice_get (node_owners p lists n) x ≡ Some o) × Owned p n t kind f base σ o
@@ -126,8 +126,8 @@ Shows p lists t kind f =
     → (x : ℕ) × (flow : Flow) × (slice_get (list_of p lists f) x ≡ Some flow) × FlowFails base m t kind flow
     × (slice_get (node_owners p lists n) x ≡ Some (place_of (variables_of n) v)) × (place_of (variables_of n) v < length (variables_of n))
 
-abbrev pub Told : ProgramTree → List (List Flow) → ℕ → FaultKind → List ℕ → Type 0
-Told p lists t kind f = Tells p lists t kind f × Shows p lists t kind f
+abbrev pub ReportsAndShows : ProgramTree → List (List Flow) → ℕ → FaultKind → List ℕ → Type 0
+ReportsAndShows p lists t kind f = ReportsFlow p lists t kind f × Shows p lists t kind f
 
 -- SUMS
 
@@ -146,7 +146,7 @@ last (inr (inr h)) = inr (inl h)
 
 -- EXPRESSIONS
 
-module _ (p : ProgramTree) (lists : List (List Flow)) (node : NodeTree) (Below : List ℕ → Type 0) (base : Ticks) (m : Model) (σ : SourceStreams) (t : ℕ) (kind : FaultKind) (apart : (f : List ℕ) (n : NodeTree) → node_called p f ≡ Some n → AreDistinct (variables_of n)) (tells : (f : List ℕ) → Below f → Told p lists t kind f)
+module _ (p : ProgramTree) (lists : List (List Flow)) (node : NodeTree) (Below : List ℕ → Type 0) (base : Ticks) (m : Model) (σ : SourceStreams) (t : ℕ) (kind : FaultKind) (apart : (f : List ℕ) (n : NodeTree) → node_called p f ≡ Some n → AreDistinct (variables_of n)) (tells : (f : List ℕ) → Below f → ReportsAndShows p lists t kind f)
     (agree : (x : List ℕ) → Known p node Below x → m.on (variable_place p lists node x) ≡ σ [] x) where
   abbrev pub KnownClock : Option Condition → Type 0
   KnownClock None = Unit {0}
@@ -175,12 +175,12 @@ module _ (p : ProgramTree) (lists : List (List Flow)) (node : NodeTree) (Below :
   abbrev pub BranchFails : ℕ → List ℕ → List Pattern → Trees → ℕ → Type 0
   BranchFails depth = faults.BranchFails p node base var below t kind (CallFails depth)
 
-  abbrev pub FlowTells : Type 0 → ℕ → Flow → Type 0
-  FlowTells G j f = FlowFails base m t kind f → G
+  abbrev pub FlowReports : Type 0 → ℕ → Flow → Type 0
+  FlowReports G j f = FlowFails base m t kind f → G
 
-  abbrev pub RootTells : Type 0 → Root → Type 0
-  RootTells G (own f) = FlowFails base m t kind f → G
-  RootTells G (at x) = Unit {0}
+  abbrev pub RootReports : Type 0 → Root → Type 0
+  RootReports G (own f) = FlowFails base m t kind f → G
+  RootReports G (at x) = Unit {0}
 
   -- some of these flows is at fault
   abbrev pub Found : List Flow → Type 0
@@ -194,7 +194,7 @@ module _ (p : ProgramTree) (lists : List (List Flow)) (node : NodeTree) (Below :
   -- there is F, one of its flows is at fault.
   abbrev pub Seen : Walking → (ℕ → List Spot) → ℕ → ℕ → (ℕ → Stream) → Type 0 → Type 0 → Type 0
   Seen w sp i width val G F =
-      (s : ℕ) → Each Placed i (sp s) → Hold base m s (w s).inner → ((j : ℕ) → j < width → root_stream base m (w s).root j ≡ val j) × (Each (FlowTells G) s (w s).inner × RootTells G (w s).root) × (F → Found (w s).inner ⊎ RootFound (w s).root)
+      (s : ℕ) → Each Placed i (sp s) → Hold base m s (w s).inner → ((j : ℕ) → j < width → root_stream base m (w s).root j ≡ val j) × (Each (FlowReports G) s (w s).inner × RootReports G (w s).root) × (F → Found (w s).inner ⊎ RootFound (w s).root)
 
   found_left : (xs ys : List Flow) → Found xs → Found (xs ++ ys)
   found_left xs ys h = (h.0, h.1, get-front xs ys h.0 (slice_get_within xs h.0 h.1 h.2) ∙ h.2, h.3)
@@ -218,9 +218,9 @@ module _ (p : ProgramTree) (lists : List (List Flow)) (node : NodeTree) (Below :
   operand_at s inner (own f) v hold e = (each_right (FlowHolds base m) s inner (f ∷ []) hold).0 ∙ e
   operand_at s inner (at a) v hold e = let z : a ≡ a + 0 = omega arith in ap m.on z ∙ e
 
-  operand_tells : (G : Type 0) (s : ℕ) (inner : List Flow) (root : Root) → Each (FlowTells G) s inner → RootTells G root → Each (FlowTells G) s (inner ++ root_flows root)
-  operand_tells G s inner (own f) h g = each_join (FlowTells G) s inner (f ∷ []) h (g, tt)
-  operand_tells G s inner (at a) h g = each_join (FlowTells G) s inner [] h tt
+  operand_tells : (G : Type 0) (s : ℕ) (inner : List Flow) (root : Root) → Each (FlowReports G) s inner → RootReports G root → Each (FlowReports G) s (inner ++ root_flows root)
+  operand_tells G s inner (own f) h g = each_join (FlowReports G) s inner (f ∷ []) h (g, tt)
+  operand_tells G s inner (at a) h g = each_join (FlowReports G) s inner [] h tt
 
   seen_after : (a : Walking) (rest : ℕ → Walking) (spa spr : ℕ → List Spot) (i na w : ℕ) (va val : ℕ → Stream) (G FA FR F : Type 0)
       → ((s : ℕ) → length (spa s) ≡ na) → (F → FA ⊎ FR) → Seen a spa i 1 va G FA → ((x : ℕ) → m.on x ≡ va 0 → Seen (rest x) spr (i + na) w val G FR)
@@ -234,7 +234,7 @@ module _ (p : ProgramTree) (lists : List (List Flow)) (node : NodeTree) (Below :
       let placed' = subst (λ n. Each Placed (i + n) (spr S)) (ls s) (each_right _ i (spa s) (spr S) placed) in
       let u = then (place s (a s)) x S placed' (each_right (FlowHolds base m) s (made (a s)) r.inner hold) in (
         u.0,
-        (each_join (FlowTells G) s (made (a s)) r.inner (operand_tells G s (a s).inner (a s).root f.1.0 f.1.1) u.1.0, u.1.1),
+        (each_join (FlowReports G) s (made (a s)) r.inner (operand_tells G s (a s).inner (a s).root f.1.0 f.1.1) u.1.0, u.1.1),
         λ h. ⊎_elim (λ (x : FA). inl (found_left (made (a s)) r.inner (found_operand (a s).inner (a s).root (f.2 x)))) (λ (y : FR). both (found_right (made (a s)) r.inner) (λ z. z) (u.2 y)) (way h),
       )
 
@@ -273,7 +273,7 @@ module _ (p : ProgramTree) (lists : List (List Flow)) (node : NodeTree) (Below :
             let has = contains_get (variables_of is.callee) (output_name p f j) (length is.callee.inputs + j) there in
             ap m.on y ∙ ap (λ n. m.on (s + n)) (sym here) ∙ placed.0 [] is.callee (output_name p f j) is.found has,
         (
-          each_map (FlowTells G) (moved s ck xs) s fl (each_all (λ j flow. FlowTells G j (moved s ck xs flow)) s fl (λ j flow e h.
+          each_map (FlowReports G) (moved s ck xs) s fl (each_all (λ j flow. FlowReports G j (moved s ck xs flow)) s fl (λ j flow e h.
               let r = (tells f is.below).0 is.callee is.found (clock_ticks base m.on ck) mm (λ path. σ (i ∷ path)) solved placed.0 j flow e (flow_moved base m t kind s ck xs flow h) in
               g r.2.3.0 (r.2.0, subst (λ c. faults.FailsWithin p t kind r.2.3.0 f c (λ path. σ (i ∷ path)) r.2.0) (ticks_agree k known) r.2.3.1))),
           tt,

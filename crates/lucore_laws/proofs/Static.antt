@@ -20,7 +20,7 @@ use Rattle.luflow.specs.Program.{places, clock_reads}
 use Rattle.lusource.specs.Names.{clock_of}
 use Rattle.lustat_rules.specs.Scope.{declarations_of, node_called}
 use Rattle.lusource.specs.Source.{condition}
-use Rattle.lustat_rules.specs.Clocks.{HasClock, FitsInside, AllFitInside, BranchesFitInside}
+use Rattle.lustat_rules.specs.Clocks.{HasClock, FitsClockInside, AllFitInside, BranchesFitInside}
 use Rattle.lucore_laws.specs.Layout.{Root, Walking, root_flows, made, root_place, place, behind, leaf, after, moved_form, moved_clock, moved, list_of, inputs_in, instance, clock_place, flow_of, variable_place, variable_count, walk, walk_all, walk_branches}
 use Rattle.lucore_laws.specs.Layout.Root.{own, at}
 use Rattle.lucore_laws.proofs.Each.{Each, each_left, each_right, each_join, each_all, each_at, each_map, each_unmap}
@@ -200,7 +200,7 @@ module _ (p : ProgramTree) (lists : List (List Flow)) (node : NodeTree) (Below :
 
   module _ (clock_known : (x : List ℕ) → KnownClock (clock_of node x)) where
     mutual
-      pub static : (e : Tree) (k : Option Condition) (w : ℕ) → KnownClock k → IsWell p node Below e w → FitsInside node e k → Static L n (walk p lists node e k) w (clock_place node k)
+      pub static : (e : Tree) (k : Option Condition) (w : ℕ) → KnownClock k → IsWell p node Below e w → FitsClockInside node e k → Static L n (walk p lists node e k) w (clock_place node k)
       static (tree.number a) k w known well fits =
           static_leaf L n (flow_of p lists node (tree.number a) k (Constant (Int (pos a)))) w (clock_place node k) (record { places_in = All-nil (InList L); clocks_in = clock_there k known; copy = tt }) refl
       static (tree.truth b) k w known well fits =
@@ -246,7 +246,7 @@ module _ (p : ProgramTree) (lists : List (List Flow)) (node : NodeTree) (Below :
           let kc = clock_of node c.variable in
           let same : kc ≡ fits.1.0 = clock_named (declarations_of node) c.variable fits.1.0 fits.1.1 in
           let root = λ (x : ℕ). flow_of p lists node (tree.when a c) (Some c) (When x) in
-          static_after L n (walk p lists node a kc) (λ x. leaf (root x)) w (clock_place node kc) (clock_place node k) (static a kc 1 (clock_known c.variable) well.1 (subst (FitsInside node a) (sym same) fits.1.2))
+          static_after L n (walk p lists node a kc) (λ x. leaf (root x)) w (clock_place node kc) (clock_place node k) (static a kc 1 (clock_known c.variable) well.1 (subst (FitsClockInside node a) (sym same) fits.1.2))
           (λ x e. static_leaf L n (root x) w (clock_place node k) (record { places_in = one_in x (clock_place node kc) e; clocks_in = clock_there (Some c) well.0; copy = tt }) (ap (clock_place node) (sym fits.0)))
       static (tree.current x) k w known well fits =
           static_leaf L n (flow_of p lists node (tree.current x) k (Current (variable_place p lists node x))) w (clock_place node k)

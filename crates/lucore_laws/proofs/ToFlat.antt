@@ -4,7 +4,7 @@ use Rattle.std.specs.Prelude.{slice_get, option_map, unwrap_or, IfSome}
 use Rattle.std.proofs.lemmas.Option.{slice_get-map}
 use Rattle.lutree.specs.Tree.{EquationTree, NodeTree, ProgramTree}
 use Rattle.luflow.specs.declared.form.Flow.{Flow}
-use Rattle.luflow.specs.Program.{FlatProgram, reads}
+use Rattle.luflow.specs.Program.{FlatView, reads}
 use Rattle.luflow.specs.Rank.{has, row, reads_of, Chain}
 use Rattle.lucore_laws.proofs.Orders.{has_from_contains}
 use Rattle.lustat_rules.specs.Scope.{node_called}
@@ -28,7 +28,7 @@ every_same : (P : ℕ → Type 0) (xs : List ℕ) → Every P xs → Every P (ma
 every_same P [] h = tt
 every_same P (x ∷ xs) h = (h.0, every_same P xs h.1)
 
-module _ (p : ProgramTree) (main : List ℕ) (flat : FlatProgram) (accepted : IsAccepted p main) (some : DefineSomething p) (out : IsLaidOut p main flat) where
+module _ (p : ProgramTree) (main : List ℕ) (flat : FlatView) (accepted : IsAccepted p main) (some : DefineSomething p) (out : IsLaidOut p main flat) where
   abbrev G : ℕ → ℕ → Type 0
   G = FlatReads p out.lists main flat
 

@@ -8,7 +8,7 @@ use Rattle.luflow.specs.declared.form.Clock.TheVariants.{Base, On}
 use Rattle.luflow.specs.declared.form.Form.{Form}
 use Rattle.luflow.specs.declared.form.Form.TheVariants.{Input, Constant, Copied, Unary, Binary, If, Pre, Arrow, When, Current, Merge}
 use Rattle.luflow.specs.declared.form.Flow.{Flow}
-use Rattle.luflow.specs.Program.{FlatProgram, reads, form_reads, clock_reads}
+use Rattle.luflow.specs.Program.{FlatView, reads, form_reads, clock_reads}
 use Rattle.luflow.specs.Rank.{has, row, reads_of, Chain}
 use Rattle.lusource.specs.Names.{variables_of, place_of}
 use Rattle.lustat_rules.specs.Scope.{node_called}
@@ -66,7 +66,7 @@ module _ {V : Type 0} (on : ℕ → V) where
   targets_read f =
       ap (λ l. l ++ clock_targets outer f.clock) (form_read f.form) ∙ ap (λ l. map on (form_reads f.form) ++ l) (clock_read f.clock) ∙ joined (form_reads f.form) (clock_reads f.clock)
 
-  module _ (G : V → V → Type 0) (flat : FlatProgram) (solves : Solves G outer flat.flows) where
+  module _ (G : V → V → Type 0) (flat : FlatView) (solves : Solves G outer flat.flows) where
     read_one : (o : Option Flow) (x y : ℕ) → slice_get flat.flows x ≡ o → has (unwrap_or (option_map reads o) []) y ≡ true → G (on x) (on y)
     read_one None x y e h = cc
     read_one (Some f) x y e h = every_get (G (on x)) (map on (reads f)) (on y) (subst (Every (G (on x))) (targets_read f) (solves x f e)) (mapped_in on (reads f) y (contains_from_has (reads f) y h))
@@ -112,7 +112,7 @@ module _ (p : ProgramTree) (main : List ℕ) where
     pub gives_all : (f : List ℕ) → GivesAll f
     gives_all = by_calls p never GivesAll step
 
-  module _ (flat : FlatProgram) (accepted : IsAccepted p main) (some : DefineSomething p) (out : IsLaidOut p main flat) where
+  module _ (flat : FlatView) (accepted : IsAccepted p main) (some : DefineSomething p) (out : IsLaidOut p main flat) where
     given_list : Gives (Leads p main) p out.lists (main_instance main)
     given_list = gives_all out.lists out.are_lists (facts p main accepted some) (never_round p main accepted some) main (main_instance main) refl IsInstance.first
 

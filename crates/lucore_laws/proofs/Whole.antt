@@ -8,7 +8,7 @@ use Rattle.luflow.specs.declared.form.Flow.{Flow}
 use Rattle.luflow.specs.declared.variable.Variable.{Variable}
 use Rattle.luflow.specs.declared.variable.Role.{Role}
 use Rattle.luflow.specs.declared.variable.Role.TheVariants as role
-use Rattle.luflow.specs.Program.{FlatProgram, Table, Column, IsOrdered, data_of}
+use Rattle.luflow.specs.Program.{FlatView, InputsView, Column, IsOrdered, data_of}
 use Rattle.luflow.specs.Streams.{Stream, Streams, base_clock}
 use Rattle.luflow.specs.Values.{gives, under}
 use Rattle.luflow.specs.Solution.{IsSolution}
@@ -60,7 +60,7 @@ has_itself (t ∷ l) s m h =
     let z : s + 0 ≡ s = omega arith in
     (subst (λ n. m.on n ≡ t) z (h 0), has_itself l (suc s) m (λ x. let z : s + suc x ≡ suc s + x = omega arith in subst (λ n. m.on n ≡ get_or l x nothing) z (h (suc x))))
 
-module _ (p : ProgramTree) (main : List ℕ) (flat : FlatProgram) (accepted : IsAccepted p main) (some : DefineSomething p) (out : IsLaidOut p main flat) where
+module _ (p : ProgramTree) (main : List ℕ) (flat : FlatView) (accepted : IsAccepted p main) (some : DefineSomething p) (out : IsLaidOut p main flat) where
   abbrev node : NodeTree
   node = out.node
 
@@ -94,7 +94,7 @@ module _ (p : ProgramTree) (main : List ℕ) (flat : FlatProgram) (accepted : Is
   inside path n x here has =
       subst (λ l. flow_place p out.lists main path x < length l) flows_are (place_inside p out.lists out.are_lists path main n x here has)
 
-  module _ (inputs : Table) where
+  module _ (inputs : InputsView) where
     abbrev streamed : Column → Stream
     streamed column t = under (base_clock inputs t) (gives (slice_get column.values t))
 

@@ -45,7 +45,8 @@ through_call = defines_a (tree.call (codes "same") (tree.more (tree.variable (co
 -- a = 0 -> pre a + 1;
 abbrev pub counter : NodeTree
 counter =
-    defines_a (tree.binary Arrow (tree.number 0) (tree.binary (Data2 Add) (tree.unary Pre (tree.variable (codes "a"))) (tree.number 1)))
+    defines_a (tree.binary Arrow (tree.number 0)
+    (tree.binary (Data2 Add) (tree.unary Pre (tree.variable (codes "a"))) (tree.number 1)))
 
 -- node main() returns (c: bool); var s: int when c; let s = 1 when c; c = current(s) = 1; tel
 abbrev pub through_clock : NodeTree
@@ -57,7 +58,11 @@ through_clock =
       locals = int_named (codes "s") (Some where_c) ∷ [];
       equations =
           record { left = codes "s" ∷ []; right = tree.when (tree.number 1) where_c }
-          ∷ record { left = codes "c" ∷ []; right = tree.binary (Data2 Equal) (tree.current (codes "s")) (tree.number 1) } ∷ [];
+          ∷ record {
+            left = codes "c" ∷ [];
+            right = tree.binary (Data2 Equal) (tree.current (codes "s"))
+                (tree.number 1);
+          } ∷ [];
     }
 
 pub record VectorsLaw : Type 0 where

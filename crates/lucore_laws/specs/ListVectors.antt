@@ -9,13 +9,15 @@ use Rattle.lutree.specs.declared.expr.Label.{Label}
 use Rattle.lutree.specs.declared.program.Kind.TheVariants.{Int as Ints, Bool as Truths, Enum}
 use Rattle.luflow.specs.declared.data.Datum.TheVariants.{Name}
 use Rattle.luflow.specs.declared.form.Clock.TheVariants.{Base, On}
-use Rattle.lutree.specs.Tree.{Tree, DeclarationTree, EquationTree, NodeTree, ProgramTree, program_of, declared}
+use Rattle.lutree.specs.Tree.{Tree, DeclarationTree, EquationTree, NodeTree, ProgramTree, program_of}
+use Rattle.lutree.specs.Tree.{declared}
 use Rattle.lutree.specs.Tree as tree
 use Rattle.luflow.specs.declared.form.Flow.{Flow}
 use Rattle.luflow.specs.declared.form.Form.TheVariants.{Input, Copied, Binary, Pre, Arrow, When, Merge}
 use Rattle.luflow.specs.declared.variable.Role.TheVariants as role
-use Rattle.luflow.specs.Program.{FlatProgram}
-use Rattle.luflow.specs.Vectors.{int_flow, truth_flow, sampled_flow, number, int_variable as flat_int, truth_variable as flat_truth}
+use Rattle.luflow.specs.Program.{FlatView}
+use Rattle.luflow.specs.Vectors.{int_flow, truth_flow, sampled_flow, number, int_variable as flat_int}
+use Rattle.luflow.specs.Vectors.{truth_variable as flat_truth}
 use Rattle.luflow.specs.Vectors as flat
 use Rattle.lusource.specs.Source.{condition}
 use Rattle.lusource.specs.Vectors.{merge_of}
@@ -48,19 +50,24 @@ division =
     }
 
 -- node main(x: int) returns (y: int; z: int); var c: bool; s: int when c;
--- let c = true -> not pre c; s = x when c; y = current(s); z = merge c (true -> s) (false -> 0 when not c); tel
+-- let c = true -> not pre c; s = x when c; y = current(s); z = merge c (true -> s) (false -> 0 when not c);
+-- tel
 abbrev pub held_sample : NodeTree
 held_sample =
     record {
       name = codes "main";
       inputs = int_variable (codes "x") ∷ [];
       outputs = int_variable (codes "y") ∷ int_variable (codes "z") ∷ [];
-      locals = declared (codes "c") Truths None ∷ declared (codes "s") Ints (condition (codes "c") (patterns.Truth true)) ∷ [];
+      locals = declared (codes "c") Truths None ∷ declared (codes "s") Ints (condition (codes "c")
+          (patterns.Truth true)) ∷ [];
       equations =
-          defines (codes "c") (tree.binary Starts (tree.truth true) (tree.unary (Single Not) (tree.unary Before (tree.variable (codes "c")))))
-          ∷ defines (codes "s") (tree.when (tree.variable (codes "x")) (record { variable = codes "c"; pattern = patterns.Truth true }))
+          defines (codes "c") (tree.binary Starts (tree.truth true)
+          (tree.unary (Single Not) (tree.unary Before (tree.variable (codes "c")))))
+          ∷ defines (codes "s") (tree.when (tree.variable (codes "x"))
+          (record { variable = codes "c"; pattern = patterns.Truth true }))
           ∷ defines (codes "y") (tree.current (codes "s"))
-          ∷ defines (codes "z") (merge_of (codes "c") (tree.variable (codes "s")) (tree.when (tree.number 0) (record { variable = codes "c"; pattern = patterns.Truth false })))
+          ∷ defines (codes "z") (merge_of (codes "c") (tree.variable (codes "s"))
+          (tree.when (tree.number 0) (record { variable = codes "c"; pattern = patterns.Truth false })))
           ∷ [];
     }
 
@@ -76,7 +83,8 @@ delay =
       inputs = int_variable (codes "x") ∷ [];
       outputs = int_variable (codes "y") ∷ [];
       locals = [];
-      equations = defines (codes "y") (tree.binary FollowedBy (tree.number 0) (tree.variable (codes "x"))) ∷ [];
+      equations = defines (codes "y") (tree.binary FollowedBy (tree.number 0) (tree.variable (codes "x")))
+          ∷ [];
     }
 
 -- node main() returns (a: int); let a = f(a) + 1; tel
@@ -87,7 +95,8 @@ delayed_call =
       inputs = [];
       outputs = int_variable (codes "a") ∷ [];
       locals = [];
-      equations = defines (codes "a") (tree.binary (Data Add) (call_one (codes "f") (tree.variable (codes "a"))) (tree.number 1)) ∷ [];
+      equations = defines (codes "a")
+          (tree.binary (Data Add) (call_one (codes "f") (tree.variable (codes "a"))) (tree.number 1)) ∷ [];
     }
 
 -- x, y, the constant 0 and `pre x`
@@ -95,7 +104,7 @@ abbrev pub delay_list : List Flow
 delay_list = int_flow (Input 0) ∷ int_flow (Arrow 2 3) ∷ int_flow (number 0) ∷ int_flow (Pre 0) ∷ []
 
 -- a; x and y of the call, its 0 and its `pre x`; the constant 1
-abbrev pub delayed_flat : FlatProgram
+abbrev pub delayed_flat : FlatView
 delayed_flat =
     record {
       types = [];
@@ -118,7 +127,8 @@ pair =
       locals = [];
       equations =
           defines (codes "p") (tree.variable (codes "y"))
-          ∷ defines (codes "q") (tree.binary (Data Subtract) (call_one (codes "f") (tree.variable (codes "x"))) (tree.variable (codes "y")))
+          ∷ defines (codes "q") (tree.binary (Data Subtract)
+          (call_one (codes "f") (tree.variable (codes "x"))) (tree.variable (codes "y")))
           ∷ [];
     }
 
@@ -137,7 +147,10 @@ two_calls =
       equations =
           record {
             left = codes "u" ∷ codes "v" ∷ [];
-            right = tree.call (codes "g") (tree.more (tree.when (tree.variable (codes "x")) (record { variable = codes "c"; pattern = patterns.Truth true })) (tree.more (tree.number 3) tree.none));
+            right = tree.call (codes "g")
+                (tree.more (tree.when (tree.variable (codes "x"))
+                (record { variable = codes "c"; pattern = patterns.Truth true }))
+                (tree.more (tree.number 3) tree.none));
           }
           ∷ defines (codes "w") (call_one (codes "f") (call_one (codes "f") (tree.variable (codes "x"))))
           ∷ [];
@@ -149,31 +162,38 @@ pair_list =
     int_flow (Input 0) ∷ int_flow (Input 1) ∷ int_flow (Copied 1) ∷ int_flow (Binary Subtract 5 1)
     ∷ int_flow (Copied 0) ∷ int_flow (Arrow 6 7) ∷ int_flow (number 0) ∷ int_flow (Pre 4) ∷ []
 
--- x, c, u, v, w; the two arguments of g, and its list on the clock c; the lists of the inner f and of the outer f
-abbrev pub two_calls_flat : FlatProgram
+-- x, c, u, v, w; the two arguments of g, and its list on the clock c; the lists of the inner f and of the
+-- outer f
+abbrev pub two_calls_flat : FlatView
 two_calls_flat =
     record {
       types = [];
       flows =
-          int_flow (Input 0) ∷ truth_flow (Input 1) ∷ sampled_flow 1 (Copied 9) ∷ sampled_flow 1 (Copied 10) ∷ int_flow (Copied 20)
+          int_flow (Input 0) ∷ truth_flow (Input 1) ∷ sampled_flow 1 (Copied 9) ∷ sampled_flow 1 (Copied 10)
+          ∷ int_flow (Copied 20)
           ∷ sampled_flow 1 (When 0) ∷ sampled_flow 1 (number 3)
-          ∷ sampled_flow 1 (Copied 5) ∷ sampled_flow 1 (Copied 6) ∷ sampled_flow 1 (Copied 8) ∷ sampled_flow 1 (Binary Subtract 12 8)
-          ∷ sampled_flow 1 (Copied 7) ∷ sampled_flow 1 (Arrow 13 14) ∷ sampled_flow 1 (number 0) ∷ sampled_flow 1 (Pre 11)
+          ∷ sampled_flow 1 (Copied 5) ∷ sampled_flow 1 (Copied 6) ∷ sampled_flow 1 (Copied 8)
+          ∷ sampled_flow 1 (Binary Subtract 12 8)
+          ∷ sampled_flow 1 (Copied 7) ∷ sampled_flow 1 (Arrow 13 14) ∷ sampled_flow 1 (number 0)
+          ∷ sampled_flow 1 (Pre 11)
           ∷ int_flow (Copied 0) ∷ int_flow (Arrow 17 18) ∷ int_flow (number 0) ∷ int_flow (Pre 15)
           ∷ int_flow (Copied 16) ∷ int_flow (Arrow 21 22) ∷ int_flow (number 0) ∷ int_flow (Pre 19)
           ∷ [];
-      order = 0 ∷ 1 ∷ 5 ∷ 6 ∷ 7 ∷ 8 ∷ 9 ∷ 2 ∷ 11 ∷ 13 ∷ 14 ∷ 12 ∷ 10 ∷ 3 ∷ 15 ∷ 17 ∷ 18 ∷ 16 ∷ 19 ∷ 21 ∷ 22 ∷ 20 ∷ 4 ∷ [];
+      order = 0 ∷ 1 ∷ 5 ∷ 6 ∷ 7 ∷ 8 ∷ 9 ∷ 2 ∷ 11 ∷ 13 ∷ 14 ∷ 12 ∷ 10 ∷ 3 ∷ 15 ∷ 17 ∷ 18 ∷ 16 ∷ 19 ∷ 21 ∷ 22
+          ∷ 20 ∷ 4 ∷ [];
       owners =
           0 ∷ 1 ∷ 2 ∷ 2 ∷ 4
           ∷ 2 ∷ 2 ∷ 2 ∷ 2 ∷ 2 ∷ 2 ∷ 2 ∷ 2 ∷ 2 ∷ 2
           ∷ 4 ∷ 4 ∷ 4 ∷ 4 ∷ 4 ∷ 4 ∷ 4 ∷ 4 ∷ [];
       variables =
           flat_int role.Input (codes "x") ∷ flat_truth role.Input (codes "c")
-          ∷ flat_int role.Output (codes "u") ∷ flat_int role.Output (codes "v") ∷ flat_int role.Output (codes "w") ∷ [];
+          ∷ flat_int role.Output (codes "u") ∷ flat_int role.Output (codes "v")
+          ∷ flat_int role.Output (codes "w") ∷ [];
     }
 
 -- type t = enum { Up, Down };
--- node main(m: t; x: int) returns (y: int); let y = merge m (Up -> x when Up(m)) (Down -> (0 - x) when Down(m)); tel
+-- node main(m: t; x: int) returns (y: int); let y = merge m (Up -> x when Up(m)) (Down -> (0 - x) when
+-- Down(m)); tel
 abbrev pub turn_label : List ℕ → ℕ → Label
 turn_label x number = record { name = x; kind = Enum 0 2; number = number }
 
@@ -190,34 +210,43 @@ abbrev pub turn : NodeTree
 turn =
     record {
       name = codes "main";
-      inputs = record { name = codes "m"; kind = Enum 0 2; type_name = Some (codes "t"); clock = None } ∷ int_variable (codes "x") ∷ [];
+      inputs = record { name = codes "m"; kind = Enum 0 2; type_name = Some (codes "t"); clock = None }
+          ∷ int_variable (codes "x") ∷ [];
       outputs = int_variable (codes "y") ∷ [];
       locals = [];
       equations =
           defines (codes "y") (tree.merge (codes "m") (patterns.Label up ∷ patterns.Label down ∷ [])
-          (tree.more (when_m (tree.variable (codes "x")) up) (tree.more (when_m (tree.binary (Data Subtract) (tree.number 0) (tree.variable (codes "x"))) down) tree.none)))
+          (tree.more (when_m (tree.variable (codes "x")) up)
+          (tree.more (when_m (tree.binary (Data Subtract) (tree.number 0) (tree.variable (codes "x"))) down)
+          tree.none)))
           ∷ [];
     }
 
 abbrev pub turning : ProgramTree
-turning = record { types = record { name = codes "t"; names = codes "Up" ∷ codes "Down" ∷ [] } ∷ []; nodes = turn ∷ [] }
+turning = record {
+  types = record { name = codes "t"; names = codes "Up" ∷ codes "Down" ∷ [] } ∷ [];
+  nodes = turn ∷ [];
+}
 
 -- m, x, y; x where m is Up; 0, 0 - x, and that where m is Down
-abbrev pub turning_flat : FlatProgram
+abbrev pub turning_flat : FlatView
 turning_flat =
     record {
       types = record { name = codes "t"; names = codes "Up" ∷ codes "Down" ∷ [] } ∷ [];
       flows =
-          record { form = Input 0; clock = Base; kind = Enum 0 2 } ∷ int_flow (Input 1) ∷ int_flow (Merge 0 (3 ∷ 6 ∷ []))
+          record { form = Input 0; clock = Base; kind = Enum 0 2 } ∷ int_flow (Input 1)
+          ∷ int_flow (Merge 0 (3 ∷ 6 ∷ []))
           ∷ record { form = When 1; clock = On 0 (Name 0); kind = Ints }
           ∷ int_flow (number 0) ∷ int_flow (Binary Subtract 4 1)
           ∷ record { form = When 5; clock = On 0 (Name 1); kind = Ints } ∷ [];
       order = 0 ∷ 1 ∷ 3 ∷ 4 ∷ 5 ∷ 6 ∷ 2 ∷ [];
       owners = 0 ∷ 1 ∷ 2 ∷ 2 ∷ 2 ∷ 2 ∷ 2 ∷ [];
-      variables = record { name = codes "m"; role = role.Input; kind = Enum 0 2 } ∷ flat_int role.Input (codes "x") ∷ flat_int role.Output (codes "y") ∷ [];
+      variables = record { name = codes "m"; role = role.Input; kind = Enum 0 2 }
+          ∷ flat_int role.Input (codes "x") ∷ flat_int role.Output (codes "y") ∷ [];
     }
 
--- The flat programs of these sources. Those of the first three are the ones whose solutions are worked out for flat programs;
+-- The flat programs of these sources. Those of the first three are the ones whose solutions are worked out
+-- for flat programs;
 -- the first source is the one that is worked out as accepted.
 pub record VectorsLaw : Type 0 where
   pub sums : IsLaidOut (program_of (sampler ∷ [])) (codes "main") flat.sampled_sum

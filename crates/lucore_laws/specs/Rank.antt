@@ -1,4 +1,5 @@
--- What is asked of rows of reads, and what is reported where they have no order of ranks. The order and the chains are those of flat programs.
+-- What is asked of rows of reads, and what is reported where they have no order of ranks. The order and the
+-- chains are those of flat programs.
 use Rattle.std.specs.Prelude.{◌≡◌, ℕ, ◌<◌, List, length, All}
 use Rattle.luflow.specs.Rank.{row, Chain}
 

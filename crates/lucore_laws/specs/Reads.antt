@@ -10,13 +10,15 @@ use Rattle.lusource.specs.Names.{clock_of, name_at, output_name}
 use Rattle.lustat_rules.specs.Scope.{node_called}
 use Rattle.lusource.specs.Source.{condition, first_pattern, next_patterns}
 
--- Where an expression stands in the text of a node: the number of the equation, and the numbers of the operands on the way to
+-- Where an expression stands in the text of a node: the number of the equation, and the numbers of the
+-- operands on the way to
 -- it from the right side's root, the last one first.
 pub record Position : Type 0 where
   pub equation : ℕ
   pub operands : List ℕ
 
--- which of the instances of a node: where the calls on the way to it from the main node stand, the last call first
+-- which of the instances of a node: where the calls on the way to it from the main node stand, the last call
+-- first
 abbrev pub Path : Type 0
 Path = List Position
 
@@ -25,7 +27,8 @@ pub data Occurrence : Type 0 where
   variable : Path → List ℕ → Occurrence
   operator : Path → Position → Occurrence
 
--- An instance of a node: which one it is, the node's name, the variable whose truth its base clock is, and its arguments. The main
+-- An instance of a node: which one it is, the node's name, the variable whose truth its base clock is, and
+-- its arguments. The main
 -- node's instance has neither, since its base clock is always true and its inputs come from outside.
 pub record Instance : Type 0 where
   pub path : Path
@@ -54,7 +57,8 @@ module _ (program : ProgramTree) (here : Instance) (node : NodeTree) where
   clocked None = here.clock
   clocked (Some c) = variable here.path c.variable ∷ []
 
-  -- what is read where an expression is: the variable, output j of the called instance, or the operator or constant itself
+  -- what is read where an expression is: the variable, output j of the called instance, or the operator or
+  -- constant itself
   abbrev pub output : Tree → Position → ℕ → Occurrence
   output (tree.variable x) at j = variable here.path x
   output (tree.call f all) at j = variable (at ∷ here.path) (output_name program f j)
@@ -69,8 +73,10 @@ module _ (program : ProgramTree) (here : Instance) (node : NodeTree) where
   values (tree.more a all) at r = value a (operand at r) ∷ values all at (suc r)
 
   abbrev mutual
-    -- What stands in an expression on a clock that its place demands. All read the variable of their clock. Beside it `pre`
-    -- reads nothing, `current` its variable, and every other operator its operands; `a fby b` is `a -> pre b`.
+    -- What stands in an expression on a clock that its place demands. All read the variable of their clock.
+    -- Beside it `pre`
+    -- reads nothing, `current` its variable, and every other operator its operands; `a fby b` is `a -> pre
+    -- b`.
     pub items : Tree → Option Condition → Position → List Item
     items (tree.number n) k at = reading (operator here.path at) (clocked k) ∷ []
     items (tree.truth b) k at = reading (operator here.path at) (clocked k) ∷ []
@@ -86,18 +92,21 @@ module _ (program : ProgramTree) (here : Instance) (node : NodeTree) where
         reading (operator here.path at) (value a (operand at 0) ∷ value b (operand at 1) ∷ clocked k)
         ∷ items a k (operand at 0) ++ items b k (operand at 1)
     items (tree.binary FollowedBy a b) k at =
-        reading (operator here.path at) (value a (operand at 0) ∷ operator here.path (operand at 1) ∷ clocked k)
+        reading (operator here.path at) (value a (operand at 0) ∷ operator here.path (operand at 1)
+        ∷ clocked k)
         ∷ reading (operator here.path (operand at 1)) (clocked k)
         ∷ items a k (operand at 0) ++ items b k (operand (operand at 1) 0)
     items (tree.choice c a b) k at =
-        reading (operator here.path at) (value c (operand at 0) ∷ value a (operand at 1) ∷ value b (operand at 2) ∷ clocked k)
+        reading (operator here.path at) (value c (operand at 0) ∷ value a (operand at 1)
+        ∷ value b (operand at 2) ∷ clocked k)
         ∷ items c k (operand at 0) ++ (items a k (operand at 1) ++ items b k (operand at 2))
     items (tree.when a c) k at =
         reading (operator here.path at) (value a (operand at 0) ∷ clocked (Some c))
         ∷ items a (clock_of node c.variable) (operand at 0)
     items (tree.current x) k at = reading (operator here.path at) (variable here.path x ∷ clocked k) ∷ []
     items (tree.merge c ps all) k at =
-        reading (operator here.path at) (variable here.path c ∷ (values all at 0 ++ clocked k)) ∷ branch_items c ps all at 0
+        reading (operator here.path at) (variable here.path c ∷ (values all at 0 ++ clocked k))
+        ∷ branch_items c ps all at 0
     items (tree.call f all) k at =
         calling (record { path = at ∷ here.path; node = f; clock = clocked k; arguments = values all at 0 })
         ∷ items_in all k at 0
@@ -111,7 +120,8 @@ module _ (program : ProgramTree) (here : Instance) (node : NodeTree) where
     pub branch_items : List ℕ → List Pattern → Trees → Position → ℕ → List Item
     branch_items c ps tree.none at r = []
     branch_items c ps (tree.more a all) at r =
-        items a (condition c (first_pattern ps)) (operand at r) ++ branch_items c (next_patterns ps) all at (suc r)
+        items a (condition c (first_pattern ps)) (operand at r) ++ branch_items c (next_patterns ps) all at
+        (suc r)
 
   -- the clock that an equation's place demands: that of its first variable
   abbrev pub left_clock : EquationTree → Option Condition
@@ -121,7 +131,8 @@ module _ (program : ProgramTree) (here : Instance) (node : NodeTree) where
   abbrev pub left_items : Tree → Position → ℕ → List (List ℕ) → List Item
   left_items right at j [] = []
   left_items right at j (x ∷ xs) =
-      reading (variable here.path x) (output right at j ∷ clocked (clock_of node x)) ∷ left_items right at (suc j) xs
+      reading (variable here.path x) (output right at j ∷ clocked (clock_of node x))
+      ∷ left_items right at (suc j) xs
 
   -- the equations from the one of number n on
   abbrev pub equation_items : List EquationTree → ℕ → List Item
@@ -134,7 +145,8 @@ module _ (program : ProgramTree) (here : Instance) (node : NodeTree) where
   abbrev pub input_items : List DeclarationTree → ℕ → List Item
   input_items [] r = []
   input_items (d ∷ ds) r =
-      reading (variable here.path d.name) (if_there (slice_get here.arguments r) ++ here.clock) ∷ input_items ds (suc r)
+      reading (variable here.path d.name) (if_there (slice_get here.arguments r) ++ here.clock)
+      ∷ input_items ds (suc r)
 
   abbrev pub node_items : List Item
   node_items = input_items node.inputs 0 ++ equation_items node.equations 0
@@ -153,7 +165,8 @@ main_instance main = record { path = []; node = main; clock = []; arguments = []
 -- the main node's instance, and those of all calls in instances
 pub data IsInstance (program : ProgramTree) (main : List ℕ) : Instance → Type 0 where
   first : IsInstance program main (main_instance main)
-  called : (a b : Instance) → IsInstance program main a → Contains (items_of program a) (calling b) → IsInstance program main b
+  called : (a b : Instance) → IsInstance program main a → Contains (items_of program a) (calling b)
+      → IsInstance program main b
 
 -- an occurrence reads another at the same instant
 pub record Reads (program : ProgramTree) (main : List ℕ) (x y : Occurrence) : Type 0 where

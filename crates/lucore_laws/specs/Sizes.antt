@@ -1,9 +1,10 @@
 -- How many flows a program's flat list has, counted without making it.
-use Rattle.std.specs.Prelude.{◌≡◌, ℕ, ◌+◌, ◌-◌, List, [], ◌∷◌, length, Option, Some, None, slice_get, slice_index}
+use Rattle.std.specs.Prelude.{◌≡◌, ℕ, ◌+◌, ◌-◌, List, [], ◌∷◌, length, Option, Some, None, slice_get}
+use Rattle.std.specs.Prelude.{slice_index}
 use Rattle.lutree.specs.declared.expr.Infix.TheVariants.{Data, Arrow, FollowedBy}
 use Rattle.lutree.specs.Tree.{Tree, Trees, EquationTree, NodeTree, ProgramTree}
 use Rattle.lutree.specs.Tree as tree
-use Rattle.luflow.specs.Program.{FlatProgram, flows_of}
+use Rattle.luflow.specs.Program.{FlatView, flows_of}
 use Rattle.lusource.specs.Names.{variables_of}
 use Rattle.lustat_rules.specs.Naming.{node_place}
 use Rattle.lustat_rules.specs.Accepted.{Rule, Keeps}
@@ -59,14 +60,17 @@ module _ (p : ProgramTree) (sizes : List ℕ) where
 -- a size for each node, by its place in the text
 pub record AreSizes (p : ProgramTree) (sizes : List ℕ) : Type 0 where
   pub count : length sizes ≡ length p.nodes
-  pub each : (i : ℕ) (node : NodeTree) → slice_get p.nodes i ≡ Some node → slice_get sizes i ≡ Some (node_size p sizes node)
+  pub each : (i : ℕ) (node : NodeTree) → slice_get p.nodes i ≡ Some node
+      → slice_get sizes i ≡ Some (node_size p sizes node)
 
 -- A program none of whose nodes reaches itself by calls has sizes.
 abbrev pub SizesLaw : Type 0
-SizesLaw = (p : ProgramTree) (main : List ℕ) → Keeps p main Rule.recursive_node → (sizes : List ℕ) × AreSizes p sizes
+SizesLaw = (p : ProgramTree) (main : List ℕ) → Keeps p main Rule.recursive_node
+    → (sizes : List ℕ) × AreSizes p sizes
 
 -- The flat list has as many flows as the size of the main node says.
 abbrev pub CountLaw : Type 0
 CountLaw =
-    (p : ProgramTree) (main : List ℕ) (flat : FlatProgram) (sizes : List ℕ)
-    → Keeps p main Rule.recursive_node → IsLaidOut p main flat → AreSizes p sizes → flows_of flat ≡ size_of p sizes main
+    (p : ProgramTree) (main : List ℕ) (flat : FlatView) (sizes : List ℕ)
+    → Keeps p main Rule.recursive_node → IsLaidOut p main flat → AreSizes p sizes
+    → flows_of flat ≡ size_of p sizes main

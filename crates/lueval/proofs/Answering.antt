@@ -11,7 +11,7 @@ use Rattle.luflow.specs.declared.form.Clock.{Clock}
 use Rattle.luflow.specs.declared.data.Datum.TheVariants as datum
 use Rattle.luflow.specs.declared.form.FaultKind.{FaultKind}
 use Rattle.luflow.specs.declared.form.Outcome.TheVariants.{Gives, Stuck}
-use Rattle.luflow.specs.Program.{FlatProgram, Table}
+use Rattle.luflow.specs.Program.{FlatView, InputsView}
 use Rattle.luflow.specs.Streams.{Streams, Stream, clock_at}
 use Rattle.luflow.specs.Messages.{marks}
 use Rattle.luflow.specs.Values.{value_of, value_at}
@@ -36,29 +36,29 @@ use Rattle.lueval_lines.proofs.Seeing.{statuses_set}
 use Rattle.lueval_lines.proofs.Faults.{fault_broken, fault_same}
 use Rattle.lueval.proofs.Steps.{none_before, clock_here, value_here, not_stuck, step_absent, step_gives}
 
-pub one_solution : (flat : FlatProgram) (inputs : Table) → IsFlat flat → HasOneSolution flat inputs
+pub one_solution : (flat : FlatView) (inputs : InputsView) → IsFlat flat → HasOneSolution flat inputs
 one_solution flat inputs is_flat = record {
   exists = IsSolution-solution flat inputs is_flat.ordered;
   only = λ σ s i t li. solutions_same flat inputs σ (solution flat inputs) is_flat.ordered s (IsSolution-solution flat inputs is_flat.ordered) i t li;
 }
 
-pub all_types : (flat : FlatProgram) (inputs : Table) → IsFlat flat → IsFit flat inputs → KeepsAllTypes flat inputs
+pub all_types : (flat : FlatView) (inputs : InputsView) → IsFlat flat → IsFit flat inputs → KeepsAllTypes flat inputs
 all_types flat inputs is_flat fit σ sol i t flow is lt = keeps_types flat inputs σ is_flat.ordered is_flat.sound fit sol i t flow is lt
 
-pub meant : (flat : FlatProgram) (inputs : Table) (streams : List (List Status)) → AreStreams flat inputs streams → AreMeant flat inputs streams
+pub meant : (flat : FlatView) (inputs : InputsView) (streams : List (List Status)) → AreStreams flat inputs streams → AreMeant flat inputs streams
 meant flat inputs streams are program main agrees σ s v x statuses vx there =
     let w = agrees.to_flat σ s in
     are.each w.0 w.1 v statuses there ∙ ap (λ (τ : Stream). marks τ inputs.instants) (w.2 v x vx)
 
 -- behind the last instant there was no fault
-pub no_fault : (flat : FlatProgram) (inputs : Table) (shown : List Status) (lasts : List Cell) → IsFlat flat → IsFit flat inputs → Stands flat inputs (solution flat inputs) shown lasts inputs.instants 0 → HasNoFault flat inputs
+pub no_fault : (flat : FlatView) (inputs : InputsView) (shown : List Status) (lasts : List Cell) → IsFlat flat → IsFit flat inputs → Stands flat inputs (solution flat inputs) shown lasts inputs.instants 0 → HasNoFault flat inputs
 no_fault flat inputs shown lasts is_flat fit stands σ sol i t kind lt f =
     let one = IsSolution-solution flat inputs is_flat.ordered in
     let li = slice_get_within flat.flows i f.flow f.there in
     stands.sound i t li lt (solutions_same flat inputs (solution flat inputs) σ is_flat.ordered one sol i t li ∙ fault_broken flat inputs σ is_flat fit sol i t kind f)
 
 -- what the machine's answers for the line of rank p say of the solution
-module _ (flat : FlatProgram) (inputs : Table) (machine : Machine) (t : ℕ) (branches : List ℕ) (p : ℕ) (line : Line) (is_flat : IsFlat flat) (fit : IsFit flat inputs) (stands : StandsAt flat inputs machine t p) (lp : p < length flat.order) (lt : t < inputs.instants) (at : IsLine flat branches p line) where
+module _ (flat : FlatView) (inputs : InputsView) (machine : Machine) (t : ℕ) (branches : List ℕ) (p : ℕ) (line : Line) (is_flat : IsFlat flat) (fit : IsFit flat inputs) (stands : StandsAt flat inputs machine t p) (lp : p < length flat.order) (lt : t < inputs.instants) (at : IsLine flat branches p line) where
   abbrev pub σ : Streams
   σ = solution flat inputs
 

@@ -11,7 +11,7 @@ use Rattle.luflow.specs.declared.data.Status.TheVariants.{Absent}
 use Rattle.luflow.specs.declared.variable.Variable.{Variable}
 use Rattle.luflow.specs.declared.variable.Role.{Role}
 use Rattle.luflow.specs.declared.variable.Role.TheVariants.{Input, Output, Local}
-use Rattle.luflow.specs.Program.{FlatProgram, Table, flows_of}
+use Rattle.luflow.specs.Program.{FlatView, InputsView, flows_of}
 use Rattle.luflow.specs.Streams.{Mark, Known, Broken, Stream, Streams}
 use Rattle.luflow.specs.Messages.{marks}
 use Rattle.luflow.specs.Tables.{OutputColumn, AreOutputs}
@@ -27,7 +27,7 @@ use Rattle.lueval_lines.specs.Columns.{Column, items_of, lists_of, is_wanted, Ar
 use Rattle.lueval.specs.Steps.{AreWhole}
 use Rattle.lueval.proofs.Answering.{meant}
 use Rattle.lueval_lines.proofs.Noting.{from_map, column_at, every_column, map_same}
-use Rattle.lueval_lines.proofs.Told.{are_outputs}
+use Rattle.lueval_lines.proofs.Reported.{are_outputs}
 
 abbrev status_in : Mark → Status
 status_in (Known s) = s
@@ -62,7 +62,7 @@ place_there f a (suc c) zero l = let z : a ≡ a + 0 = omega arith in ap (λ k. 
 place_there f a (suc c) (suc v) l = let z : (a + 1) + v ≡ a + suc v = omega arith in place_there f (a + 1) c v (omega (arith, l)) ∙ ap (λ k. Some (f k)) z
 
 -- all columns are the streams of each solution
-pub whole_streams : (flat : FlatProgram) (inputs : Table) (kept : List ℕ) (columns : List Column) → IsFlat flat → AreAllKept AllOf flat.variables kept → length columns ≡ length flat.variables → AreColumns inputs (solution flat inputs) kept columns inputs.instants → AreStreams flat inputs (lists_of columns)
+pub whole_streams : (flat : FlatView) (inputs : InputsView) (kept : List ℕ) (columns : List Column) → IsFlat flat → AreAllKept AllOf flat.variables kept → length columns ≡ length flat.variables → AreColumns inputs (solution flat inputs) kept columns inputs.instants → AreStreams flat inputs (lists_of columns)
 whole_streams flat inputs kept columns is_flat all len are =
     record {
       count = length-map columns items_of ∙ len;
@@ -74,7 +74,7 @@ whole_streams flat inputs kept columns is_flat all len are =
     }
 
 -- in a solution that nothing breaks
-module _ (flat : FlatProgram) (inputs : Table) (is_flat : IsFlat flat) (sound : (r u : ℕ) → r < flows_of flat → u < inputs.instants → solution flat inputs r u ≢ Broken) where
+module _ (flat : FlatView) (inputs : InputsView) (is_flat : IsFlat flat) (sound : (r u : ℕ) → r < flows_of flat → u < inputs.instants → solution flat inputs r u ≢ Broken) where
   abbrev pub whole_streams_of : List (List Status)
   whole_streams_of = all_streams (solution flat inputs) inputs.instants (length flat.variables)
 
@@ -130,7 +130,7 @@ wanted_output Output e = refl
 wanted_output Local e = e
 
 -- columns that have the streams of the outputs
-module _ (flat : FlatProgram) (inputs : Table) (columns : List Column) (is_flat : IsFlat flat) (sound : (r u : ℕ) → r < flows_of flat → u < inputs.instants → solution flat inputs r u ≢ Broken) (len : length columns ≡ length flat.variables) (known : (v : ℕ) (x : Variable) (column : Column) → slice_get flat.variables v ≡ Some x → is_output x.role ≡ true → slice_get columns v ≡ Some column → map Known column.items ≡ marks (solution flat inputs v) inputs.instants) where
+module _ (flat : FlatView) (inputs : InputsView) (columns : List Column) (is_flat : IsFlat flat) (sound : (r u : ℕ) → r < flows_of flat → u < inputs.instants → solution flat inputs r u ≢ Broken) (len : length columns ≡ length flat.variables) (known : (v : ℕ) (x : Variable) (column : Column) → slice_get flat.variables v ≡ Some x → is_output x.role ≡ true → slice_get columns v ≡ Some column → map Known column.items ≡ marks (solution flat inputs v) inputs.instants) where
   kept_there : (v : ℕ) (x : Variable) (s : List Status) → slice_get flat.variables v ≡ Some x → is_output x.role ≡ true → slice_get (lists_of columns) v ≡ Some s → slice_get (whole_streams_of flat inputs is_flat sound) v ≡ Some s
   kept_there v x s there so at =
       let w = from_map columns (slice_get columns v) v s refl at in
@@ -160,7 +160,7 @@ module _ (flat : FlatProgram) (inputs : Table) (columns : List Column) (is_flat 
       (are_outputs inputs.instants flat.variables streams (sym (are_streams flat inputs is_flat sound).count) (long_streams (solution flat inputs) inputs.instants 0 (length flat.variables)) some)
 
 -- what was kept of a whole run are its outputs
-module _ (flat : FlatProgram) (inputs : Table) (notes : Notes) (is_flat : IsFlat flat) (are : AreWhole Outputs flat inputs notes) where
+module _ (flat : FlatView) (inputs : InputsView) (notes : Notes) (is_flat : IsFlat flat) (are : AreWhole Outputs flat inputs notes) where
   known_there : (v : ℕ) (x : Variable) (column : Column) → slice_get flat.variables v ≡ Some x → is_output x.role ≡ true → slice_get notes.columns.items v ≡ Some column → map Known column.items ≡ marks (solution flat inputs v) inputs.instants
   known_there v x column there so at = (column_at inputs (solution flat inputs) notes.kept.items notes.columns.items inputs.instants v column are.columns (are.all v x there (wanted_output x.role so)) at).known
 

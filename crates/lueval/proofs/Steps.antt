@@ -13,7 +13,7 @@ use Rattle.luflow.specs.declared.form.Clock.TheVariants.{Base, On}
 use Rattle.luflow.specs.declared.form.Flow.{Flow}
 use Rattle.luflow.specs.declared.form.FaultKind.{FaultKind}
 use Rattle.luflow.specs.declared.form.Outcome.TheVariants.{Gives, Stuck}
-use Rattle.luflow.specs.Program.{FlatProgram, Table, flow_at, flows_of, places, clock_reads, form_reads, reads}
+use Rattle.luflow.specs.Program.{FlatView, InputsView, flow_at, flows_of, places, clock_reads, form_reads, reads}
 use Rattle.luflow.specs.Streams.{Mark, Known, Broken, Streams, is_value, truth_in, clock_at, ticked, before}
 use Rattle.luflow.specs.Values.{value_of, value_at, under}
 use Rattle.luflow.specs.Solution.{clock_of_flow, IsSolution}
@@ -42,7 +42,7 @@ truth_there : (d : Datum) (status : Status) → (b : Bool) × (truth_in d (Known
 truth_there d Absent = (false, refl)
 truth_there d (Present x) = (is_value d x, refl)
 
-clock_there : (inputs : Table) (σ : Streams) (shown : List Status) (clock : Clock) (t : ℕ) → All (IsShown σ shown t) (clock_reads clock) → (b : Bool) × (clock_at inputs σ clock t ≡ Some b)
+clock_there : (inputs : InputsView) (σ : Streams) (shown : List Status) (clock : Clock) (t : ℕ) → All (IsShown σ shown t) (clock_reads clock) → (b : Bool) × (clock_at inputs σ clock t ≡ Some b)
 clock_there inputs σ shown Base t h = (nat_lt t inputs.instants, refl)
 clock_there inputs σ shown (On c d) t h =
     let w = first_of_all (IsShown σ shown t) c [] h in
@@ -51,7 +51,7 @@ clock_there inputs σ shown (On c d) t h =
 known_clock : (k o : Option Bool) (b : Bool) → k ≡ o → k ≡ Some b → k ≡ Some (unwrap_or o false)
 known_clock k o b e h = h ∙ ap (λ (o : Option Bool). Some (unwrap_or o false)) (sym h ∙ e)
 
-module _ (flat : FlatProgram) (inputs : Table) (σ : Streams) (is_flat : IsFlat flat) (fit : IsFit flat inputs) (sol : IsSolution flat inputs σ) where
+module _ (flat : FlatView) (inputs : InputsView) (σ : Streams) (is_flat : IsFlat flat) (fit : IsFit flat inputs) (sol : IsSolution flat inputs σ) where
   module _ (shown : List Status) (lasts : List Cell) (t p : ℕ) (stands : Stands flat inputs σ shown lasts t p) where
     read_now : (r : ℕ) → Contains (take p flat.order) r → IsShown σ shown t r
     read_now r c = let w = place_of flat.order p r c in subst (λ (i : ℕ). IsShown σ shown t i) w.3 (stands.now w.0 w.1 w.2)

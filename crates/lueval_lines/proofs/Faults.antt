@@ -8,7 +8,7 @@ use Rattle.luflow.specs.declared.form.Form.{Form}
 use Rattle.luflow.specs.declared.form.Flow.{Flow}
 use Rattle.luflow.specs.declared.form.FaultKind.{FaultKind}
 use Rattle.luflow.specs.declared.form.Outcome.TheVariants.{Faults}
-use Rattle.luflow.specs.Program.{FlatProgram, Table, flow_at, flows_of, places, clock_reads}
+use Rattle.luflow.specs.Program.{FlatView, InputsView, flow_at, flows_of, places, clock_reads}
 use Rattle.luflow.specs.Operators.{single_of, double_of}
 use Rattle.luflow.specs.Streams.{Broken, Streams, datum_of, clock_at}
 use Rattle.luflow.specs.Values.{on_one, on_two, value_at, under}
@@ -20,7 +20,7 @@ use Rattle.luflow.proofs.Solutions.{first_of_all, second_of_all, clock-same, sol
 use Rattle.luflow.proofs.Faults.{fault_value, fault_value_one}
 
 -- an operator that is a fault has that fault for its value
-fault_on : (inputs : Table) (σ : Streams) (k : Clock) (t : ℕ) (form : Form) (kind : FaultKind) → IsFaultOn σ t form kind → value_at inputs σ k form t ≡ Faults kind
+fault_on : (inputs : InputsView) (σ : Streams) (k : Clock) (t : ℕ) (form : Form) (kind : FaultKind) → IsFaultOn σ t form kind → value_at inputs σ k form t ≡ Faults kind
 fault_on inputs σ k t _ _ (OnBinary op a b x y kind ea eb f) = ap₂ (λ m n. on_two (double_of op) (datum_of m) (datum_of n)) ea eb ∙ fault_value op x y kind f
 fault_on inputs σ k t _ _ (OnUnary op a x kind ea f) = ap (λ m. on_one (single_of op) (datum_of m)) ea ∙ fault_value_one op x kind f
 
@@ -30,7 +30,7 @@ fault_moves σ σ' t _ _ same (OnBinary op a b x y kind ea eb f) =
     OnBinary op a b x y kind (sym (first_of_all (λ r. σ r t ≡ σ' r t) a (b ∷ []) same) ∙ ea) (sym (second_of_all (λ r. σ r t ≡ σ' r t) a b [] same) ∙ eb) f
 fault_moves σ σ' t _ _ same (OnUnary op a x kind ea f) = OnUnary op a x kind (sym (first_of_all (λ r. σ r t ≡ σ' r t) a [] same) ∙ ea) f
 
-module _ (flat : FlatProgram) (inputs : Table) (σ : Streams) (is_flat : IsFlat flat) (fit : IsFit flat inputs) (sol : IsSolution flat inputs σ) where
+module _ (flat : FlatView) (inputs : InputsView) (σ : Streams) (is_flat : IsFlat flat) (fit : IsFit flat inputs) (sol : IsSolution flat inputs σ) where
   -- what a flow shows, by its clock and its form
   pub equation : (i t : ℕ) (flow : Flow) → flow_at flat i ≡ Some flow → σ i t ≡ under (clock_at inputs σ flow.clock t) (value_at inputs σ flow.clock flow.form t)
   equation i t flow is = sol i t (slice_get_within flat.flows i flow is) ∙ ap (λ o. says inputs σ o t) is

@@ -7,5 +7,5 @@ pub mod Noting
 pub mod Reading
 pub mod Seeing
 pub mod Spans
-pub mod Told
+pub mod Reported
 mod Unders

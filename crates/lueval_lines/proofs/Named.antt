@@ -8,7 +8,7 @@ use Rattle.luflow.specs.declared.variable.Variable.{Variable}
 use Rattle.luflow.specs.Tables.{OutputColumn, AreOutputs}
 use Rattle.lueval_lines.specs.Columns.{Column, lists_of}
 use Rattle.lueval_lines.specs.Outputs.{columns_in}
-use Rattle.lueval_lines.proofs.Told.{Pairs, IsStreamOf, even, later}
+use Rattle.lueval_lines.proofs.Reported.{Pairs, IsStreamOf, even, later}
 
 -- those from place v on
 abbrev pub Left : List Variable → List Column → ℕ → List OutputColumn

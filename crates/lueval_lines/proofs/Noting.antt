@@ -12,7 +12,7 @@ use Rattle.luflow.specs.declared.data.Status.{Status}
 use Rattle.luflow.specs.declared.variable.Variable.{Variable}
 use Rattle.luflow.specs.declared.variable.Role.{Role}
 use Rattle.luflow.specs.declared.variable.Role.TheVariants.{Input, Output, Local}
-use Rattle.luflow.specs.Program.{Table}
+use Rattle.luflow.specs.Program.{InputsView}
 use Rattle.luflow.specs.Streams.{Mark, Known, Streams}
 use Rattle.luflow.specs.Messages.{marks}
 use Rattle.luflow.proofs.Solutions.{place_in, some_at}
@@ -28,7 +28,7 @@ marks_len : (s : ℕ → Mark) (n : ℕ) → length (marks s n) ≡ n
 marks_len s n = length-map-range_with_len s 0 n
 
 -- a column that got the status of its instant
-pub column_longer : (inputs : Table) (σ : Streams) (t v : ℕ) (x row : Column) (status : Status) → IsColumn inputs σ t v x → σ v t ≡ Known status → row.items ≡ x.items ++ status ∷ [] → vec_capacity row ≡ vec_capacity x → IsColumn inputs σ (t + 1) v row
+pub column_longer : (inputs : InputsView) (σ : Streams) (t v : ℕ) (x row : Column) (status : Status) → IsColumn inputs σ t v x → σ v t ≡ Known status → row.items ≡ x.items ++ status ∷ [] → vec_capacity row ≡ vec_capacity x → IsColumn inputs σ (t + 1) v row
 column_longer inputs σ t v x row status is known items capacity =
     record {
       known =
@@ -38,20 +38,20 @@ column_longer inputs σ t v x row status is known items capacity =
     }
 
 -- a column has room at each instant of the table
-pub column_room : (inputs : Table) (σ : Streams) (t v : ℕ) (x : Column) → IsColumn inputs σ t v x → t < inputs.instants → length x.items < vec_capacity x
+pub column_room : (inputs : InputsView) (σ : Streams) (t v : ℕ) (x : Column) → IsColumn inputs σ t v x → t < inputs.instants → length x.items < vec_capacity x
 column_room inputs σ t v x is lt =
     let n : length x.items ≡ t = sym (length-map x.items Known) ∙ ap length is.known ∙ marks_len (σ v) t in
     let r = is.room in omega (arith, n)
 
 -- the columns of rank below k have their status at t, and the others not yet
-pub record AreNoted (inputs : Table) (σ : Streams) (kept : List ℕ) (columns : List Column) (t k : ℕ) : Type 0 where
+pub record AreNoted (inputs : InputsView) (σ : Streams) (kept : List ℕ) (columns : List Column) (t k : ℕ) : Type 0 where
   pub noted : (j : ℕ) (column : Column) → j < k → j < length kept → slice_get columns (slice_index kept j) ≡ Some column → IsColumn inputs σ (t + 1) (slice_index kept j) column
   pub left : (j : ℕ) (column : Column) → k ≤ j → j < length kept → slice_get columns (slice_index kept j) ≡ Some column → IsColumn inputs σ t (slice_index kept j) column
 
-pub note_begin : (inputs : Table) (σ : Streams) (kept : List ℕ) (columns : List Column) (t : ℕ) → AreColumns inputs σ kept columns t → AreNoted inputs σ kept columns t 0
+pub note_begin : (inputs : InputsView) (σ : Streams) (kept : List ℕ) (columns : List Column) (t : ℕ) → AreColumns inputs σ kept columns t → AreNoted inputs σ kept columns t 0
 note_begin inputs σ kept columns t are = record { noted = λ j column l. absurd (omega arith); left = λ j column l lj there. are j column lj there }
 
-pub note_end : (inputs : Table) (σ : Streams) (kept : List ℕ) (columns : List Column) (t k : ℕ) → length kept ≤ k → AreNoted inputs σ kept columns t k → AreColumns inputs σ kept columns (t + 1)
+pub note_end : (inputs : InputsView) (σ : Streams) (kept : List ℕ) (columns : List Column) (t k : ℕ) → length kept ≤ k → AreNoted inputs σ kept columns t k → AreColumns inputs σ kept columns (t + 1)
 note_end inputs σ kept columns t k over are j column lj there = are.noted j column (omega arith) lj there
 
 -- numbers in order are each there once
@@ -64,7 +64,7 @@ once kept up j k lj lk same = elim (cases_lt j k) [
   ]
 ]
 
-pub note_one : (inputs : Table) (σ : Streams) (count : ℕ) (kept : List ℕ) (columns columns' : List Column) (t k : ℕ) (x : Column) (status : Status) → AreKept count kept → k < length kept → AreNoted inputs σ kept columns t k → slice_get columns (slice_index kept k) ≡ Some x → σ (slice_index kept k) t ≡ Known status → IsLonger columns (slice_index kept k) x status columns' → AreNoted inputs σ kept columns' t (k + 1)
+pub note_one : (inputs : InputsView) (σ : Streams) (count : ℕ) (kept : List ℕ) (columns columns' : List Column) (t k : ℕ) (x : Column) (status : Status) → AreKept count kept → k < length kept → AreNoted inputs σ kept columns t k → slice_get columns (slice_index kept k) ≡ Some x → σ (slice_index kept k) t ≡ Known status → IsLonger columns (slice_index kept k) x status columns' → AreNoted inputs σ kept columns' t (k + 1)
 note_one inputs σ count kept columns columns' t k x status are_kept lk are there known longer =
     let v = slice_index kept k in
     let lv = slice_get_within columns v x there in
@@ -82,7 +82,7 @@ note_one inputs σ count kept columns columns' t k x status are_kept lk are ther
       left = λ j column l lj at. are.left j column (omega arith) lj (sym (other j lj (λ e. let g : k + 1 ≤ j = l in absurd (omega arith))) ∙ at);
     }
 
-pub columns_begin : (count : ℕ) (inputs : Table) (σ : Streams) (kept : List ℕ) (columns : List Column) → AreEmpty count kept inputs.instants columns → AreColumns inputs σ kept columns 0
+pub columns_begin : (count : ℕ) (inputs : InputsView) (σ : Streams) (kept : List ℕ) (columns : List Column) → AreEmpty count kept inputs.instants columns → AreColumns inputs σ kept columns 0
 columns_begin count inputs σ kept columns are k column lk there =
     let e = are.each k column lk there in
     record { known = ap (map Known) e.empty; room = e.room }
@@ -104,19 +104,19 @@ every_role Output = refl
 every_role Local = refl
 
 -- the column of a variable that is kept
-pub column_at : (inputs : Table) (σ : Streams) (kept : List ℕ) (columns : List Column) (t v : ℕ) (x : Column) → AreColumns inputs σ kept columns t → Contains kept v → slice_get columns v ≡ Some x → IsColumn inputs σ t v x
+pub column_at : (inputs : InputsView) (σ : Streams) (kept : List ℕ) (columns : List Column) (t v : ℕ) (x : Column) → AreColumns inputs σ kept columns t → Contains kept v → slice_get columns v ≡ Some x → IsColumn inputs σ t v x
 column_at inputs σ kept columns t v x are among there =
     let w = place_in kept v among in
     subst (λ (n : ℕ). IsColumn inputs σ t n x) w.2 (are w.0 x w.1 (ap (slice_get columns) w.2 ∙ there))
 
 -- where all are kept
-pub every_column : (inputs : Table) (σ : Streams) (variables : List Variable) (kept : List ℕ) (columns : List Column) (t v : ℕ) (x : Column) → AreAllKept AllOf variables kept → length columns ≡ length variables → AreColumns inputs σ kept columns t → slice_get columns v ≡ Some x → IsColumn inputs σ t v x
+pub every_column : (inputs : InputsView) (σ : Streams) (variables : List Variable) (kept : List ℕ) (columns : List Column) (t v : ℕ) (x : Column) → AreAllKept AllOf variables kept → length columns ≡ length variables → AreColumns inputs σ kept columns t → slice_get columns v ≡ Some x → IsColumn inputs σ t v x
 every_column inputs σ variables kept columns t v x all len are there =
     let y = some_at variables v (let l = slice_get_within columns v x there in omega arith) in
     column_at inputs σ kept columns t v x are (all v y.0 y.1 (every_role y.0.role)) there
 
 -- columns of the first t statuses have t each
-pub columns_even : (inputs : Table) (σ : Streams) (variables : List Variable) (kept : List ℕ) (columns : List Column) (t : ℕ) → AreAllKept AllOf variables kept → length columns ≡ length variables → AreColumns inputs σ kept columns t → All (λ (x : Column). length x.items ≡ t) columns
+pub columns_even : (inputs : InputsView) (σ : Streams) (variables : List Variable) (kept : List ℕ) (columns : List Column) (t : ℕ) → AreAllKept AllOf variables kept → length columns ≡ length variables → AreColumns inputs σ kept columns t → All (λ (x : Column). length x.items ≡ t) columns
 columns_even inputs σ variables kept [] t all len are = All-nil (λ (x : Column). length x.items ≡ t)
 columns_even inputs σ variables kept (y ∷ ys) t all len are =
     All-from_get_or (λ (x : Column). length x.items ≡ t) (y ∷ ys) y

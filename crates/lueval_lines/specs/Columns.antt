@@ -1,11 +1,13 @@
 -- The columns of the main variables: which are kept, and what they hold of a solution.
-use Rattle.std.specs.Prelude.{◌≡◌, ℕ, ◌<◌, ◌≤◌, Bool, true, false, List, [], ◌∷◌, ◌++◌, map, length, All as Each, Contains, Some, slice_get, slice_index, slice_set, vec_capacity, Vec}
+use Rattle.std.specs.Prelude.{◌≡◌, ℕ, ◌<◌, ◌≤◌, Bool, true, false, List, [], ◌∷◌, ◌++◌, map, length}
+use Rattle.std.specs.Prelude.{All as Each, Contains, Some, slice_get, slice_index, slice_set, vec_capacity}
+use Rattle.std.specs.Prelude.{Vec}
 use Rattle.std.specs.declared.alloc.Global.{Global}
 use Rattle.luflow.specs.declared.data.Status.{Status}
 use Rattle.luflow.specs.declared.variable.Variable.{Variable}
 use Rattle.luflow.specs.declared.variable.Role.{Role}
 use Rattle.luflow.specs.declared.variable.Role.TheVariants.{Input, Output, Local}
-use Rattle.luflow.specs.Program.{Table}
+use Rattle.luflow.specs.Program.{InputsView}
 use Rattle.luflow.specs.Streams.{Known, Streams}
 use Rattle.luflow.specs.Messages.{marks}
 use Rattle.lueval_lines.specs.declared.columns.Wanted.{Wanted}
@@ -49,7 +51,8 @@ AreOnlyWanted wanted variables kept = Each (λ v. IsWantedAt wanted variables v)
 
 -- the number of each variable whose stream is wanted is among them
 abbrev pub AreAllKept : Wanted → List Variable → List ℕ → Type 0
-AreAllKept wanted variables kept = (v : ℕ) (x : Variable) → slice_get variables v ≡ Some x → is_wanted wanted x.role ≡ true → Contains kept v
+AreAllKept wanted variables kept = (v : ℕ) (x : Variable) → slice_get variables v ≡ Some x
+    → is_wanted wanted x.role ≡ true → Contains kept v
 
 -- a column of no status, with room for all
 pub record IsEmpty (instants : ℕ) (column : Column) : Type 0 where
@@ -58,23 +61,26 @@ pub record IsEmpty (instants : ℕ) (column : Column) : Type 0 where
 
 pub record AreEmpty (count : ℕ) (kept : List ℕ) (instants : ℕ) (columns : List Column) : Type 0 where
   pub len : length columns ≡ count
-  pub each : (k : ℕ) (column : Column) → k < length kept → slice_get columns (slice_index kept k) ≡ Some column → IsEmpty instants column
+  pub each : (k : ℕ) (column : Column) → k < length kept
+      → slice_get columns (slice_index kept k) ≡ Some column → IsEmpty instants column
 
 pub record AreNew (variables : List Variable) (instants : ℕ) (notes : Notes) : Type 0 where
   pub kept : AreKept (length variables) notes.kept.items
   pub columns : AreEmpty (length variables) notes.kept.items instants notes.columns.items
 
 -- the first t statuses of main variable v, with room for all
-pub record IsColumn (inputs : Table) (σ : Streams) (t v : ℕ) (column : Column) : Type 0 where
+pub record IsColumn (inputs : InputsView) (σ : Streams) (t v : ℕ) (column : Column) : Type 0 where
   pub known : map Known column.items ≡ marks (σ v) t
   pub room : inputs.instants ≤ vec_capacity column
 
 -- the columns of those that are kept
-abbrev pub AreColumns : Table → Streams → List ℕ → List Column → ℕ → Type 0
-AreColumns inputs σ kept columns t = (k : ℕ) (column : Column) → k < length kept → slice_get columns (slice_index kept k) ≡ Some column → IsColumn inputs σ t (slice_index kept k) column
+abbrev pub AreColumns : InputsView → Streams → List ℕ → List Column → ℕ → Type 0
+AreColumns inputs σ kept columns t = (k : ℕ) (column : Column) → k < length kept
+    → slice_get columns (slice_index kept k) ≡ Some column → IsColumn inputs σ t (slice_index kept k) column
 
 -- column v, that was x, has one status more
-pub record IsLonger (columns : List Column) (v : ℕ) (x : Column) (status : Status) (columns' : List Column) : Type 0 where
+pub record IsLonger (columns : List Column) (v : ℕ) (x : Column) (status : Status)
+    (columns' : List Column) : Type 0 where
   pub row : Column
   pub is : columns' ≡ slice_set columns v row
   pub items : row.items ≡ x.items ++ status ∷ []

@@ -2,5 +2,5 @@ pub mod Place
 pub mod Syntax
 pub mod Text
 pub mod Texts
-pub mod Told
+pub mod Explanations
 pub mod Vectors

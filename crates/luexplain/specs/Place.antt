@@ -1,5 +1,6 @@
 -- Where a byte stands in a text, and how its line is shown.
-use Rattle.std.specs.Prelude.{ℕ, ◌+◌, ◌-◌, ◌<◌, min, nat_eq, nat_lt, Bool, not, ◌&&◌, ◌||◌, if◌then◌else◌, List, [], ◌++◌, map, length, take, drop, codes, count_by}
+use Rattle.std.specs.Prelude.{ℕ, ◌+◌, ◌-◌, ◌<◌, min, nat_eq, nat_lt, Bool, not, ◌&&◌, ◌||◌, if◌then◌else◌}
+use Rattle.std.specs.Prelude.{List, [], ◌++◌, map, length, take, drop, codes, count_by}
 use Rattle.std.specs.Fmt.{decimal}
 use Rattle.std.specs.List.{prefix_len, suffix_len}
 
@@ -41,7 +42,8 @@ line_behind behind = take (prefix_len is_inside behind) behind
 
 -- SHOWN LINES
 
--- of a line of more than 100 bytes 100 are shown, with 50 of them before the place where there are so many on both sides
+-- of a line of more than 100 bytes 100 are shown, with 50 of them before the place where there are so many on
+-- both sides
 
 -- how many bytes at the front of a line aren't shown, by the lengths of its parts before and behind the place
 abbrev pub left_out : ℕ → ℕ → ℕ
@@ -71,7 +73,8 @@ is_cut_right head tail = nat_lt (room head tail) (length tail)
 -- a line, by its parts before and behind the place
 unfoldable pub source_line : List ℕ → List ℕ → List ℕ
 source_line head tail =
-    codes "  | " ++ mark (is_cut_left head tail) ++ map shown (left_of head tail) ++ map shown (take (room head tail) tail) ++ mark (is_cut_right head tail) ++ codes "\n"
+    codes "  | " ++ mark (is_cut_left head tail) ++ map shown (left_of head tail)
+    ++ map shown (take (room head tail) tail) ++ mark (is_cut_right head tail) ++ codes "\n"
 
 -- the line under it, with a caret under the place
 unfoldable pub caret_line : List ℕ → List ℕ → List ℕ
@@ -81,12 +84,14 @@ caret_line head tail =
 -- `PATH:LINE:COLUMN`, both counted from 1, by the text before the place
 unfoldable pub numbers : List ℕ → List ℕ → List ℕ
 numbers path before =
-    path ++ codes ":" ++ decimal (line_number before) ++ codes ":" ++ decimal (length (line_before before) + 1) ++ codes "\n"
+    path ++ codes ":" ++ decimal (line_number before) ++ codes ":"
+    ++ decimal (length (line_before before) + 1) ++ codes "\n"
 
 -- the numbers, the line, and a caret under the place
 abbrev pub place_between : List ℕ → List ℕ → List ℕ → List ℕ
 place_between path before behind =
-    numbers path before ++ source_line (line_before before) (line_behind behind) ++ caret_line (line_before before) (line_behind behind)
+    numbers path before ++ source_line (line_before before) (line_behind behind)
+    ++ caret_line (line_before before) (line_behind behind)
 
 -- the place of a byte; of one behind the text's end it is the end
 abbrev pub place : List ℕ → List ℕ → ℕ → List ℕ

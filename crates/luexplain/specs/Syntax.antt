@@ -2,9 +2,10 @@
 use Rattle.std.specs.Prelude.{ℕ, List, Bool, nat_lt}
 use Rattle.std.specs.List.{prefix_len}
 use Rattle.lusyn.specs.declared.error.SynError.{SynError}
-use Rattle.lusyn.specs.declared.error.SynError.TheVariants.{Syntax, NumberTooLarge, NotAscii, TooLong, LongRun, OutOfMemory}
+use Rattle.lusyn.specs.declared.error.SynError.TheVariants.{Syntax, NumberTooLarge, NotAscii, TooLong}
+use Rattle.lusyn.specs.declared.error.SynError.TheVariants.{LongRun, OutOfMemory}
 use Rattle.luexplain.specs.Place.{place}
-use Rattle.luexplain.specs.Told.{whole}
+use Rattle.luexplain.specs.Explanations.{whole}
 
 abbrev pub is_ascii : ℕ → Bool
 is_ascii b = nat_lt b 128

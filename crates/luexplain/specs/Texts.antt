@@ -5,7 +5,7 @@ use Rattle.std.specs.declared.alloc.Global.{Global}
 use Rattle.lusdist_shell.specs.declared.schedule.ScheduleError.{ScheduleError}
 use Rattle.lusdist_shell.specs.declared.schedule.ScheduleError.TheVariants as schedules
 use Rattle.luexplain.specs.Place.{place}
-use Rattle.luexplain.specs.Told.{IsTold, whole}
+use Rattle.luexplain.specs.Explanations.{IsExplanation, whole}
 
 -- a schedule is reported at the byte that is no turn
 abbrev pub place_of_schedule : List ℕ → List ℕ → ScheduleError → List ℕ
@@ -14,5 +14,6 @@ place_of_schedule path text schedules.LongSchedule = whole path
 place_of_schedule path text schedules.OutOfMemory = whole path
 
 -- what is reported stands at some byte of a text, or of the whole
-abbrev pub IsToldSomewhere : List ℕ → List ℕ → String Global → Type 0
-IsToldSomewhere path text told = ((byte : ℕ) × IsTold (place path text byte) told) ⊎ IsTold (whole path) told
+abbrev pub IsExplainedSomewhere : List ℕ → List ℕ → String Global → Type 0
+IsExplainedSomewhere path text reported = ((byte : ℕ) × IsExplanation (place path text byte) reported)
+    ⊎ IsExplanation (whole path) reported

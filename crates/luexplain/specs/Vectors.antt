@@ -12,7 +12,8 @@ ten = codes "0123456789"
 
 -- a line of 130 bytes, between two others
 abbrev pub long : List ℕ
-long = codes "a\n" ++ ten ++ ten ++ ten ++ ten ++ ten ++ ten ++ ten ++ ten ++ ten ++ ten ++ ten ++ ten ++ ten ++ codes "\nb"
+long = codes "a\n" ++ ten ++ ten ++ ten ++ ten ++ ten ++ ten ++ ten ++ ten ++ ten ++ ten ++ ten ++ ten ++ ten
+    ++ codes "\nb"
 
 -- fifty bytes
 abbrev pub fifty : List ℕ
@@ -25,7 +26,8 @@ blanks = codes "                                                  "
 -- places of worked texts
 pub record PlaceVectors : Type 0 where
   -- a tab stands under a tab
-  pub behind_tab : place (codes "p") tabbed 9 ≡ codes "p:2:6\n  | " ++ 9 ∷ codes "y = c;\n  | " ++ 9 ∷ codes "    ^\n"
+  pub behind_tab : place (codes "p") tabbed 9 ≡ codes "p:2:6\n  | " ++ 9 ∷ codes "y = c;\n  | " ++ 9
+      ∷ codes "    ^\n"
   -- a line feed is the end of its line
   pub at_feed : place (codes "p") tabbed 3 ≡ codes "p:1:4\n  | let\n  |    ^\n"
   -- behind the last line feed an empty line begins, and a byte behind the end is the end
@@ -35,5 +37,7 @@ pub record PlaceVectors : Type 0 where
   pub hidden : place (codes "p") (13 ∷ 200 ∷ codes "c") 2 ≡ codes "p:1:3\n  | ??c\n  |   ^\n"
   -- a long line is cut on the right, on both sides, and on the left
   pub cut_right : place (codes "p") long 2 ≡ codes "p:2:1\n  | " ++ fifty ++ fifty ++ codes "..\n  | ^\n"
-  pub cut_both : place (codes "p") long 62 ≡ codes "p:2:61\n  | .." ++ fifty ++ fifty ++ codes "..\n  |   " ++ blanks ++ codes "^\n"
-  pub cut_left : place (codes "p") long 92 ≡ codes "p:2:91\n  | .." ++ fifty ++ fifty ++ codes "\n  |   " ++ blanks ++ codes "          ^\n"
+  pub cut_both : place (codes "p") long 62 ≡ codes "p:2:61\n  | .." ++ fifty ++ fifty ++ codes "..\n  |   "
+      ++ blanks ++ codes "^\n"
+  pub cut_left : place (codes "p") long 92 ≡ codes "p:2:91\n  | .." ++ fifty ++ fifty ++ codes "\n  |   "
+      ++ blanks ++ codes "          ^\n"

@@ -3,7 +3,7 @@
 use crate::find::Spot;
 use crate::said::{Said, mended_by, say};
 use crate::usual::{mend_of, usual};
-use crate::words::{Part, Told};
+use crate::words::{ClockWording, Part};
 use lubase::Name;
 use lustat_init::{is_one, least_classes, lefts_are_known, needs_met};
 use lustat_rules::{ClockRef, PatternRef, Scope};
@@ -241,8 +241,8 @@ pub(crate) fn current_nil(alloc: Global, spot: &Spot) -> Result<Said, AllocError
     };
     let variable = Part::Name(held.variable);
     let on = ClockRef::On(held.clock, held.pattern);
-    let clock = Part::Clock(on, Told::Clock);
-    let sign = Part::Clock(on, Told::Sign);
+    let clock = Part::Clock(on, ClockWording::Clock);
+    let sign = Part::Clock(on, ClockWording::Sign);
     let what = if spot.scope.is_input(held.clock) {
         "@ is on @, which may be false at first: @ is an input."
     } else {

@@ -3,7 +3,7 @@
 use crate::find::{Spot, role_at};
 use crate::said::{Said, mended_by, say};
 use crate::usual::{mend_of, usual};
-use crate::words::{Part, Told};
+use crate::words::{ClockWording, Part};
 use lustat_rules::{ClockRef, PatternRef, Scope, StatError};
 use lutree::{Declaration, Expr, Kind, Node, Pattern, Program};
 use std::alloc::{AllocError, Global};
@@ -34,7 +34,7 @@ fn side_part<'a>(side: Side<'a>, clock: ClockRef<'a>) -> Part<'a> {
     match side {
         Side::Value(e) => Part::Value(e),
         Side::Variable(x) => Part::Name(x),
-        Side::Branch => Part::Clock(clock, Told::Branch),
+        Side::Branch => Part::Clock(clock, ClockWording::Branch),
         Side::Right => Part::Words("the right side"),
     }
 }
@@ -218,9 +218,9 @@ pub(crate) fn mismatch(alloc: Global, spot: &Spot) -> Result<Said, AllocError> {
             "Two clocks are joined: @ is on @, @ is on @.",
             &[
                 side_part(found.first, found.on),
-                Part::Clock(found.on, Told::Clock),
+                Part::Clock(found.on, ClockWording::Clock),
                 side_part(found.second, found.other),
-                Part::Clock(found.other, Told::Clock),
+                Part::Clock(found.other, ClockWording::Clock),
             ],
             mend_of(spot.error),
         ),
@@ -371,7 +371,7 @@ fn said_of_call<'a>(
         &[
             Part::Name(main),
             Part::Name(output.name.as_str()),
-            Part::Clock(declared_clock(output), Told::Clock),
+            Part::Clock(declared_clock(output), ClockWording::Clock),
         ],
         mend_of(error),
     )
@@ -402,7 +402,7 @@ pub(crate) fn clocked_parameter<'a>(
             Part::Words(role_at(node, declared.byte)),
             Part::Name(declared.name.as_str()),
             Part::Name(node.name.as_str()),
-            Part::Clock(declared_clock(declared), Told::Clock),
+            Part::Clock(declared_clock(declared), ClockWording::Clock),
         ],
         "Declare it without a clock, and sample it inside by `when`; a node that is given samples lives on their clock as a whole.",
     )
@@ -423,7 +423,7 @@ pub(crate) fn hidden(
         "The output @ is on the clock `@`, and @ is a local, which nobody outside sees.",
         &[
             Part::Name(declared.name.as_str()),
-            Part::Clock(ClockRef::of(clock), Told::Short),
+            Part::Clock(ClockRef::of(clock), ClockWording::Short),
             Part::Name(variable),
         ],
         "Make @ an output too.",

@@ -1,13 +1,13 @@
 //! Programs without a flat program, `E40` and `E50`, and faults of values, `R1`.
 
 ghost use Rattle.std.specs.Prelude.{IfOk};
-ghost use Rattle.luexplain.specs.Texts.{IsToldSomewhere};
-ghost use Rattle.luexplain.specs.Told.{IsTold, whole};
+ghost use Rattle.luexplain.specs.Texts.{IsExplainedSomewhere};
+ghost use Rattle.luexplain.specs.Explanations.{IsExplanation, whole};
 
 use crate::circle::circle;
 use crate::find::node_named;
 use crate::place::where_in;
-use crate::said::{Said, in_words, mended_by, told, whole};
+use crate::said::{Said, in_words, mended_by, reported, whole};
 use crate::words::Part;
 use luflow::FaultKind;
 use lustat_rules::Scope;
@@ -195,16 +195,16 @@ fn byte_of(program: &Program, main: &str, variable: &str) -> usize {
 }
 
 /// What is said, behind the place of a byte.
-fn told_at(
+fn reported_at(
     alloc: Global,
     path: &str,
     text: &[u8],
     byte: usize,
     said: &Said,
 ) -> Result<String, AllocError>
-    ensures { IfOk result (IsToldSomewhere path.now text.now) }
+    ensures { IfOk result (IsExplainedSomewhere path.now text.now) }
 {
-    told(where_in(alloc, path, text, byte)?, said)
+    reported(where_in(alloc, path, text, byte)?, said)
 }
 
 /// What a user reads where a main variable depends on itself: its place, what is wrong, and how to mend it. `text` is the text of the file
@@ -221,11 +221,11 @@ pub fn of_cycle(
     main: &str,
     variable: &str,
 ) -> Result<String, AllocError>
-    ensures { IfOk result (IsToldSomewhere path.now text.now) }
+    ensures { IfOk result (IsExplainedSomewhere path.now text.now) }
 {
     let byte = byte_of(program, main, variable);
     let said = said_of_cycle(alloc, program, main, variable)?;
-    told_at(alloc, path, text, byte, &said)
+    reported_at(alloc, path, text, byte, &said)
 }
 
 /// What a user reads about a program with too many flows: the path of its file, what is wrong, and how to mend it.
@@ -234,14 +234,14 @@ pub fn of_cycle(
 ///
 /// An error means that memory ran out.
 pub fn of_size(alloc: Global, path: &str) -> Result<String, AllocError>
-    ensures { IfOk result (IsTold (whole path.now)) }
+    ensures { IfOk result (IsExplanation (whole path.now)) }
 {
     let said = in_words(
         alloc,
         "With all calls put in place, the main node has more than 4,096 flows.",
         "Call less often, or give a result to a local in place of a second call.",
     )?;
-    told(whole(alloc, path)?, &said)
+    reported(whole(alloc, path)?, &said)
 }
 
 /// What is said of a fault of a value.
@@ -291,9 +291,9 @@ pub fn of_fault(
     instant: u32,
     kind: FaultKind,
 ) -> Result<String, AllocError>
-    ensures { IfOk result (IsToldSomewhere path.now text.now) }
+    ensures { IfOk result (IsExplainedSomewhere path.now text.now) }
 {
     let byte = byte_of(program, main, variable);
     let said = said_of_fault(alloc, variable, instant, kind)?;
-    told_at(alloc, path, text, byte, &said)
+    reported_at(alloc, path, text, byte, &said)
 }

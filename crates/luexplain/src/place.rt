@@ -215,12 +215,12 @@ fn parted(text: &[u8], byte: usize) -> (&[u8], &[u8])
 ///
 /// An error means that memory ran out.
 pub fn where_in(alloc: Global, path: &str, text: &[u8], byte: usize) -> Result<String, AllocError>
-    ensures { IfOk result (λ told. string_bytes told ≡ spec.place path.now text.now byte) }
+    ensures { IfOk result (λ reported. string_bytes reported ≡ spec.place path.now text.now byte) }
 {
     let (before, behind) = parted(text, byte);
-    let mut told = String::new(alloc);
-    put_place(&mut told, path, before, behind)?;
-    Ok(told)
+    let mut reported = String::new(alloc);
+    put_place(&mut reported, path, before, behind)?;
+    Ok(reported)
 }
 
 /// The line of a byte, counted from 1.

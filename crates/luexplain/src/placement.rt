@@ -1,12 +1,12 @@
 //! Placements: `P01` to `P08`.
 
 ghost use Rattle.std.specs.Prelude.{IfOk};
-ghost use Rattle.luexplain.specs.Texts.{IsToldSomewhere};
+ghost use Rattle.luexplain.specs.Texts.{IsExplainedSomewhere};
 
 use crate::blame::{Blamed, Holder, blamed_in};
 use crate::naming::mend_name;
 use crate::near::is_near;
-use crate::said::{Found, Said, in_words, mended_by, told_of};
+use crate::said::{Found, Said, in_words, mended_by, reported_of};
 use crate::sought::{entry_in, key_in, text_behind};
 use crate::words::Part;
 use lulimits::limits::{LONGEST_PLACEMENT, MOST_SITES};
@@ -351,8 +351,8 @@ pub fn of_place(
     main: &str,
     error: &PlaceError,
 ) -> Result<String, AllocError>
-    ensures { IfOk result (IsToldSomewhere path.now text.now) }
+    ensures { IfOk result (IsExplainedSomewhere path.now text.now) }
 {
     let found = found_at(alloc, text, program, main, error)?;
-    told_of(alloc, path, text, &found)
+    reported_of(alloc, path, text, &found)
 }

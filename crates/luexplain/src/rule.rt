@@ -1,7 +1,7 @@
 //! The static rules.
 
 ghost use Rattle.std.specs.Prelude.{◌≡◌, IfOk, string_bytes};
-ghost use Rattle.luexplain.specs.Told.{IsTold, place_of_rule};
+ghost use Rattle.luexplain.specs.Explanations.{IsExplanation, place_of_rule};
 
 use crate::arity::{bad_merge, wrong_arity};
 use crate::classes::{current_nil, maybe_nil};
@@ -12,7 +12,7 @@ use crate::naming::{
     unknown_name, unknown_node,
 };
 use crate::place::where_in;
-use crate::said::{Said, told, whole};
+use crate::said::{Said, reported, whole};
 use crate::usual::usual;
 use crate::{clocks, typing};
 use lustat_rules::{Catalog, Scope, StatError};
@@ -113,7 +113,7 @@ fn place_of_rule(
     text: &[u8],
     error: &StatError,
 ) -> Result<String, AllocError>
-    ensures { IfOk result (λ told. string_bytes told
+    ensures { IfOk result (λ reported. string_bytes reported
         ≡ place_of_rule path.now text.now error.now) }
 {
     match error {
@@ -135,16 +135,16 @@ fn said_in(
 }
 
 /// What is said, behind the place of a rule that is broken.
-fn told_at(
+fn reported_at(
     alloc: Global,
     path: &str,
     text: &[u8],
     error: &StatError,
     said: &Said,
 ) -> Result<String, AllocError>
-    ensures { IfOk result (IsTold (place_of_rule path.now text.now error.now)) }
+    ensures { IfOk result (IsExplanation (place_of_rule path.now text.now error.now)) }
 {
-    told(place_of_rule(alloc, path, text, error)?, said)
+    reported(place_of_rule(alloc, path, text, error)?, said)
 }
 
 /// What a user reads where the static checks refuse a program: its place, what is wrong, and how to mend it. `text` is the text of the file
@@ -161,8 +161,8 @@ pub fn of_rule(
     main: &str,
     error: &StatError,
 ) -> Result<String, AllocError>
-    ensures { IfOk result (IsTold (place_of_rule path.now text.now error.now)) }
+    ensures { IfOk result (IsExplanation (place_of_rule path.now text.now error.now)) }
 {
     let said = said_in(alloc, text, program, main, error)?;
-    told_at(alloc, path, text, error, &said)
+    reported_at(alloc, path, text, error, &said)
 }

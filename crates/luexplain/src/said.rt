@@ -1,8 +1,8 @@
 //! What is reported: a place, what is wrong, and how to mend it.
 
 ghost use Rattle.std.specs.Prelude.{◌≡◌, ◌++◌, codes, IfOk, string_bytes};
-ghost use Rattle.luexplain.specs.Texts.{IsToldSomewhere};
-ghost use Rattle.luexplain.specs.Told.{IsTold};
+ghost use Rattle.luexplain.specs.Texts.{IsExplainedSomewhere};
+ghost use Rattle.luexplain.specs.Explanations.{IsExplanation};
 
 use crate::place::where_in;
 use crate::words::{Part, sentence};
@@ -60,8 +60,8 @@ pub(crate) fn whole(alloc: Global, path: &str) -> Result<String, AllocError>
 }
 
 /// A place, and behind it what is said, a line each.
-pub(crate) fn told(place: String, said: &Said) -> Result<String, AllocError>
-    ensures { IfOk result (IsTold (string_bytes place)) }
+pub(crate) fn reported(place: String, said: &Said) -> Result<String, AllocError>
+    ensures { IfOk result (IsExplanation (string_bytes place)) }
 {
     let mut text = place;
     text.push_str(said.what.as_str())?;
@@ -72,16 +72,16 @@ pub(crate) fn told(place: String, said: &Said) -> Result<String, AllocError>
 }
 
 /// What is said, behind its place.
-pub(crate) fn told_of(
+pub(crate) fn reported_of(
     alloc: Global,
     path: &str,
     text: &[u8],
     found: &Found,
 ) -> Result<String, AllocError>
-    ensures { IfOk result (IsToldSomewhere path.now text.now) }
+    ensures { IfOk result (IsExplainedSomewhere path.now text.now) }
 {
     match found.byte {
-        Some(byte) => told(where_in(alloc, path, text, byte)?, &found.said),
-        None => told(whole(alloc, path)?, &found.said),
+        Some(byte) => reported(where_in(alloc, path, text, byte)?, &found.said),
+        None => reported(whole(alloc, path)?, &found.said),
     }
 }

@@ -1,12 +1,12 @@
 //! Schedules: `S01` and `S02`.
 
 ghost use Rattle.std.specs.Prelude.{◌≡◌, IfOk, string_bytes};
-ghost use Rattle.luexplain.specs.Told.{IsTold};
+ghost use Rattle.luexplain.specs.Explanations.{IsExplanation};
 ghost use Rattle.luexplain.specs.Texts as spec;
 
 use crate::bytes::from_byte;
 use crate::place::where_in;
-use crate::said::{Said, mended_by, told, whole};
+use crate::said::{Said, mended_by, reported, whole};
 use crate::usual::usual;
 use crate::words::Part;
 use lulimits::limits::LONGEST_SCHEDULE;
@@ -47,7 +47,7 @@ fn place_of_schedule(
     text: &[u8],
     error: &ScheduleError,
 ) -> Result<String, AllocError>
-    ensures { IfOk result (λ told. string_bytes told
+    ensures { IfOk result (λ reported. string_bytes reported
         ≡ spec.place_of_schedule path.now text.now error.now) }
 {
     match error {
@@ -68,8 +68,8 @@ pub fn of_schedule(
     text: &[u8],
     error: &ScheduleError,
 ) -> Result<String, AllocError>
-    ensures { IfOk result (IsTold (spec.place_of_schedule path.now text.now error.now)) }
+    ensures { IfOk result (IsExplanation (spec.place_of_schedule path.now text.now error.now)) }
 {
     let said = said_of_schedule(alloc, text, error)?;
-    told(place_of_schedule(alloc, path, text, error)?, &said)
+    reported(place_of_schedule(alloc, path, text, error)?, &said)
 }

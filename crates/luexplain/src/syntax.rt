@@ -2,12 +2,12 @@
 
 ghost use Rattle.std.specs.Prelude.{◌≡◌, IfOk, string_bytes};
 ghost use Rattle.std.specs.List.{prefix_len};
-ghost use Rattle.luexplain.specs.Told.{IsTold};
+ghost use Rattle.luexplain.specs.Explanations.{IsExplanation};
 ghost use Rattle.luexplain.specs.Syntax as spec;
 
 use crate::bytes::from_byte;
 use crate::place::where_in;
-use crate::said::{Said, in_words, mended_by, told, whole};
+use crate::said::{Said, in_words, mended_by, reported, whole};
 use crate::usual::usual;
 use crate::words::Part;
 use lulimits::limits::LONGEST_PROGRAM;
@@ -127,7 +127,7 @@ fn place_of_syntax(
     text: &[u8],
     error: &SynError,
 ) -> Result<String, AllocError>
-    ensures { IfOk result (λ told. string_bytes told
+    ensures { IfOk result (λ reported. string_bytes reported
         ≡ spec.place_of_syntax path.now text.now error.now) }
 {
     match error {
@@ -150,8 +150,8 @@ pub fn of_syntax(
     text: &[u8],
     error: &SynError,
 ) -> Result<String, AllocError>
-    ensures { IfOk result (IsTold (spec.place_of_syntax path.now text.now error.now)) }
+    ensures { IfOk result (IsExplanation (spec.place_of_syntax path.now text.now error.now)) }
 {
     let said = said_of_syntax(alloc, text, error)?;
-    told(place_of_syntax(alloc, path, text, error)?, &said)
+    reported(place_of_syntax(alloc, path, text, error)?, &said)
 }

@@ -1,12 +1,12 @@
 //! Tables of inputs: `T01` to `T04`.
 
 ghost use Rattle.std.specs.Prelude.{IfOk};
-ghost use Rattle.luexplain.specs.Texts.{IsToldSomewhere};
+ghost use Rattle.luexplain.specs.Texts.{IsExplainedSomewhere};
 
 use crate::bytes::{from_byte, length_before};
 use crate::find::{node_named, type_at_place};
 use crate::near::shared_front;
-use crate::said::{Found, Said, in_words, mended_by, say, told_of};
+use crate::said::{Found, Said, in_words, mended_by, reported_of, say};
 use crate::usual::usual;
 use crate::words::Part;
 use lulimits::limits::LONGEST_TABLE;
@@ -317,12 +317,12 @@ pub fn of_table(
     main: &str,
     error: &TabError,
 ) -> Result<String, AllocError>
-    ensures { IfOk result (IsToldSomewhere path.now text.now) }
+    ensures { IfOk result (IsExplainedSomewhere path.now text.now) }
 {
     let inputs = match node_named(program, main) {
         Some(node) => node.inputs.as_slice(),
         None => &[],
     };
     let found = found_in(alloc, text, program, inputs, error)?;
-    told_of(alloc, path, text, &found)
+    reported_of(alloc, path, text, &found)
 }

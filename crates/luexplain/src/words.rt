@@ -13,11 +13,11 @@ use std::alloc::{AllocError, Global};
 const QUOTED: usize = 60;
 
 /// How many of several names are reported.
-const TOLD: usize = 8;
+const LISTED: usize = 8;
 
 /// What is reported of a clock.
 #[derive(Clone, Copy)]
-pub(crate) enum Told {
+pub(crate) enum ClockWording {
     /// The base clock, or the clock `c`.
     Clock,
     /// The clock in short: `c`, `not c` or `A(c)`.
@@ -50,7 +50,7 @@ pub(crate) enum Part<'a> {
     /// The name of a type of a program.
     Type(&'a Program, Kind),
     /// A clock, and what is reported of it.
-    Clock(ClockRef<'a>, Told),
+    Clock(ClockRef<'a>, ClockWording),
     /// Names with commas between them; of many the first alone, and how many more there are.
     Names(&'a [&'a str]),
     /// The same of the names of an enumeration.
@@ -95,7 +95,7 @@ fn put_around(text: &mut String, before: &str, name: &str, behind: &str) -> Resu
 
 /// The name at this place among others; nothing where enough are reported.
 fn put_listed(text: &mut String, place: usize, name: &str) -> Result<(), AllocError> {
-    if place >= TOLD {
+    if place >= LISTED {
         return Ok(());
     }
     if place > 0 {
@@ -106,10 +106,10 @@ fn put_listed(text: &mut String, place: usize, name: &str) -> Result<(), AllocEr
 
 /// How many of so many names aren't reported.
 fn put_more(text: &mut String, count: usize) -> Result<(), AllocError> {
-    if count <= TOLD {
+    if count <= LISTED {
         return Ok(());
     }
-    write!(text, " and {} more", count - TOLD)
+    write!(text, " and {} more", count - LISTED)
 }
 
 fn put_names(text: &mut String, names: &[&str]) -> Result<(), AllocError> {
@@ -142,7 +142,7 @@ fn put_variables(text: &mut String, declared: &[Declaration]) -> Result<(), Allo
 
 /// What the name at this place does to the next; nothing where enough are reported.
 fn put_step(text: &mut String, place: usize, does: &str, next: &str) -> Result<(), AllocError> {
-    if place >= TOLD {
+    if place >= LISTED {
         return Ok(());
     }
     if place > 0 {
@@ -156,7 +156,7 @@ fn put_step(text: &mut String, place: usize, does: &str, next: &str) -> Result<(
 
 /// What stands before the last step of a circle, by how many steps there are before it.
 fn before_last(steps: usize) -> &'static str {
-    if steps > TOLD {
+    if steps > LISTED {
         ", and so on to one that"
     } else if steps > 0 {
         ", which"
@@ -201,17 +201,17 @@ fn put_on_clock(
     text: &mut String,
     name: &str,
     sign: PatternRef,
-    told: Told,
+    reported: ClockWording,
 ) -> Result<(), AllocError> {
-    match told {
-        Told::Clock => {
+    match reported {
+        ClockWording::Clock => {
             text.push_str("the clock `")?;
             put_on(text, name, sign)?;
             text.push('`')
         }
-        Told::Short => put_on(text, name, sign),
-        Told::Sign => put_sign(text, sign),
-        Told::Branch => put_branch(text, name, sign),
+        ClockWording::Short => put_on(text, name, sign),
+        ClockWording::Sign => put_sign(text, sign),
+        ClockWording::Branch => put_branch(text, name, sign),
     }
 }
 
@@ -242,7 +242,7 @@ fn put_one(text: &mut String, alloc: Global, part: Part) -> Result<(), AllocErro
         Part::Value(e) => put_value(text, alloc, e),
         Part::Type(program, kind) => put_type(text, program, kind),
         Part::Clock(ClockRef::Base, _) => text.push_str("the base clock"),
-        Part::Clock(ClockRef::On(name, sign), told) => put_on_clock(text, name, sign, told),
+        Part::Clock(ClockRef::On(name, sign), reported) => put_on_clock(text, name, sign, reported),
         _ => Ok(()),
     }
 }

@@ -12,7 +12,7 @@ use Rattle.luflow.specs.declared.form.Form.TheVariants.{Input, Constant, Copied,
 use Rattle.luflow.specs.declared.form.Flow.{Flow}
 use Rattle.luflow.specs.declared.form.FaultKind.{FaultKind}
 use Rattle.luflow.specs.declared.form.Outcome.TheVariants.{Gives, Faults}
-use Rattle.luflow.specs.Program.{FlatProgram, Table, flow_at}
+use Rattle.luflow.specs.Program.{FlatView, InputsView, flow_at}
 use Rattle.luflow.specs.Operators.{single_of, double_of, is_nil, picked_of, choice_of}
 use Rattle.luflow.specs.Streams.{Mark, Known, Broken, Streams, datum_of, clock_at}
 use Rattle.luflow.specs.Values.{gives, on_one, on_two, on_three, arrow_of, branch_of, branch_value, merge_of, view_at, value_at}
@@ -70,7 +70,7 @@ two_fault σ t a b op kind (Known (Present x)) Broken e f h = absurd cc
 two_fault σ t a b op kind (Known (Present x)) (Known Absent) e f h = absurd cc
 two_fault σ t a b op kind (Known (Present x)) (Known (Present y)) e f h = OnBinary op a b x y kind e f (fault_back op x y kind h)
 
-fault_on : (inputs : Table) (σ : Streams) (k : Clock) (t : ℕ) (form : Form) (kind : FaultKind) → value_at inputs σ k form t ≡ Faults kind → IsFaultOn σ t form kind
+fault_on : (inputs : InputsView) (σ : Streams) (k : Clock) (t : ℕ) (form : Form) (kind : FaultKind) → value_at inputs σ k form t ≡ Faults kind → IsFaultOn σ t form kind
 fault_on inputs σ k t (Input c) kind h = absurd (gives_no _ kind h)
 fault_on inputs σ k t (Constant d) kind h = let f : Gives d ≡ Faults kind = h in absurd cc
 fault_on inputs σ k t (Copied a) kind h = absurd (gives_no _ kind h)
@@ -84,5 +84,5 @@ fault_on inputs σ k t (Current a) kind h = absurd (gives_no _ kind h)
 fault_on inputs σ k t (Merge c xs) kind h = let v = view_at inputs σ k t in absurd (merge_no (v.now c) (map v.now xs) kind h)
 
 -- a flow whose value is a fault is a fault of the language
-pub is_fault : (flat : FlatProgram) (inputs : Table) (σ : Streams) (i t : ℕ) (kind : FaultKind) (flow : Flow) → flow_at flat i ≡ Some flow → clock_at inputs σ flow.clock t ≡ Some true → value_at inputs σ flow.clock flow.form t ≡ Faults kind → IsFault flat inputs σ i t kind
+pub is_fault : (flat : FlatView) (inputs : InputsView) (σ : Streams) (i t : ℕ) (kind : FaultKind) (flow : Flow) → flow_at flat i ≡ Some flow → clock_at inputs σ flow.clock t ≡ Some true → value_at inputs σ flow.clock flow.form t ≡ Faults kind → IsFault flat inputs σ i t kind
 is_fault flat inputs σ i t kind flow is on h = record { flow = flow; there = is; clock = on; fault = fault_on inputs σ flow.clock t flow.form kind h }

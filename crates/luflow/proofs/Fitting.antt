@@ -9,11 +9,11 @@ use Rattle.luflow.specs.declared.form.Form.TheVariants.{Input, Constant, Copied,
 use Rattle.luflow.specs.declared.form.Flow.{Flow}
 use Rattle.luflow.specs.declared.variable.Variable.{Variable}
 use Rattle.luflow.specs.declared.variable.Role.TheVariants as roles
-use Rattle.luflow.specs.Program.{FlatProgram, Table, Column, flow_at, data_of, column_of}
+use Rattle.luflow.specs.Program.{FlatView, InputsView, Column, flow_at, data_of, column_of}
 use Rattle.luflow.specs.Sound.{IsConstantOf, IsFitFor, IsFit}
 use Rattle.luflow.specs.Variables.{is_input, inputs_of}
 use Rattle.luflow.specs.Flats.{IsFlat}
-use Rattle.luflow.specs.Tables.{IsTable, AreColumnsOf, Fits, FitsLaw}
+use Rattle.luflow.specs.Tables.{IsTable, AreColumnsOf, FitsProgram, FitsProgramLaw}
 
 All-at : {X : Type 0} (P : X → Type 0) (xs : List X) (i : ℕ) (x : X) → slice_get xs i ≡ Some x → All P xs → P x
 All-at P [] i x e h = cc
@@ -78,7 +78,7 @@ module _ {X : Type 0} (p : X → Bool) where
 is_input_role : (x : Variable) → x.role ≡ roles.Input → is_input x.role ≡ true
 is_input_role x e = ap is_input e
 
-module _ (flat : FlatProgram) (inputs : Table) (ok : IsFlat flat) (table : IsTable inputs) (fits : Fits flat inputs) where
+module _ (flat : FlatView) (inputs : InputsView) (ok : IsFlat flat) (table : IsTable inputs) (fits : FitsProgram flat inputs) where
   -- what a flow that reads column c has at an instant
   read : (i c : ℕ) (flow : Flow) → flow_at flat i ≡ Some flow → flow.form ≡ Input c → (t : ℕ) → t < inputs.instants → (d : Datum) × (slice_get (column_of inputs c) t ≡ Some d) × IsConstantOf flow.kind d
   read i c flow here form t lt =
@@ -110,7 +110,7 @@ module _ (flat : FlatProgram) (inputs : Table) (ok : IsFlat flat) (table : IsTab
   all_fit : IsFit flat inputs
   all_fit = record { columns = λ i flow here. fit_for flow.kind flow.form (λ c form t lt. read i c flow here form t lt) }
 
-pub fits : FitsLaw
+pub fits : FitsProgramLaw
 fits flat inputs ok table fit = all_fit flat inputs ok table fit
 
 -- such columns are as many as the inputs

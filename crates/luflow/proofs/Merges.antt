@@ -11,7 +11,7 @@ use Rattle.luflow.specs.declared.form.Form.TheVariants.{Merge}
 use Rattle.luflow.specs.declared.form.Flow.{Flow}
 use Rattle.luflow.specs.declared.form.Outcome.{Outcome}
 use Rattle.luflow.specs.declared.form.Outcome.TheVariants.{Gives, Faults, Stuck}
-use Rattle.luflow.specs.Program.{FlatProgram, Table, IsOrdered}
+use Rattle.luflow.specs.Program.{FlatView, InputsView, IsOrdered}
 use Rattle.luflow.specs.Streams.{Mark, Known, Broken, Streams, datum_of, is_value, truth_in, clock_at, ticked}
 use Rattle.luflow.specs.Values.{gives, branch_value, merge_of, value_at, under}
 use Rattle.luflow.specs.Solution.{IsSolution}
@@ -33,7 +33,7 @@ given_by Broken d h = let f : Stuck ≡ Gives d = h in cc
 given_by (Known Absent) d h = let f : Stuck ≡ Gives d = h in cc
 given_by (Known (Present e)) d h = let f : Gives e ≡ Gives d = h in cc
 
-module _ (flat : FlatProgram) (inputs : Table) (σ : Streams) (ordered : IsOrdered flat) (sound : IsSound flat) (fit : IsFit flat inputs) (sol : IsSolution flat inputs σ) where
+module _ (flat : FlatView) (inputs : InputsView) (σ : Streams) (ordered : IsOrdered flat) (sound : IsSound flat) (fit : IsFit flat inputs) (sol : IsSolution flat inputs σ) where
   -- the branch of the value that the variable has
   taken : (i t c : ℕ) (xs : List ℕ) (flow : Flow) (d : Datum) → FormFits flat sound.class flow.clock flow.kind (sound.class i) (Merge c xs) → t < inputs.instants
       → σ i t ≡ Known (Present d) → (m : Mark) → σ c t ≡ m → merge_of (datum_of m) (map (λ r. datum_of (σ r t)) xs) ≡ Gives d → IsOneBranch σ i t xs

@@ -12,7 +12,7 @@ use Rattle.luflow.specs.declared.data.Datum.{Datum}
 use Rattle.luflow.specs.declared.data.Datum.TheVariants.{Int, Bool as Truth, Name, Nil}
 use Rattle.luflow.specs.declared.data.Status.TheVariants.{Present}
 use Rattle.luflow.specs.declared.form.Clock.TheVariants.{On}
-use Rattle.luflow.specs.Program.{FlatProgram}
+use Rattle.luflow.specs.Program.{FlatView}
 use Rattle.luflow.specs.Streams.{Known, is_value, truth_in}
 use Rattle.luflow.specs.Values.{branch_of}
 use Rattle.luflow.specs.Sound.{clock_values, IsOf, IsOn, BranchesFit}
@@ -81,7 +81,7 @@ pub some_names : (p n : ℕ) → clock_values (Enum p (suc n)) ≢ []
 some_names p n e = cc
 
 -- the branch of a value, where the merge fits
-pub branch_at : (flat : FlatProgram) (class : ℕ → Bool) (s : Kind) (c : ℕ) (ds : List Datum) (xs : List ℕ) (b : ℕ) (d : Datum) → BranchesFit flat class s c ds xs → slice_get ds b ≡ Some d
+pub branch_at : (flat : FlatView) (class : ℕ → Bool) (s : Kind) (c : ℕ) (ds : List Datum) (xs : List ℕ) (b : ℕ) (d : Datum) → BranchesFit flat class s c ds xs → slice_get ds b ≡ Some d
     → (x : ℕ) × (slice_get xs b ≡ Some x) × IsOn flat (On c d) s x × (class x ≡ false)
 branch_at flat class s c [] xs b d fit at = let no : None ≡ Some d = at in cc
 branch_at flat class s c (e ∷ ds) [] b d fit at = absurd fit
@@ -89,7 +89,7 @@ branch_at flat class s c (e ∷ ds) (x ∷ xs) zero d fit at = (x, refl, subst (
 branch_at flat class s c (e ∷ ds) (x ∷ xs) (suc b) d fit at = branch_at flat class s c ds xs b d fit.2 at
 
 -- the value of a branch
-pub value_there : (flat : FlatProgram) (class : ℕ → Bool) (s : Kind) (c : ℕ) (ds : List Datum) (xs : List ℕ) (b x : ℕ) → BranchesFit flat class s c ds xs → slice_get xs b ≡ Some x → (d : Datum) × (slice_get ds b ≡ Some d)
+pub value_there : (flat : FlatView) (class : ℕ → Bool) (s : Kind) (c : ℕ) (ds : List Datum) (xs : List ℕ) (b x : ℕ) → BranchesFit flat class s c ds xs → slice_get xs b ≡ Some x → (d : Datum) × (slice_get ds b ≡ Some d)
 value_there flat class s c [] [] b x fit at = let no : None ≡ Some x = at in cc
 value_there flat class s c [] (y ∷ xs) b x fit at = absurd fit
 value_there flat class s c (e ∷ ds) [] b x fit at = absurd fit

@@ -11,7 +11,7 @@ use Rattle.luflow.specs.declared.form.Clock.TheVariants.{Base, On}
 use Rattle.luflow.specs.declared.form.Form.{Form}
 use Rattle.luflow.specs.declared.form.Form.TheVariants.{Input, Constant, Copied, Unary, Binary, If, Pre, Arrow, When, Current, Merge}
 use Rattle.luflow.specs.declared.form.Flow.{Flow}
-use Rattle.luflow.specs.Program.{FlatProgram, Table, flow_at, flows_of, places, clock_reads, form_reads, reads, IsOrdered}
+use Rattle.luflow.specs.Program.{FlatView, InputsView, flow_at, flows_of, places, clock_reads, form_reads, reads, IsOrdered}
 use Rattle.luflow.specs.Operators.{single_of, double_of, choice_of}
 use Rattle.luflow.specs.Streams.{Mark, Streams, datum_of, truth_in, clock_at, either, ticked, newer, before}
 use Rattle.luflow.specs.Values.{gives, on_one, on_two, on_three, arrow_of, merge_of, value_at, under}
@@ -34,7 +34,7 @@ ticked-same k k' (suc t) h = ap₂ either (h t (omega arith)) (ticked-same k k' 
 pub all_at : {X : Type 0} (P : X → Type 0) (xs : List X) (k : ℕ) (x : X) → All P xs → slice_get xs k ≡ Some x → P x
 all_at P xs k x all at = All-contains P xs x all (k, slice_get_within xs k x at, get_or_from_slice_get xs k x x at)
 
-pub clock-same : (inputs : Table) (σ σ' : Streams) (clock : Clock) (t : ℕ) → All (λ r. σ r t ≡ σ' r t) (clock_reads clock) → clock_at inputs σ clock t ≡ clock_at inputs σ' clock t
+pub clock-same : (inputs : InputsView) (σ σ' : Streams) (clock : Clock) (t : ℕ) → All (λ r. σ r t ≡ σ' r t) (clock_reads clock) → clock_at inputs σ clock t ≡ clock_at inputs σ' clock t
 clock-same inputs σ σ' Base t h = refl
 clock-same inputs σ σ' (On c d) t h = ap (truth_in d) (All-get_or (λ r. σ r t ≡ σ' r t) (c ∷ []) 0 c (omega arith) h)
 
@@ -62,7 +62,7 @@ second_of_all P a b rs h = All-get_or P (a ∷ b ∷ rs) 1 a (omega arith) h
 pub third_of_all : (P : ℕ → Type 0) (a b c : ℕ) (rs : List ℕ) → All P (a ∷ b ∷ c ∷ rs) → P c
 third_of_all P a b c rs h = All-get_or P (a ∷ b ∷ c ∷ rs) 2 a (omega arith) h
 
-value-same : (inputs : Table) (σ σ' : Streams) (k : Clock) (form : Form) (t : ℕ) → All (λ r. σ r t ≡ σ' r t) (form_reads form) → ((u : ℕ) → u < t → All (λ r. σ r u ≡ σ' r u) (places form)) → ticked (clock_at inputs σ k) t ≡ ticked (clock_at inputs σ' k) t → value_at inputs σ k form t ≡ value_at inputs σ' k form t
+value-same : (inputs : InputsView) (σ σ' : Streams) (k : Clock) (form : Form) (t : ℕ) → All (λ r. σ r t ≡ σ' r t) (form_reads form) → ((u : ℕ) → u < t → All (λ r. σ r u ≡ σ' r u) (places form)) → ticked (clock_at inputs σ k) t ≡ ticked (clock_at inputs σ' k) t → value_at inputs σ k form t ≡ value_at inputs σ' k form t
 value-same inputs σ σ' k (Input c) t now then w = refl
 value-same inputs σ σ' k (Constant d) t now then w = refl
 value-same inputs σ σ' k (Copied a) t now then w = ap (λ m. gives (datum_of m)) (first_of_all (λ r. σ r t ≡ σ' r t) a [] now)
@@ -82,7 +82,7 @@ value-same inputs σ σ' k (Merge c xs) t now then w =
     ap₂ (λ m branches. merge_of (datum_of m) branches) (first_of_all (λ r. σ r t ≡ σ' r t) c xs now)
     (map-same (λ r. datum_of (σ r t)) (λ r. datum_of (σ' r t)) xs (All-weaker (λ r. σ r t ≡ σ' r t) (λ r. datum_of (σ r t) ≡ datum_of (σ' r t)) (λ r e. ap datum_of e) xs (rest_of_all (λ r. σ r t ≡ σ' r t) c xs now)))
 
-pub says-same : (inputs : Table) (σ σ' : Streams) (t : ℕ) (flow : Flow) → Agree σ σ' flow t → says inputs σ (Some flow) t ≡ says inputs σ' (Some flow) t
+pub says-same : (inputs : InputsView) (σ σ' : Streams) (t : ℕ) (flow : Flow) → Agree σ σ' flow t → says inputs σ (Some flow) t ≡ says inputs σ' (Some flow) t
 says-same inputs σ σ' t flow a =
     ap₂ under (clock-same inputs σ σ' flow.clock t a.clock_now) (value-same inputs σ σ' flow.clock flow.form t a.now a.then (ticked-same (clock_at inputs σ flow.clock) (clock_at inputs σ' flow.clock) t (λ u l. clock-same inputs σ σ' flow.clock u (a.clock_then u l))))
 
@@ -113,10 +113,10 @@ pub rows_below : (u v n a : ℕ) → u * n + a < v * n → u < v
 rows_below u v n a l = elim (cases_lt u v) [ inl h ↦ h | inr h ↦ let e = mul-le-mul_right n h in absurd (omega (arith, e)) ]
 
 -- the same at the first m points, instant by instant and by rank
-pub record SameTo (flat : FlatProgram) (σ σ' : Streams) (m : ℕ) : Type 0 where
+pub record SameTo (flat : FlatView) (σ σ' : Streams) (m : ℕ) : Type 0 where
   pub at : (q u : ℕ) → q < length flat.order → u * length flat.order + q < m → σ (slice_index flat.order q) u ≡ σ' (slice_index flat.order q) u
 
-module _ (flat : FlatProgram) (ordered : IsOrdered flat) where
+module _ (flat : FlatView) (ordered : IsOrdered flat) where
   pub rank_of : (i : ℕ) → i < flows_of flat → (k : ℕ) × (k < length flat.order) × (slice_index flat.order k ≡ i)
   rank_of i l = place_in flat.order i (ordered.all_flows i l)
 
@@ -148,23 +148,23 @@ module _ (flat : FlatProgram) (ordered : IsOrdered flat) where
         clock_then = λ v l. All-weaker (λ r. r < flows_of flat) (λ r. σ r v ≡ σ' r v) (same-earlier σ σ' m q u v same le l) (clock_reads flow.clock) (ordered.clocks_in (slice_index flat.order q) flow is);
       }
 
-sweep-same : (flat : FlatProgram) (inputs : Table) (σ σ' : Streams) (m q u : ℕ) → IsOrdered flat → SameTo flat σ σ' m → q < length flat.order → u * length flat.order + q ≤ m → sweep flat inputs σ (slice_index flat.order q) u ≡ sweep flat inputs σ' (slice_index flat.order q) u
+sweep-same : (flat : FlatView) (inputs : InputsView) (σ σ' : Streams) (m q u : ℕ) → IsOrdered flat → SameTo flat σ σ' m → q < length flat.order → u * length flat.order + q ≤ m → sweep flat inputs σ (slice_index flat.order q) u ≡ sweep flat inputs σ' (slice_index flat.order q) u
 sweep-same flat inputs σ σ' m q u ordered same lq le =
     let i = slice_index flat.order q in
     let f = flow_there flat ordered q lq in
     let e = says-same inputs σ σ' u f.0 (agree-from flat ordered σ σ' m q u f.0 same lq le f.1) in
     ap (λ o. says inputs σ o u) f.1 ∙ e ∙ sym (ap (λ o. says inputs σ' o u) f.1)
 
-pub SameTo-sweep : (flat : FlatProgram) (inputs : Table) (σ σ' : Streams) (m : ℕ) → IsOrdered flat → SameTo flat σ σ' m → SameTo flat (sweep flat inputs σ) (sweep flat inputs σ') (suc m)
+pub SameTo-sweep : (flat : FlatView) (inputs : InputsView) (σ σ' : Streams) (m : ℕ) → IsOrdered flat → SameTo flat σ σ' m → SameTo flat (sweep flat inputs σ) (sweep flat inputs σ') (suc m)
 SameTo-sweep flat inputs σ σ' m ordered same = record { at = λ q u lq l. sweep-same flat inputs σ σ' m q u ordered same lq (omega arith) }
 
 -- each sweep settles one more point
-pub settles : (flat : FlatProgram) (inputs : Table) (m : ℕ) → IsOrdered flat → SameTo flat (sweeps flat inputs m) (sweep flat inputs (sweeps flat inputs m)) m
+pub settles : (flat : FlatView) (inputs : InputsView) (m : ℕ) → IsOrdered flat → SameTo flat (sweeps flat inputs m) (sweep flat inputs (sweeps flat inputs m)) m
 settles flat inputs zero ordered = record { at = λ q u lq l. absurd (omega arith) }
 settles flat inputs (suc m) ordered = SameTo-sweep flat inputs (sweeps flat inputs m) (sweep flat inputs (sweeps flat inputs m)) m ordered (settles flat inputs m ordered)
 
 -- more sweeps leave what is settled
-more_sweeps : (flat : FlatProgram) (inputs : Table) (m k : ℕ) → IsOrdered flat → SameTo flat (sweeps flat inputs m) (sweeps flat inputs (k + m)) m
+more_sweeps : (flat : FlatView) (inputs : InputsView) (m k : ℕ) → IsOrdered flat → SameTo flat (sweeps flat inputs m) (sweeps flat inputs (k + m)) m
 more_sweeps flat inputs m zero ordered = let e : 0 + m ≡ m = omega arith in record { at = λ q u lq l. ap (λ n. sweeps flat inputs n (slice_index flat.order q) u) (sym e) }
 more_sweeps flat inputs m (suc k) ordered =
     let e : suc (k + m) ≡ suc k + m = omega arith in
@@ -176,7 +176,7 @@ more_sweeps flat inputs m (suc k) ordered =
     }
 
 -- the solution is what any number of sweeps gives that settles a point
-settled : (flat : FlatProgram) (inputs : Table) (m q u : ℕ) → IsOrdered flat → q < length flat.order → u * length flat.order + q < m → solution flat inputs (slice_index flat.order q) u ≡ sweeps flat inputs m (slice_index flat.order q) u
+settled : (flat : FlatView) (inputs : InputsView) (m q u : ℕ) → IsOrdered flat → q < length flat.order → u * length flat.order + q < m → solution flat inputs (slice_index flat.order q) u ≡ sweeps flat inputs m (slice_index flat.order q) u
 unfolding solution
 settled flat inputs m q u ordered lq l =
     let n = length flat.order in
@@ -189,10 +189,10 @@ settled flat inputs m q u ordered lq l =
     let eb : m - p + p ≡ m = omega arith in
     sym (a ∙ ap (λ k. sweeps flat inputs k i u) ea) ∙ b ∙ ap (λ k. sweeps flat inputs k i u) eb
 
-solution_to : (flat : FlatProgram) (inputs : Table) (m : ℕ) → IsOrdered flat → SameTo flat (solution flat inputs) (sweeps flat inputs m) m
+solution_to : (flat : FlatView) (inputs : InputsView) (m : ℕ) → IsOrdered flat → SameTo flat (solution flat inputs) (sweeps flat inputs m) m
 solution_to flat inputs m ordered = record { at = λ q u lq l. settled flat inputs m q u ordered lq l }
 
-pub IsSolution-solution : (flat : FlatProgram) (inputs : Table) → IsOrdered flat → IsSolution flat inputs (solution flat inputs)
+pub IsSolution-solution : (flat : FlatView) (inputs : InputsView) → IsOrdered flat → IsSolution flat inputs (solution flat inputs)
 IsSolution-solution flat inputs ordered i t li =
     let n = length flat.order in
     let w = rank_of flat ordered i li in
@@ -201,7 +201,7 @@ IsSolution-solution flat inputs ordered i t li =
     let back = sweep-same flat inputs (solution flat inputs) (sweeps flat inputs m) m w.0 t ordered (solution_to flat inputs m ordered) w.1 (omega arith) in
     subst (λ (j : ℕ). solution flat inputs j t ≡ sweep flat inputs (solution flat inputs) j t) w.2 (here ∙ sym back)
 
-agrees : (flat : FlatProgram) (inputs : Table) (σ σ' : Streams) (m : ℕ) → IsOrdered flat → IsSolution flat inputs σ → IsSolution flat inputs σ' → SameTo flat σ σ' m
+agrees : (flat : FlatView) (inputs : InputsView) (σ σ' : Streams) (m : ℕ) → IsOrdered flat → IsSolution flat inputs σ → IsSolution flat inputs σ' → SameTo flat σ σ' m
 agrees flat inputs σ σ' zero ordered s s' = record { at = λ q u lq l. absurd (omega arith) }
 agrees flat inputs σ σ' (suc m) ordered s s' = record {
   at = λ q u lq l.
@@ -211,7 +211,7 @@ agrees flat inputs σ σ' (suc m) ordered s s' = record {
 }
 
 -- two solutions are the same
-pub solutions_same : (flat : FlatProgram) (inputs : Table) (σ σ' : Streams) → IsOrdered flat → IsSolution flat inputs σ → IsSolution flat inputs σ' → (i t : ℕ) → i < flows_of flat → σ i t ≡ σ' i t
+pub solutions_same : (flat : FlatView) (inputs : InputsView) (σ σ' : Streams) → IsOrdered flat → IsSolution flat inputs σ → IsSolution flat inputs σ' → (i t : ℕ) → i < flows_of flat → σ i t ≡ σ' i t
 solutions_same flat inputs σ σ' ordered s s' i t li =
     let w = rank_of flat ordered i li in
     let m = suc (t * length flat.order + w.0) in

@@ -9,7 +9,7 @@ use Rattle.luflow.specs.declared.form.Clock.TheVariants.{On}
 use Rattle.luflow.specs.declared.form.Flow.{Flow}
 use Rattle.luflow.specs.declared.form.Outcome.{Outcome}
 use Rattle.luflow.specs.declared.form.Outcome.TheVariants.{Stuck}
-use Rattle.luflow.specs.Program.{FlatProgram, Table, IsOrdered, flow_at}
+use Rattle.luflow.specs.Program.{FlatView, InputsView, IsOrdered, flow_at}
 use Rattle.luflow.specs.Streams.{Mark, Known, Streams, clock_at, ticked}
 use Rattle.luflow.specs.Values.{value_at}
 use Rattle.luflow.specs.Solution.{IsSolution}
@@ -25,10 +25,10 @@ never_nil s e was k m h zero is =
     let one : e ≡ true = (g.2 refl).0 in
     let clash : false ≡ true = sym zero ∙ one in cc
 
-clock_class : (flat : FlatProgram) (class : ℕ → Bool) (k : Clock) (c : ℕ) (d : Datum) → k ≡ On c d → ClockFits flat class k → ClockFits flat class (On c d)
+clock_class : (flat : FlatView) (class : ℕ → Bool) (k : Clock) (c : ℕ) (d : Datum) → k ≡ On c d → ClockFits flat class k → ClockFits flat class (On c d)
 clock_class flat class k c d is h = subst (ClockFits flat class) is h
 
-pub keeps_types : (flat : FlatProgram) (inputs : Table) (σ : Streams) → IsOrdered flat → IsSound flat → IsFit flat inputs → IsSolution flat inputs σ → (i t : ℕ) (flow : Flow) → flow_at flat i ≡ Some flow → t < inputs.instants → KeepsTypes flat inputs σ i t flow
+pub keeps_types : (flat : FlatView) (inputs : InputsView) (σ : Streams) → IsOrdered flat → IsSound flat → IsFit flat inputs → IsSolution flat inputs σ → (i t : ℕ) (flow : Flow) → flow_at flat i ≡ Some flow → t < inputs.instants → KeepsTypes flat inputs σ i t flow
 keeps_types flat inputs σ ordered sound fit sol i t flow is lt =
     let all = tidy flat inputs σ ordered sound fit sol in
     let here = all i t (slice_get_within flat.flows i flow is) lt flow is in
@@ -46,6 +46,6 @@ keeps_types flat inputs σ ordered sound fit sol i t flow is lt =
 stuck_no : (B : Type 0) (s : Kind) (e : Bool) (was : Option Bool) (v : Outcome) → IsTidyOutcome B s e was v → v ≡ Stuck → B → ⊥
 stuck_no B s e was v h is b = (subst (IsTidyOutcome B s e was) is h) b
 
-pub stuck_broken : (flat : FlatProgram) (inputs : Table) (σ : Streams) → IsOrdered flat → IsSound flat → IsFit flat inputs → IsSolution flat inputs σ → (i t : ℕ) (flow : Flow) → flow_at flat i ≡ Some flow → t < inputs.instants → clock_at inputs σ flow.clock t ≡ Some true → value_at inputs σ flow.clock flow.form t ≡ Stuck → IsUnbroken σ flow.clock flow.form t → ⊥
+pub stuck_broken : (flat : FlatView) (inputs : InputsView) (σ : Streams) → IsOrdered flat → IsSound flat → IsFit flat inputs → IsSolution flat inputs σ → (i t : ℕ) (flow : Flow) → flow_at flat i ≡ Some flow → t < inputs.instants → clock_at inputs σ flow.clock t ≡ Some true → value_at inputs σ flow.clock flow.form t ≡ Stuck → IsUnbroken σ flow.clock flow.form t → ⊥
 stuck_broken flat inputs σ ordered sound fit sol i t flow is lt on stuck b =
     stuck_no (IsUnbroken σ flow.clock flow.form t) flow.kind (sound.class i) (ticked (clock_at inputs σ flow.clock) t) (value_at inputs σ flow.clock flow.form t) (outcome flat inputs σ ordered sound fit sol i t flow is lt on) stuck b

@@ -14,7 +14,7 @@ use Rattle.luflow.specs.declared.form.Clock.TheVariants.{Base, On}
 use Rattle.luflow.specs.declared.form.Form.{Form}
 use Rattle.luflow.specs.declared.form.Form.TheVariants.{Input, Constant, Copied, Unary, Binary, If, Pre, Arrow, When, Current, Merge}
 use Rattle.luflow.specs.declared.form.Flow.{Flow}
-use Rattle.luflow.specs.Program.{FlatProgram, Table, flow_at, flows_of, places, clock_reads, form_reads, reads, IsOrdered}
+use Rattle.luflow.specs.Program.{FlatView, InputsView, flow_at, flows_of, places, clock_reads, form_reads, reads, IsOrdered}
 use Rattle.luflow.specs.declared.form.Outcome.TheVariants.{Gives}
 use Rattle.luflow.specs.Operators.{single_sort, fits, single_of, double_of}
 use Rattle.luflow.specs.Streams.{Mark, Known, Broken, Streams, datum_of, is_value, truth_in, clock_at, either, ticked, before}
@@ -55,7 +55,7 @@ slow_ok s e ea was was' m None r le slow nb = λ b. nb b r
 slow_ok s e ea was was' m (Some d) r le slow nb = (r.0, λ n. (le (r.1 n).0, slow (r.1 n).1))
 
 -- what surrounds a flow whose clock is true at t
-pub record Around (flat : FlatProgram) (inputs : Table) (class : ℕ → Bool) (σ : Streams) (k : Clock) (form : Form) (t : ℕ) : Type 0 where
+pub record Around (flat : FlatView) (inputs : InputsView) (class : ℕ → Bool) (σ : Streams) (k : Clock) (form : Form) (t : ℕ) : Type 0 where
   pub within : t < inputs.instants
   pub places_in : All (λ r. r < flows_of flat) (places form)
   pub clocks_in : All (λ r. r < flows_of flat) (clock_reads k)
@@ -64,7 +64,7 @@ pub record Around (flat : FlatProgram) (inputs : Table) (class : ℕ → Bool) (
   pub then : (r u : ℕ) → r < flows_of flat → u < t → IsTidy flat inputs class σ r u
   pub on : clock_at inputs σ k t ≡ Some true
 
-module _ (flat : FlatProgram) (inputs : Table) (class : ℕ → Bool) (σ : Streams) where
+module _ (flat : FlatView) (inputs : InputsView) (class : ℕ → Bool) (σ : Streams) where
   on_read : (k : Clock) (s : Kind) (r t : ℕ) → IsOn flat k s r → IsTidy flat inputs class σ r t → clock_at inputs σ k t ≡ Some true → Reads s (class r) (ticked (clock_at inputs σ k) t) (σ r t) (datum_of (σ r t))
   on_read k s r t on tidy h =
       operand s (class r) (ticked (clock_at inputs σ k) t) (σ r t)
@@ -206,10 +206,10 @@ module _ (flat : FlatProgram) (inputs : Table) (class : ℕ → Bool) (σ : Stre
     value_ok k s e (Merge c xs) t fits cf fit around = merge_ok k s e c xs t (σ c t) refl fits around
 
 -- tidy at the first m points, instant by instant and by rank
-pub record TidyTo (flat : FlatProgram) (inputs : Table) (class : ℕ → Bool) (σ : Streams) (m : ℕ) : Type 0 where
+pub record TidyTo (flat : FlatView) (inputs : InputsView) (class : ℕ → Bool) (σ : Streams) (m : ℕ) : Type 0 where
   pub at : (q u : ℕ) → q < length flat.order → u < inputs.instants → u * length flat.order + q < m → IsTidy flat inputs class σ (slice_index flat.order q) u
 
-module _ (flat : FlatProgram) (inputs : Table) (σ : Streams) (ordered : IsOrdered flat) (sound : IsSound flat) (fit : IsFit flat inputs) (sol : IsSolution flat inputs σ) where
+module _ (flat : FlatView) (inputs : InputsView) (σ : Streams) (ordered : IsOrdered flat) (sound : IsSound flat) (fit : IsFit flat inputs) (sol : IsSolution flat inputs σ) where
   earlier : (m q u : ℕ) → u < inputs.instants → TidyTo flat inputs sound.class σ m → u * length flat.order + q ≤ m → (r v : ℕ) → r < flows_of flat → v < u → IsTidy flat inputs sound.class σ r v
   earlier m q u lu tidy le r v lr l =
       let w = rank_of flat ordered r lr in

@@ -16,7 +16,7 @@ use Rattle.lutree.specs.declared.program.Kind.{Kind}
 use Rattle.luflow.specs.declared.form.Form.TheVariants.{Input, Constant, Unary, Binary, Pre, Arrow, When}
 use Rattle.luflow.specs.declared.form.Flow.{Flow}
 use Rattle.luflow.specs.declared.variable.Role.TheVariants as role
-use Rattle.luflow.specs.Program.{FlatProgram, Table, IsOrdered, flow_at, flows_of, column_of}
+use Rattle.luflow.specs.Program.{FlatView, InputsView, IsOrdered, flow_at, flows_of, column_of}
 use Rattle.luflow.specs.Rank.{reads_of}
 use Rattle.luflow.specs.Streams.{Known, clock_at}
 use Rattle.luflow.specs.Values.{under, value_at}
@@ -43,7 +43,7 @@ division_ordered : IsOrdered division
 division_ordered = ordered division refl refl refl refl refl refl
 
 -- flow r has this form
-there : {flat : FlatProgram} {k : Clock} {s : Kind} {r : ℕ} (form : Form) → flow_at flat r ≡ Some (record { form = form; clock = k; kind = s }) → IsOn flat k s r
+there : {flat : FlatView} {k : Clock} {s : Kind} {r : ℕ} (form : Form) → flow_at flat r ≡ Some (record { form = form; clock = k; kind = s }) → IsOn flat k s r
 there form e = record { form = form; there = e }
 
 -- a class that is never nil, and one that may be
@@ -53,10 +53,10 @@ never e = cc
 may : {c : Bool} → AtMost c true
 may e = refl
 
-abbrev IsInputThere : FlatProgram → ℕ → Flow → Type 0
+abbrev IsInputThere : FlatView → ℕ → Flow → Type 0
 IsInputThere flat i flow = (c : ℕ) → flow.form ≡ Input c → (c ≡ i) × (x : Variable) × (slice_get flat.variables i ≡ Some x) × (x.role ≡ role.Input)
 
-abbrev IsInputFlow : FlatProgram → ℕ → Variable → Type 0
+abbrev IsInputFlow : FlatView → ℕ → Variable → Type 0
 IsInputFlow flat v x = x.role ≡ role.Input → (flow : Flow) × (flow_at flat v ≡ Some flow) × (flow.form ≡ Input v) × (flow.kind ≡ x.kind)
 
 -- `pre` and the sum may be nil at first
@@ -137,7 +137,7 @@ counters_worked =
     }
 
 -- what is on the base clock is absent after the table
-ends : (flat : FlatProgram) (inputs : Table) (i t : ℕ) (flow : Flow) → IsOrdered flat → flow_at flat i ≡ Some flow → flow.clock ≡ Base → inputs.instants ≤ t → solution flat inputs i t ≡ Known Absent
+ends : (flat : FlatView) (inputs : InputsView) (i t : ℕ) (flow : Flow) → IsOrdered flat → flow_at flat i ≡ Some flow → flow.clock ≡ Base → inputs.instants ≤ t → solution flat inputs i t ≡ Known Absent
 ends flat inputs i t flow ordered is base le =
     let σ = solution flat inputs in
     let v = value_at inputs σ flow.clock flow.form t in

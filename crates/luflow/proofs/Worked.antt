@@ -13,7 +13,7 @@ use Rattle.luflow.specs.declared.data.Datum.{Datum}
 use Rattle.luflow.specs.declared.data.Datum.TheVariants.{Int, Bool as Truth, Name, Nil}
 use Rattle.luflow.specs.declared.form.Flow.{Flow}
 use Rattle.luflow.specs.declared.variable.Variable.{Variable}
-use Rattle.luflow.specs.Program.{FlatProgram, Table, IsOrdered, flow_at, flows_of, places, clock_reads, reads}
+use Rattle.luflow.specs.Program.{FlatView, InputsView, IsOrdered, flow_at, flows_of, places, clock_reads, reads}
 use Rattle.luflow.specs.Flats.{IsTypeAmong, IsWithin}
 use Rattle.luflow.specs.Rank.{has, is_ready, IsNext, IsRankOrder}
 use Rattle.luflow.specs.Sound.{IsConstantOf}
@@ -84,11 +84,11 @@ abbrev pub on_flow : (Flow → Bool) → Option Flow → Bool
 on_flow p None = true
 on_flow p (Some flow) = p flow
 
-pub flow_passes : (flat : FlatProgram) (p : ℕ → Flow → Bool) → passes (λ i. on_flow (p i) (flow_at flat i)) (flows_of flat) ≡ true → (i : ℕ) (flow : Flow) → flow_at flat i ≡ Some flow → p i flow ≡ true
+pub flow_passes : (flat : FlatView) (p : ℕ → Flow → Bool) → passes (λ i. on_flow (p i) (flow_at flat i)) (flows_of flat) ≡ true → (i : ℕ) (flow : Flow) → flow_at flat i ≡ Some flow → p i flow ≡ true
 flow_passes flat p h i flow e = sym (ap (on_flow (p i)) e) ∙ pass_at (λ i. on_flow (p i) (flow_at flat i)) (flows_of flat) i h (slice_get_within flat.flows i flow e)
 
 -- the names of a flow are places, and the order has each place once, after what it reads
-module _ (flat : FlatProgram) where
+module _ (flat : FlatView) where
   abbrev are_in : ℕ → List ℕ → Bool
   are_in n xs = list_all (λ r. nat_lt r n) xs
 
@@ -186,5 +186,5 @@ column s ds h t l =
     (x.0, x.1, subst (IsConstantOf s) i (all_where (is_constant s) (IsConstantOf s) ds (constant_is s) h t x.0 l))
 
 -- each column has a value for each instant
-pub columns_long : (inputs : Table) → list_all (λ c. nat_eq (length c.values) inputs.instants) inputs.columns ≡ true → All (λ c. length c.values ≡ inputs.instants) inputs.columns
+pub columns_long : (inputs : InputsView) → list_all (λ c. nat_eq (length c.values) inputs.instants) inputs.columns ≡ true → All (λ c. length c.values ≡ inputs.instants) inputs.columns
 columns_long inputs h = all_where (λ c. nat_eq (length c.values) inputs.instants) (λ c. length c.values ≡ inputs.instants) inputs.columns (λ c e. eqb-true (length c.values) inputs.instants e) h

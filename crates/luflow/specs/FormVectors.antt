@@ -1,6 +1,7 @@
 -- What each form gives at four instants where a stream that it looks at breaks, and what a link
 -- carries of such streams; worked out by hand from what the language says of the forms.
-use Rattle.std.specs.Prelude.{◌≡◌, ℕ, zero, suc, Bool, true, false, List, [], ◌∷◌, map, pos, negsuc, Option, Some, None, codes, replicate}
+use Rattle.std.specs.Prelude.{◌≡◌, ℕ, zero, suc, Bool, true, false, List, [], ◌∷◌, map, pos, negsuc, Option}
+use Rattle.std.specs.Prelude.{Some, None, codes, replicate}
 use Rattle.std.specs.List.{range_with_len}
 use Rattle.lutree.specs.declared.expr.UnaryOperator.TheVariants.{Minus}
 use Rattle.lutree.specs.declared.expr.BinaryOperator.TheVariants.{Subtract}
@@ -10,26 +11,28 @@ use Rattle.luflow.specs.declared.data.Status.TheVariants.{Absent, Present}
 use Rattle.luflow.specs.declared.form.Clock.{Clock}
 use Rattle.luflow.specs.declared.form.Clock.TheVariants.{Base, On}
 use Rattle.luflow.specs.declared.form.Form.{Form}
-use Rattle.luflow.specs.declared.form.Form.TheVariants.{Copied, Unary, Binary, If, Pre, Arrow, When, Current, Merge}
+use Rattle.luflow.specs.declared.form.Form.TheVariants.{Copied, Unary, Binary, If, Pre, Arrow, When, Current}
+use Rattle.luflow.specs.declared.form.Form.TheVariants.{Merge}
 use Rattle.luflow.specs.declared.message.Msg.{Msg}
 use Rattle.luflow.specs.declared.message.Body.TheVariants.{Value, Close}
-use Rattle.luflow.specs.Program.{Table}
+use Rattle.luflow.specs.Program.{InputsView}
 use Rattle.luflow.specs.Streams.{Mark, Known, Broken, Stream, Streams, clock_at, ticked, before}
 use Rattle.luflow.specs.Messages.{marks, messages, presents}
 use Rattle.luflow.specs.Solution.{says, solution}
-use Rattle.luflow.specs.Vectors.{known, known_truth, known_name, ints, number, division, sampled_sum, IsWorked}
+use Rattle.luflow.specs.Vectors.{known, known_truth, known_name, ints, number, division, sampled_sum}
+use Rattle.luflow.specs.Vectors.{IsWorked}
 
 -- STREAMS
 
 -- four instants, and no input
-abbrev pub four_instants : Table
+abbrev pub four_instants : InputsView
 four_instants = record { instants = 4; columns = [] }
 
 -- a stream by its first marks, absent after them
-abbrev pub told : List Mark → Stream
-told [] t = Known Absent
-told (m ∷ ms) zero = m
-told (m ∷ ms) (suc t) = told ms t
+abbrev pub reported : List Mark → Stream
+reported [] t = Known Absent
+reported (m ∷ ms) zero = m
+reported (m ∷ ms) (suc t) = reported ms t
 
 -- a mark that is absent, and one that is nil
 abbrev pub none : Mark
@@ -45,8 +48,8 @@ abbrev pub no : Mark
 no = known_truth false
 
 abbrev pub listed : List (List Mark) → Streams
-listed [] i = told []
-listed (ms ∷ rows) zero = told ms
+listed [] i = reported []
+listed (ms ∷ rows) zero = reported ms
 listed (ms ∷ rows) (suc i) = listed rows i
 
 -- 0 whole      1 2 3 4
@@ -104,8 +107,8 @@ on_idle = given (On 9 (Truth true))
 -- CLOCKS
 
 -- what a clock says at four instants, and whether it was true before each of them
-abbrev pub told_by : Clock → List (Option Bool)
-told_by k = map (clock_at four_instants streams k) (range_with_len 0 4)
+abbrev pub reported_by : Clock → List (Option Bool)
+reported_by k = map (clock_at four_instants streams k) (range_with_len 0 4)
 
 abbrev pub ticked_by : Clock → List (Option Bool)
 ticked_by k = map (ticked (clock_at four_instants streams k)) (range_with_len 0 4)
@@ -117,17 +120,18 @@ pub record ClocksAre : Type 0 where
   -- the base clock ends with the table
   pub base_ends : map (clock_at four_instants streams Base) (range_with_len 0 5) ≡
       map sure (true ∷ true ∷ true ∷ true ∷ false ∷ [])
-  pub of_true : told_by (On 2 (Truth true)) ≡ map sure (true ∷ false ∷ true ∷ true ∷ [])
-  pub of_false : told_by (On 2 (Truth false)) ≡ map sure (false ∷ true ∷ false ∷ false ∷ [])
+  pub of_true : reported_by (On 2 (Truth true)) ≡ map sure (true ∷ false ∷ true ∷ true ∷ [])
+  pub of_false : reported_by (On 2 (Truth false)) ≡ map sure (false ∷ true ∷ false ∷ false ∷ [])
   -- broken where its variable is, whatever its sign, and both signs are false where it is absent
-  pub of_lost : told_by (On 3 (Truth true)) ≡ Some true ∷ None ∷ Some true ∷ Some true ∷ []
-  pub of_lost_turned : told_by (On 3 (Truth false)) ≡ Some false ∷ None ∷ Some false ∷ Some false ∷ []
+  pub of_lost : reported_by (On 3 (Truth true)) ≡ Some true ∷ None ∷ Some true ∷ Some true ∷ []
+  pub of_lost_turned : reported_by (On 3 (Truth false)) ≡ Some false ∷ None ∷ Some false ∷ Some false ∷ []
   pub of_absent : map (λ b. clock_at four_instants (listed []) (On 0 (Truth b)) 0) (true ∷ false ∷ []) ≡
       map sure (false ∷ false ∷ [])
-  -- on a name: true where the variable has it, false where it has another or is absent, broken where it is broken
-  pub of_name : told_by (On 10 (Name 1)) ≡ Some false ∷ Some false ∷ Some true ∷ None ∷ []
-  pub of_last_name : told_by (On 10 (Name 2)) ≡ Some false ∷ Some true ∷ Some false ∷ None ∷ []
-  pub of_slow_name : told_by (On 11 (Name 0)) ≡ map sure (false ∷ false ∷ false ∷ true ∷ [])
+  -- on a name: true where the variable has it, false where it has another or is absent, broken where it is
+  -- broken
+  pub of_name : reported_by (On 10 (Name 1)) ≡ Some false ∷ Some false ∷ Some true ∷ None ∷ []
+  pub of_last_name : reported_by (On 10 (Name 2)) ≡ Some false ∷ Some true ∷ Some false ∷ None ∷ []
+  pub of_slow_name : reported_by (On 11 (Name 0)) ≡ map sure (false ∷ false ∷ false ∷ true ∷ [])
   -- true before: not at the first instant, and not known where it broke before, even if it was true
   pub base_before : ticked_by Base ≡ map sure (false ∷ true ∷ true ∷ true ∷ [])
   pub true_before : ticked_by (On 2 (Truth false)) ≡ map sure (false ∷ false ∷ true ∷ true ∷ [])
@@ -241,7 +245,7 @@ pub record MessagesAre : Type 0 where
   pub of_spent : carried (streams 8) 4 ≡ []
   pub before_the_break : carried (streams 5) 2 ≡ value_no 0 1 ∷ close_no 1 ∷ []
   -- where it is never present, and where there are no instants, the close alone, even if it would break
-  pub of_absent : carried (told []) 4 ≡ close_no 0 ∷ []
+  pub of_absent : carried (reported []) 4 ≡ close_no 0 ∷ []
   pub of_no_instants : carried (streams 0) 0 ≡ close_no 0 ∷ []
   pub of_spent_and_no_instants : carried (streams 8) 0 ≡ close_no 0 ∷ []
   -- how often a stream is present before an instant
@@ -251,7 +255,7 @@ pub record MessagesAre : Type 0 where
 -- SOLUTIONS
 
 -- x is 1, 0, 1, 2
-abbrev pub one_zero_one_two : Table
+abbrev pub one_zero_one_two : InputsView
 one_zero_one_two =
     record {
       instants = 4;
@@ -262,7 +266,7 @@ abbrev pub divided : ℕ → List Mark
 divided i = marks (solution division one_zero_one_two i) 4
 
 -- no instant of x and c
-abbrev pub no_samples : Table
+abbrev pub no_samples : InputsView
 no_samples =
     record {
       instants = 0;

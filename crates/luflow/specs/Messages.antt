@@ -25,7 +25,8 @@ is_whole [] = true
 is_whole (Broken ∷ ms) = false
 is_whole (Known x ∷ ms) = is_whole ms
 
--- What a link carries of a stream: its clean list, a value for each datum, and a close behind it only where no mark is broken.
+-- What a link carries of a stream: its clean list, a value for each datum, and a close behind it only where
+-- no mark is broken.
 abbrev pub carried_bodies : List Mark → List Body
 carried_bodies ms = map Value (clean_list ms) ++ cond (is_whole ms) (Close ∷ []) []
 

@@ -1,8 +1,12 @@
 -- The data operators: what each takes and gives, in whole numbers, and where it is a fault.
 --
--- One table for each kind of operator: its types (`single_sort`; `asks`, `makes`), and what it gives at data that are not nil
--- (`at_int`, `at_truth`; `at_ints`, `at_truths`, `at_names`). All else here goes by what an operator gives, and names none.
-use Rattle.std.specs.Prelude.{◌≢◌, zero, suc, Bool, true, false, not, ◌&&◌, ◌||◌, if◌then◌else◌, Option, Some, None, List, codes, ℕ, nat_eq, ℤ, pos, negsuc, ◌+ℤ◌, ◌-ℤ◌, ◌*ℤ◌, neg_ℤ, int_le, int_lt, int_div, FitsSigned}
+-- One table for each kind of operator: its types (`single_sort`; `asks`, `makes`), and what it gives at data
+-- that are not nil
+-- (`at_int`, `at_truth`; `at_ints`, `at_truths`, `at_names`). All else here goes by what an operator gives,
+-- and names none.
+use Rattle.std.specs.Prelude.{◌≢◌, zero, suc, Bool, true, false, not, ◌&&◌, ◌||◌, if◌then◌else◌, Option, Some}
+use Rattle.std.specs.Prelude.{None, List, codes, ℕ, nat_eq, ℤ, pos, negsuc, ◌+ℤ◌, ◌-ℤ◌, ◌*ℤ◌, neg_ℤ, int_le}
+use Rattle.std.specs.Prelude.{int_lt, int_div, FitsSigned}
 use Rattle.std.specs.Int.{w64}
 use Rattle.luflow.specs.declared.data.Datum.{Datum}
 use Rattle.luflow.specs.declared.data.Datum.TheVariants.{Int, Bool as Truth, Name, Nil}
@@ -11,7 +15,9 @@ use Rattle.lutree.specs.declared.program.Kind.TheVariants.{Int as Ints, Bool as 
 use Rattle.lutree.specs.declared.expr.UnaryOperator.{UnaryOperator}
 use Rattle.lutree.specs.declared.expr.UnaryOperator.TheVariants.{Minus, Not}
 use Rattle.lutree.specs.declared.expr.BinaryOperator.{BinaryOperator}
-use Rattle.lutree.specs.declared.expr.BinaryOperator.TheVariants.{Add, Subtract, Multiply, Divide, Modulo, Less, LessEqual, Greater, GreaterEqual, Equal, Unequal, And, Or, Xor, Implies}
+use Rattle.lutree.specs.declared.expr.BinaryOperator.TheVariants.{Add, Subtract, Multiply, Divide, Modulo}
+use Rattle.lutree.specs.declared.expr.BinaryOperator.TheVariants.{Less, LessEqual, Greater, GreaterEqual}
+use Rattle.lutree.specs.declared.expr.BinaryOperator.TheVariants.{Equal, Unequal, And, Or, Xor, Implies}
 use Rattle.luflow.specs.declared.form.FaultKind.{FaultKind}
 use Rattle.luflow.specs.declared.form.FaultKind.TheVariants.{Overflow, DivZero}
 use Rattle.luflow.specs.declared.form.Outcome.{Outcome}
@@ -64,7 +70,8 @@ takes op s = allows (asks op) s
 
 -- VALUES
 
--- What an operator gives at data that are not nil, in whole numbers: a whole number; a whole number by a division, with its
+-- What an operator gives at data that are not nil, in whole numbers: a whole number; a whole number by a
+-- division, with its
 -- divisor; a truth value; or nothing, where the operator takes no such data.
 pub data Exact : Type 0 where
   whole : ℤ → Exact
@@ -199,7 +206,8 @@ choice_of c x y = if is_nil c || (is_nil x || is_nil y) then Gives Nil else pick
 
 -- FAULTS
 
--- in the words of the language, a fault at what an operator gives: a divisor that is zero, or a whole number, by a division
+-- in the words of the language, a fault at what an operator gives: a divisor that is zero, or a whole number,
+-- by a division
 -- with another divisor or by none, that 64 bits do not hold
 pub data IsFaultAt : Exact → FaultKind → Type 0 where
   ZeroDivisor : (z : ℤ) → IsFaultAt (divided (pos 0) z) DivZero

@@ -1,10 +1,11 @@
 -- The order of ranks, and chains of reads.
-use Rattle.std.specs.Prelude.{◌≡◌, ℕ, ◌<◌, ◌==◌, Bool, true, false, not, ◌&&◌, List, [], length, take, map, Some, slice_get, unwrap_or}
+use Rattle.std.specs.Prelude.{◌≡◌, ℕ, ◌<◌, ◌==◌, Bool, true, false, not, ◌&&◌, List, [], length, take, map}
+use Rattle.std.specs.Prelude.{Some, slice_get, unwrap_or}
 use Rattle.std.specs.List.{list_any, list_all}
-use Rattle.luflow.specs.Program.{FlatProgram, reads}
+use Rattle.luflow.specs.Program.{FlatView, reads}
 
 -- what each flow reads at the same instant, by place
-abbrev pub reads_of : FlatProgram → List (List ℕ)
+abbrev pub reads_of : FlatView → List (List ℕ)
 reads_of flat = map reads flat.flows
 
 abbrev pub has : List ℕ → ℕ → Bool

@@ -8,17 +8,19 @@ use Rattle.lutree.specs.declared.program.Kind.TheVariants.{Int as Ints, Bool as 
 use Rattle.luflow.specs.declared.data.Datum.{Datum}
 use Rattle.luflow.specs.declared.data.Datum.TheVariants.{Int, Bool as Truth, Name, Nil}
 use Rattle.luflow.specs.declared.form.Form.{Form}
-use Rattle.luflow.specs.declared.form.Form.TheVariants.{Input, Copied, Unary, Binary, If, Pre, Arrow, When, Current, Merge}
+use Rattle.luflow.specs.declared.form.Form.TheVariants.{Input, Copied, Unary, Binary, If, Pre, Arrow, When}
+use Rattle.luflow.specs.declared.form.Form.TheVariants.{Current, Merge}
 use Rattle.luflow.specs.declared.variable.Enum.{Enum}
 use Rattle.luflow.specs.declared.variable.Variable.{Variable}
 use Rattle.luflow.specs.declared.variable.Role.TheVariants as role
-use Rattle.luflow.specs.Program.{FlatProgram, Column, IsOrdered, places, reads}
+use Rattle.luflow.specs.Program.{FlatView, Column, IsOrdered, places, reads}
 use Rattle.luflow.specs.Rank.{IsRankOrder, reads_of}
 use Rattle.luflow.specs.Flats.{IsTypeAmong}
 use Rattle.luflow.specs.Types.{names_of}
 use Rattle.luflow.specs.Tables.{AreColumnsOf, IsTable}
 use Rattle.luflow.specs.Variables.{inputs_of, outputs_of, variable_name, is_output_of}
-use Rattle.luflow.specs.Vectors.{int_flow, sampled_flow, number, ints, int_variable, truth_variable, sampled_sum, three_names, of_three, three_ways}
+use Rattle.luflow.specs.Vectors.{int_flow, sampled_flow, number, ints, int_variable, truth_variable}
+use Rattle.luflow.specs.Vectors.{sampled_sum, three_names, of_three, three_ways}
 
 -- READS
 
@@ -54,7 +56,7 @@ pub record ReadsAre : Type 0 where
 -- ORDERS
 
 -- the sampled sum in another order
-abbrev pub reordered : List ℕ → FlatProgram
+abbrev pub reordered : List ℕ → FlatView
 reordered order =
     record {
       types = [];

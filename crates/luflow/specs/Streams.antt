@@ -1,15 +1,17 @@
 -- Streams: what a flow has at each instant, and what its past is.
-use Rattle.std.specs.Prelude.{ℕ, zero, suc, Bool, true, false, ◌||◌, not, cond, Option, Some, None, nat_lt, nat_eq}
+use Rattle.std.specs.Prelude.{ℕ, zero, suc, Bool, true, false, ◌||◌, not, cond, Option, Some, None, nat_lt}
+use Rattle.std.specs.Prelude.{nat_eq}
 use Rattle.luflow.specs.declared.data.Datum.{Datum}
 use Rattle.luflow.specs.declared.data.Datum.TheVariants.{Int, Bool as Truth, Name, Nil}
 use Rattle.luflow.specs.declared.data.Status.{Status}
 use Rattle.luflow.specs.declared.data.Status.TheVariants.{Absent, Present}
 use Rattle.luflow.specs.declared.form.Clock.{Clock}
 use Rattle.luflow.specs.declared.form.Clock.TheVariants.{Base, On}
-use Rattle.luflow.specs.Program.{Table}
+use Rattle.luflow.specs.Program.{InputsView}
 use Rattle.luflow.specs.Operators.{int_same}
 
--- A status, or what a fault leaves. (Lustre: a flow is a sequence of values with a clock; "broken" stands for what a fault leaves.)
+-- A status, or what a fault leaves. (Lustre: a flow is a sequence of values with a clock; "broken" stands for
+-- what a fault leaves.)
 pub data Mark : Type 0 where
   Known : Status → Mark
   Broken : Mark
@@ -59,10 +61,10 @@ truth_in d (Known Absent) = Some false
 truth_in d (Known (Present x)) = Some (is_value d x)
 
 -- the base clock of the main node: true at every instant of the table, and never after it
-abbrev pub base_clock : Table → Ticks
+abbrev pub base_clock : InputsView → Ticks
 base_clock inputs t = Some (nat_lt t inputs.instants)
 
-abbrev pub clock_at : Table → Streams → Clock → Ticks
+abbrev pub clock_at : InputsView → Streams → Clock → Ticks
 clock_at inputs σ Base t = base_clock inputs t
 clock_at inputs σ (On c d) t = truth_in d (σ c t)
 

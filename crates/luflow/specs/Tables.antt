@@ -7,7 +7,7 @@ use Rattle.luflow.specs.declared.data.Status.{Status}
 use Rattle.luflow.specs.declared.values.Values.{Values}
 use Rattle.luflow.specs.declared.variable.Variable.{Variable}
 use Rattle.luflow.specs.Packed.{data_in}
-use Rattle.luflow.specs.Program.{FlatProgram, Table, Column}
+use Rattle.luflow.specs.Program.{FlatView, InputsView, Column}
 use Rattle.luflow.specs.Sound.{IsConstantOf, IsFit}
 use Rattle.luflow.specs.Flats.{IsFlat}
 use Rattle.luflow.specs.Variables.{inputs_of}
@@ -19,11 +19,12 @@ abbrev pub columns_view : List (String Global × Values) → List Column
 columns_view xs = map column_view xs
 
 -- at most as many instants as a table may have, and each column has a value for each of them
-pub record IsTable (table : Table) : Type 0 where
+pub record IsTable (table : InputsView) : Type 0 where
   pub few : table.instants ≤ most_instants
   pub long : All (λ column. length column.values ≡ table.instants) table.columns
 
--- The columns are those of these inputs, in order: of the input's name, and with a value of its type, never nil, at each instant.
+-- The columns are those of these inputs, in order: of the input's name, and with a value of its type, never
+-- nil, at each instant.
 abbrev pub AreColumnsOf : List Variable → List Column → Type 0
 AreColumnsOf [] [] = Unit {0}
 AreColumnsOf [] (c ∷ cs) = ⊥
@@ -31,12 +32,13 @@ AreColumnsOf (x ∷ xs) [] = ⊥
 AreColumnsOf (x ∷ xs) (c ∷ cs) = (c.name ≡ x.name) × All (IsConstantOf x.kind) c.values × AreColumnsOf xs cs
 
 -- a table of a flat program's inputs
-abbrev pub Fits : FlatProgram → Table → Type 0
-Fits flat inputs = AreColumnsOf (inputs_of flat.variables) inputs.columns
+abbrev pub FitsProgram : FlatView → InputsView → Type 0
+FitsProgram flat inputs = AreColumnsOf (inputs_of flat.variables) inputs.columns
 
 -- what such a table gives to the flows that read it
-abbrev pub FitsLaw : Type 0
-FitsLaw = (flat : FlatProgram) (inputs : Table) → IsFlat flat → IsTable inputs → Fits flat inputs → IsFit flat inputs
+abbrev pub FitsProgramLaw : Type 0
+FitsProgramLaw = (flat : FlatView) (inputs : InputsView) → IsFlat flat → IsTable inputs
+    → FitsProgram flat inputs → IsFit flat inputs
 
 -- an output: its name, and what it has at each instant
 pub record OutputColumn : Type 0 where

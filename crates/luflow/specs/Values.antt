@@ -5,14 +5,16 @@ use Rattle.luflow.specs.declared.data.Datum.TheVariants.{Int, Bool as Truth, Nam
 use Rattle.luflow.specs.declared.data.Status.TheVariants.{Present, Absent}
 use Rattle.luflow.specs.declared.form.Clock.{Clock}
 use Rattle.luflow.specs.declared.form.Form.{Form}
-use Rattle.luflow.specs.declared.form.Form.TheVariants.{Input, Constant, Copied, Unary, Binary, If, Pre, Arrow, When, Current, Merge}
+use Rattle.luflow.specs.declared.form.Form.TheVariants.{Input, Constant, Copied, Unary, Binary, If, Pre}
+use Rattle.luflow.specs.declared.form.Form.TheVariants.{Arrow, When, Current, Merge}
 use Rattle.luflow.specs.declared.form.Outcome.{Outcome}
 use Rattle.luflow.specs.declared.form.Outcome.TheVariants.{Gives, Faults, Stuck}
-use Rattle.luflow.specs.Program.{Table, column_of}
+use Rattle.luflow.specs.Program.{InputsView, column_of}
 use Rattle.luflow.specs.Operators.{single_of, double_of, choice_of}
 use Rattle.luflow.specs.Streams.{Mark, Known, Broken, Streams, datum_of, clock_at, ticked, before}
 
--- What a value may look at: an input's datum, a flow's datum now, its last datum up to now and before now, and whether
+-- What a value may look at: an input's datum, a flow's datum now, its last datum up to now and before now,
+-- and whether
 -- the flow's own clock was true before.
 pub record View : Type 0 where
   pub given : ℕ → Option Datum
@@ -75,7 +77,7 @@ value_of (Current a) v = gives (v.upto a)
 value_of (Merge c xs) v = merge_of (v.now c) (map v.now xs)
 
 -- what a flow on clock k looks at, read from the streams
-abbrev pub view_at : Table → Streams → Clock → ℕ → View
+abbrev pub view_at : InputsView → Streams → Clock → ℕ → View
 view_at inputs σ k t =
     record {
       given = λ c. slice_get (column_of inputs c) t;
@@ -85,7 +87,7 @@ view_at inputs σ k t =
       was = ticked (clock_at inputs σ k) t;
     }
 
-abbrev pub value_at : Table → Streams → Clock → Form → ℕ → Outcome
+abbrev pub value_at : InputsView → Streams → Clock → Form → ℕ → Outcome
 value_at inputs σ k form t = value_of form (view_at inputs σ k t)
 
 abbrev pub mark_of : Outcome → Mark

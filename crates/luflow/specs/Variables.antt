@@ -5,7 +5,7 @@ use Rattle.std.specs.Option.{option_map}
 use Rattle.luflow.specs.declared.variable.Role.{Role}
 use Rattle.luflow.specs.declared.variable.Role.TheVariants.{Input, Output, Local}
 use Rattle.luflow.specs.declared.variable.Variable.{Variable}
-use Rattle.luflow.specs.Program.{FlatProgram}
+use Rattle.luflow.specs.Program.{FlatView}
 
 abbrev pub is_input : Role → Bool
 is_input Input = true
@@ -26,9 +26,10 @@ abbrev pub outputs_of : List Variable → List Variable
 outputs_of variables = filter (λ x. is_output x.role) variables
 
 -- the name of a main variable, by its number
-abbrev pub variable_name : FlatProgram → ℕ → List ℕ
+abbrev pub variable_name : FlatView → ℕ → List ℕ
 variable_name flat v = unwrap_or (option_map (λ (x : Variable). x.name) (slice_get flat.variables v)) []
 
 -- whether a main variable is an output, by its number
-abbrev pub is_output_of : FlatProgram → ℕ → Bool
-is_output_of flat v = unwrap_or (option_map (λ (x : Variable). is_output x.role) (slice_get flat.variables v)) false
+abbrev pub is_output_of : FlatView → ℕ → Bool
+is_output_of flat v =
+    unwrap_or (option_map (λ (x : Variable). is_output x.role) (slice_get flat.variables v)) false

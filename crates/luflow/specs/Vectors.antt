@@ -10,14 +10,15 @@ use Rattle.luflow.specs.declared.data.Status.TheVariants.{Absent, Present}
 use Rattle.luflow.specs.declared.form.Clock.TheVariants.{Base, On}
 use Rattle.luflow.specs.declared.form.FaultKind.TheVariants.{DivZero}
 use Rattle.luflow.specs.declared.form.Form.{Form}
-use Rattle.luflow.specs.declared.form.Form.TheVariants.{Input, Constant, Copied, Unary, Binary, Pre, Arrow, When, Current, Merge}
+use Rattle.luflow.specs.declared.form.Form.TheVariants.{Input, Constant, Copied, Unary, Binary, Pre, Arrow}
+use Rattle.luflow.specs.declared.form.Form.TheVariants.{When, Current, Merge}
 use Rattle.luflow.specs.declared.form.Flow.{Flow}
 use Rattle.luflow.specs.declared.variable.Enum.{Enum}
 use Rattle.luflow.specs.declared.variable.Variable.{Variable}
 use Rattle.luflow.specs.declared.variable.Role.{Role}
 use Rattle.luflow.specs.declared.variable.Role.TheVariants as role
 use Rattle.luflow.specs.declared.message.Body.TheVariants.{Value}
-use Rattle.luflow.specs.Program.{FlatProgram, Table, flows_of}
+use Rattle.luflow.specs.Program.{FlatView, InputsView, flows_of}
 use Rattle.luflow.specs.Streams.{Mark, Known, Broken}
 use Rattle.luflow.specs.Messages.{marks, messages}
 use Rattle.luflow.specs.Solution.{solution}
@@ -62,7 +63,7 @@ abbrev pub known_truth : Bool → Mark
 known_truth b = Known (Present (Truth b))
 
 -- node main() returns (a: int; b: int); let a = 0 -> pre b + 1; b = 0 -> pre a + 1; tel
-abbrev pub two_counters : FlatProgram
+abbrev pub two_counters : FlatView
 two_counters =
     record {
       types = [];
@@ -76,12 +77,12 @@ two_counters =
     }
 
 -- three instants, and no input
-abbrev pub three : Table
+abbrev pub three : InputsView
 three = record { instants = 3; columns = [] }
 
 -- node main(x: int; c: bool) returns (y: int; z: int when c); var s: int when c;
 -- let s = x when c; z = 2 * s; y = x -> pre y + x; tel
-abbrev pub sampled_sum : FlatProgram
+abbrev pub sampled_sum : FlatView
 sampled_sum =
     record {
       types = [];
@@ -94,11 +95,12 @@ sampled_sum =
       owners = 0 ∷ 1 ∷ 2 ∷ 3 ∷ 4 ∷ 3 ∷ 2 ∷ 2 ∷ [];
       variables =
           int_variable role.Input (codes "x") ∷ truth_variable role.Input (codes "c")
-          ∷ int_variable role.Output (codes "y") ∷ int_variable role.Output (codes "z") ∷ int_variable role.Local (codes "s") ∷ [];
+          ∷ int_variable role.Output (codes "y") ∷ int_variable role.Output (codes "z")
+          ∷ int_variable role.Local (codes "s") ∷ [];
     }
 
 -- x is 1, 2, 3, 4, and c is true, false, true, true
-abbrev pub four_samples : Table
+abbrev pub four_samples : InputsView
 four_samples =
     record {
       instants = 4;
@@ -108,7 +110,7 @@ four_samples =
     }
 
 -- node main(x: int) returns (z: int); var y: int; p: int; let y = 1 div x; p = pre y; z = 0 -> p; tel
-abbrev pub division : FlatProgram
+abbrev pub division : FlatView
 division =
     record {
       types = [];
@@ -123,37 +125,44 @@ division =
     }
 
 -- x is 1, 0
-abbrev pub one_zero : Table
+abbrev pub one_zero : InputsView
 one_zero = record { instants = 2; columns = record { name = codes "x"; values = ints (1 ∷ 0 ∷ []) } ∷ [] }
 
 -- x is 1, 2
-abbrev pub one_two : Table
+abbrev pub one_two : InputsView
 one_two = record { instants = 2; columns = record { name = codes "x"; values = ints (1 ∷ 2 ∷ []) } ∷ [] }
 
 -- node main(x: int) returns (y: int; z: int); var c: bool; s: int when c;
--- let c = true -> not pre c; s = x when c; y = current(s); z = merge c (true -> s) (false -> 0 when not c); tel
-abbrev pub held_sample : FlatProgram
+-- let c = true -> not pre c; s = x when c; y = current(s); z = merge c (true -> s) (false -> 0 when not c);
+-- tel
+abbrev pub held_sample : FlatView
 held_sample =
     record {
       types = [];
       flows =
-          int_flow (Input 0) ∷ int_flow (Current 4) ∷ int_flow (Merge 3 (4 ∷ 9 ∷ [])) ∷ truth_flow (Arrow 5 7) ∷ sampled_flow 3 (When 0)
+          int_flow (Input 0) ∷ int_flow (Current 4) ∷ int_flow (Merge 3 (4 ∷ 9 ∷ [])) ∷ truth_flow (Arrow 5 7)
+          ∷ sampled_flow 3 (When 0)
           ∷ truth_flow (Constant (Truth true)) ∷ truth_flow (Pre 3) ∷ truth_flow (Unary Not 6)
           ∷ int_flow (number 0) ∷ record { form = When 8; clock = On 3 (Truth false); kind = Ints } ∷ [];
       order = 0 ∷ 5 ∷ 6 ∷ 7 ∷ 3 ∷ 4 ∷ 1 ∷ 8 ∷ 9 ∷ 2 ∷ [];
       owners = 0 ∷ 1 ∷ 2 ∷ 3 ∷ 4 ∷ 3 ∷ 3 ∷ 3 ∷ 2 ∷ 2 ∷ [];
       variables =
-          int_variable role.Input (codes "x") ∷ int_variable role.Output (codes "y") ∷ int_variable role.Output (codes "z")
+          int_variable role.Input (codes "x") ∷ int_variable role.Output (codes "y")
+          ∷ int_variable role.Output (codes "z")
           ∷ truth_variable role.Local (codes "c") ∷ int_variable role.Local (codes "s") ∷ [];
     }
 
 -- x is 1, 2, 3
-abbrev pub three_samples : Table
-three_samples = record { instants = 3; columns = record { name = codes "x"; values = ints (1 ∷ 2 ∷ 3 ∷ []) } ∷ [] }
+abbrev pub three_samples : InputsView
+three_samples = record {
+  instants = 3;
+  columns = record { name = codes "x"; values = ints (1 ∷ 2 ∷ 3 ∷ []) }
+      ∷ [];
+}
 
 -- node main(x: int; b: bool; d: bool) returns (c: bool when b; z: int when c); var s: int when c;
 -- let c = d when b; s = (x when b) when c; z = s; tel
-abbrev pub chained : FlatProgram
+abbrev pub chained : FlatView
 chained =
     record {
       types = [];
@@ -170,7 +179,7 @@ chained =
     }
 
 -- x is 1, 2, 3, 4, b is true, false, true, true, and d is true, true, false, true
-abbrev pub four_rows : Table
+abbrev pub four_rows : InputsView
 four_rows =
     record {
       instants = 4;
@@ -202,8 +211,9 @@ known_name k = Known (Present (Name k))
 
 -- type t = enum { Up, Down, Halt };
 -- node main(m: t; x: int) returns (y: int; b: bool; z: int when Down(m));
--- let y = merge m (Up -> x when Up(m)) (Down -> z) (Halt -> 7 when Halt(m)); b = m = Down; z = x when Down(m); tel
-abbrev pub three_ways : FlatProgram
+-- let y = merge m (Up -> x when Up(m)) (Down -> z) (Halt -> 7 when Halt(m)); b = m = Down; z = x when
+-- Down(m); tel
+abbrev pub three_ways : FlatView
 three_ways =
     record {
       types = three_names ∷ [];
@@ -220,7 +230,7 @@ three_ways =
     }
 
 -- m is Up, Halt, Down, Down, and x is 1, 2, 3, 4
-abbrev pub four_modes : Table
+abbrev pub four_modes : InputsView
 four_modes =
     record {
       instants = 4;
@@ -230,7 +240,7 @@ four_modes =
     }
 
 -- what every run asks of a program and its table
-pub record IsWorked (flat : FlatProgram) (inputs : Table) : Type 0 where
+pub record IsWorked (flat : FlatView) (inputs : InputsView) : Type 0 where
   pub flat_is : IsFlat flat
   pub table_is : IsTable inputs
   pub fit : IsFit flat inputs
@@ -249,13 +259,17 @@ pub record SumsAre : Type 0 where
   pub z : marks (solution sampled_sum four_samples 3) 4 ≡ known 2 ∷ Known Absent ∷ known 6 ∷ known 8 ∷ []
   pub s : marks (solution sampled_sum four_samples 4) 4 ≡ known 1 ∷ Known Absent ∷ known 3 ∷ known 4 ∷ []
 
--- y breaks at its second instant, where it divides by zero, and what reads it one instant later isn't broken yet
+-- y breaks at its second instant, where it divides by zero, and what reads it one instant later isn't broken
+-- yet
 pub record DivisionsAre : Type 0 where
   pub worked : IsWorked division one_zero
   pub y : marks (solution division one_zero 2) 2 ≡ known 1 ∷ Broken ∷ []
   pub p : marks (solution division one_zero 3) 2 ≡ Known (Present Nil) ∷ known 1 ∷ []
   pub z : marks (solution division one_zero 1) 2 ≡ map known (0 ∷ 1 ∷ [])
-  pub y_messages : messages 0 (marks (solution division one_zero 2) 2) ≡ record { no = 0; body = Value (Int (pos 1)) } ∷ []
+  pub y_messages : messages 0 (marks (solution division one_zero 2) 2) ≡ record {
+    no = 0;
+    body = Value (Int (pos 1));
+  } ∷ []
   pub fault : IsFault division one_zero (solution division one_zero) 2 1 DivZero
 
 -- where nothing is divided by zero

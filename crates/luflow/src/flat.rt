@@ -1,7 +1,7 @@
 //! A whole flat program.
 
 ghost use Rattle.std.specs.Prelude.{◌≡◌, ◌<◌, ◌≤◌, length, slice_get, Some, slice_index, take};
-ghost use Rattle.luflow.specs.Program.{FlatProgram};
+ghost use Rattle.luflow.specs.Program.{FlatView};
 ghost use Rattle.luflow.specs.Flats.{IsFlat};
 ghost use Rattle.luflow.specs.Types.{variable_names};
 ghost use Rattle.luflow.specs.Variables.{inputs_of, is_output_of, variable_name};
@@ -13,7 +13,7 @@ use lubase::{Name, Row};
 use std::marker::Model;
 
 /// A flat program: the flows that remain of a checked program when all calls are inlined, the main variables first. It
-/// is sound and in order of rank. A contract sees the `FlatProgram` of `specs/Program.antt`.
+/// is sound and in order of rank. A contract sees the `FlatView` of `specs/Program.antt`.
 pub struct Flat {
     types: Row<Enum>,
     flows: Row<Flow>,
@@ -36,9 +36,9 @@ impl Drop for Flat {
 }
 
 impl Model for Flat {
-    ghost use Rattle.luflow.specs.Program.{FlatProgram};
+    ghost use Rattle.luflow.specs.Program.{FlatView};
 
-    ghost Value = { FlatProgram };
+    ghost Value = { FlatView };
 
     ghost use Rattle.luflow.specs.Flats.{IsFlat};
 

@@ -1,7 +1,7 @@
 //! What holds of the definitions, as contracts of functions that do nothing.
 
 ghost use Rattle.luflow.specs.FlatLaws.{SolutionLaw, TidyLaw, StuckLaw, SplitLaw, MergeLaw, FaultLaw};
-ghost use Rattle.luflow.specs.Tables.{FitsLaw};
+ghost use Rattle.luflow.specs.Tables.{FitsProgramLaw};
 ghost use Rattle.luflow.specs.Vectors.{SolutionVectors};
 ghost use Rattle.luflow.specs.OperatorVectors.{OperatorVectors};
 ghost use Rattle.luflow.specs.FormVectors.{FormVectors};
@@ -66,5 +66,5 @@ pub fn shape_vectors_law()
 
 /// A table whose columns are the program's inputs in order gives each flow that reads it a value of its type at each instant.
 pub fn fits_law()
-    ensures { FitsLaw }
+    ensures { FitsProgramLaw }
 {}

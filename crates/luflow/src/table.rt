@@ -4,7 +4,7 @@ ghost use Rattle.std.specs.Prelude.{◌≡◌, ◌↔◌, All, IfSome, IsSome, I
 ghost use Rattle.luflow.specs.declared.data.Datum.TheVariants.{Int, Bool, Name};
 ghost use Rattle.luflow.specs.Packed.{data_in};
 ghost use Rattle.luflow.specs.Sound.{IsConstantOf, IsFit};
-ghost use Rattle.luflow.specs.Tables.{IsTable, AreColumnsOf, Fits, columns_view};
+ghost use Rattle.luflow.specs.Tables.{IsTable, AreColumnsOf, FitsProgram, columns_view};
 
 use crate::data::Datum;
 use crate::flat::Flat;
@@ -15,7 +15,7 @@ use lutree::Kind;
 use std::marker::Model;
 
 /// The table of the main node's inputs: the number of instants, and for each input, in order of declaration, a name and a
-/// value for each instant. A contract sees the `Table` of `specs/Program.antt`.
+/// value for each instant. A contract sees the `InputsView` of `specs/Program.antt`.
 #[derive(Debug)]
 pub struct Inputs {
     instants: u32,
@@ -33,9 +33,9 @@ impl Drop for Inputs {
 }
 
 impl Model for Inputs {
-    ghost use Rattle.luflow.specs.Program.{Table};
+    ghost use Rattle.luflow.specs.Program.{InputsView};
 
-    ghost Value = { Table };
+    ghost Value = { InputsView };
 
     ghost use Rattle.luflow.specs.Tables.{columns_view, IsTable};
 
@@ -170,7 +170,7 @@ impl Inputs {
     /// Whether the columns are the program's inputs in order of declaration, each of the input's name and with a value of its
     /// type at each instant; nil is none. Takes no memory; the time grows with the number of values.
     pub fn fits(&self, flat: &Flat) -> bool
-        ensures exact { IsTrue result ↔ Fits flat.now self.now }
+        ensures exact { IsTrue result ↔ FitsProgram flat.now self.now }
         ensures fit { IsTrue result → IsFit flat.now self.now }
     {
         are_columns_of(flat.inputs(), self.columns.as_slice())

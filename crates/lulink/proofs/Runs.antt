@@ -12,13 +12,13 @@ use Rattle.lulink.specs.declared.rule.EndState.{EndState}
 use Rattle.lulink.specs.declared.rule.Terms.{Terms}
 use Rattle.lulink.specs.Words.{tail_at, head_at}
 use Rattle.lulink.specs.Rings.{Linked, MovedTail, MovedHead, full_slots, free_slots}
-use Rattle.lulink.specs.Insides.{told_list, IsPutSide, IsTakeSide, HasFilled, HasEmptied}
+use Rattle.lulink.specs.Insides.{given_list, IsPutSide, IsTakeSide, HasFilled, HasEmptied}
 use Rattle.lulink.proofs.Slots.{Slots, next_of_run, run_more}
 use Rattle.lulink.proofs.Steps.{moves_tail, moves_head}
-use Rattle.lulink.proofs.Ends.{Holding, Seat, put_side_moved, take_side_moved}
+use Rattle.lulink.proofs.Ends.{Holding, SeatOfRing, put_side_moved, take_side_moved}
 
 abbrev lies : Terms → ℕ → Option Msg
-lies k i = slice_get (told_list k) i
+lies k i = slice_get (given_list k) i
 
 abbrev none_lies : ℕ → Option Msg
 none_lies i = None
@@ -58,7 +58,7 @@ module _ (at : TableId) (k : Terms) (s : PutSide) (is : IsPutSide at k s) where
     pub free_at_hand : t.seat.me.1 ≡ (t.slot, None) ∷ rest t.seat.me.1
     free_at_hand = next_of_run none_lies (lies k) k.capacity s.count s.held n t.seat.me.1 lt (ap (λ (m : Holding). m.1) has.2) ∙ (λ i. (sym has.1 i, None) ∷ rest t.seat.me.1)
 
-    pub filled_more : (u : PutSide) (x : Msg) → slice_get (told_list k) (s.count + n) ≡ Some x → u.seat.table_id ≡ t.seat.table_id → u.seat.me ≡ (t.seat.me.0, rest t.seat.me.1 ++ (t.slot, Some x) ∷ []) → u.slot ≡ (t.slot + 1) % k.capacity
+    pub filled_more : (u : PutSide) (x : Msg) → slice_get (given_list k) (s.count + n) ≡ Some x → u.seat.table_id ≡ t.seat.table_id → u.seat.me ≡ (t.seat.me.0, rest t.seat.me.1 ++ (t.slot, Some x) ∷ []) → u.slot ≡ (t.slot + 1) % k.capacity
         → u.count ≡ t.count → u.word ≡ t.word → u.held ≡ t.held → HasFilled k s (n + 1) u
     filled_more u x next table me slot count word held = (
       table ∙ has.0,
@@ -73,24 +73,24 @@ module _ (at : TableId) (k : Terms) (s : PutSide) (is : IsPutSide at k s) where
         further : s.count + n + 1 ≡ s.count + (n + 1)
         further = omega arith
 
-  pub filled_one : (seat : Seat) (x : Msg) → 0 < s.held → slice_get (told_list k) s.count ≡ Some x → seat.table_id ≡ s.seat.table_id → seat.me ≡ (s.seat.me.0, rest s.seat.me.1 ++ (s.slot, Some x) ∷ [])
+  pub filled_one : (seat : SeatOfRing) (x : Msg) → 0 < s.held → slice_get (given_list k) s.count ≡ Some x → seat.table_id ≡ s.seat.table_id → seat.me ≡ (s.seat.me.0, rest s.seat.me.1 ++ (s.slot, Some x) ∷ [])
       → HasFilled k s 1 record { seat = seat; count = s.count; slot = (s.slot + 1) % k.capacity; word = s.word; held = s.held }
   filled_one seat x any next table me =
       let first : s.count + 0 ≡ s.count = omega arith in
-      filled_more 0 s filled_none any record { seat = seat; count = s.count; slot = (s.slot + 1) % k.capacity; word = s.word; held = s.held } x (ap (slice_get (told_list k)) first ∙ next) table me refl refl refl refl
+      filled_more 0 s filled_none any record { seat = seat; count = s.count; slot = (s.slot + 1) % k.capacity; word = s.word; held = s.held } x (ap (slice_get (given_list k)) first ∙ next) table me refl refl refl refl
 
   -- the filled slots may be given back
-  pub stores_tail : (n new : ℕ) (t : PutSide) → HasFilled k s n t → new ≡ s.count + n → n ≤ s.held → s.count + n ≤ length (told_list k) → Allows (Linked k.capacity (told_list k)) at.slots t.seat.id t.seat.me tail_at (λ _. new) (λ _ w. MovedTail t.seat.me.0 (new - t.seat.me.0.count) w)
+  pub stores_tail : (n new : ℕ) (t : PutSide) → HasFilled k s n t → new ≡ s.count + n → n ≤ s.held → s.count + n ≤ length (given_list k) → Allows (Linked k.capacity (given_list k)) at.slots t.seat.id t.seat.me tail_at (λ _. new) (λ _ w. MovedTail t.seat.me.0 (new - t.seat.me.0.count) w)
   stores_tail n new t has up few within =
       let me : t.seat.me.0 ≡ s.seat.me.0 = ap (λ (m : Holding). m.0) has.2 in
       let count : t.seat.me.0.count ≡ s.count = ap (λ v. v.count) me ∙ is.count in
       let held : t.seat.me.0.held ≡ s.held = ap (λ v. v.held) me ∙ is.held in
-      moves_tail k.capacity (told_list k) at.slots t.seat.id new n t.seat.me
-      (ap (λ (m : Holding). m.1) has.2 ∙ (λ i. free_slots k.capacity (sym count i + n) (sym held i - n) ++ full_slots (told_list k) k.capacity (sym count i) n))
+      moves_tail k.capacity (given_list k) at.slots t.seat.id new n t.seat.me
+      (ap (λ (m : Holding). m.1) has.2 ∙ (λ i. free_slots k.capacity (sym count i + n) (sym held i - n) ++ full_slots (given_list k) k.capacity (sym count i) n))
       (omega arith) (omega arith) (omega arith) is.ring.slots (ap (λ v. v.role) me ∙ is.ends.0) (ap (λ v. v.left) me ∙ is.here)
 
   -- and they were
-  pub stored_tail : (n new : ℕ) (t u : PutSide) → HasFilled k s n t → new ≡ s.count + n → n ≤ s.held → s.count + n ≤ length (told_list k) → u.seat.table_id ≡ t.seat.table_id → MovedTail t.seat.me.0 (new - t.seat.me.0.count) u.seat.me
+  pub stored_tail : (n new : ℕ) (t u : PutSide) → HasFilled k s n t → new ≡ s.count + n → n ≤ s.held → s.count + n ≤ length (given_list k) → u.seat.table_id ≡ t.seat.table_id → MovedTail t.seat.me.0 (new - t.seat.me.0.count) u.seat.me
       → u.count ≡ s.count + n → u.slot ≡ (s.count + n) % k.capacity → u.word ≡ s.word → u.held ≡ s.held - n → IsPutSide at k u × (u.seat.me.0.seen ≡ s.seat.me.0.seen ++ s.word ∷ [])
   stored_tail n new t u has up few within table stored count_is place word_is held_is =
       let me : t.seat.me.0 ≡ s.seat.me.0 = ap (λ (m : Holding). m.0) has.2 in
@@ -107,7 +107,7 @@ module _ (at : TableId) (k : Terms) (s : TakeSide) (is : IsTakeSide at k s) wher
   emptied_none = (
     refl,
     is.slot ∙ ap (λ n. n % k.capacity) (omega arith),
-    (λ i. (s.seat.me.0, (is.slots ∙ (λ j. full_slots (told_list k) k.capacity (plus j) (less j)) ∙ sym (append-nil (full_slots (told_list k) k.capacity (s.count + 0) (s.held - 0)))) i)),
+    (λ i. (s.seat.me.0, (is.slots ∙ (λ j. full_slots (given_list k) k.capacity (plus j) (less j)) ∙ sym (append-nil (full_slots (given_list k) k.capacity (s.count + 0) (s.held - 0)))) i)),
     refl,
     refl,
     refl,
@@ -121,8 +121,8 @@ module _ (at : TableId) (k : Terms) (s : TakeSide) (is : IsTakeSide at k s) wher
 
   module _ (n : ℕ) (t : TakeSide) (has : HasEmptied k s n t) (lt : n < s.held) where
     -- the slot at hand
-    pub full_at_hand : t.seat.me.1 ≡ (t.slot, slice_get (told_list k) (s.count + n)) ∷ rest t.seat.me.1
-    full_at_hand = next_of_run (lies k) none_lies k.capacity s.count s.held n t.seat.me.1 lt (ap (λ (m : Holding). m.1) has.2) ∙ (λ i. (sym has.1 i, slice_get (told_list k) (s.count + n)) ∷ rest t.seat.me.1)
+    pub full_at_hand : t.seat.me.1 ≡ (t.slot, slice_get (given_list k) (s.count + n)) ∷ rest t.seat.me.1
+    full_at_hand = next_of_run (lies k) none_lies k.capacity s.count s.held n t.seat.me.1 lt (ap (λ (m : Holding). m.1) has.2) ∙ (λ i. (sym has.1 i, slice_get (given_list k) (s.count + n)) ∷ rest t.seat.me.1)
 
     pub emptied_more : (u : TakeSide) → u.seat.table_id ≡ t.seat.table_id → u.seat.me ≡ (t.seat.me.0, rest t.seat.me.1 ++ (t.slot, None) ∷ []) → u.slot ≡ (t.slot + 1) % k.capacity
         → u.count ≡ t.count → u.word ≡ t.word → u.held ≡ t.held → HasEmptied k s (n + 1) u
@@ -139,18 +139,18 @@ module _ (at : TableId) (k : Terms) (s : TakeSide) (is : IsTakeSide at k s) wher
         further : s.count + n + 1 ≡ s.count + (n + 1)
         further = omega arith
 
-  pub emptied_one : (seat : Seat) → 0 < s.held → seat.table_id ≡ s.seat.table_id → seat.me ≡ (s.seat.me.0, rest s.seat.me.1 ++ (s.slot, None) ∷ [])
+  pub emptied_one : (seat : SeatOfRing) → 0 < s.held → seat.table_id ≡ s.seat.table_id → seat.me ≡ (s.seat.me.0, rest s.seat.me.1 ++ (s.slot, None) ∷ [])
       → HasEmptied k s 1 record { seat = seat; count = s.count; slot = (s.slot + 1) % k.capacity; word = s.word; held = s.held }
   emptied_one seat any table me = emptied_more 0 s emptied_none any record { seat = seat; count = s.count; slot = (s.slot + 1) % k.capacity; word = s.word; held = s.held } table me refl refl refl refl
 
   -- the emptied slots may be given back
-  pub stores_head : (n new : ℕ) (t : TakeSide) → HasEmptied k s n t → new ≡ s.count + n → n ≤ s.held → Allows (Linked k.capacity (told_list k)) at.slots t.seat.id t.seat.me head_at (λ _. new) (λ _ w. MovedHead t.seat.me.0 (new - t.seat.me.0.count) w)
+  pub stores_head : (n new : ℕ) (t : TakeSide) → HasEmptied k s n t → new ≡ s.count + n → n ≤ s.held → Allows (Linked k.capacity (given_list k)) at.slots t.seat.id t.seat.me head_at (λ _. new) (λ _ w. MovedHead t.seat.me.0 (new - t.seat.me.0.count) w)
   stores_head n new t has up few =
       let me : t.seat.me.0 ≡ s.seat.me.0 = ap (λ (m : Holding). m.0) has.2 in
       let count : t.seat.me.0.count ≡ s.count = ap (λ v. v.count) me ∙ is.count in
       let held : t.seat.me.0.held ≡ s.held = ap (λ v. v.held) me ∙ is.held in
-      moves_head k.capacity (told_list k) at.slots t.seat.id new n t.seat.me
-      (ap (λ (m : Holding). m.1) has.2 ∙ (λ i. full_slots (told_list k) k.capacity (sym count i + n) (sym held i - n) ++ free_slots k.capacity (sym count i) n))
+      moves_head k.capacity (given_list k) at.slots t.seat.id new n t.seat.me
+      (ap (λ (m : Holding). m.1) has.2 ∙ (λ i. full_slots (given_list k) k.capacity (sym count i + n) (sym held i - n) ++ free_slots k.capacity (sym count i) n))
       (omega arith) (omega arith) is.ring.slots (ap (λ v. v.role) me ∙ is.ends.0) (ap (λ v. v.left) me ∙ is.here)
 
   -- and they were

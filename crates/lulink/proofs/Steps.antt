@@ -15,8 +15,8 @@ use Rattle.lulink.specs.Words.{top, word, number, has_left, IsFinal, WasWord, ta
 use Rattle.lulink.specs.Rings.{full_slots, free_slots, fresh, seated, Running, Unused, Linked, looked, readied, moved, departed, IsLater, SawHead, SawTail, MovedTail, MovedHead, Looked, Left}
 use Rattle.lulink.proofs.Slots.{Slots, passing, may_pass, passed_slots, passed_homes, with_back, with_back_append, with_back_length, later_slot, earlier_slot, back_else, back_here, taken_else, are_home, either_way}
 
-abbrev pub Table : Type 0
-Table = State (Option Msg) EndState
+abbrev pub RingState : Type 0
+RingState = State (Option Msg) EndState
 
 abbrev vacancy : Option Msg
 vacancy = None
@@ -62,7 +62,7 @@ at_replicate (suc n) zero h = refl
 at_replicate (suc n) (suc k) h = at_replicate n k (omega arith)
 
 -- whose seat it is
-producers : (room : ℕ) (list : List Msg) (s : Table) (id : ℕ) (v : EndState) → v.role ≡ Producer → Unused room list s ⊎ Running room list s → get_elem? s.views id ≡ some v → (r : Running room list s) × (id ≡ 0) × (r.p ≡ v)
+producers : (room : ℕ) (list : List Msg) (s : RingState) (id : ℕ) (v : EndState) → v.role ≡ Producer → Unused room list s ⊎ Running room list s → get_elem? s.views id ≡ some v → (r : Running room list s) × (id ≡ 0) × (r.p ≡ v)
 producers room list s id v is (inl f) at = let o = only (fresh room list) v id (ap (λ l. get_elem? l id) (sym f.views) ∙ at) in let e : Opener ≡ Producer = ap (λ (u : EndState). u.role) o.1 ∙ is in absurd cc
 producers room list s id v is (inr r) at =
     ⊎_elim
@@ -70,7 +70,7 @@ producers room list s id v is (inr r) at =
     (λ (e : (id ≡ 1) × (r.c ≡ v)). let q : Consumer ≡ Producer = sym r.consumer.0 ∙ ap (λ (u : EndState). u.role) e.1 ∙ is in absurd cc)
     (either_of r.p r.c v id (ap (λ l. get_elem? l id) (sym r.views) ∙ at))
 
-consumers : (room : ℕ) (list : List Msg) (s : Table) (id : ℕ) (v : EndState) → v.role ≡ Consumer → Unused room list s ⊎ Running room list s → get_elem? s.views id ≡ some v → (r : Running room list s) × (id ≡ 1) × (r.c ≡ v)
+consumers : (room : ℕ) (list : List Msg) (s : RingState) (id : ℕ) (v : EndState) → v.role ≡ Consumer → Unused room list s ⊎ Running room list s → get_elem? s.views id ≡ some v → (r : Running room list s) × (id ≡ 1) × (r.c ≡ v)
 consumers room list s id v is (inl f) at = let o = only (fresh room list) v id (ap (λ l. get_elem? l id) (sym f.views) ∙ at) in let e : Opener ≡ Consumer = ap (λ (u : EndState). u.role) o.1 ∙ is in absurd cc
 consumers room list s id v is (inr r) at =
     ⊎_elim
@@ -79,10 +79,10 @@ consumers room list s id v is (inr r) at =
     (either_of r.p r.c v id (ap (λ l. get_elem? l id) (sym r.views) ∙ at))
 
 -- what a step has to give
-abbrev Goes : (room : ℕ) (list : List Msg) (s : Table) (me : Me (Option Msg) EndState) (i : ℕ) (n : ℕ) → (Me (Option Msg) EndState → Type 0) → ℕ → Type 0
+abbrev Goes : (room : ℕ) (list : List Msg) (s : RingState) (me : Me (Option Msg) EndState) (i : ℕ) (n : ℕ) → (Me (Option Msg) EndState → Type 0) → ℕ → Type 0
 Goes room list s me i n then id = (w : EndState) × (a : Act (Option Msg)) × Valid s.homes me.1 a × Linked room list (stepped s i n id me.1 w a) × then (w, carried_after me.1 a)
 
-module _ (room : ℕ) (list : List Msg) (some_room : 0 < room) (small : length list < 2 ^ 62) (s : Table) where
+module _ (room : ℕ) (list : List Msg) (some_room : 0 < room) (small : length list < 2 ^ 62) (s : RingState) where
   abbrev lies : ℕ → Option Msg
   lies k = slice_get list k
 
@@ -91,7 +91,7 @@ module _ (room : ℕ) (list : List Msg) (some_room : 0 < room) (small : length l
 
   -- the producer looks, and takes no slot
   head_seen : (n : ℕ) (cs : Slots) (r : Running room list s) → n ≡ slice_index s.words head_at → n ≡ word r.c.count r.c.left → Linked room list (stepped s head_at n 0 cs (looked r.p n) keeps)
-  head_seen n cs r at told =
+  head_seen n cs r at reported =
       let begins = r.begins in
       let emptying = r.emptying in (
         some_room,
@@ -106,9 +106,9 @@ module _ (room : ℕ) (list : List Msg) (some_room : 0 < room) (small : length l
           emptying = r.emptying;
           filling = r.filling;
           begins = r.begins;
-          p_told = final_again r.p.seen (word r.c.count r.c.left) n (λ _. told) r.p_told;
-          c_told = r.c_told;
-          p_last = was_now n r.c.count r.c.left (omega arith) told;
+          p_final = final_again r.p.seen (word r.c.count r.c.left) n (λ _. reported) r.p_final;
+          c_final = r.c_final;
+          p_last = was_now n r.c.count r.c.left (omega arith) reported;
           c_last = r.c_last;
           stored = r.stored;
           free = r.free;
@@ -117,20 +117,20 @@ module _ (room : ℕ) (list : List Msg) (some_room : 0 < room) (small : length l
 
   -- the head counts no fewer messages than before
   head_later : (n : ℕ) (r : Running room list s) → n ≡ word r.c.count r.c.left → IsLater r.p n
-  head_later n r told =
+  head_later n r reported =
       let begins = r.begins in
       let emptying = r.emptying in
       let heard = r.p_last.0 in
       let lists = ap length r.producer.2 in
-      let num : number n ≡ r.c.count = ap number told ∙ number_word r.c.count r.c.left (omega arith) in
+      let num : number n ≡ r.c.count = ap number reported ∙ number_word r.c.count r.c.left (omega arith) in
       (omega arith, omega arith)
 
   head_looks : (n : ℕ) (cs : Slots) (r : Running room list s) → n ≡ slice_index s.words head_at → n ≡ word r.c.count r.c.left → Goes room list s (r.p, cs) head_at n (λ m. Looked (r.p, cs) n m × IsFinal r.p.seen n) 0
-  head_looks n cs r at told = (looked r.p n, keeps, tt, head_seen n cs r at told, ((refl, head_later n r told), subst (λ u. IsFinal r.p.seen u) (sym told) r.p_told))
+  head_looks n cs r at reported = (looked r.p n, keeps, tt, head_seen n cs r at reported, ((refl, head_later n r reported), subst (λ u. IsFinal r.p.seen u) (sym reported) r.p_final))
 
   -- the producer found the ring full
   head_full : (n : ℕ) (cs : Slots) (r : Running room list s) → n ≡ slice_index s.words head_at → n ≡ word r.c.count r.c.left → r.p.count ≡ number n + r.p.room → Goes room list s (r.p, cs) head_at n (λ m. SawHead (r.p, cs) n m × IsFinal r.p.seen n) 0
-  head_full n cs r at told full = (looked r.p n, keeps, tt, head_seen n cs r at told, ((head_later n r told, inl (full, refl)), subst (λ u. IsFinal r.p.seen u) (sym told) r.p_told))
+  head_full n cs r at reported full = (looked r.p n, keeps, tt, head_seen n cs r at reported, ((head_later n r reported, inl (full, refl)), subst (λ u. IsFinal r.p.seen u) (sym reported) r.p_final))
 
   -- the slots of all messages for which there is room, where the producer's own came back
   all_free : (r : Running room list s) → length s.homes ≡ room → (k : ℕ) → r.p.count ≤ k → k < r.c.count + room → get_elem? (with_back s.homes (free_slots room r.p.count r.p.held)) (k % room) ≡ some (some None)
@@ -149,7 +149,7 @@ module _ (room : ℕ) (list : List Msg) (some_room : 0 < room) (small : length l
   -- the producer found room, and has all slots that are free
   head_room : (n : ℕ) (r : Running room list s) → length s.homes ≡ room → n ≡ slice_index s.words head_at → n ≡ word r.c.count r.c.left → number n ≡ r.c.count → r.p.count < number n + r.p.room
       → Goes room list s (r.p, free_slots room r.p.count r.p.held) head_at n (λ m. SawHead (r.p, free_slots room r.p.count r.p.held) n m × IsFinal r.p.seen n) 0
-  head_room n r len at told num ne =
+  head_room n r len at reported num ne =
       let more = number n + r.p.room - r.p.count in
       let w = readied r.p n more in
       let xs = free_slots room r.p.count r.p.held in
@@ -174,9 +174,9 @@ module _ (room : ℕ) (list : List Msg) (some_room : 0 < room) (small : length l
             emptying = r.emptying;
             filling = omega arith;
             begins = r.begins;
-            p_told = r.p_told;
-            c_told = r.c_told;
-            p_last = was_now n r.c.count r.c.left (omega arith) told;
+            p_final = r.p_final;
+            c_final = r.c_final;
+            p_last = was_now n r.c.count r.c.left (omega arith) reported;
             c_last = r.c_last;
             stored = λ k lo hi.
                 ap (λ hs. get_elem? hs (k % room)) (passed_homes s.homes xs ys)
@@ -186,7 +186,7 @@ module _ (room : ℕ) (list : List Msg) (some_room : 0 < room) (small : length l
             free = λ k lo hi. absurd (omega arith);
           },
         ),
-        ((head_later n r told, inr (ne, λ i. (w, (passed_slots xs ys ∙ ap (λ m. free_slots m r.p.count more) (sym room_is)) i))), subst (λ u. IsFinal r.p.seen u) (sym told) r.p_told),
+        ((head_later n r reported, inr (ne, λ i. (w, (passed_slots xs ys ∙ ap (λ m. free_slots m r.p.count more) (sym room_is)) i))), subst (λ u. IsFinal r.p.seen u) (sym reported) r.p_final),
       )
 
   -- the slots after the producer gave back its own, k of them with messages
@@ -256,8 +256,8 @@ module _ (room : ℕ) (list : List Msg) (some_room : 0 < room) (small : length l
             emptying = omega arith;
             filling = omega arith;
             begins = within;
-            p_told = final_again r.p.seen (word r.c.count r.c.left) r.p.last r.p_last.1 r.p_told;
-            c_told = still_here r.c.seen (word r.p.count r.p.left) (word (r.p.count + k) r.p.left) (has_left_word r.p.count r.p.left (omega arith) ∙ here_yet) r.c_told;
+            p_final = final_again r.p.seen (word r.c.count r.c.left) r.p.last r.p_last.1 r.p_final;
+            c_final = still_here r.c.seen (word r.p.count r.p.left) (word (r.p.count + k) r.p.left) (has_left_word r.p.count r.p.left (omega arith) ∙ here_yet) r.c_final;
             p_last = r.p_last;
             c_last = was_moved r.c.last r.p.count k r.p.left (omega arith) here_yet r.c_last;
             stored = λ j lo hi.
@@ -275,7 +275,7 @@ module _ (room : ℕ) (list : List Msg) (some_room : 0 < room) (small : length l
 
   -- the consumer looks, and takes no slot
   tail_seen : (n : ℕ) (cs : Slots) (r : Running room list s) → n ≡ slice_index s.words tail_at → n ≡ word r.p.count r.p.left → Linked room list (stepped s tail_at n 1 cs (looked r.c n) keeps)
-  tail_seen n cs r at told =
+  tail_seen n cs r at reported =
       let begins = r.begins in (
         some_room,
         small,
@@ -289,10 +289,10 @@ module _ (room : ℕ) (list : List Msg) (some_room : 0 < room) (small : length l
           emptying = r.emptying;
           filling = r.filling;
           begins = r.begins;
-          p_told = r.p_told;
-          c_told = final_again r.c.seen (word r.p.count r.p.left) n (λ _. told) r.c_told;
+          p_final = r.p_final;
+          c_final = final_again r.c.seen (word r.p.count r.p.left) n (λ _. reported) r.c_final;
           p_last = r.p_last;
-          c_last = was_now n r.p.count r.p.left (omega arith) told;
+          c_last = was_now n r.p.count r.p.left (omega arith) reported;
           stored = r.stored;
           free = r.free;
         },
@@ -300,19 +300,19 @@ module _ (room : ℕ) (list : List Msg) (some_room : 0 < room) (small : length l
 
   -- the tail counts no fewer messages than before
   tail_later : (n : ℕ) (r : Running room list s) → n ≡ word r.p.count r.p.left → IsLater r.c n
-  tail_later n r told =
+  tail_later n r reported =
       let begins = r.begins in
       let heard = r.c_last.0 in
       let lists = ap length r.consumer.2 in
-      let num : number n ≡ r.p.count = ap number told ∙ number_word r.p.count r.p.left (omega arith) in
+      let num : number n ≡ r.p.count = ap number reported ∙ number_word r.p.count r.p.left (omega arith) in
       (omega arith, omega arith)
 
   tail_looks : (n : ℕ) (cs : Slots) (r : Running room list s) → n ≡ slice_index s.words tail_at → n ≡ word r.p.count r.p.left → Goes room list s (r.c, cs) tail_at n (λ m. Looked (r.c, cs) n m × IsFinal r.c.seen n) 1
-  tail_looks n cs r at told = (looked r.c n, keeps, tt, tail_seen n cs r at told, ((refl, tail_later n r told), subst (λ u. IsFinal r.c.seen u) (sym told) r.c_told))
+  tail_looks n cs r at reported = (looked r.c n, keeps, tt, tail_seen n cs r at reported, ((refl, tail_later n r reported), subst (λ u. IsFinal r.c.seen u) (sym reported) r.c_final))
 
   -- the consumer found the ring empty
   tail_empty : (n : ℕ) (cs : Slots) (r : Running room list s) → n ≡ slice_index s.words tail_at → n ≡ word r.p.count r.p.left → r.c.count ≡ number n → Goes room list s (r.c, cs) tail_at n (λ m. SawTail (r.c, cs) n m × IsFinal r.c.seen n) 1
-  tail_empty n cs r at told none = (looked r.c n, keeps, tt, tail_seen n cs r at told, ((tail_later n r told, inl (none, refl)), subst (λ u. IsFinal r.c.seen u) (sym told) r.c_told))
+  tail_empty n cs r at reported none = (looked r.c n, keeps, tt, tail_seen n cs r at reported, ((tail_later n r reported, inl (none, refl)), subst (λ u. IsFinal r.c.seen u) (sym reported) r.c_final))
 
   -- the slots of all messages that were put, where the consumer's own came back
   all_stored : (r : Running room list s) → length s.homes ≡ room → (k : ℕ) → r.c.count ≤ k → k < r.p.count → get_elem? (with_back s.homes (full_slots list room r.c.count r.c.held)) (k % room) ≡ some (some (slice_get list k))
@@ -331,7 +331,7 @@ module _ (room : ℕ) (list : List Msg) (some_room : 0 < room) (small : length l
   -- the consumer found messages, and has the slots of all that were put
   tail_ready : (n : ℕ) (r : Running room list s) → length s.homes ≡ room → n ≡ slice_index s.words tail_at → n ≡ word r.p.count r.p.left → number n ≡ r.p.count → r.c.count < number n
       → Goes room list s (r.c, full_slots list room r.c.count r.c.held) tail_at n (λ m. SawTail (r.c, full_slots list room r.c.count r.c.held) n m × IsFinal r.c.seen n) 1
-  tail_ready n r len at told num ne =
+  tail_ready n r len at reported num ne =
       let more = number n - r.c.count in
       let w = readied r.c n more in
       let xs = full_slots list room r.c.count r.c.held in
@@ -355,10 +355,10 @@ module _ (room : ℕ) (list : List Msg) (some_room : 0 < room) (small : length l
             emptying = omega arith;
             filling = r.filling;
             begins = r.begins;
-            p_told = r.p_told;
-            c_told = r.c_told;
+            p_final = r.p_final;
+            c_final = r.c_final;
             p_last = r.p_last;
-            c_last = was_now n r.p.count r.p.left (omega arith) told;
+            c_last = was_now n r.p.count r.p.left (omega arith) reported;
             stored = λ k lo hi. absurd (omega arith);
             free = λ k lo hi.
                 ap (λ hs. get_elem? hs (k % room)) (passed_homes s.homes xs ys)
@@ -367,7 +367,7 @@ module _ (room : ℕ) (list : List Msg) (some_room : 0 < room) (small : length l
                 ∙ r.free k lo hi;
           },
         ),
-        ((tail_later n r told, inr (ne, λ i. (w, (passed_slots xs ys ∙ (λ j. full_slots (sym r.consumer.2 j) (sym r.consumer.1 j) r.c.count more)) i))), subst (λ u. IsFinal r.c.seen u) (sym told) r.c_told),
+        ((tail_later n r reported, inr (ne, λ i. (w, (passed_slots xs ys ∙ (λ j. full_slots (sym r.consumer.2 j) (sym r.consumer.1 j) r.c.count more)) i))), subst (λ u. IsFinal r.c.seen u) (sym reported) r.c_final),
       )
 
   -- the slots after the consumer gave back its own, k of them free
@@ -441,8 +441,8 @@ module _ (room : ℕ) (list : List Msg) (some_room : 0 < room) (small : length l
             emptying = omega arith;
             filling = omega arith;
             begins = r.begins;
-            p_told = still_here r.p.seen (word r.c.count r.c.left) (word (r.c.count + k) r.c.left) (has_left_word r.c.count r.c.left (omega arith) ∙ here_yet) r.p_told;
-            c_told = final_again r.c.seen (word r.p.count r.p.left) r.c.last r.c_last.1 r.c_told;
+            p_final = still_here r.p.seen (word r.c.count r.c.left) (word (r.c.count + k) r.c.left) (has_left_word r.c.count r.c.left (omega arith) ∙ here_yet) r.p_final;
+            c_final = final_again r.c.seen (word r.p.count r.p.left) r.c.last r.c_last.1 r.c_final;
             p_last = was_moved r.p.last r.c.count k r.c.left (omega arith) here_yet r.p_last;
             c_last = r.c_last;
             stored = λ j lo hi.
@@ -478,8 +478,8 @@ module _ (room : ℕ) (list : List Msg) (some_room : 0 < room) (small : length l
             emptying = r.emptying;
             filling = r.filling;
             begins = r.begins;
-            p_told = r.p_told;
-            c_told = still_here r.c.seen (word r.p.count r.p.left) (word r.p.count true) (has_left_word r.p.count r.p.left (omega arith) ∙ here_yet) r.c_told;
+            p_final = r.p_final;
+            c_final = still_here r.c.seen (word r.p.count r.p.left) (word r.p.count true) (has_left_word r.p.count r.p.left (omega arith) ∙ here_yet) r.c_final;
             p_last = r.p_last;
             c_last = was_left r.c.last r.p.count r.p.left (omega arith) here_yet r.c_last;
             stored = r.stored;
@@ -510,8 +510,8 @@ module _ (room : ℕ) (list : List Msg) (some_room : 0 < room) (small : length l
             emptying = r.emptying;
             filling = r.filling;
             begins = r.begins;
-            p_told = still_here r.p.seen (word r.c.count r.c.left) (word r.c.count true) (has_left_word r.c.count r.c.left (omega arith) ∙ here_yet) r.p_told;
-            c_told = r.c_told;
+            p_final = still_here r.p.seen (word r.c.count r.c.left) (word r.c.count true) (has_left_word r.c.count r.c.left (omega arith) ∙ here_yet) r.p_final;
+            c_final = r.c_final;
             p_last = was_left r.p.last r.c.count r.c.left (omega arith) here_yet r.p_last;
             c_last = r.c_last;
             stored = r.stored;
@@ -522,11 +522,11 @@ module _ (room : ℕ) (list : List Msg) (some_room : 0 < room) (small : length l
       )
 
 module _ {room : ℕ} {list : List Msg} where
-  head_told : (s : Table) (r : Running room list s) → slice_index s.words head_at ≡ word r.c.count r.c.left
-  head_told s r = ap (λ ws. slice_index ws head_at) r.words
+  head_final : (s : RingState) (r : Running room list s) → slice_index s.words head_at ≡ word r.c.count r.c.left
+  head_final s r = ap (λ ws. slice_index ws head_at) r.words
 
-  tail_told : (s : Table) (r : Running room list s) → slice_index s.words tail_at ≡ word r.p.count r.p.left
-  tail_told s r = ap (λ ws. slice_index ws tail_at) r.words
+  tail_final : (s : RingState) (r : Running room list s) → slice_index s.words tail_at ≡ word r.p.count r.p.left
+  tail_final s r = ap (λ ws. slice_index ws tail_at) r.words
 
 -- Each step, at any moment:
 
@@ -538,16 +538,16 @@ sees_head room list slots id me has all is s h len at fits =
     subst (λ (y : ℕ × Me (Option Msg) EndState). Goes room list s y.1 head_at n (λ m. SawHead y.1 n m × IsFinal y.1.0.seen n) y.0) (λ i. (sym who.1 i, mine i))
     (by_cases s who.0 h.0 h.1 (len ∙ all) (ℕ_discrete who.0.p.count (number n + who.0.p.room)))
   where
-    by_cases : (s : Table) (r : Running room list s) → 0 < room → length list < 2 ^ 62 → length s.homes ≡ room → Dec (r.p.count ≡ number (slice_index s.words head_at) + r.p.room)
+    by_cases : (s : RingState) (r : Running room list s) → 0 < room → length list < 2 ^ 62 → length s.homes ≡ room → Dec (r.p.count ≡ number (slice_index s.words head_at) + r.p.room)
         → Goes room list s (r.p, free_slots room r.p.count r.p.held) head_at (slice_index s.words head_at) (λ m. SawHead (r.p, free_slots room r.p.count r.p.held) (slice_index s.words head_at) m × IsFinal r.p.seen (slice_index s.words head_at)) 0
-    by_cases s r some_room small long (yes full) = head_full room list some_room small s _ _ r refl (head_told s r) full
+    by_cases s r some_room small long (yes full) = head_full room list some_room small s _ _ r refl (head_final s r) full
     by_cases s r some_room small long (no ne) =
         let emptying = r.emptying in
         let filling = r.filling in
         let begins = r.begins in
         let cap = r.producer.1 in
         let num : number (slice_index s.words head_at) ≡ r.c.count = ap (λ ws. number (slice_index ws head_at)) r.words ∙ number_word r.c.count r.c.left (omega arith) in
-        head_room room list some_room small s _ r long refl (head_told s r) num (omega (arith, ne))
+        head_room room list some_room small s _ r long refl (head_final s r) num (omega (arith, ne))
 
 pub sees_tail : (room : ℕ) (list : List Msg) (slots id : ℕ) (me : Me (Option Msg) EndState) → me.1 ≡ full_slots me.0.list me.0.room me.0.count me.0.held → slots ≡ room → me.0.role ≡ Consumer → Allows (Linked room list) slots id me tail_at (λ n. n) (λ n w. SawTail me n w × IsFinal me.0.seen n)
 sees_tail room list slots id me has all is s h len at fits =
@@ -557,14 +557,14 @@ sees_tail room list slots id me has all is s h len at fits =
     subst (λ (y : ℕ × Me (Option Msg) EndState). Goes room list s y.1 tail_at n (λ m. SawTail y.1 n m × IsFinal y.1.0.seen n) y.0) (λ i. (sym who.1 i, mine i))
     (by_cases s who.0 h.0 h.1 (len ∙ all) (ℕ_discrete who.0.c.count (number n)))
   where
-    by_cases : (s : Table) (r : Running room list s) → 0 < room → length list < 2 ^ 62 → length s.homes ≡ room → Dec (r.c.count ≡ number (slice_index s.words tail_at))
+    by_cases : (s : RingState) (r : Running room list s) → 0 < room → length list < 2 ^ 62 → length s.homes ≡ room → Dec (r.c.count ≡ number (slice_index s.words tail_at))
         → Goes room list s (r.c, full_slots list room r.c.count r.c.held) tail_at (slice_index s.words tail_at) (λ m. SawTail (r.c, full_slots list room r.c.count r.c.held) (slice_index s.words tail_at) m × IsFinal r.c.seen (slice_index s.words tail_at)) 1
-    by_cases s r some_room small long (yes none) = tail_empty room list some_room small s _ _ r refl (tail_told s r) none
+    by_cases s r some_room small long (yes none) = tail_empty room list some_room small s _ _ r refl (tail_final s r) none
     by_cases s r some_room small long (no ne) =
         let emptying = r.emptying in
         let begins = r.begins in
         let num : number (slice_index s.words tail_at) ≡ r.p.count = ap (λ ws. number (slice_index ws tail_at)) r.words ∙ number_word r.p.count r.p.left (omega arith) in
-        tail_ready room list some_room small s _ r long refl (tail_told s r) num (omega (arith, ne))
+        tail_ready room list some_room small s _ r long refl (tail_final s r) num (omega (arith, ne))
 
 pub moves_tail : (room : ℕ) (list : List Msg) (slots id new k : ℕ) (me : Me (Option Msg) EndState) → me.1 ≡ free_slots room (me.0.count + k) (me.0.held - k) ++ full_slots list room me.0.count k → new ≡ me.0.count + k → k ≤ me.0.held → me.0.count + k ≤ length list → slots ≡ room → me.0.role ≡ Producer → me.0.left ≡ false
     → Allows (Linked room list) slots id me tail_at (λ _. new) (λ _ w. MovedTail me.0 (new - me.0.count) w)
@@ -596,14 +596,14 @@ looks_head room list slots id me is s h len at fits =
     let who = producers room list s id me.0 is h.2 at in
     let n = slice_index s.words head_at in
     subst (λ (y : ℕ × EndState). Goes room list s (y.1, me.1) head_at n (λ m. Looked (y.1, me.1) n m × IsFinal y.1.seen n) y.0) (λ i. (sym who.1 i, who.2 i))
-    (head_looks room list h.0 h.1 s n me.1 who.0 refl (head_told s who.0))
+    (head_looks room list h.0 h.1 s n me.1 who.0 refl (head_final s who.0))
 
 pub looks_tail : (room : ℕ) (list : List Msg) (slots id : ℕ) (me : Me (Option Msg) EndState) → me.0.role ≡ Consumer → Allows (Linked room list) slots id me tail_at (λ n. n) (λ n w. Looked me n w × IsFinal me.0.seen n)
 looks_tail room list slots id me is s h len at fits =
     let who = consumers room list s id me.0 is h.2 at in
     let n = slice_index s.words tail_at in
     subst (λ (y : ℕ × EndState). Goes room list s (y.1, me.1) tail_at n (λ m. Looked (y.1, me.1) n m × IsFinal y.1.seen n) y.0) (λ i. (sym who.1 i, who.2 i))
-    (tail_looks room list h.0 h.1 s n me.1 who.0 refl (tail_told s who.0))
+    (tail_looks room list h.0 h.1 s n me.1 who.0 refl (tail_final s who.0))
 
 pub leaves_tail : (room : ℕ) (list : List Msg) (slots id new : ℕ) (me : Me (Option Msg) EndState) → me.0.role ≡ Producer → me.0.left ≡ false → new ≡ me.0.count + top → Allows (Linked room list) slots id me tail_at (λ _. new) (λ _ w. Left me w)
 leaves_tail room list slots id new me is here up s h len at fits =
@@ -635,8 +635,8 @@ parts room list id v is s h at = (
         emptying = omega arith;
         filling = omega arith;
         begins = omega arith;
-        p_told = λ k d h on. absurd (omega arith);
-        c_told = λ k d h on. absurd (omega arith);
+        p_final = λ k d h on. absurd (omega arith);
+        c_final = λ k d h on. absurd (omega arith);
         p_last = was_now 0 0 false (omega arith) refl;
         c_last = was_now 0 0 false (omega arith) refl;
         stored = λ k lo hi. absurd (omega arith);

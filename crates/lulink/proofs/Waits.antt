@@ -2,7 +2,7 @@
 use Rattle.std.proofs.Common.{◌≡◌, ◌+◌, ◌<◌, ℕ, true, List, [], ◌∷◌, ◌++◌, length, Option, Some, None, refl, ap, ◌∙◌, subst, append_assoc, arith}
 use Rattle.std.proofs.lemmas.List.Elements.{All-tail}
 use Rattle.luflow.specs.declared.message.Msg.{Msg}
-use Rattle.luworld.specs.Runs.{Run}
+use Rattle.luworld.specs.Jobs.{JobView}
 use Rattle.lulink.specs.Words.{number, has_left, IsFinal}
 use Rattle.lulink.specs.Lists.{list_of, IsNextOf}
 use Rattle.lulink.specs.declared.sender.Offer.{Offer}
@@ -92,7 +92,7 @@ pub take_done : (g h i : ReceiverView) (m : Msg) (w : ℕ) → Listened g h → 
 take_done g h i m w l p = (
   (
     (ap (λ (x : ReceiverView). x.job) p.0 ∙ l.job, ap (λ (x : ReceiverView). x.link) p.0 ∙ l.link, ap (λ (x : ReceiverView). x.taken) p.0 ∙ ap (λ xs. xs ++ m ∷ []) l.taken),
-    subst (λ (y : Run × (ℕ × List Msg)). IsNextOf (list_of y.0 y.1.0) (length y.1.1) m) (λ k. (l.job k, (l.link k, l.taken k))) p.1,
+    subst (λ (y : JobView × (ℕ × List Msg)). IsNextOf (list_of y.0 y.1.0) (length y.1.1) m) (λ k. (l.job k, (l.link k, l.taken k))) p.1,
   ),
   (
     l.words,

@@ -1,5 +1,6 @@
 -- What the ends of a ring hold, and what contracts see of it.
-use Rattle.std.specs.Prelude.{◌≡◌, ℕ, ◌+◌, ◌-◌, ◌%◌, ◌<◌, ◌≤◌, ◌^◌, Bool, true, false, List, [], ◌∷◌, ◌++◌, take, length, Some, slice_get}
+use Rattle.std.specs.Prelude.{◌≡◌, ℕ, ◌+◌, ◌-◌, ◌%◌, ◌<◌, ◌≤◌, ◌^◌, Bool, true, false, List, [], ◌∷◌, ◌++◌}
+use Rattle.std.specs.Prelude.{take, length, Some, slice_get}
 use Rattle.std.specs.Arc.{arc_value}
 use Rattle.atomic_table.specs.Seated.{TableId}
 use Rattle.luflow.specs.declared.message.Msg.{Msg}
@@ -14,12 +15,13 @@ use Rattle.lulink.specs.Words.{number, IsFinal, words_of}
 use Rattle.lulink.specs.Rings.{IsEnd, full_slots, free_slots}
 use Rattle.lulink.specs.Views.{SenderView, ReceiverView}
 
-abbrev pub told_list : Terms → List Msg
-told_list k = list_of k.job.value k.link
+abbrev pub given_list : Terms → List Msg
+given_list k = list_of k.job.value k.link
 
 -- the messages stand in the list from the n-th on
-abbrev pub AreTold : Terms → ℕ → List Msg → Type 0
-AreTold k n ms = (i : ℕ) (m : Msg) → slice_get ms i ≡ Some m → slice_get (told_list k) (n + i) ≡ Some m
+abbrev pub AreGivenMessages : Terms → ℕ → List Msg → Type 0
+AreGivenMessages k n ms = (i : ℕ) (m : Msg) → slice_get ms i ≡ Some m → slice_get (given_list k)
+    (n + i) ≡ Some m
 
 -- a table of such a ring
 pub record IsRing (at : TableId) (k : Terms) : Type 0 where
@@ -27,65 +29,89 @@ pub record IsRing (at : TableId) (k : Terms) : Type 0 where
   pub slots : at.slots ≡ k.capacity
   pub room : 0 < k.capacity
   pub below : k.capacity < 2 ^ 16
-  pub small : length (told_list k) < 2 ^ 62
+  pub small : length (given_list k) < 2 ^ 62
 
--- the slots of the next messages are held, as many as are counted, and the word that was loaded last shows room for them
+-- the slots of the next messages are held, as many as are counted, and the word that was loaded last shows
+-- room for them
 pub record IsPutSide (at : TableId) (k : Terms) (t : PutSide) : Type 0 where
   pub ring : IsRing at k
   pub table : t.seat.table_id ≡ at
-  pub ends : IsEnd Producer k.capacity (told_list k) t.seat.me.0
+  pub ends : IsEnd Producer k.capacity (given_list k) t.seat.me.0
   pub here : t.seat.me.0.left ≡ false
   pub count : t.seat.me.0.count ≡ t.count
   pub slot : t.slot ≡ t.count % k.capacity
   pub word : t.seat.me.0.last ≡ t.word
   pub final : IsFinal t.seat.me.0.seen t.word
-  pub begins : t.count ≤ length (told_list k)
+  pub begins : t.count ≤ length (given_list k)
   pub held : t.seat.me.0.held ≡ t.held
   pub slots : t.seat.me.1 ≡ free_slots k.capacity t.count t.held
   pub room : t.count + t.held ≤ number t.word + k.capacity
 
--- the slots of the next messages are held, as many as are counted, and by the word that was loaded last they were put
+-- the slots of the next messages are held, as many as are counted, and by the word that was loaded last they
+-- were put
 pub record IsTakeSide (at : TableId) (k : Terms) (t : TakeSide) : Type 0 where
   pub ring : IsRing at k
   pub table : t.seat.table_id ≡ at
-  pub ends : IsEnd Consumer k.capacity (told_list k) t.seat.me.0
+  pub ends : IsEnd Consumer k.capacity (given_list k) t.seat.me.0
   pub here : t.seat.me.0.left ≡ false
   pub count : t.seat.me.0.count ≡ t.count
   pub slot : t.slot ≡ t.count % k.capacity
   pub word : t.seat.me.0.last ≡ t.word
   pub final : IsFinal t.seat.me.0.seen t.word
-  pub begins : t.count ≤ length (told_list k)
+  pub begins : t.count ≤ length (given_list k)
   pub held : t.seat.me.0.held ≡ t.held
-  pub slots : t.seat.me.1 ≡ full_slots (told_list k) k.capacity t.count t.held
+  pub slots : t.seat.me.1 ≡ full_slots (given_list k) k.capacity t.count t.held
   pub put : t.count + t.held ≤ number t.word
-  pub listed : number t.word ≤ length (told_list k)
+  pub listed : number t.word ≤ length (given_list k)
 
 -- the slot of the next message is held, or the word that was loaded now says that the ring is full
 abbrev pub SoughtRoom : Terms → PutSide → Bool → PutSide → Type 0
 SoughtRoom k s true t = (t.count ≡ s.count) × (t.seat.me.0.seen ≡ s.seat.me.0.seen) × (0 < t.held)
-SoughtRoom k s false t = (t.count ≡ s.count) × (t.seat.me.0.seen ≡ s.seat.me.0.seen ++ t.word ∷ []) × (s.count ≡ number t.word + k.capacity) × IsFinal s.seat.me.0.seen t.word
+SoughtRoom k s false t = (t.count ≡ s.count) × (t.seat.me.0.seen ≡ s.seat.me.0.seen ++ t.word ∷ [])
+    × (s.count ≡ number t.word + k.capacity) × IsFinal s.seat.me.0.seen t.word
 
 -- the slot of the next message is held, or the word that was loaded now says that the ring is empty
 abbrev pub SoughtMessage : TakeSide → Bool → TakeSide → Type 0
 SoughtMessage s true t = (t.count ≡ s.count) × (t.seat.me.0.seen ≡ s.seat.me.0.seen) × (0 < t.held)
-SoughtMessage s false t = (t.count ≡ s.count) × (t.seat.me.0.seen ≡ s.seat.me.0.seen ++ t.word ∷ []) × (s.count ≡ number t.word) × IsFinal s.seat.me.0.seen t.word
+SoughtMessage s false t = (t.count ≡ s.count) × (t.seat.me.0.seen ≡ s.seat.me.0.seen ++ t.word ∷ [])
+    × (s.count ≡ number t.word) × IsFinal s.seat.me.0.seen t.word
 
 -- the first so many slots that are held have what they are given back with, and stand behind the others
 abbrev pub HasFilled : Terms → PutSide → ℕ → PutSide → Type 0
 HasFilled k s n t = (t.seat.table_id ≡ s.seat.table_id) × (t.slot ≡ (s.count + n) % k.capacity)
-    × (t.seat.me ≡ (s.seat.me.0, free_slots k.capacity (s.count + n) (s.held - n) ++ full_slots (told_list k) k.capacity s.count n))
+    × (t.seat.me ≡ (
+      s.seat.me.0,
+      free_slots k.capacity (s.count + n) (s.held - n)
+          ++ full_slots (given_list k) k.capacity s.count n,
+    ))
     × (t.count ≡ s.count) × (t.word ≡ s.word) × (t.held ≡ s.held)
 
 abbrev pub HasEmptied : Terms → TakeSide → ℕ → TakeSide → Type 0
 HasEmptied k s n t = (t.seat.table_id ≡ s.seat.table_id) × (t.slot ≡ (s.count + n) % k.capacity)
-    × (t.seat.me ≡ (s.seat.me.0, full_slots (told_list k) k.capacity (s.count + n) (s.held - n) ++ free_slots k.capacity s.count n))
+    × (t.seat.me ≡ (
+      s.seat.me.0,
+      full_slots (given_list k) k.capacity (s.count + n) (s.held - n)
+          ++ free_slots k.capacity s.count n,
+    ))
     × (t.count ≡ s.count) × (t.word ≡ s.word) × (t.held ≡ s.held)
 
 abbrev pub sender_view : tx.Inside → SenderView
-sender_view t = let k = (arc_value t.ring).shared.key in record { job = k.job.value; link = k.link; capacity = k.capacity; put = take t.side.count (told_list k); seen = t.side.seat.me.0.seen }
+sender_view t = let k = (arc_value t.ring).shared.key in record {
+  job = k.job.value;
+  link = k.link;
+  capacity = k.capacity;
+  put = take t.side.count (given_list k);
+  seen = t.side.seat.me.0.seen;
+}
 
 abbrev pub receiver_view : rx.Inside → ReceiverView
-receiver_view t = let k = (arc_value t.ring).shared.key in record { job = k.job.value; link = k.link; capacity = k.capacity; taken = take t.side.count (told_list k); seen = t.side.seat.me.0.seen }
+receiver_view t = let k = (arc_value t.ring).shared.key in record {
+  job = k.job.value;
+  link = k.link;
+  capacity = k.capacity;
+  taken = take t.side.count (given_list k);
+  seen = t.side.seat.me.0.seen;
+}
 
 pub record IsSender (t : tx.Inside) : Type 0 where
   pub number : t.link ≡ (arc_value t.ring).shared.key.link

@@ -1,25 +1,29 @@
--- What contracts see of an end of a link, and what each call changes of what was put or taken. Nothing here knows what a link is made of.
+-- What contracts see of an end of a link, and what each call changes of what was put or taken. Nothing here
+-- knows what a link is made of.
 use Rattle.std.specs.Prelude.{◌≡◌, ℕ, ◌+◌, List, [], ◌∷◌, ◌++◌, length, Option, Some, None, slice_get}
 use Rattle.luflow.specs.declared.message.Msg.{Msg}
 use Rattle.luflow.specs.declared.message.Body.TheVariants.{Close}
-use Rattle.luworld.specs.Runs.{Run}
+use Rattle.luworld.specs.Jobs.{JobView}
 use Rattle.lulink.specs.declared.sender.Offer.{Offer}
 use Rattle.lulink.specs.declared.sender.Offer.TheVariants.{Done, Full}
 use Rattle.lulink.specs.Lists.{list_of, IsNextOf}
 
--- The run, the link, the capacity, what was put, and the words by which its calls went, one for each try and each look. Each of them is a word of the
+-- The run, the link, the capacity, what was put, and the words by which its calls went, one for each try and
+-- each look. Each of them is a word of the
 -- receiver's that a load of this end gave: at that call, or where it showed room already, at an earlier one.
 pub record SenderView : Type 0 where
-  pub job : Run
+  pub job : JobView
   pub link : ℕ
   pub capacity : ℕ
   pub put : List Msg
   pub seen : List ℕ
 
--- The run, the link, the capacity, what was taken, and the words by which its calls went, one for each try and each look. Each of them is a word of
--- the sender's that a load of this end gave: at that call, or where it showed a message already, at an earlier one.
+-- The run, the link, the capacity, what was taken, and the words by which its calls went, one for each try
+-- and each look. Each of them is a word of
+-- the sender's that a load of this end gave: at that call, or where it showed a message already, at an
+-- earlier one.
 pub record ReceiverView : Type 0 where
-  pub job : Run
+  pub job : JobView
   pub link : ℕ
   pub capacity : ℕ
   pub taken : List Msg
@@ -35,11 +39,13 @@ IsNextToTake r m = IsNextOf (list_of r.job r.link) (length r.taken) m
 
 -- the messages are the next to be put, in this order
 abbrev pub AreNextToPut : SenderView → List Msg → Type 0
-AreNextToPut s ms = (k : ℕ) (m : Msg) → slice_get ms k ≡ Some m → IsNextOf (list_of s.job s.link) (length s.put + k) m
+AreNextToPut s ms = (k : ℕ) (m : Msg) → slice_get ms k ≡ Some m → IsNextOf (list_of s.job s.link)
+    (length s.put + k) m
 
 -- the messages are the next to be taken, in this order
 abbrev pub AreNextToTake : ReceiverView → List Msg → Type 0
-AreNextToTake r ms = (k : ℕ) (m : Msg) → slice_get ms k ≡ Some m → IsNextOf (list_of r.job r.link) (length r.taken + k) m
+AreNextToTake r ms = (k : ℕ) (m : Msg) → slice_get ms k ≡ Some m → IsNextOf (list_of r.job r.link)
+    (length r.taken + k) m
 
 -- just this message was put
 abbrev pub HasPut : Msg → SenderView → SenderView → Type 0
@@ -79,7 +85,8 @@ IsWholeAt m r = m.body ≡ Close → r.taken ≡ list_of r.job r.link
 
 -- so many messages were taken, the next of the list, and stand behind what the buffer had
 abbrev pub IsRunTaken : ℕ → List Msg → List Msg → ReceiverView → ReceiverView → Type 0
-IsRunTaken n before after r q = (got : List Msg) × (length got ≡ n) × (after ≡ before ++ got) × HasTakenAll got r q × AreNextToTake r got
+IsRunTaken n before after r q = (got : List Msg) × (length got ≡ n) × (after ≡ before ++ got)
+    × HasTakenAll got r q × AreNextToTake r got
 
 -- where the close is among what was taken, all of the list was
 abbrev pub IsWholeAtClose : ReceiverView → Type 0

@@ -1,5 +1,6 @@
 -- A word of the ring: a count, and whether its end has left.
-use Rattle.std.specs.Prelude.{◌≡◌, ℕ, ◌+◌, ◌-◌, ◌^◌, ◌≤◌, Bool, true, false, nat_lt, if◌then◌else◌, List, [], ◌∷◌, All}
+use Rattle.std.specs.Prelude.{◌≡◌, ℕ, ◌+◌, ◌-◌, ◌^◌, ◌≤◌, Bool, true, false, nat_lt, if◌then◌else◌, List, []}
+use Rattle.std.specs.Prelude.{◌∷◌, All}
 
 -- the top bit
 abbrev pub top : ℕ
@@ -21,11 +22,13 @@ has_left w = if nat_lt w top then false else true
 abbrev pub IsFinal : List ℕ → ℕ → Type 0
 IsFinal seen w = All (λ u. has_left u ≡ true → u ≡ w) seen
 
--- u is, or once was, the word of an end that now is at this count: the count only grows, and once the end has left it stays
+-- u is, or once was, the word of an end that now is at this count: the count only grows, and once the end has
+-- left it stays
 abbrev pub WasWord : ℕ → ℕ → Bool → Type 0
 WasWord u count left = (number u ≤ count) × (has_left u ≡ true → u ≡ word count left)
 
--- Where the two words stand in a table of words: as far apart as two lines of memory are, so that an end that stores its own word takes no line from
+-- Where the two words stand in a table of words: as far apart as two lines of memory are, so that an end that
+-- stores its own word takes no line from
 -- the other end.
 abbrev pub tail_at : ℕ
 tail_at = 0

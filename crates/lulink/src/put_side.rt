@@ -4,15 +4,15 @@
 ghost use Rattle.std.specs.Prelude.{◌≡◌, ◌+◌, ◌<◌, ◌≤◌, ◌%◌, [], ◌∷◌, ◌++◌, length, Option, Some, slice_get};
 ghost use Rattle.atomic_table.specs.Table.{rest};
 ghost use Rattle.lulink.specs.Words.{number, has_left, IsFinal};
-ghost use Rattle.lulink.specs.Insides.{told_list, AreTold, IsPutSide, SoughtRoom, HasFilled};
+ghost use Rattle.lulink.specs.Insides.{given_list, AreGivenMessages, IsPutSide, SoughtRoom, HasFilled};
 
-use crate::rule::{Leave, LoadHead, Look, Ring, Seat, StoreTail};
+use crate::rule::{Leave, LoadHead, Look, Ring, RingSeat, StoreTail};
 use crate::word::{HEAD, TAIL, TOP, next_slot, number_of, says_gone};
 use luflow::Msg;
 
 #[derive(Drop)]
 pub struct PutSide {
-    pub(crate) seat: Seat,
+    pub(crate) seat: RingSeat,
     /// How many messages were put.
     pub(crate) count: u64,
     /// The place of the next message's slot.
@@ -59,7 +59,7 @@ impl PutSide {
     pub(crate) fn put(&mut self, ring: &Ring, msg: Msg)
         requires side { IsPutSide ring.now.shared.table_id ring.now.shared.key self.old }
         requires held { 0 < self.old.held }
-        requires next { slice_get (told_list ring.now.shared.key) self.old.count ≡ Some msg }
+        requires next { slice_get (given_list ring.now.shared.key) self.old.count ≡ Some msg }
         ensures side { IsPutSide ring.now.shared.table_id ring.now.shared.key self.new }
         ensures count { self.new.count ≡ self.old.count + 1 }
         ensures seen { self.new.seat.me.0.seen ≡ self.old.seat.me.0.seen ++ self.old.word ∷ [] }
@@ -77,7 +77,7 @@ impl PutSide {
     /// Puts as many of the messages as there is room for, and counts them with one store. How many.
     pub(crate) fn put_run(&mut self, ring: &Ring, msgs: &[Msg]) -> usize
         requires side { IsPutSide ring.now.shared.table_id ring.now.shared.key self.old }
-        requires next { AreTold ring.now.shared.key self.old.count msgs.now }
+        requires next { AreGivenMessages ring.now.shared.key self.old.count msgs.now }
         ensures side { IsPutSide ring.now.shared.table_id ring.now.shared.key self.new }
         ensures within { result ≤ length msgs.now }
         ensures count { self.new.count ≡ self.old.count + result }
@@ -106,7 +106,7 @@ impl PutSide {
     fn put_all(&mut self, ring: &Ring, msgs: &[Msg])
         requires side { IsPutSide ring.now.shared.table_id ring.now.shared.key self.old }
         requires held { length msgs.now ≤ self.old.held }
-        requires next { AreTold ring.now.shared.key self.old.count msgs.now }
+        requires next { AreGivenMessages ring.now.shared.key self.old.count msgs.now }
         ensures side { IsPutSide ring.now.shared.table_id ring.now.shared.key self.new }
         ensures count { self.new.count ≡ self.old.count + length msgs.now }
         ensures word { self.new.word ≡ self.old.word }
@@ -125,7 +125,7 @@ impl PutSide {
     fn fill(&mut self, ring: &Ring, msgs: &[Msg])
         requires side { IsPutSide ring.now.shared.table_id ring.now.shared.key self.old }
         requires held { length msgs.now ≤ self.old.held }
-        requires next { AreTold ring.now.shared.key self.old.count msgs.now }
+        requires next { AreGivenMessages ring.now.shared.key self.old.count msgs.now }
         ensures { HasFilled ring.now.shared.key self.old (length msgs.now) self.new }
     {
         let mut i = 0;

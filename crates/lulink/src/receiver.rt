@@ -1,7 +1,7 @@
 //! The receiver's end.
 
 ghost use Rattle.std.specs.Prelude.{◌≡◌, ◌+◌, ◌≤◌, ℕ, length, vec_capacity, IfOk, IfErr, IfSome};
-ghost use Rattle.luworld.specs.Progress.{IsBeginning};
+ghost use Rattle.luworld.specs.WorldViews.{IsPrefixOf};
 ghost use Rattle.lulink.specs.Lists.{list_of};
 ghost use Rattle.lulink.specs.Words.{has_left, IsFinal};
 ghost use Rattle.lulink.specs.Views.{IsNextToTake, IsWholeAt, IsWholeAtClose, IsRunTaken, HasTaken, HasTakenNothing, TakenOrNot};
@@ -118,7 +118,7 @@ impl Rx {
 
     /// What was taken is a prefix of the link's list.
     pub fn taken_begins_law(&self)
-        ensures { IsBeginning self.now.taken (list_of self.now.job self.now.link) }
+        ensures { IsPrefixOf self.now.taken (list_of self.now.job self.now.link) }
     {
         let _side = &self.side;
     }

@@ -49,7 +49,7 @@ impl TableRule<Option<Msg>, EndState, Terms> for RingRule {
 
 pub type Ring = Table<Option<Msg>, EndState, Terms, RingRule, Global>;
 
-pub type Seat = TableSeat<Option<Msg>, EndState>;
+pub type RingSeat = TableSeat<Option<Msg>, EndState>;
 
 /// The opener's seat is cut into the producer's and the consumer's.
 pub struct TwoEnds;

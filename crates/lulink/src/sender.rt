@@ -1,7 +1,7 @@
 //! The sender's end.
 
 ghost use Rattle.std.specs.Prelude.{◌≡◌, ◌≤◌, ℕ, length, take, IfOk, IfErr};
-ghost use Rattle.luworld.specs.Progress.{IsBeginning};
+ghost use Rattle.luworld.specs.WorldViews.{IsPrefixOf};
 ghost use Rattle.lulink.specs.Lists.{list_of};
 ghost use Rattle.lulink.specs.Words.{has_left, IsFinal};
 ghost use Rattle.lulink.specs.Views.{IsNextToPut, AreNextToPut, HasPut, HasPutAll, HasPutNothing, PutOrBack};
@@ -127,7 +127,7 @@ impl Tx {
 
     /// What was put is a prefix of the link's list.
     pub fn put_begins_law(&self)
-        ensures { IsBeginning self.now.put (list_of self.now.job self.now.link) }
+        ensures { IsPrefixOf self.now.put (list_of self.now.job self.now.link) }
     {
         let _side = &self.side;
     }

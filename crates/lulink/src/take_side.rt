@@ -4,15 +4,15 @@
 ghost use Rattle.std.specs.Prelude.{◌≡◌, ℕ, ◌+◌, ◌<◌, ◌≤◌, ◌%◌, [], ◌∷◌, ◌++◌, length, take, drop, Option, Some, None, slice_get, vec_capacity};
 ghost use Rattle.atomic_table.specs.Table.{rest};
 ghost use Rattle.lulink.specs.Words.{number, has_left, IsFinal};
-ghost use Rattle.lulink.specs.Insides.{told_list, IsTakeSide, SoughtMessage, HasEmptied};
+ghost use Rattle.lulink.specs.Insides.{given_list, IsTakeSide, SoughtMessage, HasEmptied};
 
-use crate::rule::{Leave, LoadTail, Look, Ring, Seat, StoreHead};
+use crate::rule::{Leave, LoadTail, Look, Ring, RingSeat, StoreHead};
 use crate::word::{HEAD, TAIL, TOP, next_slot, number_of, says_gone};
 use luflow::Msg;
 
 #[derive(Drop)]
 pub struct TakeSide {
-    pub(crate) seat: Seat,
+    pub(crate) seat: RingSeat,
     /// How many messages were taken.
     pub(crate) count: u64,
     /// The place of the next message's slot.
@@ -60,7 +60,7 @@ impl TakeSide {
         requires held { 0 < self.old.held }
         ensures side { IsTakeSide ring.now.shared.table_id ring.now.shared.key self.new }
         ensures count { self.new.count ≡ self.old.count + 1 }
-        ensures next { result ≡ slice_get (told_list ring.now.shared.key) self.old.count }
+        ensures next { result ≡ slice_get (given_list ring.now.shared.key) self.old.count }
         ensures seen { self.new.seat.me.0.seen ≡ self.old.seat.me.0.seen ++ self.old.word ∷ [] }
     {
         let room = ring.slot_count();
@@ -82,7 +82,7 @@ impl TakeSide {
         ensures within { result ≤ most }
         ensures count { self.new.count ≡ self.old.count + result }
         ensures into { into.new.items ≡ into.old.items
-            ++ take result (drop self.old.count (told_list ring.now.shared.key)) }
+            ++ take result (drop self.old.count (given_list ring.now.shared.key)) }
         ensures capacity { vec_capacity into.new ≡ vec_capacity into.old }
         ensures seen { self.new.seat.me.0.seen ≡ self.old.seat.me.0.seen ++ self.new.word ∷ [] }
         ensures empty { result < most → self.new.count ≡ number self.new.word }
@@ -114,7 +114,7 @@ impl TakeSide {
         ensures word { self.new.word ≡ self.old.word }
         ensures held { self.new.held + there ≡ self.old.held }
         ensures into { into.new.items ≡ into.old.items
-            ++ take there (drop self.old.count (told_list ring.now.shared.key)) }
+            ++ take there (drop self.old.count (given_list ring.now.shared.key)) }
         ensures capacity { vec_capacity into.new ≡ vec_capacity into.old }
         ensures seen { self.new.seat.me.0.seen ≡ self.old.seat.me.0.seen ++ self.old.word ∷ [] }
     {
@@ -133,7 +133,7 @@ impl TakeSide {
         requires spare { length into.old.items + there ≤ vec_capacity into.old }
         ensures side { HasEmptied ring.now.shared.key self.old there self.new }
         ensures into { into.new.items ≡ into.old.items
-            ++ take there (drop self.old.count (told_list ring.now.shared.key)) }
+            ++ take there (drop self.old.count (given_list ring.now.shared.key)) }
         ensures capacity { vec_capacity into.new ≡ vec_capacity into.old }
     {
         let mut i = 0;

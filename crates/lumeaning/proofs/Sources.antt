@@ -7,7 +7,7 @@ use Rattle.luflow.specs.declared.variable.Variable.{Variable}
 use Rattle.luflow.specs.Streams.{Stream, is_broken}
 use Rattle.luflow.specs.Messages.{marks, messages}
 use Rattle.luflow.proofs.Solutions.{some_at}
-use Rattle.luworld.specs.Runs.{Run, IsJob, NoFault, streams_of, messages_of, link_list, carried}
+use Rattle.luworld.specs.Jobs.{JobView, IsJob, NoFault, streams_of, messages_of, link_list, carried}
 use Rattle.luworld.proofs.Outlines.{flow_of_carried}
 use Rattle.lusource.specs.Source.{SourceStreams}
 use Rattle.lusource.proofs.Meanings.{as_flat}
@@ -22,7 +22,7 @@ marks_same s s' n h = go 0 n
     go a zero = refl
     go a (suc m) = ap₂ ◌∷◌ (h a) (go (a + 1) m)
 
-module _ (job : Run) (σ : SourceStreams) (ok : IsJob job) (meant : IsMeant job σ) where
+module _ (job : JobView) (σ : SourceStreams) (ok : IsJob job) (meant : IsMeant job σ) where
   pub same_stream : (v t : ℕ) → v < length job.plan.flat.variables → source_stream job σ v t ≡ streams_of job v t
   same_stream v t lt =
       let x = some_at job.plan.flat.variables v lt in

@@ -1,3 +1,3 @@
 pub mod Meaning
 pub mod Laws
-pub mod Telling
+pub mod RunReports

@@ -1,7 +1,7 @@
 //! What the source of a run says of its links and its outputs.
 //!
 //! - `specs/Meaning.antt`: a run's source, the list of a link and the statuses of an output in its words.
-//! - `specs/Telling.antt`: what a run reports, and when that is true of its source program.
+//! - `specs/RunReports.antt`: what a run reports, and when that is true of its source program.
 //! - [`laws`]: the source says the same as the flat program.
 #![tactic(auto)]
 

@@ -9,7 +9,7 @@ use Rattle.luflow.specs.declared.form.Flow.{Flow}
 use Rattle.luflow.specs.Program.{flow_at, flows_of, places, clock_reads, form_reads}
 use Rattle.luflow.specs.Flats.{IsFlat}
 use Rattle.luflow.proofs.Solutions.{some_at, place_in}
-use Rattle.luworld.specs.Needs.{Distribution, stands, IsNeeded, read_there, clock_there, clock_needed}
+use Rattle.luworld.specs.Needs.{PlanView, stands, IsNeeded, read_there, clock_there, clock_needed}
 use Rattle.luplace.specs.Marks.{is_marked, marked_all, clock_at, AreOwnMarks, AreClosedMarks, AreMarks}
 
 bool_cases : (b : Bool) → (b ≡ true) ⊎ (b ≡ false)
@@ -86,7 +86,7 @@ all_last P (x ∷ xs) ys h = all_last P xs ys (λ j e lj. h (suc j) e (omega ari
 all_at : {X : Type 0} (P : X → Type 0) (xs : List X) (x : X) → All P xs → Contains xs x → P x
 all_at P xs x h c = subst P c.2 (h c.0 x c.1)
 
-module _ (plan : Distribution) (s : ℕ) (flat : IsFlat plan.flat) where
+module _ (plan : PlanView) (s : ℕ) (flat : IsFlat plan.flat) where
   pub own_start : (marks : List Bool) → marks ≡ replicate (flows_of plan.flat) false → length marks ≡ flows_of plan.flat → AreOwnMarks plan s 0 marks
   own_start marks e n =
       record {

@@ -6,8 +6,8 @@ use Rattle.std.proofs.lemmas.Bool.{cases_lt}
 use Rattle.std.proofs.lemmas.List.{map-append, take_more}
 use Rattle.luflow.specs.Program.{column_of, data_of}
 use Rattle.luworld.specs.Needs.{stands}
-use Rattle.luworld.specs.Runs.{Run}
-use Rattle.luplace.specs.SiteTables.{column_at, columns_at}
+use Rattle.luworld.specs.Jobs.{JobView}
+use Rattle.luplace.specs.SiteInputsViews.{column_at, columns_at}
 
 pub map_range : {X : Type 0} (f : ℕ → X) (a n k : ℕ) → k < n → slice_get (map f (range_with_len a n)) k ≡ Some (f (a + k))
 map_range f a zero k l = absurd (omega arith)
@@ -24,7 +24,7 @@ past_list [] k l = refl
 past_list (x ∷ xs) zero l = absurd (omega arith)
 past_list (x ∷ xs) (suc k) l = past_list xs k (omega arith)
 
-pub own_column : (job : Run) (s c : ℕ) → stands job.plan c s ≡ true → unwrap_or (slice_get (columns_at job s) c) [] ≡ column_of job.inputs c
+pub own_column : (job : JobView) (s c : ℕ) → stands job.plan c s ≡ true → unwrap_or (slice_get (columns_at job s) c) [] ≡ column_of job.inputs c
 own_column job s c own = elim (cases_lt c (length job.inputs.columns)) [
   | inl l ↦
       ap (λ o. unwrap_or o []) (map_range (column_at job s) 0 (length job.inputs.columns) c l)
@@ -36,7 +36,7 @@ own_column job s c own = elim (cases_lt c (length job.inputs.columns)) [
 ]
 
 -- a column that stands elsewhere is empty
-pub no_column : (job : Run) (s c : ℕ) → stands job.plan c s ≡ false → unwrap_or (slice_get (columns_at job s) c) [] ≡ []
+pub no_column : (job : JobView) (s c : ℕ) → stands job.plan c s ≡ false → unwrap_or (slice_get (columns_at job s) c) [] ≡ []
 no_column job s c other = elim (cases_lt c (length job.inputs.columns)) [
   | inl l ↦
       ap (λ o. unwrap_or o []) (map_range (column_at job s) 0 (length job.inputs.columns) c l)

@@ -8,10 +8,10 @@ use Rattle.std.proofs.lemmas.List.Folds.{list_any_at}
 use Rattle.std.proofs.lemmas.List.Kept.{IsStrictlyIncreasing-filter}
 use Rattle.std.proofs.lemmas.List.FromFn.{get_or-range_with_len, length-range_with_len}
 use Rattle.luflow.specs.declared.form.Flow.{Flow}
-use Rattle.luflow.specs.Program.{FlatProgram, flow_at}
+use Rattle.luflow.specs.Program.{FlatView, flow_at}
 use Rattle.luflow.specs.Flats.{IsFlat}
 use Rattle.luworld.specs.declared.link.Link.{Link}
-use Rattle.luworld.specs.Needs.{Distribution, IsPlacedAt, IsPlan, IsNeeded, read_there, clock_there, clock_needed, is_in, stands, is_linked, links_of_variable, all_links}
+use Rattle.luworld.specs.Needs.{PlanView, IsPlacedAt, IsPlan, IsNeeded, read_there, clock_there, clock_needed, is_in, stands, is_linked, links_of_variable, all_links}
 use Rattle.luworld.proofs.Parts.{flat_map_same}
 use Rattle.luplace.specs.Placing.{are_somewhere, are_together, bare}
 use Rattle.luplace.specs.Marks.{is_marked, marks_at, AreAllMarks, marked_places, sites_at, is_taken, link_of, some_links, links_below}
@@ -116,7 +116,7 @@ needs_in_order (m ∷ rows) zero d l = IsStrictlyIncreasing-filter (is_marked m)
 needs_in_order (m ∷ rows) (suc k) d l = needs_in_order rows k d (omega arith)
 
 -- what a site needs follows from the flows and where they stand alone
-module _ (p q : Distribution) (s : ℕ) (on : (i : ℕ) → stands p i s ≡ true → stands q i s ≡ true) (at : (i : ℕ) (flow : Flow) → flow_at p.flat i ≡ Some flow → flow_at q.flat i ≡ Some flow) where
+module _ (p q : PlanView) (s : ℕ) (on : (i : ℕ) → stands p i s ≡ true → stands q i s ≡ true) (at : (i : ℕ) (flow : Flow) → flow_at p.flat i ≡ Some flow → flow_at q.flat i ≡ Some flow) where
   needed_too : (r : ℕ) → IsNeeded p s r → IsNeeded q s r
   needed_too x (read_there i r flow there here c) = read_there i r flow (on i there) (at i flow here) c
   needed_too x (clock_there i r flow there here c) = clock_there i r flow (on i there) (at i flow here) c
@@ -141,8 +141,8 @@ row_placed count (xs ∷ placed) v l some each = go (nat_lt 0 (length xs)) refl 
     go true e h (suc v) l rest = rest h v (omega arith)
     go false e h v l rest = absurd (false≢true h)
 
-module _ (flat : FlatProgram) (names : List (List ℕ)) (placed : List (List ℕ)) (rows : List (List Bool)) (capacity : ℕ) (is_flat : IsFlat flat) (long : length placed ≡ length flat.variables) (marks : AreAllMarks (bare flat [] placed) (length names) rows) where
-  abbrev pub made : Distribution
+module _ (flat : FlatView) (names : List (List ℕ)) (placed : List (List ℕ)) (rows : List (List Bool)) (capacity : ℕ) (is_flat : IsFlat flat) (long : length placed ≡ length flat.variables) (marks : AreAllMarks (bare flat [] placed) (length names) rows) where
+  abbrev pub made : PlanView
   made = record { flat = flat; names = names; placed = placed; needs = map marked_places rows; links = links_below rows flat.owners placed (length flat.variables); capacity = capacity }
 
   placed_one : are_somewhere placed ≡ true → All (AreSites (length names)) placed → (v : ℕ) → v < length flat.variables → IsPlacedAt (length names) (row placed v)
@@ -192,6 +192,6 @@ module _ (flat : FlatProgram) (names : List (List ℕ)) (placed : List (List ℕ
 
   pub plan_parts : (some : 0 < length names) (few : length names ≤ 16) (room : 1 ≤ capacity) (small : capacity ≤ 1024) (somewhere : are_somewhere placed ≡ true) (inside : All (AreSites (length names)) placed) (together : are_together flat.owners placed ≡ true) (theirs : List (List ℕ)) (needs : List (List ℕ)) (links : List Link) → theirs ≡ names → needs ≡ map marked_places rows → links ≡ links_below rows flat.owners placed (length flat.variables) → IsPlan (record { flat = flat; names = theirs; placed = placed; needs = needs; links = links; capacity = capacity })
   plan_parts some few room small somewhere inside together theirs needs links n d k =
-      let whole : Distribution = record { flat = flat; names = theirs; placed = placed; needs = needs; links = links; capacity = capacity } in
+      let whole : PlanView = record { flat = flat; names = theirs; placed = placed; needs = needs; links = links; capacity = capacity } in
       let e : made ≡ whole = cc in
       subst IsPlan e (plan_is some few room small somewhere inside together)

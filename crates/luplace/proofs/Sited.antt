@@ -6,7 +6,7 @@ use Rattle.std.proofs.lemmas.Bool.{false≢true, true≢false}
 use Rattle.luflow.specs.declared.variable.Variable.{Variable}
 use Rattle.lubase.specs.Places.{place_from, first_place}
 use Rattle.lubase.proofs.Sought.{at, first_such}
-use Rattle.luplace_file.specs.Content.{Placement}
+use Rattle.luplace_file.specs.Content.{PlaceView}
 use Rattle.luplace_file.specs.Lawful.{IsLawful, AreSites}
 use Rattle.luplace_file.specs.declared.place.Placed.{Placed}
 use Rattle.luplace_file.specs.declared.error.PlaceError.{PlaceError}
@@ -22,7 +22,7 @@ put_sites n variable default (entry ∷ entries) d h = go (bytes_eq entry.variab
     go true rest = h 0 entry (omega arith)
     go false rest = rest
 
-pub placed_sites : (place : Placement) (xs : List Variable) → IsLawful place → All (AreSites (length place.sites)) (placed_by xs place)
+pub placed_sites : (place : PlaceView) (xs : List Variable) → IsLawful place → All (AreSites (length place.sites)) (placed_by xs place)
 placed_sites place [] lawful = λ k d l. absurd (omega arith)
 placed_sites place (x ∷ xs) lawful = more (put_sites (length place.sites) x.name place.default place.place lawful.default_known lawful.entries_known) (placed_sites place xs lawful)
   where
@@ -30,7 +30,7 @@ placed_sites place (x ∷ xs) lawful = more (put_sites (length place.sites) x.na
     more first rest zero d l = first
     more first rest (suc k) d l = rest k d (omega arith)
 
-pub placed_long : (place : Placement) (xs : List Variable) → length (placed_by xs place) ≡ length xs
+pub placed_long : (place : PlaceView) (xs : List Variable) → length (placed_by xs place) ≡ length xs
 placed_long place [] = refl
 placed_long place (x ∷ xs) = ap suc (placed_long place xs)
 

@@ -1,4 +1,4 @@
-pub mod SiteTables
+pub mod SiteInputsViews
 pub mod Placing
 pub mod Marks
 pub mod Vectors

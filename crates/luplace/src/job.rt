@@ -7,7 +7,7 @@ ghost use Rattle.luflow.specs.Packed.{data_in};
 ghost use Rattle.luflow.specs.Tables.{columns_view};
 ghost use Rattle.luflow.specs.Sound.{IsFit};
 ghost use Rattle.luworld.specs.Needs.{sites_of, stands};
-ghost use Rattle.luworld.specs.Runs.{IsRun};
+ghost use Rattle.luworld.specs.Jobs.{IsJobView};
 
 use crate::plan::Plan;
 use lubase::Row;
@@ -16,7 +16,7 @@ use std::alloc::{AllocError, Global};
 use std::marker::Model;
 use std::snapshot::Snapshot;
 
-/// A plan and the table of the inputs: what one run is about. A contract sees the `Run` of `luworld`.
+/// A plan and the table of the inputs: what one run is about. A contract sees the `JobView` of `luworld`.
 pub struct Job {
     plan: Plan,
     inputs: Inputs,
@@ -30,13 +30,13 @@ impl Drop for Job {
 }
 
 impl Model for Job {
-    ghost use Rattle.luworld.specs.Runs.{Run, IsRun};
+    ghost use Rattle.luworld.specs.Jobs.{JobView, IsJobView};
 
-    ghost Value = { Run };
+    ghost Value = { JobView };
 
     ghost view = { λ a. record { plan = a.plan; inputs = a.inputs } };
 
-    ghost invariant = { λ a. IsRun (record { plan = a.plan; inputs = a.inputs }) };
+    ghost invariant = { λ a. IsJobView (record { plan = a.plan; inputs = a.inputs }) };
 }
 
 /// The number of instants and the columns of the main inputs that stand at one site, and no other data. It keeps, for
@@ -61,13 +61,13 @@ impl Drop for SiteInputs {
 }
 
 impl Model for SiteInputs {
-    ghost use Rattle.luplace.specs.SiteTables.{SiteTable, IsSiteTable};
+    ghost use Rattle.luplace.specs.SiteInputsViews.{SiteInputsView, IsSiteInputsView};
 
-    ghost Value = { SiteTable };
+    ghost Value = { SiteInputsView };
 
     ghost view = { λ a. record { job = a.job.value; site = a.site } };
 
-    ghost invariant = { λ a. IsSiteTable a.job.value a.site a.instants a.columns };
+    ghost invariant = { λ a. IsSiteInputsView a.job.value a.site a.instants a.columns };
 }
 
 fn copied(alloc: Global, column: &Values) -> Result<Row<Datum>, AllocError>
@@ -89,13 +89,13 @@ impl Job {
 
     /// Does nothing. A proof has from it that the plan is one and the inputs are those of its program.
     pub fn recall_invariant(&self)
-        ensures { IsRun self.now }
+        ensures { IsJobView self.now }
     {}
 
     /// The plan. Takes no memory.
     pub fn plan(&self) -> &Plan
         ensures plan { result.now ≡ self.now.plan }
-        ensures run { IsRun self.now }
+        ensures run { IsJobView self.now }
     {
         &self.plan
     }
@@ -127,13 +127,13 @@ fn datum_in(columns: &[Row<Datum>], column: usize, instant: usize) -> Option<Dat
 impl SiteInputs {
     /// Does nothing. A proof has from it that the job's plan is one and its inputs are those of its program.
     pub fn recall_invariant(&self)
-        ensures { IsRun self.now.job }
+        ensures { IsJobView self.now.job }
     {}
 
     /// The site.
     pub fn site(&self) -> u8
         ensures site { result ≡ self.now.site }
-        ensures run { IsRun self.now.job }
+        ensures run { IsJobView self.now.job }
     {
         self.site
     }

@@ -2,7 +2,7 @@
 
 ghost use Rattle.std.specs.List.Sorted.{IsStrictlyIncreasing};
 ghost use Rattle.std.specs.Prelude.{◌≡◌, ◌⊎◌, ◌<◌, true, length, All, IfOk, IfErr};
-ghost use Rattle.luworld.specs.Needs.{Distribution, IsPlan, sites_of, stands};
+ghost use Rattle.luworld.specs.Needs.{PlanView, IsPlan, sites_of, stands};
 ghost use Rattle.luplace.specs.Placing.{refusal, are_somewhere, are_together, placed_by, IsPlanOf};
 ghost use Rattle.luflow.specs.Rank.{row};
 
@@ -19,7 +19,7 @@ use std::alloc::{AllocError, Global};
 use std::marker::Model;
 
 /// A plan: a flat program, its sites, where its main variables stand, and the links that follow. A contract sees the
-/// `Distribution` of `luworld`.
+/// `PlanView` of `luworld`.
 pub struct Plan {
     flat: Flat,
     names: Row<Name>,
@@ -44,9 +44,9 @@ impl Drop for Plan {
 }
 
 impl Model for Plan {
-    ghost use Rattle.luworld.specs.Needs.{Distribution, IsPlan};
+    ghost use Rattle.luworld.specs.Needs.{PlanView, IsPlan};
 
-    ghost Value = { Distribution };
+    ghost Value = { PlanView };
 
     ghost view = { λ a. record {
       flat = a.flat;

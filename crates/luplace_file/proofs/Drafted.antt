@@ -10,7 +10,7 @@ use Rattle.luplace_file.specs.Answers.{or_bad_key}
 use Rattle.luplace_file.specs.SiteName.{is_site_name}
 use Rattle.luplace_file.specs.Keys.{◌>>=◌, are_keys, name_in, names_in, texts_in, some_texts_in, may_have_arrays, choice_in, entries_in, version_in, sites_in, default_in, capacity_in, place_in}
 use Rattle.luplace_file.specs.Draft.{draft_at, draft_of, IsDraft}
-use Rattle.luplace_file.proofs.Walks.{told_some}
+use Rattle.luplace_file.proofs.Walks.{reported_some}
 
 from_bind : {A B : Type 0} (o : Option A) (f : A → Option B) (y : B) → (o >>= f) ≡ Some y → (x : A) × (o ≡ Some x) × (f x ≡ Some y)
 from_bind None f y e = absurd cc
@@ -110,8 +110,8 @@ drafted_at version keys draft is =
 
 pub drafted : (keys : Members) (draft : Draft) → or_bad_key (draft_of keys) ≡ Ok draft → IsDraft draft
 unfolding draft_of
-drafted keys draft told =
-    let is = told_some (draft_of keys) draft told in
+drafted keys draft reported =
+    let is = reported_some (draft_of keys) draft reported in
     let read = from_if (are_keys keys) _ draft is in
     let version = from_bind (version_in (get_member (codes "version") keys)) _ draft read in
     drafted_at version.0 keys draft version.2

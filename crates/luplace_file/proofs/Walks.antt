@@ -29,14 +29,14 @@ with_front-nil (Some rest) = refl
 with_front-nil None = refl
 
 -- a value that was reported is there
-pub told_some : {A : Type 0} (o : Option A) (x : A) → or_bad_key o ≡ Ok x → o ≡ Some x
-told_some None x e = absurd cc
-told_some (Some y) x e = cc
+pub reported_some : {A : Type 0} (o : Option A) (x : A) → or_bad_key o ≡ Ok x → o ≡ Some x
+reported_some None x e = absurd cc
+reported_some (Some y) x e = cc
 
 -- one value here, and then the others
 pub one_more : {A B : Type 0} (front : List A) (here : Option B) (x : B) (a : A) (rest : B → Option (List A)) (after total : Option (List A)) → or_bad_key here ≡ Ok x → rest x ≡ (after >>= λ others. Some (a ∷ others)) → with_front front (here >>= rest) ≡ total → with_front (front ++ a ∷ []) after ≡ total
-one_more front here x a rest after total told is so =
-    let one : (here >>= rest) ≡ (after >>= λ others. Some (a ∷ others)) = rw (told_some here x told) is in
+one_more front here x a rest after total reported is so =
+    let one : (here >>= rest) ≡ (after >>= λ others. Some (a ∷ others)) = rw (reported_some here x reported) is in
     sym (ap (with_front front) one ∙ with_front-none front a after) ∙ so
 
 pub next_name : (values : List Value) (i : ℕ) (d : Value) → i < length values → names_in (items_view (drop i values)) ≡ (name_in (view (get_or values i d)) >>= λ name. names_in (items_view (drop (i + 1) values)) >>= λ names. Some (name ∷ names))
@@ -61,5 +61,5 @@ fails_here None f e (inr is) = let same : BadKey ≡ e = cc in inr (ap Err same)
 fails_here (Some x) f e (inr is) = absurd cc
 
 pub fails_later : {A B : Type 0} (o : Option A) (f : A → Option B) (x : A) (e : PlaceError) → or_bad_key o ≡ Ok x → Fails (f x) e → Fails (o >>= f) e
-fails_later None f x e told fails = absurd cc
-fails_later (Some y) f x e told fails = let same : x ≡ y = cc in subst (λ z. Fails (f z) e) same fails
+fails_later None f x e reported fails = absurd cc
+fails_later (Some y) f x e reported fails = let same : x ≡ y = cc in subst (λ z. Fails (f z) e) same fails

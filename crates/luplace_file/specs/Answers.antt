@@ -5,7 +5,8 @@ use Rattle.luplace_file.specs.declared.error.PlaceError.TheVariants.{BadKey, Out
 
 -- The call gives what is reported, unless memory ran out.
 abbrev pub Gives : {X : Type 0} → Result X PlaceError → Result X PlaceError → Type 0
-Gives told result = MatchResult result (λ x. told ≡ Ok x) (λ e. (e ≡ OutOfMemory) ⊎ (told ≡ Err e))
+Gives reported result = MatchResult result (λ x. reported ≡ Ok x)
+    (λ e. (e ≡ OutOfMemory) ⊎ (reported ≡ Err e))
 
 -- the value, or that a key or its value is none of a placement's
 abbrev pub or_bad_key : {X : Type 0} → Option X → Result X PlaceError

@@ -17,9 +17,11 @@ draft_at version table =
 
 -- the values of the keys, where the table has no other key
 unfoldable pub draft_of : Members → Option Draft
-draft_of table = if are_keys table then (version_in (get_member (codes "version") table) >>= λ version. draft_at version table) else None
+draft_of table = if are_keys table then (version_in (get_member (codes "version") table) >>= λ version.
+    draft_at version table) else None
 
--- what holds of every draft: the names of the sites are spelled as they should, and each variable is to stand somewhere
+-- what holds of every draft: the names of the sites are spelled as they should, and each variable is to stand
+-- somewhere
 pub record IsDraft (draft : Draft) : Type 0 where
   pub named : All (λ site. is_site_name site ≡ true) draft.sites
   pub somewhere : All (λ wanted. 1 ≤ length wanted.sites) draft.place

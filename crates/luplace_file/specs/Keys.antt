@@ -1,9 +1,12 @@
--- The keys of a placement's table, and the value that each may have. None stands where there is no such value.
-use Rattle.std.specs.Prelude.{ℕ, ℤ, pos, List, [], ◌∷◌, Bool, true, false, ◌&&◌, ◌||◌, codes, Option, Some, None, if◌then◌else◌}
+-- The keys of a placement's table, and the value that each may have. None stands where there is no such
+-- value.
+use Rattle.std.specs.Prelude.{ℕ, ℤ, pos, List, [], ◌∷◌, Bool, true, false, ◌&&◌, ◌||◌, codes, Option, Some}
+use Rattle.std.specs.Prelude.{None, if◌then◌else◌}
 use Rattle.std.specs.Ordering.{int_eq}
 use Rattle.std.specs.Str.{bytes_eq}
 use Rattle.lulimits.specs.Limits.{usual_capacity}
-use Rattle.toml.specs.Data.{Data, string, array, Items, no_items, item, Members, no_members, member, as_str, as_integer, as_array, as_table}
+use Rattle.toml.specs.Data.{Data, string, array, Items, no_items, item, Members, no_members, member, as_str}
+use Rattle.toml.specs.Data.{as_integer, as_array, as_table}
 use Rattle.luplace_file.specs.declared.draft.Wanted.{Wanted}
 use Rattle.luplace_file.specs.declared.choice.Version.{Version}
 use Rattle.luplace_file.specs.declared.choice.Version.TheVariants.{One, Two, Other}
@@ -11,7 +14,8 @@ use Rattle.luplace_file.specs.SiteName.{is_site_name}
 
 -- the keys that a placement may have
 abbrev pub is_key : List ℕ → Bool
-is_key key = bytes_eq key (codes "version") || (bytes_eq key (codes "sites") || (bytes_eq key (codes "default") || (bytes_eq key (codes "capacity") || bytes_eq key (codes "place"))))
+is_key key = bytes_eq key (codes "version") || (bytes_eq key (codes "sites")
+    || (bytes_eq key (codes "default") || (bytes_eq key (codes "capacity") || bytes_eq key (codes "place"))))
 
 -- the table has no other key
 abbrev pub are_keys : Members → Bool
@@ -55,7 +59,8 @@ may_have_arrays One = false
 may_have_arrays Two = true
 may_have_arrays Other = true
 
--- the sites that a value names, in a file of a version: a text names one, and an array one or more, where the file may have arrays
+-- the sites that a value names, in a file of a version: a text names one, and an array one or more, where the
+-- file may have arrays
 abbrev pub choice_in : Version → Data → Option (List (List ℕ))
 choice_in version (string text) = Some (text ∷ [])
 choice_in version (array texts) = if may_have_arrays version then some_texts_in texts else None
@@ -64,7 +69,8 @@ choice_in version value = None
 -- the sites that each value of a table names, with its key
 abbrev pub entries_in : Version → Members → Option (List Wanted)
 entries_in version no_members = Some []
-entries_in version (member key value rest) = choice_in version value >>= λ sites. entries_in version rest >>= λ entries. Some (record { variable = key; sites = sites } ∷ entries)
+entries_in version (member key value rest) = choice_in version value >>= λ sites.
+    entries_in version rest >>= λ entries. Some (record { variable = key; sites = sites } ∷ entries)
 
 -- ---- the keys
 

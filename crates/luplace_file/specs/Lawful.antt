@@ -2,7 +2,7 @@
 use Rattle.std.specs.Prelude.{◌≡◌, ◌≢◌, ◌≤◌, ◌<◌, ℕ, List, length, true, All, AllPairs}
 use Rattle.std.specs.List.Sorted.{IsStrictlyIncreasing}
 use Rattle.lulimits.specs.Limits.{most_sites, most_capacity}
-use Rattle.luplace_file.specs.Content.{Placement}
+use Rattle.luplace_file.specs.Content.{PlaceView}
 use Rattle.luplace_file.specs.SiteName.{is_site_name}
 
 -- numbers of sites, each greater than the one before
@@ -10,8 +10,9 @@ pub record AreSites (count : ℕ) (sites : List ℕ) : Type 0 where
   pub rising : IsStrictlyIncreasing sites
   pub known : All (λ site. site < count) sites
 
--- from 1 to 16 sites with names that differ, a capacity from 1 to 1,024, and each variable at one of the sites or several
-pub record IsLawful (place : Placement) : Type 0 where
+-- from 1 to 16 sites with names that differ, a capacity from 1 to 1,024, and each variable at one of the
+-- sites or several
+pub record IsLawful (place : PlaceView) : Type 0 where
   pub some_site : 1 ≤ length place.sites
   pub few_sites : length place.sites ≤ most_sites
   pub named : All (λ site. is_site_name site ≡ true) place.sites

@@ -1,7 +1,9 @@
 -- The line that reports a refusal of a placement.
 use Rattle.std.specs.Prelude.{ℕ, List, codes}
 use Rattle.luplace_file.specs.declared.error.PlaceError.{PlaceError}
-use Rattle.luplace_file.specs.declared.error.PlaceError.TheVariants.{NotToml, BadKey, UnknownSite, UnknownVariable, Unplaced, DuplicateSite, OutOfRange, SplitCall, OutOfMemory}
+use Rattle.luplace_file.specs.declared.error.PlaceError.TheVariants.{NotToml, BadKey, UnknownSite}
+use Rattle.luplace_file.specs.declared.error.PlaceError.TheVariants.{UnknownVariable, Unplaced, DuplicateSite}
+use Rattle.luplace_file.specs.declared.error.PlaceError.TheVariants.{OutOfRange, SplitCall, OutOfMemory}
 
 -- a code and a name, and where; no line feed
 abbrev pub line_of : PlaceError → List ℕ

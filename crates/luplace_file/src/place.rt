@@ -24,7 +24,7 @@ impl Drop for Placed {
     }
 }
 
-/// What a placement file says. A contract sees the `Placement` of `specs/Content.antt`, which keeps the rules of
+/// What a placement file says. A contract sees the `PlaceView` of `specs/Content.antt`, which keeps the rules of
 /// `specs/Lawful.antt`.
 pub struct Place {
     names: Row<Name>,
@@ -46,10 +46,10 @@ impl Drop for Place {
 }
 
 impl Model for Place {
-    ghost use Rattle.luplace_file.specs.Content.{Placement};
+    ghost use Rattle.luplace_file.specs.Content.{PlaceView};
     ghost use Rattle.luplace_file.specs.Lawful.{IsLawful};
 
-    ghost Value = { Placement };
+    ghost Value = { PlaceView };
 
     ghost view = { λ a. record {
       sites = a.names;

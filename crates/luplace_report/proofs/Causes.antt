@@ -11,7 +11,7 @@ use Rattle.luflow.specs.Program.{flow_at, flows_of, places, clock_reads}
 use Rattle.luflow.specs.Flats.{IsWithin}
 use Rattle.luflow.specs.Rank.{row}
 use Rattle.luworld.specs.declared.link.Link.{Link}
-use Rattle.luworld.specs.Needs.{Distribution, sites_of, is_in, stands, home, IsNeeded, read_there, clock_there, clock_needed, is_linked, links_of_variable, IsPlan}
+use Rattle.luworld.specs.Needs.{PlanView, sites_of, is_in, stands, home, IsNeeded, read_there, clock_there, clock_needed, is_linked, links_of_variable, IsPlan}
 use Rattle.luworld.proofs.Wired.{Each, each_append, each_at}
 use Rattle.luplace_report.specs.declared.cause.Cause.{Cause}
 use Rattle.luplace_report.specs.declared.cause.Cause.TheVariants.{Reader, Clock}
@@ -78,7 +78,7 @@ find_passes p (x ∷ xs) j e = go (p x) refl e (find_passes p xs j)
 
 -- LINKS
 
-module _ (plan : Distribution) where
+module _ (plan : PlanView) where
   abbrev pub IsSent : ℕ → Link → Type 0
   IsSent n link = (link.flow < n) × (link.to < sites_of plan) × (is_linked plan link.flow link.to ≡ true) × (link.from ≡ home plan link.flow)
 
@@ -97,7 +97,7 @@ module _ (plan : Distribution) where
   all_sent n a zero le = tt
   all_sent n a (suc m) le = each_append (IsSent n) (links_of_variable plan a) (flat_map (links_of_variable plan) (range_with_len (a + 1) m)) (some_sent n a 0 (sites_of plan) (omega arith) (omega arith)) (all_sent n (a + 1) m (omega arith))
 
-module _ (plan : Distribution) (ok : IsPlan plan) where
+module _ (plan : PlanView) (ok : IsPlan plan) where
   abbrev pub main : ℕ
   main = length plan.flat.variables
 

@@ -4,7 +4,7 @@ use Rattle.std.specs.Prelude.{slice_index, Contains}
 use Rattle.std.proofs.lemmas.Option.{slice_get_within}
 use Rattle.luflow.specs.Program.{flows_of}
 use Rattle.luworld.specs.declared.link.Link.{Link}
-use Rattle.luworld.specs.Needs.{Distribution, IsPlan, is_in, stands}
+use Rattle.luworld.specs.Needs.{PlanView, IsPlan, is_in, stands}
 use Rattle.luworld.proofs.Fitting.{fits}
 use Rattle.luplace_report.specs.declared.cause.Cause.{Cause}
 use Rattle.luplace_report.specs.declared.cause.Cause.TheVariants.{Reader, Clock}
@@ -12,7 +12,7 @@ use Rattle.luplace_report.specs.Cause.{IsCause}
 use Rattle.luplace_report.specs.Graph.{IsHead, IsDrawn, EdgeLaw}
 use Rattle.luplace_report.proofs.Causes.{cause_law, sent, IsSent, main}
 
-module _ (plan : Distribution) (ok : IsPlan plan) where
+module _ (plan : PlanView) (ok : IsPlan plan) where
   at_home : (k : Link) → IsSent plan (main plan ok) k → stands plan k.flow k.from ≡ true
   at_home k is = ap (stands plan k.flow) is.3 ∙ (fits plan ok).stands_home k.flow (omega (arith, is.0, ok.flat_is.variables_first))
 

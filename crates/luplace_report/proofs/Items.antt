@@ -11,11 +11,11 @@ use Rattle.std.proofs.lemmas.List.Sums.{sum_by-cons, length-filter}
 use Rattle.std.proofs.lemmas.Option.{slice_get_within, slice_get-get_or, get_or_from_slice_get}
 use Rattle.luflow.specs.Program.{flows_of}
 use Rattle.luworld.specs.declared.link.Link.{Link}
-use Rattle.luworld.specs.World.{Compute, Puts, Takes}
+use Rattle.luworld.specs.Systems.{Compute, Puts, Takes}
 use Rattle.luworld.specs.Outline.{Outline, links_of, message_items, compute_items, flow_items, round_cell}
 use Rattle.luflow.specs.Rank.{row}
-use Rattle.luworld.specs.Needs.{Distribution, stands, home, is_in}
-use Rattle.luworld.specs.Runs.{Run, IsRun, outline, streams_of, carried, receiver_of}
+use Rattle.luworld.specs.Needs.{PlanView, stands, home, is_in}
+use Rattle.luworld.specs.Jobs.{JobView, IsJobView, outline, streams_of, carried, receiver_of}
 use Rattle.luworld.proofs.Fitting.{fits, job_of_run}
 use Rattle.luworld.proofs.Outlines.{is_outline}
 use Rattle.luplace_report.specs.Table.{flow_count, received_count, sent_count, item_count, AreItems, ItemsLaw}
@@ -142,8 +142,8 @@ by_number p q a (x ∷ xs) h =
 
 -- A SITE'S MESSAGES
 
-module _ (job : Run) (run : IsRun job) (s : ℕ) where
-  abbrev plan : Distribution
+module _ (job : JobView) (run : IsJobView job) (s : ℕ) where
+  abbrev plan : PlanView
   plan = job.plan
 
   abbrev o : Outline

@@ -8,7 +8,7 @@ use Rattle.serde_json.specs.View.{items_of}
 use Rattle.serde_json.specs.Written.{has_float, items_have_float, compact_text}
 use Rattle.luflow.specs.Rank.{row}
 use Rattle.luworld.specs.declared.link.Link.{Link}
-use Rattle.luworld.specs.Needs.{Distribution}
+use Rattle.luworld.specs.Needs.{PlanView}
 use Rattle.luplace_report.specs.Names.{site_name}
 use Rattle.luplace_report.specs.Report.{site_data, flow_data, link_data, report_data}
 
@@ -21,15 +21,15 @@ site_plain names [] = refl
 site_plain names (s ∷ []) = refl
 site_plain names (s ∷ t ∷ sites) = texts_plain (site_name names) sites
 
-flows_plain : (plan : Distribution) (vs : List ℕ) → items_have_float (items_of (map (flow_data plan) vs)) ≡ false
+flows_plain : (plan : PlanView) (vs : List ℕ) → items_have_float (items_of (map (flow_data plan) vs)) ≡ false
 flows_plain plan [] = refl
 flows_plain plan (v ∷ vs) = rw (site_plain plan.names (row plan.placed v)) (flows_plain plan vs)
 
-links_plain : (plan : Distribution) (links : List Link) → items_have_float (items_of (map (link_data plan) links)) ≡ false
+links_plain : (plan : PlanView) (links : List Link) → items_have_float (items_of (map (link_data plan) links)) ≡ false
 links_plain plan [] = refl
 links_plain plan (link ∷ links) = links_plain plan links
 
-pub report_plain : (plan : Distribution) → has_float (report_data plan) ≡ false
+pub report_plain : (plan : PlanView) → has_float (report_data plan) ≡ false
 report_plain plan = rw (flows_plain plan (range_with_len 0 (length plan.flat.variables)), links_plain plan plan.links, texts_plain (λ (x : List ℕ). x) plan.names) refl
 
 pub text_is : (r : Result (String Global) AllocError) (d e : Data) → d ≡ e → has_float e ≡ false → IfOk r (λ s. has_float d ≡ false → string_bytes s ≡ compact_text d) → IfOk r (λ s. string_bytes s ≡ compact_text e)

@@ -1,5 +1,6 @@
 -- How the texts of a plan name variables, sites, types and clocks.
-use Rattle.std.specs.Prelude.{◌≡◌, ℕ, true, false, List, [], ◌++◌, codes, Result, IfOk, slice_get, unwrap_or, string_bytes}
+use Rattle.std.specs.Prelude.{◌≡◌, ℕ, true, false, List, [], ◌++◌, codes, Result, IfOk, slice_get, unwrap_or}
+use Rattle.std.specs.Prelude.{string_bytes}
 use Rattle.std.specs.declared.string.String.{String}
 use Rattle.std.specs.declared.alloc.Global.{Global}
 use Rattle.std.specs.Option.{option_map}
@@ -11,7 +12,7 @@ use Rattle.luflow.specs.declared.form.Clock.TheVariants.{Base, On}
 use Rattle.luflow.specs.declared.form.Flow.{Flow}
 use Rattle.luflow.specs.declared.variable.Enum.{Enum}
 use Rattle.luflow.specs.declared.variable.Variable.{Variable}
-use Rattle.luflow.specs.Program.{FlatProgram, flow_at}
+use Rattle.luflow.specs.Program.{FlatView, flow_at}
 use Rattle.luflow.specs.Types.{name_of, variable_names}
 use Rattle.luflow.specs.Variables.{variable_name}
 
@@ -26,19 +27,21 @@ type_name types Bool = codes "bool"
 type_name types (Names place size) = unwrap_or (option_map (λ (t : Enum). t.name) (slice_get types place)) []
 
 -- the type of a main variable, by its number
-abbrev pub type_of : FlatProgram → ℕ → List ℕ
-type_of flat v = unwrap_or (option_map (λ (x : Variable). type_name flat.types x.kind) (slice_get flat.variables v)) []
+abbrev pub type_of : FlatView → ℕ → List ℕ
+type_of flat v = unwrap_or (option_map (λ (x : Variable). type_name flat.types x.kind)
+    (slice_get flat.variables v)) []
 
 -- the clock of a flow, by its place
-abbrev pub clock_of : FlatProgram → ℕ → Clock
+abbrev pub clock_of : FlatView → ℕ → Clock
 clock_of flat i = unwrap_or (option_map (λ (flow : Flow). flow.clock) (flow_at flat i)) Base
 
 -- `c`, `not c` or `A(c)`, and nothing for the base clock
-abbrev pub clock_text : FlatProgram → Clock → List ℕ
+abbrev pub clock_text : FlatView → Clock → List ℕ
 clock_text flat Base = []
 clock_text flat (On c (datum.Bool false)) = codes "not " ++ variable_name flat c
 clock_text flat (On c (datum.Bool true)) = variable_name flat c
-clock_text flat (On c (datum.Name k)) = name_of (variable_names flat c) k ++ (codes "(" ++ (variable_name flat c ++ codes ")"))
+clock_text flat (On c (datum.Name k)) =
+    name_of (variable_names flat c) k ++ (codes "(" ++ (variable_name flat c ++ codes ")"))
 clock_text flat (On c (datum.Int n)) = variable_name flat c
 clock_text flat (On c datum.Nil) = variable_name flat c
 

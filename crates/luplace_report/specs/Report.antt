@@ -1,6 +1,7 @@
 -- The report of a plan as JSON data, and its text:
 --
---   {"capacity":16,"flows":[{"clock":"","name":"x","site":"A","type":"int"},..],"links":[{"clock":"","flow":"c","from":"A","to":"B"},..],"sites":["A","B"]}
+--
+-- {"capacity":16,"flows":[{"clock":"","name":"x","site":"A","type":"int"},..],"links":[{"clock":"","flow":"c","from":"A","to":"B"},..],"sites":["A","B"]}
 --
 -- Flows are the main variables in order of place, links stand in order of number, sites too.
 use Rattle.std.specs.Prelude.{ℕ, List, [], ◌∷◌, map, length, codes}
@@ -11,7 +12,7 @@ use Rattle.serde_json.specs.Written.{compact_text}
 use Rattle.luflow.specs.Rank.{row}
 use Rattle.luflow.specs.Variables.{variable_name}
 use Rattle.luworld.specs.declared.link.Link.{Link}
-use Rattle.luworld.specs.Needs.{Distribution}
+use Rattle.luworld.specs.Needs.{PlanView}
 use Rattle.luplace_report.specs.Names.{site_name, type_of, clock_of, clock_text}
 
 -- the names of these sites
@@ -25,7 +26,7 @@ site_data names (s ∷ []) = string (site_name names s)
 site_data names (s ∷ t ∷ sites) = array (sites_data names (s ∷ t ∷ sites))
 
 -- a main variable, by its number
-abbrev pub flow_data : Distribution → ℕ → Data
+abbrev pub flow_data : PlanView → ℕ → Data
 flow_data plan v =
     object
     (member (codes "clock") (string (clock_text plan.flat (clock_of plan.flat v)))
@@ -33,10 +34,10 @@ flow_data plan v =
     (member (codes "site") (site_data plan.names (row plan.placed v))
     (member (codes "type") (string (type_of plan.flat v)) no_members))))
 
-abbrev pub flows_data : Distribution → Data
+abbrev pub flows_data : PlanView → Data
 flows_data plan = array (items_of (map (flow_data plan) (range_with_len 0 (length plan.flat.variables))))
 
-abbrev pub link_data : Distribution → Link → Data
+abbrev pub link_data : PlanView → Link → Data
 link_data plan link =
     object
     (member (codes "clock") (string (clock_text plan.flat (clock_of plan.flat link.flow)))
@@ -44,13 +45,13 @@ link_data plan link =
     (member (codes "from") (string (site_name plan.names link.from))
     (member (codes "to") (string (site_name plan.names link.to)) no_members))))
 
-abbrev pub links_data : Distribution → Data
+abbrev pub links_data : PlanView → Data
 links_data plan = array (items_of (map (link_data plan) plan.links))
 
 abbrev pub names_data : List (List ℕ) → Data
 names_data names = array (items_of (map string names))
 
-abbrev pub report_data : Distribution → Data
+abbrev pub report_data : PlanView → Data
 report_data plan =
     object
     (member (codes "capacity") (number (unsigned plan.capacity))
@@ -59,5 +60,5 @@ report_data plan =
     (member (codes "sites") (names_data plan.names) no_members))))
 
 -- the text, without blanks
-abbrev pub report_text : Distribution → List ℕ
+abbrev pub report_text : PlanView → List ℕ
 report_text plan = compact_text (report_data plan)

@@ -1,6 +1,7 @@
 -- Worked reports. The first program is
 --
---   node main(x: int; c: bool) returns (y: int; z: int when c); var s: int when c; let s = x when c; z = 2 * s; y = x -> pre y + x; tel
+--   node main(x: int; c: bool) returns (y: int; z: int when c); var s: int when c; let s = x when c; z = 2 *
+-- s; y = x -> pre y + x; tel
 --
 -- with z at site B and all else at site A.
 use Rattle.std.specs.Prelude.{◌≡◌, ℕ, false, List, [], ◌∷◌, ◌++◌, map, flat_map, codes, Some, None}
@@ -11,9 +12,9 @@ use Rattle.luflow.specs.declared.form.Form.{Form}
 use Rattle.luflow.specs.declared.form.Form.TheVariants.{Input, Arrow, Binary, When, Pre}
 use Rattle.lutree.specs.declared.expr.BinaryOperator.TheVariants.{Add, Multiply}
 use Rattle.lutree.specs.declared.program.Kind.TheVariants.{Int as Ints}
-use Rattle.luflow.specs.Program.{FlatProgram}
+use Rattle.luflow.specs.Program.{FlatView}
 use Rattle.luflow.specs.Vectors.{int_flow, truth_flow, number, sampled_sum, three_ways}
-use Rattle.luworld.specs.Needs.{Distribution}
+use Rattle.luworld.specs.Needs.{PlanView}
 use Rattle.luworld.specs.RunVectors.{sampled, shared_run, link_of}
 use Rattle.luworld.specs.PlanVectors.{handed}
 use Rattle.luplace_report.specs.declared.cause.Cause.TheVariants.{Reader, Clock}
@@ -33,7 +34,7 @@ abbrev pub other_flow : Form → Flow
 other_flow form = record { form = form; clock = On 1 (Truth false); kind = Ints }
 
 -- the same with s and z where c is false
-abbrev pub turned_flat : FlatProgram
+abbrev pub turned_flat : FlatView
 turned_flat =
     record {
       types = [];
@@ -47,7 +48,7 @@ turned_flat =
       variables = sampled_sum.variables;
     }
 
-abbrev pub turned : Distribution
+abbrev pub turned : PlanView
 turned =
     record {
       flat = turned_flat;
@@ -59,7 +60,7 @@ turned =
     }
 
 -- a choice among the names of m, Up, Down and Halt, with z, which is there where m is Down, at site B
-abbrev pub moded : Distribution
+abbrev pub moded : PlanView
 moded =
     record {
       flat = three_ways;
@@ -73,17 +74,23 @@ moded =
 -- As JSON: one site for each variable; c at both sites, so that s alone crosses; s and z on `not c`; an
 -- enumeration and a clock on a name.
 pub record JsonsAre : Type 0 where
-  pub one_site : report_text sampled.plan ≡ codes "{\"capacity\":16,\"flows\":[{\"clock\":\"\",\"name\":\"x\",\"site\":\"A\",\"type\":\"int\"},{\"clock\":\"\",\"name\":\"c\",\"site\":\"A\",\"type\":\"bool\"},{\"clock\":\"\",\"name\":\"y\",\"site\":\"A\",\"type\":\"int\"},{\"clock\":\"c\",\"name\":\"z\",\"site\":\"B\",\"type\":\"int\"},{\"clock\":\"c\",\"name\":\"s\",\"site\":\"A\",\"type\":\"int\"}],\"links\":[{\"clock\":\"\",\"flow\":\"c\",\"from\":\"A\",\"to\":\"B\"},{\"clock\":\"c\",\"flow\":\"s\",\"from\":\"A\",\"to\":\"B\"}],\"sites\":[\"A\",\"B\"]}"
-  pub two_sites : report_text shared_run.plan ≡ codes "{\"capacity\":16,\"flows\":[{\"clock\":\"\",\"name\":\"x\",\"site\":\"A\",\"type\":\"int\"},{\"clock\":\"\",\"name\":\"c\",\"site\":[\"A\",\"B\"],\"type\":\"bool\"},{\"clock\":\"\",\"name\":\"y\",\"site\":\"A\",\"type\":\"int\"},{\"clock\":\"c\",\"name\":\"z\",\"site\":\"B\",\"type\":\"int\"},{\"clock\":\"c\",\"name\":\"s\",\"site\":\"A\",\"type\":\"int\"}],\"links\":[{\"clock\":\"c\",\"flow\":\"s\",\"from\":\"A\",\"to\":\"B\"}],\"sites\":[\"A\",\"B\"]}"
-  pub opposite : report_text turned ≡ codes "{\"capacity\":1,\"flows\":[{\"clock\":\"\",\"name\":\"x\",\"site\":\"A\",\"type\":\"int\"},{\"clock\":\"\",\"name\":\"c\",\"site\":\"A\",\"type\":\"bool\"},{\"clock\":\"\",\"name\":\"y\",\"site\":\"A\",\"type\":\"int\"},{\"clock\":\"not c\",\"name\":\"z\",\"site\":\"B\",\"type\":\"int\"},{\"clock\":\"not c\",\"name\":\"s\",\"site\":\"A\",\"type\":\"int\"}],\"links\":[{\"clock\":\"\",\"flow\":\"c\",\"from\":\"A\",\"to\":\"B\"},{\"clock\":\"not c\",\"flow\":\"s\",\"from\":\"A\",\"to\":\"B\"}],\"sites\":[\"A\",\"B\"]}"
-  pub by_names : report_text moded ≡ codes "{\"capacity\":16,\"flows\":[{\"clock\":\"\",\"name\":\"m\",\"site\":\"A\",\"type\":\"t\"},{\"clock\":\"\",\"name\":\"x\",\"site\":\"A\",\"type\":\"int\"},{\"clock\":\"\",\"name\":\"y\",\"site\":\"A\",\"type\":\"int\"},{\"clock\":\"\",\"name\":\"b\",\"site\":\"A\",\"type\":\"bool\"},{\"clock\":\"Down(m)\",\"name\":\"z\",\"site\":\"B\",\"type\":\"int\"}],\"links\":[{\"clock\":\"\",\"flow\":\"m\",\"from\":\"A\",\"to\":\"B\"},{\"clock\":\"\",\"flow\":\"x\",\"from\":\"A\",\"to\":\"B\"},{\"clock\":\"Down(m)\",\"flow\":\"z\",\"from\":\"B\",\"to\":\"A\"}],\"sites\":[\"A\",\"B\"]}"
+  pub one_site : report_text sampled.plan ≡ codes
+      "{\"capacity\":16,\"flows\":[{\"clock\":\"\",\"name\":\"x\",\"site\":\"A\",\"type\":\"int\"},{\"clock\":\"\",\"name\":\"c\",\"site\":\"A\",\"type\":\"bool\"},{\"clock\":\"\",\"name\":\"y\",\"site\":\"A\",\"type\":\"int\"},{\"clock\":\"c\",\"name\":\"z\",\"site\":\"B\",\"type\":\"int\"},{\"clock\":\"c\",\"name\":\"s\",\"site\":\"A\",\"type\":\"int\"}],\"links\":[{\"clock\":\"\",\"flow\":\"c\",\"from\":\"A\",\"to\":\"B\"},{\"clock\":\"c\",\"flow\":\"s\",\"from\":\"A\",\"to\":\"B\"}],\"sites\":[\"A\",\"B\"]}"
+  pub two_sites : report_text shared_run.plan ≡ codes
+      "{\"capacity\":16,\"flows\":[{\"clock\":\"\",\"name\":\"x\",\"site\":\"A\",\"type\":\"int\"},{\"clock\":\"\",\"name\":\"c\",\"site\":[\"A\",\"B\"],\"type\":\"bool\"},{\"clock\":\"\",\"name\":\"y\",\"site\":\"A\",\"type\":\"int\"},{\"clock\":\"c\",\"name\":\"z\",\"site\":\"B\",\"type\":\"int\"},{\"clock\":\"c\",\"name\":\"s\",\"site\":\"A\",\"type\":\"int\"}],\"links\":[{\"clock\":\"c\",\"flow\":\"s\",\"from\":\"A\",\"to\":\"B\"}],\"sites\":[\"A\",\"B\"]}"
+  pub opposite : report_text turned ≡ codes
+      "{\"capacity\":1,\"flows\":[{\"clock\":\"\",\"name\":\"x\",\"site\":\"A\",\"type\":\"int\"},{\"clock\":\"\",\"name\":\"c\",\"site\":\"A\",\"type\":\"bool\"},{\"clock\":\"\",\"name\":\"y\",\"site\":\"A\",\"type\":\"int\"},{\"clock\":\"not c\",\"name\":\"z\",\"site\":\"B\",\"type\":\"int\"},{\"clock\":\"not c\",\"name\":\"s\",\"site\":\"A\",\"type\":\"int\"}],\"links\":[{\"clock\":\"\",\"flow\":\"c\",\"from\":\"A\",\"to\":\"B\"},{\"clock\":\"not c\",\"flow\":\"s\",\"from\":\"A\",\"to\":\"B\"}],\"sites\":[\"A\",\"B\"]}"
+  pub by_names : report_text moded ≡ codes
+      "{\"capacity\":16,\"flows\":[{\"clock\":\"\",\"name\":\"m\",\"site\":\"A\",\"type\":\"t\"},{\"clock\":\"\",\"name\":\"x\",\"site\":\"A\",\"type\":\"int\"},{\"clock\":\"\",\"name\":\"y\",\"site\":\"A\",\"type\":\"int\"},{\"clock\":\"\",\"name\":\"b\",\"site\":\"A\",\"type\":\"bool\"},{\"clock\":\"Down(m)\",\"name\":\"z\",\"site\":\"B\",\"type\":\"int\"}],\"links\":[{\"clock\":\"\",\"flow\":\"m\",\"from\":\"A\",\"to\":\"B\"},{\"clock\":\"\",\"flow\":\"x\",\"from\":\"A\",\"to\":\"B\"},{\"clock\":\"Down(m)\",\"flow\":\"z\",\"from\":\"B\",\"to\":\"A\"}],\"sites\":[\"A\",\"B\"]}"
 
 -- Three sites: x and c at A, s and z at B, y = current s at C, where c is needed since s is on it.
 pub record CausesAre : Type 0 where
   pub sampled_causes : map (cause_of sampled.plan) sampled.plan.links ≡ Some (Reader 3) ∷ Some (Reader 3) ∷ []
   pub shared_causes : map (cause_of shared_run.plan) shared_run.plan.links ≡ Some (Reader 3) ∷ []
-  pub handed_causes : map (cause_of handed.plan) handed.plan.links ≡ Some (Reader 4) ∷ Some (Reader 2) ∷ Some (Clock 4) ∷ Some (Reader 1) ∷ []
-  pub moded_causes : map (cause_of moded) moded.links ≡ Some (Reader 4) ∷ Some (Reader 4) ∷ Some (Reader 2) ∷ []
+  pub handed_causes : map (cause_of handed.plan) handed.plan.links ≡ Some (Reader 4) ∷ Some (Reader 2)
+      ∷ Some (Clock 4) ∷ Some (Reader 1) ∷ []
+  pub moded_causes : map (cause_of moded) moded.links ≡ Some (Reader 4) ∷ Some (Reader 4) ∷ Some (Reader 2)
+      ∷ []
   -- what a site doesn't need doesn't cross to it
   pub no_cause : cause_of sampled.plan (link_of 2 0 1) ≡ None
 
@@ -154,9 +161,12 @@ pub record TablesAre : Type 0 where
       ∷ codes "run\tby rows"
       ∷ [])
   -- where a run goes item by item
-  pub parted : way_row sampled_sum (Parted (2 ∷ 4 ∷ [])) ≡ codes "run\titem by item: a cycle of y, s is parted over sites\n"
-  pub one_nil : way_row sampled_sum (Nil (2 ∷ [])) ≡ codes "run\titem by item: y may have no value at first, and is sent\n"
-  pub some_nil : way_row sampled_sum (Nil (2 ∷ 3 ∷ 4 ∷ [])) ≡ codes "run\titem by item: y, z, s may have no value at first, and are sent\n"
+  pub parted : way_row sampled_sum
+      (Parted (2 ∷ 4 ∷ [])) ≡ codes "run\titem by item: a cycle of y, s is parted over sites\n"
+  pub one_nil : way_row sampled_sum
+      (Nil (2 ∷ [])) ≡ codes "run\titem by item: y may have no value at first, and is sent\n"
+  pub some_nil : way_row sampled_sum
+      (Nil (2 ∷ 3 ∷ 4 ∷ [])) ≡ codes "run\titem by item: y, z, s may have no value at first, and are sent\n"
 
 pub record GraphsAre : Type 0 where
   pub one_site : graph_text sampled.plan ≡ lines

@@ -4,17 +4,17 @@
 --   run     item by item: a cycle of a, b is parted over sites
 --   run     item by item: x, y may have no value at first, and are sent
 use Rattle.std.specs.Prelude.{ℕ, List, [], ◌∷◌, ◌++◌, flat_map, codes}
-use Rattle.luflow.specs.Program.{FlatProgram}
+use Rattle.luflow.specs.Program.{FlatView}
 use Rattle.luflow.specs.Variables.{variable_name}
 use Rattle.luways.specs.declared.way.Way.{Way}
 use Rattle.luways.specs.declared.way.Way.TheVariants.{Rows, Parted, Nil}
 
 -- the names of variables behind another one
-abbrev pub further_names : FlatProgram → List ℕ → List ℕ
+abbrev pub further_names : FlatView → List ℕ → List ℕ
 further_names flat vs = flat_map (λ v. codes ", " ++ variable_name flat v) vs
 
 -- the names of variables, with a comma between two
-abbrev pub variable_list : FlatProgram → List ℕ → List ℕ
+abbrev pub variable_list : FlatView → List ℕ → List ℕ
 variable_list flat [] = []
 variable_list flat (v ∷ vs) = variable_name flat v ++ further_names flat vs
 
@@ -24,16 +24,17 @@ sent_text [] = codes " may have no value at first, and are sent"
 sent_text (v ∷ []) = codes " may have no value at first, and is sent"
 sent_text (v ∷ w ∷ vs) = codes " may have no value at first, and are sent"
 
-abbrev pub parted_text : FlatProgram → List ℕ → List ℕ
-parted_text flat vs = codes "item by item: a cycle of " ++ (variable_list flat vs ++ codes " is parted over sites")
+abbrev pub parted_text : FlatView → List ℕ → List ℕ
+parted_text flat vs =
+    codes "item by item: a cycle of " ++ (variable_list flat vs ++ codes " is parted over sites")
 
-abbrev pub nil_text : FlatProgram → List ℕ → List ℕ
+abbrev pub nil_text : FlatView → List ℕ → List ℕ
 nil_text flat vs = codes "item by item: " ++ (variable_list flat vs ++ sent_text vs)
 
-abbrev pub way_text : FlatProgram → Way → List ℕ
+abbrev pub way_text : FlatView → Way → List ℕ
 way_text flat Rows = codes "by rows"
 way_text flat (Parted vs) = parted_text flat vs
 way_text flat (Nil vs) = nil_text flat vs
 
-abbrev pub way_row : FlatProgram → Way → List ℕ
+abbrev pub way_row : FlatView → Way → List ℕ
 way_row flat way = codes "run\t" ++ (way_text flat way ++ codes "\n")

@@ -1,3 +1,3 @@
 mod Rearranged
 mod Answers
-mod Benches
+mod Assemblies

@@ -1,7 +1,7 @@
 //! A job by a few workers.
 
 ghost use Rattle.std.specs.Prelude.{◌<◌};
-ghost use Rattle.luworld.specs.Runs.{Run};
+ghost use Rattle.luworld.specs.Jobs.{JobView};
 ghost use Rattle.lurun.specs.Answers.{IsRunAnswer};
 ghost use Rattle.lurun_threads.specs.Stations.{AreOf};
 
@@ -27,7 +27,7 @@ pub fn run_crew<R: Threads + Wait + Sync, G: Gate>(
     gate: &G,
 ) -> Result<Outputs, RunError>
     requires { 0 < workers }
-    ensures { (job : Run) → AreOf job stations.items → IsRunAnswer job stations.items result }
+    ensures { (job : JobView) → AreOf job stations.items → IsRunAnswer job stations.items result }
 {
     match reports_by_crew(rt, alloc, stations, workers, gate) {
         Ok(reports) => collect(alloc, reports),

@@ -2,10 +2,10 @@
 
 ghost use Rattle.std.specs.Prelude.{◌≡◌, ◌<◌, ◌≤◌, ◌+◌, IfOk, OnOk, length, slice_get, Some};
 ghost use Rattle.luworld.specs.Needs.{sites_of};
-ghost use Rattle.lurun.specs.declared.making.Bench.{Bench};
+ghost use Rattle.lurun.specs.declared.making.Assembly.{Assembly};
 ghost use Rattle.lurun_reports.specs.Reports.{AreComplete};
 ghost use Rattle.lurun_threads.specs.Stations.{AreStations, AreOf, sites_at, sender_at, receiver_at};
-ghost use Rattle.lurun.specs.Making.{IsBench, AreBenches, IsSenderAdded, IsReceiverAdded};
+ghost use Rattle.lurun.specs.Making.{IsAssembly, AreAssemblies, IsSenderAdded, IsReceiverAdded};
 
 use lulink::{Rx, Tx, open_link};
 use luplace::{Job, Plan};
@@ -16,55 +16,55 @@ use std::alloc::{AllocError, Global};
 
 /// A new site, and the ends of its links so far.
 #[derive(Drop)]
-pub struct Bench {
+pub struct Assembly {
     pub site: Site,
     pub txs: Vec<Tx>,
     pub rxs: Vec<Rx>,
 }
 
-fn new_bench(alloc: Global, job: &Job, site: u8) -> Result<Bench, AllocError>
+fn new_assembly(alloc: Global, job: &Job, site: u8) -> Result<Assembly, AllocError>
     requires { site < sites_of job.now.plan }
-    ensures { IfOk result (IsBench job.now 0 site) }
+    ensures { IfOk result (IsAssembly job.now 0 site) }
 {
     let inputs = job.inputs_at(alloc, site)?;
     let program = project(alloc, job.plan(), site)?;
     let site = Site::new(alloc, program, inputs)?;
-    Ok(Bench {
+    Ok(Assembly {
         site,
         txs: Vec::new(alloc),
         rxs: Vec::new(alloc),
     })
 }
 
-fn new_benches(alloc: Global, job: &Job) -> Result<Vec<Bench>, AllocError>
-    ensures { IfOk result (λ benches. AreBenches job.now 0 benches.items) }
+fn new_assemblies(alloc: Global, job: &Job) -> Result<Vec<Assembly>, AllocError>
+    ensures { IfOk result (λ assemblies. AreAssemblies job.now 0 assemblies.items) }
 {
     let count = job.plan().sites().len() as u8;
-    let mut benches = Vec::with_capacity(alloc, usize::from(count))?;
+    let mut assemblies = Vec::with_capacity(alloc, usize::from(count))?;
     for site in 0..count {
-        let bench = new_bench(alloc, job, site)?;
-        benches.push_reserved(bench);
+        let assembly = new_assembly(alloc, job, site)?;
+        assemblies.push_reserved(assembly);
     }
-    Ok(benches)
+    Ok(assemblies)
 }
 
-fn add_sender(benches: &mut Vec<Bench>, s: usize, tx: Tx) -> Result<(), AllocError>
-    requires { s < length benches.old.items }
-    ensures { OnOk result ((b : Bench) → slice_get benches.old.items s ≡ Some b
-        → IsSenderAdded benches.old.items s b tx benches.new.items) }
+fn add_sender(assemblies: &mut Vec<Assembly>, s: usize, tx: Tx) -> Result<(), AllocError>
+    requires { s < length assemblies.old.items }
+    ensures { OnOk result ((b : Assembly) → slice_get assemblies.old.items s ≡ Some b
+        → IsSenderAdded assemblies.old.items s b tx assemblies.new.items) }
 {
-    let bench = &mut benches[s];
-    bench.txs.push(tx)?;
+    let assembly = &mut assemblies[s];
+    assembly.txs.push(tx)?;
     Ok(())
 }
 
-fn add_receiver(benches: &mut Vec<Bench>, s: usize, rx: Rx) -> Result<(), AllocError>
-    requires { s < length benches.old.items }
-    ensures { OnOk result ((b : Bench) → slice_get benches.old.items s ≡ Some b
-        → IsReceiverAdded benches.old.items s b rx benches.new.items) }
+fn add_receiver(assemblies: &mut Vec<Assembly>, s: usize, rx: Rx) -> Result<(), AllocError>
+    requires { s < length assemblies.old.items }
+    ensures { OnOk result ((b : Assembly) → slice_get assemblies.old.items s ≡ Some b
+        → IsReceiverAdded assemblies.old.items s b rx assemblies.new.items) }
 {
-    let bench = &mut benches[s];
-    bench.rxs.push(rx)?;
+    let assembly = &mut assemblies[s];
+    assembly.rxs.push(rx)?;
     Ok(())
 }
 
@@ -98,19 +98,24 @@ fn receiver_of(job: &Job, l: LinkNo) -> usize
 }
 
 /// Opens link l, and adds its ends.
-fn add_link(alloc: Global, job: &Job, benches: &mut Vec<Bench>, l: LinkNo) -> Result<(), AllocError>
+fn add_link(
+    alloc: Global,
+    job: &Job,
+    assemblies: &mut Vec<Assembly>,
+    l: LinkNo,
+) -> Result<(), AllocError>
     requires within { l < length job.now.plan.links }
     requires room { 1 ≤ job.now.plan.capacity }
-    requires so_far { AreBenches job.now l benches.old.items }
-    ensures { OnOk result (AreBenches job.now (l + 1) benches.new.items) }
+    requires so_far { AreAssemblies job.now l assemblies.old.items }
+    ensures { OnOk result (AreAssemblies job.now (l + 1) assemblies.new.items) }
 {
     let from = sender_of(job, l);
     let to = receiver_of(job, l);
     let Ok((tx, rx)) = open_link(alloc, job, l, job.plan().capacity()) else {
         return Err(AllocError);
     };
-    add_sender(benches, from, tx)?;
-    add_receiver(benches, to, rx)?;
+    add_sender(assemblies, from, tx)?;
+    add_receiver(assemblies, to, rx)?;
     Ok(())
 }
 
@@ -120,13 +125,13 @@ pub fn stations(alloc: Global, job: &Job) -> Result<Vec<Station>, AllocError>
     ensures of { IfOk result (λ stations. AreOf job.now stations.items) }
     ensures complete { IfOk result (λ stations. AreComplete job.now (sites_at stations.items)) }
 {
-    let mut benches = new_benches(alloc, job)?;
+    let mut assemblies = new_assemblies(alloc, job)?;
     for l in 0..job.plan().links().len() {
-        add_link(alloc, job, &mut benches, l)?;
+        add_link(alloc, job, &mut assemblies, l)?;
     }
-    let mut stations = Vec::with_capacity(alloc, benches.len())?;
-    for bench in benches {
-        let Bench { site, txs, rxs } = bench;
+    let mut stations = Vec::with_capacity(alloc, assemblies.len())?;
+    for assembly in assemblies {
+        let Assembly { site, txs, rxs } = assembly;
         stations.push_reserved(Station::new(site, txs, rxs));
     }
     Ok(stations)

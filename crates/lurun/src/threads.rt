@@ -1,6 +1,6 @@
 //! A job on threads, each site by one of its own.
 
-ghost use Rattle.luworld.specs.Runs.{Run};
+ghost use Rattle.luworld.specs.Jobs.{JobView};
 ghost use Rattle.lurun.specs.Answers.{IsRunAnswer};
 ghost use Rattle.lurun_threads.specs.Stations.{AreOf};
 
@@ -24,7 +24,7 @@ pub fn run_threads<R: Threads + Wait + Sync, G: Gate>(
     stations: Vec<Station>,
     gate: &G,
 ) -> Result<Outputs, RunError>
-    ensures { (job : Run) → AreOf job stations.items → IsRunAnswer job stations.items result }
+    ensures { (job : JobView) → AreOf job stations.items → IsRunAnswer job stations.items result }
 {
     match reports_by_threads(rt, alloc, stations, gate) {
         Ok(reports) => collect(alloc, reports),

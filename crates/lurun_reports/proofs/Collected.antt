@@ -13,14 +13,14 @@ use Rattle.luflow.specs.declared.variable.Variable.{Variable}
 use Rattle.luflow.specs.Tables.{OutputColumn, AreOutputs}
 use Rattle.luflow.specs.Variables.{variable_name, outputs_of as output_variables}
 use Rattle.luworld.specs.Needs.{sites_of, home}
-use Rattle.luworld.specs.Progress.{IsWhole}
-use Rattle.luworld.specs.Runs.{Run, IsJob, HasNoStop, outputs_of, streams_of, script}
-use Rattle.lusite.specs.Sites.{SiteAt}
+use Rattle.luworld.specs.WorldViews.{IsWhole}
+use Rattle.luworld.specs.Jobs.{JobView, IsJob, HasNoStop, outputs_of, streams_of, script}
+use Rattle.lusite.specs.Sites.{SiteView}
 use Rattle.lusite.specs.Logs.{IsOutput}
 use Rattle.lusite_program.specs.Programs.{output_names}
-use Rattle.lurun_reports.specs.Reports.{AreToldOf, is_of, is_one, are_complete, AreComplete, HasEnded, IsToldBySome, OneTells, NoneTells, AreColumns, AreOutputsOf, AreCollected, TellNothing}
+use Rattle.lurun_reports.specs.Reports.{AreReportsOfJob, is_of, is_one, are_complete, AreComplete, HasEnded, IsReportedBySome, OneReports, NoneReports, AreColumns, AreOutputsOf, AreCollected, ReportNothing}
 use Rattle.luflow.proofs.Solutions.{some_at}
-use Rattle.lusite.proofs.Told.{first_len}
+use Rattle.lusite.proofs.Reported.{first_len}
 use Rattle.lurun_reports.proofs.Lists.{all_at, all_from, same_elements}
 use Rattle.lurun_reports.proofs.Endings.{no_fault}
 use Rattle.lurun_reports.proofs.Named.{names_are}
@@ -28,11 +28,11 @@ use Rattle.lurun_reports.proofs.Whole.{number_at, are_outputs_of}
 
 -- ---- one report of each site
 
-some_of : (s : ℕ) (xs : List SiteAt) → 0 < length (filter (is_of s) xs) → (p : ℕ) × (r : SiteAt) × (slice_get xs p ≡ Some r) × (r.site ≡ s)
+some_of : (s : ℕ) (xs : List SiteView) → 0 < length (filter (is_of s) xs) → (p : ℕ) × (r : SiteView) × (slice_get xs p ≡ Some r) × (r.site ≡ s)
 some_of s [] l = absurd (omega (arith, l))
 some_of s (x ∷ xs) l = go (nat_eq x.site s) refl l (some_of s xs)
   where
-    go : (b : Bool) → nat_eq x.site s ≡ b → 0 < length (cond b (x ∷ filter (is_of s) xs) (filter (is_of s) xs)) → (0 < length (filter (is_of s) xs) → (p : ℕ) × (r : SiteAt) × (slice_get xs p ≡ Some r) × (r.site ≡ s)) → (p : ℕ) × (r : SiteAt) × (slice_get (x ∷ xs) p ≡ Some r) × (r.site ≡ s)
+    go : (b : Bool) → nat_eq x.site s ≡ b → 0 < length (cond b (x ∷ filter (is_of s) xs) (filter (is_of s) xs)) → (0 < length (filter (is_of s) xs) → (p : ℕ) × (r : SiteView) × (slice_get xs p ≡ Some r) × (r.site ≡ s)) → (p : ℕ) × (r : SiteView) × (slice_get (x ∷ xs) p ≡ Some r) × (r.site ≡ s)
     go true e l rest = (0, x, refl, eqb-true x.site s e)
     go false e l rest = let w = rest l in (suc w.0, w.1, w.2, w.3)
 
@@ -41,8 +41,8 @@ last_part true true d e = e
 last_part true false d e = absurd (false≢true e)
 last_part false b d e = absurd (false≢true e)
 
-module _ (job : Run) (reports : List SiteAt) (of : AreToldOf job reports) (complete : are_complete (sites_of job.plan) reports ≡ true) where
-  one_of : (s : ℕ) → s < sites_of job.plan → (p : ℕ) × (r : SiteAt) × (slice_get reports p ≡ Some r) × (r.site ≡ s)
+module _ (job : JobView) (reports : List SiteView) (of : AreReportsOfJob job reports) (complete : are_complete (sites_of job.plan) reports ≡ true) where
+  one_of : (s : ℕ) → s < sites_of job.plan → (p : ℕ) × (r : SiteView) × (slice_get reports p ≡ Some r) × (r.site ≡ s)
   one_of s ls =
       let n = sites_of job.plan in
       let all = last_part (nat_lt 0 (length reports)) (nat_eq (length reports) n) (list_all (is_one reports) (range_with_len 0 n)) complete in
@@ -52,15 +52,15 @@ module _ (job : Run) (reports : List SiteAt) (of : AreToldOf job reports) (compl
       let one = eqb-true (length (filter (is_of s) reports)) 1 (subst (λ k. is_one reports k ≡ true) z at) in
       some_of s reports (omega (arith, one))
 
-  job_at : (p : ℕ) (r : SiteAt) → slice_get reports p ≡ Some r → r.job ≡ job
-  job_at p r at = all_at (λ (q : SiteAt). q.job ≡ job) reports p r of at
+  job_at : (p : ℕ) (r : SiteView) → slice_get reports p ≡ Some r → r.job ≡ job
+  job_at p r at = all_at (λ (q : SiteView). q.job ≡ job) reports p r of at
 
   module _ (ok : IsJob job) (ended : All HasEnded reports) where
-    abbrev Done : Run → ℕ → ℕ → Type 0
+    abbrev Done : JobView → ℕ → ℕ → Type 0
     Done j s n = (n ≡ length (script j (streams_of j) s)) × HasNoStop j s
 
-    done_at : (p : ℕ) (r : SiteAt) → slice_get reports p ≡ Some r → Done job r.site r.done
-    done_at p r at = subst (λ (j : Run). Done j r.site r.done) (job_at p r at) (all_at HasEnded reports p r ended at)
+    done_at : (p : ℕ) (r : SiteView) → slice_get reports p ≡ Some r → Done job r.site r.done
+    done_at p r at = subst (λ (j : JobView). Done j r.site r.done) (job_at p r at) (all_at HasEnded reports p r ended at)
 
     free : (s : ℕ) → s < sites_of job.plan → HasNoStop job s
     free s ls = let w = one_of s ls in subst (HasNoStop job) w.3 (done_at w.0 w.1 w.2).1
@@ -68,29 +68,29 @@ module _ (job : Run) (reports : List SiteAt) (of : AreToldOf job reports) (compl
     not_empty : (xs : List Status) → 0 < length xs → xs ≡ [] → ⊥
     not_empty xs l e = let n = ap length e in omega (arith, l, n)
 
-    told_at : (p : ℕ) (r : SiteAt) (k : ℕ) (xs : List Status) → slice_get reports p ≡ Some r → IsOutput r.job r.site r.done k xs → IsOutput job r.site r.done k xs
-    told_at p r k xs at is = subst (λ (j : Run). IsOutput j r.site r.done k xs) (job_at p r at) is
+    reported_at : (p : ℕ) (r : SiteView) (k : ℕ) (xs : List Status) → slice_get reports p ≡ Some r → IsOutput r.job r.site r.done k xs → IsOutput job r.site r.done k xs
+    reported_at p r k xs at is = subst (λ (j : JobView). IsOutput j r.site r.done k xs) (job_at p r at) is
 
     -- what is reported of an output is all of it
-    told_whole : (k v : ℕ) (xs : List Status) → slice_get (outputs_of job.plan) k ≡ Some v → IsToldBySome reports k xs → IsWhole job v xs
-    told_whole k v xs out (OneTells p r at some is) =
-        let told = told_at p r k xs at is in
+    reported_whole : (k v : ℕ) (xs : List Status) → slice_get (outputs_of job.plan) k ≡ Some v → IsReportedBySome reports k xs → IsWhole job v xs
+    reported_whole k v xs out (OneReports p r at some is) =
+        let reported = reported_at p r k xs at is in
         elim (cases_eq (home job.plan v) r.site) [
-          | inl at_home ↦ let d = done_at p r at in (told.told v out at_home).whole d.0 d.1
-          | inr away ↦ absurd (not_empty xs some (told.elsewhere v out away))
+          | inl at_home ↦ let d = done_at p r at in (reported.reported v out at_home).whole d.0 d.1
+          | inr away ↦ absurd (not_empty xs some (reported.elsewhere v out away))
         ]
-    told_whole k v xs out (NoneTells empty all) =
+    reported_whole k v xs out (NoneReports empty all) =
         let w = one_of (home job.plan v) (ok.is_plan.homes v) in
-        let told = told_at w.0 w.1 k [] w.2 (all w.0 w.1 w.2) in
+        let reported = reported_at w.0 w.1 k [] w.2 (all w.0 w.1 w.2) in
         let d = done_at w.0 w.1 w.2 in
-        subst (IsWhole job v) (sym empty) ((told.told v out (sym w.3)).whole d.0 d.1)
+        subst (IsWhole job v) (sym empty) ((reported.reported v out (sym w.3)).whole d.0 d.1)
 
     module _ (columns : List OutputColumn) (are : AreColumns reports (output_names job.plan) columns) where
       len : length columns ≡ length (outputs_of job.plan)
       len = are.len ∙ length-map (outputs_of job.plan) (variable_name job.plan.flat)
 
       whole_at : (k v : ℕ) (x : OutputColumn) → slice_get (outputs_of job.plan) k ≡ Some v → slice_get columns k ≡ Some x → IsWhole job v x.statuses
-      whole_at k v x out at = told_whole k v x.statuses out (are.each k x at).1
+      whole_at k v x out at = reported_whole k v x.statuses out (are.each k x at).1
 
       named : map (λ (c : OutputColumn). c.name) columns ≡ output_names job.plan
       named = same_elements (map (λ (c : OutputColumn). c.name) columns) (output_names job.plan) (length-map columns (λ (c : OutputColumn). c.name) ∙ are.len)
@@ -113,8 +113,8 @@ module _ (job : Run) (reports : List SiteAt) (of : AreToldOf job reports) (compl
       collected = record { complete = complete; ended = ended; are_outputs = outputs_are }
 
       -- where there are no outputs to make, there is none
-      nothing_told : (AreOutputs columns → ⊥) → TellNothing job reports
-      nothing_told none = record {
+      nothing_reported : (AreOutputs columns → ⊥) → ReportNothing job reports
+      nothing_reported none = record {
         complete = complete;
         ended = ended;
         no_fault = no_fault job ok free;
@@ -126,19 +126,19 @@ module _ (job : Run) (reports : List SiteAt) (of : AreToldOf job reports) (compl
       }
 
 -- the same by what the first of the reports says of its job
-module _ (job : Run) (reports : List SiteAt) (of : AreToldOf job reports) (first : SiteAt) (at : slice_get reports 0 ≡ Some first) (complete : are_complete (sites_of first.job.plan) reports ≡ true) (ok : IsJob first.job) (ended : All HasEnded reports)
+module _ (job : JobView) (reports : List SiteView) (of : AreReportsOfJob job reports) (first : SiteView) (at : slice_get reports 0 ≡ Some first) (complete : are_complete (sites_of first.job.plan) reports ≡ true) (ok : IsJob first.job) (ended : All HasEnded reports)
     (names : List (List ℕ)) (columns : List OutputColumn) (names_is : names ≡ output_names first.job.plan) (are : AreColumns reports names columns) where
   same_job : first.job ≡ job
-  same_job = all_at (λ (q : SiteAt). q.job ≡ job) reports 0 first of at
+  same_job = all_at (λ (q : SiteView). q.job ≡ job) reports 0 first of at
 
   all_there : AreComplete job reports
-  all_there = subst (λ (j : Run). are_complete (sites_of j.plan) reports ≡ true) same_job complete
+  all_there = subst (λ (j : JobView). are_complete (sites_of j.plan) reports ≡ true) same_job complete
 
   columns_are : AreColumns reports (output_names job.plan) columns
-  columns_are = subst (λ (ns : List (List ℕ)). AreColumns reports ns columns) (names_is ∙ ap (λ (j : Run). output_names j.plan) same_job) are
+  columns_are = subst (λ (ns : List (List ℕ)). AreColumns reports ns columns) (names_is ∙ ap (λ (j : JobView). output_names j.plan) same_job) are
 
   pub collected_by : AreCollected job reports columns
   collected_by = collected job reports of all_there (subst IsJob same_job ok) ended columns columns_are
 
-  pub nothing_by : (AreOutputs columns → ⊥) → TellNothing job reports
-  nothing_by = nothing_told job reports of all_there (subst IsJob same_job ok) ended columns columns_are
+  pub nothing_by : (AreOutputs columns → ⊥) → ReportNothing job reports
+  nothing_by = nothing_reported job reports of all_there (subst IsJob same_job ok) ended columns columns_are

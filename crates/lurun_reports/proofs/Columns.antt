@@ -9,32 +9,32 @@ use Rattle.std.proofs.lemmas.Option.{slice_get_within, slice_get-map}
 use Rattle.luflow.specs.declared.data.Status.{Status}
 use Rattle.luflow.specs.Tables.{OutputColumn, output_view, outputs_view}
 use Rattle.luflow.proofs.Solutions.{some_at}
-use Rattle.lusite.specs.Sites.{SiteAt}
+use Rattle.lusite.specs.Sites.{SiteView}
 use Rattle.lusite.specs.Logs.{IsOutput}
 use Rattle.lusite_program.proofs.Written.{slice_get-set_same, slice_get-set_other}
-use Rattle.lurun_reports.specs.Reports.{IsToldBySome, OneTells, NoneTells, AreColumns, IsFilled, later}
+use Rattle.lurun_reports.specs.Reports.{IsReportedBySome, OneReports, NoneReports, AreColumns, IsFilled, later}
 use Rattle.lurun_reports.proofs.Lists.{slice_left, slice_seam, pushed_at, same_one}
 
 -- what is reported of an output, with one site more
-pub told_more : (reports : List SiteAt) (r : SiteAt) (k : ℕ) (told xs : List Status) → IsToldBySome reports k told → IsOutput r.job r.site r.done k xs → IsToldBySome (reports ++ r ∷ []) k (later told xs)
-told_more reports r k told [] (OneTells p q at some is) out = OneTells p q (slice_left reports (r ∷ []) p q at) some is
-told_more reports r k told [] (NoneTells empty all) out = NoneTells empty (pushed_at (λ p (q : SiteAt). IsOutput q.job q.site q.done k []) reports r out all)
-told_more reports r k told (x ∷ xs) before out = OneTells (length reports) r (slice_seam reports r) (omega arith) out
+pub reported_more : (reports : List SiteView) (r : SiteView) (k : ℕ) (reported xs : List Status) → IsReportedBySome reports k reported → IsOutput r.job r.site r.done k xs → IsReportedBySome (reports ++ r ∷ []) k (later reported xs)
+reported_more reports r k reported [] (OneReports p q at some is) out = OneReports p q (slice_left reports (r ∷ []) p q at) some is
+reported_more reports r k reported [] (NoneReports empty all) out = NoneReports empty (pushed_at (λ p (q : SiteView). IsOutput q.job q.site q.done k []) reports r out all)
+reported_more reports r k reported (x ∷ xs) before out = OneReports (length reports) r (slice_seam reports r) (omega arith) out
 
 -- the first k columns have what a site reports too, and the others are as they were
-pub record AreMoved (r : SiteAt) (k : ℕ) (old new : List OutputColumn) : Type 0 where
+pub record AreMoved (r : SiteView) (k : ℕ) (old new : List OutputColumn) : Type 0 where
   pub len : length new ≡ length old
   pub done : (j : ℕ) (y : OutputColumn) → j < k → slice_get old j ≡ Some y → (xs : List Status) × IsOutput r.job r.site r.done j xs × (slice_get new j ≡ Some (record { name = y.name; statuses = later y.statuses xs }))
   pub left : (j : ℕ) → k ≤ j → slice_get new j ≡ slice_get old j
 
-pub none_moved : (r : SiteAt) (old : List OutputColumn) → AreMoved r 0 old old
+pub none_moved : (r : SiteView) (old : List OutputColumn) → AreMoved r 0 old old
 none_moved r old = record {
   len = refl;
   done = λ j y l at. absurd (omega (arith, l));
   left = λ j l. refl;
 }
 
-pub one_moved : (r : SiteAt) (k : ℕ) (old new new' : List OutputColumn) (xs : List Status) → AreMoved r k old new → IsOutput r.job r.site r.done k xs → IsFilled new k xs new' → AreMoved r (k + 1) old new'
+pub one_moved : (r : SiteView) (k : ℕ) (old new new' : List OutputColumn) (xs : List Status) → AreMoved r k old new → IsOutput r.job r.site r.done k xs → IsFilled new k xs new' → AreMoved r (k + 1) old new'
 one_moved r k old new new' xs are out filled = record {
   len = filled.len ∙ are.len;
   done = λ j y l at.
@@ -48,8 +48,8 @@ one_moved r k old new new' xs are out filled = record {
 }
 
 -- all columns have what the site reports, if it reports nothing of those that are left
-pub all_moved : (r : SiteAt) (k : ℕ) (old new : List OutputColumn) → AreMoved r k old new → ((j : ℕ) → k ≤ j → j < length new → IsOutput r.job r.site r.done j [])
-    → (reports : List SiteAt) (names : List (List ℕ)) → AreColumns reports names old → AreColumns (reports ++ r ∷ []) names new
+pub all_moved : (r : SiteView) (k : ℕ) (old new : List OutputColumn) → AreMoved r k old new → ((j : ℕ) → k ≤ j → j < length new → IsOutput r.job r.site r.done j [])
+    → (reports : List SiteView) (names : List (List ℕ)) → AreColumns reports names old → AreColumns (reports ++ r ∷ []) names new
 all_moved r k old new are rest reports names before = record {
   len = are.len ∙ before.len;
   each = λ j x at.
@@ -58,19 +58,19 @@ all_moved r k old new are rest reports names before = record {
         | inl lt ↦
             let y = some_at old j (let n = are.len in omega (arith, within, n)) in
             let w = are.done j y.0 lt y.1 in
-            let told = before.each j y.0 y.1 in
-            subst (λ (c : OutputColumn). (slice_get names j ≡ Some c.name) × IsToldBySome (reports ++ r ∷ []) j c.statuses) (same_one _ x (sym w.2 ∙ at))
-            (told.0, told_more reports r j y.0.statuses w.0 told.1 w.1)
+            let reported = before.each j y.0 y.1 in
+            subst (λ (c : OutputColumn). (slice_get names j ≡ Some c.name) × IsReportedBySome (reports ++ r ∷ []) j c.statuses) (same_one _ x (sym w.2 ∙ at))
+            (reported.0, reported_more reports r j y.0.statuses w.0 reported.1 w.1)
         | inr ge ↦
-            let told = before.each j x (sym (are.left j ge) ∙ at) in
-            (told.0, told_more reports r j x.statuses [] told.1 (rest j ge within))
+            let reported = before.each j x (sym (are.left j ge) ∙ at) in
+            (reported.0, reported_more reports r j x.statuses [] reported.1 (rest j ge within))
       ];
 }
 
 -- what a column is filled with
-later_some : (told xs : List Status) → 0 < length xs → later told xs ≡ xs
-later_some told [] l = absurd (omega (arith, l))
-later_some told (x ∷ xs) l = refl
+later_some : (reported xs : List Status) → 0 < length xs → later reported xs ≡ xs
+later_some reported [] l = absurd (omega (arith, l))
+later_some reported (x ∷ xs) l = refl
 
 pub nothing_filled : (columns : List OutputColumn) (k : ℕ) (xs : List Status) → xs ≡ [] → IsFilled columns k xs columns
 nothing_filled columns k xs e = record {

@@ -10,14 +10,14 @@ use Rattle.luflow.specs.declared.data.Status.TheVariants.{Absent, Present}
 use Rattle.luflow.specs.declared.form.Clock.{Clock}
 use Rattle.luflow.specs.declared.form.Clock.TheVariants.{Base, On}
 use Rattle.luflow.specs.declared.form.Outcome.{Outcome}
-use Rattle.luflow.specs.Program.{Table, flow_at, form_reads, clock_reads}
+use Rattle.luflow.specs.Program.{InputsView, flow_at, form_reads, clock_reads}
 use Rattle.luflow.specs.Streams.{Mark, Known, Broken, Streams, is_broken, is_value, truth_in, clock_at}
 use Rattle.luflow.specs.Values.{value_at, under}
 use Rattle.luflow.specs.Solution.{clock_of_flow}
 use Rattle.luflow.proofs.Solutions.{place_of, place_in, all_right}
 use Rattle.luworld.specs.Needs.{sites_of, home}
 use Rattle.luworld.specs.Outline.{HasEnded}
-use Rattle.luworld.specs.Runs.{Run, IsJob, streams_of, script, HasNoStop, outline, is_open, NoFault}
+use Rattle.luworld.specs.Jobs.{JobView, IsJob, streams_of, script, HasNoStop, outline, is_open, NoFault}
 use Rattle.luworld.proofs.Ended.{ended_sound}
 use Rattle.luworld.proofs.Outlines.{says_there, broken_is}
 use Rattle.lusite.proofs.Machine.{there}
@@ -27,7 +27,7 @@ truth_known d Broken e = absurd (false≢true (sym e))
 truth_known d (Known Absent) e = (false, refl)
 truth_known d (Known (Present x)) e = (is_value d x, refl)
 
-clock_known : (inputs : Table) (σ : Streams) (clock : Clock) (t : ℕ) → All (λ r. is_broken (σ r t) ≡ false) (clock_reads clock) → (b : Bool) × (clock_at inputs σ clock t ≡ Some b)
+clock_known : (inputs : InputsView) (σ : Streams) (clock : Clock) (t : ℕ) → All (λ r. is_broken (σ r t) ≡ false) (clock_reads clock) → (b : Bool) × (clock_at inputs σ clock t ≡ Some b)
 clock_known inputs σ Base t h = (nat_lt t inputs.instants, refl)
 clock_known inputs σ (On c d) t h = truth_known d (σ c t) (All-get_or (λ r. is_broken (σ r t) ≡ false) (c ∷ []) 0 c (omega arith) h)
 
@@ -35,7 +35,7 @@ sound_under : (b : Bool) (k : Option Bool) (v : Outcome) (m : Mark) → k ≡ So
 sound_under true k v m ek em h = h refl
 sound_under false k v m ek em h = ap is_broken (em ∙ ap (λ x. under x v) ek)
 
-module _ (job : Run) (ok : IsJob job) (free : (s : ℕ) → s < sites_of job.plan → HasNoStop job s) where
+module _ (job : JobView) (ok : IsJob job) (free : (s : ℕ) → s < sites_of job.plan → HasNoStop job s) where
   -- a flow whose clock is true isn't broken, since its site has ended
   shown_sound : (p t : ℕ) → p < length job.plan.flat.order → t < job.inputs.instants → clock_of_flow job.inputs (streams_of job) (flow_at job.plan.flat (slice_index job.plan.flat.order p)) t ≡ Some true → is_broken (streams_of job (slice_index job.plan.flat.order p) t) ≡ false
   shown_sound p t lp lt open' =

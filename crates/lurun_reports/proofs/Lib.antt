@@ -1,5 +1,5 @@
 pub mod Lists
-mod Told
+mod Reported
 mod Columns
 mod Endings
 mod Named

@@ -5,7 +5,7 @@ use Rattle.std.specs.List.{range_with_len}
 use Rattle.std.specs.Option.{option_map}
 use Rattle.luflow.specs.declared.variable.Variable.{Variable}
 use Rattle.luflow.specs.Variables.{is_output, is_output_of, outputs_of, variable_name}
-use Rattle.luworld.specs.Needs.{Distribution}
+use Rattle.luworld.specs.Needs.{PlanView}
 use Rattle.lusite_program.specs.Programs.{output_names}
 
 module _ {X : Type 0} (name : ℕ → List ℕ) (is : ℕ → Bool) (name_of : X → List ℕ) (is_it : X → Bool) where
@@ -25,7 +25,7 @@ module _ {X : Type 0} (name : ℕ → List ℕ) (is : ℕ → Bool) (name_of : X
       ap (λ (b : Bool). map name (cond b (a ∷ filter is (range_with_len (a + 1) (length xs))) (filter is (range_with_len (a + 1) (length xs))))) (sym (ap is z) ∙ here.0)
       ∙ one (is_it x) a x (filter is (range_with_len (a + 1) (length xs))) (filter is_it xs) (sym (ap name z) ∙ here.1) rest
 
-pub names_are : (plan : Distribution) → output_names plan ≡ map (λ (x : Variable). x.name) (outputs_of plan.flat.variables)
+pub names_are : (plan : PlanView) → output_names plan ≡ map (λ (x : Variable). x.name) (outputs_of plan.flat.variables)
 names_are plan =
     same_names (variable_name plan.flat) (is_output_of plan.flat) (λ (x : Variable). x.name) (λ (x : Variable). is_output x.role) 0 plan.flat.variables
     (λ k x e. (at (λ (o : Option Variable). unwrap_or (option_map (λ (y : Variable). is_output y.role) o) false) k x e, at (λ (o : Option Variable). unwrap_or (option_map (λ (y : Variable). y.name) o) []) k x e))

@@ -7,20 +7,20 @@ use Rattle.std.proofs.lemmas.Option.{slice_get_within, slice_get-map}
 use Rattle.luflow.specs.Messages.{marks}
 use Rattle.luflow.specs.Tables.{OutputColumn}
 use Rattle.luflow.specs.Variables.{variable_name}
-use Rattle.luworld.specs.Progress.{IsWhole}
-use Rattle.luworld.specs.Runs.{Run, IsJob, NoFault, outputs_of}
+use Rattle.luworld.specs.WorldViews.{IsWhole}
+use Rattle.luworld.specs.Jobs.{JobView, IsJob, NoFault, outputs_of}
 use Rattle.lumeaning.proofs.Sources.{same_marks}
 use Rattle.lusite_program.specs.Programs.{output_names}
 use Rattle.lurun_reports.specs.Reports.{AreOutputsOf}
 use Rattle.luflow.proofs.Solutions.{some_at}
-use Rattle.lusite_program.proofs.Posts.{output_there}
+use Rattle.lusite_program.proofs.SiteFlows.{output_there}
 use Rattle.lurun_reports.proofs.Lists.{same_one}
 use Rattle.lurun_reports.proofs.Named.{names_are}
 
 abbrev name_of : OutputColumn → List ℕ
 name_of c = c.name
 
-module _ (job : Run) (ok : IsJob job) (none : NoFault job) (columns : List OutputColumn) (named : map name_of columns ≡ output_names job.plan)
+module _ (job : JobView) (ok : IsJob job) (none : NoFault job) (columns : List OutputColumn) (named : map name_of columns ≡ output_names job.plan)
     (whole : (k v : ℕ) (c : OutputColumn) → slice_get (outputs_of job.plan) k ≡ Some v → slice_get columns k ≡ Some c → IsWhole job v c.statuses) where
   len : length columns ≡ length (outputs_of job.plan)
   len = sym (length-map columns name_of) ∙ ap length named ∙ length-map (outputs_of job.plan) (variable_name job.plan.flat)

@@ -4,9 +4,9 @@ ghost use Rattle.std.specs.Prelude.{◌≡◌, ℕ, ◌++◌, ◌∷◌, [], tru
 ghost use Rattle.std.specs.List.{list_all, range_with_len};
 ghost use Rattle.luflow.specs.Tables.{output_view, outputs_view};
 ghost use Rattle.luworld.specs.Needs.{sites_of};
-ghost use Rattle.luworld.specs.Runs.{Run};
-ghost use Rattle.lusite.specs.Sites.{SiteAt};
-ghost use Rattle.lurun_reports.specs.Reports.{AreToldOf, is_of, is_one, are_complete, HasEnded, IsLeast, SomeNotEnded, AreColumns, IsFilled, IsCollected};
+ghost use Rattle.luworld.specs.Jobs.{JobView};
+ghost use Rattle.lusite.specs.Sites.{SiteView};
+ghost use Rattle.lurun_reports.specs.Reports.{AreReportsOfJob, is_of, is_one, are_complete, HasEnded, IsLeast, SomeNotEnded, AreColumns, IsFilled, IsCollected};
 
 use crate::error::RunError;
 use lubase::Name;
@@ -53,7 +53,7 @@ fn are_complete(reports: &[SiteReport], sites: u8) -> bool
 
 /// The fault of the faulted site of least number, after one report more.
 fn lesser(least: Option<(u8, Fault)>, report: &SiteReport) -> Option<(u8, Fault)>
-    ensures { (reports : List SiteAt) → IsLeast reports least
+    ensures { (reports : List SiteView) → IsLeast reports least
         → IsLeast (reports ++ report.now ∷ []) result }
 {
     let fault = match report.standing() {
@@ -149,7 +149,7 @@ fn add_site(
     columns: &mut Vec<(String, Vec<Status>)>,
     report: SiteReport,
 ) -> Result<(), AllocError>
-    ensures { OnOk result ((reports : List SiteAt) (names : List (List ℕ))
+    ensures { OnOk result ((reports : List SiteView) (names : List (List ℕ))
         → AreColumns reports names (outputs_view columns.old.items)
         → AreColumns (reports ++ report ∷ []) names (outputs_view columns.new.items)) }
 {
@@ -181,10 +181,10 @@ fn add_sites(
 
 /// The whole outputs of a job, from one report of each of its sites, all ended. `WrongReports` where there is no output.
 fn outputs_of(alloc: Global, reports: Vec<SiteReport>) -> Result<Outputs, RunError>
-    requires complete { (first : SiteAt) → slice_get reports.items 0 ≡ Some first
+    requires complete { (first : SiteView) → slice_get reports.items 0 ≡ Some first
         → are_complete (sites_of first.job.plan) reports.items ≡ true }
     requires ended { All HasEnded reports.items }
-    ensures { (job : Run) → AreToldOf job reports.items → IsCollected job reports.items result }
+    ensures { (job : JobView) → AreReportsOfJob job reports.items → IsCollected job reports.items result }
 {
     let Some(first) = reports.first() else {
         return Err(RunError::WrongReports);
@@ -208,7 +208,7 @@ fn outputs_of(alloc: Global, reports: Vec<SiteReport>) -> Result<Outputs, RunErr
 /// [`RunError::OutOfMemory`] may come in place of any answer. The reports are gone: their statuses are moved into the answer, and
 /// not copied.
 pub fn collect(alloc: Global, reports: Vec<SiteReport>) -> Result<Outputs, RunError>
-    ensures { (job : Run) → AreToldOf job reports.items → IsCollected job reports.items result }
+    ensures { (job : JobView) → AreReportsOfJob job reports.items → IsCollected job reports.items result }
 {
     let all = reports.as_slice();
     let Some(first) = all.first() else {

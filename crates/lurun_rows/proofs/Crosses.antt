@@ -4,24 +4,24 @@ use denote.Struct.Declared.{shape}
 use Rattle.std.proofs.Crossing.{crosses}
 use Rattle.std.proofs.option.Option.TheSendSync as option
 use Rattle.lublock_site.proofs.Crosses.{station_send, report_field_send}
-use Rattle.lurun_rows.specs.contracts.seat.Seat as Seat
-use Rattle.lurun_rows.specs.contracts.seat.Seat.TheInside as seat
-use Rattle.lurun_rows.specs.contracts.seat.Hand as Hand
+use Rattle.lurun_rows.specs.contracts.served.ServedRows as ServedRows
+use Rattle.lurun_rows.specs.contracts.served.ServedRows.TheInside as served
+use Rattle.lurun_rows.specs.contracts.served.RowShare as RowShare
 
-inside_seat : IsSend seat.the_row
-inside_seat =
-    recorded_send seat.the_field.row _ _ seat.the_type.to_one
-    (struct_send (shape seat.the_type) (station_send, (search (sendable, option.the_send), tt)))
+inside_served : IsSend served.the_row
+inside_served =
+    recorded_send served.the_field.row _ _ served.the_type.to_one
+    (struct_send (shape served.the_type) (station_send, (search (sendable, option.the_send), tt)))
 
-pub seat_send : IsSend Seat.the_row
-seat_send = search (sendable, inside_seat)
+pub served_send : IsSend ServedRows.the_row
+served_send = search (sendable, inside_served)
 
-pub seat_field_send : IsSend Seat.the_field.row
-seat_field_send = seat_send
+pub served_field_send : IsSend ServedRows.the_field.row
+served_field_send = served_send
 
-pub hand_field_send : IsSend Hand.the_field.row
-hand_field_send =
-    struct_send (shape Hand.the_type) (
-      search (sendable, crosses, seat_field_send) depth 12,
+pub row_share_field_send : IsSend RowShare.the_field.row
+row_share_field_send =
+    struct_send (shape RowShare.the_type) (
+      search (sendable, crosses, served_field_send) depth 12,
       (search (sendable, crosses, report_field_send) depth 12, tt),
     )

@@ -1,5 +1,5 @@
 pub mod Rows
 pub mod Making
 pub mod Crew
-pub mod Hands
+pub mod RowShares
 pub mod Collecting

@@ -3,11 +3,11 @@
 ghost use Rattle.std.specs.Prelude.{◌≡◌, ◌<◌, ℕ, true, IfOk, IfSome, OnOk, map, ◌++◌};
 ghost use Rattle.luflow.specs.Tables.{output_view, outputs_view};
 ghost use Rattle.luflow.specs.Variables.{is_output};
-ghost use Rattle.luworld.specs.Progress.{IsWhole};
-ghost use Rattle.luworld.specs.Runs.{Run};
+ghost use Rattle.luworld.specs.WorldViews.{IsWhole};
+ghost use Rattle.luworld.specs.Jobs.{JobView};
 ghost use Rattle.lurun_reports.specs.Reports.{AreOutputsOf};
-ghost use Rattle.lublock_site.specs.RowStations.{AreWhole, outputs_told};
-ghost use Rattle.lurun_rows.specs.Rows.{AreToldOf};
+ghost use Rattle.lublock_site.specs.RowStations.{AreWhole, outputs_reported};
+ghost use Rattle.lurun_rows.specs.Rows.{AreReportsOfJob};
 ghost use Rattle.lurun_rows.specs.Collecting.{AreColumnsOf, HasReport, IsColumnOf, IsPlaceOf, heading_if, heading_view, headings_of};
 
 use lublock_site::report::RowReport;
@@ -79,33 +79,36 @@ fn headings_of(alloc: Global, flat: &Flat) -> Result<Vec<Heading>, AllocError>
 }
 
 /// Moves outputs behind those that are there already.
-fn add_told(
-    told: &mut Vec<(usize, Vec<Status>)>,
+fn add_reported(
+    reported: &mut Vec<(usize, Vec<Status>)>,
     mut more: Vec<(usize, Vec<Status>)>,
 ) -> Result<(), AllocError>
-    ensures { OnOk result (told.new.items ≡ told.old.items ++ more.items) }
+    ensures { OnOk result (reported.new.items ≡ reported.old.items ++ more.items) }
 {
-    told.append(&mut more)
+    reported.append(&mut more)
 }
 
 /// All outputs that the reports have.
-fn told_by(alloc: Global, reports: Vec<RowReport>) -> Result<Vec<(usize, Vec<Status>)>, AllocError>
-    ensures { (job : Run) → AreToldOf job reports.items
-        → IfOk result (λ told. AreWhole job (outputs_told told.items)) }
+fn reported_by(
+    alloc: Global,
+    reports: Vec<RowReport>,
+) -> Result<Vec<(usize, Vec<Status>)>, AllocError>
+    ensures { (job : JobView) → AreReportsOfJob job reports.items
+        → IfOk result (λ reported. AreWhole job (outputs_reported reported.items)) }
 {
-    let mut told = Vec::new(alloc);
+    let mut reported = Vec::new(alloc);
     for report in reports {
-        add_told(&mut told, report.into_outputs())?;
+        add_reported(&mut reported, report.into_outputs())?;
     }
-    Ok(told)
+    Ok(reported)
 }
 
 /// The place of what was reported of a variable.
-fn place_of(told: &[(usize, Vec<Status>)], variable: usize) -> Option<usize>
-    ensures { IfSome result (IsPlaceOf told.now variable) }
+fn place_of(reported: &[(usize, Vec<Status>)], variable: usize) -> Option<usize>
+    ensures { IfSome result (IsPlaceOf reported.now variable) }
 {
-    for place in 0..told.len() {
-        if told[place].0 == variable {
+    for place in 0..reported.len() {
+        if reported[place].0 == variable {
             return Some(place);
         }
     }
@@ -113,31 +116,31 @@ fn place_of(told: &[(usize, Vec<Status>)], variable: usize) -> Option<usize>
 }
 
 /// Takes the statuses of a variable out of what was reported.
-fn take_told(told: &mut Vec<(usize, Vec<Status>)>, variable: usize) -> Option<Vec<Status>>
-    ensures found { (job : Run) → AreWhole job (outputs_told told.old.items)
+fn take_reported(reported: &mut Vec<(usize, Vec<Status>)>, variable: usize) -> Option<Vec<Status>>
+    ensures found { (job : JobView) → AreWhole job (outputs_reported reported.old.items)
         → IfSome result (λ statuses. IsWhole job variable statuses.items) }
-    ensures left { (job : Run) → AreWhole job (outputs_told told.old.items)
-        → AreWhole job (outputs_told told.new.items) }
+    ensures left { (job : JobView) → AreWhole job (outputs_reported reported.old.items)
+        → AreWhole job (outputs_reported reported.new.items) }
 {
-    let Some(place) = place_of(told.as_slice(), variable) else {
+    let Some(place) = place_of(reported.as_slice(), variable) else {
         return None;
     };
-    let (_, statuses) = told.swap_remove(place);
+    let (_, statuses) = reported.swap_remove(place);
     Some(statuses)
 }
 
 /// The column of an output, whose statuses are taken out of what was reported.
 fn column_of(
     heading: Heading,
-    told: &mut Vec<(usize, Vec<Status>)>,
+    reported: &mut Vec<(usize, Vec<Status>)>,
 ) -> Option<(String, Vec<Status>)>
-    ensures column { (job : Run) → AreWhole job (outputs_told told.old.items)
+    ensures column { (job : JobView) → AreWhole job (outputs_reported reported.old.items)
         → IfSome result (λ column. IsColumnOf job (heading_view heading) (output_view column)) }
-    ensures left { (job : Run) → AreWhole job (outputs_told told.old.items)
-        → AreWhole job (outputs_told told.new.items) }
+    ensures left { (job : JobView) → AreWhole job (outputs_reported reported.old.items)
+        → AreWhole job (outputs_reported reported.new.items) }
 {
     let Heading { variable, name } = heading;
-    let statuses = take_told(told, variable)?;
+    let statuses = take_reported(reported, variable)?;
     Some((name, statuses))
 }
 
@@ -145,15 +148,15 @@ fn column_of(
 fn columns_of(
     alloc: Global,
     headings: Vec<Heading>,
-    mut told: Vec<(usize, Vec<Status>)>,
+    mut reported: Vec<(usize, Vec<Status>)>,
 ) -> Result<Option<Vec<(String, Vec<Status>)>>, AllocError>
-    ensures { (job : Run) → AreWhole job (outputs_told told.items) → IfOk result (λ o. IfSome o
+    ensures { (job : JobView) → AreWhole job (outputs_reported reported.items) → IfOk result (λ o. IfSome o
         (λ columns. AreColumnsOf job (map heading_view headings.items)
         (outputs_view columns.items))) }
 {
     let mut columns = Vec::with_capacity(alloc, headings.len())?;
     for heading in headings {
-        let Some(column) = column_of(heading, &mut told) else {
+        let Some(column) = column_of(heading, &mut reported) else {
             return Ok(None);
         };
         columns.push_reserved(column);
@@ -168,7 +171,7 @@ fn columns_of(
 ///
 /// An error means that memory ran out. The reports are gone then too.
 pub fn collect_rows(alloc: Global, reports: Vec<RowReport>) -> Result<Option<Outputs>, AllocError>
-    ensures { (job : Run) → AreToldOf job reports.items
+    ensures { (job : JobView) → AreReportsOfJob job reports.items
         → IfOk result (λ o. IfSome o (AreOutputsOf job)) }
 {
     let all = reports.as_slice();
@@ -179,8 +182,8 @@ pub fn collect_rows(alloc: Global, reports: Vec<RowReport>) -> Result<Option<Out
         return Ok(None);
     }
     let headings = headings_of(alloc, first.flat())?;
-    let told = told_by(alloc, reports)?;
-    match columns_of(alloc, headings, told)? {
+    let reported = reported_by(alloc, reports)?;
+    match columns_of(alloc, headings, reported)? {
         Some(columns) => Ok(Outputs::new(columns)),
         None => Ok(None),
     }

@@ -4,10 +4,10 @@ ghost use Rattle.std.specs.Prelude.{◌≡◌, ◌≤◌, ◌<◌, ◌+◌, ◌+
 ghost use Rattle.std.specs.List.Sorted.{IsPermutation};
 ghost use Rattle.lurun_reports.specs.declared.error.RunError.TheVariants.{NoThread, OutOfMemory};
 ghost use Rattle.lurun_rows.specs.Rows.{AreReportsOf};
-ghost use Rattle.lurun_rows.specs.Crew.{IsNewHand, dealt, held};
-ghost use Rattle.lurun_rows.specs.Hands.{promised};
+ghost use Rattle.lurun_rows.specs.Crew.{IsNewRowShare, dealt, held};
+ghost use Rattle.lurun_rows.specs.RowShares.{promised};
 
-use crate::seat::{Hand, Seat, seat_of, serve};
+use crate::served::{RowShare, ServedRows, serve, served_of};
 use lublock_site::report::RowReport;
 use lublock_site::station::RowStation;
 use lurun_reports::RunError;
@@ -21,7 +21,7 @@ use std::thread::{Promise, PromisedHandle, Scope, Threads};
 
 /// A worker's promise: its reports are of its stations.
 #[derive(Drop)]
-pub struct ReportsOf(Snapshot<Vec<Seat>>);
+pub struct ReportsOf(Snapshot<Vec<ServedRows>>);
 
 impl Promise<Vec<RowReport>> for ReportsOf {
     ghost use Rattle.lurun_rows.specs.Rows.{AreReportsOf};
@@ -35,38 +35,42 @@ type Worker = PromisedHandle<Vec<RowReport>, ReportsOf>;
 fn start<'s, E, R: Wait + Clock + Sync, G: Gate>(
     scope: &Scope<'s, E>,
     rt: &'s R,
-    hand: Hand,
+    row_share: RowShare,
     gate: &'s G,
 ) -> Result<Worker, RunError>
-    requires { IsNewHand hand }
-    ensures { IfOk result (λ h. h.promise.0.value ≡ hand.seats) }
+    requires { IsNewRowShare row_share }
+    ensures { IfOk result (λ h. h.promise.0.value ≡ row_share.served_rows) }
 {
-    let promise = ReportsOf(Snapshot::of(&hand.seats));
+    let promise = ReportsOf(Snapshot::of(&row_share.served_rows));
     scope
         .spawn_with(
             promise,
             move || -> Vec<RowReport>
-                requires { IsNewHand hand }
-                ensures { AreReportsOf hand.seats.items result.items }
-            { serve(rt, hand, gate) },
+                requires { IsNewRowShare row_share }
+                ensures { AreReportsOf row_share.served_rows.items result.items }
+            { serve(rt, row_share, gate) },
         )
         .ok()
         .ok_or(RunError::NoThread)
 }
 
-fn deal_to(shares: &mut Vec<Vec<Seat>>, to: usize, seat: Seat) -> Result<(), AllocError>
+fn deal_to(
+    shares: &mut Vec<Vec<ServedRows>>,
+    to: usize,
+    served: ServedRows,
+) -> Result<(), AllocError>
     requires { to < vec_len shares.old }
     ensures one { OnOk result
-        (IsPermutation (seat ∷ dealt shares.old.items) (dealt shares.new.items)) }
+        (IsPermutation (served ∷ dealt shares.old.items) (dealt shares.new.items)) }
     ensures len { vec_len shares.new ≡ vec_len shares.old }
 {
     let share = &mut shares[to];
-    share.push(seat)?;
+    share.push(served)?;
     Ok(())
 }
 
 /// So many empty shares.
-fn no_shares(alloc: Global, count: usize) -> Result<Vec<Vec<Seat>>, AllocError>
+fn no_shares(alloc: Global, count: usize) -> Result<Vec<Vec<ServedRows>>, AllocError>
     ensures none { IfOk result (λ shares. length (dealt shares.items) ≡ 0) }
     ensures len { IfOk result (λ shares. vec_len shares ≡ count) }
 {
@@ -78,69 +82,80 @@ fn no_shares(alloc: Global, count: usize) -> Result<Vec<Vec<Seat>>, AllocError>
 }
 
 /// The stations of each worker: worker i has the sites whose number leaves i, divided by the number of workers.
-fn deal(alloc: Global, stations: Vec<RowStation>, workers: u8) -> Result<Vec<Vec<Seat>>, AllocError>
+fn deal(
+    alloc: Global,
+    stations: Vec<RowStation>,
+    workers: u8,
+) -> Result<Vec<Vec<ServedRows>>, AllocError>
     requires { 0 < workers }
     ensures { IfOk result (λ shares. IsPermutation stations.items (dealt shares.items)) }
 {
     let count = usize::from(workers);
     let mut shares = no_shares(alloc, count)?;
     for station in stations {
-        let seat = seat_of(station);
-        let to = usize::from(seat.number()) % count;
-        deal_to(&mut shares, to, seat)?;
+        let served = served_of(station);
+        let to = usize::from(served.number()) % count;
+        deal_to(&mut shares, to, served)?;
     }
     Ok(shares)
 }
 
-fn hand_of(alloc: Global, seats: Vec<Seat>) -> Result<Hand, AllocError>
-    ensures seats { IfOk result (λ hand. hand.seats ≡ seats) }
-    ensures new { IfOk result IsNewHand }
+fn row_share_of(alloc: Global, served_rows: Vec<ServedRows>) -> Result<RowShare, AllocError>
+    ensures served_rows { IfOk result (λ row_share. row_share.served_rows ≡ served_rows) }
+    ensures new { IfOk result IsNewRowShare }
 {
-    let reports = Vec::with_capacity(alloc, seats.len())?;
-    Ok(Hand { seats, reports })
+    let reports = Vec::with_capacity(alloc, served_rows.len())?;
+    Ok(RowShare {
+        served_rows,
+        reports,
+    })
 }
 
 /// The shares that have a station, with room for its report.
-fn hands_of(alloc: Global, shares: Vec<Vec<Seat>>) -> Result<Vec<Hand>, AllocError>
-    ensures all { IfOk result (λ hands. held hands.items ≡ dealt shares.items) }
-    ensures new { IfOk result (λ hands. All IsNewHand hands.items) }
+fn row_shares_of(alloc: Global, shares: Vec<Vec<ServedRows>>) -> Result<Vec<RowShare>, AllocError>
+    ensures all { IfOk result (λ row_shares. held row_shares.items ≡ dealt shares.items) }
+    ensures new { IfOk result (λ row_shares. All IsNewRowShare row_shares.items) }
 {
-    let mut hands = Vec::with_capacity(alloc, shares.len())?;
-    for seats in shares {
-        if !seats.is_empty() {
-            hands.push_reserved(hand_of(alloc, seats)?);
+    let mut row_shares = Vec::with_capacity(alloc, shares.len())?;
+    for served_rows in shares {
+        if !served_rows.is_empty() {
+            row_shares.push_reserved(row_share_of(alloc, served_rows)?);
         }
     }
-    Ok(hands)
+    Ok(row_shares)
 }
 
 /// The shares of the workers that have a station.
-fn hands_for(alloc: Global, stations: Vec<RowStation>, workers: u8) -> Result<Vec<Hand>, AllocError>
+fn row_shares_for(
+    alloc: Global,
+    stations: Vec<RowStation>,
+    workers: u8,
+) -> Result<Vec<RowShare>, AllocError>
     requires { 0 < workers }
-    ensures all { IfOk result (λ hands. IsPermutation stations.items (held hands.items)) }
-    ensures count { IfOk result (λ hands. length (held hands.items) ≤ vec_len stations) }
-    ensures new { IfOk result (λ hands. All IsNewHand hands.items) }
+    ensures all { IfOk result (λ row_shares. IsPermutation stations.items (held row_shares.items)) }
+    ensures count { IfOk result (λ row_shares. length (held row_shares.items) ≤ vec_len stations) }
+    ensures new { IfOk result (λ row_shares. All IsNewRowShare row_shares.items) }
 {
     let shares = deal(alloc, stations, workers)?;
-    hands_of(alloc, shares)
+    row_shares_of(alloc, shares)
 }
 
 /// Starts a worker for each share, up to the first that is refused: false there, and the shares that are left are dropped.
 fn start_all<'s, E, R: Wait + Clock + Sync, G: Gate>(
     scope: &Scope<'s, E>,
     rt: &'s R,
-    hands: Vec<Hand>,
+    row_shares: Vec<RowShare>,
     gate: &'s G,
     mut workers: Vec<Worker>,
 ) -> (Vec<Worker>, bool)
-    requires room { vec_len hands ≤ vec_capacity workers }
+    requires room { vec_len row_shares ≤ vec_capacity workers }
     requires none { vec_len workers ≡ 0 }
-    requires new { All IsNewHand hands.items }
-    ensures all { result.1 ≡ true → promised result.0.items ≡ held hands.items }
-    ensures count { length (promised result.0.items) ≤ length (held hands.items) }
+    requires new { All IsNewRowShare row_shares.items }
+    ensures all { result.1 ≡ true → promised result.0.items ≡ held row_shares.items }
+    ensures count { length (promised result.0.items) ≤ length (held row_shares.items) }
 {
-    for hand in hands {
-        match start(scope, rt, hand, gate) {
+    for row_share in row_shares {
+        match start(scope, rt, row_share, gate) {
             Ok(worker) => workers.push_reserved(worker),
             Err(_) => return (workers, false),
         }
@@ -188,19 +203,19 @@ pub fn reports_by_rows<R: Threads + Wait + Clock + Sync, G: Gate>(
     ensures none { IfErr result (λ error. (error ≡ OutOfMemory) ⊎ (error ≡ NoThread)) }
 {
     let reports = Vec::with_capacity(alloc, stations.len())?;
-    let hands = hands_for(alloc, stations, workers)?;
-    let children = Vec::with_capacity(alloc, hands.len())?;
+    let row_shares = row_shares_for(alloc, stations, workers)?;
+    let children = Vec::with_capacity(alloc, row_shares.len())?;
     let (reports, all) = thread::scope(
         thread::scope_env(),
         rt,
         |scope| -> (Vec<RowReport>, bool)
-            requires room { (vec_len hands ≤ vec_capacity children) × (vec_len children ≡ 0)
-                × All IsNewHand hands.items }
-            requires reports { (length (held hands.items) ≤ vec_capacity reports)
+            requires room { (vec_len row_shares ≤ vec_capacity children) × (vec_len children ≡ 0)
+                × All IsNewRowShare row_shares.items }
+            requires reports { (length (held row_shares.items) ≤ vec_capacity reports)
                 × (vec_len reports ≡ 0) }
-            ensures { result.1 ≡ true → AreReportsOf (held hands.items) result.0.items }
+            ensures { result.1 ≡ true → AreReportsOf (held row_shares.items) result.0.items }
         {
-            let (children, all) = start_all(scope, rt, hands, gate, children);
+            let (children, all) = start_all(scope, rt, row_shares, gate, children);
             (join_all(rt, children, reports), all)
         },
     );

@@ -9,7 +9,7 @@ mod collecting;
 mod crew;
 mod making;
 mod run;
-mod seat;
+mod served;
 
 pub use collecting::collect_rows;
 pub use lublock_site::report::RowReport;

@@ -1,7 +1,7 @@
 //! A job by rows.
 
 ghost use Rattle.std.specs.Prelude.{◌≡◌, ◌<◌, ◌⊎◌, IfOk, IfErr, IfSome};
-ghost use Rattle.luworld.specs.Runs.{Run};
+ghost use Rattle.luworld.specs.Jobs.{JobView};
 ghost use Rattle.lurun_reports.specs.Reports.{AreOutputsOf};
 ghost use Rattle.lurun_reports.specs.declared.error.RunError.TheVariants.{NoThread, OutOfMemory};
 ghost use Rattle.lurun_rows.specs.Rows.{AreRowsOf};
@@ -37,7 +37,7 @@ pub fn run_rows<R: Threads + Wait + Clock + Sync, G: Gate>(
     gate: &G,
 ) -> Result<Option<Outputs>, RunError>
     requires { 0 < workers }
-    ensures outputs { (job : Run) → AreRowsOf job stations.items
+    ensures outputs { (job : JobView) → AreRowsOf job stations.items
         → IfOk result (λ o. IfSome o (AreOutputsOf job)) }
     ensures none { IfErr result (λ error. (error ≡ OutOfMemory) ⊎ (error ≡ NoThread)) }
 {

@@ -10,10 +10,10 @@ use Rattle.std.proofs.lemmas.List.{map-set, set-get_or}
 use Rattle.std.proofs.lemmas.Option.{slice_get_within, get_or_from_slice_get, slice_get-map}
 use Rattle.std.proofs.lemmas.Bool.{cases_eq, cases_lt}
 use Rattle.lusite_program.proofs.Written.{slice_get-set_same, slice_get-set_other}
-use Rattle.luworld.specs.World.{Item}
-use Rattle.luworld.specs.Runs.{Run, streams_of, script}
+use Rattle.luworld.specs.Systems.{Item}
+use Rattle.luworld.specs.Jobs.{JobView, streams_of, script}
 use Rattle.luworld.proofs.Counts.{count_yes, count_no}
-use Rattle.lusite.specs.Sites.{SiteAt}
+use Rattle.lusite.specs.Sites.{SiteView}
 use Rattle.lurun_threads.specs.Stations.{IsSameSite}
 
 pub same_Some : {X : Type 0} (x y : X) → Some x ≡ Some y → x ≡ y
@@ -69,17 +69,17 @@ counted {X} p xs n x at = go (p x) refl
 
 -- ---- ends of any kind, each with its job, link, and count of messages; p says which items move the end of a link
 
-module _ {T : Type 0} (job : T → Run) (link : T → ℕ) (len : T → ℕ) (p : ℕ → Item → Bool) where
-  abbrev pub count : Run → ℕ → ℕ → ℕ → ℕ
+module _ {T : Type 0} (job : T → JobView) (link : T → ℕ) (len : T → ℕ) (p : ℕ → Item → Bool) where
+  abbrev pub count : JobView → ℕ → ℕ → ℕ → ℕ
   count j l s n = count_by (p l) (take n (script j (streams_of j) s))
 
-  abbrev pub Acts : SiteAt → T → Type 0
+  abbrev pub Acts : SiteView → T → Type 0
   Acts v t = (job t ≡ v.job) × (len t ≡ count v.job (link t) v.site v.done)
 
-  abbrev pub Each : SiteAt → List T → Type 0
+  abbrev pub Each : SiteView → List T → Type 0
   Each v ts = (k : ℕ) (t : T) → slice_get ts k ≡ Some t → Acts v t
 
-  pub acts_on : (v w : SiteAt) (t u : T) (item : Item) → IsSameSite v w → w.done ≡ v.done + 1 → slice_get (script v.job (streams_of v.job) v.site) v.done ≡ Some item
+  pub acts_on : (v w : SiteView) (t u : T) (item : Item) → IsSameSite v w → w.done ≡ v.done + 1 → slice_get (script v.job (streams_of v.job) v.site) v.done ≡ Some item
       → Acts v t → job u ≡ job t → link u ≡ link t → len u ≡ len t + number (p (link t) item) → Acts w u
   acts_on v w t u item same more at acts ej el en = (
     ej ∙ acts.0 ∙ sym same.0,
@@ -91,13 +91,13 @@ module _ {T : Type 0} (job : T → Run) (link : T → ℕ) (len : T → ℕ) (p 
   )
 
   -- an item that moves none of them
-  pub all_kept : (v w : SiteAt) (ts : List T) (item : Item) → IsSameSite v w → w.done ≡ v.done + 1 → slice_get (script v.job (streams_of v.job) v.site) v.done ≡ Some item
+  pub all_kept : (v w : SiteView) (ts : List T) (item : Item) → IsSameSite v w → w.done ≡ v.done + 1 → slice_get (script v.job (streams_of v.job) v.site) v.done ≡ Some item
       → ((l : ℕ) → p l item ≡ false) → Each v ts → Each w ts
   all_kept v w ts item same more at none each k t e =
       acts_on v w t t item same more at (each k t e) refl refl (let z = as_number false (p (link t) item) (none (link t)) in omega (arith, z))
 
   -- one of them is another now, which has moved as the site has
-  pub one_moved : (v w : SiteAt) (ts : List T) (item : Item) (i : ℕ) (t u : T) → IsSameSite v w → w.done ≡ v.done + 1 → slice_get (script v.job (streams_of v.job) v.site) v.done ≡ Some item
+  pub one_moved : (v w : SiteView) (ts : List T) (item : Item) (i : ℕ) (t u : T) → IsSameSite v w → w.done ≡ v.done + 1 → slice_get (script v.job (streams_of v.job) v.site) v.done ≡ Some item
       → slice_get ts i ≡ Some t → job u ≡ job t → link u ≡ link t → len u ≡ len t + 1 → p (link t) item ≡ true
       → ((k : ℕ) (x : T) → slice_get ts k ≡ Some x → k ≢ i → p (link x) item ≡ false) → Each v ts → Each w (slice_set ts i u)
   one_moved v w ts item i t u same more at here ej el en moves rest each k x e = elim (cases_eq k i) [
@@ -110,7 +110,7 @@ module _ {T : Type 0} (job : T → Run) (link : T → ℕ) (len : T → ℕ) (p 
   ]
 
   -- one of them is another now, which hasn't moved
-  pub one_kept : (v : SiteAt) (ts : List T) (i : ℕ) (t u : T) → slice_get ts i ≡ Some t → job u ≡ job t → link u ≡ link t → len u ≡ len t → Each v ts → Each v (slice_set ts i u)
+  pub one_kept : (v : SiteView) (ts : List T) (i : ℕ) (t u : T) → slice_get ts i ≡ Some t → job u ≡ job t → link u ≡ link t → len u ≡ len t → Each v ts → Each v (slice_set ts i u)
   one_kept v ts i t u here ej el en each k x e = elim (cases_eq k i) [
     | inl is ↦
         let x_is : u ≡ x = same_Some u x (sym (ap (slice_get (set ts i u)) is ∙ slice_get-set_same ts i u (slice_get_within ts i t here)) ∙ e) in

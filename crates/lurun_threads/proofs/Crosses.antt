@@ -7,7 +7,7 @@ use Rattle.lubase.proofs.name.Name.TheSendSync as name
 use Rattle.luflow.proofs.data.Datum.TheSendSync as datum
 use Rattle.luflow.proofs.data.Status.TheSendSync as status
 use Rattle.lueval_lines.proofs.cell.Cell.TheSendSync as cell
-use Rattle.lusite_program.proofs.program.Post.TheSendSync as post
+use Rattle.lusite_program.proofs.program.SiteFlow.TheSendSync as site_flow
 use Rattle.lusite.proofs.next.Fault.TheSendSync as fault
 use Rattle.lulink.proofs.sender.Tx.TheSendSync as tx
 use Rattle.lulink.proofs.receiver.Rx.TheSendSync as rx
@@ -15,13 +15,13 @@ use Rattle.luplace.specs.contracts.job.SiteInputs as SiteInputs
 use Rattle.luplace.specs.contracts.job.SiteInputs.TheInside as inputs
 use Rattle.lusite_program.specs.contracts.program.SiteProgram as SiteProgram
 use Rattle.lusite_program.specs.contracts.program.SiteProgram.TheInside as program
-use Rattle.lusite.specs.contracts.desk.Desk as Desk
+use Rattle.lusite.specs.contracts.state.SiteState as SiteState
 use Rattle.lusite.specs.contracts.site.Site as Site
 use Rattle.lusite.specs.contracts.site.Site.TheInside as site
 use Rattle.lusite.specs.contracts.report.SiteReport as SiteReport
 use Rattle.lusite.specs.contracts.report.SiteReport.TheInside as report
-use Rattle.lurun_threads.specs.contracts.crew.Seat as Seat
-use Rattle.lurun_threads.specs.contracts.crew.Seat.TheInside as seat
+use Rattle.lurun_threads.specs.contracts.crew.ServedSite as ServedSite
+use Rattle.lurun_threads.specs.contracts.crew.ServedSite.TheInside as served
 use Rattle.lurun_threads.specs.contracts.station.Station as Station
 use Rattle.lurun_threads.specs.contracts.station.Station.TheInside as station
 
@@ -49,7 +49,7 @@ inside_program =
           (
             search (sendable, crosses, row.the_send) depth 12,
             (
-              search (sendable, crosses, row.the_send, post.the_send) depth 12,
+              search (sendable, crosses, row.the_send, site_flow.the_send) depth 12,
               (
                 search (sendable, crosses, row.the_send) depth 12,
                 (
@@ -81,9 +81,9 @@ program_send = search (sendable, inside_program)
 pub program_field_send : IsSend SiteProgram.the_field.row
 program_field_send = program_send
 
-pub desk_field_send : IsSend Desk.the_field.row
-desk_field_send =
-    struct_send (shape Desk.the_type) (
+pub state_field_send : IsSend SiteState.the_field.row
+state_field_send =
+    struct_send (shape SiteState.the_type) (
       program_send,
       (
         inputs_send,
@@ -119,7 +119,7 @@ desk_field_send =
     )
 
 inside_site : IsSend site.the_row
-inside_site = recorded_send site.the_field.row _ _ site.the_type.to_one (struct_send (shape site.the_type) (desk_field_send, tt))
+inside_site = recorded_send site.the_field.row _ _ site.the_type.to_one (struct_send (shape site.the_type) (state_field_send, tt))
 
 pub site_send : IsSend Site.the_row
 site_send = search (sendable, inside_site)
@@ -147,14 +147,14 @@ station_send = search (sendable, inside_station)
 pub station_field_send : IsSend Station.the_field.row
 station_field_send = station_send
 
-inside_seat : IsSend seat.the_row
-inside_seat =
-    recorded_send seat.the_field.row _ _ seat.the_type.to_one
-    (struct_send (shape seat.the_type)
+inside_served : IsSend served.the_row
+inside_served =
+    recorded_send served.the_field.row _ _ served.the_type.to_one
+    (struct_send (shape served.the_type)
     (site_send, (search (sendable, crosses, tx.the_send) depth 8, (search (sendable, crosses, rx.the_send) depth 8, (search sendable, (search sendable, tt))))))
 
-pub seat_send : IsSend Seat.the_row
-seat_send = search (sendable, inside_seat)
+pub served_send : IsSend ServedSite.the_row
+served_send = search (sendable, inside_served)
 
-pub seat_field_send : IsSend Seat.the_field.row
-seat_field_send = seat_send
+pub served_field_send : IsSend ServedSite.the_field.row
+served_field_send = served_send

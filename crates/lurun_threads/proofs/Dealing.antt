@@ -8,9 +8,9 @@ use Rattle.std.proofs.lemmas.Option.{get_or_from_slice_get, slice_get-map}
 use Rattle.std.proofs.lemmas.List.Concat.{flat_map-append}
 use Rattle.std.proofs.lemmas.List.Elements.{All-push, All-same, All-head, All-tail}
 use Rattle.std.proofs.lemmas.List.Sorted.{IsPermutation-refl, IsPermutation-sym, IsPermutation-trans, IsPermutation-middle, IsPermutation-append_left, IsPermutation-append_right, IsPermutation-pop_more, IsPermutation-swap_remove, IsPermutation-map, length_permutation}
-use Rattle.luworld.specs.Runs.{Run}
-use Rattle.lusite.specs.Sites.{SiteAt}
-use Rattle.lurun_threads.specs.Stations.{StationAt, AreReportsOf, IsSameSite, ReportsFor, place_of, places}
+use Rattle.luworld.specs.Jobs.{JobView}
+use Rattle.lusite.specs.Sites.{SiteView}
+use Rattle.lurun_threads.specs.Stations.{StationView, AreReportsOf, IsSameSite, ReportsFor, place_of, places}
 use Rattle.lurun_reports.proofs.Lists.{same_one}
 
 -- a fact of each element, as a list grows at its end or loses its head
@@ -65,17 +65,17 @@ thread_started f ws more w left rest x all e next same was =
 
 -- ---- reports
 
-pub report_place : (s : StationAt) (r : SiteAt) → ReportsFor s r → place_of r ≡ place_of s.at
-report_place s r is = ap₂ (λ (j : Run) (n : ℕ). (j, n)) is.0 is.1
+pub report_place : (s : StationView) (r : SiteView) → ReportsFor s r → place_of r ≡ place_of s.at
+report_place s r is = ap₂ (λ (j : JobView) (n : ℕ). (j, n)) is.0 is.1
 
 -- a station leaves its place, and its report goes behind the others
-pub report_moved : (all left now rest : List (Run × ℕ)) (reports more : List SiteAt) (r : SiteAt) → IsPermutation all (map place_of reports ++ left) → now ≡ left → IsPermutation now (place_of r ∷ rest) → more ≡ reports ++ r ∷ [] → IsPermutation all (map place_of more ++ rest)
+pub report_moved : (all left now rest : List (JobView × ℕ)) (reports more : List SiteView) (r : SiteView) → IsPermutation all (map place_of reports ++ left) → now ≡ left → IsPermutation now (place_of r ∷ rest) → more ≡ reports ++ r ∷ [] → IsPermutation all (map place_of more ++ rest)
 report_moved all left now rest reports more r p same one e =
     let here = subst (λ ls. IsPermutation all (map place_of reports ++ ls)) (sym same) p in
     subst (λ rs. IsPermutation all (rs ++ rest)) (sym (ap (map place_of) e ∙ map-append place_of reports (r ∷ []))) (IsPermutation-pop_more all (map place_of reports) now rest (place_of r) here one)
 
 -- the reports of a worker go behind the others
-pub reports_moved : (all left rest : List (Run × ℕ)) (stations : List StationAt) (reports part more : List SiteAt) → IsPermutation all (map place_of reports ++ left) → left ≡ places stations ++ rest → AreReportsOf stations part → more ≡ reports ++ part → IsPermutation all (map place_of more ++ rest)
+pub reports_moved : (all left rest : List (JobView × ℕ)) (stations : List StationView) (reports part more : List SiteView) → IsPermutation all (map place_of reports ++ left) → left ≡ places stations ++ rest → AreReportsOf stations part → more ≡ reports ++ part → IsPermutation all (map place_of more ++ rest)
 reports_moved all left rest stations reports part more p e are m =
     let rs = map place_of reports in
     let ps = map place_of part in
@@ -84,27 +84,27 @@ reports_moved all left rest stations reports part more p e are m =
     (subst (IsPermutation (rs ++ (places stations ++ rest))) (sym (append_assoc rs ps rest)) (IsPermutation-append_right rs (places stations ++ rest) (ps ++ rest) (IsPermutation-append_left rest (places stations) ps are))) in
     subst (λ xs. IsPermutation all (xs ++ rest)) (sym (ap (map place_of) m ∙ map-append place_of reports part)) (IsPermutation-trans all (rs ++ left) ((rs ++ ps) ++ rest) p step)
 
-pub part_length : (stations : List StationAt) (part : List SiteAt) → AreReportsOf stations part → length part ≡ length stations
+pub part_length : (stations : List StationView) (part : List SiteView) → AreReportsOf stations part → length part ≡ length stations
 part_length stations part are =
-    sym (length-map part place_of) ∙ length_permutation (places stations) (map place_of part) are ∙ length-map stations (λ (s : StationAt). place_of s.at)
+    sym (length-map part place_of) ∙ length_permutation (places stations) (map place_of part) are ∙ length-map stations (λ (s : StationView). place_of s.at)
 
-pub places_append : (xs ys : List StationAt) → places (xs ++ ys) ≡ places xs ++ places ys
-places_append xs ys = map-append (λ (s : StationAt). place_of s.at) xs ys
+pub places_append : (xs ys : List StationView) → places (xs ++ ys) ≡ places xs ++ places ys
+places_append xs ys = map-append (λ (s : StationView). place_of s.at) xs ys
 
 -- a station has gone on
-pub seat_kept : (seats : List StationAt) (i : ℕ) (s t : StationAt) → slice_get seats i ≡ Some s → IsSameSite s.at t.at → places (slice_set seats i t) ≡ places seats
-seat_kept seats i s t here same =
-    let f : StationAt → Run × ℕ = λ x. place_of x.at in
+pub served_kept : (served_sites : List StationView) (i : ℕ) (s t : StationView) → slice_get served_sites i ≡ Some s → IsSameSite s.at t.at → places (slice_set served_sites i t) ≡ places served_sites
+served_kept served_sites i s t here same =
+    let f : StationView → JobView × ℕ = λ x. place_of x.at in
     let d = f s in
-    map-set f seats i t ∙ ap (set (map f seats) i) (ap₂ (λ (j : Run) (n : ℕ). (j, n)) same.0 same.1 ∙ sym (get_or_from_slice_get (map f seats) i d d (slice_get-map f seats i ∙ ap (option_map f) here))) ∙ set-get_or (map f seats) i d
+    map-set f served_sites i t ∙ ap (set (map f served_sites) i) (ap₂ (λ (j : JobView) (n : ℕ). (j, n)) same.0 same.1 ∙ sym (get_or_from_slice_get (map f served_sites) i d d (slice_get-map f served_sites i ∙ ap (option_map f) here))) ∙ set-get_or (map f served_sites) i d
 
 -- a station is taken out, and the last one comes into its place
-pub seat_out : (seats rest : List StationAt) (i : ℕ) (s : StationAt) (r : SiteAt) → i < length seats → s ≡ get_or seats i s → rest ≡ swap_remove seats i s → ReportsFor s r → IsPermutation (places seats) (place_of r ∷ places rest)
-seat_out seats rest i s r l is e of =
-    let moved = IsPermutation-map (λ (x : StationAt). place_of x.at) seats (s ∷ swap_remove seats i s) (IsPermutation-swap_remove seats i s l is) in
-    subst (λ (p : Run × ℕ). IsPermutation (places seats) (p ∷ places rest)) (sym (report_place s r of)) (subst (λ xs. IsPermutation (places seats) (place_of s.at ∷ places xs)) (sym e) moved)
+pub served_out : (served_sites rest : List StationView) (i : ℕ) (s : StationView) (r : SiteView) → i < length served_sites → s ≡ get_or served_sites i s → rest ≡ swap_remove served_sites i s → ReportsFor s r → IsPermutation (places served_sites) (place_of r ∷ places rest)
+served_out served_sites rest i s r l is e of =
+    let moved = IsPermutation-map (λ (x : StationView). place_of x.at) served_sites (s ∷ swap_remove served_sites i s) (IsPermutation-swap_remove served_sites i s l is) in
+    subst (λ (p : JobView × ℕ). IsPermutation (places served_sites) (p ∷ places rest)) (sym (report_place s r of)) (subst (λ xs. IsPermutation (places served_sites) (place_of s.at ∷ places xs)) (sym e) moved)
 
 -- stations that are dealt are reported
-pub dealt_reports : (stations dealt : List StationAt) (reports : List SiteAt) → IsPermutation stations dealt → AreReportsOf dealt reports → AreReportsOf stations reports
+pub dealt_reports : (stations dealt : List StationView) (reports : List SiteView) → IsPermutation stations dealt → AreReportsOf dealt reports → AreReportsOf stations reports
 dealt_reports stations dealt reports p are =
-    IsPermutation-trans (places stations) (places dealt) (map place_of reports) (IsPermutation-map (λ (s : StationAt). place_of s.at) stations dealt p) are
+    IsPermutation-trans (places stations) (places dealt) (map place_of reports) (IsPermutation-map (λ (s : StationView). place_of s.at) stations dealt p) are

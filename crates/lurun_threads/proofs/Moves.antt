@@ -3,14 +3,14 @@ use Rattle.std.proofs.Common.{◌≡◌, ◌≢◌, ℕ, ◌+◌, false, nat_eq,
 use Rattle.std.specs.Prelude.{slice_get, slice_set}
 use Rattle.std.proofs.lemmas.Bool.{eq-eqb, ne_eqb}
 use Rattle.luflow.specs.declared.message.Msg.{Msg}
-use Rattle.luworld.specs.World.{Item, Puts, Takes, puts, takes, puts_before, takes_before}
-use Rattle.luworld.specs.Needs.{Distribution}
-use Rattle.luworld.specs.Runs.{Run, streams_of, system_of, script, link_list}
+use Rattle.luworld.specs.Systems.{Item, Puts, Takes, puts, takes, puts_before, takes_before}
+use Rattle.luworld.specs.Needs.{PlanView}
+use Rattle.luworld.specs.Jobs.{JobView, streams_of, system_of, script, link_list}
 use Rattle.lulink.specs.Views.{SenderView, ReceiverView, IsNextToPut, IsNextToTake, HasPut, HasPutNothing, HasTaken, HasTakenNothing}
 use Rattle.lusite.specs.declared.next.Next.TheVariants.{Put, Take}
-use Rattle.lusite.specs.Sites.{SiteAt}
+use Rattle.lusite.specs.Sites.{SiteView}
 use Rattle.lusite.specs.Machine.{IsNext, IsTakeNext}
-use Rattle.lurun_threads.specs.Stations.{sender_at, receiver_at, links_from, links_into, SendsAs, TakesAs, AreSenders, AreReceivers, Fits, IsNewStation, IsSameSite}
+use Rattle.lurun_threads.specs.Stations.{sender_at, receiver_at, links_from, links_into, SendsAs, TakesAs, AreSenders, AreReceivers, EndsAgree, IsNewStation, IsSameSite}
 use Rattle.lurun_threads.proofs.Acts.{all_kept, one_moved, one_kept, links_kept, one_end}
 
 abbrev sent_len : SenderView → ℕ
@@ -23,10 +23,10 @@ one_more : {X : Type 0} (xs ys : List X) (x : X) → ys ≡ xs ++ x ∷ [] → l
 one_more xs ys x e = ap length e ∙ length-append xs (x ∷ [])
 
 -- where the site goes on, its links are the same
-links_on : (f : Distribution → ℕ → List ℕ) (v w : SiteAt) → IsSameSite v w → f v.job.plan v.site ≡ f w.job.plan w.site
-links_on f v w same = ap (λ (j : Run). f j.plan v.site) (sym same.0) ∙ ap (f w.job.plan) (sym same.1)
+links_on : (f : PlanView → ℕ → List ℕ) (v w : SiteView) → IsSameSite v w → f v.job.plan v.site ≡ f w.job.plan w.site
+links_on f v w same = ap (λ (j : JobView). f j.plan v.site) (sym same.0) ∙ ap (f w.job.plan) (sym same.1)
 
-module _ (v w : SiteAt) (same : IsSameSite v w) (more : w.done ≡ v.done + 1) where
+module _ (v w : SiteView) (same : IsSameSite v w) (more : w.done ≡ v.done + 1) where
   abbrev Next : Item → Type 0
   Next item = slice_get (script v.job (streams_of v.job) v.site) v.done ≡ Some item
 
@@ -62,7 +62,7 @@ module _ (v w : SiteAt) (same : IsSameSite v w) (more : w.done ≡ v.done + 1) w
       })
 
 -- an end that was tried in vain
-pub put_none_moves : (v : SiteAt) (txs txs' : List SenderView) (i : ℕ) (t u : SenderView) → slice_get txs i ≡ Some t → HasPutNothing t u → txs' ≡ slice_set txs i u → AreSenders v txs → AreSenders v txs'
+pub put_none_moves : (v : SiteView) (txs txs' : List SenderView) (i : ℕ) (t u : SenderView) → slice_get txs i ≡ Some t → HasPutNothing t u → txs' ≡ slice_set txs i u → AreSenders v txs → AreSenders v txs'
 put_none_moves v txs txs' i t u here none e is =
     let each = one_kept (λ (x : SenderView). x.job) (λ (x : SenderView). x.link) sent_len puts v txs i t u here none.0 none.1 (ap length none.2) (λ k x ek. let y = is.each k x ek in (y.job, y.count)) in
     subst (AreSenders v) (sym e) (record {
@@ -70,7 +70,7 @@ put_none_moves v txs txs' i t u here none e is =
       each = λ k x ek. let y = each k x ek in record { job = y.0; count = y.1 };
     })
 
-pub take_none_moves : (v : SiteAt) (rxs rxs' : List ReceiverView) (i : ℕ) (t u : ReceiverView) → slice_get rxs i ≡ Some t → HasTakenNothing t u → rxs' ≡ slice_set rxs i u → AreReceivers v rxs → AreReceivers v rxs'
+pub take_none_moves : (v : SiteView) (rxs rxs' : List ReceiverView) (i : ℕ) (t u : ReceiverView) → slice_get rxs i ≡ Some t → HasTakenNothing t u → rxs' ≡ slice_set rxs i u → AreReceivers v rxs → AreReceivers v rxs'
 take_none_moves v rxs rxs' i t u here none e is =
     let each = one_kept (λ (x : ReceiverView). x.job) (λ (x : ReceiverView). x.link) taken_len takes v rxs i t u here none.0 none.1 (ap length none.2) (λ k x ek. let y = is.each k x ek in (y.job, y.count)) in
     subst (AreReceivers v) (sym e) (record {
@@ -79,25 +79,25 @@ take_none_moves v rxs rxs' i t u here none e is =
     })
 
 -- the message at hand is the next of its end's list
-pub next_to_put : (v : SiteAt) (l : ℕ) (m : Msg) (t : SenderView) → IsNext v.job v.site v.done (Put l m) → SendsAs v t → t.link ≡ l → IsNextToPut t m
+pub next_to_put : (v : SiteView) (l : ℕ) (m : Msg) (t : SenderView) → IsNext v.job v.site v.done (Put l m) → SendsAs v t → t.link ≡ l → IsNextToPut t m
 next_to_put v l m t next is of =
-    ap (λ (j : Run). slice_get (link_list j (streams_of j) t.link) (length t.put)) is.job
+    ap (λ (j : JobView). slice_get (link_list j (streams_of j) t.link) (length t.put)) is.job
     ∙ ap (slice_get (link_list v.job (streams_of v.job) t.link)) is.count
     ∙ ap (λ (k : ℕ). slice_get (link_list v.job (streams_of v.job) k) (puts_before (system_of v.job) k v.site v.done)) of
     ∙ next.1
 
-pub next_to_take : (v : SiteAt) (l : ℕ) (m : Msg) (t : ReceiverView) → IsNext v.job v.site v.done (Take l) → TakesAs v t → t.link ≡ l → IsNextToTake t m → IsTakeNext v.job v.site v.done m
+pub next_to_take : (v : SiteView) (l : ℕ) (m : Msg) (t : ReceiverView) → IsNext v.job v.site v.done (Take l) → TakesAs v t → t.link ≡ l → IsNextToTake t m → IsTakeNext v.job v.site v.done m
 next_to_take v l m t next is of found = (
   l,
   next.0,
-  sym (ap (λ (j : Run). slice_get (link_list j (streams_of j) t.link) (length t.taken)) is.job
+  sym (ap (λ (j : JobView). slice_get (link_list j (streams_of j) t.link) (length t.taken)) is.job
       ∙ ap (slice_get (link_list v.job (streams_of v.job) t.link)) is.count
       ∙ ap (λ (k : ℕ). slice_get (link_list v.job (streams_of v.job) k) (takes_before (system_of v.job) k v.site v.done)) of)
       ∙ found,
 )
 
 -- the ends of a new station fit its site
-pub new_fits : (v : SiteAt) (txs : List SenderView) (rxs : List ReceiverView) → IsNewStation v txs rxs → Fits v txs rxs
+pub new_fits : (v : SiteView) (txs : List SenderView) (rxs : List ReceiverView) → IsNewStation v txs rxs → EndsAgree v txs rxs
 new_fits v txs rxs is = record {
   senders = record {
     links = is.sent;

@@ -2,4 +2,4 @@ pub mod Stations
 pub mod Inside
 pub mod Workers
 pub mod Crew
-pub mod Hands
+pub mod SiteShares

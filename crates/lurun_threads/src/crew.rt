@@ -5,7 +5,7 @@ ghost use Rattle.std.specs.List.Sorted.{IsPermutation};
 ghost use Rattle.lurun_reports.specs.declared.error.RunError.TheVariants.{NoThread, OutOfMemory};
 ghost use Rattle.lurun_threads.specs.Stations.{AreReportsOf, IsSameSite, Moves, ReportsFor, place_of, places};
 ghost use Rattle.lurun_threads.specs.Crew.{HasRoom, dealt, held, is_done};
-ghost use Rattle.lurun_threads.specs.Hands.{promised};
+ghost use Rattle.lurun_threads.specs.SiteShares.{promised};
 
 use crate::ends::work_one;
 use crate::gate::{Gate, call, call_last};
@@ -23,7 +23,7 @@ use std::thread::{Promise, PromisedHandle, Scope, Threads};
 
 /// A station as a worker goes round it: so many items are done, and the gate was called for the next one or wasn't.
 #[derive(Drop)]
-pub struct Seat {
+pub struct ServedSite {
     site: Site,
     txs: Vec<Tx>,
     rxs: Vec<Rx>,
@@ -31,21 +31,21 @@ pub struct Seat {
     called: bool,
 }
 
-impl Model for Seat {
-    ghost use Rattle.lurun_threads.specs.Stations.{StationAt, Fits};
+impl Model for ServedSite {
+    ghost use Rattle.lurun_threads.specs.Stations.{StationView, EndsAgree};
 
-    ghost Value = { StationAt };
+    ghost Value = { StationView };
 
     ghost view = { λ a. record { at = a.site; txs = a.txs.items; rxs = a.rxs.items } };
 
-    ghost invariant = { λ a. Fits a.site a.txs.items a.rxs.items };
+    ghost invariant = { λ a. EndsAgree a.site a.txs.items a.rxs.items };
 }
 
-fn seat_of(station: Station) -> Seat
+fn served_of(station: Station) -> ServedSite
     ensures { result ≡ station }
 {
     let Station { site, txs, rxs } = station;
-    Seat {
+    ServedSite {
         site,
         txs,
         rxs,
@@ -54,7 +54,7 @@ fn seat_of(station: Station) -> Seat
     }
 }
 
-impl Seat {
+impl ServedSite {
     fn number(&self) -> u8
         ensures { result ≡ self.now.at.site }
     {
@@ -136,52 +136,52 @@ impl Seat {
     fn report(self) -> SiteReport
         ensures { ReportsFor self result }
     {
-        let Seat { site, .. } = self;
+        let ServedSite { site, .. } = self;
         site.report()
     }
 }
 
-fn go_at<R: Wait, G: Gate>(rt: &R, seats: &mut Vec<Seat>, at: usize, gate: &G) -> bool
-    requires { at < vec_len seats.old }
-    ensures same { places seats.new.items ≡ places seats.old.items }
-    ensures len { vec_len seats.new ≡ vec_len seats.old }
+fn go_at<R: Wait, G: Gate>(rt: &R, served_sites: &mut Vec<ServedSite>, at: usize, gate: &G) -> bool
+    requires { at < vec_len served_sites.old }
+    ensures same { places served_sites.new.items ≡ places served_sites.old.items }
+    ensures len { vec_len served_sites.new ≡ vec_len served_sites.old }
 {
-    let seat = &mut seats[at];
-    seat.go(rt, gate)
+    let served = &mut served_sites[at];
+    served.go(rt, gate)
 }
 
-fn take_out(seats: &mut Vec<Seat>, at: usize) -> SiteReport
-    requires { at < vec_len seats.old }
-    ensures one { IsPermutation (places seats.old.items)
-        (place_of result ∷ places seats.new.items) }
-    ensures len { vec_len seats.new + 1 ≡ vec_len seats.old }
+fn take_out(served_sites: &mut Vec<ServedSite>, at: usize) -> SiteReport
+    requires { at < vec_len served_sites.old }
+    ensures one { IsPermutation (places served_sites.old.items)
+        (place_of result ∷ places served_sites.new.items) }
+    ensures len { vec_len served_sites.new + 1 ≡ vec_len served_sites.old }
 {
-    let seat = seats.swap_remove(at);
-    seat.report()
+    let served = served_sites.swap_remove(at);
+    served.report()
 }
 
 /// Goes round the stations until all are over.
 fn serve<R: Wait, G: Gate>(
     rt: &R,
-    mut seats: Vec<Seat>,
+    mut served_sites: Vec<ServedSite>,
     gate: &G,
     mut reports: Vec<SiteReport>,
 ) -> Vec<SiteReport>
-    requires room { vec_len seats ≤ vec_capacity reports }
+    requires room { vec_len served_sites ≤ vec_capacity reports }
     requires none { vec_len reports ≡ 0 }
-    ensures { AreReportsOf seats.items result.items }
+    ensures { AreReportsOf served_sites.items result.items }
 {
     let mut at = 0;
     for _ in rt.forever() {
-        if seats.is_empty() {
+        if served_sites.is_empty() {
             break;
         }
-        if at >= seats.len() {
+        if at >= served_sites.len() {
             at = 0;
             thread::yield_now();
         }
-        if go_at(rt, &mut seats, at, gate) {
-            reports.push_reserved(take_out(&mut seats, at));
+        if go_at(rt, &mut served_sites, at, gate) {
+            reports.push_reserved(take_out(&mut served_sites, at));
         } else {
             at += 1;
         }
@@ -191,7 +191,7 @@ fn serve<R: Wait, G: Gate>(
 
 /// A worker's promise: its reports are those of its stations.
 #[derive(Drop)]
-pub struct ReportsOf(Snapshot<Vec<Seat>>);
+pub struct ReportsOf(Snapshot<Vec<ServedSite>>);
 
 impl Promise<Vec<SiteReport>> for ReportsOf {
     ghost use Rattle.lurun_threads.specs.Stations.{AreReportsOf};
@@ -203,8 +203,8 @@ type Worker = PromisedHandle<Vec<SiteReport>, ReportsOf>;
 
 /// A worker's stations, and room for a report of each.
 #[derive(Drop)]
-pub struct Hand {
-    pub seats: Vec<Seat>,
+pub struct SiteShare {
+    pub served_sites: Vec<ServedSite>,
     pub reports: Vec<SiteReport>,
 }
 
@@ -212,39 +212,46 @@ pub struct Hand {
 fn start<'s, E, R: Wait + Sync, G: Gate>(
     scope: &Scope<'s, E>,
     rt: &'s R,
-    hand: Hand,
+    site_share: SiteShare,
     gate: &'s G,
 ) -> Result<Worker, RunError>
-    requires { HasRoom hand }
-    ensures { IfOk result (λ h. h.promise.0.value ≡ hand.seats) }
+    requires { HasRoom site_share }
+    ensures { IfOk result (λ h. h.promise.0.value ≡ site_share.served_sites) }
 {
-    let Hand { seats, reports } = hand;
-    let promise = ReportsOf(Snapshot::of(&seats));
+    let SiteShare {
+        served_sites,
+        reports,
+    } = site_share;
+    let promise = ReportsOf(Snapshot::of(&served_sites));
     scope
         .spawn_with(
             promise,
             move || -> Vec<SiteReport>
-                requires { (vec_len seats ≤ vec_capacity reports) × (vec_len reports ≡ 0) }
-                ensures { AreReportsOf seats.items result.items }
-            { serve(rt, seats, gate, reports) },
+                requires { (vec_len served_sites ≤ vec_capacity reports) × (vec_len reports ≡ 0) }
+                ensures { AreReportsOf served_sites.items result.items }
+            { serve(rt, served_sites, gate, reports) },
         )
         .ok()
         .ok_or(RunError::NoThread)
 }
 
-fn deal_to(shares: &mut Vec<Vec<Seat>>, to: usize, seat: Seat) -> Result<(), AllocError>
+fn deal_to(
+    shares: &mut Vec<Vec<ServedSite>>,
+    to: usize,
+    served: ServedSite,
+) -> Result<(), AllocError>
     requires { to < vec_len shares.old }
     ensures one { OnOk result
-        (IsPermutation (seat ∷ dealt shares.old.items) (dealt shares.new.items)) }
+        (IsPermutation (served ∷ dealt shares.old.items) (dealt shares.new.items)) }
     ensures len { vec_len shares.new ≡ vec_len shares.old }
 {
     let share = &mut shares[to];
-    share.push(seat)?;
+    share.push(served)?;
     Ok(())
 }
 
 /// So many empty shares.
-fn no_shares(alloc: Global, count: usize) -> Result<Vec<Vec<Seat>>, AllocError>
+fn no_shares(alloc: Global, count: usize) -> Result<Vec<Vec<ServedSite>>, AllocError>
     ensures none { IfOk result (λ shares. length (dealt shares.items) ≡ 0) }
     ensures len { IfOk result (λ shares. vec_len shares ≡ count) }
 {
@@ -256,69 +263,80 @@ fn no_shares(alloc: Global, count: usize) -> Result<Vec<Vec<Seat>>, AllocError>
 }
 
 /// The stations of each worker: worker i has the sites whose number leaves i, divided by the number of workers.
-fn deal(alloc: Global, stations: Vec<Station>, workers: u8) -> Result<Vec<Vec<Seat>>, AllocError>
+fn deal(
+    alloc: Global,
+    stations: Vec<Station>,
+    workers: u8,
+) -> Result<Vec<Vec<ServedSite>>, AllocError>
     requires { 0 < workers }
     ensures { IfOk result (λ shares. IsPermutation stations.items (dealt shares.items)) }
 {
     let count = usize::from(workers);
     let mut shares = no_shares(alloc, count)?;
     for station in stations {
-        let seat = seat_of(station);
-        let to = usize::from(seat.number()) % count;
-        deal_to(&mut shares, to, seat)?;
+        let served = served_of(station);
+        let to = usize::from(served.number()) % count;
+        deal_to(&mut shares, to, served)?;
     }
     Ok(shares)
 }
 
-fn hand_of(alloc: Global, seats: Vec<Seat>) -> Result<Hand, AllocError>
-    ensures seats { IfOk result (λ hand. hand.seats ≡ seats) }
+fn site_share_of(alloc: Global, served_sites: Vec<ServedSite>) -> Result<SiteShare, AllocError>
+    ensures served_sites { IfOk result (λ site_share. site_share.served_sites ≡ served_sites) }
     ensures room { IfOk result HasRoom }
 {
-    let reports = Vec::with_capacity(alloc, seats.len())?;
-    Ok(Hand { seats, reports })
+    let reports = Vec::with_capacity(alloc, served_sites.len())?;
+    Ok(SiteShare {
+        served_sites,
+        reports,
+    })
 }
 
 /// The shares that have a station, with room for its report.
-fn hands_of(alloc: Global, shares: Vec<Vec<Seat>>) -> Result<Vec<Hand>, AllocError>
-    ensures all { IfOk result (λ hands. held hands.items ≡ dealt shares.items) }
-    ensures room { IfOk result (λ hands. All HasRoom hands.items) }
+fn site_shares_of(alloc: Global, shares: Vec<Vec<ServedSite>>) -> Result<Vec<SiteShare>, AllocError>
+    ensures all { IfOk result (λ site_shares. held site_shares.items ≡ dealt shares.items) }
+    ensures room { IfOk result (λ site_shares. All HasRoom site_shares.items) }
 {
-    let mut hands = Vec::with_capacity(alloc, shares.len())?;
-    for seats in shares {
-        if !seats.is_empty() {
-            hands.push_reserved(hand_of(alloc, seats)?);
+    let mut site_shares = Vec::with_capacity(alloc, shares.len())?;
+    for served_sites in shares {
+        if !served_sites.is_empty() {
+            site_shares.push_reserved(site_share_of(alloc, served_sites)?);
         }
     }
-    Ok(hands)
+    Ok(site_shares)
 }
 
 /// The shares of the workers that have a station.
-fn hands_for(alloc: Global, stations: Vec<Station>, workers: u8) -> Result<Vec<Hand>, AllocError>
+fn site_shares_for(
+    alloc: Global,
+    stations: Vec<Station>,
+    workers: u8,
+) -> Result<Vec<SiteShare>, AllocError>
     requires { 0 < workers }
-    ensures all { IfOk result (λ hands. IsPermutation stations.items (held hands.items)) }
-    ensures count { IfOk result (λ hands. length (held hands.items) ≤ vec_len stations) }
-    ensures room { IfOk result (λ hands. All HasRoom hands.items) }
+    ensures all { IfOk result (λ site_shares. IsPermutation stations.items (held site_shares.items)) }
+    ensures count { IfOk result (λ site_shares. length (held site_shares.items) ≤ vec_len stations) }
+    ensures room { IfOk result (λ site_shares. All HasRoom site_shares.items) }
 {
     let shares = deal(alloc, stations, workers)?;
-    hands_of(alloc, shares)
+    site_shares_of(alloc, shares)
 }
 
 /// Starts a worker for each share, up to the first that is refused: false there, and the shares that are left are dropped.
 fn start_all<'s, E, R: Wait + Sync, G: Gate>(
     scope: &Scope<'s, E>,
     rt: &'s R,
-    hands: Vec<Hand>,
+    site_shares: Vec<SiteShare>,
     gate: &'s G,
     mut workers: Vec<Worker>,
 ) -> (Vec<Worker>, bool)
-    requires room { vec_len hands ≤ vec_capacity workers }
+    requires room { vec_len site_shares ≤ vec_capacity workers }
     requires none { vec_len workers ≡ 0 }
-    requires each { All HasRoom hands.items }
-    ensures all { result.1 ≡ true → promised result.0.items ≡ held hands.items }
-    ensures count { length (promised result.0.items) ≤ length (held hands.items) }
+    requires each { All HasRoom site_shares.items }
+    ensures all { result.1 ≡ true → promised result.0.items ≡ held site_shares.items }
+    ensures count { length (promised result.0.items) ≤ length (held site_shares.items) }
 {
-    for hand in hands {
-        match start(scope, rt, hand, gate) {
+    for site_share in site_shares {
+        match start(scope, rt, site_share, gate) {
             Ok(worker) => workers.push_reserved(worker),
             Err(_) => return (workers, false),
         }
@@ -367,19 +385,19 @@ pub fn reports_by_crew<R: Threads + Wait + Sync, G: Gate>(
     ensures none { IfErr result (λ error. (error ≡ OutOfMemory) ⊎ (error ≡ NoThread)) }
 {
     let reports = Vec::with_capacity(alloc, stations.len())?;
-    let hands = hands_for(alloc, stations, workers)?;
-    let children = Vec::with_capacity(alloc, hands.len())?;
+    let site_shares = site_shares_for(alloc, stations, workers)?;
+    let children = Vec::with_capacity(alloc, site_shares.len())?;
     let (reports, all) = thread::scope(
         thread::scope_env(),
         rt,
         |scope| -> (Vec<SiteReport>, bool)
-            requires room { (vec_len hands ≤ vec_capacity children) × (vec_len children ≡ 0)
-                × All HasRoom hands.items }
-            requires reports { (length (held hands.items) ≤ vec_capacity reports)
+            requires room { (vec_len site_shares ≤ vec_capacity children) × (vec_len children ≡ 0)
+                × All HasRoom site_shares.items }
+            requires reports { (length (held site_shares.items) ≤ vec_capacity reports)
                 × (vec_len reports ≡ 0) }
-            ensures { result.1 ≡ true → AreReportsOf (held hands.items) result.0.items }
+            ensures { result.1 ≡ true → AreReportsOf (held site_shares.items) result.0.items }
         {
-            let (children, all) = start_all(scope, rt, hands, gate, children);
+            let (children, all) = start_all(scope, rt, site_shares, gate, children);
             (join_all(rt, children, reports), all)
         },
     );

@@ -17,10 +17,10 @@ pub struct Station {
 }
 
 impl Model for Station {
-    ghost use Rattle.lurun_threads.specs.Stations.{StationAt};
+    ghost use Rattle.lurun_threads.specs.Stations.{StationView};
     ghost use Rattle.lurun_threads.specs.Inside.{station_view, IsStation};
 
-    ghost Value = { StationAt };
+    ghost Value = { StationView };
 
     ghost view = { station_view };
 

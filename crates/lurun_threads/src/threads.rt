@@ -2,7 +2,7 @@
 
 ghost use Rattle.std.specs.Prelude.{◌≡◌, ◌≤◌, ◌⊎◌, ℕ, true, IfOk, IfErr, vec_len, vec_capacity};
 ghost use Rattle.lurun_reports.specs.declared.error.RunError.TheVariants.{NoThread, OutOfMemory};
-ghost use Rattle.lurun_threads.specs.Stations.{AreReportsOf, Fits, IsSameSite, Moves, ReportsFor};
+ghost use Rattle.lurun_threads.specs.Stations.{AreReportsOf, EndsAgree, IsSameSite, Moves, ReportsFor};
 ghost use Rattle.lurun_threads.specs.Workers.{promised};
 
 use crate::ends::{put_one, take_one, work_one};
@@ -26,8 +26,8 @@ fn do_item<R: Wait, G: Gate>(
     rxs: &mut Vec<Rx>,
     step: u64,
 ) -> bool
-    requires { Fits site.old txs.old.items rxs.old.items }
-    ensures fits { Fits site.new txs.new.items rxs.new.items }
+    requires { EndsAgree site.old txs.old.items rxs.old.items }
+    ensures fits { EndsAgree site.new txs.new.items rxs.new.items }
     ensures moved { Moves result site.old site.new }
     ensures site { IsSameSite site.old site.new }
 {

@@ -15,8 +15,8 @@ use Rattle.lusdist_shell.specs.declared.request.ReplayRequest.{ReplayRequest}
 use Rattle.lusdist_shell.specs.declared.request.TurnsForm.{TurnsForm}
 use Rattle.lusdist_shell.specs.declared.request.TurnsForm.TheVariants.{Nothing}
 use Rattle.lusdist_shell.specs.Request.{IsAskedBy}
-use Rattle.lusdist_call.specs.declared.stop.Stop.{Stop}
-use Rattle.lusdist_call.specs.declared.stop.Stop.TheVariants.{CannotRead, CannotWrite, NotAscii, Syntax, Rules, Flat, Place, Table, Schedule, Fault, LinkLost, NoThread, OutOfMemory, Mistaken}
+use Rattle.lusdist_call.specs.declared.call_error.CallError.{CallError}
+use Rattle.lusdist_call.specs.declared.call_error.CallError.TheVariants.{CannotRead, CannotWrite, NotAscii, Syntax, Rules, Flat, Place, Table, Schedule, Fault, LinkLost, NoThread, OutOfMemory, Mistaken}
 use Rattle.lusdist_call.specs.Asked.{IsDone, AreNotes, AreNotesOf, AskForNoTrace}
 use Rattle.lusdist_call.specs.Statuses.{status_of}
 use Rattle.lusdist_call.specs.Stopped.{IsRefusal}
@@ -59,7 +59,7 @@ no_notes gives (Explain request) notes quiet are = are
 no_notes gives (Replay request) notes quiet are = subst (λ (form : TurnsForm). AreNotesOf are.job are.turns request.finish form are.dones notes) (quiet request refl) are.notes_are
 
 -- a refusal has one of three statuses
-pub status_some : (stop : Stop) → (status_of stop ≡ 1) ⊎ ((status_of stop ≡ 2) ⊎ (status_of stop ≡ 3))
+pub status_some : (stop : CallError) → (status_of stop ≡ 1) ⊎ ((status_of stop ≡ 2) ⊎ (status_of stop ≡ 3))
 status_some (CannotRead path) = inr (inl refl)
 status_some (CannotWrite path) = inr (inr refl)
 status_some NotAscii = inl refl
@@ -109,10 +109,10 @@ status_some (Schedule schedule.OutOfMemory) = inr (inr refl)
 status_some (Fault variable instant kind) = inr (inr refl)
 status_some LinkLost = inr (inr refl)
 status_some NoThread = inr (inr refl)
-status_some (Mistaken told) = inr (inl refl)
+status_some (Mistaken reported) = inr (inl refl)
 status_some OutOfMemory = inr (inr refl)
 
-never_done : (stop : Stop) → status_of stop ≡ 0 → ⊥
+never_done : (stop : CallError) → status_of stop ≡ 0 → ⊥
 never_done stop e = elim (status_some stop) [
   | inl one ↦ absurd (omega (arith, e, one))
   | inr more ↦ elim more [ inl two ↦ absurd (omega (arith, e, two)) | inr three ↦ absurd (omega (arith, e, three)) ]
@@ -133,10 +133,10 @@ module _ {W V : Type 0} (gives : FileFacts) (takes : FileFacts) (words : List (L
   quiet none (unwritten text e answer filed out begun) zero = absurd (omega (arith, e, zero))
 
   -- where it ends with status 1 or 2, it is refused
-  pub told : (n : ℕ) → (n ≡ 1) ⊎ (n ≡ 2) → IsEnded gives takes request status streams → status ≡ n → IsRefusal gives words n
-  told n small (answered text notes e answer noted filed out) is = elim small [ inl one ↦ absurd (omega (arith, e, is, one)) | inr two ↦ absurd (omega (arith, e, is, two)) ]
-  told n small (refused stop e stops filed err) is = record { request = request; asked = asked; stop = stop; stops = stops; status_is = sym is ∙ e }
-  told n small (unwritten text e answer filed none begun) is = elim small [ inl one ↦ absurd (omega (arith, e, is, one)) | inr two ↦ absurd (omega (arith, e, is, two)) ]
+  pub reported : (n : ℕ) → (n ≡ 1) ⊎ (n ≡ 2) → IsEnded gives takes request status streams → status ≡ n → IsRefusal gives words n
+  reported n small (answered text notes e answer noted filed out) is = elim small [ inl one ↦ absurd (omega (arith, e, is, one)) | inr two ↦ absurd (omega (arith, e, is, two)) ]
+  reported n small (refused stop e stops filed err) is = record { request = request; asked = asked; stop = stop; stops = stops; status_is = sym is ∙ e }
+  reported n small (unwritten text e answer filed none begun) is = elim small [ inl one ↦ absurd (omega (arith, e, is, one)) | inr two ↦ absurd (omega (arith, e, is, two)) ]
 
   -- where it ends with status 1 or 2, nothing goes to the output
   pub kept : (status ≡ 1) ⊎ (status ≡ 2) → IsEnded gives takes request status streams → streams.out_after ≡ streams.out

@@ -8,19 +8,19 @@ use Rattle.luflow.specs.declared.form.Flow.{Flow}
 use Rattle.luflow.specs.declared.form.FaultKind.{FaultKind}
 use Rattle.luflow.specs.declared.variable.Enum.{Enum}
 use Rattle.luflow.specs.declared.variable.Variable.{Variable}
-use Rattle.luflow.specs.Program.{FlatProgram, Table, reads}
+use Rattle.luflow.specs.Program.{FlatView, InputsView, reads}
 use Rattle.luflow.specs.Rank.{reads_of, IsRankOrder}
 use Rattle.luflow.specs.Solution.{solution}
 use Rattle.luflow.specs.Variables.{inputs_of}
 use Rattle.luflow.proofs.Solutions.{IsSolution-solution}
 use Rattle.luflow.specs.Faults.{IsFault}
-use Rattle.luworld.specs.Needs.{Distribution}
-use Rattle.luworld.specs.Runs.{Run}
+use Rattle.luworld.specs.Needs.{PlanView}
+use Rattle.luworld.specs.Jobs.{JobView}
 use Rattle.lustat_rules.specs.Accepted.{Rule, Keeps, Breaks, program, enumeration, node, declaration, equation}
 use Rattle.lustat_rules.specs.Accepted as accepted
 use Rattle.lustat_rules.specs.declared.error.StatError.{StatError}
 use Rattle.lustat_rules.specs.declared.error.StatError.TheVariants as rules
-use Rattle.lustat_rules.specs.Told.{Tells}
+use Rattle.lustat_rules.specs.Reported.{ReportsRule}
 use Rattle.lucore_laws.proofs.Orders.{one_order}
 use Rattle.lucore_laws.proofs.Same.{one_list}
 use Rattle.lucore.specs.declared.error.CoreError.{CoreError}
@@ -37,7 +37,7 @@ use Rattle.luplace.specs.Placing.{refusal}
 use Rattle.lutab.specs.declared.error.TabError.{TabError}
 use Rattle.lutab.specs.declared.error.TabError.TheVariants as tab
 use Rattle.lutab.specs.Table.{IsTextOf, is_too_long}
-use Rattle.lutab.proofs.Told.{memory_or, not_refused as table_fine}
+use Rattle.lutab.proofs.Reported.{memory_or, not_refused as table_fine}
 use Rattle.lutab.proofs.Texts.{one_table}
 use Rattle.lusdist_shell.specs.ScheduleText.{schedule_of}
 use Rattle.lusdist_shell.specs.declared.schedule.ScheduleError.{ScheduleError}
@@ -49,12 +49,12 @@ use Rattle.lusdist_shell.specs.declared.request.ReplayRequest.{ReplayRequest}
 use Rattle.lusdist_shell.specs.declared.request.Request.{Request}
 use Rattle.lusdist_shell.specs.declared.request.RunRequest.{RunRequest}
 use Rattle.lusdist_shell.specs.declared.request.Request.TheVariants.{Check, Eval, Plan, Replay, Run as AsksRun, Explain}
-use Rattle.lusdist_call.specs.declared.stop.Stop.{Stop}
-use Rattle.lusdist_call.specs.declared.stop.Stop.TheVariants.{CannotRead, CannotWrite, NotAscii, Syntax, Rules, Flat, Place as BadPlace, Table as BadTable, Schedule, Fault, LinkLost, NoThread, OutOfMemory, Mistaken}
+use Rattle.lusdist_call.specs.declared.call_error.CallError.{CallError}
+use Rattle.lusdist_call.specs.declared.call_error.CallError.TheVariants.{CannotRead, CannotWrite, NotAscii, Syntax, Rules, Flat, Place as BadPlace, Table as BadTable, Schedule, Fault, LinkLost, NoThread, OutOfMemory, Mistaken}
 use Rattle.lusdist_call.specs.Asked.{HasFlat, IsPlanOfText, IsJobFor, IsChecked, IsPlanned, IsReplayed, IsRan, IsAnswer}
-use Rattle.lusdist_call.specs.Evaluated.{IsPosedBy, IsEvaluated, IsFaultOf, IsFaultTold}
-use Rattle.lusdist_call.specs.Refused.{IsToldOf, IsProgramRefused, IsTableRefused, IsPlaceRefused}
-use Rattle.lusdist_call.specs.Refused.IsToldOf.{rule, flat}
+use Rattle.lusdist_call.specs.Evaluated.{IsPosedBy, IsEvaluated, IsFaultOf, IsFaultReported}
+use Rattle.lusdist_call.specs.Refused.{IsReportedOf, IsProgramRefused, IsTableRefused, IsPlaceRefused}
+use Rattle.lusdist_call.specs.Refused.IsReportedOf.{rule, flat}
 use Rattle.lusdist_call.specs.Explained.{code_in, explanation, IsExplainStopped}
 use Rattle.lusdist_call.specs.Explained.IsExplainStopped.{explain_unknown, explain_memory}
 use Rattle.lusdist_call.specs.Files.{IsUnread}
@@ -74,12 +74,12 @@ use Rattle.lusdist_call.specs.Exact.{HasOneText, SaysNothing}
 use Rattle.std.proofs.lemmas.Option.{same_Some}
 use Rattle.lusdist_shell.specs.Files.{FileFacts}
 
-pub memory_is : (stop other : Stop) → stop ≡ other → SaysNothing other → SaysNothing stop
+pub memory_is : (stop other : CallError) → stop ≡ other → SaysNothing other → SaysNothing stop
 memory_is stop other e h = subst SaysNothing (sym e) h
 
 -- ---- one flat program
 
-flat_is : (a b : FlatProgram) → a.types ≡ b.types → a.flows ≡ b.flows → a.order ≡ b.order → a.owners ≡ b.owners → a.variables ≡ b.variables → a ≡ b
+flat_is : (a b : FlatView) → a.types ≡ b.types → a.flows ≡ b.flows → a.order ≡ b.order → a.owners ≡ b.owners → a.variables ≡ b.variables → a ≡ b
 flat_is a b types flows order owners variables =
     ap (λ (x : List Enum). record { types = x; flows = a.flows; order = a.order; owners = a.owners; variables = a.variables }) types
     ∙ ap (λ (x : List Flow). record { types = b.types; flows = x; order = a.order; owners = a.owners; variables = a.variables }) flows
@@ -87,7 +87,7 @@ flat_is a b types flows order owners variables =
     ∙ ap (λ (x : List ℕ). record { types = b.types; flows = b.flows; order = b.order; owners = x; variables = a.variables }) owners
     ∙ ap (λ (x : List Variable). record { types = b.types; flows = b.flows; order = b.order; owners = b.owners; variables = x }) variables
 
-flat_same : (tree : ProgramTree) (main : List ℕ) (a b : FlatProgram) → IsFlatOf tree main a → IsFlatOf tree main b → a ≡ b
+flat_same : (tree : ProgramTree) (main : List ℕ) (a b : FlatView) → IsFlatOf tree main a → IsFlatOf tree main b → a ≡ b
 flat_same tree main a b x y =
     let same = one_list tree main a b (x.accepted accepted.recursive_node) x.laid_out y.laid_out in
     let rows : reads_of b ≡ reads_of a = ap (map reads) (sym same.flows) in
@@ -104,7 +104,7 @@ kept tree main r (node i n at never) keeps = never (keeps.nodes i n at)
 kept tree main r (declaration i j n d at there never) keeps = never (keeps.declarations i j n d at there)
 kept tree main r (equation i j n q at there never) keeps = never (keeps.equations i j n q at there)
 
-pub rules_memory : (tree : ProgramTree) (main : List ℕ) (told : StatError) → ((r : Rule) → Keeps tree main r) → Tells 3 tree main told → SaysNothing (Rules told)
+pub rules_memory : (tree : ProgramTree) (main : List ℕ) (reported : StatError) → ((r : Rule) → Keeps tree main r) → ReportsRule 3 tree main reported → SaysNothing (Rules reported)
 rules_memory tree main (rules.DuplicateName byte) keeps h = absurd (kept tree main accepted.duplicate_name h.1.broken (keeps accepted.duplicate_name))
 rules_memory tree main (rules.UnknownName byte) keeps h = absurd (kept tree main accepted.unknown_name h.1.broken (keeps accepted.unknown_name))
 rules_memory tree main (rules.UnknownNode byte) keeps h = absurd (kept tree main accepted.unknown_node h.1.broken (keeps accepted.unknown_node))
@@ -123,7 +123,7 @@ rules_memory tree main (rules.MaybeNil byte) keeps h = absurd (kept tree main ac
 rules_memory tree main (rules.CurrentMayBeNil byte) keeps h = absurd (kept tree main accepted.current_may_be_nil h.1.broken (keeps accepted.current_may_be_nil))
 rules_memory tree main rules.OutOfMemory keeps h = tt
 
-flat_memory : (tree : ProgramTree) (main : List ℕ) (own : FlatProgram) (told : CoreError) → IsFlatOf tree main own → Refuses tree main told → SaysNothing (Flat told)
+flat_memory : (tree : ProgramTree) (main : List ℕ) (own : FlatView) (reported : CoreError) → IsFlatOf tree main own → Refuses tree main reported → SaysNothing (Flat reported)
 flat_memory tree main own core.TooLarge is h =
     let same = one_list tree main own h.flat (is.accepted accepted.recursive_node) is.laid_out h.laid_out in
     let count = ap (λ (xs : List Flow). length xs) same.flows in
@@ -131,55 +131,55 @@ flat_memory tree main own core.TooLarge is h =
 flat_memory tree main own (core.Cycle name) is h = absurd (is.causal (h.occurrence, h.leads))
 flat_memory tree main own core.OutOfMemory is h = tt
 
-told_memory : (tree : ProgramTree) (places : ProgramPlaces) (main : List ℕ) (own : FlatProgram) (stop : Stop) → IsFlatOf tree main own → IsToldOf tree places main stop → SaysNothing stop
-told_memory tree places main own stop is (rule told read e tells same there first) = memory_is stop (Rules told) e (rules_memory tree main told is.accepted tells)
-told_memory tree places main own stop is (flat told e keeps refuses) = memory_is stop (Flat told) e (flat_memory tree main own told is refuses)
+reported_memory : (tree : ProgramTree) (places : ProgramPlaces) (main : List ℕ) (own : FlatView) (stop : CallError) → IsFlatOf tree main own → IsReportedOf tree places main stop → SaysNothing stop
+reported_memory tree places main own stop is (rule reported read e tells same there first) = memory_is stop (Rules reported) e (rules_memory tree main reported is.accepted tells)
+reported_memory tree places main own stop is (flat reported e keeps refuses) = memory_is stop (Flat reported) e (flat_memory tree main own reported is refuses)
 
 -- ---- a text that spells a program isn't refused
 
-pub text_memory : (text : List ℕ) (tree : ProgramTree) (stop : Stop) → SpellsText text tree → IsProgramRefused text stop → SaysNothing stop
+pub text_memory : (text : List ℕ) (tree : ProgramTree) (stop : CallError) → SpellsText text tree → IsProgramRefused text stop → SaysNothing stop
 text_memory text tree NotAscii spelled h = absurd (h (IsUtf8-from_ascii text spelled.1.1.0.1))
-text_memory text tree (Syntax told) spelled (inl memory) = memory_is (Syntax told) (Syntax syntax.OutOfMemory) (ap (λ (x : SynError). Syntax x) memory) tt
-text_memory text tree (Syntax told) spelled (inr (utf8, refused)) = absurd (not_refused text tree told spelled refused)
+text_memory text tree (Syntax reported) spelled (inl memory) = memory_is (Syntax reported) (Syntax syntax.OutOfMemory) (ap (λ (x : SynError). Syntax x) memory) tt
+text_memory text tree (Syntax reported) spelled (inr (utf8, refused)) = absurd (not_refused text tree reported spelled refused)
 text_memory text tree (CannotRead path) spelled h = absurd h
 text_memory text tree (CannotWrite written) spelled h = absurd h
-text_memory text tree (Rules told) spelled h = absurd h
-text_memory text tree (Flat told) spelled h = absurd h
-text_memory text tree (BadPlace told) spelled h = absurd h
-text_memory text tree (BadTable told) spelled h = absurd h
-text_memory text tree (Schedule told) spelled h = absurd h
+text_memory text tree (Rules reported) spelled h = absurd h
+text_memory text tree (Flat reported) spelled h = absurd h
+text_memory text tree (BadPlace reported) spelled h = absurd h
+text_memory text tree (BadTable reported) spelled h = absurd h
+text_memory text tree (Schedule reported) spelled h = absurd h
 text_memory text tree (Fault name instant kind) spelled h = absurd h
 text_memory text tree OutOfMemory spelled h = absurd h
 text_memory text tree LinkLost spelled h = absurd h
 text_memory text tree NoThread spelled h = absurd h
 text_memory text tree (Mistaken mistake) spelled h = absurd h
 
-no_flat_memory : (text main : List ℕ) (tree : ProgramTree) (own : FlatProgram) (stop : Stop) → SpellsText text tree → IsFlatOf tree main own → HasNoFlat text main stop → SaysNothing stop
+no_flat_memory : (text main : List ℕ) (tree : ProgramTree) (own : FlatView) (stop : CallError) → SpellsText text tree → IsFlatOf tree main own → HasNoFlat text main stop → SaysNothing stop
 no_flat_memory text main tree own stop spelled is (unspelled refused) = text_memory text tree stop spelled refused
-no_flat_memory text main tree own stop spelled is (unruled other places spells there told) =
-    told_memory tree places main own stop is (subst (λ t. IsToldOf t places main stop) (one_program text other tree spells spelled) told)
+no_flat_memory text main tree own stop spelled is (unruled other places spells there reported) =
+    reported_memory tree places main own stop is (subst (λ t. IsReportedOf t places main stop) (one_program text other tree spells spelled) reported)
 
-pub flats_same : (text main : List ℕ) (tree other : ProgramTree) (a b : FlatProgram) → SpellsText text tree → SpellsText text other → IsFlatOf tree main a → IsFlatOf other main b → b ≡ a
+pub flats_same : (text main : List ℕ) (tree other : ProgramTree) (a b : FlatView) → SpellsText text tree → SpellsText text other → IsFlatOf tree main a → IsFlatOf other main b → b ≡ a
 flats_same text main tree other a b x y is also =
     flat_same tree main b a (subst (λ t. IsFlatOf t main b) (one_program text other tree y x) also) is
 
 -- ---- the other files
 
-table_memory : (types : List Enum) (inputs : List Variable) (text : List ℕ) (table : Table) (stop : Stop) → IsTextOf types inputs table text → is_too_long text ≡ false → IsUtf8 text → IsTableRefused types inputs text stop → SaysNothing stop
-table_memory types inputs text table (BadTable told) is short utf8 (inl bytes) = absurd (bytes.1 utf8)
-table_memory types inputs text table (BadTable told) is short utf8 (inr (same, refused)) =
-    elim (memory_or told) [
-      | inl memory ↦ memory_is (BadTable told) (BadTable tab.OutOfMemory) (ap (λ (x : TabError). BadTable x) memory) tt
-      | inr other ↦ absurd (table_fine types inputs text table told is short (refused other))
+table_memory : (types : List Enum) (inputs : List Variable) (text : List ℕ) (table : InputsView) (stop : CallError) → IsTextOf types inputs table text → is_too_long text ≡ false → IsUtf8 text → IsTableRefused types inputs text stop → SaysNothing stop
+table_memory types inputs text table (BadTable reported) is short utf8 (inl bytes) = absurd (bytes.1 utf8)
+table_memory types inputs text table (BadTable reported) is short utf8 (inr (same, refused)) =
+    elim (memory_or reported) [
+      | inl memory ↦ memory_is (BadTable reported) (BadTable tab.OutOfMemory) (ap (λ (x : TabError). BadTable x) memory) tt
+      | inr other ↦ absurd (table_fine types inputs text table reported is short (refused other))
     ]
 table_memory types inputs text table (CannotRead path) is short utf8 h = absurd h
 table_memory types inputs text table (CannotWrite written) is short utf8 h = absurd h
 table_memory types inputs text table NotAscii is short utf8 h = absurd h
-table_memory types inputs text table (Syntax told) is short utf8 h = absurd h
-table_memory types inputs text table (Rules told) is short utf8 h = absurd h
-table_memory types inputs text table (Flat told) is short utf8 h = absurd h
-table_memory types inputs text table (BadPlace told) is short utf8 h = absurd h
-table_memory types inputs text table (Schedule told) is short utf8 h = absurd h
+table_memory types inputs text table (Syntax reported) is short utf8 h = absurd h
+table_memory types inputs text table (Rules reported) is short utf8 h = absurd h
+table_memory types inputs text table (Flat reported) is short utf8 h = absurd h
+table_memory types inputs text table (BadPlace reported) is short utf8 h = absurd h
+table_memory types inputs text table (Schedule reported) is short utf8 h = absurd h
 table_memory types inputs text table (Fault name instant kind) is short utf8 h = absurd h
 table_memory types inputs text table OutOfMemory is short utf8 h = absurd h
 table_memory types inputs text table LinkLost is short utf8 h = absurd h
@@ -195,38 +195,38 @@ ok_err r x e h k = absurd cc
 ok_same : {A E : Type 0} (r : Result A E) (x y : A) → r ≡ Ok x → r ≡ Ok y → x ≡ y
 ok_same r x y h k = cc
 
-place_memory : (text : List ℕ) (plan : Distribution) (stop : Stop) → IsPlanOfText text plan → IsPlaceRefused plan.flat text stop → SaysNothing stop
-place_memory text plan (BadPlace told) is (inl bytes) = absurd (bytes.1 is.utf8)
-place_memory text plan (BadPlace told) is (inr (utf8, inl memory)) = memory_is (BadPlace told) (BadPlace placing.OutOfMemory) (ap (λ (x : PlaceError). BadPlace x) memory) tt
-place_memory text plan (BadPlace told) is (inr (utf8, inr (inl says))) = absurd (ok_err (placement_of text) is.place told is.says says)
-place_memory text plan (BadPlace told) is (inr (utf8, inr (inr (other, says, refused)))) =
+place_memory : (text : List ℕ) (plan : PlanView) (stop : CallError) → IsPlanOfText text plan → IsPlaceRefused plan.flat text stop → SaysNothing stop
+place_memory text plan (BadPlace reported) is (inl bytes) = absurd (bytes.1 is.utf8)
+place_memory text plan (BadPlace reported) is (inr (utf8, inl memory)) = memory_is (BadPlace reported) (BadPlace placing.OutOfMemory) (ap (λ (x : PlaceError). BadPlace x) memory) tt
+place_memory text plan (BadPlace reported) is (inr (utf8, inr (inl says))) = absurd (ok_err (placement_of text) is.place reported is.says says)
+place_memory text plan (BadPlace reported) is (inr (utf8, inr (inr (other, says, refused)))) =
     let same = ok_same (placement_of text) other is.place says is.says in
-    absurd (none_some (refusal plan.flat is.place) told is.plan_is.accepted (ap (refusal plan.flat) (sym same) ∙ refused))
+    absurd (none_some (refusal plan.flat is.place) reported is.plan_is.accepted (ap (refusal plan.flat) (sym same) ∙ refused))
 place_memory text plan (CannotRead path) is h = absurd h
 place_memory text plan (CannotWrite written) is h = absurd h
 place_memory text plan NotAscii is h = absurd h
-place_memory text plan (Syntax told) is h = absurd h
-place_memory text plan (Rules told) is h = absurd h
-place_memory text plan (Flat told) is h = absurd h
-place_memory text plan (BadTable told) is h = absurd h
-place_memory text plan (Schedule told) is h = absurd h
+place_memory text plan (Syntax reported) is h = absurd h
+place_memory text plan (Rules reported) is h = absurd h
+place_memory text plan (Flat reported) is h = absurd h
+place_memory text plan (BadTable reported) is h = absurd h
+place_memory text plan (Schedule reported) is h = absurd h
 place_memory text plan (Fault name instant kind) is h = absurd h
 place_memory text plan OutOfMemory is h = absurd h
 place_memory text plan LinkLost is h = absurd h
 place_memory text plan NoThread is h = absurd h
 place_memory text plan (Mistaken mistake) is h = absurd h
 
-schedule_memory : (text turns : List ℕ) (stop : Stop) → schedule_of text ≡ Ok turns → IsScheduleRefused text stop → SaysNothing stop
-schedule_memory text turns (Schedule told) is (inl memory) = memory_is (Schedule told) (Schedule schedule.OutOfMemory) (ap (λ (x : ScheduleError). Schedule x) memory) tt
-schedule_memory text turns (Schedule told) is (inr refused) = absurd (ok_err (schedule_of text) turns told is refused)
+schedule_memory : (text turns : List ℕ) (stop : CallError) → schedule_of text ≡ Ok turns → IsScheduleRefused text stop → SaysNothing stop
+schedule_memory text turns (Schedule reported) is (inl memory) = memory_is (Schedule reported) (Schedule schedule.OutOfMemory) (ap (λ (x : ScheduleError). Schedule x) memory) tt
+schedule_memory text turns (Schedule reported) is (inr refused) = absurd (ok_err (schedule_of text) turns reported is refused)
 schedule_memory text turns (CannotRead path) is h = absurd h
 schedule_memory text turns (CannotWrite written) is h = absurd h
 schedule_memory text turns NotAscii is h = absurd h
-schedule_memory text turns (Syntax told) is h = absurd h
-schedule_memory text turns (Rules told) is h = absurd h
-schedule_memory text turns (Flat told) is h = absurd h
-schedule_memory text turns (BadPlace told) is h = absurd h
-schedule_memory text turns (BadTable told) is h = absurd h
+schedule_memory text turns (Syntax reported) is h = absurd h
+schedule_memory text turns (Rules reported) is h = absurd h
+schedule_memory text turns (Flat reported) is h = absurd h
+schedule_memory text turns (BadPlace reported) is h = absurd h
+schedule_memory text turns (BadTable reported) is h = absurd h
 schedule_memory text turns (Fault name instant kind) is h = absurd h
 schedule_memory text turns OutOfMemory is h = absurd h
 schedule_memory text turns LinkLost is h = absurd h
@@ -242,52 +242,52 @@ module _ (gives : FileFacts) (settled : HasOneText gives) where
   pub never_both : (path one : List ℕ) → gives path (Some one) → gives path None → ⊥
   never_both path one a b = none_some None one refl (settled path None (Some one) b a)
 
-  pub unread_memory : (path one : List ℕ) (stop : Stop) → gives path (Some one) → IsUnread gives path stop → SaysNothing stop
+  pub unread_memory : (path one : List ℕ) (stop : CallError) → gives path (Some one) → IsUnread gives path stop → SaysNothing stop
   unread_memory path one (CannotRead name) given h = absurd (never_both path one given h.1)
   unread_memory path one (CannotWrite written) given h = absurd h
   unread_memory path one OutOfMemory given h = tt
   unread_memory path one NotAscii given h = absurd h
-  unread_memory path one (Syntax told) given h = absurd h
-  unread_memory path one (Rules told) given h = absurd h
-  unread_memory path one (Flat told) given h = absurd h
-  unread_memory path one (BadPlace told) given h = absurd h
-  unread_memory path one (BadTable told) given h = absurd h
-  unread_memory path one (Schedule told) given h = absurd h
+  unread_memory path one (Syntax reported) given h = absurd h
+  unread_memory path one (Rules reported) given h = absurd h
+  unread_memory path one (Flat reported) given h = absurd h
+  unread_memory path one (BadPlace reported) given h = absurd h
+  unread_memory path one (BadTable reported) given h = absurd h
+  unread_memory path one (Schedule reported) given h = absurd h
   unread_memory path one (Fault name instant kind) given h = absurd h
   unread_memory path one LinkLost given h = absurd h
   unread_memory path one NoThread given h = absurd h
   unread_memory path one (Mistaken mistake) given h = absurd h
 
-  pub flats_one : (path main one other : List ℕ) (a b : FlatProgram) → gives path (Some one) → gives path (Some other) → HasFlat one main a → HasFlat other main b → b ≡ a
+  pub flats_one : (path main one other : List ℕ) (a b : FlatView) → gives path (Some one) → gives path (Some other) → HasFlat one main a → HasFlat other main b → b ≡ a
   flats_one path main one other a b x y has also =
       let same = one_of path other one y x in
       flats_same one main has.tree also.tree a b has.spelled (subst (λ t. SpellsText t also.tree) same also.spelled) has.flat_is also.flat_is
 
-  pub program_memory : (path main source : List ℕ) (own : FlatProgram) (stop : Stop) → gives path (Some source) → HasFlat source main own → StopsAtProgram gives path main stop → SaysNothing stop
+  pub program_memory : (path main source : List ℕ) (own : FlatView) (stop : CallError) → gives path (Some source) → HasFlat source main own → StopsAtProgram gives path main stop → SaysNothing stop
   program_memory path main source own stop given has (program_unread unread) = unread_memory path source stop given unread
   program_memory path main source own stop given has (program_refused bytes other never) =
       let same = one_of path bytes source other given in
       no_flat_memory source main has.tree own stop has.spelled has.flat_is (subst (λ b. HasNoFlat b main stop) same never)
 
-  pub plan_memory_of : (path place_path main source place : List ℕ) (plan : Distribution) (stop : Stop) → gives path (Some source) → gives place_path (Some place) → HasFlat source main plan.flat → IsPlanOfText place plan
+  pub plan_memory_of : (path place_path main source place : List ℕ) (plan : PlanView) (stop : CallError) → gives path (Some source) → gives place_path (Some place) → HasFlat source main plan.flat → IsPlanOfText place plan
       → StopsAtPlan gives path place_path main stop → SaysNothing stop
   plan_memory_of path place_path main source place plan stop given place_given has is (no_program never) = program_memory path main source plan.flat stop given has never
   plan_memory_of path place_path main source place plan stop given place_given has is (place_unread bytes own other own_is unread) = unread_memory place_path place stop place_given unread
   plan_memory_of path place_path main source place plan stop given place_given has is (place_refused bytes text own other own_is text_given refused) =
       let place_same = one_of place_path text place text_given place_given in
       place_memory place plan stop is
-      (subst (λ (f : FlatProgram). IsPlaceRefused f place stop) (flats_one path main source bytes plan.flat own given other has own_is) (subst (λ b. IsPlaceRefused own b stop) place_same refused))
+      (subst (λ (f : FlatView). IsPlaceRefused f place stop) (flats_one path main source bytes plan.flat own given other has own_is) (subst (λ b. IsPlaceRefused own b stop) place_same refused))
 
-  pub refused_memory : (path table_path main source table other text : List ℕ) (own list : FlatProgram) (inputs : Table) (stop : Stop) → gives path (Some source) → gives path (Some other) → HasFlat source main own → HasFlat other main list
+  pub refused_memory : (path table_path main source table other text : List ℕ) (own list : FlatView) (inputs : InputsView) (stop : CallError) → gives path (Some source) → gives path (Some other) → HasFlat source main own → HasFlat other main list
       → gives table_path (Some table) → gives table_path (Some text) → IsTextOf own.types (inputs_of own.variables) inputs table → is_too_long table ≡ false → IsUtf8 table
       → IsTableRefused list.types (inputs_of list.variables) text stop → SaysNothing stop
   refused_memory path table_path main source table other text own list inputs stop given other_given has also table_given text_given is short utf8 refused =
       let table_same = one_of table_path text table text_given table_given in
       let flat_eq = flats_one path main source other own list given other_given has also in
       table_memory own.types (inputs_of own.variables) table inputs stop is short utf8
-      (subst (λ (f : FlatProgram). IsTableRefused f.types (inputs_of f.variables) table stop) flat_eq (subst (λ b. IsTableRefused list.types (inputs_of list.variables) b stop) table_same refused))
+      (subst (λ (f : FlatView). IsTableRefused f.types (inputs_of f.variables) table stop) flat_eq (subst (λ b. IsTableRefused list.types (inputs_of list.variables) b stop) table_same refused))
 
-  check_outcome : (request : CheckRequest) (text : List ℕ) (stop : Stop) → IsChecked gives request text → IsCheckStopped gives request stop → SaysNothing stop
+  check_outcome : (request : CheckRequest) (text : List ℕ) (stop : CallError) → IsChecked gives request text → IsCheckStopped gives request stop → SaysNothing stop
   check_outcome request text stop is (check_program at) =
       program_memory request.program.now request.main.now is.program is.flat stop is.program_given (record { tree = is.tree; spelled = is.spelled; flat_is = is.flat_is }) at
   check_outcome request text stop is (check_memory e) = memory_is stop OutOfMemory e tt
@@ -301,17 +301,17 @@ module _ (gives : FileFacts) (settled : HasOneText gives) where
       let spelled = subst (λ b. SpellsText b other.tree) program_same other.posed.spelled in
       let flat_eq = flats_same asked.program request.main.now asked.tree other.tree is.flat fault.flat asked.posed.spelled spelled asked.posed.flat_is other.posed.flat_is in
       let columns = subst (λ b. IsTextOf fault.flat.types (inputs_of fault.flat.variables) fault.inputs b) table_same other.posed.table_is in
-      let inputs_eq = one_table is.flat.types (inputs_of is.flat.variables) asked.table fault.inputs is.inputs (subst (λ (f : FlatProgram). IsTextOf f.types (inputs_of f.variables) fault.inputs asked.table) flat_eq columns) asked.posed.table_is in
+      let inputs_eq = one_table is.flat.types (inputs_of is.flat.variables) asked.table fault.inputs is.inputs (subst (λ (f : FlatView). IsTextOf f.types (inputs_of f.variables) fault.inputs asked.table) flat_eq columns) asked.posed.table_is in
       let ordered = asked.posed.flat_is.is_flat.ordered in
-      let told = subst (λ (i : Table). IsFaultTold is.flat i name instant kind) inputs_eq (subst (λ (f : FlatProgram). IsFaultTold f fault.inputs name instant kind) flat_eq fault.told) in
+      let reported = subst (λ (i : InputsView). IsFaultReported is.flat i name instant kind) inputs_eq (subst (λ (f : FlatView). IsFaultReported f fault.inputs name instant kind) flat_eq fault.reported) in
       let solves = IsSolution-solution is.flat is.inputs ordered in
-      let first = told.first (solution is.flat is.inputs) solves in
+      let first = reported.first (solution is.flat is.inputs) solves in
       is.are_columns.no_fault (solution is.flat is.inputs) solves first.place instant kind first.early first.fault
 
-  pub posed_flat : (request : EvalRequest) (own : FlatProgram) (inputs : Table) (asked : IsPosedBy gives request own inputs) → HasFlat asked.program request.main.now own
+  pub posed_flat : (request : EvalRequest) (own : FlatView) (inputs : InputsView) (asked : IsPosedBy gives request own inputs) → HasFlat asked.program request.main.now own
   posed_flat request own inputs asked = record { tree = asked.tree; spelled = asked.posed.spelled; flat_is = asked.posed.flat_is }
 
-  eval_outcome : (request : EvalRequest) (text : List ℕ) (stop : Stop) → IsEvaluated gives request text → IsEvalStopped gives request stop → SaysNothing stop
+  eval_outcome : (request : EvalRequest) (text : List ℕ) (stop : CallError) → IsEvaluated gives request text → IsEvalStopped gives request stop → SaysNothing stop
   eval_outcome request text stop is (eval_program at) =
       program_memory request.program.now request.main.now is.asked.program is.flat stop is.asked.program_given (posed_flat request is.flat is.inputs is.asked) at
   eval_outcome request text stop is (eval_unread bytes own given has unread) = unread_memory request.table.now is.asked.table stop is.asked.table_given unread
@@ -323,18 +323,18 @@ module _ (gives : FileFacts) (settled : HasOneText gives) where
   eval_outcome request text stop is (eval_unwritten path asks its_flat its_inputs posed e) = memory_is stop (CannotWrite path) e tt
   eval_outcome request text stop is (eval_memory e) = memory_is stop OutOfMemory e tt
 
-  refused_outcome : (request : EvalRequest) (text : List ℕ) (stop : Stop) → IsEvaluated gives request text → IsEvalRefused gives request stop → SaysNothing stop
+  refused_outcome : (request : EvalRequest) (text : List ℕ) (stop : CallError) → IsEvaluated gives request text → IsEvalRefused gives request stop → SaysNothing stop
   refused_outcome request text stop is (eval_mistaken mistake found e) = absurd (none_some (mistake_in request) mistake is.meant found)
   refused_outcome request text stop is (eval_stopped meant at) = eval_outcome request text stop is at
 
-  plan_outcome : (request : PlanRequest) (text : List ℕ) (stop : Stop) → IsPlanned gives request text → IsPlanStopped gives request stop → SaysNothing stop
+  plan_outcome : (request : PlanRequest) (text : List ℕ) (stop : CallError) → IsPlanned gives request text → IsPlanStopped gives request stop → SaysNothing stop
   plan_outcome request text stop is (plan_files at) =
       let asked = is.asked_for in
       plan_memory_of request.program.now request.place.now request.main.now asked.program asked.place is.plan stop asked.program_given asked.place_given asked.flat asked.plan_of at
   plan_outcome request text stop is (plan_memory e) = memory_is stop OutOfMemory e tt
 
   -- a job that the files give doesn't stop a call
-  pub job_memory_of : (path place_path table_path main : List ℕ) (job : Run) (stop : Stop) → IsJobFor gives path place_path table_path main job → StopsAtJob gives path place_path table_path main stop → SaysNothing stop
+  pub job_memory_of : (path place_path table_path main : List ℕ) (job : JobView) (stop : CallError) → IsJobFor gives path place_path table_path main job → StopsAtJob gives path place_path table_path main stop → SaysNothing stop
   job_memory_of path place_path table_path main job stop is (no_plan at) =
       plan_memory_of path place_path main is.program is.place job.plan stop is.program_given is.place_given is.job_is.flat is.job_is.plan at
   job_memory_of path place_path table_path main job stop is (table_unread plan planned unread) = unread_memory table_path is.table stop is.table_given unread
@@ -343,14 +343,14 @@ module _ (gives : FileFacts) (settled : HasOneText gives) where
       is.table_given table_given is.job_is.inputs is.job_is.short is.job_is.utf8 refused
 
   -- two jobs of the same files have one flat program and one table
-  jobs_one : (path place_path table_path main : List ℕ) (a b : Run) → IsJobFor gives path place_path table_path main a → IsJobFor gives path place_path table_path main b → (b.plan.flat ≡ a.plan.flat) × (b.inputs ≡ a.inputs)
+  jobs_one : (path place_path table_path main : List ℕ) (a b : JobView) → IsJobFor gives path place_path table_path main a → IsJobFor gives path place_path table_path main b → (b.plan.flat ≡ a.plan.flat) × (b.inputs ≡ a.inputs)
   jobs_one path place_path table_path main a b x y =
       let flat_eq = flats_one path main x.program y.program a.plan.flat b.plan.flat x.program_given y.program_given x.job_is.flat y.job_is.flat in
       let table_same = one_of table_path y.table x.table y.table_given x.table_given in
       let columns = subst (λ t. IsTextOf b.plan.flat.types (inputs_of b.plan.flat.variables) b.inputs t) table_same y.job_is.inputs in
-      (flat_eq, one_table a.plan.flat.types (inputs_of a.plan.flat.variables) x.table b.inputs a.inputs (subst (λ (f : FlatProgram). IsTextOf f.types (inputs_of f.variables) b.inputs x.table) flat_eq columns) x.job_is.inputs)
+      (flat_eq, one_table a.plan.flat.types (inputs_of a.plan.flat.variables) x.table b.inputs a.inputs (subst (λ (f : FlatView). IsTextOf f.types (inputs_of f.variables) b.inputs x.table) flat_eq columns) x.job_is.inputs)
 
-  module _ (request : ReplayRequest) (text : List ℕ) (stop : Stop) (is : IsReplayed gives request text) where
+  module _ (request : ReplayRequest) (text : List ℕ) (stop : CallError) (is : IsReplayed gives request text) where
     replay_outcome : IsReplayStopped gives request stop → SaysNothing stop
     replay_outcome (replay_job at) = job_memory_of request.program.now request.place.now request.table.now request.main.now is.job stop is.asked_for.job_for at
     replay_outcome (replay_unread job job_is unread) = unread_memory request.schedule.now is.asked_for.schedule_is.schedule stop is.asked_for.schedule_is.given unread
@@ -361,15 +361,15 @@ module _ (gives : FileFacts) (settled : HasOneText gives) where
     replay_outcome (replay_unwritten path asks job turns asked e) = memory_is stop (CannotWrite path) e tt
     replay_outcome (replay_memory e) = memory_is stop OutOfMemory e tt
 
-  module _ (request : RunRequest) (text : List ℕ) (stop : Stop) (is : IsRan gives request text) where
+  module _ (request : RunRequest) (text : List ℕ) (stop : CallError) (is : IsRan gives request text) where
     -- a run that has outputs has no fault
     run_never : (name : List ℕ) (instant : ℕ) (kind : FaultKind) → IsRunFault gives request name instant kind → ⊥
     run_never name instant kind fault =
         let same = jobs_one request.program.now request.place.now request.table.now request.main.now is.job fault.job is.asked_for fault.asked_for in
         let at = fault.stopped in
-        let other = subst (λ (i : Table). IsFault is.job.plan.flat i (solution is.job.plan.flat i) at.place instant kind) same.1
-        (subst (λ (f : FlatProgram). IsFault f fault.job.inputs (solution f fault.job.inputs) at.place instant kind) same.0 at.is) in
-        let early = subst (λ (i : Table). instant < i.instants) same.1 at.in_time in
+        let other = subst (λ (i : InputsView). IsFault is.job.plan.flat i (solution is.job.plan.flat i) at.place instant kind) same.1
+        (subst (λ (f : FlatView). IsFault f fault.job.inputs (solution f fault.job.inputs) at.place instant kind) same.0 at.is) in
+        let early = subst (λ (i : InputsView). instant < i.instants) same.1 at.in_time in
         is.are_outputs.no_fault (solution is.job.plan.flat is.job.inputs) (IsSolution-solution is.job.plan.flat is.job.inputs is.asked_for.job_is.flat.flat_is.is_flat.ordered) at.place instant kind early other
 
     run_outcome : IsRunStopped gives request stop → SaysNothing stop
@@ -380,11 +380,11 @@ module _ (gives : FileFacts) (settled : HasOneText gives) where
     run_outcome (run_unwritten path asks job asked e) = memory_is stop (CannotWrite path) e tt
     run_outcome (run_memory e) = memory_is stop OutOfMemory e tt
 
-  explain_outcome : (code : Option (List ℕ)) (text : List ℕ) (stop : Stop) → explanation code ≡ Some text → IsExplainStopped code stop → SaysNothing stop
+  explain_outcome : (code : Option (List ℕ)) (text : List ℕ) (stop : CallError) → explanation code ≡ Some text → IsExplainStopped code stop → SaysNothing stop
   explain_outcome code text stop answer (explain_memory e) = memory_is stop OutOfMemory e tt
   explain_outcome code text stop answer (explain_unknown name is none e) = absurd (none_some (explanation code) text none answer)
 
-  pub one_outcome_of : (request : Request) (text : List ℕ) (stop : Stop) → IsAnswer gives request text → IsRequestStopped gives request stop → SaysNothing stop
+  pub one_outcome_of : (request : Request) (text : List ℕ) (stop : CallError) → IsAnswer gives request text → IsRequestStopped gives request stop → SaysNothing stop
   one_outcome_of (Check request) text stop answer stopped = check_outcome request text stop answer stopped
   one_outcome_of (Eval request) text stop answer stopped = refused_outcome request text stop answer stopped
   one_outcome_of (Plan request) text stop answer stopped = plan_outcome request text stop answer stopped
@@ -392,5 +392,5 @@ module _ (gives : FileFacts) (settled : HasOneText gives) where
   one_outcome_of (AsksRun request) text stop answer stopped = run_outcome request text stop answer stopped
   one_outcome_of (Explain request) text stop answer stopped = explain_outcome (code_in request) text stop answer stopped
 
-pub one_outcome : (gives : FileFacts) → HasOneText gives → (request : Request) (text : List ℕ) (stop : Stop) → IsAnswer gives request text → IsRequestStopped gives request stop → SaysNothing stop
+pub one_outcome : (gives : FileFacts) → HasOneText gives → (request : Request) (text : List ℕ) (stop : CallError) → IsAnswer gives request text → IsRequestStopped gives request stop → SaysNothing stop
 one_outcome gives settled request text stop answer stopped = one_outcome_of gives settled request text stop answer stopped

@@ -6,7 +6,7 @@ use Rattle.std.proofs.lemmas.List.Elements.{filter-append}
 use Rattle.lutree.specs.Tree.{DeclarationTree, NodeTree, TypeTree, ProgramTree}
 use Rattle.luflow.specs.declared.variable.Variable.{Variable}
 use Rattle.luflow.specs.declared.variable.Role.TheVariants as role
-use Rattle.luflow.specs.Program.{FlatProgram}
+use Rattle.luflow.specs.Program.{FlatView}
 use Rattle.luflow.specs.Variables.{is_output, outputs_of}
 use Rattle.lustat_rules.specs.Scope.{first_named, node_called}
 use Rattle.lusyn_grammar.specs.Grammar.{WrittenDeclaration, WrittenNode, Each, IsNonempty, IsProperDeclaration, IsProperNode, declaration_tree, node_tree, program_tree}
@@ -59,7 +59,7 @@ variables_have node some =
     let six : length os ≡ length node.outputs = length-map node.outputs (λ (d : DeclarationTree). record { name = d.name; role = role.Output; kind = d.kind }) in
     omega (arith, one, two, three, four, five, six, some)
 
-pub some_output : (text main : List ℕ) (tree : ProgramTree) (flat : FlatProgram) → SpellsText text tree → IsFlatOf tree main flat → 0 < length (outputs_of flat.variables)
+pub some_output : (text main : List ℕ) (tree : ProgramTree) (flat : FlatView) → SpellsText text tree → IsFlatOf tree main flat → 0 < length (outputs_of flat.variables)
 some_output text main tree flat spelled is =
     let written = spelled.1.2 in
     let laid = is.laid_out in

@@ -3,7 +3,7 @@ mod AskedFor
 mod HasOutputs
 mod Outcomes
 mod Spelled
-mod Tellings
+mod TrueReports
 mod Replays
 mod Exclusive
 mod OneStatus

@@ -16,7 +16,7 @@ use Rattle.luflow.specs.Faults.IsFaultOn.{OnBinary, OnUnary}
 use Rattle.luflow.specs.declared.form.Outcome.{Outcome}
 use Rattle.luflow.specs.declared.form.Outcome.TheVariants.{Faults}
 use Rattle.luflow.specs.Operators.{double_of, single_of}
-use Rattle.luflow.specs.Program.{FlatProgram, Table, IsOrdered, reads}
+use Rattle.luflow.specs.Program.{FlatView, InputsView, IsOrdered, reads}
 use Rattle.luflow.specs.Rank.{reads_of}
 use Rattle.luflow.specs.Solution.{solution}
 use Rattle.luflow.specs.Streams.{Mark, Known, Streams}
@@ -33,8 +33,8 @@ use Rattle.lustat_rules.specs.Accepted.{IsAccepted}
 use Rattle.lustat_rules.specs.Accepted as accepted
 use Rattle.lustat_rules.specs.declared.error.StatError.{StatError}
 use Rattle.lustat_rules.specs.declared.error.StatError.TheVariants as rules
-use Rattle.lustat_rules.specs.Told.{Tells}
-use Rattle.lustat.proofs.Same.{told_along, one_told}
+use Rattle.lustat_rules.specs.Reported.{ReportsRule}
+use Rattle.lustat.proofs.Same.{reported_along, one_reported}
 use Rattle.lusyn.specs.declared.error.SynError.{SynError}
 use Rattle.lusyn.specs.declared.error.SynError.TheVariants as syn
 use Rattle.lusyn.specs.Texts.{SpellsText}
@@ -42,7 +42,7 @@ use Rattle.lusyn.specs.Refusals.{IsRefused as IsRefusedProgram}
 use Rattle.lusyn.proofs.Exclusive.{one_program}
 use Rattle.lusyn.proofs.OneRefusal.{one_refusal}
 use Rattle.lusyn.proofs.Places.{one_places}
-use Rattle.luplace_file.specs.Content.{Placement}
+use Rattle.luplace_file.specs.Content.{PlaceView}
 use Rattle.luplace_file.specs.Placement.{placement_of}
 use Rattle.luplace_file.specs.declared.error.PlaceError.{PlaceError}
 use Rattle.luplace_file.specs.declared.error.PlaceError.TheVariants as placing
@@ -50,7 +50,7 @@ use Rattle.luplace.specs.Placing.{refusal}
 use Rattle.lutab.specs.declared.error.TabError.{TabError}
 use Rattle.lutab.specs.declared.error.TabError.TheVariants as tab
 use Rattle.lutab.specs.Table.{IsTextOf, IsRefused as IsRefusedTable}
-use Rattle.lutab.proofs.Told.{memory_or, one_refusal as one_table_refusal}
+use Rattle.lutab.proofs.Reported.{memory_or, one_refusal as one_table_refusal}
 use Rattle.lutab.proofs.Texts.{one_table}
 use Rattle.lusdist_shell.specs.ScheduleText.{schedule_of}
 use Rattle.lusdist_shell.specs.declared.schedule.ScheduleError.{ScheduleError}
@@ -60,11 +60,11 @@ use Rattle.lusdist_shell.specs.declared.request.ReplayRequest.{ReplayRequest}
 use Rattle.lusdist_shell.specs.declared.request.Request.{Request}
 use Rattle.lusdist_shell.specs.declared.request.RunRequest.{RunRequest}
 use Rattle.lusdist_shell.specs.declared.request.Request.TheVariants.{Check, Eval, Plan, Replay, Run as AsksRun, Explain}
-use Rattle.lusdist_call.specs.declared.stop.Stop.{Stop}
-use Rattle.lusdist_call.specs.declared.stop.Stop.TheVariants.{CannotRead, CannotWrite, NotAscii, Syntax, Rules, Flat, Place as BadPlace, Table as BadTable, Schedule, Fault, LinkLost, NoThread, OutOfMemory, Mistaken}
-use Rattle.lusdist_call.specs.Evaluated.{IsFaultOf, IsFaultTold}
-use Rattle.lusdist_call.specs.Refused.{IsToldOf, IsProgramRefused, IsPlaceRefused, IsTableRefused}
-use Rattle.lusdist_call.specs.Refused.IsToldOf.{rule, flat}
+use Rattle.lusdist_call.specs.declared.call_error.CallError.{CallError}
+use Rattle.lusdist_call.specs.declared.call_error.CallError.TheVariants.{CannotRead, CannotWrite, NotAscii, Syntax, Rules, Flat, Place as BadPlace, Table as BadTable, Schedule, Fault, LinkLost, NoThread, OutOfMemory, Mistaken}
+use Rattle.lusdist_call.specs.Evaluated.{IsFaultOf, IsFaultReported}
+use Rattle.lusdist_call.specs.Refused.{IsReportedOf, IsProgramRefused, IsPlaceRefused, IsTableRefused}
+use Rattle.lusdist_call.specs.Refused.IsReportedOf.{rule, flat}
 use Rattle.lusdist_call.specs.Files.{IsUnread}
 use Rattle.lusdist_call.specs.Stopped.{IsScheduleRefused, HasNoFlat, StopsAtProgram, StopsAtPlan, StopsAtJob, IsEvalRefused, IsEvalStopped, IsReplayStopped, IsRunStopped, IsRequestStopped}
 use Rattle.lusdist_call.specs.Stopped.HasNoFlat.{unspelled, unruled}
@@ -90,11 +90,11 @@ use Rattle.lusdist_shell.specs.Files.{FileFacts}
 -- ---- stops of one file, by what they say
 
 -- a stop says nothing, or it reports this kind of refusal of which P is true
-data Tells_of {E : Type 0} (kind : E → Stop) (P : E → Type 0) (stop : Stop) : Type 0 where
-  silent : SaysNothing stop → Tells_of kind P stop
-  speaks : (e : E) → P e → stop ≡ kind e → Tells_of kind P stop
+data Reports_of {E : Type 0} (kind : E → CallError) (P : E → Type 0) (stop : CallError) : Type 0 where
+  silent : SaysNothing stop → Reports_of kind P stop
+  speaks : (e : E) → P e → stop ≡ kind e → Reports_of kind P stop
 
-one_of_kind : {E : Type 0} (kind : E → Stop) (P : E → Type 0) (a b : Stop) → ((e f : E) → P e → P f → e ≡ f) → Tells_of kind P a → Tells_of kind P b → (¬ SaysNothing a) → (¬ SaysNothing b) → a ≡ b
+one_of_kind : {E : Type 0} (kind : E → CallError) (P : E → Type 0) (a b : CallError) → ((e f : E) → P e → P f → e ≡ f) → Reports_of kind P a → Reports_of kind P b → (¬ SaysNothing a) → (¬ SaysNothing b) → a ≡ b
 one_of_kind kind P a b one (silent h) y na nb = absurd (na h)
 one_of_kind kind P a b one (speaks e h is) (silent k) na nb = absurd (nb k)
 one_of_kind kind P a b one (speaks e h is) (speaks f k also) na nb = is ∙ ap kind (one e f h k) ∙ sym also
@@ -112,7 +112,7 @@ one_of_bytes bytes bad P e f one (inr h) (inr k) = one e f h.1 k.1
 -- THE PROGRAM'S TEXT
 
 -- why bytes spell no program: they are no text, or this refusal
-abbrev text_stop : Option SynError → Stop
+abbrev text_stop : Option SynError → CallError
 text_stop None = NotAscii
 text_stop (Some e) = Syntax e
 
@@ -126,122 +126,122 @@ text_one bytes None (Some f) h k = absurd (h k.0)
 text_one bytes (Some e) None h k = absurd (k h.0)
 text_one bytes (Some e) (Some f) h k = ap (λ (x : SynError). Some x) (one_refusal bytes e f h.1 k.1)
 
-text_told : (bytes : List ℕ) (stop : Stop) → IsProgramRefused bytes stop → Tells_of text_stop (IsTextRefused bytes) stop
-text_told bytes NotAscii h = speaks None h refl
-text_told bytes (Syntax e) (inl memory) = silent (memory_is (Syntax e) (Syntax syn.OutOfMemory) (ap (λ (x : SynError). Syntax x) memory) tt)
-text_told bytes (Syntax e) (inr h) = speaks (Some e) h refl
-text_told bytes (CannotRead path) h = absurd h
-text_told bytes (CannotWrite written) h = absurd h
-text_told bytes (Fault variable instant kind) h = absurd h
-text_told bytes (Rules e) h = absurd h
-text_told bytes (Flat e) h = absurd h
-text_told bytes (BadPlace e) h = absurd h
-text_told bytes (BadTable e) h = absurd h
-text_told bytes (Schedule e) h = absurd h
-text_told bytes OutOfMemory h = absurd h
-text_told bytes LinkLost h = absurd h
-text_told bytes NoThread h = absurd h
-text_told bytes (Mistaken mistake) h = absurd h
+text_reported : (bytes : List ℕ) (stop : CallError) → IsProgramRefused bytes stop → Reports_of text_stop (IsTextRefused bytes) stop
+text_reported bytes NotAscii h = speaks None h refl
+text_reported bytes (Syntax e) (inl memory) = silent (memory_is (Syntax e) (Syntax syn.OutOfMemory) (ap (λ (x : SynError). Syntax x) memory) tt)
+text_reported bytes (Syntax e) (inr h) = speaks (Some e) h refl
+text_reported bytes (CannotRead path) h = absurd h
+text_reported bytes (CannotWrite written) h = absurd h
+text_reported bytes (Fault variable instant kind) h = absurd h
+text_reported bytes (Rules e) h = absurd h
+text_reported bytes (Flat e) h = absurd h
+text_reported bytes (BadPlace e) h = absurd h
+text_reported bytes (BadTable e) h = absurd h
+text_reported bytes (Schedule e) h = absurd h
+text_reported bytes OutOfMemory h = absurd h
+text_reported bytes LinkLost h = absurd h
+text_reported bytes NoThread h = absurd h
+text_reported bytes (Mistaken mistake) h = absurd h
 
 -- THE PLACEMENT
 
-abbrev place_by : FlatProgram → Result Placement PlaceError → Option PlaceError
+abbrev place_by : FlatView → Result PlaceView PlaceError → Option PlaceError
 place_by own (Err e) = Some e
 place_by own (Ok place) = refusal own place
 
-abbrev IsPlaceTold : FlatProgram → List ℕ → PlaceError → Type 0
-IsPlaceTold own bytes = Of bytes placing.NotToml (λ e. place_by own (placement_of bytes) ≡ Some e)
+abbrev IsPlaceReported : FlatView → List ℕ → PlaceError → Type 0
+IsPlaceReported own bytes = Of bytes placing.NotToml (λ e. place_by own (placement_of bytes) ≡ Some e)
 
-place_one : (own : FlatProgram) (bytes : List ℕ) (e f : PlaceError) → IsPlaceTold own bytes e → IsPlaceTold own bytes f → e ≡ f
+place_one : (own : FlatView) (bytes : List ℕ) (e f : PlaceError) → IsPlaceReported own bytes e → IsPlaceReported own bytes f → e ≡ f
 place_one own bytes e f h k =
     one_of_bytes bytes placing.NotToml (λ x. place_by own (placement_of bytes) ≡ Some x) e f (λ a b x y. same_Some a b (sym x ∙ y)) h k
 
-place_told : (own : FlatProgram) (bytes : List ℕ) (stop : Stop) → IsPlaceRefused own bytes stop → Tells_of (λ e. BadPlace e) (IsPlaceTold own bytes) stop
-place_told own bytes (BadPlace e) (inl h) = speaks e (inl h) refl
-place_told own bytes (BadPlace e) (inr (utf8, inl memory)) = silent (memory_is (BadPlace e) (BadPlace placing.OutOfMemory) (ap (λ (x : PlaceError). BadPlace x) memory) tt)
-place_told own bytes (BadPlace e) (inr (utf8, inr (inl h))) = speaks e (inr (utf8, ap (place_by own) h)) refl
-place_told own bytes (BadPlace e) (inr (utf8, inr (inr (place, h, k)))) = speaks e (inr (utf8, ap (place_by own) h ∙ k)) refl
-place_told own bytes (CannotRead path) h = absurd h
-place_told own bytes (CannotWrite written) h = absurd h
-place_told own bytes (Fault variable instant kind) h = absurd h
-place_told own bytes NotAscii h = absurd h
-place_told own bytes (Syntax e) h = absurd h
-place_told own bytes (Rules e) h = absurd h
-place_told own bytes (Flat e) h = absurd h
-place_told own bytes (BadTable e) h = absurd h
-place_told own bytes (Schedule e) h = absurd h
-place_told own bytes OutOfMemory h = absurd h
-place_told own bytes LinkLost h = absurd h
-place_told own bytes NoThread h = absurd h
-place_told own bytes (Mistaken mistake) h = absurd h
+place_reported : (own : FlatView) (bytes : List ℕ) (stop : CallError) → IsPlaceRefused own bytes stop → Reports_of (λ e. BadPlace e) (IsPlaceReported own bytes) stop
+place_reported own bytes (BadPlace e) (inl h) = speaks e (inl h) refl
+place_reported own bytes (BadPlace e) (inr (utf8, inl memory)) = silent (memory_is (BadPlace e) (BadPlace placing.OutOfMemory) (ap (λ (x : PlaceError). BadPlace x) memory) tt)
+place_reported own bytes (BadPlace e) (inr (utf8, inr (inl h))) = speaks e (inr (utf8, ap (place_by own) h)) refl
+place_reported own bytes (BadPlace e) (inr (utf8, inr (inr (place, h, k)))) = speaks e (inr (utf8, ap (place_by own) h ∙ k)) refl
+place_reported own bytes (CannotRead path) h = absurd h
+place_reported own bytes (CannotWrite written) h = absurd h
+place_reported own bytes (Fault variable instant kind) h = absurd h
+place_reported own bytes NotAscii h = absurd h
+place_reported own bytes (Syntax e) h = absurd h
+place_reported own bytes (Rules e) h = absurd h
+place_reported own bytes (Flat e) h = absurd h
+place_reported own bytes (BadTable e) h = absurd h
+place_reported own bytes (Schedule e) h = absurd h
+place_reported own bytes OutOfMemory h = absurd h
+place_reported own bytes LinkLost h = absurd h
+place_reported own bytes NoThread h = absurd h
+place_reported own bytes (Mistaken mistake) h = absurd h
 
 -- THE TABLE
 
-abbrev IsTableTold : List Enum → List Variable → List ℕ → TabError → Type 0
-IsTableTold types inputs bytes = Of bytes tab.BadHeader (IsRefusedTable types inputs bytes)
+abbrev IsTableReported : List Enum → List Variable → List ℕ → TabError → Type 0
+IsTableReported types inputs bytes = Of bytes tab.BadHeader (IsRefusedTable types inputs bytes)
 
-table_one : (types : List Enum) (inputs : List Variable) (bytes : List ℕ) (e f : TabError) → IsTableTold types inputs bytes e → IsTableTold types inputs bytes f → e ≡ f
+table_one : (types : List Enum) (inputs : List Variable) (bytes : List ℕ) (e f : TabError) → IsTableReported types inputs bytes e → IsTableReported types inputs bytes f → e ≡ f
 table_one types inputs bytes e f h k = one_of_bytes bytes tab.BadHeader (IsRefusedTable types inputs bytes) e f (one_table_refusal types inputs bytes) h k
 
-table_told : (types : List Enum) (inputs : List Variable) (bytes : List ℕ) (stop : Stop) → IsTableRefused types inputs bytes stop → Tells_of (λ e. BadTable e) (IsTableTold types inputs bytes) stop
-table_told types inputs bytes (BadTable e) (inl h) = speaks e (inl h) refl
-table_told types inputs bytes (BadTable e) (inr (utf8, h)) = elim (memory_or e) [
+table_reported : (types : List Enum) (inputs : List Variable) (bytes : List ℕ) (stop : CallError) → IsTableRefused types inputs bytes stop → Reports_of (λ e. BadTable e) (IsTableReported types inputs bytes) stop
+table_reported types inputs bytes (BadTable e) (inl h) = speaks e (inl h) refl
+table_reported types inputs bytes (BadTable e) (inr (utf8, h)) = elim (memory_or e) [
   | inl memory ↦ silent (memory_is (BadTable e) (BadTable tab.OutOfMemory) (ap (λ (x : TabError). BadTable x) memory) tt)
   | inr other ↦ speaks e (inr (utf8, h other)) refl
 ]
-table_told types inputs bytes (CannotRead path) h = absurd h
-table_told types inputs bytes (CannotWrite written) h = absurd h
-table_told types inputs bytes (Fault variable instant kind) h = absurd h
-table_told types inputs bytes NotAscii h = absurd h
-table_told types inputs bytes (Syntax e) h = absurd h
-table_told types inputs bytes (Rules e) h = absurd h
-table_told types inputs bytes (Flat e) h = absurd h
-table_told types inputs bytes (BadPlace e) h = absurd h
-table_told types inputs bytes (Schedule e) h = absurd h
-table_told types inputs bytes OutOfMemory h = absurd h
-table_told types inputs bytes LinkLost h = absurd h
-table_told types inputs bytes NoThread h = absurd h
-table_told types inputs bytes (Mistaken mistake) h = absurd h
+table_reported types inputs bytes (CannotRead path) h = absurd h
+table_reported types inputs bytes (CannotWrite written) h = absurd h
+table_reported types inputs bytes (Fault variable instant kind) h = absurd h
+table_reported types inputs bytes NotAscii h = absurd h
+table_reported types inputs bytes (Syntax e) h = absurd h
+table_reported types inputs bytes (Rules e) h = absurd h
+table_reported types inputs bytes (Flat e) h = absurd h
+table_reported types inputs bytes (BadPlace e) h = absurd h
+table_reported types inputs bytes (Schedule e) h = absurd h
+table_reported types inputs bytes OutOfMemory h = absurd h
+table_reported types inputs bytes LinkLost h = absurd h
+table_reported types inputs bytes NoThread h = absurd h
+table_reported types inputs bytes (Mistaken mistake) h = absurd h
 
 -- THE SCHEDULE
 
 err_same : {A E : Type 0} (r : Result A E) (e f : E) → r ≡ Err e → r ≡ Err f → e ≡ f
 err_same r e f h k = cc
 
-schedule_told : (bytes : List ℕ) (stop : Stop) → IsScheduleRefused bytes stop → Tells_of (λ e. Schedule e) (λ e. schedule_of bytes ≡ Err e) stop
-schedule_told bytes (Schedule e) (inl memory) = silent (memory_is (Schedule e) (Schedule schedule.OutOfMemory) (ap (λ (x : ScheduleError). Schedule x) memory) tt)
-schedule_told bytes (Schedule e) (inr h) = speaks e h refl
-schedule_told bytes (CannotRead path) h = absurd h
-schedule_told bytes (CannotWrite written) h = absurd h
-schedule_told bytes (Fault variable instant kind) h = absurd h
-schedule_told bytes NotAscii h = absurd h
-schedule_told bytes (Syntax e) h = absurd h
-schedule_told bytes (Rules e) h = absurd h
-schedule_told bytes (Flat e) h = absurd h
-schedule_told bytes (BadPlace e) h = absurd h
-schedule_told bytes (BadTable e) h = absurd h
-schedule_told bytes OutOfMemory h = absurd h
-schedule_told bytes LinkLost h = absurd h
-schedule_told bytes NoThread h = absurd h
-schedule_told bytes (Mistaken mistake) h = absurd h
+schedule_reported : (bytes : List ℕ) (stop : CallError) → IsScheduleRefused bytes stop → Reports_of (λ e. Schedule e) (λ e. schedule_of bytes ≡ Err e) stop
+schedule_reported bytes (Schedule e) (inl memory) = silent (memory_is (Schedule e) (Schedule schedule.OutOfMemory) (ap (λ (x : ScheduleError). Schedule x) memory) tt)
+schedule_reported bytes (Schedule e) (inr h) = speaks e h refl
+schedule_reported bytes (CannotRead path) h = absurd h
+schedule_reported bytes (CannotWrite written) h = absurd h
+schedule_reported bytes (Fault variable instant kind) h = absurd h
+schedule_reported bytes NotAscii h = absurd h
+schedule_reported bytes (Syntax e) h = absurd h
+schedule_reported bytes (Rules e) h = absurd h
+schedule_reported bytes (Flat e) h = absurd h
+schedule_reported bytes (BadPlace e) h = absurd h
+schedule_reported bytes (BadTable e) h = absurd h
+schedule_reported bytes OutOfMemory h = absurd h
+schedule_reported bytes LinkLost h = absurd h
+schedule_reported bytes NoThread h = absurd h
+schedule_reported bytes (Mistaken mistake) h = absurd h
 
 -- A FILE THAT CAN'T BE READ
 
-unread_told : (gives : FileFacts) (path : List ℕ) (stop : Stop) → IsUnread gives path stop → Tells_of (λ name. CannotRead name) (λ name. name ≡ path) stop
-unread_told gives path (CannotRead name) h = speaks name h.0 refl
-unread_told gives path (CannotWrite written) h = absurd h
-unread_told gives path OutOfMemory h = silent tt
-unread_told gives path (Fault variable instant kind) h = absurd h
-unread_told gives path NotAscii h = absurd h
-unread_told gives path (Syntax e) h = absurd h
-unread_told gives path (Rules e) h = absurd h
-unread_told gives path (Flat e) h = absurd h
-unread_told gives path (BadPlace e) h = absurd h
-unread_told gives path (BadTable e) h = absurd h
-unread_told gives path (Schedule e) h = absurd h
-unread_told gives path LinkLost h = absurd h
-unread_told gives path NoThread h = absurd h
-unread_told gives path (Mistaken mistake) h = absurd h
+unread_reported : (gives : FileFacts) (path : List ℕ) (stop : CallError) → IsUnread gives path stop → Reports_of (λ name. CannotRead name) (λ name. name ≡ path) stop
+unread_reported gives path (CannotRead name) h = speaks name h.0 refl
+unread_reported gives path (CannotWrite written) h = absurd h
+unread_reported gives path OutOfMemory h = silent tt
+unread_reported gives path (Fault variable instant kind) h = absurd h
+unread_reported gives path NotAscii h = absurd h
+unread_reported gives path (Syntax e) h = absurd h
+unread_reported gives path (Rules e) h = absurd h
+unread_reported gives path (Flat e) h = absurd h
+unread_reported gives path (BadPlace e) h = absurd h
+unread_reported gives path (BadTable e) h = absurd h
+unread_reported gives path (Schedule e) h = absurd h
+unread_reported gives path LinkLost h = absurd h
+unread_reported gives path NoThread h = absurd h
+unread_reported gives path (Mistaken mistake) h = absurd h
 
 -- ---- what is reported of a program that is spelled
 
@@ -288,19 +288,19 @@ flat_one tree main (core.Cycle m) core.TooLarge keeps h k ne nf =
     absurd (omega (arith, count, h.few, k.large))
 flat_one tree main (core.Cycle m) (core.Cycle n) keeps h k ne nf = ap core.Cycle (cycle_one tree main m n keeps h k)
 
-told_one : (tree : ProgramTree) (places : ProgramPlaces) (main : List ℕ) (a b : Stop) → IsToldOf tree places main a → IsToldOf tree places main b → (¬ SaysNothing a) → (¬ SaysNothing b) → a ≡ b
-told_one tree places main a b (rule e read is tells seen there first) (rule f other also tells_too seen_too there_too first_too) na nb =
-    let one = told_along read other main e (sym seen ∙ seen_too) (sym there ∙ there_too) first in
-    let T : StatError → ProgramTree → Type 0 = λ x t. Tells 3 t main x in
+reported_one : (tree : ProgramTree) (places : ProgramPlaces) (main : List ℕ) (a b : CallError) → IsReportedOf tree places main a → IsReportedOf tree places main b → (¬ SaysNothing a) → (¬ SaysNothing b) → a ≡ b
+reported_one tree places main a b (rule e read is tells seen there first) (rule f other also tells_too seen_too there_too first_too) na nb =
+    let one = reported_along read other main e (sym seen ∙ seen_too) (sym there ∙ there_too) first in
+    let T : StatError → ProgramTree → Type 0 = λ x t. ReportsRule 3 t main x in
     is
     ∙ ap (λ (x : StatError). Rules x)
-    (one_told other main e f (subst (T e) seen_too tells) (subst (T f) seen_too tells_too) one first_too
+    (one_reported other main e f (subst (T e) seen_too tells) (subst (T f) seen_too tells_too) one first_too
     (λ memory. na (memory_is a (Rules rules.OutOfMemory) (is ∙ ap (λ (x : StatError). Rules x) memory) tt))
     (λ memory. nb (memory_is b (Rules rules.OutOfMemory) (also ∙ ap (λ (x : StatError). Rules x) memory) tt)))
     ∙ sym also
-told_one tree places main a b (rule e read is tells seen there first) (flat f also keeps refuses) na nb = absurd (na (memory_is a (Rules e) is (rules_memory tree main e keeps tells)))
-told_one tree places main a b (flat e is keeps refuses) (rule f read also tells seen there first) na nb = absurd (nb (memory_is b (Rules f) also (rules_memory tree main f keeps tells)))
-told_one tree places main a b (flat e is keeps refuses) (flat f also keeps_too refuses_too) na nb =
+reported_one tree places main a b (rule e read is tells seen there first) (flat f also keeps refuses) na nb = absurd (na (memory_is a (Rules e) is (rules_memory tree main e keeps tells)))
+reported_one tree places main a b (flat e is keeps refuses) (rule f read also tells seen there first) na nb = absurd (nb (memory_is b (Rules f) also (rules_memory tree main f keeps tells)))
+reported_one tree places main a b (flat e is keeps refuses) (flat f also keeps_too refuses_too) na nb =
     is
     ∙ ap (λ (x : CoreError). Flat x)
     (flat_one tree main e f keeps refuses refuses_too
@@ -308,13 +308,13 @@ told_one tree places main a b (flat e is keeps refuses) (flat f also keeps_too r
     (λ memory. nb (memory_is b (Flat core.OutOfMemory) (also ∙ ap (λ (x : CoreError). Flat x) memory) tt)))
     ∙ sym also
 
-no_flat_one : (bytes main : List ℕ) (a b : Stop) → HasNoFlat bytes main a → HasNoFlat bytes main b → (¬ SaysNothing a) → (¬ SaysNothing b) → a ≡ b
-no_flat_one bytes main a b (unspelled x) (unspelled y) na nb = one_of_kind text_stop (IsTextRefused bytes) a b (text_one bytes) (text_told bytes a x) (text_told bytes b y) na nb
+no_flat_one : (bytes main : List ℕ) (a b : CallError) → HasNoFlat bytes main a → HasNoFlat bytes main b → (¬ SaysNothing a) → (¬ SaysNothing b) → a ≡ b
+no_flat_one bytes main a b (unspelled x) (unspelled y) na nb = one_of_kind text_stop (IsTextRefused bytes) a b (text_one bytes) (text_reported bytes a x) (text_reported bytes b y) na nb
 no_flat_one bytes main a b (unspelled x) (unruled tree places spelled there y) na nb = absurd (na (text_memory bytes tree a spelled x))
 no_flat_one bytes main a b (unruled tree places spelled there x) (unspelled y) na nb = absurd (nb (text_memory bytes tree b spelled y))
 no_flat_one bytes main a b (unruled tree places spelled there x) (unruled other others spelled_too there_too y) na nb =
-    let I : ProgramTree → ProgramPlaces → Type 0 = λ t ps. IsToldOf t ps main b in
-    told_one tree places main a b x (subst (I tree) (one_places bytes others places there_too there) (subst (λ t. I t others) (one_program bytes other tree spelled_too spelled) y)) na nb
+    let I : ProgramTree → ProgramPlaces → Type 0 = λ t ps. IsReportedOf t ps main b in
+    reported_one tree places main a b x (subst (I tree) (one_places bytes others places there_too there) (subst (λ t. I t others) (one_program bytes other tree spelled_too spelled) y)) na nb
 
 -- ---- the first fault of an evaluation
 
@@ -333,7 +333,7 @@ kind_one σ t _ _ _ (OnUnary op a x k left f) (OnUnary _ _ u l left_too g) =
     let p : x ≡ u = known_same x u (sym left ∙ left_too) in
     faults_same (single_of op u) k l (ap (single_of op) (sym p) ∙ fault_value_one op x k f) (fault_value_one op u l g)
 
-fault_kind_one : (own : FlatProgram) (inputs : Table) (σ : Streams) (i t : ℕ) (k l : FaultKind) → IsFault own inputs σ i t k → IsFault own inputs σ i t l → k ≡ l
+fault_kind_one : (own : FlatView) (inputs : InputsView) (σ : Streams) (i t : ℕ) (k l : FaultKind) → IsFault own inputs σ i t k → IsFault own inputs σ i t l → k ≡ l
 fault_kind_one own inputs σ i t k l h g =
     let same : h.flow ≡ g.flow = same_Some h.flow g.flow (sym h.there ∙ g.there) in
     kind_one σ t g.flow.form k l (subst (λ (x : Flow). IsFaultOn σ t x.form k) same h.fault) g.fault
@@ -355,10 +355,10 @@ first_by t u p q one other = elim (order t u) [
   ]
 ]
 
-fault_is : (m n : List ℕ) (t u : ℕ) (k l : FaultKind) → m ≡ n → t ≡ u → k ≡ l → ◌≡◌ {A = Stop} (Fault m t k) (Fault n u l)
+fault_is : (m n : List ℕ) (t u : ℕ) (k l : FaultKind) → m ≡ n → t ≡ u → k ≡ l → ◌≡◌ {A = CallError} (Fault m t k) (Fault n u l)
 fault_is m n t u k l p q r = ap (λ (x : List ℕ). Fault x t k) p ∙ ap (λ (x : ℕ). Fault n x k) q ∙ ap (λ (x : FaultKind). Fault n u x) r
 
-fault_one : (own : FlatProgram) (inputs : Table) (m n : List ℕ) (t u : ℕ) (k l : FaultKind) → IsOrdered own → IsFaultTold own inputs m t k → IsFaultTold own inputs n u l → ◌≡◌ {A = Stop} (Fault m t k) (Fault n u l)
+fault_one : (own : FlatView) (inputs : InputsView) (m n : List ℕ) (t u : ℕ) (k l : FaultKind) → IsOrdered own → IsFaultReported own inputs m t k → IsFaultReported own inputs n u l → ◌≡◌ {A = CallError} (Fault m t k) (Fault n u l)
 fault_one own inputs m n t u k l ordered h g =
     let σ = solution own inputs in
     let solves = IsSolution-solution own inputs ordered in
@@ -374,18 +374,18 @@ fault_one own inputs m n t u k l ordered h g =
 -- ---- two stops of one request
 
 module _ (gives : FileFacts) (settled : HasOneText gives) where
-  both_unread : (path : List ℕ) (a b : Stop) → IsUnread gives path a → IsUnread gives path b → (¬ SaysNothing a) → (¬ SaysNothing b) → a ≡ b
+  both_unread : (path : List ℕ) (a b : CallError) → IsUnread gives path a → IsUnread gives path b → (¬ SaysNothing a) → (¬ SaysNothing b) → a ≡ b
   both_unread path a b x y na nb =
-      one_of_kind (λ name. CannotRead name) (λ name. name ≡ path) a b (λ m n h k. h ∙ sym k) (unread_told gives path a x) (unread_told gives path b y) na nb
+      one_of_kind (λ name. CannotRead name) (λ name. name ≡ path) a b (λ m n h k. h ∙ sym k) (unread_reported gives path a x) (unread_reported gives path b y) na nb
 
-  program_stop : (path main : List ℕ) (a b : Stop) → StopsAtProgram gives path main a → StopsAtProgram gives path main b → (¬ SaysNothing a) → (¬ SaysNothing b) → a ≡ b
+  program_stop : (path main : List ℕ) (a b : CallError) → StopsAtProgram gives path main a → StopsAtProgram gives path main b → (¬ SaysNothing a) → (¬ SaysNothing b) → a ≡ b
   program_stop path main a b (program_unread x) (program_unread y) na nb = both_unread path a b x y na nb
   program_stop path main a b (program_unread x) (program_refused text given y) na nb = never gives settled path text a given x na
   program_stop path main a b (program_refused text given x) (program_unread y) na nb = never gives settled path text b given y nb
   program_stop path main a b (program_refused text given x) (program_refused other other_given y) na nb =
       no_flat_one text main a b x (subst (λ t. HasNoFlat t main b) (one_of gives settled path other text other_given given) y) na nb
 
-  plan_stop : (path place_path main : List ℕ) (a b : Stop) → StopsAtPlan gives path place_path main a → StopsAtPlan gives path place_path main b → (¬ SaysNothing a) → (¬ SaysNothing b) → a ≡ b
+  plan_stop : (path place_path main : List ℕ) (a b : CallError) → StopsAtPlan gives path place_path main a → StopsAtPlan gives path place_path main b → (¬ SaysNothing a) → (¬ SaysNothing b) → a ≡ b
   plan_stop path place_path main a b (no_program x) (no_program y) na nb = program_stop path main a b x y na nb
   plan_stop path place_path main a b (no_program x) (place_unread program own given has y) na nb = past_program gives settled path main program own a given has x na
   plan_stop path place_path main a b (no_program x) (place_refused program place own given has place_given y) na nb = past_program gives settled path main program own a given has x na
@@ -397,19 +397,19 @@ module _ (gives : FileFacts) (settled : HasOneText gives) where
   plan_stop path place_path main a b (place_refused program place own given has place_given x) (place_refused other text list also other_has text_given y) na nb =
       let same = one_of gives settled place_path text place text_given place_given in
       let flat_eq = flats_one gives settled path main program other own list given also has other_has in
-      let there = subst (λ (l : FlatProgram). IsPlaceRefused l place b) flat_eq (subst (λ t. IsPlaceRefused list t b) same y) in
-      one_of_kind (λ e. BadPlace e) (IsPlaceTold own place) a b (place_one own place) (place_told own place a x) (place_told own place b there) na nb
+      let there = subst (λ (l : FlatView). IsPlaceRefused l place b) flat_eq (subst (λ t. IsPlaceRefused list t b) same y) in
+      one_of_kind (λ e. BadPlace e) (IsPlaceReported own place) a b (place_one own place) (place_reported own place a x) (place_reported own place b there) na nb
 
-  table_stop : (own other : FlatProgram) (path table text : List ℕ) (a b : Stop) → other ≡ own → gives path (Some table) → gives path (Some text) → IsTableRefused own.types (inputs_of own.variables) table a → IsTableRefused other.types (inputs_of other.variables) text b
+  table_stop : (own other : FlatView) (path table text : List ℕ) (a b : CallError) → other ≡ own → gives path (Some table) → gives path (Some text) → IsTableRefused own.types (inputs_of own.variables) table a → IsTableRefused other.types (inputs_of other.variables) text b
       → (¬ SaysNothing a) → (¬ SaysNothing b) → a ≡ b
   table_stop own other path table text a b same given text_given x y na nb =
       let types = own.types in
       let inputs = inputs_of own.variables in
-      let there = subst (λ (f : FlatProgram). IsTableRefused f.types (inputs_of f.variables) table b) same (subst (λ t. IsTableRefused other.types (inputs_of other.variables) t b) (one_of gives settled path text table text_given given) y) in
-      one_of_kind (λ e. BadTable e) (IsTableTold types inputs table) a b (table_one types inputs table) (table_told types inputs table a x) (table_told types inputs table b there) na nb
+      let there = subst (λ (f : FlatView). IsTableRefused f.types (inputs_of f.variables) table b) same (subst (λ t. IsTableRefused other.types (inputs_of other.variables) t b) (one_of gives settled path text table text_given given) y) in
+      one_of_kind (λ e. BadTable e) (IsTableReported types inputs table) a b (table_one types inputs table) (table_reported types inputs table a x) (table_reported types inputs table b there) na nb
 
   module _ (request : EvalRequest) where
-    both_faults : (m n : List ℕ) (t u : ℕ) (k l : FaultKind) → IsFaultOf gives request m t k → IsFaultOf gives request n u l → ◌≡◌ {A = Stop} (Fault m t k) (Fault n u l)
+    both_faults : (m n : List ℕ) (t u : ℕ) (k l : FaultKind) → IsFaultOf gives request m t k → IsFaultOf gives request n u l → ◌≡◌ {A = CallError} (Fault m t k) (Fault n u l)
     both_faults m n t u k l x y =
         let asked = x.asked in
         let other = y.asked in
@@ -418,11 +418,11 @@ module _ (gives : FileFacts) (settled : HasOneText gives) where
         let spelled = subst (λ b. SpellsText b other.tree) program_same other.posed.spelled in
         let flat_eq = flats_same asked.program request.main.now asked.tree other.tree x.flat y.flat asked.posed.spelled spelled asked.posed.flat_is other.posed.flat_is in
         let columns = subst (λ b. IsTextOf y.flat.types (inputs_of y.flat.variables) y.inputs b) table_same other.posed.table_is in
-        let inputs_eq = one_table x.flat.types (inputs_of x.flat.variables) asked.table y.inputs x.inputs (subst (λ (f : FlatProgram). IsTextOf f.types (inputs_of f.variables) y.inputs asked.table) flat_eq columns) asked.posed.table_is in
-        let told = subst (λ (i : Table). IsFaultTold x.flat i n u l) inputs_eq (subst (λ (f : FlatProgram). IsFaultTold f y.inputs n u l) flat_eq y.told) in
-        fault_one x.flat x.inputs m n t u k l asked.posed.flat_is.is_flat.ordered x.told told
+        let inputs_eq = one_table x.flat.types (inputs_of x.flat.variables) asked.table y.inputs x.inputs (subst (λ (f : FlatView). IsTextOf f.types (inputs_of f.variables) y.inputs asked.table) flat_eq columns) asked.posed.table_is in
+        let reported = subst (λ (i : InputsView). IsFaultReported x.flat i n u l) inputs_eq (subst (λ (f : FlatView). IsFaultReported f y.inputs n u l) flat_eq y.reported) in
+        fault_one x.flat x.inputs m n t u k l asked.posed.flat_is.is_flat.ordered x.reported reported
 
-    eval_stop : (a b : Stop) → IsEvalStopped gives request a → IsEvalStopped gives request b → (¬ SaysNothing a) → (¬ SaysNothing b) → a ≡ b
+    eval_stop : (a b : CallError) → IsEvalStopped gives request a → IsEvalStopped gives request b → (¬ SaysNothing a) → (¬ SaysNothing b) → a ≡ b
     eval_stop a b (eval_memory e) y na nb = absurd (na (memory_is a OutOfMemory e tt))
     eval_stop a b (eval_unwritten path asks its_flat its_inputs posed e) y na nb = absurd (na (memory_is a (CannotWrite path) e tt))
     eval_stop a b (eval_program x) (eval_unwritten path asks its_flat its_inputs posed d) na nb = absurd (nb (memory_is b (CannotWrite path) d tt))
@@ -453,7 +453,7 @@ module _ (gives : FileFacts) (settled : HasOneText gives) where
     eval_stop a b (eval_fault name instant kind e fault) (eval_fault other t k d also) na nb = e ∙ both_faults name other instant t kind k fault also ∙ sym d
 
   module _ (path place_path table_path main : List ℕ) where
-    job_stop : (a b : Stop) → StopsAtJob gives path place_path table_path main a → StopsAtJob gives path place_path table_path main b → (¬ SaysNothing a) → (¬ SaysNothing b) → a ≡ b
+    job_stop : (a b : CallError) → StopsAtJob gives path place_path table_path main a → StopsAtJob gives path place_path table_path main b → (¬ SaysNothing a) → (¬ SaysNothing b) → a ≡ b
     job_stop a b (no_plan x) (no_plan y) na nb = plan_stop path place_path main a b x y na nb
     job_stop a b (no_plan x) (table_unread plan is y) na nb = past_plan gives settled path place_path table_path main plan a is x na
     job_stop a b (no_plan x) (table_refused plan table is given y) na nb = past_plan gives settled path place_path table_path main plan a is x na
@@ -467,7 +467,7 @@ module _ (gives : FileFacts) (settled : HasOneText gives) where
         table_stop plan.flat other.flat table_path table text a b flat_eq given text_given x y na nb
 
   module _ (request : ReplayRequest) where
-    replay_stop : (a b : Stop) → IsReplayStopped gives request a → IsReplayStopped gives request b → (¬ SaysNothing a) → (¬ SaysNothing b) → a ≡ b
+    replay_stop : (a b : CallError) → IsReplayStopped gives request a → IsReplayStopped gives request b → (¬ SaysNothing a) → (¬ SaysNothing b) → a ≡ b
     replay_stop a b (replay_memory e) y na nb = absurd (na (memory_is a OutOfMemory e tt))
     replay_stop a b (replay_unwritten path asks job turns asked e) y na nb = absurd (na (memory_is a (CannotWrite path) e tt))
     replay_stop a b (replay_job x) (replay_unwritten path asks job turns asked e) na nb = absurd (nb (memory_is b (CannotWrite path) e tt))
@@ -486,40 +486,40 @@ module _ (gives : FileFacts) (settled : HasOneText gives) where
     replay_stop a b (replay_schedule job turns is given x) (replay_unread other also y) na nb = never gives settled request.schedule.now turns b given y nb
     replay_stop a b (replay_schedule job turns is given x) (replay_schedule other others also others_given y) na nb =
         let there = subst (λ t. IsScheduleRefused t b) (one_of gives settled request.schedule.now others turns others_given given) y in
-        one_of_kind (λ e. Schedule e) (λ e. schedule_of turns ≡ Err e) a b (λ e f h k. err_same (schedule_of turns) e f h k) (schedule_told turns a x) (schedule_told turns b there) na nb
+        one_of_kind (λ e. Schedule e) (λ e. schedule_of turns ≡ Err e) a b (λ e f h k. err_same (schedule_of turns) e f h k) (schedule_reported turns a x) (schedule_reported turns b there) na nb
 
   -- a fault of a run is reported on threads
-  run_told : (request : RunRequest) (stop : Stop) (name : List ℕ) (instant : ℕ) (kind : FaultKind) → stop ≡ Fault name instant kind → IsFaultOfRun (AsksRun request) stop
-  run_told request stop name instant kind e = subst (IsFaultOfRun (AsksRun request)) (sym e) tt
+  run_reported : (request : RunRequest) (stop : CallError) (name : List ℕ) (instant : ℕ) (kind : FaultKind) → stop ≡ Fault name instant kind → IsFaultOfRun (AsksRun request) stop
+  run_reported request stop name instant kind e = subst (IsFaultOfRun (AsksRun request)) (sym e) tt
 
   module _ (request : RunRequest) where
-    run_stop : (a b : Stop) → IsRunStopped gives request a → IsRunStopped gives request b → (¬ SaysNothing a) → (¬ SaysNothing b) → (¬ IsFaultOfRun (AsksRun request) a) → a ≡ b
+    run_stop : (a b : CallError) → IsRunStopped gives request a → IsRunStopped gives request b → (¬ SaysNothing a) → (¬ SaysNothing b) → (¬ IsFaultOfRun (AsksRun request) a) → a ≡ b
     run_stop a b (run_memory e) y na nb nf = absurd (na (memory_is a OutOfMemory e tt))
     run_stop a b (run_lost job is e) y na nb nf = absurd (na (memory_is a LinkLost e tt))
     run_stop a b (run_unwritten path asks job asked e) y na nb nf = absurd (na (memory_is a (CannotWrite path) e tt))
     run_stop a b (run_job x) (run_unwritten path asks job asked e) na nb nf = absurd (nb (memory_is b (CannotWrite path) e tt))
     run_stop a b (run_thread job is e) y na nb nf = absurd (na (memory_is a NoThread e tt))
-    run_stop a b (run_fault name t k e fault) y na nb nf = absurd (nf (run_told request a name t k e))
+    run_stop a b (run_fault name t k e fault) y na nb nf = absurd (nf (run_reported request a name t k e))
     run_stop a b (run_job x) (run_memory e) na nb nf = absurd (nb (memory_is b OutOfMemory e tt))
     run_stop a b (run_job x) (run_lost job is e) na nb nf = absurd (nb (memory_is b LinkLost e tt))
     run_stop a b (run_job x) (run_thread job is e) na nb nf = absurd (nb (memory_is b NoThread e tt))
     run_stop a b (run_job x) (run_job y) na nb nf = job_stop request.program.now request.place.now request.table.now request.main.now a b x y na nb
     run_stop a b (run_job x) (run_fault name t k e fault) na nb nf = run_past gives settled request fault.job a fault.asked_for x na
 
-  explain_stop : (code : Option (List ℕ)) (a b : Stop) → IsExplainStopped code a → IsExplainStopped code b → (¬ SaysNothing a) → (¬ SaysNothing b) → a ≡ b
+  explain_stop : (code : Option (List ℕ)) (a b : CallError) → IsExplainStopped code a → IsExplainStopped code b → (¬ SaysNothing a) → (¬ SaysNothing b) → a ≡ b
   explain_stop code a b (explain_memory e) y na nb = absurd (na (memory_is a OutOfMemory e tt))
   explain_stop code a b (explain_unknown name is none e) (explain_memory m) na nb = absurd (nb (memory_is b OutOfMemory m tt))
   explain_stop code a b (explain_unknown name is none e) (explain_unknown other also nothing m) na nb =
       e ∙ ap (λ (x : List ℕ). Mistaken (UnknownCode x)) (same_Some name other (sym is ∙ also)) ∙ sym m
 
-  refused_stop : (request : EvalRequest) (a b : Stop) → IsEvalRefused gives request a → IsEvalRefused gives request b → (¬ SaysNothing a) → (¬ SaysNothing b) → a ≡ b
+  refused_stop : (request : EvalRequest) (a b : CallError) → IsEvalRefused gives request a → IsEvalRefused gives request b → (¬ SaysNothing a) → (¬ SaysNothing b) → a ≡ b
   refused_stop request a b (eval_mistaken mistake found e) (eval_mistaken other also d) na nb =
       e ∙ ap (λ (m : Mistake). Mistaken m) (same_Some mistake other (sym found ∙ also)) ∙ sym d
   refused_stop request a b (eval_mistaken mistake found e) (eval_stopped meant y) na nb = absurd (none_some (mistake_in request) mistake meant found)
   refused_stop request a b (eval_stopped meant x) (eval_mistaken mistake found e) na nb = absurd (none_some (mistake_in request) mistake meant found)
   refused_stop request a b (eval_stopped meant x) (eval_stopped same y) na nb = eval_stop request a b x y na nb
 
-  pub one_refusal_of : (request : Request) (a b : Stop) → IsRequestStopped gives request a → IsRequestStopped gives request b → (¬ SaysNothing a) → (¬ SaysNothing b) → (¬ IsFaultOfRun request a) → a ≡ b
+  pub one_refusal_of : (request : Request) (a b : CallError) → IsRequestStopped gives request a → IsRequestStopped gives request b → (¬ SaysNothing a) → (¬ SaysNothing b) → (¬ IsFaultOfRun request a) → a ≡ b
   one_refusal_of (Check request) a b (check_program x) (check_program y) na nb nf = program_stop request.program.now request.main.now a b x y na nb
   one_refusal_of (Check request) a b (check_memory e) y na nb nf = absurd (na (memory_is a OutOfMemory e tt))
   one_refusal_of (Check request) a b (check_program x) (check_memory e) na nb nf = absurd (nb (memory_is b OutOfMemory e tt))

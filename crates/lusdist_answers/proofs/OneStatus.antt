@@ -1,10 +1,10 @@
 -- Two refusals of one request have one status.
 use Rattle.std.proofs.Common.{◌≡◌, ℕ, List, Option, Some, None, refl, sym, ap, ◌∙◌, subst}
-use Rattle.luflow.specs.Program.{FlatProgram}
+use Rattle.luflow.specs.Program.{FlatView}
 use Rattle.luflow.specs.Variables.{inputs_of}
 use Rattle.luflow.specs.declared.form.FaultKind.{FaultKind}
-use Rattle.luworld.specs.Needs.{Distribution}
-use Rattle.luworld.specs.Runs.{Run}
+use Rattle.luworld.specs.Needs.{PlanView}
+use Rattle.luworld.specs.Jobs.{JobView}
 use Rattle.lusyn.specs.declared.error.SynError.TheVariants as syn
 use Rattle.lustat_rules.specs.declared.error.StatError.TheVariants as rules
 use Rattle.lucore.specs.declared.error.CoreError.TheVariants as core
@@ -16,13 +16,13 @@ use Rattle.lusdist_shell.specs.declared.request.ReplayRequest.{ReplayRequest}
 use Rattle.lusdist_shell.specs.declared.request.Request.{Request}
 use Rattle.lusdist_shell.specs.declared.request.RunRequest.{RunRequest}
 use Rattle.lusdist_shell.specs.declared.request.Request.TheVariants.{Check, Eval, Plan, Replay, Run as AsksRun, Explain}
-use Rattle.lusdist_call.specs.declared.stop.Stop.{Stop}
-use Rattle.lusdist_call.specs.declared.stop.Stop.TheVariants.{CannotRead, CannotWrite, NotAscii, Syntax, Rules, Flat, Place, Table, Schedule, Fault, LinkLost, NoThread, OutOfMemory, Mistaken}
+use Rattle.lusdist_call.specs.declared.call_error.CallError.{CallError}
+use Rattle.lusdist_call.specs.declared.call_error.CallError.TheVariants.{CannotRead, CannotWrite, NotAscii, Syntax, Rules, Flat, Place, Table, Schedule, Fault, LinkLost, NoThread, OutOfMemory, Mistaken}
 use Rattle.lusdist_call.specs.Statuses.{status_of}
 use Rattle.lusdist_call.specs.Asked.{HasFlat, IsPlanFor, IsJobFor}
 use Rattle.lusdist_call.specs.Evaluated.{IsFaultOf}
-use Rattle.lusdist_call.specs.Refused.{IsToldOf, IsProgramRefused, IsPlaceRefused, IsTableRefused}
-use Rattle.lusdist_call.specs.Refused.IsToldOf.{rule, flat}
+use Rattle.lusdist_call.specs.Refused.{IsReportedOf, IsProgramRefused, IsPlaceRefused, IsTableRefused}
+use Rattle.lusdist_call.specs.Refused.IsReportedOf.{rule, flat}
 use Rattle.lusdist_call.specs.Files.{IsUnread}
 use Rattle.lusdist_call.specs.Stopped.{IsScheduleRefused, HasNoFlat, StopsAtProgram, StopsAtPlan, StopsAtJob, IsEvalRefused, IsEvalStopped, IsReplayStopped, IsRunStopped, IsRequestStopped}
 use Rattle.lusdist_call.specs.Stopped.HasNoFlat.{unspelled, unruled}
@@ -45,14 +45,14 @@ use Rattle.lusdist_shell.specs.Files.{FileFacts}
 -- ---- the status of a stop by what it is of
 
 -- a stop of a text, and not out of memory
-abbrev pub IsOfText : Stop → Type 0
+abbrev pub IsOfText : CallError → Type 0
 IsOfText (CannotRead path) = ⊥
 IsOfText (CannotWrite written) = ⊥
 IsOfText (Mistaken mistake) = ⊥
 IsOfText (Fault variable instant kind) = ⊥
 IsOfText _ = Unit {0}
 
-one_of_text : (stop : Stop) → IsOfText stop → (¬ SaysNothing stop) → status_of stop ≡ 1
+one_of_text : (stop : CallError) → IsOfText stop → (¬ SaysNothing stop) → status_of stop ≡ 1
 one_of_text (CannotRead path) is not = absurd is
 one_of_text (CannotWrite written) is not = absurd is
 one_of_text NotAscii is not = refl
@@ -105,14 +105,14 @@ one_of_text NoThread is not = absurd (not tt)
 one_of_text (Mistaken mistake) is not = absurd is
 one_of_text OutOfMemory is not = absurd (not tt)
 
-of_text_is : (stop other : Stop) → stop ≡ other → IsOfText other → IsOfText stop
+of_text_is : (stop other : CallError) → stop ≡ other → IsOfText other → IsOfText stop
 of_text_is stop other e h = subst IsOfText (sym e) h
 
-told_text : (tree : _) (places : _) (main : List ℕ) (stop : Stop) → IsToldOf tree places main stop → IsOfText stop
-told_text tree places main stop (rule told read e tells same there first) = of_text_is stop (Rules told) e tt
-told_text tree places main stop (flat told e keeps refuses) = of_text_is stop (Flat told) e tt
+reported_text : (tree : _) (places : _) (main : List ℕ) (stop : CallError) → IsReportedOf tree places main stop → IsOfText stop
+reported_text tree places main stop (rule reported read e tells same there first) = of_text_is stop (Rules reported) e tt
+reported_text tree places main stop (flat reported e keeps refuses) = of_text_is stop (Flat reported) e tt
 
-program_text : (bytes : List ℕ) (stop : Stop) → IsProgramRefused bytes stop → IsOfText stop
+program_text : (bytes : List ℕ) (stop : CallError) → IsProgramRefused bytes stop → IsOfText stop
 program_text bytes (CannotRead path) h = absurd h
 program_text bytes (CannotWrite written) h = absurd h
 program_text bytes (Fault variable instant kind) h = absurd h
@@ -128,11 +128,11 @@ program_text bytes LinkLost h = tt
 program_text bytes NoThread h = tt
 program_text bytes (Mistaken mistake) h = absurd h
 
-no_flat_text : (bytes main : List ℕ) (stop : Stop) → HasNoFlat bytes main stop → IsOfText stop
+no_flat_text : (bytes main : List ℕ) (stop : CallError) → HasNoFlat bytes main stop → IsOfText stop
 no_flat_text bytes main stop (unspelled h) = program_text bytes stop h
-no_flat_text bytes main stop (unruled tree places spelled there told) = told_text tree places main stop told
+no_flat_text bytes main stop (unruled tree places spelled there reported) = reported_text tree places main stop reported
 
-place_text : (list : FlatProgram) (bytes : List ℕ) (stop : Stop) → IsPlaceRefused list bytes stop → IsOfText stop
+place_text : (list : FlatView) (bytes : List ℕ) (stop : CallError) → IsPlaceRefused list bytes stop → IsOfText stop
 place_text list bytes (CannotRead path) h = absurd h
 place_text list bytes (CannotWrite written) h = absurd h
 place_text list bytes (Fault variable instant kind) h = absurd h
@@ -148,7 +148,7 @@ place_text list bytes LinkLost h = tt
 place_text list bytes NoThread h = tt
 place_text list bytes (Mistaken mistake) h = absurd h
 
-table_text : (types inputs : _) (bytes : List ℕ) (stop : Stop) → IsTableRefused types inputs bytes stop → IsOfText stop
+table_text : (types inputs : _) (bytes : List ℕ) (stop : CallError) → IsTableRefused types inputs bytes stop → IsOfText stop
 table_text types inputs bytes (CannotRead path) h = absurd h
 table_text types inputs bytes (CannotWrite written) h = absurd h
 table_text types inputs bytes (Fault variable instant kind) h = absurd h
@@ -164,7 +164,7 @@ table_text types inputs bytes LinkLost h = tt
 table_text types inputs bytes NoThread h = tt
 table_text types inputs bytes (Mistaken mistake) h = absurd h
 
-schedule_text : (bytes : List ℕ) (stop : Stop) → IsScheduleRefused bytes stop → IsOfText stop
+schedule_text : (bytes : List ℕ) (stop : CallError) → IsScheduleRefused bytes stop → IsOfText stop
 schedule_text bytes (CannotRead path) h = absurd h
 schedule_text bytes (CannotWrite written) h = absurd h
 schedule_text bytes (Fault variable instant kind) h = absurd h
@@ -180,7 +180,7 @@ schedule_text bytes LinkLost h = tt
 schedule_text bytes NoThread h = tt
 schedule_text bytes (Mistaken mistake) h = absurd h
 
-unread_two : (gives : FileFacts) (path : List ℕ) (stop : Stop) → IsUnread gives path stop → (¬ SaysNothing stop) → (status_of stop ≡ 2) × gives path None
+unread_two : (gives : FileFacts) (path : List ℕ) (stop : CallError) → IsUnread gives path stop → (¬ SaysNothing stop) → (status_of stop ≡ 2) × gives path None
 unread_two gives path (CannotRead name) h not = (refl, h.1)
 unread_two gives path (CannotWrite written) h not = absurd h
 unread_two gives path (Fault variable instant kind) h not = absurd h
@@ -199,27 +199,27 @@ unread_two gives path OutOfMemory h not = absurd (not tt)
 -- ---- two stops of one request
 
 module _ (gives : FileFacts) (settled : HasOneText gives) where
-  both_unread : (path other_path : List ℕ) (a b : Stop) → IsUnread gives path a → IsUnread gives other_path b → (¬ SaysNothing a) → (¬ SaysNothing b) → status_of a ≡ status_of b
+  both_unread : (path other_path : List ℕ) (a b : CallError) → IsUnread gives path a → IsUnread gives other_path b → (¬ SaysNothing a) → (¬ SaysNothing b) → status_of a ≡ status_of b
   both_unread path other_path a b x y na nb = (unread_two gives path a x na).0 ∙ sym (unread_two gives other_path b y nb).0
 
-  both_text : (a b : Stop) → IsOfText a → IsOfText b → (¬ SaysNothing a) → (¬ SaysNothing b) → status_of a ≡ status_of b
+  both_text : (a b : CallError) → IsOfText a → IsOfText b → (¬ SaysNothing a) → (¬ SaysNothing b) → status_of a ≡ status_of b
   both_text a b x y na nb = one_of_text a x na ∙ sym (one_of_text b y nb)
 
   -- a file that has a text is read
-  pub never : {X : Type 0} (path text : List ℕ) (stop : Stop) → gives path (Some text) → IsUnread gives path stop → (¬ SaysNothing stop) → X
+  pub never : {X : Type 0} (path text : List ℕ) (stop : CallError) → gives path (Some text) → IsUnread gives path stop → (¬ SaysNothing stop) → X
   never path text stop given x not = absurd (not (unread_memory gives settled path text stop given x))
 
-  program_status : (path main : List ℕ) (a b : Stop) → StopsAtProgram gives path main a → StopsAtProgram gives path main b → (¬ SaysNothing a) → (¬ SaysNothing b) → status_of a ≡ status_of b
+  program_status : (path main : List ℕ) (a b : CallError) → StopsAtProgram gives path main a → StopsAtProgram gives path main b → (¬ SaysNothing a) → (¬ SaysNothing b) → status_of a ≡ status_of b
   program_status path main a b (program_unread x) (program_unread y) na nb = both_unread path path a b x y na nb
   program_status path main a b (program_unread x) (program_refused text given y) na nb = never path text a given x na
   program_status path main a b (program_refused text given x) (program_unread y) na nb = never path text b given y nb
   program_status path main a b (program_refused text given x) (program_refused other other_given y) na nb = both_text a b (no_flat_text text main a x) (no_flat_text other main b y) na nb
 
   -- a program that has a list program isn't refused
-  pub past_program : {X : Type 0} (path main program : List ℕ) (own : FlatProgram) (stop : Stop) → gives path (Some program) → HasFlat program main own → StopsAtProgram gives path main stop → (¬ SaysNothing stop) → X
+  pub past_program : {X : Type 0} (path main program : List ℕ) (own : FlatView) (stop : CallError) → gives path (Some program) → HasFlat program main own → StopsAtProgram gives path main stop → (¬ SaysNothing stop) → X
   past_program path main program own stop given has x not = absurd (not (program_memory gives settled path main program own stop given has x))
 
-  plan_status : (path place_path main : List ℕ) (a b : Stop) → StopsAtPlan gives path place_path main a → StopsAtPlan gives path place_path main b → (¬ SaysNothing a) → (¬ SaysNothing b) → status_of a ≡ status_of b
+  plan_status : (path place_path main : List ℕ) (a b : CallError) → StopsAtPlan gives path place_path main a → StopsAtPlan gives path place_path main b → (¬ SaysNothing a) → (¬ SaysNothing b) → status_of a ≡ status_of b
   plan_status path place_path main a b (no_program x) (no_program y) na nb = program_status path main a b x y na nb
   plan_status path place_path main a b (no_program x) (place_unread program own given has y) na nb = past_program path main program own a given has x na
   plan_status path place_path main a b (no_program x) (place_refused program place own given has place_given y) na nb = past_program path main program own a given has x na
@@ -233,22 +233,22 @@ module _ (gives : FileFacts) (settled : HasOneText gives) where
 
   module _ (request : EvalRequest) where
     -- a table that a fault is of isn't refused
-    pub past_table : {X : Type 0} (program table name : List ℕ) (own : FlatProgram) (instant : ℕ) (kind : FaultKind) (stop : Stop) → gives request.program.now (Some program) → gives request.table.now (Some table) → HasFlat program request.main.now own
+    pub past_table : {X : Type 0} (program table name : List ℕ) (own : FlatView) (instant : ℕ) (kind : FaultKind) (stop : CallError) → gives request.program.now (Some program) → gives request.table.now (Some table) → HasFlat program request.main.now own
         → IsFaultOf gives request name instant kind → IsTableRefused own.types (inputs_of own.variables) table stop → (¬ SaysNothing stop) → X
     past_table program table name own instant kind stop given table_given has fault x not =
         let asked = fault.asked in
         absurd (not (refused_memory gives settled request.program.now request.table.now request.main.now asked.program asked.table program table fault.flat own fault.inputs stop asked.program_given given (posed_flat gives settled request fault.flat fault.inputs asked) has
         asked.table_given table_given asked.posed.table_is asked.posed.short asked.posed.utf8 x))
 
-    pub fault_past : {X : Type 0} (name : List ℕ) (instant : ℕ) (kind : FaultKind) (stop : Stop) → IsFaultOf gives request name instant kind → StopsAtProgram gives request.program.now request.main.now stop → (¬ SaysNothing stop) → X
+    pub fault_past : {X : Type 0} (name : List ℕ) (instant : ℕ) (kind : FaultKind) (stop : CallError) → IsFaultOf gives request name instant kind → StopsAtProgram gives request.program.now request.main.now stop → (¬ SaysNothing stop) → X
     fault_past name instant kind stop fault x not =
         let asked = fault.asked in
         past_program request.program.now request.main.now asked.program fault.flat stop asked.program_given (posed_flat gives settled request fault.flat fault.inputs asked) x not
 
-    three_of_fault : (name : List ℕ) (instant : ℕ) (kind : FaultKind) (stop : Stop) → stop ≡ Fault name instant kind → status_of stop ≡ 3
+    three_of_fault : (name : List ℕ) (instant : ℕ) (kind : FaultKind) (stop : CallError) → stop ≡ Fault name instant kind → status_of stop ≡ 3
     three_of_fault name instant kind stop e = ap status_of e
 
-    eval_status : (a b : Stop) → IsEvalStopped gives request a → IsEvalStopped gives request b → (¬ SaysNothing a) → (¬ SaysNothing b) → status_of a ≡ status_of b
+    eval_status : (a b : CallError) → IsEvalStopped gives request a → IsEvalStopped gives request b → (¬ SaysNothing a) → (¬ SaysNothing b) → status_of a ≡ status_of b
     eval_status a b (eval_memory e) y na nb = absurd (na (memory_is a OutOfMemory e tt))
     eval_status a b (eval_unwritten path asks its_flat its_inputs posed e) y na nb = absurd (na (memory_is a (CannotWrite path) e tt))
     eval_status a b (eval_program x) (eval_unwritten path asks its_flat its_inputs posed d) na nb = absurd (nb (memory_is b (CannotWrite path) d tt))
@@ -279,14 +279,14 @@ module _ (gives : FileFacts) (settled : HasOneText gives) where
 
   module _ (path place_path table_path main : List ℕ) where
     -- a plan or a job that the files give isn't refused
-    pub past_plan : {X : Type 0} (plan : Distribution) (stop : Stop) → IsPlanFor gives path place_path main plan → StopsAtPlan gives path place_path main stop → (¬ SaysNothing stop) → X
+    pub past_plan : {X : Type 0} (plan : PlanView) (stop : CallError) → IsPlanFor gives path place_path main plan → StopsAtPlan gives path place_path main stop → (¬ SaysNothing stop) → X
     past_plan plan stop is x not =
         absurd (not (plan_memory_of gives settled path place_path main is.program is.place plan stop is.program_given is.place_given is.flat is.plan_of x))
 
-    pub past_job : {X : Type 0} (job : Run) (stop : Stop) → IsJobFor gives path place_path table_path main job → StopsAtJob gives path place_path table_path main stop → (¬ SaysNothing stop) → X
+    pub past_job : {X : Type 0} (job : JobView) (stop : CallError) → IsJobFor gives path place_path table_path main job → StopsAtJob gives path place_path table_path main stop → (¬ SaysNothing stop) → X
     past_job job stop is x not = absurd (not (job_memory_of gives settled path place_path table_path main job stop is x))
 
-    job_status : (a b : Stop) → StopsAtJob gives path place_path table_path main a → StopsAtJob gives path place_path table_path main b → (¬ SaysNothing a) → (¬ SaysNothing b) → status_of a ≡ status_of b
+    job_status : (a b : CallError) → StopsAtJob gives path place_path table_path main a → StopsAtJob gives path place_path table_path main b → (¬ SaysNothing a) → (¬ SaysNothing b) → status_of a ≡ status_of b
     job_status a b (no_plan x) (no_plan y) na nb = plan_status path place_path main a b x y na nb
     job_status a b (no_plan x) (table_unread plan is y) na nb = past_plan plan a is x na
     job_status a b (no_plan x) (table_refused plan table is given y) na nb = past_plan plan a is x na
@@ -299,10 +299,10 @@ module _ (gives : FileFacts) (settled : HasOneText gives) where
         both_text a b (table_text plan.flat.types (inputs_of plan.flat.variables) table a x) (table_text other.flat.types (inputs_of other.flat.variables) text b y) na nb
 
   module _ (request : ReplayRequest) where
-    pub replay_past : {X : Type 0} (job : Run) (stop : Stop) → IsJobFor gives request.program.now request.place.now request.table.now request.main.now job → StopsAtJob gives request.program.now request.place.now request.table.now request.main.now stop → (¬ SaysNothing stop) → X
+    pub replay_past : {X : Type 0} (job : JobView) (stop : CallError) → IsJobFor gives request.program.now request.place.now request.table.now request.main.now job → StopsAtJob gives request.program.now request.place.now request.table.now request.main.now stop → (¬ SaysNothing stop) → X
     replay_past job stop is x not = past_job request.program.now request.place.now request.table.now request.main.now job stop is x not
 
-    replay_status : (a b : Stop) → IsReplayStopped gives request a → IsReplayStopped gives request b → (¬ SaysNothing a) → (¬ SaysNothing b) → status_of a ≡ status_of b
+    replay_status : (a b : CallError) → IsReplayStopped gives request a → IsReplayStopped gives request b → (¬ SaysNothing a) → (¬ SaysNothing b) → status_of a ≡ status_of b
     replay_status a b (replay_memory e) y na nb = absurd (na (memory_is a OutOfMemory e tt))
     replay_status a b (replay_unwritten path asks job turns asked e) y na nb = absurd (na (memory_is a (CannotWrite path) e tt))
     replay_status a b (replay_job x) (replay_unwritten path asks job turns asked e) na nb = absurd (nb (memory_is b (CannotWrite path) e tt))
@@ -323,13 +323,13 @@ module _ (gives : FileFacts) (settled : HasOneText gives) where
         both_text a b (schedule_text turns a x) (schedule_text others b y) na nb
 
   module _ (request : RunRequest) where
-    pub run_past : {X : Type 0} (job : Run) (stop : Stop) → IsJobFor gives request.program.now request.place.now request.table.now request.main.now job → StopsAtJob gives request.program.now request.place.now request.table.now request.main.now stop → (¬ SaysNothing stop) → X
+    pub run_past : {X : Type 0} (job : JobView) (stop : CallError) → IsJobFor gives request.program.now request.place.now request.table.now request.main.now job → StopsAtJob gives request.program.now request.place.now request.table.now request.main.now stop → (¬ SaysNothing stop) → X
     run_past job stop is x not = past_job request.program.now request.place.now request.table.now request.main.now job stop is x not
 
-    three_is : (name : List ℕ) (instant : ℕ) (kind : FaultKind) (stop : Stop) → stop ≡ Fault name instant kind → status_of stop ≡ 3
+    three_is : (name : List ℕ) (instant : ℕ) (kind : FaultKind) (stop : CallError) → stop ≡ Fault name instant kind → status_of stop ≡ 3
     three_is name instant kind stop e = ap status_of e
 
-    run_status : (a b : Stop) → IsRunStopped gives request a → IsRunStopped gives request b → (¬ SaysNothing a) → (¬ SaysNothing b) → status_of a ≡ status_of b
+    run_status : (a b : CallError) → IsRunStopped gives request a → IsRunStopped gives request b → (¬ SaysNothing a) → (¬ SaysNothing b) → status_of a ≡ status_of b
     run_status a b (run_memory e) y na nb = absurd (na (memory_is a OutOfMemory e tt))
     run_status a b (run_lost job is e) y na nb = absurd (na (memory_is a LinkLost e tt))
     run_status a b (run_unwritten path asks job asked e) y na nb = absurd (na (memory_is a (CannotWrite path) e tt))
@@ -347,18 +347,18 @@ module _ (gives : FileFacts) (settled : HasOneText gives) where
     run_status a b (run_fault name t k e fault) (run_job y) na nb = run_past fault.job b fault.asked_for y nb
     run_status a b (run_fault name t k e fault) (run_fault other u l d also) na nb = three_is name t k a e ∙ sym (three_is other u l b d)
 
-  explain_status : (code : Option (List ℕ)) (a b : Stop) → IsExplainStopped code a → IsExplainStopped code b → (¬ SaysNothing a) → (¬ SaysNothing b) → status_of a ≡ status_of b
+  explain_status : (code : Option (List ℕ)) (a b : CallError) → IsExplainStopped code a → IsExplainStopped code b → (¬ SaysNothing a) → (¬ SaysNothing b) → status_of a ≡ status_of b
   explain_status code a b (explain_memory e) y na nb = absurd (na (memory_is a OutOfMemory e tt))
   explain_status code a b (explain_unknown name is none e) (explain_memory m) na nb = absurd (nb (memory_is b OutOfMemory m tt))
   explain_status code a b (explain_unknown name is none e) (explain_unknown other also nothing m) na nb = ap status_of e ∙ sym (ap status_of m)
 
-  refused_status : (request : EvalRequest) (a b : Stop) → IsEvalRefused gives request a → IsEvalRefused gives request b → (¬ SaysNothing a) → (¬ SaysNothing b) → status_of a ≡ status_of b
+  refused_status : (request : EvalRequest) (a b : CallError) → IsEvalRefused gives request a → IsEvalRefused gives request b → (¬ SaysNothing a) → (¬ SaysNothing b) → status_of a ≡ status_of b
   refused_status request a b (eval_mistaken mistake found e) (eval_mistaken other also d) na nb = ap status_of e ∙ sym (ap status_of d)
   refused_status request a b (eval_mistaken mistake found e) (eval_stopped meant y) na nb = absurd (none_some (mistake_in request) mistake meant found)
   refused_status request a b (eval_stopped meant x) (eval_mistaken mistake found e) na nb = absurd (none_some (mistake_in request) mistake meant found)
   refused_status request a b (eval_stopped meant x) (eval_stopped same y) na nb = eval_status request a b x y na nb
 
-  pub one_status_of : (request : Request) (a b : Stop) → IsRequestStopped gives request a → IsRequestStopped gives request b → (¬ SaysNothing a) → (¬ SaysNothing b) → status_of a ≡ status_of b
+  pub one_status_of : (request : Request) (a b : CallError) → IsRequestStopped gives request a → IsRequestStopped gives request b → (¬ SaysNothing a) → (¬ SaysNothing b) → status_of a ≡ status_of b
   one_status_of (Check request) a b (check_program x) (check_program y) na nb = program_status request.program.now request.main.now a b x y na nb
   one_status_of (Check request) a b (check_memory e) y na nb = absurd (na (memory_is a OutOfMemory e tt))
   one_status_of (Check request) a b (check_program x) (check_memory e) na nb = absurd (nb (memory_is b OutOfMemory e tt))

@@ -3,7 +3,7 @@ use Rattle.std.proofs.Common.{◌≡◌, ◌<◌, ◌≤◌, ◌+◌, ℕ, zero,
 use Rattle.std.specs.Prelude.{Result, Ok, Err, Some, IfOk, OnOk, slice_get, string_bytes, IsUtf8}
 use Rattle.lutree.specs.Tree.{ProgramTree}
 use Rattle.luflow.specs.declared.data.Status.{Status}
-use Rattle.luflow.specs.Program.{FlatProgram, Table}
+use Rattle.luflow.specs.Program.{FlatView, InputsView}
 use Rattle.luflow.specs.declared.form.FaultKind.{FaultKind}
 use Rattle.luflow.specs.Streams.{Known, Mark, Stream, Streams}
 use Rattle.luflow.specs.Messages.{marks}
@@ -19,7 +19,7 @@ use Rattle.std.specs.List.{range_with_len}
 use Rattle.std.specs.declared.string.String.{String}
 use Rattle.std.specs.declared.alloc.Global.{Global}
 use Rattle.std.proofs.lemmas.Option.{slice_get_within}
-use Rattle.luflow.specs.Tables.{OutputColumn, Fits}
+use Rattle.luflow.specs.Tables.{OutputColumn, FitsProgram}
 use Rattle.luflow.specs.declared.variable.Variable.{Variable}
 use Rattle.luflow.specs.Variables.{inputs_of, outputs_of, is_output}
 use Rattle.lusyn.specs.Texts.{SpellsText}
@@ -27,25 +27,25 @@ use Rattle.lucore.specs.Result.{IsFlatOf}
 use Rattle.lueval.specs.Whole.{AreStreams, AreWholeColumns, AreWholeOutputs, HasNoFault, IsFirstFault}
 use Rattle.lueval_lines.specs.declared.error.EvalError.{EvalError}
 use Rattle.lueval_lines.specs.Outputs.{outputs_in, columns_in}
-use Rattle.lueval_lines.proofs.Told.{Pairs, names, stream_at}
+use Rattle.lueval_lines.proofs.Reported.{Pairs, names, stream_at}
 use Rattle.lueval_lines.proofs.Named.{names as all_names, stream_at as all_at}
 use Rattle.lutab.specs.Table.{IsTextOf, is_too_long}
 use Rattle.lusdist_shell.specs.declared.request.EvalRequest.{EvalRequest}
-use Rattle.lusdist_call.specs.declared.stop.Stop.{Stop}
-use Rattle.lusdist_call.specs.declared.stop.Stop.TheVariants.{CannotRead, CannotWrite, NotAscii, Syntax, Rules, Flat, Place, Table as BadTable, Schedule, Fault, LinkLost, NoThread, OutOfMemory, Mistaken}
-use Rattle.lusdist_call.specs.Evaluated.{AreEvaluated, AreVariablesAt, AreVariablesOf, HasNoFaultBefore, IsColumnOf, IsDumped, IsDumpedBefore, IsDumpedTo, IsFiled, IsNoFault, IsShown, AreShownBefore, IsStopFor, shown_text, wave_text, IsPosed, IsPosedBy, IsShownTo, IsStopped, IsFaultTold, IsUnfiled, wave_path}
+use Rattle.lusdist_call.specs.declared.call_error.CallError.{CallError}
+use Rattle.lusdist_call.specs.declared.call_error.CallError.TheVariants.{CannotRead, CannotWrite, NotAscii, Syntax, Rules, Flat, Place, Table as BadTable, Schedule, Fault, LinkLost, NoThread, OutOfMemory, Mistaken}
+use Rattle.lusdist_call.specs.Evaluated.{AreEvaluated, AreVariablesAt, AreVariablesOf, HasNoFaultBefore, IsColumnOf, IsDumped, IsDumpedBefore, IsDumpedTo, IsFiled, IsNoFault, IsShown, AreShownBefore, IsStopFor, shown_text, wave_text, IsPosed, IsPosedBy, IsShownTo, IsStopped, IsFaultReported, IsUnfiled, wave_path}
 use Rattle.lutree.specs.Places.{ProgramPlaces}
 use Rattle.luflow.specs.declared.variable.Enum.{Enum}
 use Rattle.lutab.specs.Outputs.{shown_of}
-use Rattle.lusdist_call.specs.Refused.{IsToldOf, IsProgramRefused, IsTableRefused}
-use Rattle.lusdist_call.specs.Refused.IsToldOf.{rule, flat as told_flat}
+use Rattle.lusdist_call.specs.Refused.{IsReportedOf, IsProgramRefused, IsTableRefused}
+use Rattle.lusdist_call.specs.Refused.IsReportedOf.{rule, flat as reported_flat}
 use Rattle.lusdist_call.specs.Files.{IsUnread}
 use Rattle.lusdist_call.specs.Stopped.{IsEvalStopped}
 use Rattle.lusdist_call.specs.Stopped.IsEvalStopped.{eval_fault, eval_unwritten, eval_memory}
 use Rattle.lusdist_shell.specs.Files.{FileFacts}
 
 -- the outputs among the streams of the main variables
-pub are_evaluated : (flat : FlatProgram) (inputs : Table) (streams : List (List Status)) (outputs : List OutputColumn) → AreStreams flat inputs streams → outputs ≡ outputs_in flat.variables streams → AreEvaluated flat inputs (outputs_of flat.variables) inputs.instants outputs
+pub are_evaluated : (flat : FlatView) (inputs : InputsView) (streams : List (List Status)) (outputs : List OutputColumn) → AreStreams flat inputs streams → outputs ≡ outputs_in flat.variables streams → AreEvaluated flat inputs (outputs_of flat.variables) inputs.instants outputs
 are_evaluated flat inputs streams outputs are is =
     let pairs : Pairs flat.variables streams = sym are.count in
     record {
@@ -56,7 +56,7 @@ are_evaluated flat inputs streams outputs are is =
     }
 
 -- all streams of the main variables
-pub all_evaluated : (flat : FlatProgram) (inputs : Table) (streams : List (List Status)) (columns : List OutputColumn) → AreStreams flat inputs streams → columns ≡ columns_in flat.variables streams → AreEvaluated flat inputs flat.variables inputs.instants columns
+pub all_evaluated : (flat : FlatView) (inputs : InputsView) (streams : List (List Status)) (columns : List OutputColumn) → AreStreams flat inputs streams → columns ≡ columns_in flat.variables streams → AreEvaluated flat inputs flat.variables inputs.instants columns
 all_evaluated flat inputs streams columns are is =
     let pairs : Pairs flat.variables streams = sym are.count in
     record {
@@ -67,17 +67,17 @@ all_evaluated flat inputs streams columns are is =
     }
 
 -- what a column has is what the source gives its variable
-pub column_meant : (tree : ProgramTree) (main : List ℕ) (flat : FlatProgram) (inputs : Table) (n : ℕ) (c : OutputColumn) → Agrees tree main inputs flat → IsColumnOf flat inputs n c → (σ : SourceStreams) → IsSourceSolution tree main inputs σ → map Known c.statuses ≡ marks (σ [] c.name) n
+pub column_meant : (tree : ProgramTree) (main : List ℕ) (flat : FlatView) (inputs : InputsView) (n : ℕ) (c : OutputColumn) → Agrees tree main inputs flat → IsColumnOf flat inputs n c → (σ : SourceStreams) → IsSourceSolution tree main inputs σ → map Known c.statuses ≡ marks (σ [] c.name) n
 column_meant tree main flat inputs n c agrees is σ solves =
     let f = agrees.to_flat σ solves in
     is.statuses f.0 f.1 ∙ ap (λ (s : Stream). marks s n) (f.2 is.number is.variable is.there) ∙ ap (λ name. marks (σ [] name) n) (sym is.named)
 
 -- so are those that an evaluation answers
-pub outputs_from : (r : Result (List OutputColumn) EvalError) (flat : FlatProgram) (inputs : Table) → IfOk r (AreWholeOutputs flat inputs) → IfOk r (AreEvaluated flat inputs (outputs_of flat.variables) inputs.instants)
+pub outputs_from : (r : Result (List OutputColumn) EvalError) (flat : FlatView) (inputs : InputsView) → IfOk r (AreWholeOutputs flat inputs) → IfOk r (AreEvaluated flat inputs (outputs_of flat.variables) inputs.instants)
 outputs_from (Ok outputs) flat inputs are = are_evaluated flat inputs are.streams outputs are.solution are.are
 outputs_from (Err e) flat inputs are = tt
 
-pub columns_from : (r : Result (List OutputColumn) EvalError) (flat : FlatProgram) (inputs : Table) → IfOk r (AreWholeColumns flat inputs) → IfOk r (AreEvaluated flat inputs flat.variables inputs.instants)
+pub columns_from : (r : Result (List OutputColumn) EvalError) (flat : FlatView) (inputs : InputsView) → IfOk r (AreWholeColumns flat inputs) → IfOk r (AreEvaluated flat inputs flat.variables inputs.instants)
 columns_from (Ok columns) flat inputs are = all_evaluated flat inputs are.streams columns are.solution are.are
 columns_from (Err e) flat inputs are = tt
 
@@ -94,7 +94,7 @@ pub some_variable : (xs : List Variable) → 0 < length (outputs_of xs) → 0 < 
 some_variable xs some = let le = few xs in omega (arith, some, le)
 
 -- they are those of a source with which the flat program agrees
-pub of_source : (text main table : List ℕ) (tree : ProgramTree) (flat : FlatProgram) (inputs : Table) (variables : List Variable) (columns : List OutputColumn) → IsPosed text main table tree flat inputs → AreEvaluated flat inputs variables inputs.instants columns → HasNoFault flat inputs → AreVariablesOf tree main flat inputs variables columns
+pub of_source : (text main table : List ℕ) (tree : ProgramTree) (flat : FlatView) (inputs : InputsView) (variables : List Variable) (columns : List OutputColumn) → IsPosed text main table tree flat inputs → AreEvaluated flat inputs variables inputs.instants columns → HasNoFault flat inputs → AreVariablesOf tree main flat inputs variables columns
 of_source text main table tree flat inputs variables columns posed are fine =
     record {
       named = are.named;
@@ -107,7 +107,7 @@ of_source text main table tree flat inputs variables columns posed are fine =
     }
 
 -- so are those of the first instants
-pub at_source : (text main table : List ℕ) (tree : ProgramTree) (flat : FlatProgram) (inputs : Table) (variables : List Variable) (n : ℕ) (columns : List OutputColumn) → IsPosed text main table tree flat inputs → AreEvaluated flat inputs variables n columns → AreVariablesAt tree main inputs variables n columns
+pub at_source : (text main table : List ℕ) (tree : ProgramTree) (flat : FlatView) (inputs : InputsView) (variables : List Variable) (n : ℕ) (columns : List OutputColumn) → IsPosed text main table tree flat inputs → AreEvaluated flat inputs variables n columns → AreVariablesAt tree main inputs variables n columns
 at_source text main table tree flat inputs variables n columns posed are =
     record {
       named = are.named;
@@ -119,7 +119,7 @@ marks_same s r a zero same = refl
 marks_same s r a (suc n) same = ap₂ (λ (m : Mark) (ms : List Mark). m ∷ ms) (same a (omega arith)) (marks_same s r (a + 1) n (λ t lt. same t (omega (arith, lt))))
 
 -- a column at a table that is cut is one of the instants that are left
-column_before : (flat : FlatProgram) (inputs : Table) (n : ℕ) (c : OutputColumn) → IsFlat flat → n ≤ inputs.instants → IsColumnOf flat (cut n inputs) n c → IsColumnOf flat inputs n c
+column_before : (flat : FlatView) (inputs : InputsView) (n : ℕ) (c : OutputColumn) → IsFlat flat → n ≤ inputs.instants → IsColumnOf flat (cut n inputs) n c → IsColumnOf flat inputs n c
 column_before flat inputs n c is_flat le is =
     let inside = slice_get_within flat.variables is.number is.variable is.there in
     let first = is_flat.variables_first in
@@ -134,81 +134,81 @@ column_before flat inputs n c is_flat le is =
           ∙ marks_same (solution flat (cut n inputs) is.number) (σ is.number) 0 n (λ t lt. same_before n inputs le flat is_flat.ordered σ (solution flat (cut n inputs)) solves part is.number t (omega (arith, inside, first)) (omega (arith, lt)));
     }
 
-pub are_before : (flat : FlatProgram) (inputs : Table) (variables : List Variable) (n : ℕ) (columns : List OutputColumn) → IsFlat flat → n ≤ inputs.instants → AreEvaluated flat (cut n inputs) variables n columns → AreEvaluated flat inputs variables n columns
+pub are_before : (flat : FlatView) (inputs : InputsView) (variables : List Variable) (n : ℕ) (columns : List OutputColumn) → IsFlat flat → n ≤ inputs.instants → AreEvaluated flat (cut n inputs) variables n columns → AreEvaluated flat inputs variables n columns
 are_before flat inputs variables n columns is_flat le are = record { named = are.named; each = λ k c there. column_before flat inputs n c is_flat le (are.each k c there) }
 
 -- before the first fault there is none
-pub none_before : (flat : FlatProgram) (inputs : Table) (variable instant : ℕ) (kind : FaultKind) → ((σ : Streams) → IsSolution flat inputs σ → IsFirstFault flat inputs σ variable instant kind) → HasNoFaultBefore flat inputs instant
-none_before flat inputs variable instant kind told σ solves t q i other at early fault =
-    let first = told σ solves in
+pub none_before : (flat : FlatView) (inputs : InputsView) (variable instant : ℕ) (kind : FaultKind) → ((σ : Streams) → IsSolution flat inputs σ → IsFirstFault flat inputs σ variable instant kind) → HasNoFaultBefore flat inputs instant
+none_before flat inputs variable instant kind reported σ solves t q i other at early fault =
+    let first = reported σ solves in
     first.first t q i other at (inl early) fault
 
 -- where there is none before an instant, there is none at the table that is cut there
-pub cut_fine : (flat : FlatProgram) (inputs : Table) (n variable instant : ℕ) (kind : FaultKind) → IsFlat flat → n ≤ inputs.instants → HasNoFaultBefore flat inputs n → ((σ : Streams) → IsSolution flat (cut n inputs) σ → IsFirstFault flat (cut n inputs) σ variable instant kind) → ⊥
-cut_fine flat inputs n variable instant kind is_flat le none told =
+pub cut_fine : (flat : FlatView) (inputs : InputsView) (n variable instant : ℕ) (kind : FaultKind) → IsFlat flat → n ≤ inputs.instants → HasNoFaultBefore flat inputs n → ((σ : Streams) → IsSolution flat (cut n inputs) σ → IsFirstFault flat (cut n inputs) σ variable instant kind) → ⊥
+cut_fine flat inputs n variable instant kind is_flat le none reported =
     let ordered = is_flat.ordered in
     let whole = IsSolution-solution flat inputs ordered in
     let part = IsSolution-solution flat (cut n inputs) ordered in
-    let first = told (solution flat (cut n inputs)) part in
+    let first = reported (solution flat (cut n inputs)) part in
     none (solution flat inputs) whole instant first.rank first.place kind first.ranked first.early
     (fault_there n inputs le flat ordered (solution flat inputs) (solution flat (cut n inputs)) whole part first.place instant kind first.early first.fault)
 
 -- a program and a table that are posed
-pub posed : (text main table : List ℕ) (tree : ProgramTree) (flat : FlatProgram) (inputs : Table) → SpellsText text tree → IsFlatOf tree main flat → IsTextOf flat.types (inputs_of flat.variables) inputs table → is_too_long table ≡ false → IsUtf8 table → Fits flat inputs → IsPosed text main table tree flat inputs
+pub posed : (text main table : List ℕ) (tree : ProgramTree) (flat : FlatView) (inputs : InputsView) → SpellsText text tree → IsFlatOf tree main flat → IsTextOf flat.types (inputs_of flat.variables) inputs table → is_too_long table ≡ false → IsUtf8 table → FitsProgram flat inputs → IsPosed text main table tree flat inputs
 posed text main table tree flat inputs spelled flat_is table_is short utf8 fits =
     let columns = flat_is.columns inputs fits in
     record { spelled = spelled; flat_is = flat_is; table_is = table_is; short = short; utf8 = utf8; agrees = flat_is.agrees inputs columns; one_meaning = flat_is.one_meaning inputs columns }
 
 -- the fault that is reported is one of the source
-source_fault : (gives : FileFacts) (request : EvalRequest) (flat : FlatProgram) (inputs : Table) (asked : IsPosedBy gives request flat inputs) (name : List ℕ) (instant : ℕ) (kind : FaultKind) → IsFaultTold flat inputs name instant kind
+source_fault : (gives : FileFacts) (request : EvalRequest) (flat : FlatView) (inputs : InputsView) (asked : IsPosedBy gives request flat inputs) (name : List ℕ) (instant : ℕ) (kind : FaultKind) → IsFaultReported flat inputs name instant kind
     → (σ : SourceStreams) → IsSourceSolution asked.tree request.main.now inputs σ → IsSourceFault asked.tree request.main.now inputs σ name instant kind
-source_fault gives request flat inputs asked name instant kind told σ solves =
+source_fault gives request flat inputs asked name instant kind reported σ solves =
     let is = asked.posed.flat_is in
     let solution_is = IsSolution-solution flat inputs is.is_flat.ordered in
-    let first = told.first (solution flat inputs) solution_is in
-    subst (λ n. IsSourceFault asked.tree request.main.now inputs σ n instant kind) (sym told.named)
-    (is.faults inputs σ (solution flat inputs) solves solution_is first.place told.variable instant kind told.is first.fault first.owner told.there)
+    let first = reported.first (solution flat inputs) solution_is in
+    subst (λ n. IsSourceFault asked.tree request.main.now inputs σ n instant kind) (sym reported.named)
+    (is.faults inputs σ (solution flat inputs) solves solution_is first.place reported.variable instant kind reported.is first.fault first.owner reported.there)
 
 -- where an evaluation of them stops, what was asked for stops so
-pub eval_stop : (gives : FileFacts) (request : EvalRequest) (flat : FlatProgram) (inputs : Table) → IsPosedBy gives request flat inputs → (stop : Stop) → IsStopped request flat inputs stop → IsEvalStopped gives request stop
-eval_stop gives request flat inputs asked (CannotRead path) told = absurd told
-eval_stop gives request flat inputs asked (CannotWrite path) told = eval_unwritten path told flat inputs asked refl
-eval_stop gives request flat inputs asked NotAscii told = absurd told
-eval_stop gives request flat inputs asked (Syntax e) told = absurd told
-eval_stop gives request flat inputs asked (Rules e) told = absurd told
-eval_stop gives request flat inputs asked (Flat e) told = absurd told
-eval_stop gives request flat inputs asked (Place e) told = absurd told
-eval_stop gives request flat inputs asked (BadTable e) told = absurd told
-eval_stop gives request flat inputs asked (Schedule e) told = absurd told
-eval_stop gives request flat inputs asked (Fault name instant kind) told = eval_fault name instant kind refl (record { flat = flat; inputs = inputs; asked = asked; told = told; source = source_fault gives request flat inputs asked name instant kind told })
-eval_stop gives request flat inputs asked LinkLost told = absurd told
-eval_stop gives request flat inputs asked NoThread told = absurd told
-eval_stop gives request flat inputs asked (Mistaken mistake) told = absurd told
-eval_stop gives request flat inputs asked OutOfMemory told = eval_memory refl
+pub eval_stop : (gives : FileFacts) (request : EvalRequest) (flat : FlatView) (inputs : InputsView) → IsPosedBy gives request flat inputs → (stop : CallError) → IsStopped request flat inputs stop → IsEvalStopped gives request stop
+eval_stop gives request flat inputs asked (CannotRead path) reported = absurd reported
+eval_stop gives request flat inputs asked (CannotWrite path) reported = eval_unwritten path reported flat inputs asked refl
+eval_stop gives request flat inputs asked NotAscii reported = absurd reported
+eval_stop gives request flat inputs asked (Syntax e) reported = absurd reported
+eval_stop gives request flat inputs asked (Rules e) reported = absurd reported
+eval_stop gives request flat inputs asked (Flat e) reported = absurd reported
+eval_stop gives request flat inputs asked (Place e) reported = absurd reported
+eval_stop gives request flat inputs asked (BadTable e) reported = absurd reported
+eval_stop gives request flat inputs asked (Schedule e) reported = absurd reported
+eval_stop gives request flat inputs asked (Fault name instant kind) reported = eval_fault name instant kind refl (record { flat = flat; inputs = inputs; asked = asked; reported = reported; source = source_fault gives request flat inputs asked name instant kind reported })
+eval_stop gives request flat inputs asked LinkLost reported = absurd reported
+eval_stop gives request flat inputs asked NoThread reported = absurd reported
+eval_stop gives request flat inputs asked (Mistaken mistake) reported = absurd reported
+eval_stop gives request flat inputs asked OutOfMemory reported = eval_memory refl
 
 -- STOPS THAT TELL NO FAULT
 
-pub unread_none : (gives : FileFacts) (path : List ℕ) (stop : Stop) → IsUnread gives path stop → IsNoFault stop
+pub unread_none : (gives : FileFacts) (path : List ℕ) (stop : CallError) → IsUnread gives path stop → IsNoFault stop
 unread_none gives path stop h = (λ name instant kind e. subst (IsUnread gives path) e h, λ there e. subst (IsUnread gives path) e h)
 
-pub program_none : (bytes : List ℕ) (stop : Stop) → IsProgramRefused bytes stop → IsNoFault stop
+pub program_none : (bytes : List ℕ) (stop : CallError) → IsProgramRefused bytes stop → IsNoFault stop
 program_none bytes stop h = (λ name instant kind e. subst (IsProgramRefused bytes) e h, λ there e. subst (IsProgramRefused bytes) e h)
 
-pub table_none : (types : List Enum) (inputs : List Variable) (bytes : List ℕ) (stop : Stop) → IsTableRefused types inputs bytes stop → IsNoFault stop
+pub table_none : (types : List Enum) (inputs : List Variable) (bytes : List ℕ) (stop : CallError) → IsTableRefused types inputs bytes stop → IsNoFault stop
 table_none types inputs bytes stop h = (λ name instant kind e. subst (IsTableRefused types inputs bytes) e h, λ there e. subst (IsTableRefused types inputs bytes) e h)
 
-pub told_none : (tree : ProgramTree) (places : ProgramPlaces) (main : List ℕ) (stop : Stop) → IsToldOf tree places main stop → IsNoFault stop
-told_none tree places main stop (rule refusal read is tells same there first) =
+pub reported_none : (tree : ProgramTree) (places : ProgramPlaces) (main : List ℕ) (stop : CallError) → IsReportedOf tree places main stop → IsNoFault stop
+reported_none tree places main stop (rule refusal read is tells same there first) =
     (λ name instant kind e. let clash : Rules refusal ≡ Fault name instant kind = sym is ∙ e in cc, λ path e. let clash : Rules refusal ≡ CannotWrite path = sym is ∙ e in cc)
-told_none tree places main stop (told_flat refusal is accepted refuses) =
+reported_none tree places main stop (reported_flat refusal is accepted refuses) =
     (λ name instant kind e. let clash : Flat refusal ≡ Fault name instant kind = sym is ∙ e in cc, λ path e. let clash : Flat refusal ≡ CannotWrite path = sym is ∙ e in cc)
 
 -- a stop that reports no fault needs no dump
-pub none_dumped : (gives : FileFacts) (takes : FileFacts) (request : EvalRequest) (stop : Stop) → IsNoFault stop → IsDumpedTo gives takes request stop
+pub none_dumped : (gives : FileFacts) (takes : FileFacts) (request : EvalRequest) (stop : CallError) → IsNoFault stop → IsDumpedTo gives takes request stop
 none_dumped gives takes request stop none = (λ name instant kind e. absurd (none.0 name instant kind e), λ path e. absurd (none.1 path e))
 
 -- where a dump can't be made, the evaluation stops so
-pub unfiled_stop : (takes : FileFacts) (request : EvalRequest) (flat : FlatProgram) (inputs : Table) (stop : Stop) → IsUnfiled takes request stop → IsStopped request flat inputs stop
+pub unfiled_stop : (takes : FileFacts) (request : EvalRequest) (flat : FlatView) (inputs : InputsView) (stop : CallError) → IsUnfiled takes request stop → IsStopped request flat inputs stop
 unfiled_stop takes request flat inputs (CannotRead path) h = absurd h
 unfiled_stop takes request flat inputs (CannotWrite path) h = h.0
 unfiled_stop takes request flat inputs NotAscii h = absurd h
@@ -224,12 +224,12 @@ unfiled_stop takes request flat inputs NoThread h = absurd h
 unfiled_stop takes request flat inputs (Mistaken mistake) h = absurd h
 unfiled_stop takes request flat inputs OutOfMemory h = tt
 
-pub unfiled_shown : (takes : FileFacts) (request : EvalRequest) (flat : FlatProgram) (inputs : Table) (stop : Stop) → IsUnfiled takes request stop → IsShownTo takes request flat inputs stop
+pub unfiled_shown : (takes : FileFacts) (request : EvalRequest) (flat : FlatView) (inputs : InputsView) (stop : CallError) → IsUnfiled takes request stop → IsShownTo takes request flat inputs stop
 unfiled_shown takes request flat inputs stop h =
     (λ name instant kind e. absurd (subst (IsUnfiled takes request) e h), λ path e. let there : IsUnfiled takes request (CannotWrite path) = subst (IsUnfiled takes request) e h in there.1)
 
 -- what was shown before a fault is a dump of the program's variables
-pub dumped_to : (gives : FileFacts) (takes : FileFacts) (request : EvalRequest) (flat : FlatProgram) (inputs : Table) → IsPosedBy gives request flat inputs → (stop : Stop) → IsShownTo takes request flat inputs stop → IsDumpedTo gives takes request stop
+pub dumped_to : (gives : FileFacts) (takes : FileFacts) (request : EvalRequest) (flat : FlatView) (inputs : InputsView) → IsPosedBy gives request flat inputs → (stop : CallError) → IsShownTo takes request flat inputs stop → IsDumpedTo gives takes request stop
 dumped_to gives takes request flat inputs asked stop shown =
     let before = λ (name : List ℕ) (instant : ℕ) (kind : FaultKind) (e : stop ≡ Fault name instant kind) (path : List ℕ) (wanted : wave_path request ≡ Some path).
     let h = shown.0 name instant kind e path wanted in
@@ -246,7 +246,7 @@ dumped_to gives takes request flat inputs asked stop shown =
     (before, shown.1)
 
 -- and what was shown is one
-pub dumped_of : (gives : FileFacts) (takes : FileFacts) (request : EvalRequest) (flat : FlatProgram) (inputs : Table) → IsPosedBy gives request flat inputs → (r : Result (String Global) Stop) → IfOk r (λ text. IsShown takes request flat inputs (string_bytes text)) → OnOk r (IsDumped gives takes request)
+pub dumped_of : (gives : FileFacts) (takes : FileFacts) (request : EvalRequest) (flat : FlatView) (inputs : InputsView) → IsPosedBy gives request flat inputs → (r : Result (String Global) CallError) → IfOk r (λ text. IsShown takes request flat inputs (string_bytes text)) → OnOk r (IsDumped gives takes request)
 dumped_of gives takes request flat inputs asked (Ok text) h = record {
   flat = flat;
   inputs = inputs;
@@ -258,37 +258,37 @@ dumped_of gives takes request flat inputs asked (Ok text) h = record {
 dumped_of gives takes request flat inputs asked (Err stop) h = tt
 
 -- columns that were shown and dumped
-pub shown_whole : (takes : FileFacts) (request : EvalRequest) (flat : FlatProgram) (inputs : Table) (columns : List OutputColumn) → AreEvaluated flat inputs (shown_of request.all flat.variables) inputs.instants columns → HasNoFault flat inputs → (r : Result (String Global) Stop)
+pub shown_whole : (takes : FileFacts) (request : EvalRequest) (flat : FlatView) (inputs : InputsView) (columns : List OutputColumn) → AreEvaluated flat inputs (shown_of request.all flat.variables) inputs.instants columns → HasNoFault flat inputs → (r : Result (String Global) CallError)
     → IfOk r (λ text. string_bytes text ≡ shown_text request flat columns) → OnOk r (IsFiled takes request (wave_text request flat columns)) → IfOk r (λ text. IsShown takes request flat inputs (string_bytes text))
 shown_whole takes request flat inputs columns are fine (Ok text) is filed = record { columns = columns; are_columns = are; no_fault = fine; text_is = is; filed = filed }
 shown_whole takes request flat inputs columns are fine (Err stop) is filed = tt
 
 -- columns of the first instants that were dumped
-pub shown_before : {X : Type 0} (takes : FileFacts) (request : EvalRequest) (flat : FlatProgram) (inputs : Table) (n : ℕ) (columns : List OutputColumn) → AreEvaluated flat inputs (shown_of request.all flat.variables) n columns → (r : Result X Stop)
+pub shown_before : {X : Type 0} (takes : FileFacts) (request : EvalRequest) (flat : FlatView) (inputs : InputsView) (n : ℕ) (columns : List OutputColumn) → AreEvaluated flat inputs (shown_of request.all flat.variables) n columns → (r : Result X CallError)
     → OnOk r (IsFiled takes request (wave_text request flat columns)) → OnOk r (AreShownBefore takes request flat inputs n)
 shown_before takes request flat inputs n columns are (Ok x) filed = λ path wanted. record { columns = columns; are_columns = are; filed = filed path wanted }
 shown_before takes request flat inputs n columns are (Err stop) filed = tt
 
 -- a stop for the first fault
-pub told_stop : (request : EvalRequest) (flat : FlatProgram) (inputs : Table) (variable instant : ℕ) (kind : FaultKind) → ((σ : Streams) → IsSolution flat inputs σ → IsFirstFault flat inputs σ variable instant kind) → (stop : Stop) → IsStopFor flat variable instant kind stop → IsStopped request flat inputs stop
-told_stop request flat inputs variable instant kind told (CannotRead path) h = absurd h
-told_stop request flat inputs variable instant kind told (CannotWrite path) h = absurd h
-told_stop request flat inputs variable instant kind told NotAscii h = absurd h
-told_stop request flat inputs variable instant kind told (Syntax e) h = absurd h
-told_stop request flat inputs variable instant kind told (Rules e) h = absurd h
-told_stop request flat inputs variable instant kind told (Flat e) h = absurd h
-told_stop request flat inputs variable instant kind told (Place e) h = absurd h
-told_stop request flat inputs variable instant kind told (BadTable e) h = absurd h
-told_stop request flat inputs variable instant kind told (Schedule e) h = absurd h
-told_stop request flat inputs variable instant kind told (Fault name t k) h =
-    record { variable = variable; is = h.0; there = h.1; named = h.2; first = λ σ solves. subst (λ u. IsFirstFault flat inputs σ variable u k) (sym h.3) (subst (λ l. IsFirstFault flat inputs σ variable instant l) (sym h.4) (told σ solves)) }
-told_stop request flat inputs variable instant kind told LinkLost h = absurd h
-told_stop request flat inputs variable instant kind told NoThread h = absurd h
-told_stop request flat inputs variable instant kind told (Mistaken mistake) h = absurd h
-told_stop request flat inputs variable instant kind told OutOfMemory h = tt
+pub reported_stop : (request : EvalRequest) (flat : FlatView) (inputs : InputsView) (variable instant : ℕ) (kind : FaultKind) → ((σ : Streams) → IsSolution flat inputs σ → IsFirstFault flat inputs σ variable instant kind) → (stop : CallError) → IsStopFor flat variable instant kind stop → IsStopped request flat inputs stop
+reported_stop request flat inputs variable instant kind reported (CannotRead path) h = absurd h
+reported_stop request flat inputs variable instant kind reported (CannotWrite path) h = absurd h
+reported_stop request flat inputs variable instant kind reported NotAscii h = absurd h
+reported_stop request flat inputs variable instant kind reported (Syntax e) h = absurd h
+reported_stop request flat inputs variable instant kind reported (Rules e) h = absurd h
+reported_stop request flat inputs variable instant kind reported (Flat e) h = absurd h
+reported_stop request flat inputs variable instant kind reported (Place e) h = absurd h
+reported_stop request flat inputs variable instant kind reported (BadTable e) h = absurd h
+reported_stop request flat inputs variable instant kind reported (Schedule e) h = absurd h
+reported_stop request flat inputs variable instant kind reported (Fault name t k) h =
+    record { variable = variable; is = h.0; there = h.1; named = h.2; first = λ σ solves. subst (λ u. IsFirstFault flat inputs σ variable u k) (sym h.3) (subst (λ l. IsFirstFault flat inputs σ variable instant l) (sym h.4) (reported σ solves)) }
+reported_stop request flat inputs variable instant kind reported LinkLost h = absurd h
+reported_stop request flat inputs variable instant kind reported NoThread h = absurd h
+reported_stop request flat inputs variable instant kind reported (Mistaken mistake) h = absurd h
+reported_stop request flat inputs variable instant kind reported OutOfMemory h = tt
 
-pub told_shown : (takes : FileFacts) (request : EvalRequest) (flat : FlatProgram) (inputs : Table) (variable instant : ℕ) (kind : FaultKind) → AreShownBefore takes request flat inputs instant → (stop : Stop) → IsStopFor flat variable instant kind stop → IsShownTo takes request flat inputs stop
-told_shown takes request flat inputs variable instant kind before stop h =
+pub reported_shown : (takes : FileFacts) (request : EvalRequest) (flat : FlatView) (inputs : InputsView) (variable instant : ℕ) (kind : FaultKind) → AreShownBefore takes request flat inputs instant → (stop : CallError) → IsStopFor flat variable instant kind stop → IsShownTo takes request flat inputs stop
+reported_shown takes request flat inputs variable instant kind before stop h =
     let shown = λ (name : List ℕ) (t : ℕ) (k : FaultKind) (e : stop ≡ Fault name t k).
     let there : IsStopFor flat variable instant kind (Fault name t k) = subst (IsStopFor flat variable instant kind) e h in
     subst (λ u. AreShownBefore takes request flat inputs u) (sym there.3) before in

@@ -1,11 +1,11 @@
 -- What a run of a job gives, in the words of the program that was asked for.
 use Rattle.std.proofs.Common.{◌≡◌, ℕ, ◌<◌, List, length, false, Some, Result, Ok, Err, IfOk, IfErr, ◌⊎◌, MatchResult, refl, sym, ap, ◌∙◌, subst, inl, inr}
 use Rattle.std.specs.Prelude.{IsUtf8}
-use Rattle.luflow.specs.Tables.{Fits}
+use Rattle.luflow.specs.Tables.{FitsProgram}
 use Rattle.luflow.specs.Variables.{inputs_of}
 use Rattle.luflow.specs.Sound.{IsFit}
-use Rattle.luworld.specs.Needs.{Distribution}
-use Rattle.luworld.specs.Runs.{IsRun}
+use Rattle.luworld.specs.Needs.{PlanView}
+use Rattle.luworld.specs.Jobs.{IsJobView}
 use Rattle.lutab.specs.Table.{IsTextOf, is_too_long}
 use Rattle.lusdist_call.specs.Asked.{IsPlanFor}
 use Rattle.lusdist_answers.proofs.AskedFor.{job_is}
@@ -15,7 +15,7 @@ use Rattle.luflow.specs.Streams.{Broken, is_broken}
 use Rattle.luflow.specs.Solution.{solution}
 use Rattle.luflow.specs.Tables.{OutputColumn}
 use Rattle.luflow.proofs.Solutions.{IsSolution-solution}
-use Rattle.luworld.specs.Runs.{Run, NoFault, streams_of}
+use Rattle.luworld.specs.Jobs.{JobView, NoFault, streams_of}
 use Rattle.lueval.specs.Whole.{HasNoFault}
 use Rattle.lueval_lines.proofs.Faults.{fault_broken, fault_same}
 use Rattle.std.proofs.lemmas.Option.{slice_get_within}
@@ -26,21 +26,21 @@ use Rattle.lurun_reports.specs.declared.error.RunError.{RunError}
 use Rattle.lurun_reports.specs.declared.error.RunError.TheVariants as run
 use Rattle.lurun.specs.Answers.{IsRunAnswer}
 use Rattle.lurun_reports.specs.Reports.{AreComplete, AreOutputsOf as AreRunOutputs, HasOutput}
-use Rattle.lurun_threads.specs.Stations.{StationAt, sites_at}
+use Rattle.lurun_threads.specs.Stations.{StationView, sites_at}
 use Rattle.lusdist_shell.specs.declared.request.RunRequest.{RunRequest}
-use Rattle.lusdist_call.specs.declared.stop.Stop.{Stop}
-use Rattle.lusdist_call.specs.declared.stop.Stop.TheVariants.{CannotRead, CannotWrite, NotAscii, Syntax, Rules, Flat, Place, Table, Schedule, Fault, LinkLost, NoThread, OutOfMemory, Mistaken}
+use Rattle.lusdist_call.specs.declared.call_error.CallError.{CallError}
+use Rattle.lusdist_call.specs.declared.call_error.CallError.TheVariants.{CannotRead, CannotWrite, NotAscii, Syntax, Rules, Flat, Place, Table, Schedule, Fault, LinkLost, NoThread, OutOfMemory, Mistaken}
 use Rattle.lusdist_call.specs.Asked.{IsJobFor, IsRan}
 use Rattle.lusdist_call.specs.Evaluated.{AreOutputsOf}
 use Rattle.lusdist_call.specs.Ran.{IsRunError, IsStopOfRun, IsRunTable}
 use Rattle.lusdist_call.specs.Stopped.{IsRunFault, IsRunStopped}
 use Rattle.lusdist_call.specs.Stopped.IsRunStopped.{run_fault, run_lost, run_thread, run_memory}
-use Rattle.lusdist_answers.proofs.Tellings.{owner_of}
+use Rattle.lusdist_answers.proofs.TrueReports.{owner_of}
 use Rattle.lusdist_shell.specs.Files.{FileFacts}
 
 -- the job of a plan and a table that the files give
-pub job_found : (gives : FileFacts) (path place_path table_path main : List ℕ) (plan : Distribution) (table : List ℕ) → IsPlanFor gives path place_path main plan → gives table_path (Some table) → (result : Result Run Stop)
-    → IfOk result (λ job. job.plan ≡ plan) → IfOk result (λ job. IsTextOf plan.flat.types (inputs_of plan.flat.variables) job.inputs table) → IfOk result (λ _. is_too_long table ≡ false) → IfOk result (λ _. IsUtf8 table) → IfOk result (λ job. Fits plan.flat job.inputs) → IfOk result IsRun
+pub job_found : (gives : FileFacts) (path place_path table_path main : List ℕ) (plan : PlanView) (table : List ℕ) → IsPlanFor gives path place_path main plan → gives table_path (Some table) → (result : Result JobView CallError)
+    → IfOk result (λ job. job.plan ≡ plan) → IfOk result (λ job. IsTextOf plan.flat.types (inputs_of plan.flat.variables) job.inputs table) → IfOk result (λ _. is_too_long table ≡ false) → IfOk result (λ _. IsUtf8 table) → IfOk result (λ job. FitsProgram plan.flat job.inputs) → IfOk result IsJobView
     → IfOk result (IsJobFor gives path place_path table_path main)
 job_found gives path place_path table_path main plan table found given (Ok job) same text short utf8 fits run =
     record {
@@ -55,7 +55,7 @@ job_found gives path place_path table_path main plan table found given (Ok job) 
 job_found gives path place_path table_path main plan table found given (Err e) same text short utf8 fits run = tt
 
 -- what all stations of a job answer
-pub answer_is : (job : Run) (stations : List StationAt) (result : Result (List OutputColumn) RunError) → AreComplete job (sites_at stations) → HasOutput job → IsRunAnswer job stations result → MatchResult result (AreRunOutputs job) (IsRunError job)
+pub answer_is : (job : JobView) (stations : List StationView) (result : Result (List OutputColumn) RunError) → AreComplete job (sites_at stations) → HasOutput job → IsRunAnswer job stations result → MatchResult result (AreRunOutputs job) (IsRunError job)
 answer_is job stations (Ok outputs) complete some h = h.1
 answer_is job stations (Err (run.Fault variable instant kind)) complete some h = h.1
 answer_is job stations (Err run.OutOfMemory) complete some h = tt
@@ -65,19 +65,19 @@ answer_is job stations (Err run.WrongReports) complete some (inl never) = cc
 answer_is job stations (Err run.WrongReports) complete some (inr never) = never.1 some
 
 -- what a run by rows answers
-pub rows_answer_is : {A : Type 0} (P : A → Type 0) (job : Run) (result : Result A RunError) → IfOk result P → IfErr result (λ error. (error ≡ run.OutOfMemory) ⊎ (error ≡ run.NoThread)) → MatchResult result P (IsRunError job)
+pub rows_answer_is : {A : Type 0} (P : A → Type 0) (job : JobView) (result : Result A RunError) → IfOk result P → IfErr result (λ error. (error ≡ run.OutOfMemory) ⊎ (error ≡ run.NoThread)) → MatchResult result P (IsRunError job)
 rows_answer_is P job (Ok x) h none = h
 rows_answer_is P job (Err error) h (inl is) = subst (λ (e : RunError). IsRunError job e) (sym is) tt
 rows_answer_is P job (Err error) h (inr is) = subst (λ (e : RunError). IsRunError job e) (sym is) tt
 
 -- the variable of a fault at which a site stopped is one of the program's
-pub owner_inside : (job : Run) (site variable instant : ℕ) (kind : FaultKind) → IsFlat job.plan.flat → IsFaultAt job site (record { variable = variable; instant = instant; kind = kind }) → variable < length job.plan.flat.variables
+pub owner_inside : (job : JobView) (site variable instant : ℕ) (kind : FaultKind) → IsFlat job.plan.flat → IsFaultAt job site (record { variable = variable; instant = instant; kind = kind }) → variable < length job.plan.flat.variables
 owner_inside job site variable instant kind is at =
     let owner = owner_of job site (record { variable = variable; instant = instant; kind = kind }) is at in
     subst (λ v. v < length job.plan.flat.variables) owner.is owner.inside
 
 -- where no flow breaks, no operator is a fault
-no_fault_of : (job : Run) → IsFlat job.plan.flat → IsFit job.plan.flat job.inputs → NoFault job → HasNoFault job.plan.flat job.inputs
+no_fault_of : (job : JobView) → IsFlat job.plan.flat → IsFit job.plan.flat job.inputs → NoFault job → HasNoFault job.plan.flat job.inputs
 no_fault_of job is fit none σ solves i t kind early fault =
     let own = IsSolution-solution job.plan.flat job.inputs is.ordered in
     let same = fault_same job.plan.flat job.inputs σ is fit solves (streams_of job) own i t kind fault in
@@ -86,7 +86,7 @@ no_fault_of job is fit none σ solves i t kind early fault =
     let bad : is_broken Broken ≡ false = ap is_broken (sym broken) ∙ whole in
     absurd cc
 
-module _ (gives : FileFacts) (request : RunRequest) (job : Run) (asked : IsJobFor gives request.program.now request.place.now request.table.now request.main.now job) where
+module _ (gives : FileFacts) (request : RunRequest) (job : JobView) (asked : IsJobFor gives request.program.now request.place.now request.table.now request.main.now job) where
   pub outputs_are : (outputs : List OutputColumn) → AreRunOutputs job outputs → AreOutputsOf asked.job_is.flat.tree request.main.now job.plan.flat job.inputs outputs
   outputs_are outputs are =
       let source = asked.job_is.flat.flat_is in
@@ -121,7 +121,7 @@ module _ (gives : FileFacts) (request : RunRequest) (job : Run) (asked : IsJobFo
             (source.faults job.inputs σ (streams_of job) solves (IsSolution-solution job.plan.flat job.inputs source.is_flat.ordered) at.place owner.number instant kind owner.variable at.is owner.owner owner.there);
       }
 
-  pub run_stop : (stop : Stop) → IsStopOfRun job stop → IsRunStopped gives request stop
+  pub run_stop : (stop : CallError) → IsStopOfRun job stop → IsRunStopped gives request stop
   run_stop (CannotRead path) h = absurd h
   run_stop (CannotWrite path) h = absurd h
   run_stop NotAscii h = absurd h

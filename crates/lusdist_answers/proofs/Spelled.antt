@@ -8,7 +8,7 @@ use Rattle.lutree.specs.declared.program.Kind.TheVariants as kinds
 use Rattle.lutree.specs.Tree.{DeclarationTree, NodeTree, TypeTree, ProgramTree}
 use Rattle.luflow.specs.declared.variable.Enum.{Enum}
 use Rattle.luflow.specs.declared.variable.Variable.{Variable}
-use Rattle.luflow.specs.Program.{FlatProgram}
+use Rattle.luflow.specs.Program.{FlatView}
 use Rattle.luflow.specs.Types as flat_types
 use Rattle.luflow.specs.Variables.{variable_name}
 use Rattle.luflow.proofs.Solutions.{some_at}
@@ -21,7 +21,7 @@ use Rattle.lucore_laws.proofs.Names.{distinct, get-names, mapped_some, place_at,
 use Rattle.lucore_laws.proofs.NodeStatic.{first_is}
 use Rattle.lucore_laws.proofs.Roles.{main_declared}
 use Rattle.lucore.specs.Result.{IsFlatOf}
-use Rattle.lumeaning.specs.Telling.{names_of, names_told}
+use Rattle.lumeaning.specs.RunReports.{names_of, names_reported}
 
 -- the names of a type, of the source and of its flat program
 same_names : (types : List TypeTree) (kind : Kind) → flat_types.names_of (map enum_of types) kind ≡ names_of types (Some kind)
@@ -33,7 +33,7 @@ same_names types (kinds.Enum place size) = ap (λ o. unwrap_or (option_map (λ (
     go None = refl
     go (Some t) = refl
 
-module _ (program : ProgramTree) (main : List ℕ) (flat : FlatProgram) (is : IsFlatOf program main flat) where
+module _ (program : ProgramTree) (main : List ℕ) (flat : FlatView) (is : IsFlatOf program main flat) where
   abbrev node : NodeTree
   node = is.laid_out.node
 
@@ -53,7 +53,7 @@ module _ (program : ProgramTree) (main : List ℕ) (flat : FlatProgram) (is : Is
       let means : rules.meaning node d.0.name ≡ Some d.0 = first_is (declarations_of node) d.0.name ∙ ap (slice_get (declarations_of node)) at ∙ d.1 in
       ap (kind_of node) (sym d.3) ∙ ap (option_map (λ (d : DeclarationTree). d.kind)) means ∙ ap Some d.2
 
-  pub names_are : (v : ℕ) → v < length flat.variables → flat_types.variable_names flat v ≡ names_told program main (variable_name flat v)
+  pub names_are : (v : ℕ) → v < length flat.variables → flat_types.variable_names flat v ≡ names_reported program main (variable_name flat v)
   names_are v lt =
       let x = some_at flat.variables v lt in
       let named : variable_name flat v ≡ x.0.name = ap (λ o. unwrap_or (option_map (λ (y : Variable). y.name) o) []) x.1 in
@@ -63,4 +63,4 @@ module _ (program : ProgramTree) (main : List ℕ) (flat : FlatProgram) (is : Is
       ∙ ap (λ ts. flat_types.names_of ts x.0.kind) is.laid_out.types
       ∙ same_names program.types x.0.kind
       ∙ ap (names_of program.types) (sym kind)
-      ∙ ap (names_told program main) (sym named)
+      ∙ ap (names_reported program main) (sym named)

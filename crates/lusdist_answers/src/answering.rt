@@ -10,7 +10,7 @@ ghost use Rattle.lusdist_call.specs.Files.{IsUnwritten};
 ghost use Rattle.lusdist_call.specs.Waved.{IsRunDumped};
 ghost use Rattle.lusdist_call.specs.Stopped.{IsCheckStopped, IsEvalRefused, IsEvalStopped, IsPlanStopped, IsRunStopped};
 ghost use Rattle.lusdist_call.specs.Mistakes.{mistake_in};
-ghost use Rattle.lusdist_call.specs.declared.stop.Stop.{Stop};
+ghost use Rattle.lusdist_call.specs.declared.call_error.CallError.{CallError};
 
 use crate::evaluating::evaluation;
 use crate::jobs::job_for;
@@ -18,7 +18,7 @@ use crate::planning::{plan_text, planned};
 use crate::running::run_table;
 use crate::sources::{flat_at, flattened, inputs_at, program_of};
 use luflow::{Flat, Inputs};
-use lusdist_call::{Stop, mistake_in, read};
+use lusdist_call::{CallError, mistake_in, read};
 use lusdist_shell::{CheckRequest, EvalRequest, Files, PlanRequest, Progress, RunRequest};
 use lusyn::print_program;
 use std::alloc::Global;
@@ -31,7 +31,7 @@ pub fn check_text<F: Files>(
     alloc: Global,
     request: CheckRequest<'_>,
     files: &F,
-) -> Result<String, Stop>
+) -> Result<String, CallError>
     ensures text { IfOk result (λ text. IsChecked (F.gives files.now) request.entry
         (string_bytes text)) }
     ensures stopped { IfErr result (IsCheckStopped (F.gives files.now) request.entry) }
@@ -49,7 +49,7 @@ fn posed<F: Files>(
     alloc: Global,
     request: EvalRequest<'_>,
     files: &F,
-) -> Result<(Flat, Inputs), Stop>
+) -> Result<(Flat, Inputs), CallError>
     ensures posed { IfOk result (λ found. IsPosedBy (F.gives files.now) request.entry found.0
         found.1) }
     ensures fit { IfOk result (λ found. IsFit found.0 found.1) }
@@ -67,7 +67,7 @@ fn evaluated_text<F: Files>(
     alloc: Global,
     request: EvalRequest<'_>,
     files: &F,
-) -> Result<String, Stop>
+) -> Result<String, CallError>
     requires { mistake_in request ≡ None }
     ensures text { IfOk result (λ text. IsEvaluated (F.gives files.now) request.entry
         (string_bytes text)) }
@@ -85,7 +85,7 @@ pub fn eval_text<F: Files>(
     alloc: Global,
     request: EvalRequest<'_>,
     files: &F,
-) -> Result<String, Stop>
+) -> Result<String, CallError>
     ensures text { IfOk result (λ text. IsEvaluated (F.gives files.now) request.entry
         (string_bytes text)) }
     ensures filed { OnOk result (IsDumped (F.gives files.now) (F.takes files.now) request.entry) }
@@ -94,7 +94,7 @@ pub fn eval_text<F: Files>(
         request.entry) }
 {
     match mistake_in(request) {
-        Some(mistake) => Err(Stop::Mistaken(mistake)),
+        Some(mistake) => Err(CallError::Mistaken(mistake)),
         None => evaluated_text(alloc, request, files),
     }
 }
@@ -104,7 +104,7 @@ pub fn plan_answer<F: Files>(
     alloc: Global,
     request: PlanRequest<'_>,
     files: &F,
-) -> Result<String, Stop>
+) -> Result<String, CallError>
     ensures text { IfOk result (λ text. IsPlanned (F.gives files.now) request.entry
         (string_bytes text)) }
     ensures stopped { IfErr result (IsPlanStopped (F.gives files.now) request.entry) }
@@ -120,7 +120,7 @@ pub fn run_text<R: Threads + Wait + Clock + Sync, F: Files, P: Progress>(
     request: RunRequest<'_>,
     files: &F,
     progress: &P,
-) -> Result<String, Stop>
+) -> Result<String, CallError>
     requires { AreFew request.workers }
     ensures text { IfOk result (λ text. IsRan (F.gives files.now) request.entry
         (string_bytes text)) }

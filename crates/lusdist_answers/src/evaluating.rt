@@ -12,7 +12,7 @@ use lublock::block_outputs;
 use luchart::{chronogram, cut, dump};
 use lueval::{EvalError, whole_columns};
 use luflow::{FaultKind, Flat, Inputs, Outputs};
-use lusdist_call::{Stop, file_text};
+use lusdist_call::{CallError, file_text};
 use lusdist_shell::{EvalRequest, Files};
 use lutab::{shown_kinds, write_columns};
 use std::alloc::{AllocError, Global};
@@ -24,17 +24,17 @@ pub(crate) fn fault_stop(
     variable: usize,
     instant: u32,
     kind: FaultKind,
-) -> Stop
+) -> CallError
     requires { variable < length flat.now.variables }
     ensures { IsStopFor flat.now variable instant kind result }
 {
     match flat.variables()[variable].name.copied(alloc) {
-        Ok(name) => Stop::Fault {
+        Ok(name) => CallError::Fault {
             variable: name,
             instant,
             kind,
         },
-        Err(_) => Stop::OutOfMemory,
+        Err(_) => CallError::OutOfMemory,
     }
 }
 
@@ -153,7 +153,7 @@ fn file_wave<F: Files>(
     files: &F,
     flat: &Flat,
     columns: &Outputs,
-) -> Result<(), Stop>
+) -> Result<(), CallError>
     ensures filed { OnOk result (IsFiled (F.takes files.now) request.entry
         (wave_text request.entry flat.now columns.now)) }
     ensures stopped { IfErr result (IsUnfiled (F.takes files.now) request.entry) }
@@ -173,7 +173,7 @@ fn file_part<F: Files>(
     flat: &Flat,
     inputs: &Inputs,
     instant: u32,
-) -> Result<(), Stop>
+) -> Result<(), CallError>
     requires some { 0 < length (outputs_of flat.now.variables) }
     requires fit { IsFit flat.now inputs.now }
     requires early { instant ≤ inputs.now.instants }
@@ -194,7 +194,7 @@ fn file_before<F: Files>(
     flat: &Flat,
     inputs: &Inputs,
     instant: u32,
-) -> Result<(), Stop>
+) -> Result<(), CallError>
     requires some { 0 < length (outputs_of flat.now.variables) }
     requires fit { IsFit flat.now inputs.now }
     requires early { instant ≤ inputs.now.instants }
@@ -216,7 +216,7 @@ fn shown<F: Files>(
     files: &F,
     flat: &Flat,
     columns: &Outputs,
-) -> Result<String, Stop>
+) -> Result<String, CallError>
     ensures text { IfOk result (λ text. string_bytes text
         ≡ shown_text request.entry flat.now columns.now) }
     ensures filed { OnOk result (IsFiled (F.takes files.now) request.entry
@@ -237,10 +237,10 @@ fn faulted<F: Files>(
     flat: &Flat,
     inputs: &Inputs,
     fault: (usize, u32, FaultKind),
-) -> Stop
+) -> CallError
     requires some { 0 < length (outputs_of flat.now.variables) }
     requires fit { IsFit flat.now inputs.now }
-    requires told { IsAnswer flat.now inputs.now (Fault fault.0 fault.1 fault.2) }
+    requires reported { IsAnswer flat.now inputs.now (Fault fault.0 fault.1 fault.2) }
     ensures stopped { IsStopped request.entry flat.now inputs.now result }
     ensures before { IsShownTo (F.takes files.now) request.entry flat.now inputs.now result }
 {
@@ -260,7 +260,7 @@ pub fn evaluation<F: Files>(
     files: &F,
     flat: &Flat,
     inputs: &Inputs,
-) -> Result<String, Stop>
+) -> Result<String, CallError>
     requires fit { IsFit flat.now inputs.now }
     requires some { 0 < length (outputs_of flat.now.variables) }
     ensures text { IfOk result (λ text. IsShown (F.takes files.now) request.entry flat.now
@@ -271,7 +271,7 @@ pub fn evaluation<F: Files>(
 {
     match columns_of(alloc, flat, inputs, request.all) {
         Ok(columns) => shown(alloc, request, files, flat, &columns),
-        Err(EvalError::OutOfMemory) => Err(Stop::OutOfMemory),
+        Err(EvalError::OutOfMemory) => Err(CallError::OutOfMemory),
         Err(
             EvalError::Fault {
                 variable,

@@ -9,7 +9,7 @@ ghost use Rattle.lusdist_call.specs.Waved.{IsWorldDumped, IsWorldFiled, replay_p
 use luchart::signal::signals_of;
 use luflow::Outputs;
 use luplace::Plan;
-use lusdist_call::{Stop, file_text};
+use lusdist_call::{CallError, file_text};
 use lusdist_shell::{Files, ReplayRequest, RunRequest};
 use lutab::shown_kinds;
 use luweave::World;
@@ -33,7 +33,7 @@ pub(crate) fn file_run<F: Files>(
     files: &F,
     plan: &Plan,
     outputs: &Outputs,
-) -> Result<(), Stop>
+) -> Result<(), CallError>
     ensures filed { OnOk result (IsFiledAt (F.takes files.now) (run_path request.entry)
         (run_dump request.entry.main.now plan.now outputs.now)) }
     ensures stopped { IfErr result (IsUnfiledAt (F.takes files.now) (run_path request.entry)) }
@@ -63,7 +63,7 @@ fn file_world_at<F: Files>(
     plan: &Plan,
     world: &World,
     path: &str,
-) -> Result<(), Stop>
+) -> Result<(), CallError>
     requires { world.now.job.plan ≡ plan.now }
     ensures filed { OnOk result (IsWorldFiled (F.takes files.now) main.now world.now path.now) }
     ensures stopped { IfErr result (IsUnfiledAt (F.takes files.now) (Some path.now)) }
@@ -79,7 +79,7 @@ pub(crate) fn file_world<F: Files>(
     files: &F,
     plan: &Plan,
     world: &World,
-) -> Result<(), Stop>
+) -> Result<(), CallError>
     requires { world.now.job.plan ≡ plan.now }
     ensures filed { OnOk result (IsWorldDumped (F.takes files.now) request.entry world.now) }
     ensures stopped { IfErr result (IsUnfiledAt (F.takes files.now) (replay_path request.entry)) }

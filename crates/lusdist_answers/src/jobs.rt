@@ -8,7 +8,7 @@ ghost use Rattle.lusdist_call.specs.Stopped.{StopsAtJob};
 use crate::planning::planned;
 use crate::sources::job_of;
 use luplace::Job;
-use lusdist_call::{Stop, read};
+use lusdist_call::{CallError, read};
 use lusdist_shell::Files;
 use std::alloc::Global;
 
@@ -20,7 +20,7 @@ pub fn job_for<F: Files>(
     place: &str,
     table: &str,
     main: &str,
-) -> Result<Job, Stop>
+) -> Result<Job, CallError>
     ensures job { IfOk result (IsJobFor (F.gives files.now) program.now place.now table.now
         main.now) }
     ensures some { IfOk result (λ job. 0 < length (outputs_of job.plan.flat.variables)) }

@@ -10,7 +10,7 @@
 //!   on threads.
 //! - `filing`: dumps, each into the file that a request names.
 //! - [`explaining`]: a page of the manual. `reasons`: why a text is refused; `refusals`: what is printed of that.
-//! - [`Stop`], [`Mistake`] of `lusdist_call`: why a call stops.
+//! - [`CallError`], [`Mistake`] of `lusdist_call`: why a call stops.
 //! - [`laws`]: a call has one outcome, one refusal and one status.
 #![tactic(auto)]
 
@@ -28,6 +28,6 @@ pub mod running;
 mod serve;
 pub mod sources;
 
-pub use lusdist_call::{Mistake, Stop};
+pub use lusdist_call::{CallError, Mistake};
 pub use replaying::replayed;
 pub use serve::serve;

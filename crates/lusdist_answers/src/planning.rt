@@ -4,12 +4,12 @@ ghost use Rattle.std.specs.Prelude.{◌≡◌, [], ◌∷◌, ◌++◌, IfOk, If
 ghost use Rattle.luplace_report.specs.Report.{report_text};
 ghost use Rattle.lusdist_call.specs.Asked.{IsPlanFor, IsPlanText};
 ghost use Rattle.lusdist_call.specs.Stopped.{StopsAtPlan};
-ghost use Rattle.lusdist_call.specs.declared.stop.Stop.TheVariants.{OutOfMemory};
+ghost use Rattle.lusdist_call.specs.declared.call_error.CallError.TheVariants.{OutOfMemory};
 
 use crate::sources::{flat_at, plan_of};
 use luplace::Plan;
 use luplace_report::{report_dot, report_json, report_table};
-use lusdist_call::{Stop, read};
+use lusdist_call::{CallError, read};
 use lusdist_shell::{Files, PlanForm};
 use std::alloc::{AllocError, Global};
 
@@ -20,7 +20,7 @@ pub fn planned<F: Files>(
     program: &str,
     place: &str,
     main: &str,
-) -> Result<Plan, Stop>
+) -> Result<Plan, CallError>
     ensures plan { IfOk result (IsPlanFor (F.gives files.now) program.now place.now main.now) }
     ensures stopped { IfErr result (StopsAtPlan (F.gives files.now) program.now place.now
         main.now) }
@@ -53,7 +53,7 @@ fn formed(alloc: Global, plan: &Plan, form: PlanForm) -> Result<String, AllocErr
 }
 
 /// A plan as a report, a table or a graph.
-pub fn plan_text(alloc: Global, plan: &Plan, form: PlanForm) -> Result<String, Stop>
+pub fn plan_text(alloc: Global, plan: &Plan, form: PlanForm) -> Result<String, CallError>
     ensures text { IfOk result (λ text. IsPlanText form plan.now (string_bytes text)) }
     ensures memory { IfErr result (λ stop. stop ≡ OutOfMemory) }
 {

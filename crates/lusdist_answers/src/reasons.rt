@@ -2,7 +2,7 @@
 
 ghost use Rattle.std.specs.Prelude.{◌≡◌, IfOk, string_bytes};
 ghost use Rattle.lusdist_call.specs.Reasons.{program_path, place_path, table_path, schedule_path, blamed_path, IsReason};
-ghost use Rattle.lusdist_call.specs.declared.stop.Stop.TheVariants as stops;
+ghost use Rattle.lusdist_call.specs.declared.call_error.CallError.TheVariants as stops;
 ghost use Rattle.lucore.specs.declared.error.CoreError.TheVariants as flats;
 
 use crate::sources::program_of;
@@ -10,7 +10,7 @@ use lucore::CoreError;
 use luexplain::{of_cycle, of_fault, of_place, of_rule, of_schedule, of_size, of_syntax, of_table};
 use luflow::FaultKind;
 use luplace_file::PlaceError;
-use lusdist_call::{Stop, read};
+use lusdist_call::{CallError, read};
 use lusdist_shell::{Files, Request, ScheduleError};
 use lustat_rules::StatError;
 use lusyn::SynError;
@@ -60,18 +60,23 @@ fn asked_in<'a>(request: Request<'a>) -> Asked<'a>
 }
 
 /// Why a text is no program.
-fn of_text<F: Files>(alloc: Global, files: &F, path: &str, error: &SynError) -> Result<String, Stop>
-    ensures { IfOk result (λ told. IsReason (F.gives files.now) path.now (stops.Syntax error.now)
-        (string_bytes told)) }
+fn of_text<F: Files>(
+    alloc: Global,
+    files: &F,
+    path: &str,
+    error: &SynError,
+) -> Result<String, CallError>
+    ensures { IfOk result (λ reported. IsReason (F.gives files.now) path.now (stops.Syntax error.now)
+        (string_bytes reported)) }
 {
     let text = read(alloc, files, path)?;
     Ok(of_syntax(alloc, path, &text, error)?)
 }
 
 /// Why a program's file isn't even text.
-fn of_bytes<F: Files>(alloc: Global, files: &F, path: &str) -> Result<String, Stop>
-    ensures { IfOk result (λ told. IsReason (F.gives files.now) path.now stops.NotAscii
-        (string_bytes told)) }
+fn of_bytes<F: Files>(alloc: Global, files: &F, path: &str) -> Result<String, CallError>
+    ensures { IfOk result (λ reported. IsReason (F.gives files.now) path.now stops.NotAscii
+        (string_bytes reported)) }
 {
     let text = read(alloc, files, path)?;
     Ok(of_syntax(alloc, path, &text, &SynError::NotAscii)?)
@@ -84,9 +89,9 @@ fn of_rules<F: Files>(
     path: &str,
     main: &str,
     error: &StatError,
-) -> Result<String, Stop>
-    ensures { IfOk result (λ told. IsReason (F.gives files.now) path.now (stops.Rules error.now)
-        (string_bytes told)) }
+) -> Result<String, CallError>
+    ensures { IfOk result (λ reported. IsReason (F.gives files.now) path.now (stops.Rules error.now)
+        (string_bytes reported)) }
 {
     let text = read(alloc, files, path)?;
     let program = program_of(alloc, &text)?;
@@ -100,9 +105,9 @@ fn of_flat<F: Files>(
     path: &str,
     main: &str,
     error: &CoreError,
-) -> Result<String, Stop>
-    ensures { IfOk result (λ told. IsReason (F.gives files.now) path.now (stops.Flat error.now)
-        (string_bytes told)) }
+) -> Result<String, CallError>
+    ensures { IfOk result (λ reported. IsReason (F.gives files.now) path.now (stops.Flat error.now)
+        (string_bytes reported)) }
 {
     let text = read(alloc, files, path)?;
     match error {
@@ -111,7 +116,7 @@ fn of_flat<F: Files>(
             Ok(of_cycle(alloc, path, &text, &program, main, variable.as_str())?)
         }
         CoreError::TooLarge => Ok(of_size(alloc, path)?),
-        CoreError::OutOfMemory => Err(Stop::OutOfMemory),
+        CoreError::OutOfMemory => Err(CallError::OutOfMemory),
     }
 }
 
@@ -124,9 +129,9 @@ fn of_value<F: Files>(
     variable: &str,
     instant: u32,
     kind: FaultKind,
-) -> Result<String, Stop>
-    ensures { IfOk result (λ told. IsReason (F.gives files.now) path.now
-        (stops.Fault variable.now instant kind) (string_bytes told)) }
+) -> Result<String, CallError>
+    ensures { IfOk result (λ reported. IsReason (F.gives files.now) path.now
+        (stops.Fault variable.now instant kind) (string_bytes reported)) }
 {
     let text = read(alloc, files, path)?;
     let program = program_of(alloc, &text)?;
@@ -134,7 +139,7 @@ fn of_value<F: Files>(
 }
 
 /// The program of a file that is read again.
-fn program_at<F: Files>(alloc: Global, files: &F, path: &str) -> Result<Program, Stop> {
+fn program_at<F: Files>(alloc: Global, files: &F, path: &str) -> Result<Program, CallError> {
     let text = read(alloc, files, path)?;
     program_of(alloc, &text)
 }
@@ -145,9 +150,9 @@ fn of_placement<F: Files>(
     files: &F,
     asked: Asked<'_>,
     error: &PlaceError,
-) -> Result<String, Stop>
-    ensures { IfOk result (λ told. IsReason (F.gives files.now) asked.entry.place.now
-        (stops.Place error.now) (string_bytes told)) }
+) -> Result<String, CallError>
+    ensures { IfOk result (λ reported. IsReason (F.gives files.now) asked.entry.place.now
+        (stops.Place error.now) (string_bytes reported)) }
 {
     let program = program_at(alloc, files, asked.program)?;
     let text = read(alloc, files, asked.place)?;
@@ -160,9 +165,9 @@ fn of_inputs<F: Files>(
     files: &F,
     asked: Asked<'_>,
     error: &TabError,
-) -> Result<String, Stop>
-    ensures { IfOk result (λ told. IsReason (F.gives files.now) asked.entry.table.now
-        (stops.Table error.now) (string_bytes told)) }
+) -> Result<String, CallError>
+    ensures { IfOk result (λ reported. IsReason (F.gives files.now) asked.entry.table.now
+        (stops.Table error.now) (string_bytes reported)) }
 {
     let program = program_at(alloc, files, asked.program)?;
     let text = read(alloc, files, asked.table)?;
@@ -175,9 +180,9 @@ fn of_turns<F: Files>(
     files: &F,
     path: &str,
     error: &ScheduleError,
-) -> Result<String, Stop>
-    ensures { IfOk result (λ told. IsReason (F.gives files.now) path.now
-        (stops.Schedule error.now) (string_bytes told)) }
+) -> Result<String, CallError>
+    ensures { IfOk result (λ reported. IsReason (F.gives files.now) path.now
+        (stops.Schedule error.now) (string_bytes reported)) }
 {
     let text = read(alloc, files, path)?;
     Ok(of_schedule(alloc, path, &text, error)?)
@@ -188,21 +193,21 @@ pub fn reason<F: Files>(
     alloc: Global,
     files: &F,
     request: Request<'_>,
-    stop: &Stop,
-) -> Result<String, Stop>
-    ensures { IfOk result (λ told. IsReason (F.gives files.now)
-        (blamed_path request.entry stop.now) stop.now (string_bytes told)) }
+    stop: &CallError,
+) -> Result<String, CallError>
+    ensures { IfOk result (λ reported. IsReason (F.gives files.now)
+        (blamed_path request.entry stop.now) stop.now (string_bytes reported)) }
 {
     let asked = asked_in(request);
     match stop {
-        Stop::NotAscii => of_bytes(alloc, files, asked.program),
-        Stop::Syntax(e) => of_text(alloc, files, asked.program, e),
-        Stop::Rules(e) => of_rules(alloc, files, asked.program, asked.main, e),
-        Stop::Flat(e) => of_flat(alloc, files, asked.program, asked.main, e),
-        Stop::Place(e) => of_placement(alloc, files, asked, e),
-        Stop::Table(e) => of_inputs(alloc, files, asked, e),
-        Stop::Schedule(e) => of_turns(alloc, files, asked.schedule, e),
-        Stop::Fault {
+        CallError::NotAscii => of_bytes(alloc, files, asked.program),
+        CallError::Syntax(e) => of_text(alloc, files, asked.program, e),
+        CallError::Rules(e) => of_rules(alloc, files, asked.program, asked.main, e),
+        CallError::Flat(e) => of_flat(alloc, files, asked.program, asked.main, e),
+        CallError::Place(e) => of_placement(alloc, files, asked, e),
+        CallError::Table(e) => of_inputs(alloc, files, asked, e),
+        CallError::Schedule(e) => of_turns(alloc, files, asked.schedule, e),
+        CallError::Fault {
             variable,
             instant,
             kind,
@@ -215,6 +220,6 @@ pub fn reason<F: Files>(
             *instant,
             *kind,
         ),
-        _ => Err(Stop::OutOfMemory),
+        _ => Err(CallError::OutOfMemory),
     }
 }

@@ -1,10 +1,10 @@
 //! A refusal on the error stream: its line, and its reason behind it where that is asked for.
 
 ghost use Rattle.std.specs.Prelude.{◌≡◌, string_bytes};
-ghost use Rattle.lusdist_call.specs.Reasons.{asks_why, IsToldBehind, HasRefusal};
+ghost use Rattle.lusdist_call.specs.Reasons.{asks_why, IsReportedBehind, HasRefusal};
 
 use crate::reasons::reason;
-use lusdist_call::Stop;
+use lusdist_call::CallError;
 use lusdist_shell::{Files, Request, Sink};
 use std::alloc::Global;
 use std::io::Write;
@@ -25,14 +25,19 @@ fn asks_why(request: Request<'_>) -> bool
 
 /// What goes behind the line of a refusal: where the request asks for it, where that stands in the text that is to blame, what is wrong there, and how
 /// to mend it. The texts are read once more. Nothing where no text is to blame, where its file can't be read again, or where memory runs out.
-fn told_behind<F: Files>(alloc: Global, files: &F, request: Request<'_>, stop: &Stop) -> String
-    ensures { IsToldBehind (F.gives files.now) request.entry stop.now (string_bytes result) }
+fn reported_behind<F: Files>(
+    alloc: Global,
+    files: &F,
+    request: Request<'_>,
+    stop: &CallError,
+) -> String
+    ensures { IsReportedBehind (F.gives files.now) request.entry stop.now (string_bytes result) }
 {
     if !asks_why(request) {
         return String::new(alloc);
     }
     match reason(alloc, files, request, stop) {
-        Ok(told) => told,
+        Ok(reported) => reported,
         Err(_) => String::new(alloc),
     }
 }
@@ -42,17 +47,17 @@ pub fn put_refusal<F: Files, V: Write>(
     alloc: Global,
     files: &F,
     request: Request<'_>,
-    stop: Stop,
+    stop: CallError,
     err: &mut Sink<V>,
 )
     ensures { HasRefusal (F.gives files.now) request.entry stop V.contents err.old err.new }
 {
-    let told = told_behind(alloc, files, request, &stop);
-    if told.is_empty() {
+    let reported = reported_behind(alloc, files, request, &stop);
+    if reported.is_empty() {
         err.put_line(stop);
         return;
     }
-    match format!(in alloc; "{stop}\n{told}") {
+    match format!(in alloc; "{stop}\n{reported}") {
         Ok(text) => err.put(text.as_bytes()),
         Err(_) => err.put_line(stop),
     }

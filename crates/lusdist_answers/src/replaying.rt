@@ -8,14 +8,14 @@ ghost use Rattle.lusdist_call.specs.Evaluated.{IsNoFault};
 ghost use Rattle.lusdist_call.specs.Files.{IsUnfiledAt, IsUnwritten};
 ghost use Rattle.lusdist_call.specs.Waved.{AreWaved, IsReplayDumped, replay_path};
 ghost use Rattle.lusdist_call.specs.Stopped.{IsReplayStopped};
-ghost use Rattle.lusdist_call.specs.declared.stop.Stop.{Stop};
-ghost use Rattle.lusdist_call.specs.declared.stop.Stop.TheVariants.{OutOfMemory};
+ghost use Rattle.lusdist_call.specs.declared.call_error.CallError.{CallError};
+ghost use Rattle.lusdist_call.specs.declared.call_error.CallError.TheVariants.{OutOfMemory};
 
 use crate::filing::file_world;
 use crate::jobs::job_for;
 use crate::sources::turns_at;
 use luplace::Job;
-use lusdist_call::{Said, Stop};
+use lusdist_call::{CallError, Reply};
 use lusdist_shell::{Files, ReplayRequest, TurnsForm};
 use luweave::{World, new_sites, replay};
 use luweave_text::{TraceForm, text_of_world, trace};
@@ -26,7 +26,7 @@ fn job_and_turns<F: Files>(
     alloc: Global,
     request: ReplayRequest<'_>,
     files: &F,
-) -> Result<(Job, Vec<u8>), Stop>
+) -> Result<(Job, Vec<u8>), CallError>
     ensures asked { IfOk result (λ found. IsAskedFor (F.gives files.now) request.entry found.0
         found.1.items) }
     ensures stopped { IfErr result (IsReplayStopped (F.gives files.now) request.entry) }
@@ -45,7 +45,7 @@ fn job_and_turns<F: Files>(
 }
 
 /// The world that the turns make of a job's new sites; where it is to be finished, after more turns, until none moves.
-pub fn replayed(alloc: Global, job: &Job, turns: &[u8], finish: bool) -> Result<World, Stop>
+pub fn replayed(alloc: Global, job: &Job, turns: &[u8], finish: bool) -> Result<World, CallError>
     ensures world { IfOk result (IsWorldOf job.now turns.now finish) }
     ensures faithful { IfOk result (λ world. IsFaithful world.job world.dones) }
     ensures memory { IfErr result (λ stop. stop ≡ OutOfMemory) }
@@ -66,7 +66,7 @@ fn traced(
     turns: &[u8],
     finish: bool,
     form: TraceForm,
-) -> Result<(World, String), Stop>
+) -> Result<(World, String), CallError>
     ensures world { IfOk result (λ x. IsWorldOf job.now turns.now finish x.0) }
     ensures faithful { IfOk result (λ x. IsFaithful x.0.job x.0.dones) }
     ensures notes { IfOk result (λ x. IsTraced job.now turns.now finish form x.0.dones
@@ -85,7 +85,7 @@ fn noted(
     turns: &[u8],
     finish: bool,
     form: TurnsForm,
-) -> Result<(World, String), Stop>
+) -> Result<(World, String), CallError>
     ensures world { IfOk result (λ x. IsWorldOf job.now turns.now finish x.0) }
     ensures faithful { IfOk result (λ x. IsFaithful x.0.job x.0.dones) }
     ensures notes { IfOk result (λ x. AreNotesOf job.now turns.now finish form x.0.dones
@@ -109,7 +109,7 @@ fn printed<F: Files>(
     files: &F,
     job: &Job,
     turns: &[u8],
-) -> Result<Said, Stop>
+) -> Result<Reply, CallError>
     ensures text { IfOk result (λ a. IsPrinted job.now turns.now request.entry.finish
         (string_bytes a.text)) }
     ensures notes { IfOk result (λ a. (dones : List ℕ) × AreNotesOf job.now turns.now
@@ -120,7 +120,7 @@ fn printed<F: Files>(
     let (world, notes) = noted(alloc, job, turns, request.finish, request.turns)?;
     let text = text_of_world(alloc, job.plan(), &world)?;
     file_world(alloc, request, files, job.plan(), &world)?;
-    Ok(Said { text, notes })
+    Ok(Reply { text, notes })
 }
 
 /// What a replay prints.
@@ -128,7 +128,7 @@ pub fn replay_answer<F: Files>(
     alloc: Global,
     request: ReplayRequest<'_>,
     files: &F,
-) -> Result<Said, Stop>
+) -> Result<Reply, CallError>
     ensures text { IfOk result (λ a. IsReplayed (F.gives files.now) request.entry
         (string_bytes a.text)) }
     ensures notes { IfOk result (λ a. IsNotedReplay (F.gives files.now) request.entry

@@ -15,7 +15,7 @@ use luflow::Outputs;
 use luplace::{Job, Plan};
 use lurun::{Gate, RunError, run_crew, run_threads, stations};
 use lurun_rows::{row_stations, run_rows};
-use lusdist_call::Stop;
+use lusdist_call::CallError;
 use lusdist_shell::{Files, Progress, RunRequest};
 use lutab::write_outputs;
 use std::alloc::Global;
@@ -120,7 +120,7 @@ fn outputs_of_run<R: Threads + Wait + Clock + Sync, P: Progress>(
 }
 
 /// The stop for a run that has no outputs.
-fn stop_of(alloc: Global, job: &Job, error: RunError) -> Stop
+fn stop_of(alloc: Global, job: &Job, error: RunError) -> CallError
     requires { IsRunError job.now error }
     ensures { IsStopOfRun job.now result }
 {
@@ -131,9 +131,9 @@ fn stop_of(alloc: Global, job: &Job, error: RunError) -> Stop
             instant,
             kind,
         } => fault_stop(alloc, flat, variable, instant, kind),
-        RunError::OutOfMemory => Stop::OutOfMemory,
-        RunError::LinkLost => Stop::LinkLost,
-        RunError::NoThread => Stop::NoThread,
+        RunError::OutOfMemory => CallError::OutOfMemory,
+        RunError::LinkLost => CallError::LinkLost,
+        RunError::NoThread => CallError::NoThread,
         RunError::WrongReports => unreachable!(),
     }
 }
@@ -147,7 +147,7 @@ fn run_outputs<R: Threads + Wait + Clock + Sync, P: Progress>(
     workers: Option<u8>,
     items: bool,
     progress: Option<&P>,
-) -> Result<Outputs, Stop>
+) -> Result<Outputs, CallError>
     requires few { AreFew workers }
     requires some { 0 < length (outputs_of job.now.plan.flat.variables) }
     ensures outputs { IfOk result (AreOutputsOf job.now) }
@@ -160,13 +160,13 @@ fn run_outputs<R: Threads + Wait + Clock + Sync, P: Progress>(
 }
 
 /// The table of a run's outputs. The file of their dump is written first, where the request asks for one.
-fn told_outputs<F: Files>(
+fn reported_outputs<F: Files>(
     alloc: Global,
     request: RunRequest<'_>,
     files: &F,
     plan: &Plan,
     outputs: &Outputs,
-) -> Result<String, Stop>
+) -> Result<String, CallError>
     ensures text { IfOk result (λ text. string_bytes text
         ≡ output_text plan.now.flat outputs.now) }
     ensures filed { OnOk result (IsFiledAt (F.takes files.now) (run_path request.entry)
@@ -187,7 +187,7 @@ pub fn run_table<R: Threads + Wait + Clock + Sync, F: Files, P: Progress>(
     files: &F,
     progress: &P,
     job: &Job,
-) -> Result<String, Stop>
+) -> Result<String, CallError>
     requires few { AreFew request.workers }
     requires some { 0 < length (outputs_of job.now.plan.flat.variables) }
     ensures text { IfOk result (λ text. IsRunTable job.now (string_bytes text)) }
@@ -197,5 +197,5 @@ pub fn run_table<R: Threads + Wait + Clock + Sync, F: Files, P: Progress>(
 {
     let asked = request.progress.then_some(progress);
     let outputs = run_outputs(rt, alloc, job, request.workers, request.items, asked)?;
-    told_outputs(alloc, request, files, job.plan(), &outputs)
+    reported_outputs(alloc, request, files, job.plan(), &outputs)
 }

@@ -13,7 +13,7 @@ use crate::answering::{check_text, eval_text, plan_answer, run_text};
 use crate::explaining::explained;
 use crate::refusals::put_refusal;
 use crate::replaying::replay_answer;
-use lusdist_call::{Said, Stop, put_said};
+use lusdist_call::{CallError, Reply, put_reply};
 use lusdist_shell::{Files, Progress, Request, Sink, parse, put_mistake};
 use std::alloc::Global;
 use std::io::Write;
@@ -28,7 +28,7 @@ fn answer<R: Threads + Wait + Clock + Sync, F: Files, P: Progress>(
     request: Request<'_>,
     files: &F,
     progress: &P,
-) -> Result<Said, Stop>
+) -> Result<Reply, CallError>
     requires { HasFewWorkers request }
     ensures text { IfOk result (λ a. IsAnswer (F.gives files.now) request.entry
         (string_bytes a.text)) }
@@ -40,15 +40,15 @@ fn answer<R: Threads + Wait + Clock + Sync, F: Files, P: Progress>(
         request.entry) }
 {
     match request {
-        Request::Check(request) => Ok(Said::plain(alloc, check_text(alloc, request, files)?)),
-        Request::Eval(request) => Ok(Said::plain(alloc, eval_text(alloc, request, files)?)),
-        Request::Plan(request) => Ok(Said::plain(alloc, plan_answer(alloc, request, files)?)),
+        Request::Check(request) => Ok(Reply::plain(alloc, check_text(alloc, request, files)?)),
+        Request::Eval(request) => Ok(Reply::plain(alloc, eval_text(alloc, request, files)?)),
+        Request::Plan(request) => Ok(Reply::plain(alloc, plan_answer(alloc, request, files)?)),
         Request::Replay(request) => replay_answer(alloc, request, files),
         Request::Run(request) => {
             let text = run_text(rt, alloc, request, files, progress)?;
-            Ok(Said::plain(alloc, text))
+            Ok(Reply::plain(alloc, text))
         }
-        Request::Explain(request) => Ok(Said::plain(alloc, explained(alloc, request)?)),
+        Request::Explain(request) => Ok(Reply::plain(alloc, explained(alloc, request)?)),
     }
 }
 
@@ -73,7 +73,7 @@ fn perform<R: Threads + Wait + Clock + Sync, F: Files, P: Progress, W: Write, V:
     }) }
 {
     match answer(rt, alloc, request, files, progress) {
-        Ok(found) => put_said(out, err, &found),
+        Ok(found) => put_reply(out, err, &found),
         Err(stop) => {
             let status = stop.status();
             put_refusal(alloc, files, request, stop, err);

@@ -8,19 +8,19 @@ ghost use Rattle.lusdist_shell.specs.ScheduleText.{schedule_of};
 ghost use Rattle.lusyn.specs.Places.{ArePlacesOf};
 ghost use Rattle.lusyn.specs.Texts.{SpellsText};
 ghost use Rattle.luflow.specs.Sound.{IsFit};
-ghost use Rattle.luflow.specs.Tables.{Fits};
+ghost use Rattle.luflow.specs.Tables.{FitsProgram};
 ghost use Rattle.luflow.specs.Variables.{inputs_of};
-ghost use Rattle.luworld.specs.Runs.{IsRun};
+ghost use Rattle.luworld.specs.Jobs.{IsJobView};
 ghost use Rattle.lutab.specs.Table.{IsTextOf, is_too_long};
 ghost use Rattle.lusdist_call.specs.Asked.{AreTurnsAt, HasFlat, IsFlatAt, IsPlanOfText, IsTableAt};
-ghost use Rattle.lusdist_call.specs.Refused.{IsToldOf, IsProgramRefused, IsPlaceRefused, IsTableRefused};
+ghost use Rattle.lusdist_call.specs.Refused.{IsReportedOf, IsProgramRefused, IsPlaceRefused, IsTableRefused};
 ghost use Rattle.lusdist_call.specs.Stopped.{HasNoFlat, IsScheduleRefused, StopsAtProgram, StopsAtSchedule, StopsAtTable};
 
 use lucore::flatten;
 use luflow::{Flat, Inputs};
 use luplace::{Job, Plan};
 use luplace_file::{PlaceError, read_place};
-use lusdist_call::{Stop, read};
+use lusdist_call::{CallError, read};
 use lusdist_shell::{Files, read_schedule, text_of};
 use lustat::check;
 use lusyn::read_program;
@@ -29,38 +29,38 @@ use lutree::Program;
 use std::alloc::Global;
 
 /// The program that the bytes of a program's file spell.
-pub fn program_of(alloc: Global, bytes: &[u8]) -> Result<Program, Stop>
+pub fn program_of(alloc: Global, bytes: &[u8]) -> Result<Program, CallError>
     ensures spelled { IfOk result (λ program. SpellsText bytes.now (program_view program)) }
     ensures places { IfOk result (λ program. ArePlacesOf bytes.now (places_view program)) }
     ensures refused { IfErr result (IsProgramRefused bytes.now) }
 {
     let Some(text) = text_of(bytes) else {
-        return Err(Stop::NotAscii);
+        return Err(CallError::NotAscii);
     };
     match read_program(alloc, text) {
         Ok(program) => Ok(program),
-        Err(e) => Err(Stop::Syntax(e)),
+        Err(e) => Err(CallError::Syntax(e)),
     }
 }
 
 /// The flat program of a program, from its main node of this name, where the program keeps all rules.
-pub fn flattened(alloc: Global, program: &Program, main: &str) -> Result<Flat, Stop>
+pub fn flattened(alloc: Global, program: &Program, main: &str) -> Result<Flat, CallError>
     ensures flat { IfOk result (IsFlatOf (program_view program.now) main.now) }
-    ensures told { IfErr result (IsToldOf (program_view program.now) (places_view program.now)
+    ensures reported { IfErr result (IsReportedOf (program_view program.now) (places_view program.now)
         main.now) }
 {
     let checked = match check(alloc, program, main) {
         Ok(checked) => checked,
-        Err(e) => return Err(Stop::Rules(e)),
+        Err(e) => return Err(CallError::Rules(e)),
     };
     match flatten(alloc, &checked) {
         Ok(flat) => Ok(flat),
-        Err(e) => Err(Stop::Flat(e)),
+        Err(e) => Err(CallError::Flat(e)),
     }
 }
 
 /// The flat program that the bytes of a program's file are, from its main node of this name.
-pub fn flat_of(alloc: Global, bytes: &[u8], main: &str) -> Result<Flat, Stop>
+pub fn flat_of(alloc: Global, bytes: &[u8], main: &str) -> Result<Flat, CallError>
     ensures flat { IfOk result (HasFlat bytes.now main.now) }
     ensures refused { IfErr result (HasNoFlat bytes.now main.now) }
 {
@@ -69,7 +69,12 @@ pub fn flat_of(alloc: Global, bytes: &[u8], main: &str) -> Result<Flat, Stop>
 }
 
 /// The flat program of the program's file at the path, from its main node of this name.
-pub fn flat_at<F: Files>(alloc: Global, files: &F, path: &str, main: &str) -> Result<Flat, Stop>
+pub fn flat_at<F: Files>(
+    alloc: Global,
+    files: &F,
+    path: &str,
+    main: &str,
+) -> Result<Flat, CallError>
     ensures flat { IfOk result (IsFlatAt (F.gives files.now) path.now main.now) }
     ensures stopped { IfErr result (StopsAtProgram (F.gives files.now) path.now main.now) }
 {
@@ -78,42 +83,42 @@ pub fn flat_at<F: Files>(alloc: Global, files: &F, path: &str, main: &str) -> Re
 }
 
 /// The plan of a flat program and the bytes of a placement's file.
-pub fn plan_of(alloc: Global, flat: Flat, bytes: &[u8]) -> Result<Plan, Stop>
+pub fn plan_of(alloc: Global, flat: Flat, bytes: &[u8]) -> Result<Plan, CallError>
     ensures flat { IfOk result (λ plan. plan.flat ≡ flat) }
     ensures plan { IfOk result (IsPlanOfText bytes.now) }
     ensures refused { IfErr result (IsPlaceRefused flat bytes.now) }
 {
     let Some(text) = text_of(bytes) else {
-        return Err(Stop::Place(PlaceError::NotToml));
+        return Err(CallError::Place(PlaceError::NotToml));
     };
     let place = match read_place(alloc, text) {
         Ok(place) => place,
-        Err(e) => return Err(Stop::Place(e)),
+        Err(e) => return Err(CallError::Place(e)),
     };
     match Plan::make(alloc, flat, &place) {
         Ok(plan) => Ok(plan),
-        Err(e) => Err(Stop::Place(e)),
+        Err(e) => Err(CallError::Place(e)),
     }
 }
 
 /// The table of a flat program's inputs that the bytes of a table's file are.
-pub fn inputs_in(alloc: Global, flat: &Flat, bytes: &[u8]) -> Result<Inputs, Stop>
+pub fn inputs_in(alloc: Global, flat: &Flat, bytes: &[u8]) -> Result<Inputs, CallError>
     ensures text { IfOk result (λ inputs. IsTextOf flat.now.types (inputs_of flat.now.variables)
         inputs bytes.now) }
     ensures short { IfOk result (λ _. is_too_long bytes.now ≡ false) }
     ensures utf8 { IfOk result (λ _. IsUtf8 bytes.now) }
-    ensures fits { IfOk result (λ inputs. Fits flat.now inputs) }
+    ensures fits { IfOk result (λ inputs. FitsProgram flat.now inputs) }
     ensures fit { IfOk result (λ inputs. IsFit flat.now inputs) }
     ensures refused { IfErr result (IsTableRefused flat.now.types (inputs_of flat.now.variables)
         bytes.now) }
 {
     flat.recall_invariant();
     let Some(text) = text_of(bytes) else {
-        return Err(Stop::Table(TabError::BadHeader));
+        return Err(CallError::Table(TabError::BadHeader));
     };
     match read_inputs(alloc, flat, text) {
         Ok(inputs) => Ok(inputs),
-        Err(e) => Err(Stop::Table(e)),
+        Err(e) => Err(CallError::Table(e)),
     }
 }
 
@@ -123,7 +128,7 @@ pub fn inputs_at<F: Files>(
     files: &F,
     flat: &Flat,
     path: &str,
-) -> Result<Inputs, Stop>
+) -> Result<Inputs, CallError>
     ensures table { IfOk result (IsTableAt (F.gives files.now) path.now flat.now) }
     ensures fit { IfOk result (λ inputs. IsFit flat.now inputs) }
     ensures stopped { IfErr result (StopsAtTable (F.gives files.now) path.now flat.now) }
@@ -133,14 +138,14 @@ pub fn inputs_at<F: Files>(
 }
 
 /// The job of a plan and the bytes of a table's file.
-pub fn job_of(alloc: Global, plan: Plan, bytes: &[u8]) -> Result<Job, Stop>
+pub fn job_of(alloc: Global, plan: Plan, bytes: &[u8]) -> Result<Job, CallError>
     ensures plan { IfOk result (λ job. job.plan ≡ plan) }
     ensures text { IfOk result (λ job. IsTextOf plan.flat.types (inputs_of plan.flat.variables)
         job.inputs bytes.now) }
     ensures short { IfOk result (λ _. is_too_long bytes.now ≡ false) }
     ensures utf8 { IfOk result (λ _. IsUtf8 bytes.now) }
-    ensures fits { IfOk result (λ job. Fits plan.flat job.inputs) }
-    ensures run { IfOk result IsRun }
+    ensures fits { IfOk result (λ job. FitsProgram plan.flat job.inputs) }
+    ensures run { IfOk result IsJobView }
     ensures refused { IfErr result (IsTableRefused plan.flat.types (inputs_of plan.flat.variables)
         bytes.now) }
 {
@@ -151,18 +156,18 @@ pub fn job_of(alloc: Global, plan: Plan, bytes: &[u8]) -> Result<Job, Stop>
 }
 
 /// The turns that the bytes of a schedule's file are.
-pub fn turns_of(alloc: Global, bytes: &[u8]) -> Result<Vec<u8>, Stop>
+pub fn turns_of(alloc: Global, bytes: &[u8]) -> Result<Vec<u8>, CallError>
     ensures turns { IfOk result (λ turns. schedule_of bytes.now ≡ Ok turns.items) }
     ensures refused { IfErr result (IsScheduleRefused bytes.now) }
 {
     match read_schedule(alloc, bytes) {
         Ok(turns) => Ok(turns),
-        Err(e) => Err(Stop::Schedule(e)),
+        Err(e) => Err(CallError::Schedule(e)),
     }
 }
 
 /// The turns of the schedule in the file at the path.
-pub fn turns_at<F: Files>(alloc: Global, files: &F, path: &str) -> Result<Vec<u8>, Stop>
+pub fn turns_at<F: Files>(alloc: Global, files: &F, path: &str) -> Result<Vec<u8>, CallError>
     ensures turns { IfOk result (λ turns. AreTurnsAt (F.gives files.now) path.now turns.items) }
     ensures stopped { IfErr result (StopsAtSchedule (F.gives files.now) path.now) }
 {

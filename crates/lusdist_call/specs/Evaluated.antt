@@ -1,9 +1,10 @@
 -- What an evaluation prints and dumps, and what it says of a fault.
-use Rattle.std.specs.Prelude.{◌≡◌, ◌<◌, ℕ, false, List, [], map, Option, Some, None, slice_get, option_map, IsUtf8, if◌then◌else◌}
+use Rattle.std.specs.Prelude.{◌≡◌, ◌<◌, ℕ, false, List, [], map, Option, Some, None, slice_get, option_map}
+use Rattle.std.specs.Prelude.{IsUtf8, if◌then◌else◌}
 use Rattle.lutree.specs.Tree.{ProgramTree}
 use Rattle.luflow.specs.declared.form.FaultKind.{FaultKind}
 use Rattle.luflow.specs.declared.variable.Variable.{Variable}
-use Rattle.luflow.specs.Program.{FlatProgram, Table}
+use Rattle.luflow.specs.Program.{FlatView, InputsView}
 use Rattle.luflow.specs.Streams.{Known, Streams}
 use Rattle.luflow.specs.Messages.{marks}
 use Rattle.luflow.specs.Solution.{IsSolution}
@@ -23,13 +24,15 @@ use Rattle.luflow.specs.Faults.{IsFault}
 use Rattle.lusdist_shell.specs.declared.request.EvalRequest.{EvalRequest}
 use Rattle.lusdist_call.specs.Files.{IsFiledAt, IsUnfiledAt, IsUnwritten}
 use Rattle.lusdist_call.specs.Mistakes.{mistake_in}
-use Rattle.lusdist_call.specs.declared.stop.Stop.{Stop}
-use Rattle.lusdist_call.specs.declared.stop.Stop.TheVariants.{CannotWrite, Fault, OutOfMemory}
+use Rattle.lusdist_call.specs.declared.call_error.CallError.{CallError}
+use Rattle.lusdist_call.specs.declared.call_error.CallError.TheVariants.{CannotWrite, Fault, OutOfMemory}
 use Rattle.lusdist_shell.specs.Files.{FileFacts}
 
--- The program that a text spells, with its flat program and the table that another text says, which fits it and isn't too long.
+-- The program that a text spells, with its flat program and the table that another text says, which fits it
+-- and isn't too long.
 -- At that table the program has one meaning.
-pub record IsPosed (text main table : List ℕ) (tree : ProgramTree) (flat : FlatProgram) (inputs : Table) : Type 0 where
+pub record IsPosed (text main table : List ℕ) (tree : ProgramTree) (flat : FlatView)
+    (inputs : InputsView) : Type 0 where
   pub spelled : SpellsText text tree
   pub flat_is : IsFlatOf tree main flat
   pub table_is : IsTextOf flat.types (inputs_of flat.variables) inputs table
@@ -38,25 +41,34 @@ pub record IsPosed (text main table : List ℕ) (tree : ProgramTree) (flat : Fla
   pub agrees : Agrees tree main inputs flat
   pub one_meaning : HasOneMeaning tree main inputs
 
--- These variables of the main node by name, in this order, each with what every solution of the program gives that
--- variable at all instants of the table; and no operator is a fault, neither of the flat program nor of the source.
-pub record AreVariablesOf (tree : ProgramTree) (main : List ℕ) (flat : FlatProgram) (inputs : Table) (variables : List Variable) (columns : List OutputColumn) : Type 0 where
+-- These variables of the main node by name, in this order, each with what every solution of the program gives
+-- that
+-- variable at all instants of the table; and no operator is a fault, neither of the flat program nor of the
+-- source.
+pub record AreVariablesOf (tree : ProgramTree) (main : List ℕ) (flat : FlatView) (inputs : InputsView)
+    (variables : List Variable) (columns : List OutputColumn) : Type 0 where
   pub named : map (λ (c : OutputColumn). c.name) columns ≡ map (λ (x : Variable). x.name) variables
-  pub streams : (σ : SourceStreams) → IsSourceSolution tree main inputs σ → (k : ℕ) (c : OutputColumn) → slice_get columns k ≡ Some c → map Known c.statuses ≡ marks (σ [] c.name) inputs.instants
+  pub streams : (σ : SourceStreams) → IsSourceSolution tree main inputs σ → (k : ℕ) (c : OutputColumn)
+      → slice_get columns k ≡ Some c → map Known c.statuses ≡ marks (σ [] c.name) inputs.instants
   pub no_fault : HasNoFault flat inputs
-  pub no_source_fault : (σ : SourceStreams) → IsSourceSolution tree main inputs σ → (name : List ℕ) (t : ℕ) (kind : FaultKind) → t < inputs.instants → ¬ IsSourceFault tree main inputs σ name t kind
+  pub no_source_fault : (σ : SourceStreams) → IsSourceSolution tree main inputs σ → (name : List ℕ) (t : ℕ)
+      (kind : FaultKind) → t < inputs.instants → ¬ IsSourceFault tree main inputs σ name t kind
 
 -- the outputs of the main node, in order of declaration
-abbrev pub AreOutputsOf : ProgramTree → List ℕ → FlatProgram → Table → List OutputColumn → Type 0
-AreOutputsOf tree main flat inputs outputs = AreVariablesOf tree main flat inputs (outputs_of flat.variables) outputs
+abbrev pub AreOutputsOf : ProgramTree → List ℕ → FlatView → InputsView → List OutputColumn → Type 0
+AreOutputsOf tree main flat inputs outputs =
+    AreVariablesOf tree main flat inputs (outputs_of flat.variables) outputs
 
 -- the same of the first n instants alone, and without a word on faults
-pub record AreVariablesAt (tree : ProgramTree) (main : List ℕ) (inputs : Table) (variables : List Variable) (n : ℕ) (columns : List OutputColumn) : Type 0 where
+pub record AreVariablesAt (tree : ProgramTree) (main : List ℕ) (inputs : InputsView)
+    (variables : List Variable) (n : ℕ) (columns : List OutputColumn) : Type 0 where
   pub named : map (λ (c : OutputColumn). c.name) columns ≡ map (λ (x : Variable). x.name) variables
-  pub streams : (σ : SourceStreams) → IsSourceSolution tree main inputs σ → (k : ℕ) (c : OutputColumn) → slice_get columns k ≡ Some c → map Known c.statuses ≡ marks (σ [] c.name) n
+  pub streams : (σ : SourceStreams) → IsSourceSolution tree main inputs σ → (k : ℕ) (c : OutputColumn)
+      → slice_get columns k ≡ Some c → map Known c.statuses ≡ marks (σ [] c.name) n
 
--- a column is what a main variable of its name has at the first n instants in every solution of the flat program
-pub record IsColumnOf (flat : FlatProgram) (inputs : Table) (n : ℕ) (column : OutputColumn) : Type 0 where
+-- a column is what a main variable of its name has at the first n instants in every solution of the flat
+-- program
+pub record IsColumnOf (flat : FlatView) (inputs : InputsView) (n : ℕ) (column : OutputColumn) : Type 0 where
   pub number : ℕ
   pub variable : Variable
   pub there : slice_get flat.variables number ≡ Some variable
@@ -64,15 +76,19 @@ pub record IsColumnOf (flat : FlatProgram) (inputs : Table) (n : ℕ) (column : 
   pub statuses : (σ : Streams) → IsSolution flat inputs σ → map Known column.statuses ≡ marks (σ number) n
 
 -- columns of these main variables of a flat program, in this order
-pub record AreEvaluated (flat : FlatProgram) (inputs : Table) (variables : List Variable) (n : ℕ) (columns : List OutputColumn) : Type 0 where
+pub record AreEvaluated (flat : FlatView) (inputs : InputsView) (variables : List Variable) (n : ℕ)
+    (columns : List OutputColumn) : Type 0 where
   pub named : map (λ (c : OutputColumn). c.name) columns ≡ map (λ (x : Variable). x.name) variables
   pub each : (k : ℕ) (c : OutputColumn) → slice_get columns k ≡ Some c → IsColumnOf flat inputs n c
 
--- The variables that a request asks for, in the form that it asks for: as a table with a line for each instant, or as a chart of the instants from
+-- The variables that a request asks for, in the form that it asks for: as a table with a line for each
+-- instant, or as a chart of the instants from
 -- one to another.
-abbrev pub shown_text : EvalRequest → FlatProgram → List OutputColumn → List ℕ
+abbrev pub shown_text : EvalRequest → FlatView → List OutputColumn → List ℕ
 shown_text request flat columns =
-    if request.chronogram then chart_text flat.types (kinds_of (shown_of request.all flat.variables)) columns request.from request.to
+    if request.chronogram
+    then chart_text flat.types (kinds_of (shown_of request.all flat.variables)) columns request.from
+    request.to
     else column_text flat.types (kinds_of (shown_of request.all flat.variables)) columns
 
 -- the path of the file that a request asks a dump to be written into
@@ -80,15 +96,17 @@ abbrev pub wave_path : EvalRequest → Option (List ℕ)
 wave_path request = option_map (λ s. s.now) request.vcd
 
 -- the dump of the variables that a request asks for
-abbrev pub wave_text : EvalRequest → FlatProgram → List OutputColumn → List ℕ
-wave_text request flat columns = dump_text request.main.now flat.types (kinds_of (shown_of request.all flat.variables)) columns
+abbrev pub wave_text : EvalRequest → FlatView → List OutputColumn → List ℕ
+wave_text request flat columns =
+    dump_text request.main.now flat.types (kinds_of (shown_of request.all flat.variables)) columns
 
 -- where a dump is asked for, this one was written into its file
 abbrev pub IsFiled : FileFacts → EvalRequest → List ℕ → Type 0
 IsFiled takes request text = IsFiledAt takes (wave_path request) text
 
 -- what a request asks for of a flat program and a table, as a text, and a dump of it in its file
-pub record IsShown (takes : FileFacts) (request : EvalRequest) (flat : FlatProgram) (inputs : Table) (text : List ℕ) : Type 0 where
+pub record IsShown (takes : FileFacts) (request : EvalRequest) (flat : FlatView) (inputs : InputsView)
+    (text : List ℕ) : Type 0 where
   pub columns : List OutputColumn
   pub are_columns : AreEvaluated flat inputs (shown_of request.all flat.variables) inputs.instants columns
   pub no_fault : HasNoFault flat inputs
@@ -96,21 +114,25 @@ pub record IsShown (takes : FileFacts) (request : EvalRequest) (flat : FlatProgr
   pub filed : IsFiled takes request (wave_text request flat columns)
 
 -- the dump of what a request asks for of the first n instants, in the file of this path
-pub record IsShownBefore (takes : FileFacts) (request : EvalRequest) (flat : FlatProgram) (inputs : Table) (n : ℕ) (path : List ℕ) : Type 0 where
+pub record IsShownBefore (takes : FileFacts) (request : EvalRequest) (flat : FlatView) (inputs : InputsView)
+    (n : ℕ) (path : List ℕ) : Type 0 where
   pub columns : List OutputColumn
   pub are_columns : AreEvaluated flat inputs (shown_of request.all flat.variables) n columns
   pub filed : takes path (Some (wave_text request flat columns))
 
 -- where a dump is asked for, that of the first n instants is in its file
-abbrev pub AreShownBefore : FileFacts → EvalRequest → FlatProgram → Table → ℕ → Type 0
-AreShownBefore takes request flat inputs n = (path : List ℕ) → wave_path request ≡ Some path → IsShownBefore takes request flat inputs n path
+abbrev pub AreShownBefore : FileFacts → EvalRequest → FlatView → InputsView → ℕ → Type 0
+AreShownBefore takes request flat inputs n = (path : List ℕ) → wave_path request ≡ Some path
+    → IsShownBefore takes request flat inputs n path
 
 -- no operator is a fault before an instant
-abbrev pub HasNoFaultBefore : FlatProgram → Table → ℕ → Type 0
-HasNoFaultBefore flat inputs n = (σ : Streams) → IsSolution flat inputs σ → (t q i : ℕ) (kind : FaultKind) → slice_get flat.order q ≡ Some i → t < n → ¬ IsFault flat inputs σ i t kind
+abbrev pub HasNoFaultBefore : FlatView → InputsView → ℕ → Type 0
+HasNoFaultBefore flat inputs n = (σ : Streams) → IsSolution flat inputs σ → (t q i : ℕ) (kind : FaultKind)
+    → slice_get flat.order q ≡ Some i → t < n → ¬ IsFault flat inputs σ i t kind
 
 -- the program and the table that the files of a request gave
-pub record IsPosedBy (gives : FileFacts) (request : EvalRequest) (flat : FlatProgram) (inputs : Table) : Type 0 where
+pub record IsPosedBy (gives : FileFacts) (request : EvalRequest) (flat : FlatView)
+    (inputs : InputsView) : Type 0 where
   pub program : List ℕ
   pub table : List ℕ
   pub program_given : gives request.program.now (Some program)
@@ -118,19 +140,23 @@ pub record IsPosedBy (gives : FileFacts) (request : EvalRequest) (flat : FlatPro
   pub tree : ProgramTree
   pub posed : IsPosed program request.main.now table tree flat inputs
 
--- The text of an evaluation: the outputs of the program that the files of a request gave, or all variables of its main node, in order of declaration,
+-- The text of an evaluation: the outputs of the program that the files of a request gave, or all variables of
+-- its main node, in order of declaration,
 -- at the table that they gave; as a table or as a chart.
 pub record IsEvaluated (gives : FileFacts) (request : EvalRequest) (text : List ℕ) : Type 0 where
   pub meant : mistake_in request ≡ None
-  pub flat : FlatProgram
-  pub inputs : Table
+  pub flat : FlatView
+  pub inputs : InputsView
   pub asked : IsPosedBy gives request flat inputs
   pub columns : List OutputColumn
-  pub are_columns : AreVariablesOf asked.tree request.main.now flat inputs (shown_of request.all flat.variables) columns
+  pub are_columns : AreVariablesOf asked.tree request.main.now flat inputs
+      (shown_of request.all flat.variables) columns
   pub text_is : text ≡ shown_text request flat columns
 
--- the fault of the least instant, and there of the least rank, by the name of the main variable in whose equation it stands
-pub record IsFaultTold (flat : FlatProgram) (inputs : Table) (name : List ℕ) (instant : ℕ) (kind : FaultKind) : Type 0 where
+-- the fault of the least instant, and there of the least rank, by the name of the main variable in whose
+-- equation it stands
+pub record IsFaultReported (flat : FlatView) (inputs : InputsView) (name : List ℕ) (instant : ℕ)
+    (kind : FaultKind) : Type 0 where
   pub variable : ℕ
   pub is : Variable
   pub there : slice_get flat.variables variable ≡ Some is
@@ -138,61 +164,77 @@ pub record IsFaultTold (flat : FlatProgram) (inputs : Table) (name : List ℕ) (
   pub first : (σ : Streams) → IsSolution flat inputs σ → IsFirstFault flat inputs σ variable instant kind
 
 -- a stop reports this fault, of the variable of this number, or that memory ran out
-abbrev pub IsStopFor : FlatProgram → ℕ → ℕ → FaultKind → Stop → Type 0
-IsStopFor flat variable instant kind (Fault name t k) = (x : Variable) × (slice_get flat.variables variable ≡ Some x) × (name ≡ x.name) × (t ≡ instant) × (k ≡ kind)
+abbrev pub IsStopFor : FlatView → ℕ → ℕ → FaultKind → CallError → Type 0
+IsStopFor flat variable instant kind (Fault name t k) = (x : Variable)
+    × (slice_get flat.variables variable ≡ Some x) × (name ≡ x.name) × (t ≡ instant) × (k ≡ kind)
 IsStopFor flat variable instant kind OutOfMemory = Unit {0}
 IsStopFor flat variable instant kind _ = ⊥
 
--- an evaluation of a flat program stops at its first fault, where the file of its dump can't be written, or where memory ran out
-abbrev pub IsStopped : EvalRequest → FlatProgram → Table → Stop → Type 0
-IsStopped request flat inputs (Fault name instant kind) = IsFaultTold flat inputs name instant kind
+-- an evaluation of a flat program stops at its first fault, where the file of its dump can't be written, or
+-- where memory ran out
+abbrev pub IsStopped : EvalRequest → FlatView → InputsView → CallError → Type 0
+IsStopped request flat inputs (Fault name instant kind) = IsFaultReported flat inputs name instant kind
 IsStopped request flat inputs (CannotWrite path) = wave_path request ≡ Some path
 IsStopped request flat inputs OutOfMemory = Unit {0}
 IsStopped request flat inputs _ = ⊥
 
--- where it stops at a fault, the dump has all instants before it; and where the dump can't be written, a write failed
-abbrev pub IsShownTo : FileFacts → EvalRequest → FlatProgram → Table → Stop → Type 0
+-- where it stops at a fault, the dump has all instants before it; and where the dump can't be written, a
+-- write failed
+abbrev pub IsShownTo : FileFacts → EvalRequest → FlatView → InputsView → CallError → Type 0
 IsShownTo takes request flat inputs stop =
-    ((name : List ℕ) (instant : ℕ) (kind : FaultKind) → stop ≡ Fault name instant kind → AreShownBefore takes request flat inputs instant) × IsUnwritten takes stop
+    ((name : List ℕ) (instant : ℕ) (kind : FaultKind) → stop ≡ Fault name instant kind
+    → AreShownBefore takes request flat inputs instant) × IsUnwritten takes stop
 
 -- a dump can't be made, or not be written into its file, to which a write failed
-abbrev pub IsUnfiled : FileFacts → EvalRequest → Stop → Type 0
+abbrev pub IsUnfiled : FileFacts → EvalRequest → CallError → Type 0
 IsUnfiled takes request stop = IsUnfiledAt takes (wave_path request) stop
 
 -- a stop that reports no fault of an evaluation, and no file that can't be written
-abbrev pub IsNoFault : Stop → Type 0
-IsNoFault stop = ((name : List ℕ) (instant : ℕ) (kind : FaultKind) → stop ≡ Fault name instant kind → ⊥) × ((path : List ℕ) → stop ≡ CannotWrite path → ⊥)
+abbrev pub IsNoFault : CallError → Type 0
+IsNoFault stop = ((name : List ℕ) (instant : ℕ) (kind : FaultKind) → stop ≡ Fault name instant kind → ⊥)
+    × ((path : List ℕ) → stop ≡ CannotWrite path → ⊥)
 
--- The dump of an evaluation: the variables that the request asks for, of the program and at the table that its files gave, in the file that is asked
+-- The dump of an evaluation: the variables that the request asks for, of the program and at the table that
+-- its files gave, in the file that is asked
 -- for.
 pub record IsDumped (gives : FileFacts) (takes : FileFacts) (request : EvalRequest) : Type 0 where
-  pub flat : FlatProgram
-  pub inputs : Table
+  pub flat : FlatView
+  pub inputs : InputsView
   pub asked : IsPosedBy gives request flat inputs
   pub columns : List OutputColumn
-  pub are_columns : AreVariablesOf asked.tree request.main.now flat inputs (shown_of request.all flat.variables) columns
+  pub are_columns : AreVariablesOf asked.tree request.main.now flat inputs
+      (shown_of request.all flat.variables) columns
   pub filed : IsFiled takes request (wave_text request flat columns)
 
 -- the same of the instants before one, in the file of this path
-pub record IsDumpedBefore (gives : FileFacts) (takes : FileFacts) (request : EvalRequest) (instant : ℕ) (path : List ℕ) : Type 0 where
-  pub flat : FlatProgram
-  pub inputs : Table
+pub record IsDumpedBefore (gives : FileFacts) (takes : FileFacts) (request : EvalRequest) (instant : ℕ)
+    (path : List ℕ) : Type 0 where
+  pub flat : FlatView
+  pub inputs : InputsView
   pub asked : IsPosedBy gives request flat inputs
   pub columns : List OutputColumn
-  pub are_columns : AreVariablesAt asked.tree request.main.now inputs (shown_of request.all flat.variables) instant columns
+  pub are_columns : AreVariablesAt asked.tree request.main.now inputs (shown_of request.all flat.variables)
+      instant columns
   pub filed : takes path (Some (wave_text request flat columns))
 
--- An evaluation that stops at a fault has dumped all instants before it, where a dump is asked for; and one that stops since its dump can't be
+-- An evaluation that stops at a fault has dumped all instants before it, where a dump is asked for; and one
+-- that stops since its dump can't be
 -- written has tried a write, which failed.
-abbrev pub IsDumpedTo : FileFacts → FileFacts → EvalRequest → Stop → Type 0
+abbrev pub IsDumpedTo : FileFacts → FileFacts → EvalRequest → CallError → Type 0
 IsDumpedTo gives takes request stop =
-    ((name : List ℕ) (instant : ℕ) (kind : FaultKind) → stop ≡ Fault name instant kind → (path : List ℕ) → wave_path request ≡ Some path → IsDumpedBefore gives takes request instant path) × IsUnwritten takes stop
+    ((name : List ℕ) (instant : ℕ) (kind : FaultKind) → stop ≡ Fault name instant kind → (path : List ℕ)
+    → wave_path request ≡ Some path → IsDumpedBefore gives takes request instant path)
+    × IsUnwritten takes stop
 
--- The first fault of the program and the table that the files of a request gave. It is a fault of the source: in each solution of the
--- program an operator in the equation of that variable, or in an instance of a call there, has no result at that instant.
-pub record IsFaultOf (gives : FileFacts) (request : EvalRequest) (name : List ℕ) (instant : ℕ) (kind : FaultKind) : Type 0 where
-  pub flat : FlatProgram
-  pub inputs : Table
+-- The first fault of the program and the table that the files of a request gave. It is a fault of the source:
+-- in each solution of the
+-- program an operator in the equation of that variable, or in an instance of a call there, has no result at
+-- that instant.
+pub record IsFaultOf (gives : FileFacts) (request : EvalRequest) (name : List ℕ) (instant : ℕ)
+    (kind : FaultKind) : Type 0 where
+  pub flat : FlatView
+  pub inputs : InputsView
   pub asked : IsPosedBy gives request flat inputs
-  pub told : IsFaultTold flat inputs name instant kind
-  pub source : (σ : SourceStreams) → IsSourceSolution asked.tree request.main.now inputs σ → IsSourceFault asked.tree request.main.now inputs σ name instant kind
+  pub reported : IsFaultReported flat inputs name instant kind
+  pub source : (σ : SourceStreams) → IsSourceSolution asked.tree request.main.now inputs σ
+      → IsSourceFault asked.tree request.main.now inputs σ name instant kind

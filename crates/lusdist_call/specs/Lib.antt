@@ -5,7 +5,7 @@ pub mod Asked
 pub mod Refused
 pub mod Stopped
 pub mod Evaluated
-pub mod TellingText
+pub mod RunReportTexts
 pub mod Waved
 pub mod Exact
 pub mod Ran

@@ -9,11 +9,14 @@ use Rattle.luplace_file.specs.Lines.{line_of as place_line}
 use Rattle.lutab.specs.Lines.{line_of as table_line}
 use Rattle.lusdist_shell.specs.Lines.{line_of as schedule_line}
 use Rattle.lusdist_call.specs.Mistakes.{line_of as mistake_line}
-use Rattle.lusdist_call.specs.declared.stop.Stop.{Stop}
-use Rattle.lusdist_call.specs.declared.stop.Stop.TheVariants.{CannotRead, CannotWrite, NotAscii, Syntax, Rules, Flat, Place, Table, Schedule, Fault, LinkLost, NoThread, OutOfMemory, Mistaken}
+use Rattle.lusdist_call.specs.declared.call_error.CallError.{CallError}
+use Rattle.lusdist_call.specs.declared.call_error.CallError.TheVariants.{CannotRead, CannotWrite, NotAscii}
+use Rattle.lusdist_call.specs.declared.call_error.CallError.TheVariants.{Syntax, Rules, Flat, Place, Table}
+use Rattle.lusdist_call.specs.declared.call_error.CallError.TheVariants.{Schedule, Fault, LinkLost, NoThread}
+use Rattle.lusdist_call.specs.declared.call_error.CallError.TheVariants.{OutOfMemory, Mistaken}
 
 -- a code and a name, and what there is to report; without the line feed that ends the line
-abbrev pub line_of : Stop → List ℕ
+abbrev pub line_of : CallError → List ℕ
 line_of (CannotRead path) = codes "F01 CannotRead " ++ path
 line_of (CannotWrite path) = codes "F02 CannotWrite " ++ path
 line_of NotAscii = codes "E03 NotAscii"
@@ -23,7 +26,8 @@ line_of (Flat refusal) = flat_line refusal
 line_of (Place refusal) = place_line refusal
 line_of (Table refusal) = table_line refusal
 line_of (Schedule refusal) = schedule_line refusal
-line_of (Fault variable instant kind) = codes "R1 Fault " ++ (variable ++ (codes " " ++ (decimal instant ++ (codes " " ++ kind_text kind))))
+line_of (Fault variable instant kind) =
+    codes "R1 Fault " ++ (variable ++ (codes " " ++ (decimal instant ++ (codes " " ++ kind_text kind))))
 line_of OutOfMemory = codes "R2 OutOfMemory"
 line_of LinkLost = codes "R3 LinkLost"
 line_of NoThread = codes "R4 NoThread"

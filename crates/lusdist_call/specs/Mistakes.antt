@@ -9,7 +9,8 @@ use Rattle.lusdist_call.specs.declared.mistake.Mistake.TheVariants.{UnknownCode,
 abbrev pub line_of : Mistake → List ℕ
 line_of (UnknownCode code) = codes "error: no page has the code " ++ code
 line_of NoChart = codes "error: --from and --to need --chronogram"
-line_of (Backwards from to) = codes "error: --from " ++ (decimal from ++ (codes " is after --to " ++ decimal to))
+line_of (Backwards from to) =
+    codes "error: --from " ++ (decimal from ++ (codes " is after --to " ++ decimal to))
 
 -- instants are given for a chart alone
 abbrev pub chartless : Option ℕ → Option ℕ → Option Mistake
@@ -28,4 +29,5 @@ backwards (Some from) (Some to) = unordered from to
 
 -- what is wrong with what an evaluation is asked for
 abbrev pub mistake_in : EvalRequest → Option Mistake
-mistake_in request = if request.chronogram then backwards request.from request.to else chartless request.from request.to
+mistake_in request = if request.chronogram then backwards request.from request.to
+    else chartless request.from request.to

@@ -2,33 +2,41 @@
 use Rattle.std.specs.Prelude.{◌≡◌, ℕ, List}
 use Rattle.luflow.specs.Tables.{OutputColumn}
 use Rattle.luflow.specs.Variables.{variable_name}
-use Rattle.luworld.specs.Runs.{Run}
+use Rattle.luworld.specs.Jobs.{JobView}
 use Rattle.lusite.specs.Machine.{IsFaultAt}
 use Rattle.lurun_reports.specs.declared.error.RunError.{RunError}
 use Rattle.lurun_reports.specs.declared.error.RunError.TheVariants as run
 use Rattle.lurun_reports.specs.Reports.{AreOutputsOf}
 use Rattle.lutab.specs.Outputs.{output_text}
-use Rattle.lusdist_call.specs.declared.stop.Stop.{Stop}
-use Rattle.lusdist_call.specs.declared.stop.Stop.TheVariants.{Fault, LinkLost, NoThread, OutOfMemory}
+use Rattle.lusdist_call.specs.declared.call_error.CallError.{CallError}
+use Rattle.lusdist_call.specs.declared.call_error.CallError.TheVariants.{Fault, LinkLost, NoThread}
+use Rattle.lusdist_call.specs.declared.call_error.CallError.TheVariants.{OutOfMemory}
 
--- why a run of all sites of a job has no outputs: a fault at which one of them stopped, or something that says nothing of the job
-abbrev pub IsRunError : Run → RunError → Type 0
-IsRunError job (run.Fault variable instant kind) = (site : ℕ) × IsFaultAt job site (record { variable = variable; instant = instant; kind = kind })
+-- why a run of all sites of a job has no outputs: a fault at which one of them stopped, or something that
+-- says nothing of the job
+abbrev pub IsRunError : JobView → RunError → Type 0
+IsRunError job (run.Fault variable instant kind) =
+    (site : ℕ) × IsFaultAt job site (record { variable = variable; instant = instant; kind = kind })
 IsRunError job run.WrongReports = ⊥
 IsRunError job run.OutOfMemory = Unit {0}
 IsRunError job run.LinkLost = Unit {0}
 IsRunError job run.NoThread = Unit {0}
 
 -- the same with the name of the fault's main variable
-abbrev pub IsStopOfRun : Run → Stop → Type 0
-IsStopOfRun job (Fault name instant kind) = (variable : ℕ) × (site : ℕ) × (name ≡ variable_name job.plan.flat variable) × IsFaultAt job site (record { variable = variable; instant = instant; kind = kind })
+abbrev pub IsStopOfRun : JobView → CallError → Type 0
+IsStopOfRun job (Fault name instant kind) = (variable : ℕ) × (site : ℕ)
+    × (name ≡ variable_name job.plan.flat variable) × IsFaultAt job site (record {
+      variable = variable;
+      instant = instant;
+      kind = kind;
+    })
 IsStopOfRun job LinkLost = Unit {0}
 IsStopOfRun job NoThread = Unit {0}
 IsStopOfRun job OutOfMemory = Unit {0}
 IsStopOfRun job _ = ⊥
 
 -- the table of a run's outputs, as a text
-pub record IsRunTable (job : Run) (text : List ℕ) : Type 0 where
+pub record IsRunTable (job : JobView) (text : List ℕ) : Type 0 where
   pub outputs : List OutputColumn
   pub are_outputs : AreOutputsOf job outputs
   pub text_is : text ≡ output_text job.plan.flat outputs

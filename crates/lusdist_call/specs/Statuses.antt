@@ -6,12 +6,16 @@ use Rattle.lucore.specs.declared.error.CoreError.TheVariants as core
 use Rattle.luplace_file.specs.declared.error.PlaceError.TheVariants as place
 use Rattle.lutab.specs.declared.error.TabError.TheVariants as tab
 use Rattle.lusdist_shell.specs.declared.schedule.ScheduleError.TheVariants as schedule
-use Rattle.lusdist_call.specs.declared.stop.Stop.{Stop}
-use Rattle.lusdist_call.specs.declared.stop.Stop.TheVariants.{CannotRead, CannotWrite, Syntax, Rules, Flat, Place, Table, Schedule, Fault, LinkLost, NoThread, OutOfMemory, Mistaken}
+use Rattle.lusdist_call.specs.declared.call_error.CallError.{CallError}
+use Rattle.lusdist_call.specs.declared.call_error.CallError.TheVariants.{CannotRead, CannotWrite, Syntax}
+use Rattle.lusdist_call.specs.declared.call_error.CallError.TheVariants.{Rules, Flat, Place, Table, Schedule}
+use Rattle.lusdist_call.specs.declared.call_error.CallError.TheVariants.{Fault, LinkLost, NoThread}
+use Rattle.lusdist_call.specs.declared.call_error.CallError.TheVariants.{OutOfMemory, Mistaken}
 
--- 3 where an evaluation or a run is a fault, a dump can't be written, a run was cut short or memory ran out, 2 where a file can't be read or the
+-- 3 where an evaluation or a run is a fault, a dump can't be written, a run was cut short or memory ran out,
+-- 2 where a file can't be read or the
 -- words are wrong, and 1 where a text is refused
-abbrev pub status_of : Stop → ℕ
+abbrev pub status_of : CallError → ℕ
 status_of (CannotRead path) = 2
 status_of (Mistaken mistake) = 2
 status_of (Syntax syn.OutOfMemory) = 3

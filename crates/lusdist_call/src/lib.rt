@@ -12,24 +12,24 @@
 //! - `specs/Ran.antt`: what a run of a job on threads gives.
 //! - `specs/Refused.antt`: what a call that stops says of the program. `specs/Stopped.antt`: why a call stops before it
 //!   prints anything.
-//! - `specs/TellingText.antt`: what a world reports, and the text of it.
+//! - `specs/RunReportTexts.antt`: what a world reports, and the text of it.
 //! - `specs/Waved.antt`: the dumps of runs and replays.
 //! - `specs/Reasons.antt`: what goes behind the line of a refusal. `specs/Left.antt`: how a call ends, and what it leaves.
 //!
 //! # How a call ends, and its files
 //!
-//! - [`Stop`]: why a call stops, and with which status; [`Mistake`]: what is wrong with words that the command line
+//! - [`CallError`]: why a call stops, and with which status; [`Mistake`]: what is wrong with words that the command line
 //!   takes.
-//! - [`Said`]: what a call prints, and [`put_said`], which writes it.
+//! - [`Reply`]: what a call prints, and [`put_reply`], which writes it.
 //! - [`read`] and [`file_text`]: a file that is read, and one into which a dump is written.
 #![tactic(auto)]
 
+mod call_error;
 mod files;
 mod mistake;
-mod said;
-mod stop;
+mod reply;
 
+pub use call_error::CallError;
 pub use files::{file_text, read};
 pub use mistake::{Mistake, mistake_in};
-pub use said::{Said, put_said};
-pub use stop::Stop;
+pub use reply::{Reply, put_reply};

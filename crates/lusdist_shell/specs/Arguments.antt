@@ -3,9 +3,11 @@ use Rattle.std.specs.Prelude.{◌≡◌, List}
 use Rattle.std.specs.List.{fold}
 use Rattle.clap.specs.Walk.{Rule}
 use Rattle.clap.specs.Simple.{App, new_app, with_rule, with_subcommand}
-use Rattle.lusdist_shell.specs.CommandLine.{path_rule, main_rule, flag_rule, instant_rule, vcd_rule, workers_rule, code_rule}
+use Rattle.lusdist_shell.specs.CommandLine.{path_rule, main_rule, flag_rule, instant_rule, vcd_rule}
+use Rattle.lusdist_shell.specs.CommandLine.{workers_rule, code_rule}
 use Rattle.lusdist_shell.specs.declared.argument.Argument.{Argument}
-use Rattle.lusdist_shell.specs.declared.argument.Argument.TheVariants.{Main, Path, Flag, Instant, Vcd, Workers, Code}
+use Rattle.lusdist_shell.specs.declared.argument.Argument.TheVariants.{Main, Path, Flag, Instant, Vcd}
+use Rattle.lusdist_shell.specs.declared.argument.Argument.TheVariants.{Workers, Code}
 use Rattle.lusdist_shell.specs.declared.command.Task.{Task}
 
 -- an argument, as the parser takes it

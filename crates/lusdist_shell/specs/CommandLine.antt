@@ -12,7 +12,11 @@ path_rule name = record (new_rule name) { required = true; action = Some Set }
 
 -- `--main NAME`, which is `main` where it isn't given
 abbrev pub main_rule : Rule
-main_rule = record (new_rule (codes "main")) { long = Some (codes "main"); value_names = 1; defaults = codes "main" ∷ [] }
+main_rule = record (new_rule (codes "main")) {
+  long = Some (codes "main");
+  value_names = 1;
+  defaults = codes "main" ∷ [];
+}
 
 -- a flag, which is given or not
 abbrev pub flag_rule : Text → Rule
@@ -32,7 +36,11 @@ last_instant = 999999
 
 -- `--from T` or `--to T`, an instant, counted from 0
 abbrev pub instant_rule : Text → Rule
-instant_rule name = record (new_rule name) { long = Some name; value_names = 1; parser = Some (Unsigned 0 last_instant) }
+instant_rule name = record (new_rule name) {
+  long = Some name;
+  value_names = 1;
+  parser = Some (Unsigned 0 last_instant);
+}
 
 -- `--vcd FILE`
 abbrev pub vcd_rule : Rule
@@ -42,19 +50,24 @@ vcd_rule = record (new_rule (codes "vcd")) { long = Some (codes "vcd"); value_na
 abbrev pub eval : App
 eval =
     with_rule (with_rule (with_rule (with_rule (with_rule (with_rule (with_rule (judging (codes "eval"))
-    (flag_rule (codes "all"))) (flag_rule (codes "chronogram"))) (instant_rule (codes "from"))) (instant_rule (codes "to"))) vcd_rule) (path_rule (codes "PROGRAM"))) (path_rule (codes "TABLE"))
+    (flag_rule (codes "all"))) (flag_rule (codes "chronogram"))) (instant_rule (codes "from")))
+    (instant_rule (codes "to"))) vcd_rule) (path_rule (codes "PROGRAM"))) (path_rule (codes "TABLE"))
 
 -- `plan PROGRAM PLACE [--main NAME] [--explain] [--text] [--dot]`
 abbrev pub plan : App
 plan =
     with_rule (with_rule (with_rule (with_rule (judging (codes "plan"))
-    (flag_rule (codes "text"))) (flag_rule (codes "dot"))) (path_rule (codes "PROGRAM"))) (path_rule (codes "PLACE"))
+    (flag_rule (codes "text"))) (flag_rule (codes "dot"))) (path_rule (codes "PROGRAM")))
+    (path_rule (codes "PLACE"))
 
 -- `replay PROGRAM PLACE TABLE SCHEDULE [--main NAME] [--explain] [--finish] [--trace] [--chart] [--vcd FILE]`
 abbrev pub replay : App
 replay =
-    with_rule (with_rule (with_rule (with_rule (with_rule (with_rule (with_rule (with_rule (judging (codes "replay"))
-    (flag_rule (codes "finish"))) (flag_rule (codes "trace"))) (flag_rule (codes "chart"))) vcd_rule) (path_rule (codes "PROGRAM"))) (path_rule (codes "PLACE"))) (path_rule (codes "TABLE"))) (path_rule (codes "SCHEDULE"))
+    with_rule (with_rule
+    (with_rule (with_rule (with_rule (with_rule (with_rule (with_rule (judging (codes "replay"))
+    (flag_rule (codes "finish"))) (flag_rule (codes "trace"))) (flag_rule (codes "chart"))) vcd_rule)
+    (path_rule (codes "PROGRAM"))) (path_rule (codes "PLACE"))) (path_rule (codes "TABLE")))
+    (path_rule (codes "SCHEDULE"))
 
 -- the fewest workers that may serve the sites
 abbrev pub fewest_workers : ℕ
@@ -62,13 +75,19 @@ fewest_workers = 1
 
 -- `--workers W`, a decimal number from 1 to 16
 abbrev pub workers_rule : Rule
-workers_rule = record (new_rule (codes "workers")) { long = Some (codes "workers"); value_names = 1; parser = Some (Unsigned fewest_workers most_workers) }
+workers_rule = record (new_rule (codes "workers")) {
+  long = Some (codes "workers");
+  value_names = 1;
+  parser = Some (Unsigned fewest_workers most_workers);
+}
 
 -- `run PROGRAM PLACE TABLE [--main NAME] [--explain] [--workers W] [--progress] [--items] [--vcd FILE]`
 abbrev pub run : App
 run =
-    with_rule (with_rule (with_rule (with_rule (with_rule (with_rule (with_rule (judging (codes "run")) workers_rule)
-    (flag_rule (codes "progress"))) (flag_rule (codes "items"))) vcd_rule) (path_rule (codes "PROGRAM"))) (path_rule (codes "PLACE"))) (path_rule (codes "TABLE"))
+    with_rule (with_rule
+    (with_rule (with_rule (with_rule (with_rule (with_rule (judging (codes "run")) workers_rule)
+    (flag_rule (codes "progress"))) (flag_rule (codes "items"))) vcd_rule) (path_rule (codes "PROGRAM")))
+    (path_rule (codes "PLACE"))) (path_rule (codes "TABLE"))
 
 -- a code, which may be left out
 abbrev pub code_rule : Rule
@@ -80,9 +99,13 @@ explain = with_rule (new_app (codes "explain")) code_rule
 
 -- `lusdist --version`, and that there has to be a command
 abbrev pub bare : App
-bare = on_top (λ top. record top { has_version = true; subcommand_required = true }) (new_app (codes "lusdist"))
+bare = on_top (λ top. record top { has_version = true; subcommand_required = true })
+    (new_app (codes "lusdist"))
 
 -- `lusdist` and one of its commands, or `lusdist --version`
 abbrev pub lusdist : App
 lusdist =
-    with_subcommand (with_subcommand (with_subcommand (with_subcommand (with_subcommand (with_subcommand bare check.top) eval.top) plan.top) replay.top) run.top) explain.top
+    with_subcommand
+    (with_subcommand
+    (with_subcommand (with_subcommand (with_subcommand (with_subcommand bare check.top) eval.top)
+    plan.top) replay.top) run.top) explain.top

@@ -1,7 +1,8 @@
 -- The line that reports a refusal of a schedule.
 use Rattle.std.specs.Prelude.{ℕ, List, ◌++◌, codes, decimal}
 use Rattle.lusdist_shell.specs.declared.schedule.ScheduleError.{ScheduleError}
-use Rattle.lusdist_shell.specs.declared.schedule.ScheduleError.TheVariants.{BadSchedule, LongSchedule, OutOfMemory}
+use Rattle.lusdist_shell.specs.declared.schedule.ScheduleError.TheVariants.{BadSchedule, LongSchedule}
+use Rattle.lusdist_shell.specs.declared.schedule.ScheduleError.TheVariants.{OutOfMemory}
 
 -- the line, with no line feed
 abbrev pub line_of : ScheduleError → List ℕ

@@ -1,5 +1,6 @@
 -- What a command line asks for.
-use Rattle.std.specs.Prelude.{◌≡◌, ◌⊎◌, ◌≤◌, ℕ, Bool, IfSome, List, [], codes, unwrap_or, Option, Some, None, if◌then◌else◌, option_map}
+use Rattle.std.specs.Prelude.{◌≡◌, ◌⊎◌, ◌≤◌, ℕ, Bool, IfSome, List, [], codes, unwrap_or, Option, Some, None}
+use Rattle.std.specs.Prelude.{if◌then◌else◌, option_map}
 use Rattle.std.specs.Str.{bytes_eq}
 use Rattle.std.specs.Str.Parse.{digits_value, without_leading_plus}
 use Rattle.clap.specs.Values.{IsUnsignedIn}
@@ -30,33 +31,41 @@ is_given matches flag = bytes_eq (text_in matches flag) (codes "true")
 
 -- a graph where `--dot` is given, else a table where `--text` is, else the report
 abbrev pub form_in : List Row → PlanForm
-form_in matches = if is_given matches (codes "dot") then Graph else (if is_given matches (codes "text") then Table else Report)
+form_in matches = if is_given matches (codes "dot") then Graph else (if is_given matches (codes "text")
+    then Table else Report)
 
 -- a chart where `--chart` is given, else lines where `--trace` is, else nothing
 abbrev pub turns_in : List Row → TurnsForm
-turns_in matches = if is_given matches (codes "chart") then Chart else (if is_given matches (codes "trace") then Lines else Nothing)
+turns_in matches = if is_given matches (codes "chart") then Chart else (if is_given matches (codes "trace")
+    then Lines else Nothing)
 
--- The number of workers that the text for them spells, in decimal; there is none where there is no text. The command line takes
+-- The number of workers that the text for them spells, in decimal; there is none where there is no text. The
+-- command line takes
 -- no other text than that of a number from 1 to 16.
 abbrev pub AreWorkersIn : Option Text → Option ℕ → Type 0
 AreWorkersIn None workers = workers ≡ None
-AreWorkersIn (Some text) workers = IsUnsignedIn fewest_workers most_workers text → workers ≡ Some (digits_value 10 (without_leading_plus text))
+AreWorkersIn (Some text) workers = IsUnsignedIn fewest_workers most_workers text
+    → workers ≡ Some (digits_value 10 (without_leading_plus text))
 
 -- where there is a number of workers, it is one from 1 to 16
 abbrev pub AreFew : Option ℕ → Type 0
 AreFew workers = IfSome workers (λ n. (fewest_workers ≤ n) × (n ≤ most_workers))
 
--- The instant that the text for it spells, in decimal; there is none where there is no text. The command line takes no other text than that of an
+-- The instant that the text for it spells, in decimal; there is none where there is no text. The command line
+-- takes no other text than that of an
 -- instant that a table may have.
 abbrev pub IsInstantIn : Option Text → Option ℕ → Type 0
 IsInstantIn None instant = instant ≡ None
-IsInstantIn (Some text) instant = IsUnsignedIn 0 last_instant text → instant ≡ Some (digits_value 10 (without_leading_plus text))
+IsInstantIn (Some text) instant = IsUnsignedIn 0 last_instant text
+    → instant ≡ Some (digits_value 10 (without_leading_plus text))
 
 -- there is a command, and it is `check`, `eval`, `plan`, `replay`, `run` or `explain`
 pub record IsCommand (command : Option (Text × List Row)) : Type 0 where
   pub found : Text × List Row
   pub is : command ≡ Some found
-  pub named : (found.0 ≡ codes "check") ⊎ ((found.0 ≡ codes "eval") ⊎ ((found.0 ≡ codes "plan") ⊎ ((found.0 ≡ codes "replay") ⊎ ((found.0 ≡ codes "run") ⊎ (found.0 ≡ codes "explain")))))
+  pub named : (found.0 ≡ codes "check")
+      ⊎ ((found.0 ≡ codes "eval") ⊎ ((found.0 ≡ codes "plan") ⊎ ((found.0 ≡ codes "replay")
+      ⊎ ((found.0 ≡ codes "run") ⊎ (found.0 ≡ codes "explain")))))
 
 -- The command is `check`, and the request is what its matches hold, argument by argument.
 pub record IsCheckIn (command : Option (Text × List Row)) (request : CheckRequest) : Type 0 where

@@ -1,5 +1,6 @@
 -- The letters of a schedule.
-use Rattle.std.specs.Prelude.{ℕ, ◌+◌, ◌-◌, Bool, ◌&&◌, ◌||◌, not, nat_le, nat_eq, Option, Some, None, is_some, if◌then◌else◌}
+use Rattle.std.specs.Prelude.{ℕ, ◌+◌, ◌-◌, Bool, ◌&&◌, ◌||◌, not, nat_le, nat_eq, Option, Some, None, is_some}
+use Rattle.std.specs.Prelude.{if◌then◌else◌}
 
 -- `0` to `9` are turns of the sites 0 to 9, and `a` to `f` of the sites 10 to 15
 abbrev pub turn_of : ℕ → Option ℕ

@@ -1,5 +1,6 @@
 -- What the text of a schedule says, and which refusal comes where it says nothing.
-use Rattle.std.specs.Prelude.{ℕ, List, length, nat_lt, position, Option, Some, None, Result, Ok, Err, if◌then◌else◌}
+use Rattle.std.specs.Prelude.{ℕ, List, length, nat_lt, position, Option, Some, None, Result, Ok, Err}
+use Rattle.std.specs.Prelude.{if◌then◌else◌}
 use Rattle.std.specs.List.{filter_map}
 use Rattle.lulimits.specs.Limits.{longest_schedule}
 use Rattle.lusdist_shell.specs.declared.schedule.ScheduleError.{ScheduleError}
@@ -13,4 +14,5 @@ turns_unless (Some byte) text = Err (BadSchedule byte)
 
 -- the turns of a text of at most 67,108,864 bytes, or its first bad byte
 abbrev pub schedule_of : List ℕ → Result (List ℕ) ScheduleError
-schedule_of text = if nat_lt longest_schedule (length text) then Err LongSchedule else turns_unless (position is_bad text) text
+schedule_of text = if nat_lt longest_schedule (length text) then Err LongSchedule
+    else turns_unless (position is_bad text) text

@@ -39,7 +39,7 @@ pub struct Meter<'a, R> {
     sites: AtomicU64,
     instants: AtomicU64,
     reached: [AtomicU64; MOST_SITES],
-    told: AtomicU64,
+    reported: AtomicU64,
 }
 
 /// As many sites as there may be, which have done nothing.
@@ -73,7 +73,7 @@ impl<'a, R: Clock + Eprint> Meter<'a, R> {
             sites: AtomicU64::new(0),
             instants: AtomicU64::new(0),
             reached: none_reached(),
-            told: AtomicU64::new(0),
+            reported: AtomicU64::new(0),
         }
     }
 
@@ -88,11 +88,11 @@ impl<'a, R: Clock + Eprint> Meter<'a, R> {
         let Some(now) = self.age() else {
             return false;
         };
-        let told = self.told.load(Ordering::Relaxed);
-        now >= told.saturating_add(PAUSE)
+        let reported = self.reported.load(Ordering::Relaxed);
+        now >= reported.saturating_add(PAUSE)
             && self
-                .told
-                .compare_exchange(told, now, Ordering::Relaxed, Ordering::Relaxed)
+                .reported
+                .compare_exchange(reported, now, Ordering::Relaxed, Ordering::Relaxed)
                 .is_ok()
     }
 

@@ -1,15 +1,15 @@
 -- At which instant a site stands.
 use Rattle.std.proofs.Common.{◌≡◌, ◌⊎◌, inl, inr, Bool, true, false, refl}
-use Rattle.lusite.specs.declared.desk.Desk.{Desk}
+use Rattle.lusite.specs.declared.state.SiteState.{SiteState}
 use Rattle.lusite.specs.Machine.{IsAtInstant, IsGoingAt, IsStoppedAt, is_faulted, done_of}
 use Rattle.lusite.specs.Sites.{IsSite}
 
-going_or_stopped : (a : Desk) → IsSite a → (b : Bool) → is_faulted a ≡ b → IsGoingAt a.inputs.job a.inputs.site (done_of a) a.instant a.place a.step ⊎ IsStoppedAt a.inputs.job a.inputs.site (done_of a) a.step
+going_or_stopped : (a : SiteState) → IsSite a → (b : Bool) → is_faulted a ≡ b → IsGoingAt a.inputs.job a.inputs.site (done_of a) a.instant a.place a.step ⊎ IsStoppedAt a.inputs.job a.inputs.site (done_of a) a.step
 going_or_stopped a i true e = inr (record { done = (i.stands.stopped e).0; stopped = (i.stands.stopped e).1; computed = i.stands.stopped_at e })
 going_or_stopped a i false e = inl (record { free = i.stands.no_stop e; ready = i.ready e })
 
-pub desk_instant : (a : Desk) → IsSite a → IsAtInstant a.inputs.job a.inputs.site (done_of a) a.instant
-desk_instant a i =
+pub state_instant : (a : SiteState) → IsSite a → IsAtInstant a.inputs.job a.inputs.site (done_of a) a.instant
+state_instant a i =
     record {
       place = a.place;
       step = a.step;

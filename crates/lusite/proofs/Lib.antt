@@ -1,18 +1,18 @@
 pub mod Machine
-mod Desks
-pub mod Told
+mod SiteStates
+pub mod Reported
 mod Offers
 pub mod Turns
 mod Starts
 mod Outputs
-mod FaultsTold
+mod FaultsReported
 mod Passed
 mod Widths
 mod Skips
 mod Moves
 mod Held
 mod Rows
-mod Posts
+mod SiteFlows
 mod Counting
 mod Drawn
 mod Instants

@@ -11,7 +11,7 @@ use Rattle.luflow.specs.declared.data.Status.TheVariants.{Absent, Present}
 use Rattle.luflow.specs.declared.form.Clock.{Clock}
 use Rattle.luflow.specs.declared.form.Clock.TheVariants.{Base, On}
 use Rattle.luflow.specs.declared.form.Flow.{Flow}
-use Rattle.luworld.specs.Runs.{Run, streams_of, knows, link_into, listed, cell, endless, script, outline, is_open, IsFree, HasNoStop, items_before, IsJob, Fits, sends}
+use Rattle.luworld.specs.Jobs.{JobView, streams_of, knows, link_into, listed, cell, endless, script, outline, is_open, IsFree, HasNoStop, items_before, IsJob, IsCoherent, sends}
 use Rattle.lueval_lines.specs.declared.past.Past.{Past}
 use Rattle.luflow.specs.Streams.{Mark, Known, Streams, clock_at, either, ticked, newer, before, is_value, truth_in}
 use Rattle.luflow.specs.declared.form.Outcome.{Outcome}
@@ -19,9 +19,9 @@ use Rattle.luflow.specs.declared.form.Outcome.TheVariants.{Gives, Faults, Stuck}
 use Rattle.lusite_program.specs.Programs.{part_of}
 use Rattle.luflow.specs.Values.{value_at, under}
 use Rattle.luworld.specs.Outline.{stops}
-use Rattle.luflow.specs.Program.{Table, flow_at, flows_of, clock_reads, form_reads}
+use Rattle.luflow.specs.Program.{InputsView, flow_at, flows_of, clock_reads, form_reads}
 use Rattle.luflow.specs.Solution.{says, clock_of_flow}
-use Rattle.luworld.specs.World.{Item, Compute, Puts, Takes}
+use Rattle.luworld.specs.Systems.{Item, Compute, Puts, Takes}
 use Rattle.luworld.proofs.Cuts.{cut_at, cut_free, no_stop_more, cut_stops, stop_not, cut_take}
 use Rattle.luflow.specs.Messages.{presents, once_if}
 use Rattle.luworld.proofs.Outlines.{cell_is}
@@ -63,7 +63,7 @@ size_of true false (Some true) c None x ps h = none_size c (length ps)
 size_of true false (Some false) c None x ps h = none_size c (length ps)
 
 -- the number of items of a flow, by the clock that the machine reads
-pub cell_length : (job : Run) (ok : Fits job.plan) (s t i : ℕ) (c : Option Bool) → i < flows_of job.plan.flat → (knows job.plan s i ≡ true → nat_lt t job.inputs.instants ≡ true → c ≡ clock_of_flow job.inputs (streams_of job) (flow_at job.plan.flat i) t) → length (cell job (streams_of job) s t i) ≡ in_cell (not (nat_lt t job.inputs.instants) || is_open c) (stands job.plan i s) (nat_lt t job.inputs.instants) (length (sends job.plan s i)) (is_some (link_into job.plan s i))
+pub cell_length : (job : JobView) (ok : IsCoherent job.plan) (s t i : ℕ) (c : Option Bool) → i < flows_of job.plan.flat → (knows job.plan s i ≡ true → nat_lt t job.inputs.instants ≡ true → c ≡ clock_of_flow job.inputs (streams_of job) (flow_at job.plan.flat i) t) → length (cell job (streams_of job) s t i) ≡ in_cell (not (nat_lt t job.inputs.instants) || is_open c) (stands job.plan i s) (nat_lt t job.inputs.instants) (length (sends job.plan s i)) (is_some (link_into job.plan s i))
 cell_length job ok s t i c li h =
     let σ = streams_of job in
     ap length (cell_is job σ ok s t i li)
@@ -100,7 +100,7 @@ truth_there d (Present x) = (is_value d x, refl)
 truth_is : (d : Datum) (m : Mark) (status : Status) → m ≡ Known status → (b : Bool) × (truth_in d m ≡ Some b)
 truth_is d m status e = let w = truth_there d status in (w.0, ap (truth_in d) e ∙ w.1)
 
-clock_is : (inputs : Table) (σ : Streams) (now : List Status) (clock : Clock) (t : ℕ) → All (IsShown σ now t) (clock_reads clock) → (b : Bool) × (clock_at inputs σ clock t ≡ Some b)
+clock_is : (inputs : InputsView) (σ : Streams) (now : List Status) (clock : Clock) (t : ℕ) → All (IsShown σ now t) (clock_reads clock) → (b : Bool) × (clock_at inputs σ clock t ≡ Some b)
 clock_is inputs σ now Base t h = (nat_lt t inputs.instants, refl)
 clock_is inputs σ now (On c d) t h =
     let w = All-get_or (IsShown σ now t) (c ∷ []) 0 c (omega arith) h in truth_is d (σ c t) w.status w.is
@@ -123,10 +123,10 @@ count_one_more Absent past n h = omega arith
 count_one_more (Present d) past n h = omega arith
 
 -- an item at place n stops the script
-abbrev pub stops_at : Run → ℕ → ℕ → Item → Bool
+abbrev pub stops_at : JobView → ℕ → ℕ → Item → Bool
 stops_at job s n x = stops (outline job (streams_of job)) (take n (endless job (streams_of job) s)) x
 
-module _ (job : Run) (s : ℕ) (ij : IsJob job) where
+module _ (job : JobView) (s : ℕ) (ij : IsJob job) where
   -- flow i of rank p, and what its equation says
   pub there : (p : ℕ) → p < length job.plan.flat.order → (flow : Flow) × (flow_at job.plan.flat (slice_index job.plan.flat.order p) ≡ Some flow) × (slice_index job.plan.flat.order p < flows_of job.plan.flat)
   there p lp =

@@ -9,49 +9,49 @@ use Rattle.luflow.specs.declared.data.Status.{Status}
 use Rattle.luflow.specs.declared.data.Status.TheVariants.{Absent}
 use Rattle.luflow.specs.Program.{flows_of, IsOrdered}
 use Rattle.luflow.proofs.Solutions.{some_at}
-use Rattle.luworld.specs.Needs.{Distribution}
-use Rattle.luworld.specs.Runs.{Run, streams_of, knows, items_before}
+use Rattle.luworld.specs.Needs.{PlanView}
+use Rattle.luworld.specs.Jobs.{JobView, streams_of, knows, items_before}
 use Rattle.lueval_lines.specs.declared.past.Past.{Past}
 use Rattle.lueval_lines.specs.Frames.{later}
-use Rattle.lusite.specs.declared.desk.Desk.{Desk}
+use Rattle.lusite.specs.declared.state.SiteState.{SiteState}
 use Rattle.lusite.specs.declared.next.Next.{Next}
 use Rattle.lusite.specs.declared.next.Next.TheVariants.{Local, Put, Take, Faulted}
 use Rattle.luflow.specs.declared.data.Datum.{Datum}
 use Rattle.luflow.specs.declared.message.Body.TheVariants.{Value, Close}
 use Rattle.lusite.specs.Machine.{is_faulted, Stands, IsSet, done_of, cell_size, offered, offered_at, offered_part, offered_own, count_kept, datum_shown, shown_of, pasts_of}
 use Rattle.lusite_program.specs.Logs.{LogView, IsLogged}
-use Rattle.lusite_program.specs.Programs.{SitePlan, ranks_of, places_of, rank_at, part_at, parts_of, no_part, knows_in}
+use Rattle.lusite_program.specs.Programs.{SiteProgramView, ranks_of, places_of, rank_at, part_at, parts_of, no_part, knows_in}
 use Rattle.lusite_program.proofs.Carried.{filter_same}
 use Rattle.luworld.proofs.Cursor.{before_next_instant}
-use Rattle.lusite.proofs.Desks.{Going, pass_desk, tick_desk, no_step}
-use Rattle.lusite_program.proofs.Posts.{part_there}
+use Rattle.lusite.proofs.SiteStates.{Going, pass_state, tick_state, no_step}
+use Rattle.lusite_program.proofs.SiteFlows.{part_there}
 use Rattle.lusite.proofs.Skips.{stands_skip, logged_skip, before_skip}
 use Rattle.lusite_program.proofs.Ranks.{AreUnknown, rank_le, rank_in, rank_next, unknown_first, unknown_next, places_has}
 
 -- the ranks that the parts say are those of the flows that the site knows
-pub ranks_found : (plan : Distribution) (s : ℕ) → IsOrdered plan.flat → filter (λ p. knows_in (unwrap_or (slice_get (parts_of plan s) (slice_index plan.flat.order p)) no_part)) (range_with_len 0 (length plan.flat.order)) ≡ ranks_of plan s
+pub ranks_found : (plan : PlanView) (s : ℕ) → IsOrdered plan.flat → filter (λ p. knows_in (unwrap_or (slice_get (parts_of plan s) (slice_index plan.flat.order p)) no_part)) (range_with_len 0 (length plan.flat.order)) ≡ ranks_of plan s
 ranks_found plan s ordered =
-    let p : SitePlan = record { plan = plan; site = s } in
+    let p : SiteProgramView = record { plan = plan; site = s } in
     filter_same (λ r. knows_in (unwrap_or (slice_get (parts_of plan s) (slice_index plan.flat.order r)) no_part)) (λ r. knows plan s (slice_index plan.flat.order r)) 0 (length plan.flat.order)
     (λ r le lt. ap knows_in (part_there p (slice_index plan.flat.order r) (All-get_or (λ i. i < flows_of plan.flat) plan.flat.order r 0 (omega (arith, lt)) ordered.only_flows)))
 
 -- before the first flow that a site knows
-pub start_next : (p : SitePlan) (job : Run) (s : ℕ) → p.plan ≡ job.plan → p.site ≡ s → (rank_at p 0 ≤ length job.plan.flat.order) × AreUnknown job.plan s 0 (rank_at p 0)
+pub start_next : (p : SiteProgramView) (job : JobView) (s : ℕ) → p.plan ≡ job.plan → p.site ≡ s → (rank_at p 0 ≤ length job.plan.flat.order) × AreUnknown job.plan s 0 (rank_at p 0)
 start_next p job s plan_is site_is = (
-  subst (λ (q : Distribution). rank_at p 0 ≤ length q.flat.order) plan_is (rank_le p 0),
-  subst (λ (k : ℕ). AreUnknown job.plan k 0 (rank_at p 0)) site_is (subst (λ (q : Distribution). AreUnknown q p.site 0 (rank_at p 0)) plan_is (unknown_first p)),
+  subst (λ (q : PlanView). rank_at p 0 ≤ length q.flat.order) plan_is (rank_le p 0),
+  subst (λ (k : ℕ). AreUnknown job.plan k 0 (rank_at p 0)) site_is (subst (λ (q : PlanView). AreUnknown q p.site 0 (rank_at p 0)) plan_is (unknown_first p)),
 )
 
-module _ (a : Desk) (set : IsSet a) where
-  abbrev job : Run
+module _ (a : SiteState) (set : IsSet a) where
+  abbrev job : JobView
   job = a.inputs.job
 
   abbrev s : ℕ
   s = a.inputs.site
 
   -- the site's program is of the job
-  program_is : (Q : Distribution → ℕ → Type 0) → Q a.program.plan a.program.site → Q job.plan s
-  program_is Q h = subst (λ (k : ℕ). Q job.plan k) set.site_is (subst (λ (q : Distribution). Q q a.program.site) set.plan_is h)
+  program_is : (Q : PlanView → ℕ → Type 0) → Q a.program.plan a.program.site → Q job.plan s
+  program_is Q h = subst (λ (k : ℕ). Q job.plan k) set.site_is (subst (λ (q : PlanView). Q q a.program.site) set.plan_is h)
 
   -- the flow at hand is of the site's own
   pub rank_here : a.row < length (places_of a.program.plan a.program.site) → slice_get (ranks_of a.program.plan a.program.site) a.row ≡ Some a.place
@@ -89,17 +89,17 @@ module _ (a : Desk) (set : IsSet a) where
 
   -- the program's flows are in order
   pub ordered_here : IsOrdered a.program.plan.flat
-  ordered_here = subst (λ (q : Distribution). IsOrdered q.flat) (sym set.plan_is) set.is_job.is_plan.ordered
+  ordered_here = subst (λ (q : PlanView). IsOrdered q.flat) (sym set.plan_is) set.is_job.is_plan.ordered
 
   -- what is kept of the flows of the site's own is kept of each that it knows
   pub aged : (pasts' : List Past) → ((k : ℕ) (x : Status) (y : Past) → k < length (places_of a.program.plan a.program.site) → slice_get (shown_of a) (slice_index (places_of a.program.plan a.program.site) k) ≡ Some x → slice_get (pasts_of a) (slice_index (places_of a.program.plan a.program.site) k) ≡ Some y → slice_get pasts' (slice_index (places_of a.program.plan a.program.site) k) ≡ Some (later x y)) → (i : ℕ) → i < flows_of job.plan.flat → knows job.plan s i ≡ true → (x : Status) (y : Past) → slice_get (shown_of a) i ≡ Some x → slice_get (pasts_of a) i ≡ Some y → slice_get pasts' i ≡ Some (later x y)
   aged pasts' each i li known x y ex ey =
       let known' : knows a.program.plan a.program.site i ≡ true = ap₂ (λ q k. knows q k i) set.plan_is set.site_is ∙ known in
-      let w = places_has a.program ordered_here i (subst (λ (q : Distribution). i < flows_of q.flat) (sym set.plan_is) li) known' in
+      let w = places_has a.program ordered_here i (subst (λ (q : PlanView). i < flows_of q.flat) (sym set.plan_is) li) known' in
       ap (slice_get pasts') (sym w.2) ∙ each w.0 x y w.1 (ap (slice_get (shown_of a)) w.2 ∙ ex) (ap (slice_get (pasts_of a)) w.2 ∙ ey)
 
 -- a put, of a value or of the close
-module _ (a : Desk) (i : ℕ) (outs : List ℕ) where
+module _ (a : SiteState) (i : ℕ) (outs : List ℕ) where
   value_put : Next
   value_put = Put (slice_index outs (a.step - 1)) (record { no = count_kept (pasts_of a) i; body = Value (datum_shown (shown_of a) i) })
 
@@ -120,7 +120,7 @@ module _ (a : Desk) (i : ℕ) (outs : List ℕ) where
       ∙ ap (λ (b : Bool). if b then (if a.step == 0 then Local else value_put) else close_put) (sym late)
 
 -- what is offered for the flow at hand
-module _ (a : Desk) (set : IsSet a) (l : a.row < length (places_of a.program.plan a.program.site)) (goes : is_faulted a ≡ false) (i : ℕ) (here : i ≡ slice_index a.program.plan.flat.order a.place) where
+module _ (a : SiteState) (set : IsSet a) (l : a.row < length (places_of a.program.plan a.program.site)) (goes : is_faulted a ≡ false) (i : ℕ) (here : i ≡ slice_index a.program.plan.flat.order a.place) where
   offered_here : offered_part a i (part_at a.program i) ≡ offered a
   offered_here =
       ap (λ j. offered_part a j (part_at a.program j)) here
@@ -134,13 +134,13 @@ module _ (a : Desk) (set : IsSet a) (l : a.row < length (places_of a.program.pla
   offered_take_here other = ap (λ (b : Bool). if b then offered_own a i (part_at a.program i).to else Take (unwrap_or (part_at a.program i).from 0)) (sym other) ∙ offered_here
 
 -- from a flow whose items are all done to the next that the site knows
-module _ (a : Desk) (g : Going a) (l : a.row < length (places_of a.program.plan a.program.site)) where
+module _ (a : SiteState) (g : Going a) (l : a.row < length (places_of a.program.plan a.program.site)) where
   abbrev next : ℕ
   next = rank_at a.program (a.row + 1)
 
   pub pass_next : (now' : List Status) → a.step ≡ cell_size a (slice_index a.program.plan.flat.order a.place) → (a.step ≡ 0 → now' ≡ set (shown_of a) (slice_index a.program.plan.flat.order a.place) Absent) → (0 < a.step → now' ≡ (shown_of a)) → Stands a.inputs.job a.inputs.site now' (pasts_of a) a.instant next 0 (is_faulted a) × (items_before a.inputs.job (streams_of a.inputs.job) a.inputs.site a.instant next 0 ≡ done_of a)
   pass_next now' all cleared left =
-      let r = pass_desk a now' g (place_within a g.set l) all cleared left in
+      let r = pass_state a now' g (place_within a g.set l) all cleared left in
       let above : a.place + 1 ≤ next = let n = next_above a g.set l in omega (arith, n) in
       let unknown = next_unknown a g.set l in (
         stands_next a g.set now' (pasts_of a) a.instant (a.place + 1) next (is_faulted a) g.goes r.0 above (rank_within a g.set (a.row + 1)) unknown,
@@ -151,13 +151,13 @@ module _ (a : Desk) (g : Going a) (l : a.row < length (places_of a.program.plan 
   logged_next logs h = logged_skip a.inputs.job a.inputs.site g.set.is_job logs a.instant (a.place + 1) next (let n = next_above a g.set l in omega (arith, n)) (next_unknown a g.set l) h
 
 -- from the last flow of an instant to the first of the next that the site knows
-module _ (a : Desk) (g : Going a) (last : a.place ≡ length a.program.plan.flat.order) (early : a.instant < a.inputs.job.inputs.instants) where
+module _ (a : SiteState) (g : Going a) (last : a.place ≡ length a.program.plan.flat.order) (early : a.instant < a.inputs.job.inputs.instants) where
   abbrev first : ℕ
   first = rank_at a.program 0
 
   pub tick_next : (pasts' : List Past) → length pasts' ≡ length (pasts_of a) → ((k : ℕ) (x : Status) (y : Past) → k < length (places_of a.program.plan a.program.site) → slice_get (shown_of a) (slice_index (places_of a.program.plan a.program.site) k) ≡ Some x → slice_get (pasts_of a) (slice_index (places_of a.program.plan a.program.site) k) ≡ Some y → slice_get pasts' (slice_index (places_of a.program.plan a.program.site) k) ≡ Some (later x y)) → All (λ x. x.count ≤ a.instant + 1) pasts' → Stands a.inputs.job a.inputs.site (shown_of a) pasts' (a.instant + 1) first 0 (is_faulted a) × (items_before a.inputs.job (streams_of a.inputs.job) a.inputs.site (a.instant + 1) first 0 ≡ done_of a)
   tick_next pasts' len each counts =
-      let r = tick_desk a pasts' g last early len (aged a g.set pasts' each) counts in
+      let r = tick_state a pasts' g last early len (aged a g.set pasts' each) counts in
       let low : 0 ≤ first = omega arith in
       let unknown = first_unknown a g.set in (
         stands_next a g.set (shown_of a) pasts' (a.instant + 1) 0 first (is_faulted a) g.goes r.0 low (rank_within a g.set 0) unknown,
@@ -169,7 +169,7 @@ module _ (a : Desk) (g : Going a) (last : a.place ≡ length a.program.plan.flat
   tick_done =
       let job = a.inputs.job in
       let σ = streams_of job in
-      let end' = last ∙ ap (λ (q : Distribution). length q.flat.order) g.set.plan_is in
+      let end' = last ∙ ap (λ (q : PlanView). length q.flat.order) g.set.plan_is in
       before_skip job a.inputs.site g.set.is_job (a.instant + 1) 0 first (omega arith) (rank_within a g.set 0) (first_unknown a g.set)
       ∙ before_next_instant job σ a.inputs.site a.instant
       ∙ ap₂ (items_before job σ a.inputs.site a.instant) (sym end') (sym (no_step a g end'))

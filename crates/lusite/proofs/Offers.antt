@@ -17,7 +17,7 @@ use Rattle.luflow.specs.declared.form.Flow.{Flow}
 use Rattle.luflow.specs.declared.form.Outcome.{Outcome}
 use Rattle.luflow.specs.declared.form.Outcome.TheVariants.{Gives, Faults, Stuck}
 use Rattle.luflow.specs.declared.message.Body.TheVariants.{Value, Close}
-use Rattle.luflow.specs.Program.{FlatProgram, Table, flow_at, flows_of, places, form_reads, clock_reads}
+use Rattle.luflow.specs.Program.{FlatView, InputsView, flow_at, flows_of, places, form_reads, clock_reads}
 use Rattle.luflow.specs.Streams.{Mark, Known, Broken, Streams, is_broken, clock_at, ticked, before}
 use Rattle.luflow.specs.Values.{value_of, value_at, mark_of, under}
 use Rattle.luflow.specs.Solution.{clock_of_flow}
@@ -25,10 +25,10 @@ use Rattle.luflow.specs.Sound.{IsUnbroken}
 use Rattle.luflow.specs.Messages.{presents, messages, marks}
 use Rattle.luflow.proofs.Solutions.{all_left}
 use Rattle.luworld.specs.declared.link.Link.{Link}
-use Rattle.luworld.specs.World.{Item, Compute, Puts, Takes, puts, takes, puts_before, takes_before}
+use Rattle.luworld.specs.Systems.{Item, Compute, Puts, Takes, puts, takes, puts_before, takes_before}
 use Rattle.luworld.specs.Outline.{shows}
-use Rattle.luworld.specs.Needs.{Distribution, stands, home}
-use Rattle.luworld.specs.Runs.{Run, Fits, streams_of, knows, sends, link_into, is_into, listed, carried, receiver_of, flow_of_link, is_open, cell, script, outline, system_of, items_before, link_list, messages_of}
+use Rattle.luworld.specs.Needs.{PlanView, stands, home}
+use Rattle.luworld.specs.Jobs.{JobView, IsCoherent, streams_of, knows, sends, link_into, is_into, listed, carried, receiver_of, flow_of_link, is_open, cell, script, outline, system_of, items_before, link_list, messages_of}
 use Rattle.luworld.proofs.Outlines.{bool_cases, cell_is, carrier_is, flow_of_carried, is_outline, shows_is}
 use Rattle.luworld.proofs.Cursor.{puts_done, takes_done}
 use Rattle.luworld.proofs.Messages.{newer_back, message_at, close_at}
@@ -37,12 +37,12 @@ use Rattle.lueval_lines.specs.Frames.{datum_there, ticked_in, view_in, IsShown, 
 use Rattle.lueval_lines.proofs.Reading.{Holds, value_read}
 use Rattle.lusite.specs.declared.next.Next.{Next}
 use Rattle.lusite.specs.declared.next.Next.TheVariants.{Local, Take, Put, Ended, Faulted}
-use Rattle.lusite.specs.declared.desk.Desk.{Desk}
+use Rattle.lusite.specs.declared.state.SiteState.{SiteState}
 use Rattle.lusite_program.specs.Programs.{part_of}
 use Rattle.lusite.specs.Machine.{is_faulted, Stands, StandsAt, IsSet, IsReadyAt, Ready, Over, Computes, outcome_of, count_kept, datum_shown, offered_own, offered_part, offered_at, offered, done_of, IsNext, shown_of, pasts_of}
 use Rattle.lusite.proofs.Machine.{there, equation, reads_shown, next_item, ended, script_take}
-use Rattle.lusite.proofs.Desks.{Going, going, part_here, here_in}
-use Rattle.lusite.proofs.Told.{lt-false}
+use Rattle.lusite.proofs.SiteStates.{Going, going, part_here, here_in}
+use Rattle.lusite.proofs.Reported.{lt-false}
 
 -- the items of a cell, by their kind
 open_items : (k : Option Bool) (xs : List Item) → 0 < length (cond (is_open k) xs []) → (k ≡ Some true) × (cond (is_open k) xs [] ≡ xs)
@@ -50,7 +50,7 @@ open_items None xs l = absurd (omega arith)
 open_items (Some false) xs l = absurd (omega arith)
 open_items (Some true) xs l = (refl, refl)
 
-module _ (job : Run) (σ : Streams) (ok : Fits job.plan) (s t i : ℕ) (li : i < flows_of job.plan.flat) where
+module _ (job : JobView) (σ : Streams) (ok : IsCoherent job.plan) (s t i : ℕ) (li : i < flows_of job.plan.flat) where
   abbrev list_at : Bool → Bool → List Item
   list_at early own = cond early (cond (is_open (clock_of_flow job.inputs σ (flow_at job.plan.flat i) t)) (cond own (Compute i t ∷ []) [] ++ cond own (map Puts (sends job.plan s i)) (map Takes (listed (link_into job.plan s i)))) []) (cond own (map Puts (sends job.plan s i)) (map Takes (listed (link_into job.plan s i))))
 
@@ -92,14 +92,14 @@ put_there outs j l =
     let lj : j < length outs = omega (arith, n) in
     (slice_get-map Puts outs j ∙ ap (option_map Puts) (slice_get-get_or outs j 0 lj), lj)
 
-pub known_of_own : (plan : Distribution) (s i : ℕ) → stands plan i s ≡ true → knows plan s i ≡ true
+pub known_of_own : (plan : PlanView) (s i : ℕ) → stands plan i s ≡ true → knows plan s i ≡ true
 known_of_own plan s i own = ap (λ b. b || is_some (link_into plan s i)) own
 
 or_true : (a b : Bool) → b ≡ true → (a || b) ≡ true
 or_true true b h = refl
 or_true false b h = h
 
-pub known_of_link : (plan : Distribution) (s i l : ℕ) → link_into plan s i ≡ Some l → knows plan s i ≡ true
+pub known_of_link : (plan : PlanView) (s i l : ℕ) → link_into plan s i ≡ Some l → knows plan s i ≡ true
 known_of_link plan s i l e = or_true (stands plan i s) (is_some (link_into plan s i)) (ap is_some e)
 
 reads_places : (P : ℕ → Type 0) (form : Form) → All P (places form) → All P (form_reads form)
@@ -132,7 +132,7 @@ ticked_there : (o : Option Past) (past : Past) (b : Option Bool) → o ≡ Some 
 ticked_there o past b e h = h ∙ sym (ap ticked_in e)
 
 -- what the machine of a site works out for a flow of its own, whose clock is true
-pub record WorksOut (job : Run) (i t : ℕ) (o : Outcome) : Type 0 where
+pub record WorksOut (job : JobView) (i t : ℕ) (o : Outcome) : Type 0 where
   pub flow : Flow
   pub there : flow_at job.plan.flat i ≡ Some flow
   pub inside : i < flows_of job.plan.flat
@@ -142,7 +142,7 @@ pub record WorksOut (job : Run) (i t : ℕ) (o : Outcome) : Type 0 where
   pub mark : streams_of job i t ≡ mark_of o
 
 -- what is computed is what the equation says
-pub computed_is : (a : Desk) (i : ℕ) (o : Outcome) → Going a → a.place < length a.inputs.job.plan.flat.order → slice_index a.inputs.job.plan.flat.order a.place ≡ i → stands a.inputs.job.plan i a.inputs.site ≡ true → a.instant < a.inputs.job.inputs.instants → clock_of_flow a.inputs.job.inputs (streams_of a.inputs.job) (flow_at a.inputs.job.plan.flat i) a.instant ≡ Some true → Computes a i (flow_at a.program.plan.flat i) o → WorksOut a.inputs.job i a.instant o
+pub computed_is : (a : SiteState) (i : ℕ) (o : Outcome) → Going a → a.place < length a.inputs.job.plan.flat.order → slice_index a.inputs.job.plan.flat.order a.place ≡ i → stands a.inputs.job.plan i a.inputs.site ≡ true → a.instant < a.inputs.job.inputs.instants → clock_of_flow a.inputs.job.inputs (streams_of a.inputs.job) (flow_at a.inputs.job.plan.flat i) a.instant ≡ Some true → Computes a i (flow_at a.program.plan.flat i) o → WorksOut a.inputs.job i a.instant o
 computed_is a i o g lp ei own lt open' c =
     let job = a.inputs.job in
     let σ = streams_of job in
@@ -151,7 +151,7 @@ computed_is a i o g lp ei own lt open' c =
     let plan_ok = g.set.is_job.is_plan in
     let is : flow_at job.plan.flat i ≡ Some f.0 = subst (λ (k : ℕ). flow_at job.plan.flat k ≡ Some f.0) ei f.1 in
     let li : i < flows_of job.plan.flat = subst (λ (k : ℕ). k < flows_of job.plan.flat) ei f.2 in
-    let same : flow_at a.program.plan.flat i ≡ Some f.0 = ap (λ (q : Distribution). flow_at q.flat i) g.set.plan_is ∙ is in
+    let same : flow_at a.program.plan.flat i ≡ Some f.0 = ap (λ (q : PlanView). flow_at q.flat i) g.set.plan_is ∙ is in
     let knows_ops = plan_ok.needs_operands a.inputs.site i f.0 is own in
     let known_i = known_of_own job.plan a.inputs.site i own in
     let knows_clock = plan_ok.needs_clock a.inputs.site i f.0 is known_i in
@@ -185,14 +185,14 @@ computed_is a i o g lp ei own lt open' c =
     }
 
 -- the item that is at hand
-pub data AtHand (a : Desk) (i : ℕ) : Type 0 where
+pub data AtHand (a : SiteState) (i : ℕ) : Type 0 where
   ComputeAt : stands a.inputs.job.plan i a.inputs.site ≡ true → a.instant < a.inputs.job.inputs.instants → a.step ≡ 0 → clock_of_flow a.inputs.job.inputs (streams_of a.inputs.job) (flow_at a.inputs.job.plan.flat i) a.instant ≡ Some true → slice_get (cell a.inputs.job (streams_of a.inputs.job) a.inputs.site a.instant i) a.step ≡ Some (Compute i a.instant) → AtHand a i
   PutEarly : stands a.inputs.job.plan i a.inputs.site ≡ true → a.instant < a.inputs.job.inputs.instants → (k : ℕ) → a.step ≡ suc k → clock_of_flow a.inputs.job.inputs (streams_of a.inputs.job) (flow_at a.inputs.job.plan.flat i) a.instant ≡ Some true → slice_get (cell a.inputs.job (streams_of a.inputs.job) a.inputs.site a.instant i) a.step ≡ Some (Puts (slice_index (sends a.inputs.job.plan a.inputs.site i) k)) → k < length (sends a.inputs.job.plan a.inputs.site i) → AtHand a i
   PutLate : stands a.inputs.job.plan i a.inputs.site ≡ true → a.instant ≡ a.inputs.job.inputs.instants → slice_get (cell a.inputs.job (streams_of a.inputs.job) a.inputs.site a.instant i) a.step ≡ Some (Puts (slice_index (sends a.inputs.job.plan a.inputs.site i) a.step)) → a.step < length (sends a.inputs.job.plan a.inputs.site i) → AtHand a i
   TakeEarly : stands a.inputs.job.plan i a.inputs.site ≡ false → a.instant < a.inputs.job.inputs.instants → a.step ≡ 0 → clock_of_flow a.inputs.job.inputs (streams_of a.inputs.job) (flow_at a.inputs.job.plan.flat i) a.instant ≡ Some true → link_into a.inputs.job.plan a.inputs.site i ≡ Some (unwrap_or (link_into a.inputs.job.plan a.inputs.site i) 0) → slice_get (cell a.inputs.job (streams_of a.inputs.job) a.inputs.site a.instant i) a.step ≡ Some (Takes (unwrap_or (link_into a.inputs.job.plan a.inputs.site i) 0)) → AtHand a i
   TakeLate : stands a.inputs.job.plan i a.inputs.site ≡ false → a.instant ≡ a.inputs.job.inputs.instants → link_into a.inputs.job.plan a.inputs.site i ≡ Some (unwrap_or (link_into a.inputs.job.plan a.inputs.site i) 0) → slice_get (cell a.inputs.job (streams_of a.inputs.job) a.inputs.site a.instant i) a.step ≡ Some (Takes (unwrap_or (link_into a.inputs.job.plan a.inputs.site i) 0)) → AtHand a i
 
-hand_own : (a : Desk) (i j : ℕ) → Going a → i < flows_of a.inputs.job.plan.flat → j ≡ a.step → j < length (cell a.inputs.job (streams_of a.inputs.job) a.inputs.site a.instant i) → stands a.inputs.job.plan i a.inputs.site ≡ true → a.instant < a.inputs.job.inputs.instants → AtHand a i
+hand_own : (a : SiteState) (i j : ℕ) → Going a → i < flows_of a.inputs.job.plan.flat → j ≡ a.step → j < length (cell a.inputs.job (streams_of a.inputs.job) a.inputs.site a.instant i) → stands a.inputs.job.plan i a.inputs.site ≡ true → a.instant < a.inputs.job.inputs.instants → AtHand a i
 hand_own a i zero g li ej lj own lt =
     let w = own_early a.inputs.job (streams_of a.inputs.job) g.set.is_job.is_plan a.inputs.site a.instant i li (lt-ltb a.instant a.inputs.job.inputs.instants lt) own (omega arith) in
     ComputeAt own lt (sym ej) w.0 (ap (slice_get (cell a.inputs.job (streams_of a.inputs.job) a.inputs.site a.instant i)) (sym ej) ∙ ap (λ xs. slice_get xs 0) w.1)
@@ -202,7 +202,7 @@ hand_own a i (suc k) g li ej lj own lt =
     let v = put_there (sends a.inputs.job.plan a.inputs.site i) k (omega (arith, n)) in
     PutEarly own lt k (sym ej) w.0 (ap (slice_get (cell a.inputs.job (streams_of a.inputs.job) a.inputs.site a.instant i)) (sym ej) ∙ ap (λ xs. slice_get xs (suc k)) w.1 ∙ v.0) v.1
 
-pub at_hand : (a : Desk) (i : ℕ) → Going a → i < flows_of a.inputs.job.plan.flat → a.step < length (cell a.inputs.job (streams_of a.inputs.job) a.inputs.site a.instant i) → AtHand a i
+pub at_hand : (a : SiteState) (i : ℕ) → Going a → i < flows_of a.inputs.job.plan.flat → a.step < length (cell a.inputs.job (streams_of a.inputs.job) a.inputs.site a.instant i) → AtHand a i
 at_hand a i g li lj =
     let job = a.inputs.job in
     let σ = streams_of job in
@@ -238,21 +238,21 @@ shown_datum Stuck status e = cc
 shown_datum (Gives d) Absent e = cc
 shown_datum (Gives d) (Present x) e = (x, refl)
 
-pub link_is : (job : Run) (l i : ℕ) → flow_of_link job.plan l ≡ Some i → link_list job (streams_of job) l ≡ messages 0 (marks (streams_of job i) job.inputs.instants)
+pub link_is : (job : JobView) (l i : ℕ) → flow_of_link job.plan l ≡ Some i → link_list job (streams_of job) l ≡ messages 0 (marks (streams_of job i) job.inputs.instants)
 unfolding link_list
 link_is job l i e = ap (messages_of job (streams_of job)) e
 
-count_is : (flat : FlatProgram) (inputs : Table) (σ : Streams) (pasts : List Past) (t i : ℕ) → IsPast flat inputs σ pasts t i → count_kept pasts i ≡ presents (σ i) t
+count_is : (flat : FlatView) (inputs : InputsView) (σ : Streams) (pasts : List Past) (t i : ℕ) → IsPast flat inputs σ pasts t i → count_kept pasts i ≡ presents (σ i) t
 count_is flat inputs σ pasts t i w = ap (λ o. unwrap_or (option_map (λ (x : Past). x.count) o) 0) w.there ∙ sym w.count
 
 -- the facts at the flow at hand
-pub record Here (a : Desk) : Type 0 where
+pub record Here (a : SiteState) : Type 0 where
   pub going_on : Going a
   pub place_lt : a.place < length a.inputs.job.plan.flat.order
   pub step_lt : a.step < length (cell a.inputs.job (streams_of a.inputs.job) a.inputs.site a.instant (slice_index a.inputs.job.plan.flat.order a.place))
 
 -- the datum of a flow that was computed or taken at this instant
-datum_here : (a : Desk) → (h : Here a) → a.instant < a.inputs.job.inputs.instants → 0 < a.step → clock_of_flow a.inputs.job.inputs (streams_of a.inputs.job) (flow_at a.inputs.job.plan.flat (slice_index a.inputs.job.plan.flat.order a.place)) a.instant ≡ Some true → streams_of a.inputs.job (slice_index a.inputs.job.plan.flat.order a.place) a.instant ≡ Known (Present (datum_shown (shown_of a) (slice_index a.inputs.job.plan.flat.order a.place)))
+datum_here : (a : SiteState) → (h : Here a) → a.instant < a.inputs.job.inputs.instants → 0 < a.step → clock_of_flow a.inputs.job.inputs (streams_of a.inputs.job) (flow_at a.inputs.job.plan.flat (slice_index a.inputs.job.plan.flat.order a.place)) a.instant ≡ Some true → streams_of a.inputs.job (slice_index a.inputs.job.plan.flat.order a.place) a.instant ≡ Known (Present (datum_shown (shown_of a) (slice_index a.inputs.job.plan.flat.order a.place)))
 datum_here a h lt some open' =
     let job = a.inputs.job in
     let σ = streams_of job in
@@ -268,7 +268,7 @@ datum_here a h lt some open' =
     let same : datum_shown (shown_of a) i ≡ d.0 = ap (λ o. unwrap_or (datum_there o) Nil) there' in
     w.is ∙ ap Known d.1 ∙ ap (λ x. Known (Present x)) (sym same)
 
-pub put_early : (a : Desk) (h : Here a) (k : ℕ) → stands a.inputs.job.plan (slice_index a.inputs.job.plan.flat.order a.place) a.inputs.site ≡ true → a.instant < a.inputs.job.inputs.instants → a.step ≡ suc k → clock_of_flow a.inputs.job.inputs (streams_of a.inputs.job) (flow_at a.inputs.job.plan.flat (slice_index a.inputs.job.plan.flat.order a.place)) a.instant ≡ Some true → k < length (sends a.inputs.job.plan a.inputs.site (slice_index a.inputs.job.plan.flat.order a.place)) → slice_get (link_list a.inputs.job (streams_of a.inputs.job) (slice_index (sends a.inputs.job.plan a.inputs.site (slice_index a.inputs.job.plan.flat.order a.place)) k)) (presents (streams_of a.inputs.job (slice_index a.inputs.job.plan.flat.order a.place)) a.instant) ≡ Some (record { no = presents (streams_of a.inputs.job (slice_index a.inputs.job.plan.flat.order a.place)) a.instant; body = Value (datum_shown (shown_of a) (slice_index a.inputs.job.plan.flat.order a.place)) })
+pub put_early : (a : SiteState) (h : Here a) (k : ℕ) → stands a.inputs.job.plan (slice_index a.inputs.job.plan.flat.order a.place) a.inputs.site ≡ true → a.instant < a.inputs.job.inputs.instants → a.step ≡ suc k → clock_of_flow a.inputs.job.inputs (streams_of a.inputs.job) (flow_at a.inputs.job.plan.flat (slice_index a.inputs.job.plan.flat.order a.place)) a.instant ≡ Some true → k < length (sends a.inputs.job.plan a.inputs.site (slice_index a.inputs.job.plan.flat.order a.place)) → slice_get (link_list a.inputs.job (streams_of a.inputs.job) (slice_index (sends a.inputs.job.plan a.inputs.site (slice_index a.inputs.job.plan.flat.order a.place)) k)) (presents (streams_of a.inputs.job (slice_index a.inputs.job.plan.flat.order a.place)) a.instant) ≡ Some (record { no = presents (streams_of a.inputs.job (slice_index a.inputs.job.plan.flat.order a.place)) a.instant; body = Value (datum_shown (shown_of a) (slice_index a.inputs.job.plan.flat.order a.place)) })
 put_early a h k own lt ek open' within =
     let job = a.inputs.job in
     let σ = streams_of job in
@@ -280,7 +280,7 @@ put_early a h k own lt ek open' within =
     ap (λ xs. slice_get xs (presents (σ i) a.instant)) (link_is job l i (let c = carrier_is job.plan a.inputs.site i k within in flow_of_carried job.plan l i c.0 c.1))
     ∙ message_at (σ i) job.inputs.instants a.instant w.past.last (datum_shown (shown_of a) i) lt w.last (datum_here a h lt (omega arith) open')
 
-pub put_late : (a : Desk) (h : Here a) (k : ℕ) → stands a.inputs.job.plan (slice_index a.inputs.job.plan.flat.order a.place) a.inputs.site ≡ true → a.instant ≡ a.inputs.job.inputs.instants → k < length (sends a.inputs.job.plan a.inputs.site (slice_index a.inputs.job.plan.flat.order a.place)) → slice_get (link_list a.inputs.job (streams_of a.inputs.job) (slice_index (sends a.inputs.job.plan a.inputs.site (slice_index a.inputs.job.plan.flat.order a.place)) k)) (presents (streams_of a.inputs.job (slice_index a.inputs.job.plan.flat.order a.place)) a.instant) ≡ Some (record { no = presents (streams_of a.inputs.job (slice_index a.inputs.job.plan.flat.order a.place)) a.instant; body = Close })
+pub put_late : (a : SiteState) (h : Here a) (k : ℕ) → stands a.inputs.job.plan (slice_index a.inputs.job.plan.flat.order a.place) a.inputs.site ≡ true → a.instant ≡ a.inputs.job.inputs.instants → k < length (sends a.inputs.job.plan a.inputs.site (slice_index a.inputs.job.plan.flat.order a.place)) → slice_get (link_list a.inputs.job (streams_of a.inputs.job) (slice_index (sends a.inputs.job.plan a.inputs.site (slice_index a.inputs.job.plan.flat.order a.place)) k)) (presents (streams_of a.inputs.job (slice_index a.inputs.job.plan.flat.order a.place)) a.instant) ≡ Some (record { no = presents (streams_of a.inputs.job (slice_index a.inputs.job.plan.flat.order a.place)) a.instant; body = Close })
 put_late a h k own end within =
     let job = a.inputs.job in
     let σ = streams_of job in
@@ -294,7 +294,7 @@ put_late a h k own end within =
     ∙ close_at (σ i) job.inputs.instants w.past.last (subst (λ (t : ℕ). before (σ i) t ≡ Some w.past.last) end w.last)
     ∙ ap (λ t. Some (record { no = presents (σ i) t; body = Close })) (sym end)
 
-count_here : (a : Desk) (h : Here a) → stands a.inputs.job.plan (slice_index a.inputs.job.plan.flat.order a.place) a.inputs.site ≡ true → count_kept (pasts_of a) (slice_index a.inputs.job.plan.flat.order a.place) ≡ presents (streams_of a.inputs.job (slice_index a.inputs.job.plan.flat.order a.place)) a.instant
+count_here : (a : SiteState) (h : Here a) → stands a.inputs.job.plan (slice_index a.inputs.job.plan.flat.order a.place) a.inputs.site ≡ true → count_kept (pasts_of a) (slice_index a.inputs.job.plan.flat.order a.place) ≡ presents (streams_of a.inputs.job (slice_index a.inputs.job.plan.flat.order a.place)) a.instant
 count_here a h own =
     let job = a.inputs.job in
     let i = slice_index job.plan.flat.order a.place in
@@ -302,7 +302,7 @@ count_here a h own =
     count_is job.plan.flat job.inputs (streams_of job) (pasts_of a) a.instant i (h.going_on.stands.kept i f.2 (known_of_own job.plan a.inputs.site i own))
 
 -- the number of puts before the one at hand
-put_no : (a : Desk) (h : Here a) (k : ℕ) → stands a.inputs.job.plan (slice_index a.inputs.job.plan.flat.order a.place) a.inputs.site ≡ true → k < length (sends a.inputs.job.plan a.inputs.site (slice_index a.inputs.job.plan.flat.order a.place)) → slice_get (cell a.inputs.job (streams_of a.inputs.job) a.inputs.site a.instant (slice_index a.inputs.job.plan.flat.order a.place)) a.step ≡ Some (Puts (slice_index (sends a.inputs.job.plan a.inputs.site (slice_index a.inputs.job.plan.flat.order a.place)) k)) → puts_before (system_of a.inputs.job) (slice_index (sends a.inputs.job.plan a.inputs.site (slice_index a.inputs.job.plan.flat.order a.place)) k) a.inputs.site (done_of a) ≡ presents (streams_of a.inputs.job (slice_index a.inputs.job.plan.flat.order a.place)) a.instant
+put_no : (a : SiteState) (h : Here a) (k : ℕ) → stands a.inputs.job.plan (slice_index a.inputs.job.plan.flat.order a.place) a.inputs.site ≡ true → k < length (sends a.inputs.job.plan a.inputs.site (slice_index a.inputs.job.plan.flat.order a.place)) → slice_get (cell a.inputs.job (streams_of a.inputs.job) a.inputs.site a.instant (slice_index a.inputs.job.plan.flat.order a.place)) a.step ≡ Some (Puts (slice_index (sends a.inputs.job.plan a.inputs.site (slice_index a.inputs.job.plan.flat.order a.place)) k)) → puts_before (system_of a.inputs.job) (slice_index (sends a.inputs.job.plan a.inputs.site (slice_index a.inputs.job.plan.flat.order a.place)) k) a.inputs.site (done_of a) ≡ presents (streams_of a.inputs.job (slice_index a.inputs.job.plan.flat.order a.place)) a.instant
 put_no a h k own within item =
     let job = a.inputs.job in
     let σ = streams_of job in
@@ -323,7 +323,7 @@ and_both : (a b : Bool) → (a && b) ≡ true → (a ≡ true) × (b ≡ true)
 and_both true b h = (refl, h)
 and_both false b h = absurd (false≢true h)
 
-pub into_is : (plan : Distribution) (s i l : ℕ) → link_into plan s i ≡ Some l → (l < length plan.links) × (carried plan l ≡ i) × (receiver_of plan l ≡ s)
+pub into_is : (plan : PlanView) (s i l : ℕ) → link_into plan s i ≡ Some l → (l < length plan.links) × (carried plan l ≡ i) × (receiver_of plan l ≡ s)
 into_is plan s i l e =
     let d : Link = record { flow = 0; from = 0; to = 0 } in
     let w = position-Some (is_into s i) plan.links l d e in
@@ -335,7 +335,7 @@ into_is plan s i l e =
     )
 
 -- the number of takes before the one at hand
-pub take_no : (a : Desk) (h : Here a) (l : ℕ) → link_into a.inputs.job.plan a.inputs.site (slice_index a.inputs.job.plan.flat.order a.place) ≡ Some l → slice_get (cell a.inputs.job (streams_of a.inputs.job) a.inputs.site a.instant (slice_index a.inputs.job.plan.flat.order a.place)) a.step ≡ Some (Takes l) → takes_before (system_of a.inputs.job) l a.inputs.site (done_of a) ≡ presents (streams_of a.inputs.job (slice_index a.inputs.job.plan.flat.order a.place)) a.instant
+pub take_no : (a : SiteState) (h : Here a) (l : ℕ) → link_into a.inputs.job.plan a.inputs.site (slice_index a.inputs.job.plan.flat.order a.place) ≡ Some l → slice_get (cell a.inputs.job (streams_of a.inputs.job) a.inputs.site a.instant (slice_index a.inputs.job.plan.flat.order a.place)) a.step ≡ Some (Takes l) → takes_before (system_of a.inputs.job) l a.inputs.site (done_of a) ≡ presents (streams_of a.inputs.job (slice_index a.inputs.job.plan.flat.order a.place)) a.instant
 take_no a h l into item =
     let job = a.inputs.job in
     let σ = streams_of job in
@@ -350,18 +350,18 @@ take_no a h l into item =
     ∙ shows_is job g.set.is_job i a.instant w.past.last f.2 g.stands.instant_le w.last
 
 -- the answer of `offer`, where a flow is at hand
-offered_here : (a : Desk) (h : Here a) → offered a ≡ offered_part a (slice_index a.inputs.job.plan.flat.order a.place) (part_of a.inputs.job.plan a.inputs.site (slice_index a.inputs.job.plan.flat.order a.place))
+offered_here : (a : SiteState) (h : Here a) → offered a ≡ offered_part a (slice_index a.inputs.job.plan.flat.order a.place) (part_of a.inputs.job.plan a.inputs.site (slice_index a.inputs.job.plan.flat.order a.place))
 offered_here a h =
     let job = a.inputs.job in
     let i = slice_index job.plan.flat.order a.place in
-    let e = ap (λ (q : Distribution). slice_get q.flat.order a.place) h.going_on.set.plan_is ∙ slice_get-get_or job.plan.flat.order a.place 0 h.place_lt in
+    let e = ap (λ (q : PlanView). slice_get q.flat.order a.place) h.going_on.set.plan_is ∙ slice_get-get_or job.plan.flat.order a.place 0 h.place_lt in
     ap (λ b. if b then Faulted else offered_at a (slice_get a.program.plan.flat.order a.place)) h.going_on.goes ∙ ap (offered_at a) e
     ∙ ap (offered_part a i) (part_here a i h.going_on.set (here_in a h.going_on.set h.place_lt))
 
 suc_not_zero : (k : ℕ) → (suc k == 0) ≡ false
 suc_not_zero k = elim (bool_cases (suc k == 0)) [ inl e ↦ let h = eqb-true (suc k) 0 e in absurd (omega arith) | inr e ↦ e ]
 
-module _ (a : Desk) (i : ℕ) (outs : List ℕ) where
+module _ (a : SiteState) (i : ℕ) (outs : List ℕ) where
   abbrev put_value : ℕ → Next
   put_value k = Put (slice_index outs k) (record { no = count_kept (pasts_of a) i; body = Value (datum_shown (shown_of a) i) })
 
@@ -384,18 +384,18 @@ module _ (a : Desk) (i : ℕ) (outs : List ℕ) where
   offered_close : nat_lt a.instant a.inputs.job.inputs.instants ≡ false → offered_own a i outs ≡ put_close
   offered_close late = ap (λ b. if b then (if a.step == 0 then Local else put_value (a.step - 1)) else put_close) late
 
-part_own : (a : Desk) (i : ℕ) (plan : Distribution) (s : ℕ) → stands plan i s ≡ true → offered_part a i (part_of plan s i) ≡ offered_own a i (sends plan s i)
+part_own : (a : SiteState) (i : ℕ) (plan : PlanView) (s : ℕ) → stands plan i s ≡ true → offered_part a i (part_of plan s i) ≡ offered_own a i (sends plan s i)
 part_own a i plan s own = ap (λ b. if b then offered_own a i (sends plan s i) else Take (unwrap_or (link_into plan s i) 0)) own
 
-part_take : (a : Desk) (i : ℕ) (plan : Distribution) (s : ℕ) → stands plan i s ≡ false → offered_part a i (part_of plan s i) ≡ Take (unwrap_or (link_into plan s i) 0)
+part_take : (a : SiteState) (i : ℕ) (plan : PlanView) (s : ℕ) → stands plan i s ≡ false → offered_part a i (part_of plan s i) ≡ Take (unwrap_or (link_into plan s i) 0)
 part_take a i plan s other = ap (λ b. if b then offered_own a i (sends plan s i) else Take (unwrap_or (link_into plan s i) 0)) other
 
 -- the item at hand is the script's
-pub hand_next : (a : Desk) (h : Here a) → slice_get (script a.inputs.job (streams_of a.inputs.job) a.inputs.site) (done_of a) ≡ slice_get (cell a.inputs.job (streams_of a.inputs.job) a.inputs.site a.instant (slice_index a.inputs.job.plan.flat.order a.place)) a.step
+pub hand_next : (a : SiteState) (h : Here a) → slice_get (script a.inputs.job (streams_of a.inputs.job) a.inputs.site) (done_of a) ≡ slice_get (cell a.inputs.job (streams_of a.inputs.job) a.inputs.site a.instant (slice_index a.inputs.job.plan.flat.order a.place)) a.step
 hand_next a h =
     next_item a.inputs.job a.inputs.site h.going_on.set.is_job (shown_of a) (pasts_of a) a.instant a.place a.step h.going_on.stands h.place_lt h.step_lt
 
-offer_here : (a : Desk) (h : Here a) → AtHand a (slice_index a.inputs.job.plan.flat.order a.place) → IsNext a.inputs.job a.inputs.site (done_of a) (offered a)
+offer_here : (a : SiteState) (h : Here a) → AtHand a (slice_index a.inputs.job.plan.flat.order a.place) → IsNext a.inputs.job a.inputs.site (done_of a) (offered a)
 offer_here a h (ComputeAt own lt z open' item) =
     let job = a.inputs.job in
     let i = slice_index job.plan.flat.order a.place in
@@ -429,13 +429,13 @@ offer_here a h (TakeLate other end into item) =
     let e = offered_here a h ∙ part_take a i job.plan a.inputs.site other in
     subst (IsNext job a.inputs.site (done_of a)) (sym e) (hand_next a h ∙ item, (into_is job.plan a.inputs.site i (unwrap_or (link_into job.plan a.inputs.site i) 0) into).0)
 
-offer_going : (a : Desk) → Going a → IsReadyAt a → IsNext a.inputs.job a.inputs.site (done_of a) (offered a)
+offer_going : (a : SiteState) → Going a → IsReadyAt a → IsNext a.inputs.job a.inputs.site (done_of a) (offered a)
 offer_going a g (Ready lp lj) =
     let h : Here a = record { going_on = g; place_lt = lp; step_lt = lj } in
     offer_here a h (at_hand a (slice_index a.inputs.job.plan.flat.order a.place) g (here_in a g.set lp) lj)
 offer_going a g (Over et ep ej) =
     let job = a.inputs.job in
-    let past : slice_get a.program.plan.flat.order a.place ≡ None = ap (λ (q : Distribution). slice_get q.flat.order a.place) g.set.plan_is ∙ slice_get_past job.plan.flat.order a.place (omega arith) in
+    let past : slice_get a.program.plan.flat.order a.place ≡ None = ap (λ (q : PlanView). slice_get q.flat.order a.place) g.set.plan_is ∙ slice_get_past job.plan.flat.order a.place (omega arith) in
     let e : offered a ≡ Ended = ap (λ b. if b then Faulted else offered_at a (slice_get a.program.plan.flat.order a.place)) g.goes ∙ ap (offered_at a) past in
     let st = subst (λ (j : ℕ). Stands job a.inputs.site (shown_of a) (pasts_of a) job.inputs.instants (length job.plan.flat.order) j false) ej (subst (λ (p : ℕ). Stands job a.inputs.site (shown_of a) (pasts_of a) job.inputs.instants p a.step false) ep (subst (λ (t : ℕ). Stands job a.inputs.site (shown_of a) (pasts_of a) t a.place a.step false) et g.stands)) in
     let w = ended job a.inputs.site g.set.is_job (shown_of a) (pasts_of a) st in
@@ -444,7 +444,7 @@ offer_going a g (Over et ep ej) =
     subst (IsNext job a.inputs.site (done_of a)) (sym e) (n ∙ w.0, w.1)
 
 -- what a site offers is the next item of its script
-pub offer_is : (a : Desk) → IsSet a → StandsAt a → ((is_faulted a) ≡ false → IsReadyAt a) → IsNext a.inputs.job a.inputs.site (done_of a) (offered a)
+pub offer_is : (a : SiteState) → IsSet a → StandsAt a → ((is_faulted a) ≡ false → IsReadyAt a) → IsNext a.inputs.job a.inputs.site (done_of a) (offered a)
 offer_is a set st ready = elim (bool_cases (is_faulted a)) [
   | inl bad ↦
       let e : offered a ≡ Faulted = ap (λ b. if b then Faulted else offered_at a (slice_get a.program.plan.flat.order a.place)) bad in

@@ -8,24 +8,24 @@ use Rattle.luflow.specs.declared.data.Status.{Status}
 use Rattle.luflow.specs.Streams.{Known}
 use Rattle.luflow.specs.Program.{flows_of}
 use Rattle.luflow.proofs.Solutions.{some_at, place_in}
-use Rattle.luworld.specs.Needs.{Distribution, home, stands}
-use Rattle.luworld.specs.Runs.{streams_of, cell, script, outputs_of}
-use Rattle.lusite.specs.declared.desk.Desk.{Desk}
+use Rattle.luworld.specs.Needs.{PlanView, home, stands}
+use Rattle.luworld.specs.Jobs.{streams_of, cell, script, outputs_of}
+use Rattle.lusite.specs.declared.state.SiteState.{SiteState}
 use Rattle.lusite_program.specs.declared.program.Part.{Part}
 use Rattle.lusite.specs.Machine.{is_faulted, IsSet, StandsAt, IsReadyAt, Ready, Over, done_of}
-use Rattle.lusite.specs.Logs.{IsOutput, IsLoggedAt, passed_to, logs_of, log_at, told_at}
+use Rattle.lusite.specs.Logs.{IsOutput, IsLoggedAt, passed_to, logs_of, log_at, reported_at}
 use Rattle.lusite_program.specs.Logs.{add_if, IsRow, is_wanted, view_items}
 use Rattle.lusite_program.specs.Programs.{is_home, reports_output}
-use Rattle.luworld.specs.Progress.{IsFirst}
-use Rattle.lusite.proofs.Desks.{Going, going, part_here}
+use Rattle.luworld.specs.WorldViews.{IsFirst}
+use Rattle.lusite.proofs.SiteStates.{Going, going, part_here}
 use Rattle.lusite.proofs.Offers.{Here, hand_next}
-use Rattle.lusite.proofs.Told.{lt-false, first_len}
-use Rattle.lusite_program.proofs.Posts.{both, output_there}
-use Rattle.lusite.proofs.Passed.{told, told_passed, passed_told}
+use Rattle.lusite.proofs.Reported.{lt-false, first_len}
+use Rattle.lusite_program.proofs.SiteFlows.{both, output_there}
+use Rattle.lusite.proofs.Passed.{reported, reported_passed, passed_reported}
 use Rattle.luflow.specs.Variables.{is_output_of}
 
 -- a site that has done its script stands after the last instant, if it holds no stop
-at_end : (a : Desk) → Going a → IsReadyAt a → done_of a ≡ length (script a.inputs.job (streams_of a.inputs.job) a.inputs.site) → a.instant ≡ a.inputs.job.inputs.instants
+at_end : (a : SiteState) → Going a → IsReadyAt a → done_of a ≡ length (script a.inputs.job (streams_of a.inputs.job) a.inputs.site) → a.instant ≡ a.inputs.job.inputs.instants
 at_end a g (Over et ep ej) n = et
 at_end a g (Ready lp lj) n =
     let job = a.inputs.job in
@@ -48,14 +48,14 @@ within_all t n b le = elim (cases_lt t n) [
 ]
 
 -- what a site reports of an output
-pub output_is : (a : Desk) → IsSet a → StandsAt a → IsLoggedAt a → (is_faulted a ≡ false → IsReadyAt a) → (k : ℕ) (xs : List Status) → xs ≡ log_at a (slice_get (outputs_of a.program.plan) k) → IsOutput a.inputs.job a.inputs.site (done_of a) k xs
+pub output_is : (a : SiteState) → IsSet a → StandsAt a → IsLoggedAt a → (is_faulted a ≡ false → IsReadyAt a) → (k : ℕ) (xs : List Status) → xs ≡ log_at a (slice_get (outputs_of a.program.plan) k) → IsOutput a.inputs.job a.inputs.site (done_of a) k xs
 output_is a set st logged ready k xs e =
     let job = a.inputs.job in
     let ok = set.is_job.is_plan in
     let inside : (i : ℕ) → slice_get (outputs_of job.plan) k ≡ Some i → (i < flows_of job.plan.flat) × (is_output_of job.plan.flat i ≡ true) = λ i out. let o = output_there job.plan k i out in let v = ok.variables_first in let l = o.0 in (omega (arith, v, l), o.1) in
-    let log = λ (i : ℕ) (out : slice_get (outputs_of job.plan) k ≡ Some i). e ∙ ap (λ (q : Distribution). log_at a (slice_get (outputs_of q) k)) set.plan_is ∙ ap (log_at a) out ∙ ap (λ (x : Part). cond x.told (view_items (slice_get (logs_of a) i)) []) (part_here a i set (inside i out).0) in
+    let log = λ (i : ℕ) (out : slice_get (outputs_of job.plan) k ≡ Some i). e ∙ ap (λ (q : PlanView). log_at a (slice_get (outputs_of q) k)) set.plan_is ∙ ap (log_at a) out ∙ ap (λ (x : Part). cond x.reported (view_items (slice_get (logs_of a) i)) []) (part_here a i set (inside i out).0) in
     record {
-      told = λ i out at_home.
+      reported = λ i out at_home.
           let o = inside i out in
           let wanted : is_wanted job a.inputs.site i ≡ true = both (nat_eq (home job.plan i) a.inputs.site) (is_output_of job.plan.flat i) (eq-eqb (home job.plan i) a.inputs.site at_home) o.1 in
           let w = place_in job.plan.flat.order i (ok.ordered.all_flows i o.0) in
@@ -69,12 +69,12 @@ output_is a set st logged ready k xs e =
             passed = λ q u there lu.
                 let lq = slice_get_within job.plan.flat.order q i there in
                 let eq : slice_index job.plan.flat.order q ≡ i = get_or_from_slice_get job.plan.flat.order q i 0 there in
-                let n = told a set st ready q in
+                let n = reported a set st ready q in
                 let row : IsRow job i (logs_of a) n = subst (λ (j : ℕ). IsRow job j (logs_of a) n) eq (logged q lq (subst (λ (j : ℕ). is_wanted job a.inputs.site j ≡ true) (sym eq) wanted)) in
                 let items : xs ≡ row.row.items = log i out ∙ ap (λ (t : Bool). cond t (view_items (slice_get (logs_of a) i)) []) wanted ∙ ap view_items row.there in
                 let len : length xs ≡ n = first_len job i xs n (ap (map Known) items ∙ row.known) in
                 let own : stands job.plan (slice_index job.plan.flat.order q) a.inputs.site ≡ true = ap (λ (j : ℕ). stands job.plan j a.inputs.site) eq ∙ ap (stands job.plan i) (sym at_home) ∙ ok.stands_home i o.0 in
-                (λ l. told_passed a set st ready q lq own u lu (omega (arith, l, len)), λ h. let l = passed_told a set st ready q lq own u lu h in omega (arith, l, len));
+                (λ l. reported_passed a set st ready q lq own u lu (omega (arith, l, len)), λ h. let l = passed_reported a set st ready q lq own u lu h in omega (arith, l, len));
             whole = λ n free. elim (bool_cases (is_faulted a)) [
               | inl bad ↦ absurd ((st.stopped bad).1 free)
               | inr go ↦
@@ -86,25 +86,25 @@ output_is a set st logged ready k xs e =
       elsewhere = λ i out away.
           let off : is_wanted job a.inputs.site i ≡ false = ap (λ (b : Bool). b && is_output_of job.plan.flat i) (ne_eqb (home job.plan i) a.inputs.site away) in
           log i out ∙ ap (λ (t : Bool). cond t (view_items (slice_get (logs_of a) i)) []) off;
-      beyond = λ none. e ∙ ap (λ (q : Distribution). log_at a (slice_get (outputs_of q) k)) set.plan_is ∙ ap (log_at a) none;
+      beyond = λ none. e ∙ ap (λ (q : PlanView). log_at a (slice_get (outputs_of q) k)) set.plan_is ∙ ap (log_at a) none;
     }
 
 -- whether a site reports an output
-pub reports_is : (a : Desk) → IsSet a → (k : ℕ) → told_at a (slice_get (outputs_of a.program.plan) k) ≡ reports_output a.inputs.job.plan a.inputs.site k
+pub reports_is : (a : SiteState) → IsSet a → (k : ℕ) → reported_at a (slice_get (outputs_of a.program.plan) k) ≡ reports_output a.inputs.job.plan a.inputs.site k
 reports_is a set k =
     let job = a.inputs.job in
-    ap (λ (q : Distribution). told_at a (slice_get (outputs_of q) k)) set.plan_is ∙ go (slice_get (outputs_of job.plan) k) refl
+    ap (λ (q : PlanView). reported_at a (slice_get (outputs_of q) k)) set.plan_is ∙ go (slice_get (outputs_of job.plan) k) refl
   where
     with_true : (b c : Bool) → c ≡ true → (b && c) ≡ b
     with_true true c e = e
     with_true false c e = refl
 
-    go : (o : Option ℕ) → slice_get (outputs_of a.inputs.job.plan) k ≡ o → told_at a o ≡ is_home a.inputs.job.plan a.inputs.site o
+    go : (o : Option ℕ) → slice_get (outputs_of a.inputs.job.plan) k ≡ o → reported_at a o ≡ is_home a.inputs.job.plan a.inputs.site o
     go None e = refl
     go (Some i) e =
         let plan = a.inputs.job.plan in
         let o = output_there plan k i e in
         let first = set.is_job.is_plan.variables_first in
         let l = o.0 in
-        ap (λ (x : Part). x.told) (part_here a i set (omega (arith, l, first)))
+        ap (λ (x : Part). x.reported) (part_here a i set (omega (arith, l, first)))
         ∙ with_true (nat_eq (home plan i) a.inputs.site) (is_output_of plan.flat i) o.1

@@ -5,21 +5,21 @@ use Rattle.std.proofs.lemmas.List.{take_all}
 use Rattle.std.proofs.lemmas.Bool.{cases_lt, lt-ltb, ltb-true, false≢true}
 use Rattle.luflow.specs.Program.{flow_at}
 use Rattle.luflow.specs.Solution.{clock_of_flow}
-use Rattle.luworld.specs.World.{Item, Compute}
+use Rattle.luworld.specs.Systems.{Item, Compute}
 use Rattle.luworld.specs.Needs.{stands}
 use Rattle.luworld.specs.Outline.{Outline, cut, stops, NoStop}
-use Rattle.luworld.specs.Runs.{Run, IsJob, streams_of, outline, cell, endless, script, items_before, is_open, IsFree, HasNoStop}
+use Rattle.luworld.specs.Jobs.{JobView, IsJob, streams_of, outline, cell, endless, script, items_before, is_open, IsFree, HasNoStop}
 use Rattle.luworld.proofs.Cuts.{cut_take}
 use Rattle.luworld.proofs.Outlines.{bool_cases, cell_is}
 use Rattle.luworld.proofs.Cursor.{before_next_flow, before_next_instant}
-use Rattle.lusite.specs.declared.desk.Desk.{Desk}
+use Rattle.lusite.specs.declared.state.SiteState.{SiteState}
 use Rattle.lusite.specs.Machine.{is_faulted, IsSet, StandsAt, IsReadyAt, Ready, Over, done_of}
 use Rattle.lusite.specs.Logs.{passed_to}
 use Rattle.lusite_program.specs.Logs.{add_if}
-use Rattle.luworld.specs.Progress.{lead, IsPassed}
+use Rattle.luworld.specs.WorldViews.{lead, IsPassed}
 use Rattle.lusite.proofs.Machine.{there}
-use Rattle.lusite.proofs.Told.{and_parts}
-use Rattle.lusite_program.proofs.Posts.{both}
+use Rattle.lusite.proofs.Reported.{and_parts}
+use Rattle.lusite_program.proofs.SiteFlows.{both}
 
 -- ---- items without a stop
 
@@ -64,7 +64,7 @@ add_none false n l = refl
 pub lt_no : (m n : ℕ) → nat_lt m n ≡ false → n ≤ m
 lt_no m n e = elim (cases_lt m n) [ inl lt ↦ absurd (false≢true (sym e ∙ lt-ltb m n lt)) | inr ge ↦ ge ]
 
-module _ (job : Run) (s : ℕ) (ij : IsJob job) where
+module _ (job : JobView) (s : ℕ) (ij : IsJob job) where
   abbrev at : ℕ → ℕ → ℕ → ℕ
   at t p j = items_before job (streams_of job) s t p j
 
@@ -133,16 +133,16 @@ module _ (job : Run) (s : ℕ) (ij : IsJob job) where
       let same : take n xs ≡ take n (endless job (streams_of job) s) = cut_take (outline job (streams_of job)) [] (endless job (streams_of job) s) n free in
       stop (subst (IsFree job) (sym same ∙ take_all n xs (omega (arith, e))) free)
 
-module _ (a : Desk) (set : IsSet a) (st : StandsAt a) (ready : is_faulted a ≡ false → IsReadyAt a) (q : ℕ) where
-  abbrev job : Run
+module _ (a : SiteState) (set : IsSet a) (st : StandsAt a) (ready : is_faulted a ≡ false → IsReadyAt a) (q : ℕ) where
+  abbrev job : JobView
   job = a.inputs.job
 
   abbrev s : ℕ
   s = a.inputs.site
 
   -- as many statuses as the flow of rank q has in its log
-  abbrev pub told : ℕ
-  told = a.instant + add_if (nat_lt a.instant job.inputs.instants && nat_lt q (passed_to a))
+  abbrev pub reported : ℕ
+  reported = a.instant + add_if (nat_lt a.instant job.inputs.instants && nat_lt q (passed_to a))
 
   module _ (lq : q < length job.plan.flat.order) (own : stands job.plan (slice_index job.plan.flat.order q) s ≡ true) (u : ℕ) (lu : u < job.inputs.instants) where
     abbrev k : ℕ
@@ -190,8 +190,8 @@ module _ (a : Desk) (set : IsSet a) (st : StandsAt a) (ready : is_faulted a ≡ 
         not_so true e = absurd (false≢true e)
         not_so false e = refl
 
-    pub told_passed : u < told → IsPassed job s (done_of a) q u
-    told_passed l = elim (less_cases u a.instant (nat_lt a.instant job.inputs.instants && nat_lt q (passed_to a)) l) [
+    pub reported_passed : u < reported → IsPassed job s (done_of a) q u
+    reported_passed l = elim (less_cases u a.instant (nat_lt a.instant job.inputs.instants && nat_lt q (passed_to a)) l) [
       | inl lt ↦ behind (let f = instant_then job s set.is_job u q a.instant a.place lt lq st.place_le in omega (arith, f, within))
       | inr e ↦ at_now e.0 (let parts = and_parts (nat_lt a.instant job.inputs.instants) (nat_lt q (passed_to a)) e.1 in ltb-true q (passed_to a) parts.1)
     ]
@@ -218,7 +218,7 @@ module _ (a : Desk) (set : IsSet a) (st : StandsAt a) (ready : is_faulted a ≡ 
     abbrev Beyond : Type 0
     Beyond = (a.instant < u) ⊎ ((u ≡ a.instant) × (passed_to a ≤ q))
 
-    beyond : told ≤ u → Beyond
+    beyond : reported ≤ u → Beyond
     beyond l = elim (more_cases u a.instant (nat_lt a.instant job.inputs.instants && nat_lt q (passed_to a)) l) [
       | inl lt ↦ inl lt
       | inr e ↦ inr (e.0, lt_no q (passed_to a) (second (nat_lt a.instant job.inputs.instants) (nat_lt q (passed_to a)) e.1 (let same : a.instant < job.inputs.instants = omega (arith, lu, e.0) in lt-ltb a.instant job.inputs.instants same)))
@@ -265,8 +265,8 @@ module _ (a : Desk) (set : IsSet a) (st : StandsAt a) (ready : is_faulted a ≡ 
               omega (arith, same_flow e.0 eq (omega (arith, w.1, one)), steps job s set.is_job a.instant a.place a.step, one)
         ]
 
-    pub passed_told : IsPassed job s (done_of a) q u → u < told
-    passed_told passed = elim (cases_lt u told) [
+    pub passed_reported : IsPassed job s (done_of a) q u → u < reported
+    passed_reported passed = elim (cases_lt u reported) [
       | inl l ↦ l
       | inr ge ↦ elim (bool_cases (is_faulted a)) [
         | inl bad ↦ absurd (not_free job s set.is_job (done_of a) (st.stopped bad).0 (st.stopped bad).1 (free_front job s set.is_job k (done_of a) (stopped_far bad (beyond ge)) passed.free))

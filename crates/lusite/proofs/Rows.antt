@@ -16,7 +16,7 @@ use Rattle.lueval_lines.specs.declared.cell.Cell.{Cell}
 use Rattle.lueval_lines.specs.declared.cell.Cell.TheVariants as cells
 use Rattle.lueval_lines.specs.Cells.{status_of, statuses}
 use Rattle.lueval_lines.specs.Frames.{datum_in, datum_there}
-use Rattle.lusite.specs.declared.desk.Desk.{Desk}
+use Rattle.lusite.specs.declared.state.SiteState.{SiteState}
 use Rattle.lusite_program.specs.Spread.{put_at}
 use Rattle.lusite_program.specs.Programs.{places_of}
 use Rattle.lusite.specs.Logs.{logs_of}
@@ -29,10 +29,10 @@ use Rattle.lusite_program.proofs.Ranks.{places_once, places_in, place_here}
 use Rattle.lusite_program.proofs.Spread.{AreOnce, put_len, put_has, put_same, put_set, spread_all}
 
 -- what is left as it was is shown as it was
-pub left_same : (a : Desk) (xs : List Cell) → statuses xs ≡ statuses a.shown.items → shown_in a.program xs ≡ shown_of a
+pub left_same : (a : SiteState) (xs : List Cell) → statuses xs ≡ statuses a.shown.items → shown_in a.program xs ≡ shown_of a
 left_same a xs e = ap (λ ys. put_at (replicate (flows_of a.program.plan.flat) Absent) (places_of a.program.plan a.program.site) ys) e
 
-module _ (a : Desk) (set_up : IsSet a) where
+module _ (a : SiteState) (set_up : IsSet a) where
   abbrev rows : List ℕ
   rows = places_of a.program.plan a.program.site
 

@@ -5,9 +5,9 @@ use Rattle.std.proofs.lemmas.Bool.{cases_lt, false≢true, lt-ltb}
 use Rattle.luflow.specs.declared.data.Status.{Status}
 use Rattle.luflow.specs.Program.{flow_at, flows_of}
 use Rattle.luflow.specs.Solution.{clock_of_flow}
-use Rattle.luworld.specs.World.{Item, Compute, Puts, Takes}
+use Rattle.luworld.specs.Systems.{Item, Compute, Puts, Takes}
 use Rattle.luworld.specs.Needs.{stands}
-use Rattle.luworld.specs.Runs.{Run, IsJob, Fits, streams_of, knows, link_into, listed, sends, cell, is_open, items_before, IsFree, endless}
+use Rattle.luworld.specs.Jobs.{JobView, IsJob, IsCoherent, streams_of, knows, link_into, listed, sends, cell, is_open, items_before, IsFree, endless}
 use Rattle.luworld.proofs.Cursor.{before_next_flow}
 use Rattle.luworld.proofs.Outlines.{cell_is}
 use Rattle.lueval_lines.specs.declared.past.Past.{Past}
@@ -15,7 +15,7 @@ use Rattle.lusite.specs.Machine.{Stands}
 use Rattle.lusite_program.specs.Logs.{LogView, add_if, IsRow, IsLogged}
 use Rattle.lusite.proofs.Machine.{there}
 use Rattle.lusite_program.proofs.Ranks.{AreUnknown}
-use Rattle.lusite.proofs.Told.{lt-false, wanted_known}
+use Rattle.lusite.proofs.Reported.{lt-false, wanted_known}
 
 no_items : (early open' own : Bool) (xs ps : List Item) (into : Option ℕ) → (own || is_some into) ≡ false → cond early (cond open' (cond own xs [] ++ cond own ps (map Takes (listed into))) []) (cond own ps (map Takes (listed into))) ≡ []
 no_items early open' true xs ps into h = absurd (false≢true (sym h))
@@ -25,12 +25,12 @@ no_items true false false xs ps None h = refl
 no_items false open' false xs ps None h = refl
 
 -- a flow that a site neither computes nor takes has no items there
-pub unknown_empty : (job : Run) (ok : Fits job.plan) (s t i : ℕ) → i < flows_of job.plan.flat → knows job.plan s i ≡ false → cell job (streams_of job) s t i ≡ []
+pub unknown_empty : (job : JobView) (ok : IsCoherent job.plan) (s t i : ℕ) → i < flows_of job.plan.flat → knows job.plan s i ≡ false → cell job (streams_of job) s t i ≡ []
 unknown_empty job ok s t i li h =
     cell_is job (streams_of job) ok s t i li
     ∙ no_items (nat_lt t job.inputs.instants) (is_open (clock_of_flow job.inputs (streams_of job) (flow_at job.plan.flat i) t)) (stands job.plan i s) (Compute i t ∷ []) (map Puts (sends job.plan s i)) (link_into job.plan s i) h
 
-module _ (job : Run) (s : ℕ) (ij : IsJob job) where
+module _ (job : JobView) (s : ℕ) (ij : IsJob job) where
   skip_one : (t p : ℕ) → p < length job.plan.flat.order → knows job.plan s (slice_index job.plan.flat.order p) ≡ false → items_before job (streams_of job) s t (p + 1) 0 ≡ items_before job (streams_of job) s t p 0
   skip_one t p lp h =
       before_next_flow job (streams_of job) s t p lp

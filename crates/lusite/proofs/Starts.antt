@@ -8,13 +8,13 @@ use Rattle.std.proofs.lemmas.Option.{slice_get-get_or}
 use Rattle.luflow.specs.declared.data.Datum.TheVariants.{Nil}
 use Rattle.luflow.specs.declared.data.Status.{Status}
 use Rattle.luflow.specs.declared.data.Status.TheVariants.{Absent}
-use Rattle.luworld.specs.Runs.{Run, streams_of, IsFree, endless}
+use Rattle.luworld.specs.Jobs.{JobView, streams_of, IsFree, endless}
 use Rattle.lueval_lines.specs.declared.past.Past.{Past}
 use Rattle.luflow.specs.Program.{flows_of}
 use Rattle.lusite.specs.Machine.{Stands}
 use Rattle.luworld.proofs.Cursor.{before_start}
 
-pub stands_start : (job : Run) (s : ℕ) (now : List Status) (pasts : List Past) → now ≡ replicate (flows_of job.plan.flat) Absent → pasts ≡ replicate (flows_of job.plan.flat) (record { last = Nil; ticked = false; count = 0 }) → Stands job s now pasts 0 0 0 false
+pub stands_start : (job : JobView) (s : ℕ) (now : List Status) (pasts : List Past) → now ≡ replicate (flows_of job.plan.flat) Absent → pasts ≡ replicate (flows_of job.plan.flat) (record { last = Nil; ticked = false; count = 0 }) → Stands job s now pasts 0 0 0 false
 stands_start job s now pasts en ep =
     let n = flows_of job.plan.flat in
     let none : Past = record { last = Nil; ticked = false; count = 0 } in

@@ -24,21 +24,21 @@ use Rattle.luflow.proofs.Solutions.{IsSolution-solution}
 use Rattle.luflow.proofs.Tidied.{stuck_broken}
 use Rattle.luflow.proofs.FaultsFound.{is_fault}
 use Rattle.luworld.specs.declared.link.Link.{Link}
-use Rattle.luworld.specs.World.{Item, Compute, Puts, Takes, takes, takes_before}
+use Rattle.luworld.specs.Systems.{Item, Compute, Puts, Takes, takes, takes_before}
 use Rattle.luworld.specs.Outline.{messages_from}
-use Rattle.luworld.specs.Needs.{Distribution, home, stands}
-use Rattle.luworld.specs.Runs.{Run, Fits, streams_of, sends, link_into, carried, carriers, flow_of_link, cell, endless, script, outline, system_of, items_before, link_list, messages_of}
+use Rattle.luworld.specs.Needs.{PlanView, home, stands}
+use Rattle.luworld.specs.Jobs.{JobView, IsCoherent, streams_of, sends, link_into, carried, carriers, flow_of_link, cell, endless, script, outline, system_of, items_before, link_list, messages_of}
 use Rattle.luworld.proofs.Cuts.{cut_at}
 use Rattle.luworld.proofs.Outlines.{broken_is, not_broken, list_long, flow_of_carried}
 use Rattle.luworld.proofs.Cursor.{before_step, before_end}
 use Rattle.luworld.proofs.Messages.{message_at, no_message_at}
 use Rattle.lusite.specs.declared.next.Fault.{Fault}
-use Rattle.lusite.specs.declared.desk.Desk.{Desk}
+use Rattle.lusite.specs.declared.state.SiteState.{SiteState}
 use Rattle.lusite.specs.Machine.{is_faulted, IsFaultAt, Stands, IsSet, StandsAt, IsReadyAt, Ready, Over, Computes, done_of, IsLocalNext, IsPutNext, IsTakeNext, with_body, shown_of, pasts_of}
 use Rattle.lusite.proofs.Machine.{stops_at, script_take, there, equation, stands_step, stands_stop}
 use Rattle.lusite_program.proofs.Written.{slice_get-set_same, slice_get-set_other}
-use Rattle.lusite.proofs.Desks.{Going, going, here_in, flow_same}
-use Rattle.lusite.proofs.Told.{lt-false}
+use Rattle.lusite.proofs.SiteStates.{Going, going, here_in, flow_same}
+use Rattle.lusite.proofs.Reported.{lt-false}
 use Rattle.lusite.proofs.Offers.{AtHand, ComputeAt, PutEarly, PutLate, TakeEarly, TakeLate, at_hand, Here, WorksOut, hand_next, computed_is, link_is, known_of_link, into_is, take_no, own_early, own_late, taken_late}
 use Rattle.std.proofs.lemmas.List.FromFn.{length-range_with_len}
 use Rattle.std.specs.List.{range_with_len}
@@ -47,7 +47,7 @@ and_left : (a b : Bool) → (a && b) ≡ true → a ≡ true
 and_left true b h = refl
 and_left false b h = h
 
-over_none : (a : Desk) (x : Item) → Going a → a.instant ≡ a.inputs.job.inputs.instants → a.place ≡ length a.inputs.job.plan.flat.order → a.step ≡ 0 → slice_get (script a.inputs.job (streams_of a.inputs.job) a.inputs.site) (done_of a) ≡ Some x → ⊥
+over_none : (a : SiteState) (x : Item) → Going a → a.instant ≡ a.inputs.job.inputs.instants → a.place ≡ length a.inputs.job.plan.flat.order → a.step ≡ 0 → slice_get (script a.inputs.job (streams_of a.inputs.job) a.inputs.site) (done_of a) ≡ Some x → ⊥
 unfolding endless
 over_none a x g et ep ej e =
     let job = a.inputs.job in
@@ -58,22 +58,22 @@ over_none a x g et ep ej e =
     omega (arith, n)
 
 -- where an item is next, a flow is at hand
-pub here_from : (a : Desk) (x : Item) → Going a → IsReadyAt a → slice_get (script a.inputs.job (streams_of a.inputs.job) a.inputs.site) (done_of a) ≡ Some x → Here a
+pub here_from : (a : SiteState) (x : Item) → Going a → IsReadyAt a → slice_get (script a.inputs.job (streams_of a.inputs.job) a.inputs.site) (done_of a) ≡ Some x → Here a
 here_from a x g (Ready lp lj) e = record { going_on = g; place_lt = lp; step_lt = lj }
 here_from a x g (Over et ep ej) e = absurd (over_none a x g et ep ej e)
 
-hand_of : (a : Desk) (h : Here a) → AtHand a (slice_index a.inputs.job.plan.flat.order a.place)
+hand_of : (a : SiteState) (h : Here a) → AtHand a (slice_index a.inputs.job.plan.flat.order a.place)
 hand_of a h = at_hand a (slice_index a.inputs.job.plan.flat.order a.place) h.going_on (here_in a h.going_on.set h.place_lt) h.step_lt
 
 -- a computation that is at hand
-pub record WorkAt (a : Desk) (o : Outcome) : Type 0 where
+pub record WorkAt (a : SiteState) (o : Outcome) : Type 0 where
   pub first : a.step ≡ 0
   pub early : a.instant < a.inputs.job.inputs.instants
   pub own : stands a.inputs.job.plan (slice_index a.inputs.job.plan.flat.order a.place) a.inputs.site ≡ true
   pub item : slice_get (cell a.inputs.job (streams_of a.inputs.job) a.inputs.site a.instant (slice_index a.inputs.job.plan.flat.order a.place)) a.step ≡ Some (Compute (slice_index a.inputs.job.plan.flat.order a.place) a.instant)
   pub works : WorksOut a.inputs.job (slice_index a.inputs.job.plan.flat.order a.place) a.instant o
 
-work_hand : (a : Desk) (h : Here a) (o : Outcome) → Computes a (slice_index a.inputs.job.plan.flat.order a.place) (flow_at a.program.plan.flat (slice_index a.inputs.job.plan.flat.order a.place)) o → (i t : ℕ) → slice_get (script a.inputs.job (streams_of a.inputs.job) a.inputs.site) (done_of a) ≡ Some (Compute i t) → AtHand a (slice_index a.inputs.job.plan.flat.order a.place) → WorkAt a o
+work_hand : (a : SiteState) (h : Here a) (o : Outcome) → Computes a (slice_index a.inputs.job.plan.flat.order a.place) (flow_at a.program.plan.flat (slice_index a.inputs.job.plan.flat.order a.place)) o → (i t : ℕ) → slice_get (script a.inputs.job (streams_of a.inputs.job) a.inputs.site) (done_of a) ≡ Some (Compute i t) → AtHand a (slice_index a.inputs.job.plan.flat.order a.place) → WorkAt a o
 work_hand a h o c i t e (ComputeAt own lt z open' item) =
     record { first = z; early = lt; own = own; item = item; works = computed_is a (slice_index a.inputs.job.plan.flat.order a.place) o h.going_on h.place_lt refl own lt open' c }
 work_hand a h o c i t e (PutEarly own lt k ek open' item within) = let n = sym item ∙ sym (hand_next a h) ∙ e in absurd cc
@@ -82,13 +82,13 @@ work_hand a h o c i t e (TakeEarly other lt z open' into item) = let n = sym ite
 work_hand a h o c i t e (TakeLate other end into item) = let n = sym item ∙ sym (hand_next a h) ∙ e in absurd cc
 
 -- what is at hand where the next item is a computation
-pub work_at : (a : Desk) (o : Outcome) (g : Going a) → IsReadyAt a → IsLocalNext a.inputs.job a.inputs.site (done_of a) → Computes a (slice_index a.program.plan.flat.order a.place) (flow_at a.program.plan.flat (slice_index a.program.plan.flat.order a.place)) o → (a.place < length a.inputs.job.plan.flat.order) × WorkAt a o
+pub work_at : (a : SiteState) (o : Outcome) (g : Going a) → IsReadyAt a → IsLocalNext a.inputs.job a.inputs.site (done_of a) → Computes a (slice_index a.program.plan.flat.order a.place) (flow_at a.program.plan.flat (slice_index a.program.plan.flat.order a.place)) o → (a.place < length a.inputs.job.plan.flat.order) × WorkAt a o
 work_at a o g ready next c =
     let h = here_from a (Compute next.0 next.1) g ready next.2 in
     let c' = subst (λ (k : ℕ). Computes a k (flow_at a.program.plan.flat k) o) (flow_same a g.set) c in
     (h.place_lt, work_hand a h o c' next.0 next.1 next.2 (hand_of a h))
 
-own_hand : (a : Desk) (h : Here a) (i t : ℕ) → slice_get (script a.inputs.job (streams_of a.inputs.job) a.inputs.site) (done_of a) ≡ Some (Compute i t) → AtHand a (slice_index a.inputs.job.plan.flat.order a.place) → stands a.inputs.job.plan (slice_index a.inputs.job.plan.flat.order a.place) a.inputs.site ≡ true
+own_hand : (a : SiteState) (h : Here a) (i t : ℕ) → slice_get (script a.inputs.job (streams_of a.inputs.job) a.inputs.site) (done_of a) ≡ Some (Compute i t) → AtHand a (slice_index a.inputs.job.plan.flat.order a.place) → stands a.inputs.job.plan (slice_index a.inputs.job.plan.flat.order a.place) a.inputs.site ≡ true
 own_hand a h i t e (ComputeAt own lt z open' item) = own
 own_hand a h i t e (PutEarly own lt k ek open' item within) = own
 own_hand a h i t e (PutLate own end item within) = own
@@ -96,17 +96,17 @@ own_hand a h i t e (TakeEarly other lt z open' into item) = let n = sym item ∙
 own_hand a h i t e (TakeLate other end into item) = let n = sym item ∙ sym (hand_next a h) ∙ e in absurd cc
 
 -- where the next item is a computation, the flow at hand is one of the site's own
-pub work_own : (a : Desk) → Going a → IsReadyAt a → IsLocalNext a.inputs.job a.inputs.site (done_of a) → stands a.inputs.job.plan (slice_index a.inputs.job.plan.flat.order a.place) a.inputs.site ≡ true
+pub work_own : (a : SiteState) → Going a → IsReadyAt a → IsLocalNext a.inputs.job a.inputs.site (done_of a) → stands a.inputs.job.plan (slice_index a.inputs.job.plan.flat.order a.place) a.inputs.site ≡ true
 work_own a g ready next =
     let h = here_from a (Compute next.0 next.1) g ready next.2 in
     own_hand a h next.0 next.1 next.2 (hand_of a h)
 
-one_step : (a : Desk) → a.step ≡ 0 → (a.step + 1 ≡ 1) × (items_before a.inputs.job (streams_of a.inputs.job) a.inputs.site a.instant a.place 1 ≡ done_of a + 1)
+one_step : (a : SiteState) → a.step ≡ 0 → (a.step + 1 ≡ 1) × (items_before a.inputs.job (streams_of a.inputs.job) a.inputs.site a.instant a.place 1 ≡ done_of a + 1)
 one_step a z =
     let one : a.step + 1 ≡ 1 = omega (arith, z) in
     (one, ap (items_before a.inputs.job (streams_of a.inputs.job) a.inputs.site a.instant a.place) (sym one) ∙ before_step a.inputs.job (streams_of a.inputs.job) a.inputs.site a.instant a.place a.step)
 
-pub work_gives : (a : Desk) (d : Datum) (g : Going a) → IsReadyAt a → IsLocalNext a.inputs.job a.inputs.site (done_of a) → Computes a (slice_index a.program.plan.flat.order a.place) (flow_at a.program.plan.flat (slice_index a.program.plan.flat.order a.place)) (Gives d) → Stands a.inputs.job a.inputs.site (set (shown_of a) (slice_index a.program.plan.flat.order a.place) (Present d)) (pasts_of a) a.instant a.place 1 (is_faulted a) × (items_before a.inputs.job (streams_of a.inputs.job) a.inputs.site a.instant a.place 1 ≡ done_of a + 1)
+pub work_gives : (a : SiteState) (d : Datum) (g : Going a) → IsReadyAt a → IsLocalNext a.inputs.job a.inputs.site (done_of a) → Computes a (slice_index a.program.plan.flat.order a.place) (flow_at a.program.plan.flat (slice_index a.program.plan.flat.order a.place)) (Gives d) → Stands a.inputs.job a.inputs.site (set (shown_of a) (slice_index a.program.plan.flat.order a.place) (Present d)) (pasts_of a) a.instant a.place 1 (is_faulted a) × (items_before a.inputs.job (streams_of a.inputs.job) a.inputs.site a.instant a.place 1 ≡ done_of a + 1)
 work_gives a d g ready next c =
     let job = a.inputs.job in
     let σ = streams_of job in
@@ -119,7 +119,7 @@ work_gives a d g ready next c =
     let one = one_step a w.first in
     (subst (λ (b : Bool). Stands job a.inputs.site (set (shown_of a) (slice_index a.program.plan.flat.order a.place) (Present d)) (pasts_of a) a.instant a.place 1 b) (sym g.goes) (subst (λ (k : ℕ). Stands job a.inputs.site (set (shown_of a) k (Present d)) (pasts_of a) a.instant a.place 1 false) (sym (flow_same a g.set)) (subst (λ (j : ℕ). Stands job a.inputs.site (set (shown_of a) i (Present d)) (pasts_of a) a.instant a.place j false) one.0 r)), one.1)
 
-pub work_faults : (a : Desk) (kind : FaultKind) (g : Going a) → IsReadyAt a → IsLocalNext a.inputs.job a.inputs.site (done_of a) → Computes a (slice_index a.program.plan.flat.order a.place) (flow_at a.program.plan.flat (slice_index a.program.plan.flat.order a.place)) (Faults kind) → Stands a.inputs.job a.inputs.site (shown_of a) (pasts_of a) a.instant a.place 1 true × (items_before a.inputs.job (streams_of a.inputs.job) a.inputs.site a.instant a.place 1 ≡ done_of a + 1)
+pub work_faults : (a : SiteState) (kind : FaultKind) (g : Going a) → IsReadyAt a → IsLocalNext a.inputs.job a.inputs.site (done_of a) → Computes a (slice_index a.program.plan.flat.order a.place) (flow_at a.program.plan.flat (slice_index a.program.plan.flat.order a.place)) (Faults kind) → Stands a.inputs.job a.inputs.site (shown_of a) (pasts_of a) a.instant a.place 1 true × (items_before a.inputs.job (streams_of a.inputs.job) a.inputs.site a.instant a.place 1 ≡ done_of a + 1)
 work_faults a kind g ready next c =
     let job = a.inputs.job in
     let i = slice_index job.plan.flat.order a.place in
@@ -131,7 +131,7 @@ work_faults a kind g ready next c =
     (subst (λ (j : ℕ). Stands job a.inputs.site (shown_of a) (pasts_of a) a.instant a.place j true) one.0 r, one.1)
 
 -- a computation that faults is the last item of the script
-last_item : (a : Desk) (kind : FaultKind) (g : Going a) → IsReadyAt a → IsLocalNext a.inputs.job a.inputs.site (done_of a) → Computes a (slice_index a.program.plan.flat.order a.place) (flow_at a.program.plan.flat (slice_index a.program.plan.flat.order a.place)) (Faults kind) → slice_get (script a.inputs.job (streams_of a.inputs.job) a.inputs.site) (length (script a.inputs.job (streams_of a.inputs.job) a.inputs.site) - 1) ≡ Some (Compute (slice_index a.inputs.job.plan.flat.order a.place) a.instant)
+last_item : (a : SiteState) (kind : FaultKind) (g : Going a) → IsReadyAt a → IsLocalNext a.inputs.job a.inputs.site (done_of a) → Computes a (slice_index a.program.plan.flat.order a.place) (flow_at a.program.plan.flat (slice_index a.program.plan.flat.order a.place)) (Faults kind) → slice_get (script a.inputs.job (streams_of a.inputs.job) a.inputs.site) (length (script a.inputs.job (streams_of a.inputs.job) a.inputs.site) - 1) ≡ Some (Compute (slice_index a.inputs.job.plan.flat.order a.place) a.instant)
 last_item a kind g ready next c =
     let job = a.inputs.job in
     let items = script job (streams_of job) a.inputs.site in
@@ -143,13 +143,13 @@ last_item a kind g ready next c =
     ap (slice_get items) place ∙ hand_next a h ∙ (work_at a (Faults kind) g ready next c).1.item
 
 -- a fault that the machine reports is one of the solution, and of the last computation
-pub work_fault : (a : Desk) (fault : Fault) (g : Going a) → IsReadyAt a → IsLocalNext a.inputs.job a.inputs.site (done_of a) → Computes a (slice_index a.program.plan.flat.order a.place) (flow_at a.program.plan.flat (slice_index a.program.plan.flat.order a.place)) (Faults fault.kind) → fault.variable ≡ slice_index a.program.plan.flat.owners (slice_index a.program.plan.flat.order a.place) → fault.instant ≡ a.instant → IsFaultAt a.inputs.job a.inputs.site fault
+pub work_fault : (a : SiteState) (fault : Fault) (g : Going a) → IsReadyAt a → IsLocalNext a.inputs.job a.inputs.site (done_of a) → Computes a (slice_index a.program.plan.flat.order a.place) (flow_at a.program.plan.flat (slice_index a.program.plan.flat.order a.place)) (Faults fault.kind) → fault.variable ≡ slice_index a.program.plan.flat.owners (slice_index a.program.plan.flat.order a.place) → fault.instant ≡ a.instant → IsFaultAt a.inputs.job a.inputs.site fault
 work_fault a fault g ready next c ev et =
     let job = a.inputs.job in
     let i = slice_index job.plan.flat.order a.place in
     let w = (work_at a (Faults fault.kind) g ready next c).1 in
     let owner : slice_index job.plan.flat.owners i ≡ fault.variable =
-    sym (ev ∙ ap₂ (λ (q : Distribution) k. slice_index q.flat.owners k) g.set.plan_is (flow_same a g.set)) in
+    sym (ev ∙ ap₂ (λ (q : PlanView) k. slice_index q.flat.owners k) g.set.plan_is (flow_same a g.set)) in
     let is = is_fault job.plan.flat job.inputs (streams_of job) i a.instant fault.kind w.works.flow w.works.there w.works.clock w.works.value in
     record {
       place = i;
@@ -162,7 +162,7 @@ work_fault a fault g ready next c ev et =
     }
 
 -- a sound program's machine is never stuck
-pub work_stuck : (a : Desk) (g : Going a) → IsReadyAt a → IsLocalNext a.inputs.job a.inputs.site (done_of a) → Computes a (slice_index a.program.plan.flat.order a.place) (flow_at a.program.plan.flat (slice_index a.program.plan.flat.order a.place)) Stuck → ⊥
+pub work_stuck : (a : SiteState) (g : Going a) → IsReadyAt a → IsLocalNext a.inputs.job a.inputs.site (done_of a) → Computes a (slice_index a.program.plan.flat.order a.place) (flow_at a.program.plan.flat (slice_index a.program.plan.flat.order a.place)) Stuck → ⊥
 work_stuck a g ready next c =
     let job = a.inputs.job in
     let ij = g.set.is_job in
@@ -170,7 +170,7 @@ work_stuck a g ready next c =
     stuck_broken job.plan.flat job.inputs (streams_of job) ij.is_plan.ordered ij.is_plan.sound ij.fit (IsSolution-solution job.plan.flat job.inputs ij.is_plan.ordered) (slice_index job.plan.flat.order a.place) a.instant w.works.flow w.works.there w.early w.works.clock w.works.value w.works.unbroken
 
 -- how long an own flow's cell is
-put_size : (a : Desk) (ok : Fits a.inputs.job.plan) (i : ℕ) → i < flows_of a.inputs.job.plan.flat → stands a.inputs.job.plan i a.inputs.site ≡ true → (a.instant < a.inputs.job.inputs.instants) ⊎ (a.instant ≡ a.inputs.job.inputs.instants) → length (cell a.inputs.job (streams_of a.inputs.job) a.inputs.site a.instant i) ≤ length (sends a.inputs.job.plan a.inputs.site i) + 1
+put_size : (a : SiteState) (ok : IsCoherent a.inputs.job.plan) (i : ℕ) → i < flows_of a.inputs.job.plan.flat → stands a.inputs.job.plan i a.inputs.site ≡ true → (a.instant < a.inputs.job.inputs.instants) ⊎ (a.instant ≡ a.inputs.job.inputs.instants) → length (cell a.inputs.job (streams_of a.inputs.job) a.inputs.site a.instant i) ≤ length (sends a.inputs.job.plan a.inputs.site i) + 1
 put_size a ok i li own (inl lt) = elim (cases_lt 0 (length (cell a.inputs.job (streams_of a.inputs.job) a.inputs.site a.instant i))) [
   | inl l ↦
       let w = own_early a.inputs.job (streams_of a.inputs.job) ok a.inputs.site a.instant i li (lt-ltb a.instant a.inputs.job.inputs.instants lt) own l in
@@ -184,7 +184,7 @@ put_size a ok i li own (inr end) =
     let k = length-map (sends a.inputs.job.plan a.inputs.site i) Puts in
     omega (arith, n, k)
 
-late_step : (a : Desk) (ok : Fits a.inputs.job.plan) (i : ℕ) → i < flows_of a.inputs.job.plan.flat → stands a.inputs.job.plan i a.inputs.site ≡ false → a.instant ≡ a.inputs.job.inputs.instants → a.step < length (cell a.inputs.job (streams_of a.inputs.job) a.inputs.site a.instant i) → a.step ≡ 0
+late_step : (a : SiteState) (ok : IsCoherent a.inputs.job.plan) (i : ℕ) → i < flows_of a.inputs.job.plan.flat → stands a.inputs.job.plan i a.inputs.site ≡ false → a.instant ≡ a.inputs.job.inputs.instants → a.step < length (cell a.inputs.job (streams_of a.inputs.job) a.inputs.site a.instant i) → a.step ≡ 0
 late_step a ok i li other end l =
     let w = taken_late a.inputs.job (streams_of a.inputs.job) ok a.inputs.site a.instant i li (lt-false a.instant a.inputs.job.inputs.instants (omega arith)) other (omega arith) in
     let n = ap length w.1 in
@@ -204,7 +204,7 @@ option_there [] l i e = cc
 option_there (x ∷ xs) zero i e = omega arith
 option_there (x ∷ xs) (suc l) i e = omega (arith, option_there xs l i e)
 
-pub link_there : (job : Run) (l k : ℕ) (m : Msg) → slice_get (link_list job (streams_of job) l) k ≡ Some m → l < length job.plan.links
+pub link_there : (job : JobView) (l k : ℕ) (m : Msg) → slice_get (link_list job (streams_of job) l) k ≡ Some m → l < length job.plan.links
 unfolding link_list
 link_there job l k m e = go (flow_of_link job.plan l) refl e
   where
@@ -220,7 +220,7 @@ filter_few p (x ∷ xs) = go (p x) (filter_few p xs)
     go true h = omega (arith, h)
     go false h = omega (arith, h)
 
-sends_few : (plan : Distribution) (s i : ℕ) → Fits plan → length (sends plan s i) ≤ 65536
+sends_few : (plan : PlanView) (s i : ℕ) → IsCoherent plan → length (sends plan s i) ≤ 65536
 sends_few plan s i ok = go (nat_eq (home plan i) s)
   where
     go : (b : Bool) → length (cond b (carriers plan i) []) ≤ 65536
@@ -231,7 +231,7 @@ sends_few plan s i ok = go (nat_eq (home plan i) s)
         omega (arith, n, m, k)
     go false = omega arith
 
-put_here : (a : Desk) (h : Here a) → (l : ℕ) → slice_get (script a.inputs.job (streams_of a.inputs.job) a.inputs.site) (done_of a) ≡ Some (Puts l) → AtHand a (slice_index a.inputs.job.plan.flat.order a.place) → (a.instant < a.inputs.job.inputs.instants → 0 < a.step) × (a.step < 65538)
+put_here : (a : SiteState) (h : Here a) → (l : ℕ) → slice_get (script a.inputs.job (streams_of a.inputs.job) a.inputs.site) (done_of a) ≡ Some (Puts l) → AtHand a (slice_index a.inputs.job.plan.flat.order a.place) → (a.instant < a.inputs.job.inputs.instants → 0 < a.step) × (a.step < 65538)
 put_here a h l e (ComputeAt own lt z open' item) = let n = sym item ∙ sym (hand_next a h) ∙ e in absurd cc
 put_here a h l e (PutEarly own lt j ej open' item within) =
     let few = sends_few a.inputs.job.plan a.inputs.site (slice_index a.inputs.job.plan.flat.order a.place) h.going_on.set.is_job.is_plan in
@@ -246,7 +246,7 @@ put_here a h l e (PutLate own end item within) =
 put_here a h l e (TakeEarly other lt z open' into item) = let n = sym item ∙ sym (hand_next a h) ∙ e in absurd cc
 put_here a h l e (TakeLate other end into item) = let n = sym item ∙ sym (hand_next a h) ∙ e in absurd cc
 
-pub sent_next : (a : Desk) → IsSet a → StandsAt a → (is_faulted a) ≡ false → IsReadyAt a → IsPutNext a.inputs.job a.inputs.site (done_of a) → (a.step < 65538) × Stands a.inputs.job a.inputs.site (shown_of a) (pasts_of a) a.instant a.place (a.step + 1) (is_faulted a) × (items_before a.inputs.job (streams_of a.inputs.job) a.inputs.site a.instant a.place (a.step + 1) ≡ done_of a + 1)
+pub sent_next : (a : SiteState) → IsSet a → StandsAt a → (is_faulted a) ≡ false → IsReadyAt a → IsPutNext a.inputs.job a.inputs.site (done_of a) → (a.step < 65538) × Stands a.inputs.job a.inputs.site (shown_of a) (pasts_of a) a.instant a.place (a.step + 1) (is_faulted a) × (items_before a.inputs.job (streams_of a.inputs.job) a.inputs.site a.instant a.place (a.step + 1) ≡ done_of a + 1)
 sent_next a is st go ready next =
     let job = a.inputs.job in
     let σ = streams_of job in
@@ -266,7 +266,7 @@ taken_mark s n t d (Gives x) m lt h e at =
     let g : record { no = presents s t; body = Value x } ≡ m = same_Some (record { no = presents s t; body = Value x }) m f in
     (x, e, sym (ap (λ (k : Msg). k.body) g))
 
-take_here : (a : Desk) (h : Here a) → (l : ℕ) (m : Msg) → slice_get (script a.inputs.job (streams_of a.inputs.job) a.inputs.site) (done_of a) ≡ Some (Takes l) → slice_get (link_list a.inputs.job (streams_of a.inputs.job) l) (takes_before (system_of a.inputs.job) l a.inputs.site (done_of a)) ≡ Some m → AtHand a (slice_index a.inputs.job.plan.flat.order a.place) → (a.step ≡ 0) × (stands a.inputs.job.plan (slice_index a.inputs.job.plan.flat.order a.place) a.inputs.site ≡ false) × (a.instant < a.inputs.job.inputs.instants → (x : Datum) × (streams_of a.inputs.job (slice_index a.inputs.job.plan.flat.order a.place) a.instant ≡ Known (Present x)) × (m.body ≡ Value x))
+take_here : (a : SiteState) (h : Here a) → (l : ℕ) (m : Msg) → slice_get (script a.inputs.job (streams_of a.inputs.job) a.inputs.site) (done_of a) ≡ Some (Takes l) → slice_get (link_list a.inputs.job (streams_of a.inputs.job) l) (takes_before (system_of a.inputs.job) l a.inputs.site (done_of a)) ≡ Some m → AtHand a (slice_index a.inputs.job.plan.flat.order a.place) → (a.step ≡ 0) × (stands a.inputs.job.plan (slice_index a.inputs.job.plan.flat.order a.place) a.inputs.site ≡ false) × (a.instant < a.inputs.job.inputs.instants → (x : Datum) × (streams_of a.inputs.job (slice_index a.inputs.job.plan.flat.order a.place) a.instant ≡ Known (Present x)) × (m.body ≡ Value x))
 take_here a h l m e at (ComputeAt own lt z open' item) = let n = sym item ∙ sym (hand_next a h) ∙ e in absurd cc
 take_here a h l m e at (PutEarly own lt j ej open' item within) = let n = sym item ∙ sym (hand_next a h) ∙ e in absurd cc
 take_here a h l m e at (PutLate own end item within) = let n = sym item ∙ sym (hand_next a h) ∙ e in absurd cc
@@ -292,7 +292,7 @@ take_here a h l m e at (TakeEarly other lt z open' into item) =
     (z, other, λ _. taken_mark (σ i) job.inputs.instants a.instant w.past.last v m lt w.last eq at')
 
 -- a take of a message that comes is no stop
-take_goes : (a : Desk) (g : Going a) (l : ℕ) (m : Msg) → slice_get (link_list a.inputs.job (streams_of a.inputs.job) l) (takes_before (system_of a.inputs.job) l a.inputs.site (done_of a)) ≡ Some m → stops_at a.inputs.job a.inputs.site (done_of a) (Takes l) ≡ false
+take_goes : (a : SiteState) (g : Going a) (l : ℕ) (m : Msg) → slice_get (link_list a.inputs.job (streams_of a.inputs.job) l) (takes_before (system_of a.inputs.job) l a.inputs.site (done_of a)) ≡ Some m → stops_at a.inputs.job a.inputs.site (done_of a) (Takes l) ≡ false
 take_goes a g l m at =
     let job = a.inputs.job in
     let σ = streams_of job in
@@ -302,7 +302,7 @@ take_goes a g l m at =
     let n = list_long job g.set.is_job l (link_there job l (takes_before (system_of job) l a.inputs.site (done_of a)) m at) in
     lt-leb (messages_from (outline job σ) (carried job.plan l) 0 job.inputs.instants) (count_by (takes l) (take (done_of a) (endless job σ a.inputs.site))) (omega (arith, lt, e, n))
 
-pub given_next : (a : Desk) (m : Msg) → IsSet a → StandsAt a → (is_faulted a) ≡ false → IsReadyAt a → IsTakeNext a.inputs.job a.inputs.site (done_of a) m → Stands a.inputs.job a.inputs.site (with_body (shown_of a) (slice_index a.program.plan.flat.order a.place) m.body) (pasts_of a) a.instant a.place 1 (is_faulted a) × (items_before a.inputs.job (streams_of a.inputs.job) a.inputs.site a.instant a.place 1 ≡ done_of a + 1)
+pub given_next : (a : SiteState) (m : Msg) → IsSet a → StandsAt a → (is_faulted a) ≡ false → IsReadyAt a → IsTakeNext a.inputs.job a.inputs.site (done_of a) m → Stands a.inputs.job a.inputs.site (with_body (shown_of a) (slice_index a.program.plan.flat.order a.place) m.body) (pasts_of a) a.instant a.place 1 (is_faulted a) × (items_before a.inputs.job (streams_of a.inputs.job) a.inputs.site a.instant a.place 1 ≡ done_of a + 1)
 given_next a m is st go ready next =
     let job = a.inputs.job in
     let σ = streams_of job in
@@ -318,7 +318,7 @@ given_next a m is st go ready next =
     (subst (λ (b : Bool). Stands job a.inputs.site (with_body (shown_of a) (slice_index a.program.plan.flat.order a.place) m.body) (pasts_of a) a.instant a.place 1 b) (sym go) (subst (λ (k : ℕ). Stands job a.inputs.site (with_body (shown_of a) k m.body) (pasts_of a) a.instant a.place 1 false) (sym ei) (subst (λ (j : ℕ). Stands job a.inputs.site (with_body (shown_of a) i m.body) (pasts_of a) a.instant a.place j false) one r)), ap (items_before job σ a.inputs.site a.instant a.place) (sym one) ∙ before_step job σ a.inputs.site a.instant a.place a.step)
 
 -- where the next item is a put, the flow was computed, or the closes are on
-pub sent_at : (a : Desk) → IsSet a → StandsAt a → (is_faulted a) ≡ false → IsReadyAt a → IsPutNext a.inputs.job a.inputs.site (done_of a) → (0 < a.step) ⊎ (a.inputs.job.inputs.instants ≤ a.instant)
+pub sent_at : (a : SiteState) → IsSet a → StandsAt a → (is_faulted a) ≡ false → IsReadyAt a → IsPutNext a.inputs.job a.inputs.site (done_of a) → (0 < a.step) ⊎ (a.inputs.job.inputs.instants ≤ a.instant)
 sent_at a is st go ready next =
     let g = going a is st go in
     let h = here_from a (Puts next.0) g ready next.1 in
@@ -326,7 +326,7 @@ sent_at a is st go ready next =
     elim (cases_lt a.instant a.inputs.job.inputs.instants) [ inl lt ↦ inl (w.0 lt) | inr ge ↦ inr ge ]
 
 -- where the next item is a take, the flow is none of the site's own
-pub given_at : (a : Desk) (m : Msg) → IsSet a → StandsAt a → (is_faulted a) ≡ false → IsReadyAt a → IsTakeNext a.inputs.job a.inputs.site (done_of a) m → (a.step ≡ 0) × (a.place < length a.inputs.job.plan.flat.order) × (stands a.inputs.job.plan (slice_index a.inputs.job.plan.flat.order a.place) a.inputs.site ≡ false)
+pub given_at : (a : SiteState) (m : Msg) → IsSet a → StandsAt a → (is_faulted a) ≡ false → IsReadyAt a → IsTakeNext a.inputs.job a.inputs.site (done_of a) m → (a.step ≡ 0) × (a.place < length a.inputs.job.plan.flat.order) × (stands a.inputs.job.plan (slice_index a.inputs.job.plan.flat.order a.place) a.inputs.site ≡ false)
 given_at a m is st go ready next =
     let g = going a is st go in
     let h = here_from a (Takes next.0) g ready next.1 in
@@ -334,8 +334,8 @@ given_at a m is st go ready next =
     (w.0, h.place_lt, w.1)
 
 -- the same, for the flow that the code names
-pub compute_here : (a : Desk) (k : ℕ) (o : Outcome) → k ≡ slice_index a.program.plan.flat.order a.place → Computes a k (flow_at a.program.plan.flat k) o → Computes a (slice_index a.program.plan.flat.order a.place) (flow_at a.program.plan.flat (slice_index a.program.plan.flat.order a.place)) o
+pub compute_here : (a : SiteState) (k : ℕ) (o : Outcome) → k ≡ slice_index a.program.plan.flat.order a.place → Computes a k (flow_at a.program.plan.flat k) o → Computes a (slice_index a.program.plan.flat.order a.place) (flow_at a.program.plan.flat (slice_index a.program.plan.flat.order a.place)) o
 compute_here a k o e c = subst (λ (j : ℕ). Computes a j (flow_at a.program.plan.flat j) o) e c
 
-pub place_in_plan : (a : Desk) (g : Going a) → a.place < length a.inputs.job.plan.flat.order → a.place < length a.program.plan.flat.order
-place_in_plan a g l = subst (λ (q : Distribution). a.place < length q.flat.order) (sym g.set.plan_is) l
+pub place_in_plan : (a : SiteState) (g : Going a) → a.place < length a.inputs.job.plan.flat.order → a.place < length a.program.plan.flat.order
+place_in_plan a g l = subst (λ (q : PlanView). a.place < length q.flat.order) (sym g.set.plan_is) l

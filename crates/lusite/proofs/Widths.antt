@@ -14,21 +14,21 @@ use Rattle.luflow.specs.Program.{flows_of, reads, IsOrdered}
 use Rattle.luflow.proofs.Solutions.{some_at, IsSolution-solution}
 use Rattle.lueval_lines.proofs.Faults.{fault_broken}
 use Rattle.luflow.specs.Streams.{is_broken}
-use Rattle.luworld.specs.Needs.{Distribution, stands}
-use Rattle.luworld.specs.World.{Item, Compute, Puts, Takes}
+use Rattle.luworld.specs.Needs.{PlanView, stands}
+use Rattle.luworld.specs.Systems.{Item, Compute, Puts, Takes}
 use Rattle.luworld.specs.Outline.{Outline, Cell, cells, size, left_in, left_after, faulted_after, is_break, stops, NoStop, compute_items, message_items, flow_items}
-use Rattle.luworld.specs.Runs.{Run, IsRun, IsJob, streams_of, knows, outline, script, cell, items_before, sends, link_into, listed, HasNoStop}
+use Rattle.luworld.specs.Jobs.{JobView, IsJobView, IsJob, streams_of, knows, outline, script, cell, items_before, sends, link_into, listed, HasNoStop}
 use Rattle.luworld.proofs.Outlines.{message_is, broken_is}
 use Rattle.luworld.proofs.Remaining.{cell_of, row, later, left_here, left_over, later_size, later_none, sum_drop_same, size_map}
 use Rattle.lusite_program.specs.declared.program.Part.{Part}
 use Rattle.lusite.specs.declared.next.Fault.{Fault}
-use Rattle.lusite.specs.declared.desk.Desk.{Desk}
-use Rattle.lusite_program.specs.Programs.{SitePlan, part_of, parts_of, no_part, ranks_of, places_of, rank_at}
-use Rattle.lusite.specs.Machine.{in_cell, is_faulted, Stands, IsSet, StandsAt, IsReadyAt, Ready, Over, TellsFault, done_of, shown_of, pasts_of}
+use Rattle.lusite.specs.declared.state.SiteState.{SiteState}
+use Rattle.lusite_program.specs.Programs.{SiteProgramView, part_of, parts_of, no_part, ranks_of, places_of, rank_at}
+use Rattle.lusite.specs.Machine.{in_cell, is_faulted, Stands, IsSet, StandsAt, IsReadyAt, Ready, Over, ReportsFault, done_of, shown_of, pasts_of}
 use Rattle.lusite.specs.Widths.{width_of, width, widths}
 use Rattle.lusite.proofs.Machine.{ended}
-use Rattle.lusite_program.proofs.Posts.{filter_short, sends_short, part_there}
-use Rattle.lusite.proofs.Desks.{Going, part_here}
+use Rattle.lusite_program.proofs.SiteFlows.{filter_short, sends_short, part_there}
+use Rattle.lusite.proofs.SiteStates.{Going, part_here}
 use Rattle.lusite_program.proofs.Ranks.{AreUnknown, rank_in, rank_next, rank_le, unknown_first, unknown_next}
 use Rattle.lusite.proofs.Offers.{Here, hand_next}
 
@@ -42,7 +42,7 @@ width_few part early = go part.own early (is_some part.from)
     go false early true = omega arith
     go false early false = omega arith
 
-pub width_short : (a : Desk) → IsSet a → (early : Bool) (i : ℕ) → width a.program early i ≤ 65537
+pub width_short : (a : SiteState) → IsSet a → (early : Bool) (i : ℕ) → width a.program early i ≤ 65537
 width_short a set early i = elim (cases_lt i (flows_of a.inputs.job.plan.flat)) [
   | inl li ↦
       let plan = a.inputs.job.plan in
@@ -53,7 +53,7 @@ width_short a set early i = elim (cases_lt i (flows_of a.inputs.job.plan.flat)) 
       omega (arith, e, w, n, few)
   | inr ge ↦
       let plan = a.program.plan in
-      let same = ap (λ (q : Distribution). flows_of q.flat) set.plan_is in
+      let same = ap (λ (q : PlanView). flows_of q.flat) set.plan_is in
       let n = length-map (range_with_len 0 (flows_of plan.flat)) (part_of plan a.program.site) in
       let m = length-range_with_len 0 (flows_of plan.flat) in
       let none = slice_get_past (parts_of plan a.program.site) i (omega (arith, ge, same, n, m)) in
@@ -63,17 +63,17 @@ width_short a set early i = elim (cases_lt i (flows_of a.inputs.job.plan.flat)) 
 ]
 
 -- there are at most 4,096 ranks
-pub order_short : (a : Desk) → IsRun a.inputs.job → IsSet a → length a.program.plan.flat.order ≤ 4096
+pub order_short : (a : SiteState) → IsJobView a.inputs.job → IsSet a → length a.program.plan.flat.order ≤ 4096
 order_short a run set =
     let flat = run.plan_is.flat_is in
-    let same = ap (λ (q : Distribution). length q.flat.order) set.plan_is in
+    let same = ap (λ (q : PlanView). length q.flat.order) set.plan_is in
     let count = flat.ranked.count in
     let n = length-map a.inputs.job.plan.flat.flows reads in
     let few = flat.few in
     omega (arith, same, count, n, few)
 
 -- and as few flows that the site knows
-pub rows_short : (a : Desk) → IsRun a.inputs.job → IsSet a → length (places_of a.program.plan a.program.site) ≤ 4096
+pub rows_short : (a : SiteState) → IsJobView a.inputs.job → IsSet a → length (places_of a.program.plan a.program.site) ≤ 4096
 rows_short a run set =
     let n = order_short a run set in
     let short = filter_short (λ p. knows a.program.plan a.program.site (slice_index a.program.plan.flat.order p)) (range_with_len 0 (length a.program.plan.flat.order)) in
@@ -82,21 +82,21 @@ rows_short a run set =
     omega (arith, n, short, m, k)
 
 -- one rank more
-pub widths_next : (p : SitePlan) (early : Bool) (order : List ℕ) (q : ℕ) → q < length order → widths p early (drop q order) ≡ width p early (slice_index order q) + widths p early (drop (q + 1) order)
+pub widths_next : (p : SiteProgramView) (early : Bool) (order : List ℕ) (q : ℕ) → q < length order → widths p early (drop q order) ≡ width p early (slice_index order q) + widths p early (drop (q + 1) order)
 widths_next p early order q lt =
     let k : q + 1 ≡ suc q = omega arith in
     ap (widths p early) (drop-cons order q 0 lt)
     ∙ sum_by-cons (width p early) (slice_index order q) (drop (suc q) order)
     ∙ ap (λ (n : ℕ). width p early (slice_index order q) + widths p early (drop n order)) (sym k)
 
-pub widths_end : (p : SitePlan) (early : Bool) (order : List ℕ) (q : ℕ) → length order ≤ q → widths p early (drop q order) ≡ 0
+pub widths_end : (p : SiteProgramView) (early : Bool) (order : List ℕ) (q : ℕ) → length order ≤ q → widths p early (drop q order) ≡ 0
 widths_end p early [] zero le = refl
 widths_end p early [] (suc q) le = refl
 widths_end p early (x ∷ order) zero le = absurd (omega (arith, le))
 widths_end p early (x ∷ order) (suc q) le = widths_end p early order q (omega (arith, le))
 
 -- flows that a site neither computes nor takes have no items there
-unknown_width : (p : SitePlan) (early : Bool) (q : ℕ) → IsOrdered p.plan.flat → q < length p.plan.flat.order → knows p.plan p.site (slice_index p.plan.flat.order q) ≡ false → width p early (slice_index p.plan.flat.order q) ≡ 0
+unknown_width : (p : SiteProgramView) (early : Bool) (q : ℕ) → IsOrdered p.plan.flat → q < length p.plan.flat.order → knows p.plan p.site (slice_index p.plan.flat.order q) ≡ false → width p early (slice_index p.plan.flat.order q) ≡ 0
 unknown_width p early q ordered lq unknown =
     let i = slice_index p.plan.flat.order q in
     ap (λ (x : Part). width_of x early) (part_there p i (All-get_or (λ j. j < flows_of p.plan.flat) p.plan.flat.order q 0 lq ordered.only_flows))
@@ -107,7 +107,7 @@ unknown_width p early q ordered lq unknown =
     go false true h = absurd (false≢true (sym h))
     go false false h = refl
 
-widths_over : (p : SitePlan) (early : Bool) (q d : ℕ) → IsOrdered p.plan.flat → q + d ≤ length p.plan.flat.order → AreUnknown p.plan p.site q (q + d) → widths p early (drop q p.plan.flat.order) ≡ widths p early (drop (q + d) p.plan.flat.order)
+widths_over : (p : SiteProgramView) (early : Bool) (q d : ℕ) → IsOrdered p.plan.flat → q + d ≤ length p.plan.flat.order → AreUnknown p.plan p.site q (q + d) → widths p early (drop q p.plan.flat.order) ≡ widths p early (drop (q + d) p.plan.flat.order)
 widths_over p early q zero ordered le h = let e : q ≡ q + 0 = omega arith in ap (λ n. widths p early (drop n p.plan.flat.order)) e
 widths_over p early q (suc d) ordered le h =
     let order = p.plan.flat.order in
@@ -118,7 +118,7 @@ widths_over p early q (suc d) ordered le h =
     widths_over p early q d ordered (omega (arith, le)) (λ r low high. h r low (omega (arith, high))) ∙ same ∙ ap (λ n. widths p early (drop n order)) e
 
 -- from one flow of the site's to the next
-pub widths_row : (p : SitePlan) (early : Bool) (k : ℕ) → IsOrdered p.plan.flat → (rank : ℕ) → slice_get (ranks_of p.plan p.site) k ≡ Some rank → widths p early (drop (rank_at p k) p.plan.flat.order) ≡ width p early (slice_index p.plan.flat.order rank) + widths p early (drop (rank_at p (k + 1)) p.plan.flat.order)
+pub widths_row : (p : SiteProgramView) (early : Bool) (k : ℕ) → IsOrdered p.plan.flat → (rank : ℕ) → slice_get (ranks_of p.plan p.site) k ≡ Some rank → widths p early (drop (rank_at p k) p.plan.flat.order) ≡ width p early (slice_index p.plan.flat.order rank) + widths p early (drop (rank_at p (k + 1)) p.plan.flat.order)
 widths_row p early k ordered rank there =
     let order = p.plan.flat.order in
     let lq = rank_in p k rank there in
@@ -132,7 +132,7 @@ widths_row p early k ordered rank there =
     ∙ ap (λ n. width p early (slice_index order rank) + n) (over ∙ ap (λ n. widths p early (drop n order)) e)
 
 -- behind the last of them there is nothing
-pub widths_last : (p : SitePlan) (early : Bool) (k : ℕ) → length (places_of p.plan p.site) ≤ k → widths p early (drop (rank_at p k) p.plan.flat.order) ≡ 0
+pub widths_last : (p : SiteProgramView) (early : Bool) (k : ℕ) → length (places_of p.plan p.site) ≤ k → widths p early (drop (rank_at p k) p.plan.flat.order) ≡ 0
 widths_last p early k le =
     let order = p.plan.flat.order in
     let n = length-map (ranks_of p.plan p.site) (slice_index order) in
@@ -140,10 +140,10 @@ widths_last p early k le =
     widths_end p early order (rank_at p k) (omega (arith, end))
 
 -- all of them are all flows
-pub widths_first : (a : Desk) → IsSet a → (early : Bool) → widths a.program early (drop (rank_at a.program 0) a.program.plan.flat.order) ≡ widths a.program early (drop 0 a.program.plan.flat.order)
+pub widths_first : (a : SiteState) → IsSet a → (early : Bool) → widths a.program early (drop (rank_at a.program 0) a.program.plan.flat.order) ≡ widths a.program early (drop 0 a.program.plan.flat.order)
 widths_first a set early =
     let p = a.program in
-    let ordered : IsOrdered p.plan.flat = subst (λ (q : Distribution). IsOrdered q.flat) (sym set.plan_is) set.is_job.is_plan.ordered in
+    let ordered : IsOrdered p.plan.flat = subst (λ (q : PlanView). IsOrdered q.flat) (sym set.plan_is) set.is_job.is_plan.ordered in
     let e : 0 + rank_at p 0 ≡ rank_at p 0 = omega arith in
     sym (widths_over p early 0 (rank_at p 0) ordered (let le = rank_le p 0 in omega (arith, le)) (subst (AreUnknown p.plan p.site 0) (sym e) (unknown_first p)) ∙ ap (λ n. widths p early (drop n p.plan.flat.order)) e)
 
@@ -158,7 +158,7 @@ no_break plan before (x ∷ xs) h = go x h.0 (no_break plan (before ++ x ∷ [])
     go (Takes l) e rest = rest
 
 -- a flow's items where it is present
-module _ (job : Run) (ok : IsJob job) (s : ℕ) where
+module _ (job : JobView) (ok : IsJob job) (s : ℕ) where
   abbrev plan : Outline
   plan = outline job (streams_of job)
 
@@ -228,14 +228,14 @@ module _ (job : Run) (ok : IsJob job) (s : ℕ) where
   left_end = left_over plan s
 
 -- what is left of a state that goes on
-module _ (a : Desk) (g : Going a) where
+module _ (a : SiteState) (g : Going a) where
   abbrev site_plan : Outline
   site_plan = outline a.inputs.job (streams_of a.inputs.job)
 
   widths_are : (early : Bool) (p : ℕ) → widths a.program early (drop p a.program.plan.flat.order) ≡ all_from a.inputs.job g.set.is_job a.inputs.site early p
   widths_are early p =
       let job = a.inputs.job in
-      ap (λ (q : Distribution). widths a.program early (drop p q.flat.order)) g.set.plan_is
+      ap (λ (q : PlanView). widths a.program early (drop p q.flat.order)) g.set.plan_is
       ∙ sum_drop_same (width a.program early) (λ i. width_of (part_of job.plan a.inputs.site i) early) job.plan.flat.order p
       (λ k lt. ap (λ (x : Part). width_of x early) (part_here a (slice_index job.plan.flat.order k) g.set (All-get_or (λ i. i < flows_of job.plan.flat) job.plan.flat.order k 0 lt g.set.is_job.is_plan.ordered.only_flows)))
 
@@ -266,32 +266,32 @@ module _ (a : Desk) (g : Going a) where
   left_cells : IsReadyAt a → left_after site_plan a.inputs.site (done_of a) ≡ left_in (cells site_plan a.inputs.site) (done_of a)
   left_cells ready = ap (λ (b : Bool). cond b 0 (left_in (cells site_plan a.inputs.site) (done_of a))) (not_faulted ready)
 
-  pub desk_early : IsReadyAt a → a.instant < a.inputs.job.inputs.instants → (left_after site_plan a.inputs.site (done_of a) ≡ (widths a.program true (drop a.place a.program.plan.flat.order) - a.step) + (((a.inputs.job.inputs.instants - a.instant) - 1) * widths a.program true (drop 0 a.program.plan.flat.order) + widths a.program false (drop 0 a.program.plan.flat.order))) × (a.step ≤ widths a.program true (drop a.place a.program.plan.flat.order))
-  desk_early (Ready lp lj) lt =
+  pub state_early : IsReadyAt a → a.instant < a.inputs.job.inputs.instants → (left_after site_plan a.inputs.site (done_of a) ≡ (widths a.program true (drop a.place a.program.plan.flat.order) - a.step) + (((a.inputs.job.inputs.instants - a.instant) - 1) * widths a.program true (drop 0 a.program.plan.flat.order) + widths a.program false (drop 0 a.program.plan.flat.order))) × (a.step ≤ widths a.program true (drop a.place a.program.plan.flat.order))
+  state_early (Ready lp lj) lt =
       let h = left_early a.inputs.job g.set.is_job a.inputs.site a.instant a.place a.step lt lp lj in
       let n = (a.inputs.job.inputs.instants - a.instant) - 1 in
       let e = ap (λ k. k - a.step) (sym (widths_are true a.place)) in
       let f = ap₂ (λ k m. n * k + m) (sym (widths_are true 0)) (sym (widths_are false 0)) in
       (left_cells (Ready lp lj) ∙ h.0 ∙ ap₂ (λ k m. k + m) e f, let w = widths_are true a.place in let le = h.1 in omega (arith, w, le))
-  desk_early (Over et ep ej) lt = absurd (omega (arith, et, lt))
+  state_early (Over et ep ej) lt = absurd (omega (arith, et, lt))
 
-  pub desk_late : IsReadyAt a → a.inputs.job.inputs.instants ≤ a.instant → (left_after site_plan a.inputs.site (done_of a) ≡ widths a.program false (drop a.place a.program.plan.flat.order) - a.step) × (a.step ≤ widths a.program false (drop a.place a.program.plan.flat.order))
-  desk_late (Ready lp lj) ge =
+  pub state_late : IsReadyAt a → a.inputs.job.inputs.instants ≤ a.instant → (left_after site_plan a.inputs.site (done_of a) ≡ widths a.program false (drop a.place a.program.plan.flat.order) - a.step) × (a.step ≤ widths a.program false (drop a.place a.program.plan.flat.order))
+  state_late (Ready lp lj) ge =
       let le = g.stands.instant_le in
       let h = left_late a.inputs.job g.set.is_job a.inputs.site a.instant a.place a.step (omega (arith, ge, le)) lp lj in
       (left_cells (Ready lp lj) ∙ h.0 ∙ ap (λ k. k - a.step) (sym (widths_are false a.place)), let w = widths_are false a.place in let le = h.1 in omega (arith, w, le))
-  desk_late (Over et ep ej) ge =
+  state_late (Over et ep ej) ge =
       let job = a.inputs.job in
       let n : done_of a ≡ items_before job (streams_of job) a.inputs.site job.inputs.instants (length job.plan.flat.order) 0 =
       ap (λ (t : ℕ). items_before job (streams_of job) a.inputs.site t a.place a.step) et ∙ ap₂ (items_before job (streams_of job) a.inputs.site job.inputs.instants) ep ej in
       let z = left_cells (Over et ep ej) ∙ ap (left_in (cells site_plan a.inputs.site)) n ∙ left_end job g.set.is_job a.inputs.site in
-      let k = ap (λ (q : Distribution). length q.flat.order) g.set.plan_is in
+      let k = ap (λ (q : PlanView). length q.flat.order) g.set.plan_is in
       let w = widths_end a.program false a.program.plan.flat.order a.place (omega (arith, k, ep)) in
       (z ∙ omega (arith, w), omega (arith, ej))
 
 -- a state that reports a fault has faulted
-pub desk_faulted : (a : Desk) → IsRun a.inputs.job → IsSet a → StandsAt a → TellsFault a → is_faulted a ≡ true → left_after (outline a.inputs.job (streams_of a.inputs.job)) a.inputs.site (done_of a) ≡ 0
-desk_faulted a run set st tells bad = go a.fault refl bad
+pub state_faulted : (a : SiteState) → IsJobView a.inputs.job → IsSet a → StandsAt a → ReportsFault a → is_faulted a ≡ true → left_after (outline a.inputs.job (streams_of a.inputs.job)) a.inputs.site (done_of a) ≡ 0
+state_faulted a run set st tells bad = go a.fault refl bad
   where
     go : (o : Option Fault) → a.fault ≡ o → is_some o ≡ true → left_after (outline a.inputs.job (streams_of a.inputs.job)) a.inputs.site (done_of a) ≡ 0
     go None e bad = absurd (false≢true bad)

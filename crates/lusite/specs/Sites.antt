@@ -1,22 +1,22 @@
 -- What contracts see of a site.
 use Rattle.std.specs.Prelude.{◌≡◌, ℕ, false}
-use Rattle.luworld.specs.Runs.{Run}
-use Rattle.lusite.specs.declared.desk.Desk.{Desk}
+use Rattle.luworld.specs.Jobs.{JobView}
+use Rattle.lusite.specs.declared.state.SiteState.{SiteState}
 use Rattle.lusite.specs.Logs.{IsLoggedAt}
-use Rattle.lusite.specs.Machine.{IsSet, StandsAt, IsReadyAt, TellsFault, is_faulted, done_of}
+use Rattle.lusite.specs.Machine.{IsSet, StandsAt, IsReadyAt, ReportsFault, is_faulted, done_of}
 
 -- the job, the site, and how many items of the site's script are done
-pub record SiteAt : Type 0 where
-  pub job : Run
+pub record SiteView : Type 0 where
+  pub job : JobView
   pub site : ℕ
   pub done : ℕ
 
-abbrev pub site_at : Desk → SiteAt
+abbrev pub site_at : SiteState → SiteView
 site_at a = record { job = a.inputs.job; site = a.inputs.site; done = done_of a }
 
-pub record IsSite (a : Desk) : Type 0 where
+pub record IsSite (a : SiteState) : Type 0 where
   pub set : IsSet a
   pub stands : StandsAt a
   pub logged : IsLoggedAt a
-  pub tells : TellsFault a
+  pub tells : ReportsFault a
   pub ready : is_faulted a ≡ false → IsReadyAt a

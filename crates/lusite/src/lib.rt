@@ -5,11 +5,11 @@
 //! - [`SiteReport`], [`Standing`]: what a site leaves.
 #![tactic(auto)]
 
-mod desk;
 mod left;
 mod next;
 mod report;
 mod site;
+mod state;
 
 pub use luflow::{Body, Datum, Msg, Status};
 pub use lusite_program::{LinkNo, SiteProgram, project};

@@ -6,7 +6,7 @@ ghost use Rattle.lusite_program.specs.Logs.{row_items};
 ghost use Rattle.lusite.specs.Machine.{IsNext, IsStanding};
 ghost use Rattle.lusite_program.specs.Programs.{output_names, reports_output};
 ghost use Rattle.luworld.specs.Needs.{sites_of};
-ghost use Rattle.luworld.specs.Runs.{IsJob, outputs_of};
+ghost use Rattle.luworld.specs.Jobs.{IsJob, outputs_of};
 
 use crate::next::{Fault, Next};
 use crate::site::Site;
@@ -39,9 +39,9 @@ impl Drop for SiteReport {
 }
 
 impl Model for SiteReport {
-    ghost use Rattle.lusite.specs.Sites.{SiteAt};
+    ghost use Rattle.lusite.specs.Sites.{SiteView};
 
-    ghost Value = { SiteAt };
+    ghost Value = { SiteView };
 
     ghost view = { λ a. a.site };
 }

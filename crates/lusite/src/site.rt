@@ -5,15 +5,15 @@ ghost use Rattle.std.specs.Option.{ForSome};
 ghost use Rattle.lueval_lines.specs.declared.cell.Cell.TheVariants.{Absent};
 ghost use Rattle.luworld.specs.Needs.{sites_of};
 ghost use Rattle.luworld.specs.Outline.{left_after};
-ghost use Rattle.luworld.specs.Runs.{IsJob, IsRun, outline, outputs_of, streams_of};
+ghost use Rattle.luworld.specs.Jobs.{IsJob, IsJobView, outline, outputs_of, streams_of};
 ghost use Rattle.lusite.specs.Logs.{IsOutput};
 ghost use Rattle.lusite.specs.Machine.{IsAtInstant, IsNext, IsLocalNext, IsPutNext, IsTakeNext, IsFaultAt};
 ghost use Rattle.lusite.specs.Widths.{most_left};
 ghost use Rattle.lusite_program.specs.Logs.{IsNewRow, row_items};
 ghost use Rattle.lusite_program.specs.Programs.{output_names, part_of, places_of, reports_output};
 
-use crate::desk::Desk;
 use crate::next::{Fault, Next};
+use crate::state::SiteState;
 use lubase::Name;
 use luflow::{Msg, Status};
 use luplace::SiteInputs;
@@ -23,24 +23,24 @@ use std::marker::Model;
 
 /// The machine of one site. A contract sees its job, its site, and how many items of the site's script are done.
 pub struct Site {
-    desk: Desk,
+    state: SiteState,
 }
 
 // By hand, so that it is proved here alone, and not in each crate that owns one.
 impl Drop for Site {
     fn drop(self) {
-        let Self { desk: _ } = self;
+        let Self { state: _ } = self;
     }
 }
 
 impl Model for Site {
-    ghost use Rattle.lusite.specs.Sites.{SiteAt, site_at, IsSite};
+    ghost use Rattle.lusite.specs.Sites.{SiteView, site_at, IsSite};
 
-    ghost Value = { SiteAt };
+    ghost Value = { SiteView };
 
-    ghost view = { λ a. site_at a.desk };
+    ghost view = { λ a. site_at a.state };
 
-    ghost invariant = { λ a. IsSite a.desk };
+    ghost invariant = { λ a. IsSite a.state };
 }
 
 /// The site's machine at the start of its script, from what a new site holds.
@@ -57,7 +57,7 @@ fn begun(program: SiteProgram, inputs: SiteInputs, held: Held) -> Site
     requires len { length held.logs.items ≡ length (places_of program.plan program.site) }
     requires each { (k i : ℕ) → slice_get (places_of program.plan program.site) k ≡ Some i
         → ForSome (slice_get held.logs.items k) (λ y. IsNewRow (part_of program.plan program.site
-        i).told inputs.job.inputs.instants y) }
+        i).reported inputs.job.inputs.instants y) }
     ensures job { result.job ≡ inputs.job }
     ensures site { result.site ≡ inputs.site }
     ensures done { result.done ≡ 0 }
@@ -69,7 +69,7 @@ fn begun(program: SiteProgram, inputs: SiteInputs, held: Held) -> Site
         logs,
     } = held;
     let place = program.rank(0);
-    let mut desk = Desk {
+    let mut state = SiteState {
         program,
         inputs,
         shown,
@@ -82,8 +82,8 @@ fn begun(program: SiteProgram, inputs: SiteInputs, held: Held) -> Site
         step: 0,
         fault: None,
     };
-    desk.settle();
-    Site { desk }
+    state.settle();
+    Site { state }
 }
 
 impl Site {
@@ -105,7 +105,7 @@ impl Site {
     pub fn site(&self) -> u8
         ensures { result ≡ self.now.site }
     {
-        self.desk.inputs.site()
+        self.state.inputs.site()
     }
 
     /// The number of instants, 0 to 1,000,000. Takes no memory.
@@ -113,7 +113,7 @@ impl Site {
         ensures instants { result ≡ self.now.job.inputs.instants }
         ensures job { IsJob self.now.job }
     {
-        self.desk.inputs.instants()
+        self.state.inputs.instants()
     }
 
     /// The instant at which the site stands, from 0: it has done all its items of the instants before. Once it has done all
@@ -122,28 +122,28 @@ impl Site {
     pub fn instant(&self) -> u32
         ensures { IsAtInstant self.now.job self.now.site self.now.done result }
     {
-        self.desk.instant
+        self.state.instant
     }
 
     /// The number of sites of the run, 1 to 16. Takes no memory.
     pub fn sites(&self) -> u8
         ensures { result ≡ sites_of self.now.job.plan }
     {
-        self.desk.program.sites()
+        self.state.program.sites()
     }
 
     /// The names of the main outputs, of all sites, in order of declaration: by the number of each. Takes no memory.
     pub fn names(&self) -> &[Name]
         ensures { result.now ≡ output_names self.now.job.plan }
     {
-        self.desk.program.names()
+        self.state.program.names()
     }
 
     /// Whether the site is the one that reports output k; false where there is no output k. Takes no memory.
     pub fn reports_output(&self, k: usize) -> bool
         ensures { result ≡ reports_output self.now.job.plan self.now.site k }
     {
-        self.desk.reports_output(k)
+        self.state.reports_output(k)
     }
 
     /// Exactly the next item of the site's script; at its end whether it ended or faulted. Takes no memory.
@@ -151,7 +151,7 @@ impl Site {
     pub fn next(&self) -> Next
         ensures { IsNext self.now.job self.now.site self.now.done result }
     {
-        self.desk.offer()
+        self.state.offer()
     }
 
     /// Output k so far: a prefix of its statuses before its first broken one, and all of them where the site has ended;
@@ -160,7 +160,7 @@ impl Site {
     pub fn outputs(&self, k: usize) -> &[Status]
         ensures { IsOutput self.now.job self.now.site self.now.done k result.now }
     {
-        self.desk.output(k)
+        self.state.output(k)
     }
 
     /// All outputs so far, as `outputs` reports them, moved out.
@@ -169,8 +169,8 @@ impl Site {
         ensures each { IfOk result (λ rows. (k : ℕ) → IsOutput self.job self.site self.done k
             (row_items (slice_get rows.items k))) }
     {
-        let Site { desk } = self;
-        let Desk { program, logs, .. } = desk;
+        let Site { state } = self;
+        let SiteState { program, logs, .. } = state;
         drawn(alloc, &program, logs)
     }
 
@@ -181,7 +181,7 @@ impl Site {
         ensures when { IsSome result ↔ IsNext self.now.job self.now.site self.now.done
             Next.Faulted }
     {
-        self.desk.fault
+        self.state.fault
     }
 
     /// How many items the site would still do if every flow that it hasn't passed were present at each instant; 0 where it has
@@ -190,13 +190,13 @@ impl Site {
         ensures left { result ≡ left_after (outline self.now.job (streams_of self.now.job))
             self.now.site self.now.done }
         ensures few { result ≤ most_left }
-        ensures run { IsRun self.now.job }
+        ensures run { IsJobView self.now.job }
     {
-        self.desk.inputs.recall_invariant();
-        if self.desk.fault.is_some() {
+        self.state.inputs.recall_invariant();
+        if self.state.fault.is_some() {
             return 0;
         }
-        self.desk.left()
+        self.state.left()
     }
 
     /// Computes the flow at hand.
@@ -207,9 +207,9 @@ impl Site {
         ensures site { self.new.site ≡ self.old.site }
         ensures done { self.new.done ≡ self.old.done + 1 }
     {
-        self.desk.work();
-        if self.desk.fault.is_none() {
-            self.desk.settle();
+        self.state.work();
+        if self.state.fault.is_none() {
+            self.state.settle();
         }
     }
 
@@ -220,8 +220,8 @@ impl Site {
         ensures site { self.new.site ≡ self.old.site }
         ensures done { self.new.done ≡ self.old.done + 1 }
     {
-        self.desk.sent();
-        self.desk.settle();
+        self.state.sent();
+        self.state.settle();
     }
 
     /// The take at hand gave this message, the next of its link.
@@ -231,7 +231,7 @@ impl Site {
         ensures site { self.new.site ≡ self.old.site }
         ensures done { self.new.done ≡ self.old.done + 1 }
     {
-        self.desk.given_message(msg);
-        self.desk.settle();
+        self.state.given_message(msg);
+        self.state.settle();
     }
 }

@@ -10,8 +10,8 @@ use Rattle.std.proofs.lemmas.List.{length-take-le}
 use Rattle.std.proofs.Math.Seq.{take-length}
 use Rattle.luflow.proofs.Solutions.{some_at}
 use Rattle.luworld.specs.declared.link.Link.{Link}
-use Rattle.luworld.specs.Needs.{Distribution, sites_of, home, is_linked, links_of_variable, IsPlan}
-use Rattle.luworld.specs.Runs.{is_into, link_into, carried, sends}
+use Rattle.luworld.specs.Needs.{PlanView, sites_of, home, is_linked, links_of_variable, IsPlan}
+use Rattle.luworld.specs.Jobs.{is_into, link_into, carried, sends}
 use Rattle.luworld.proofs.Wired.{Each, each_append, each_at}
 use Rattle.lusite_program.specs.Carriers.{LinkRow, or_link, is_out_of, leaves, AreLonger, AreCarriersTo, AreCarriers}
 use Rattle.lusite_program.proofs.Ranges.{filter_more}
@@ -39,14 +39,14 @@ source_step links s i l k e lt =
     ap (position_from (is_into s i) 0) (take_more links l k e) ∙ source_more (is_into s i) 0 (take l links) k
     ∙ ap (or_link (position_from (is_into s i) 0 (take l links)) (is_into s i k)) n
 
-pub source_all : (plan : Distribution) (s i : ℕ) → position_from (is_into s i) 0 (take (length plan.links) plan.links) ≡ link_into plan s i
+pub source_all : (plan : PlanView) (s i : ℕ) → position_from (is_into s i) 0 (take (length plan.links) plan.links) ≡ link_into plan s i
 source_all plan s i = ap (position_from (is_into s i) 0) (take-length plan.links) ∙ sym (position_from-zero (is_into s i) plan.links)
 
 leaves_there : (links : List Link) (s i l : ℕ) (k : Link) → slice_get links l ≡ Some k → leaves links s i l ≡ is_out_of s i k
 leaves_there links s i l k e = ap (λ o. unwrap_or (option_map (is_out_of s i) o) false) e
 
 -- a link of a plan goes out of the home of its flow
-module _ (plan : Distribution) where
+module _ (plan : PlanView) where
   abbrev FromHome : Link → Type 0
   FromHome k = k.from ≡ home plan k.flow
 
@@ -88,7 +88,7 @@ filter_cond p true xs = filter_all p xs
 filter_cond p false xs = filter_none p xs
 
 -- a link leaves a site with a flow where it carries the flow and the site is the flow's home
-leaves_is : (plan : Distribution) (ok : IsPlan plan) (s i l : ℕ) → l < length plan.links → leaves plan.links s i l ≡ (nat_eq (carried plan l) i && nat_eq (home plan i) s)
+leaves_is : (plan : PlanView) (ok : IsPlan plan) (s i l : ℕ) → l < length plan.links → leaves plan.links s i l ≡ (nat_eq (carried plan l) i && nat_eq (home plan i) s)
 leaves_is plan ok s i l lt =
     let w = some_at plan.links l lt in
     let k = w.0 in
@@ -97,13 +97,13 @@ leaves_is plan ok s i l lt =
     ∙ out_of_home plan s i k (from_home plan ok l k w.1)
     ∙ ap (λ f. nat_eq f i && nat_eq (home plan i) s) (sym flow)
   where
-    out_of_home : (plan : Distribution) (s i : ℕ) (k : Link) → k.from ≡ home plan k.flow → is_out_of s i k ≡ (nat_eq k.flow i && nat_eq (home plan i) s)
+    out_of_home : (plan : PlanView) (s i : ℕ) (k : Link) → k.from ≡ home plan k.flow → is_out_of s i k ≡ (nat_eq k.flow i && nat_eq (home plan i) s)
     out_of_home plan s i k h = elim (cases_eq k.flow i) [
       | inl same ↦ ap (λ v. nat_eq k.flow i && nat_eq v s) (h ∙ ap (home plan) same)
       | inr other ↦ ap (λ b. b && nat_eq k.from s) (ne_eqb k.flow i other) ∙ sym (ap (λ b. b && nat_eq (home plan i) s) (ne_eqb k.flow i other))
     ]
 
-pub sent_all : (plan : Distribution) (ok : IsPlan plan) (s i : ℕ) → filter (leaves plan.links s i) (range_with_len 0 (length plan.links)) ≡ sends plan s i
+pub sent_all : (plan : PlanView) (ok : IsPlan plan) (s i : ℕ) → filter (leaves plan.links s i) (range_with_len 0 (length plan.links)) ≡ sends plan s i
 sent_all plan ok s i =
     filter_same (leaves plan.links s i) (λ l. nat_eq (carried plan l) i && nat_eq (home plan i) s) 0 (length plan.links) (λ l le lt. leaves_is plan ok s i l (omega arith))
     ∙ filter_cond (λ l. nat_eq (carried plan l) i) (nat_eq (home plan i) s) (range_with_len 0 (length plan.links))
@@ -123,8 +123,8 @@ pass_step links s flows l k sources sources' rows rows' so_far e lt len source r
 }
 
 -- what is found for a place, once all links were passed
-pub row_found : (plan : Distribution) (ok : IsPlan plan) (s flows i : ℕ) (sources : List (Option ℕ)) (rows : List LinkRow) (row : LinkRow) → AreCarriers plan.links s flows sources rows → slice_get rows i ≡ Some row → row.items ≡ sends plan s i
+pub row_found : (plan : PlanView) (ok : IsPlan plan) (s flows i : ℕ) (sources : List (Option ℕ)) (rows : List LinkRow) (row : LinkRow) → AreCarriers plan.links s flows sources rows → slice_get rows i ≡ Some row → row.items ≡ sends plan s i
 row_found plan ok s flows i sources rows row all there = all.row i row there ∙ sent_all plan ok s i
 
-pub source_there : (plan : Distribution) (s flows i : ℕ) (sources : List (Option ℕ)) (rows : List LinkRow) → AreCarriers plan.links s flows sources rows → i < flows → slice_get sources i ≡ Some (link_into plan s i)
+pub source_there : (plan : PlanView) (s flows i : ℕ) (sources : List (Option ℕ)) (rows : List LinkRow) → AreCarriers plan.links s flows sources rows → i < flows → slice_get sources i ≡ Some (link_into plan s i)
 source_there plan s flows i sources rows all li = all.source i li ∙ ap Some (source_all plan s i)

@@ -4,5 +4,5 @@ mod Sifted
 pub mod Ranks
 pub mod Carried
 pub mod Spread
-pub mod Posts
+pub mod SiteFlows
 pub mod OutputLogs

@@ -9,18 +9,18 @@ use Rattle.std.proofs.lemmas.Option.{same_Some, slice_get-map, slice_get_past, s
 use Rattle.luflow.specs.Program.{flows_of, IsOrdered}
 use Rattle.luflow.specs.Variables.{is_output_of}
 use Rattle.luflow.proofs.Solutions.{some_at}
-use Rattle.luworld.specs.Needs.{Distribution}
-use Rattle.luworld.specs.Runs.{outputs_of}
+use Rattle.luworld.specs.Needs.{PlanView}
+use Rattle.luworld.specs.Jobs.{outputs_of}
 use Rattle.luworld.proofs.Cursor.{slice_get-append_left, slice_get-append_right}
 use Rattle.lusite_program.specs.declared.program.Part.{Part}
-use Rattle.lusite_program.specs.Programs.{SitePlan, places_of, Reports, AreReported}
+use Rattle.lusite_program.specs.Programs.{SiteProgramView, places_of, Reports, AreReported}
 use Rattle.lusite_program.specs.Logs.{Log, LogView, log_view, no_log, logs_in, log_in, row_items, view_items, IsDrawn}
-use Rattle.lusite_program.proofs.Posts.{part_there}
+use Rattle.lusite_program.proofs.SiteFlows.{part_there}
 use Rattle.lusite_program.proofs.Ranks.{places_once, places_in}
 use Rattle.lusite_program.proofs.Spread.{put_same}
 
 -- the log of a flow, by its number and by its place
-pub logs_row : (p : SitePlan) (all : List Log) → IsOrdered p.plan.flat → length all ≡ length (places_of p.plan p.site) → (k i : ℕ) → slice_get (places_of p.plan p.site) k ≡ Some i → slice_get (logs_in p all) i ≡ slice_get (map log_view all) k
+pub logs_row : (p : SiteProgramView) (all : List Log) → IsOrdered p.plan.flat → length all ≡ length (places_of p.plan p.site) → (k i : ℕ) → slice_get (places_of p.plan p.site) k ≡ Some i → slice_get (logs_in p all) i ≡ slice_get (map log_view all) k
 logs_row p all ordered len k i e =
     let ps = places_of p.plan p.site in
     let n = length-replicate (flows_of p.plan.flat) no_log in
@@ -30,19 +30,19 @@ logs_row p all ordered len k i e =
     put_same (replicate (flows_of p.plan.flat) no_log) ps (map log_view all) k i (places_once p ordered) (m ∙ len) (omega (arith, l, same, n)) e
 
 -- what is reported of an output
-pub reported_there : (plan : Distribution) (s : ℕ) (told : List (Option ℕ)) (k i : ℕ) → AreReported plan s told → slice_get (outputs_of plan) k ≡ Some i → Reports plan s i (unwrap_or (slice_get told k) None)
-reported_there plan s told k i are there =
+pub reported_there : (plan : PlanView) (s : ℕ) (reported : List (Option ℕ)) (k i : ℕ) → AreReported plan s reported → slice_get (outputs_of plan) k ≡ Some i → Reports plan s i (unwrap_or (slice_get reported k) None)
+reported_there plan s reported k i are there =
     let l = slice_get_within (outputs_of plan) k i there in
-    let o = some_at told k (let n = are.len in omega (arith, l, n)) in
+    let o = some_at reported k (let n = are.len in omega (arith, l, n)) in
     subst (λ (x : Option (Option ℕ)). Reports plan s i (unwrap_or x None)) (sym o.1) (are.each k i o.0 there o.1)
 
-pub reported_beyond : (plan : Distribution) (s : ℕ) (told : List (Option ℕ)) (k : ℕ) → AreReported plan s told → slice_get (outputs_of plan) k ≡ None → unwrap_or (slice_get told k) None ≡ None
-reported_beyond plan s told k are none = elim (cases_lt k (length told)) [
+pub reported_beyond : (plan : PlanView) (s : ℕ) (reported : List (Option ℕ)) (k : ℕ) → AreReported plan s reported → slice_get (outputs_of plan) k ≡ None → unwrap_or (slice_get reported k) None ≡ None
+reported_beyond plan s reported k are none = elim (cases_lt k (length reported)) [
   | inl l ↦
       let i = some_at (outputs_of plan) k (let n = are.len in omega (arith, l, n)) in
       let e = sym none ∙ i.1 in
       absurd cc
-  | inr ge ↦ ap (λ (x : Option (Option ℕ)). unwrap_or x None) (slice_get_past told k ge)
+  | inr ge ↦ ap (λ (x : Option (Option ℕ)). unwrap_or x None) (slice_get_past reported k ge)
 ]
 
 -- what is left of a range stands in order
@@ -69,7 +69,7 @@ module _ (p : ℕ → Bool) where
       go false j k l ex ey low rest = rest j k x y l ex ey
 
 -- an output of a greater number is another flow
-pub output_after : (plan : Distribution) (j k x y : ℕ) → j < k → slice_get (outputs_of plan) j ≡ Some x → slice_get (outputs_of plan) k ≡ Some y → y ≡ x → ⊥
+pub output_after : (plan : PlanView) (j k x y : ℕ) → j < k → slice_get (outputs_of plan) j ≡ Some x → slice_get (outputs_of plan) k ≡ Some y → y ≡ x → ⊥
 output_after plan j k x y l ex ey same = let up_to = up (is_output_of plan.flat) 0 _ j k x y l ex ey in omega (arith, same, up_to)
 
 -- what a log has, by its view
@@ -81,21 +81,21 @@ view_row xs k = ap view_items (slice_get-map log_view xs k) ∙ go (slice_get xs
     go (Some x) = refl
 
 -- what is reported of an output, by what the site's program says of it
-module _ (p : SitePlan) (inside : (i : ℕ) (k : ℕ) → slice_get (outputs_of p.plan) k ≡ Some i → i < flows_of p.plan.flat) where
-  told_no : (logs : List LogView) (k : ℕ) (o : Option ℕ) → slice_get (outputs_of p.plan) k ≡ o → ((i : ℕ) → o ≡ Some i → Reports p.plan p.site i None) → log_in p logs o ≡ []
-  told_no logs k None there h = refl
-  told_no logs k (Some i) there h = ap (λ (b : Bool). cond b (view_items (slice_get logs i)) []) (ap (λ (x : Part). x.told) (part_there p i (inside i k there)) ∙ h i refl)
+module _ (p : SiteProgramView) (inside : (i : ℕ) (k : ℕ) → slice_get (outputs_of p.plan) k ≡ Some i → i < flows_of p.plan.flat) where
+  reported_no : (logs : List LogView) (k : ℕ) (o : Option ℕ) → slice_get (outputs_of p.plan) k ≡ o → ((i : ℕ) → o ≡ Some i → Reports p.plan p.site i None) → log_in p logs o ≡ []
+  reported_no logs k None there h = refl
+  reported_no logs k (Some i) there h = ap (λ (b : Bool). cond b (view_items (slice_get logs i)) []) (ap (λ (x : Part). x.reported) (part_there p i (inside i k there)) ∙ h i refl)
 
-  pub untold : (logs : List LogView) (k : ℕ) → ((i : ℕ) → slice_get (outputs_of p.plan) k ≡ Some i → Reports p.plan p.site i None) → log_in p logs (slice_get (outputs_of p.plan) k) ≡ []
-  untold logs k h = told_no logs k (slice_get (outputs_of p.plan) k) refl h
+  pub unreported : (logs : List LogView) (k : ℕ) → ((i : ℕ) → slice_get (outputs_of p.plan) k ≡ Some i → Reports p.plan p.site i None) → log_in p logs (slice_get (outputs_of p.plan) k) ≡ []
+  unreported logs k h = reported_no logs k (slice_get (outputs_of p.plan) k) refl h
 
-  pub told : (logs : List LogView) (k i r : ℕ) → slice_get (outputs_of p.plan) k ≡ Some i → Reports p.plan p.site i (Some r) → log_in p logs (slice_get (outputs_of p.plan) k) ≡ view_items (slice_get logs i)
-  told logs k i r there h =
+  pub reported : (logs : List LogView) (k i r : ℕ) → slice_get (outputs_of p.plan) k ≡ Some i → Reports p.plan p.site i (Some r) → log_in p logs (slice_get (outputs_of p.plan) k) ≡ view_items (slice_get logs i)
+  reported logs k i r there h =
       ap (log_in p logs) there
-      ∙ ap (λ (b : Bool). cond b (view_items (slice_get logs i)) []) (ap (λ (x : Part). x.told) (part_there p i (inside i k there)) ∙ h.0)
+      ∙ ap (λ (b : Bool). cond b (view_items (slice_get logs i)) []) (ap (λ (x : Part). x.reported) (part_there p i (inside i k there)) ∙ h.0)
 
 -- the logs moved out so far, and those left
-module _ (p : SitePlan) (all : List Log) where
+module _ (p : SiteProgramView) (all : List Log) where
   abbrev pub AreDrawn : List Log → ℕ → Type 0
   AreDrawn rows k = (j : ℕ) → j < k → row_items (slice_get rows j) ≡ log_in p (logs_in p all) (slice_get (outputs_of p.plan) j)
 
@@ -105,13 +105,13 @@ module _ (p : SitePlan) (all : List Log) where
   module _ (inside : (i : ℕ) (k : ℕ) → slice_get (outputs_of p.plan) k ≡ Some i → i < flows_of p.plan.flat) (row_log : (r i : ℕ) → slice_get (places_of p.plan p.site) r ≡ Some i → slice_get (logs_in p all) i ≡ slice_get (map log_view all) r) where
     here : (logs : List Log) (row : Log) (k i : ℕ) (o : Option ℕ) → slice_get (outputs_of p.plan) k ≡ Some i → AreLeft logs k → Reports p.plan p.site i o → IsDrawn o logs row → row.items ≡ log_in p (logs_in p all) (slice_get (outputs_of p.plan) k)
     here logs row k i None is left reports drawn =
-        drawn ∙ sym (untold p inside (logs_in p all) k (λ j e. subst (λ (x : ℕ). Reports p.plan p.site x None) (same_Some i j (sym is ∙ e)) reports))
+        drawn ∙ sym (unreported p inside (logs_in p all) k (λ j e. subst (λ (x : ℕ). Reports p.plan p.site x None) (same_Some i j (sym is ∙ e)) reports))
     here logs row k i (Some r) is left reports drawn =
         drawn
         ∙ ap row_items (left k i r (omega arith) is reports.1)
         ∙ sym (view_row all r)
         ∙ ap view_items (sym (row_log r i reports.1))
-        ∙ sym (told p inside (logs_in p all) k i r is reports)
+        ∙ sym (reported p inside (logs_in p all) k i r is reports)
 
     -- one output more is moved out
     pub one_drawn : (logs rows rows' : List Log) (row : Log) (k i : ℕ) (o : Option ℕ) → slice_get (outputs_of p.plan) k ≡ Some i → AreDrawn rows k → AreLeft logs k → length rows ≡ k → rows' ≡ rows ++ row ∷ [] → Reports p.plan p.site i o → IsDrawn o logs row → AreDrawn rows' (k + 1)

@@ -6,13 +6,13 @@ use Rattle.std.proofs.lemmas.List.Elements.{All-get_or}
 use Rattle.std.proofs.lemmas.Option.{slice_get_within}
 use Rattle.luflow.specs.Program.{flows_of, IsOrdered}
 use Rattle.luflow.proofs.Solutions.{place_in, some_at}
-use Rattle.luworld.specs.Needs.{Distribution}
-use Rattle.luworld.specs.Runs.{knows}
-use Rattle.lusite_program.specs.Programs.{SitePlan, ranks_of, places_of, rank_at}
+use Rattle.luworld.specs.Needs.{PlanView}
+use Rattle.luworld.specs.Jobs.{knows}
+use Rattle.lusite_program.specs.Programs.{SiteProgramView, ranks_of, places_of, rank_at}
 use Rattle.lusite_program.proofs.Sifted.{or_there, sifted_in, before_first, between, rising, next_greater, or_end_in, sifted_has}
 
 -- no flow of a rank from p to q is known
-abbrev pub AreUnknown : Distribution → ℕ → ℕ → ℕ → Type 0
+abbrev pub AreUnknown : PlanView → ℕ → ℕ → ℕ → Type 0
 AreUnknown plan s p q = (r : ℕ) → p ≤ r → r < q → knows plan s (slice_index plan.flat.order r) ≡ false
 
 mapped : (f : ℕ → ℕ) (xs : List ℕ) (k end : ℕ) → f end ≡ 0 → slice_index (map f xs) k ≡ f (unwrap_or (slice_get xs k) end)
@@ -26,7 +26,7 @@ none_there (x ∷ xs) zero le = absurd (omega (arith, le))
 none_there (x ∷ xs) (suc k) le = none_there xs k (omega (arith, le))
 
 -- the ranks of the flows that a site knows
-module _ (p : SitePlan) where
+module _ (p : SiteProgramView) where
   abbrev order : List ℕ
   order = p.plan.flat.order
 

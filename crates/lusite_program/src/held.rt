@@ -28,12 +28,12 @@ fn new_logs(
         ≡ length (places_of program.now.plan program.now.site)) }
     ensures each { IfOk result (λ x. (k i : ℕ) → slice_get (places_of program.now.plan
         program.now.site) k ≡ Some i → ForSome (slice_get x.items k)
-        (λ y. IsNewRow (part_of program.now.plan program.now.site i).told instants y)) }
+        (λ y. IsNewRow (part_of program.now.plan program.now.site i).reported instants y)) }
 {
-    let (posts, _, _) = program.code();
-    let mut logs = Vec::with_capacity(alloc, posts.len())?;
-    for k in 0..posts.len() {
-        let row = new_row(alloc, posts[k].told, instants)?;
+    let (site_flows, _, _) = program.code();
+    let mut logs = Vec::with_capacity(alloc, site_flows.len())?;
+    for k in 0..site_flows.len() {
+        let row = new_row(alloc, site_flows[k].reported, instants)?;
         logs.push_reserved(row);
     }
     Ok(logs)
@@ -63,7 +63,7 @@ pub fn new_held(alloc: Global, program: &SiteProgram, instants: u32) -> Result<H
         ≡ length (places_of program.now.plan program.now.site)) }
     ensures each { IfOk result (λ x. (k i : ℕ) → slice_get (places_of program.now.plan
         program.now.site) k ≡ Some i → ForSome (slice_get x.logs.items k)
-        (λ y. IsNewRow (part_of program.now.plan program.now.site i).told instants y)) }
+        (λ y. IsNewRow (part_of program.now.plan program.now.site i).reported instants y)) }
 {
     let rows = program.places().len();
     let shown = Vec::from_elem(alloc, Cell::Absent, rows)?;

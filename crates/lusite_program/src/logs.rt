@@ -2,7 +2,7 @@
 
 ghost use Rattle.std.specs.Prelude.{◌≡◌, ◌≢◌, ℕ, ◌<◌, true, false, map, IfOk, length, vec_capacity, slice_get, Option, Some};
 ghost use Rattle.std.specs.Option.{ForSome};
-ghost use Rattle.luworld.specs.Runs.{outputs_of};
+ghost use Rattle.luworld.specs.Jobs.{outputs_of};
 ghost use Rattle.lusite_program.specs.Logs.{Log, IsDrawn, IsNoted, log_in, log_view, logs_in, row_items};
 ghost use Rattle.lusite_program.specs.Programs.{places_of};
 ghost use Rattle.luflow.specs.declared.data.Status.{Status};

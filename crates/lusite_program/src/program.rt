@@ -2,8 +2,8 @@
 
 ghost use Rattle.std.specs.Prelude.{◌≡◌, ℕ, ◌+◌, ◌<◌, length, slice_get, slice_index, unwrap_or, List, Option};
 ghost use Rattle.luworld.specs.Needs.{IsPlan, sites_of};
-ghost use Rattle.luworld.specs.Runs.{outputs_of};
-ghost use Rattle.lusite_program.specs.Programs.{output_names, places_of, rank_at, ArePosts, Reports};
+ghost use Rattle.luworld.specs.Jobs.{outputs_of};
+ghost use Rattle.lusite_program.specs.Programs.{output_names, places_of, rank_at, AreSiteFlows, Reports};
 
 use lubase::{Name, Row};
 use lueval_lines::Line;
@@ -20,7 +20,7 @@ pub struct Part {
     /// Whether the site computes the flow.
     pub own: bool,
     /// Whether the site reports the flow, as an output.
-    pub told: bool,
+    pub reported: bool,
     /// The link by which the site takes the flow.
     pub from: Option<LinkNo>,
     /// The links by which the site sends the flow, in order.
@@ -29,7 +29,7 @@ pub struct Part {
 
 /// A flow that a site computes or takes, as the site's machine has it.
 #[derive(Clone, Copy, Drop)]
-pub struct Post {
+pub struct SiteFlow {
     /// The flow, with its number among these flows in order of rank in place of its place; so are its operands and its clock's variable.
     pub line: Line,
     /// The number of the main variable in whose equation the flow stands.
@@ -37,7 +37,7 @@ pub struct Post {
     /// Whether the site computes the flow.
     pub own: bool,
     /// Whether the site reports the flow, as an output.
-    pub told: bool,
+    pub reported: bool,
     /// The link by which the site takes the flow.
     pub from: Option<LinkNo>,
     /// Where the links by which the site sends the flow begin in the list of all of these.
@@ -57,13 +57,13 @@ pub struct SiteProgram {
     /// The places of these flows, in order of rank.
     pub(crate) places: Row<usize>,
     /// These flows, in order of rank.
-    pub(crate) posts: Row<Post>,
+    pub(crate) site_flows: Row<SiteFlow>,
     /// The numbers of the branches of the merges among them.
     pub(crate) branches: Row<u16>,
     /// The links by which the site sends flows, those of one flow side by side.
     pub(crate) links: Row<LinkNo>,
     /// For each main output the number of its flow, where the site reports it.
-    pub(crate) told: Row<Option<usize>>,
+    pub(crate) reported: Row<Option<usize>>,
     pub(crate) sites: u8,
     pub(crate) names: Row<Name>,
     pub(crate) plan: Snapshot<Plan>,
@@ -77,10 +77,10 @@ impl Drop for SiteProgram {
             end: _,
             ranks: _,
             places: _,
-            posts: _,
+            site_flows: _,
             branches: _,
             links: _,
-            told: _,
+            reported: _,
             sites: _,
             names: _,
             plan: _,
@@ -89,37 +89,37 @@ impl Drop for SiteProgram {
 }
 
 impl Model for SiteProgram {
-    ghost use Rattle.lusite_program.specs.Programs.{SitePlan, IsProgram};
+    ghost use Rattle.lusite_program.specs.Programs.{SiteProgramView, IsProgram};
 
-    ghost Value = { SitePlan };
+    ghost Value = { SiteProgramView };
 
     ghost view = { λ a. record { plan = a.plan.value; site = a.site } };
 
     ghost invariant = { λ a. IsProgram a.plan.value a.site a.end a.ranks a.places a.branches a.links
-        a.posts a.told a.sites a.names };
+        a.site_flows a.reported a.sites a.names };
 }
 
 /// Link number j of those by which the site sends a flow, among those of all its flows.
 #[inline(always)]
-pub fn link_of(post: &Post, links: &[LinkNo], j: usize) -> LinkNo
-    ensures { (to : List ℕ) → post.now.outs ≡ length to
-        → ((i : ℕ) → i < post.now.outs → slice_index links.now (post.now.first + i)
+pub fn link_of(site_flow: &SiteFlow, links: &[LinkNo], j: usize) -> LinkNo
+    ensures { (to : List ℕ) → site_flow.now.outs ≡ length to
+        → ((i : ℕ) → i < site_flow.now.outs → slice_index links.now (site_flow.now.first + i)
         ≡ slice_index to i) → result ≡ slice_index to j }
 {
-    if j >= post.outs as usize {
+    if j >= site_flow.outs as usize {
         return 0;
     }
-    match links.get(post.first as usize + j) {
+    match links.get(site_flow.first as usize + j) {
         Some(link) => *link,
         None => 0,
     }
 }
 
 /// The number that is reported of output k, if one is.
-fn number_of(told: &[Option<usize>], k: usize) -> Option<usize>
-    ensures { result ≡ unwrap_or (slice_get told.now k) Option.None }
+fn number_of(reported: &[Option<usize>], k: usize) -> Option<usize>
+    ensures { result ≡ unwrap_or (slice_get reported.now k) Option.None }
 {
-    match told.get(k) {
+    match reported.get(k) {
         Some(number) => *number,
         None => None,
     }
@@ -136,11 +136,11 @@ impl SiteProgram {
     /// The flows that the site computes or takes, in order of rank, as its machine has them, the numbers of the branches of the
     /// merges among them, and the links by which the site sends them.
     #[inline(always)]
-    pub fn code(&self) -> (&[Post], &[u16], &[LinkNo])
-        ensures { ArePosts self.now.plan self.now.site result.1.now result.2.now result.0.now }
+    pub fn code(&self) -> (&[SiteFlow], &[u16], &[LinkNo])
+        ensures { AreSiteFlows self.now.plan self.now.site result.1.now result.2.now result.0.now }
     {
         (
-            self.posts.as_slice(),
+            self.site_flows.as_slice(),
             self.branches.as_slice(),
             self.links.as_slice(),
         )
@@ -161,7 +161,7 @@ impl SiteProgram {
         ensures count { result ≡ length (outputs_of self.now.plan) }
         ensures plan { IsPlan self.now.plan }
     {
-        self.told.as_slice().len()
+        self.reported.as_slice().len()
     }
 
     /// The number, among the flows that the site computes or takes, of that which is output k, where the site reports it.
@@ -171,7 +171,7 @@ impl SiteProgram {
         ensures beyond { slice_get (outputs_of self.now.plan) k ≡ Option.None
             → result ≡ Option.None }
     {
-        number_of(self.told.as_slice(), k)
+        number_of(self.reported.as_slice(), k)
     }
 
     /// The number of sites of the plan, 1 to 16.

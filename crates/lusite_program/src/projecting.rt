@@ -4,15 +4,15 @@ ghost use Rattle.std.specs.Prelude.{◌≡◌, ◌≢◌, ℕ, ◌+◌, ◌<◌,
 ghost use Rattle.std.specs.List.{range_with_len};
 ghost use Rattle.std.specs.Option.{ForSome};
 ghost use Rattle.luworld.specs.Needs.{IsPlan, sites_of, home, stands};
-ghost use Rattle.luworld.specs.Runs.{knows, link_into, outputs_of, sends};
+ghost use Rattle.luworld.specs.Jobs.{knows, link_into, outputs_of, sends};
 ghost use Rattle.lusite_program.specs.Carriers.{HasSources};
-ghost use Rattle.lusite_program.specs.Programs.{part_of, ranks_of, places_of, AreNumbers, IsPost, ArePosts, AreReported, Reports, output_names, role_at};
+ghost use Rattle.lusite_program.specs.Programs.{part_of, ranks_of, places_of, AreNumbers, IsSiteFlow, AreSiteFlows, AreReported, Reports, output_names, role_at};
 ghost use Rattle.luflow.specs.Program.{flows_of};
 ghost use Rattle.luflow.specs.Variables.{is_output_of, is_output, variable_name};
 ghost use Rattle.lueval_lines.specs.Operations.{IsLonger};
 
 use crate::carriers::{Carriers, carriers_of, take_row};
-use crate::program::{LinkNo, Part, Post, SiteProgram};
+use crate::program::{LinkNo, Part, SiteFlow, SiteProgram};
 use lubase::{Name, Row, number_at};
 use lueval_lines::{line_of, moved_branches, moved_line};
 use luflow::{Flat, Variable};
@@ -31,7 +31,7 @@ fn push_if(found: &mut Vec<usize>, wanted: bool, number: usize) -> Result<(), Al
 }
 
 /// Whether a place is that of an output.
-fn is_told(variables: &[Variable], place: usize) -> bool
+fn is_reported(variables: &[Variable], place: usize) -> bool
     ensures { result ≡ role_at variables.now place }
 {
     match variables.get(place) {
@@ -41,13 +41,13 @@ fn is_told(variables: &[Variable], place: usize) -> bool
 }
 
 /// The places of the outputs, in order.
-fn told_places(alloc: Global, variables: &[Variable]) -> Result<Vec<usize>, AllocError>
+fn reported_places(alloc: Global, variables: &[Variable]) -> Result<Vec<usize>, AllocError>
     ensures { IfOk result (λ v. v.items ≡ filter (role_at variables.now)
         (range_with_len 0 (length variables.now))) }
 {
     let mut found = Vec::new(alloc);
     for i in 0..variables.len() {
-        push_if(&mut found, is_told(variables, i), i)?;
+        push_if(&mut found, is_reported(variables, i), i)?;
     }
     Ok(found)
 }
@@ -101,7 +101,7 @@ fn part(plan: &Plan, site: u8, place: usize, from: Option<LinkNo>, to: Vec<LinkN
 {
     Part {
         own: plan.stands(place, site),
-        told: home(plan, place) == site && is_told(plan.flat().variables(), place),
+        reported: home(plan, place) == site && is_reported(plan.flat().variables(), place),
         from,
         to: Row::new(to),
     }
@@ -211,8 +211,8 @@ fn parts(
 
 /// What the machine of a site has of its flows: these in order of rank, the numbers of the branches of the merges among them, and the
 /// links by which the site sends them.
-struct Laid {
-    posts: Vec<Post>,
+struct SiteParts {
+    site_flows: Vec<SiteFlow>,
     branches: Vec<u16>,
     links: Vec<LinkNo>,
 }
@@ -229,7 +229,7 @@ fn put_links(links: &mut Vec<LinkNo>, more: &[LinkNo]) -> Result<(), AllocError>
 
 /// The flow of a rank, as the machine of a site has it. The places of its branches, where it is a merge, are put behind those of
 /// other flows, and the links by which the site sends it behind those of others.
-fn post(
+fn site_flow(
     plan: &Plan,
     site: u8,
     part: &Part,
@@ -237,13 +237,13 @@ fn post(
     branches: &mut Vec<u16>,
     links: &mut Vec<LinkNo>,
     rank: usize,
-) -> Result<Post, AllocError>
+) -> Result<SiteFlow, AllocError>
     requires rank { rank < length plan.now.flat.order }
     requires part { part.now ≡ part_of plan.now site (slice_index plan.now.flat.order rank) }
     requires numbers { AreNumbers plan.now site numbers.now }
     requires few { length branches.old.items < 2 ^ 32 }
     requires few_links { length links.old.items < 2 ^ 32 }
-    ensures post { IfOk result (IsPost plan.now site (map (slice_index numbers.now)
+    ensures site_flow { IfOk result (IsSiteFlow plan.now site (map (slice_index numbers.now)
         branches.new.items) links.new.items rank) }
     ensures longer { OnOk result (IsLonger branches.old.items branches.new.items) }
     ensures links { OnOk result (links.new.items ≡ links.old.items ++ part.now.to) }
@@ -251,11 +251,11 @@ fn post(
     let line = line_of(plan.flat(), rank, branches)?;
     let first = links.len() as u32;
     put_links(links, part.to.as_slice())?;
-    Ok(Post {
+    Ok(SiteFlow {
         line: moved_line(&line, numbers),
         owner: number_at(plan.flat().owners(), line.place as usize),
         own: part.own,
-        told: part.told,
+        reported: part.reported,
         from: part.from,
         first,
         outs: part.to.as_slice().len() as u32,
@@ -263,26 +263,26 @@ fn post(
 }
 
 /// The flows that a site computes or takes, in order of rank, as its machine has them.
-fn laid_of(
+fn site_parts_of(
     alloc: Global,
     plan: &Plan,
     site: u8,
     parts: &[Part],
     ranks: &[usize],
     numbers: &[u16],
-) -> Result<Laid, AllocError>
+) -> Result<SiteParts, AllocError>
     requires plan { IsPlan plan.now }
     requires parts { parts.now ≡ map (part_of plan.now site) (places_of plan.now site) }
     requires ranks { ranks.now ≡ ranks_of plan.now site }
     requires numbers { AreNumbers plan.now site numbers.now }
-    ensures { IfOk result (λ x. ArePosts plan.now site x.branches.items x.links.items
-        x.posts.items) }
+    ensures { IfOk result (λ x. AreSiteFlows plan.now site x.branches.items x.links.items
+        x.site_flows.items) }
 {
-    let mut posts = Vec::with_capacity(alloc, ranks.len())?;
+    let mut site_flows = Vec::with_capacity(alloc, ranks.len())?;
     let mut branches = Vec::new(alloc);
     let mut links = Vec::new(alloc);
     for k in 0..ranks.len() {
-        let next = post(
+        let next = site_flow(
             plan,
             site,
             &parts[k],
@@ -291,11 +291,11 @@ fn laid_of(
             &mut links,
             ranks[k],
         )?;
-        posts.push_reserved(next);
+        site_flows.push_reserved(next);
     }
     let branches = moved_branches(alloc, branches.as_slice(), numbers)?;
-    Ok(Laid {
-        posts,
+    Ok(SiteParts {
+        site_flows,
         branches,
         links,
     })
@@ -338,34 +338,34 @@ fn all_reported(
     requires outputs { outputs.now ≡ outputs_of plan.now }
     ensures { IfOk result (λ v. AreReported plan.now site v.items) }
 {
-    let mut told = Vec::with_capacity(alloc, outputs.len())?;
+    let mut reported = Vec::with_capacity(alloc, outputs.len())?;
     for k in 0..outputs.len() {
-        told.push_reserved(reported_flow(plan, site, numbers, outputs[k]));
+        reported.push_reserved(reported_flow(plan, site, numbers, outputs[k]));
     }
-    Ok(told)
+    Ok(reported)
 }
 
 /// What of a site's program is said of the main outputs.
 struct Outputs {
-    told: Vec<Option<usize>>,
+    reported: Vec<Option<usize>>,
     names: Vec<Name>,
 }
 
 /// For each main output the number of its flow, where the site reports it, and its name.
-fn outputs_told(
+fn outputs_reported(
     alloc: Global,
     plan: &Plan,
     site: u8,
     numbers: &[u16],
 ) -> Result<Outputs, AllocError>
     requires { AreNumbers plan.now site numbers.now }
-    ensures told { IfOk result (λ x. AreReported plan.now site x.told.items) }
+    ensures reported { IfOk result (λ x. AreReported plan.now site x.reported.items) }
     ensures names { IfOk result (λ x. x.names.items ≡ output_names plan.now) }
 {
-    let outputs = told_places(alloc, plan.flat().variables())?;
-    let told = all_reported(alloc, plan, site, numbers, outputs.as_slice())?;
+    let outputs = reported_places(alloc, plan.flat().variables())?;
+    let reported = all_reported(alloc, plan, site, numbers, outputs.as_slice())?;
     let names = names_of(alloc, plan.flat(), outputs.as_slice())?;
-    Ok(Outputs { told, names })
+    Ok(Outputs { reported, names })
 }
 
 /// What of a plan a site runs.
@@ -379,11 +379,11 @@ pub fn project(alloc: Global, plan: &Plan, site: u8) -> Result<SiteProgram, Allo
     let places = known_places(alloc, plan, site, ranks.as_slice())?;
     let numbers = numbers_of(alloc, flows, places.as_slice())?;
     let parts = parts(alloc, plan, site, &mut carriers, places.as_slice())?;
-    let Laid {
-        posts,
+    let SiteParts {
+        site_flows,
         branches,
         links,
-    } = laid_of(
+    } = site_parts_of(
         alloc,
         plan,
         site,
@@ -391,16 +391,16 @@ pub fn project(alloc: Global, plan: &Plan, site: u8) -> Result<SiteProgram, Allo
         ranks.as_slice(),
         numbers.as_slice(),
     )?;
-    let Outputs { told, names } = outputs_told(alloc, plan, site, numbers.as_slice())?;
+    let Outputs { reported, names } = outputs_reported(alloc, plan, site, numbers.as_slice())?;
     Ok(SiteProgram {
         site,
         end: plan.flat().rank().len(),
         ranks: Row::new(ranks),
         places: Row::new(places),
-        posts: Row::new(posts),
+        site_flows: Row::new(site_flows),
         branches: Row::new(branches),
         links: Row::new(links),
-        told: Row::new(told),
+        reported: Row::new(reported),
         sites: plan.sites().len() as u8,
         names: Row::new(names),
         plan: Snapshot::of(plan),

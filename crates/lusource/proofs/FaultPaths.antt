@@ -12,7 +12,7 @@ use Rattle.luflow.specs.declared.form.FaultKind.{FaultKind}
 use Rattle.luflow.specs.Streams.{Stream, Ticks, base_clock}
 use Rattle.lustat_rules.specs.Scope.{node_called}
 use Rattle.lusource.specs.Names.{clock_of}
-use Rattle.lusource.specs.Source.{Named, Site, Path, SourceStreams, InstanceHolds, If, HoldsAt, calls, calls_in, condition, first_pattern, next_patterns, ticks, values, given_streams, left_clock, sites, sites_in, branch_sites, all_sites, sites_of}
+use Rattle.lusource.specs.Source.{Named, CallInstance, Path, SourceStreams, InstanceHolds, If, HoldsAt, calls, calls_in, condition, first_pattern, next_patterns, ticks, values, given_streams, left_clock, sites, sites_in, branch_sites, all_sites, sites_of}
 use Rattle.lusource.specs.Instances.{called_in, instance_at}
 use Rattle.lusource.specs.Faults as faults
 use Rattle.lusource.specs.FaultPaths.{CallStands, StandsIn, NoCall, FaultPathsLaw}
@@ -34,13 +34,13 @@ both f g (inl h) = inl (f h)
 both f g (inr h) = inr (g h)
 
 module _ (program : ProgramTree) (node : NodeTree) (base : Ticks) (var : Named) (inner : ℕ → Named) (t : ℕ) (kind : FaultKind) (C : List ℕ → Ticks → ℕ → Type 0) where
-  abbrev S : Tree → Option Condition → ℕ → List Site
+  abbrev S : Tree → Option Condition → ℕ → List CallInstance
   S e k i = sites program node base var inner e k i
 
-  abbrev SI : Trees → Option Condition → ℕ → List Site
+  abbrev SI : Trees → Option Condition → ℕ → List CallInstance
   SI all k i = sites_in program node base var inner all k i
 
-  abbrev SB : List ℕ → List Pattern → Trees → ℕ → List Site
+  abbrev SB : List ℕ → List Pattern → Trees → ℕ → List CallInstance
   SB c ps all i = branch_sites program node base var inner c ps all i
 
   abbrev F : Tree → Option Condition → ℕ → Type 0
@@ -50,18 +50,18 @@ module _ (program : ProgramTree) (node : NodeTree) (base : Ticks) (var : Named) 
   Own = faults.Fails program node base var inner t kind NoCall
 
   -- one of these calls fails, of which the first has number i
-  abbrev Call : List Site → ℕ → Type 0
-  Call xs i = (j : ℕ) × (site : Site) × (slice_get xs j ≡ Some site) × C site.node site.base (i + j)
+  abbrev Call : List CallInstance → ℕ → Type 0
+  Call xs i = (j : ℕ) × (site : CallInstance) × (slice_get xs j ≡ Some site) × C site.node site.base (i + j)
 
-  call_left : (xs ys : List Site) (i : ℕ) → Call xs i → Call (xs ++ ys) i
+  call_left : (xs ys : List CallInstance) (i : ℕ) → Call xs i → Call (xs ++ ys) i
   call_left xs ys i h = (h.0, h.1, get_left xs ys h.0 h.1 h.2, h.3)
 
-  call_right : (xs ys : List Site) (i n : ℕ) → length xs ≡ n → Call ys (i + n) → Call (xs ++ ys) i
+  call_right : (xs ys : List CallInstance) (i n : ℕ) → length xs ≡ n → Call ys (i + n) → Call (xs ++ ys) i
   call_right xs ys i n l h =
       let z : i + n + h.0 ≡ i + (length xs + h.0) = omega (arith, l) in
       (length xs + h.0, h.1, get_right xs ys h.0 ∙ h.2, subst (C h.1.node h.1.base) z h.3)
 
-  joined : (xs ys : List Site) (m n : ℕ) → length xs ≡ m → length ys ≡ n → length (xs ++ ys) ≡ m + n
+  joined : (xs ys : List CallInstance) (m n : ℕ) → length xs ≡ m → length ys ≡ n → length (xs ++ ys) ≡ m + n
   joined xs ys m n h g = omega (arith, length-append xs ys, h, g)
 
   mutual
@@ -128,7 +128,7 @@ module _ (program : ProgramTree) (node : NodeTree) (base : Ticks) (var : Named) 
     split (tree.merge c ps all) k i h = split_branches c ps all i h
     split (tree.call f all) k i (inl h) = both inl (call_left (SI all k i) _ i) (split_any all k i h)
     split (tree.call f all) k i (inr h) =
-        let site : Site = record { node = f; base = ticks base var k; arguments = values program node base var inner all k i } in
+        let site : CallInstance = record { node = f; base = ticks base var k; arguments = values program node base var inner all k i } in
         let z : i + calls_in all ≡ i + calls_in all + 0 = omega arith in
         inr (call_right (SI all k i) (site ∷ []) i (calls_in all) (long_in all k i) (0, site, refl, subst (C f (ticks base var k)) z h))
 
@@ -147,11 +147,11 @@ module _ (program : ProgramTree) (node : NodeTree) (base : Ticks) (var : Named) 
         let k = condition c (first_pattern ps) in
         both inr (call_right (S a k i) (SB c (next_patterns ps) all (i + calls a)) i (calls a) (long a k i)) (split_branches c (next_patterns ps) all (i + calls a) h)
 
-  abbrev AS : List EquationTree → ℕ → List Site
+  abbrev AS : List EquationTree → ℕ → List CallInstance
   AS = all_sites program node base var inner
 
   abbrev Calling : List EquationTree → ℕ → List ℕ → Type 0
-  Calling qs i v = (j : ℕ) × (site : Site) × (slice_get (AS qs i) j ≡ Some site) × C site.node site.base (i + j) × CallStands qs i v (i + j)
+  Calling qs i v = (j : ℕ) × (site : CallInstance) × (slice_get (AS qs i) j ≡ Some site) × C site.node site.base (i + j) × CallStands qs i v (i + j)
 
   -- and so does an equation
   pub split_equations : (qs : List EquationTree) (i : ℕ) (v : List ℕ) → faults.EquationFails program node base var inner t kind C qs i v → faults.EquationFails program node base var inner t kind NoCall qs i v ⊎ Calling qs i v
@@ -202,10 +202,10 @@ located program t kind (suc depth) f base given σ v holds h =
     here rest (Some node) found h =
         at_call (split_equations program node base (σ []) (λ i. σ (i ∷ [])) t kind (λ g k i. (w : List ℕ) × faults.FailsWithin program t kind depth g k (λ path. σ (i ∷ path)) w) node.equations 0 v h)
       where
-        ss : List Site
+        ss : List CallInstance
         ss = all_sites program node base (σ []) (λ i. σ (i ∷ [])) node.equations 0
 
-        at_call : faults.EquationFails program node base (σ []) (λ i. σ (i ∷ [])) t kind NoCall node.equations 0 v ⊎ ((j : ℕ) × (site : Site) × (slice_get (all_sites program node base (σ []) (λ i. σ (i ∷ [])) node.equations 0) j ≡ Some site) × ((w : List ℕ) × faults.FailsWithin program t kind depth site.node site.base (λ path. σ ((0 + j) ∷ path)) w) × CallStands node.equations 0 v (0 + j)) → Located program t kind f σ v
+        at_call : faults.EquationFails program node base (σ []) (λ i. σ (i ∷ [])) t kind NoCall node.equations 0 v ⊎ ((j : ℕ) × (site : CallInstance) × (slice_get (all_sites program node base (σ []) (λ i. σ (i ∷ [])) node.equations 0) j ≡ Some site) × ((w : List ℕ) × faults.FailsWithin program t kind depth site.node site.base (λ path. σ ((0 + j) ∷ path)) w) × CallStands node.equations 0 v (0 + j)) → Located program t kind f σ v
         at_call (inl own) =
             ([], node, base, given, v, found, subst (λ o. If o (λ node. InstanceHolds program node base given (σ []) (λ i. σ (i ∷ [])))) found (holds []), own, refl)
         at_call (inr (j, site, e, c, stands)) =

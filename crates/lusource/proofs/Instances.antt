@@ -11,22 +11,22 @@ use Rattle.luflow.specs.Streams.{Stream, Ticks, base_clock}
 use Rattle.lustat_rules.specs.Scope.{node_called}
 use Rattle.lustat_rules.specs.Naming.{Call, calls_in, calls_in_all}
 use Rattle.lusource.specs.Names.{clock_of}
-use Rattle.lusource.specs.Source.{Named, Site, Path, SourceStreams, InstanceHolds, If, HoldsAt, calls, condition, first_pattern, next_patterns, given_streams, left_clock, sites, sites_in, branch_sites, all_sites, sites_of}
+use Rattle.lusource.specs.Source.{Named, CallInstance, Path, SourceStreams, InstanceHolds, If, HoldsAt, calls, condition, first_pattern, next_patterns, given_streams, left_clock, sites, sites_in, branch_sites, all_sites, sites_of}
 use Rattle.lusource.specs.Instances.{called_in, instance_at, CalledLaw, InstanceLaw}
 
-abbrev pub site_node : Site → List ℕ
+abbrev pub site_node : CallInstance → List ℕ
 site_node site = site.node
 
 abbrev call_node : Call → List ℕ
 call_node c = c.node
 
 -- two lists of sites, one behind the other
-joined : (A B : List Site) (X Y : List Call) → map site_node A ≡ map call_node X → map site_node B ≡ map call_node Y → map site_node (A ++ B) ≡ map call_node (X ++ Y)
+joined : (A B : List CallInstance) (X Y : List Call) → map site_node A ≡ map call_node X → map site_node B ≡ map call_node Y → map site_node (A ++ B) ≡ map call_node (X ++ Y)
 joined A B X Y a b =
     map-append site_node A B ∙ ap (λ l. l ++ map site_node B) a ∙ ap (λ l. map call_node X ++ l) b ∙ sym (map-append call_node X Y)
 
 module _ (program : ProgramTree) (node : NodeTree) (base : Ticks) (var : Named) (inner : ℕ → Named) where
-  abbrev S : Tree → Option Condition → ℕ → List Site
+  abbrev S : Tree → Option Condition → ℕ → List CallInstance
   S e k i = sites program node base var inner e k i
 
   mutual
@@ -76,7 +76,7 @@ abbrev Stands : ProgramTree → NodeTree → SourceStreams → Path → Type 0
 Stands program node σ path =
     (base : Ticks) × (given : List Stream) × InstanceHolds program node base given (σ path) (λ i. σ (path ++ i ∷ []))
 
-one_call : (program : ProgramTree) (node : NodeTree) (path : Path) (σ : SourceStreams) (P : Type 0) (o : Option Site) → ((site : Site) → HoldsAt program site.node site.base site.arguments σ path → instance_at program site.node path ≡ Some node → P) → If o (λ site. HoldsAt program site.node site.base site.arguments σ path) → option_and_then (λ g. instance_at program g path) (option_map site_node o) ≡ Some node → P
+one_call : (program : ProgramTree) (node : NodeTree) (path : Path) (σ : SourceStreams) (P : Type 0) (o : Option CallInstance) → ((site : CallInstance) → HoldsAt program site.node site.base site.arguments σ path → instance_at program site.node path ≡ Some node → P) → If o (λ site. HoldsAt program site.node site.base site.arguments σ path) → option_and_then (λ g. instance_at program g path) (option_map site_node o) ≡ Some node → P
 one_call program node path σ P None rest h e = cc
 one_call program node path σ P (Some site) rest h e = rest site h e
 

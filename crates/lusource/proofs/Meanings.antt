@@ -4,7 +4,7 @@ use Rattle.std.specs.Prelude.{slice_get, Contains}
 use Rattle.std.proofs.lemmas.Option.{slice_get_within}
 use Rattle.lutree.specs.Tree.{NodeTree, ProgramTree}
 use Rattle.luflow.specs.declared.variable.Variable.{Variable}
-use Rattle.luflow.specs.Program.{FlatProgram, Table, IsOrdered, flows_of}
+use Rattle.luflow.specs.Program.{FlatView, InputsView, IsOrdered, flows_of}
 use Rattle.luflow.specs.Streams.{Stream}
 use Rattle.luflow.specs.Solution.{solution}
 use Rattle.luflow.proofs.Solutions.{IsSolution-solution, solutions_same}
@@ -13,7 +13,7 @@ use Rattle.lusource.specs.Source.{Path, SourceStreams, IsSourceSolution}
 use Rattle.lusource.specs.Instances.{instance_at}
 use Rattle.lusource.specs.Agreement.{Agrees, InstancesHaveFlows, HasOneMainMeaning, HasOneMeaning}
 
-module _ (program : ProgramTree) (main : List ℕ) (inputs : Table) (flat : FlatProgram) (ordered : IsOrdered flat) (agrees : Agrees program main inputs flat) where
+module _ (program : ProgramTree) (main : List ℕ) (inputs : InputsView) (flat : FlatView) (ordered : IsOrdered flat) (agrees : Agrees program main inputs flat) where
   -- the solution of the source that the flat program's one gives
   some : (σ : SourceStreams) × IsSourceSolution program main inputs σ
   some =

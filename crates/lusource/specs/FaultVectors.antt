@@ -12,7 +12,8 @@ use Rattle.luflow.specs.Streams.{base_clock}
 use Rattle.luflow.specs.Vectors.{four_samples, one_zero}
 use Rattle.lusource.specs.Source.{SourceStreams}
 use Rattle.lusource.specs.Faults.{Fails, IsSourceFault}
-use Rattle.lusource.specs.Vectors.{sampler, three_nodes, samples, instances, int_on, where_c, told, present, x, call_of}
+use Rattle.lusource.specs.Vectors.{sampler, three_nodes, samples, instances, int_on, where_c, reported}
+use Rattle.lusource.specs.Vectors.{present, x, call_of}
 
 -- 1 div (x - 1), where x is 1, 2, 3, 4: its divisor is zero at the first instant
 abbrev pub quotient : Tree
@@ -20,7 +21,8 @@ quotient = tree.binary (Data2 Divide) (tree.number 1) (tree.binary (Data2 Subtra
 
 -- an expression fails at an instant, on a clock, if no call does
 abbrev pub IsFailing : Tree → Option Condition → ℕ → FaultKind → Type 0
-IsFailing e k t kind = Fails three_nodes sampler (base_clock four_samples) samples instances t kind (λ f c i. ⊥) e k 0
+IsFailing e k t kind = Fails three_nodes sampler (base_clock four_samples) samples instances t kind
+    (λ f c i. ⊥) e k 0
 
 pub record ExpressionFaultsAre : Type 0 where
   pub divided : IsFailing quotient None 0 DivZero
@@ -54,12 +56,13 @@ calls_divide = program_of (lone (codes "main") (codes "z") (call_of (codes "divi
 
 -- all variables of all instances are 1, and then 0
 abbrev pub falling : SourceStreams
-falling path name = told (present 1 ∷ present 0 ∷ [])
+falling path name = reported (present 1 ∷ present 0 ∷ [])
 
 pub record ProgramFaultsAre : Type 0 where
   -- y is at fault at the second instant, and not at the first
   pub own : IsSourceFault (program_of (divide ∷ [])) (codes "divide") one_zero falling (codes "y") 1 DivZero
-  pub not_before : ¬ IsSourceFault (program_of (divide ∷ [])) (codes "divide") one_zero falling (codes "y") 0 DivZero
+  pub not_before : ¬ IsSourceFault (program_of (divide ∷ []))
+      (codes "divide") one_zero falling (codes "y") 0 DivZero
   -- it is reported of the main variable in whose equation the call stands
   pub called : IsSourceFault calls_divide (codes "main") one_zero falling (codes "z") 1 DivZero
   pub of_main : ¬ IsSourceFault calls_divide (codes "main") one_zero falling (codes "y") 1 DivZero

@@ -1,11 +1,14 @@
--- Which node the instance at a path of calls is of: this is said of the program's text alone, without streams.
-use Rattle.std.specs.Prelude.{◌≡◌, ℕ, List, [], ◌∷◌, ◌++◌, map, Option, Some, None, option_and_then, slice_get}
+-- Which node the instance at a path of calls is of: this is said of the program's text alone, without
+-- streams.
+use Rattle.std.specs.Prelude.{◌≡◌, ℕ, List, [], ◌∷◌, ◌++◌, map, Option, Some, None, option_and_then}
+use Rattle.std.specs.Prelude.{slice_get}
 use Rattle.lutree.specs.Tree.{NodeTree, ProgramTree}
-use Rattle.luflow.specs.Program.{Table}
+use Rattle.luflow.specs.Program.{InputsView}
 use Rattle.luflow.specs.Streams.{Stream, Ticks}
 use Rattle.lustat_rules.specs.Scope.{node_called}
 use Rattle.lustat_rules.specs.Naming.{called_by}
-use Rattle.lusource.specs.Source.{Named, Site, Path, SourceStreams, InstanceHolds, IsSourceSolution, sites_of}
+use Rattle.lusource.specs.Source.{Named, CallInstance, Path, SourceStreams, InstanceHolds, IsSourceSolution}
+use Rattle.lusource.specs.Source.{sites_of}
 
 -- the names of the nodes that a node calls, in order of the calls' numbers
 abbrev pub called_in : Option NodeTree → List (List ℕ)
@@ -22,11 +25,14 @@ instance_at program f (i ∷ path) =
 abbrev pub CalledLaw : Type 0
 CalledLaw =
     (program : ProgramTree) (node : Option NodeTree) (base : Ticks) (var : Named) (inner : ℕ → Named)
-    → map (λ (site : Site). site.node) (sites_of program node base var inner) ≡ called_in node
+    → map (λ (site : CallInstance). site.node) (sites_of program node base var inner) ≡ called_in node
 
--- In each solution, what stands at a path is an instance of that node, on some base clock and with some streams for its inputs.
+-- In each solution, what stands at a path is an instance of that node, on some base clock and with some
+-- streams for its inputs.
 abbrev pub InstanceLaw : Type 0
 InstanceLaw =
-    (program : ProgramTree) (main : List ℕ) (inputs : Table) (σ : SourceStreams) (path : Path) (node : NodeTree)
+    (program : ProgramTree) (main : List ℕ) (inputs : InputsView) (σ : SourceStreams) (path : Path)
+    (node : NodeTree)
     → IsSourceSolution program main inputs σ → instance_at program main path ≡ Some node
-    → (base : Ticks) × (given : List Stream) × InstanceHolds program node base given (σ path) (λ i. σ (path ++ i ∷ []))
+    → (base : Ticks) × (given : List Stream) × InstanceHolds program node base given (σ path)
+    (λ i. σ (path ++ i ∷ []))

@@ -1,6 +1,7 @@
 -- What each form of an expression gives at four instants where a stream that it looks at breaks;
 -- worked out by hand from what the language says of the forms.
-use Rattle.std.specs.Prelude.{◌≡◌, ℕ, List, [], ◌∷◌, map, negsuc, codes, Option, None, if◌then◌else◌, true, false}
+use Rattle.std.specs.Prelude.{◌≡◌, ℕ, List, [], ◌∷◌, map, negsuc, codes, Option, None, if◌then◌else◌, true}
+use Rattle.std.specs.Prelude.{false}
 use Rattle.std.specs.Str.{bytes_eq}
 use Rattle.lutree.specs.declared.expr.UnaryOperator.TheVariants.{Minus}
 use Rattle.lutree.specs.declared.expr.BinaryOperator.TheVariants.{Subtract}

@@ -1,3 +1,3 @@
-mod Telling
+mod Reporting
 mod First
 pub mod Same

@@ -16,7 +16,7 @@ use Rattle.lustat_rules.specs.Accepted as breaks
 use Rattle.lustat_rules.specs.Naming.{Reaches}
 use Rattle.lustat_rules.specs.declared.error.StatError.{StatError}
 use Rattle.lustat_rules.specs.declared.error.StatError.TheVariants.{DuplicateName, UnknownName, UnknownNode, TypeMismatch, WrongArity, Undefined, DefinedTwice, RecursiveNode, ClockMismatch, NotAClock, ClockedParameter, HiddenClock, MaybeNil, CurrentMayBeNil, NoMain, BadMerge, OutOfMemory}
-use Rattle.lustat_rules.specs.Told.{rule_of, byte_of, number_of, number_told, RuleTold, Tells}
+use Rattle.lustat_rules.specs.Reported.{rule_of, byte_of, number_of, number_reported, RuleReported, ReportsRule}
 use Rattle.lustat_rules.specs.Faults.{declared_in, FaultAt, FaultAmong, TypeFault, NameFault, InTypeFault, NodeFault, DeclarationFault, EquationFault, InNodeFault, IsFault}
 use Rattle.lustat_rules.specs.Least.{IsLeastFault}
 use Rattle.lustat_rules.proofs.Keeping.{view_item, item_view}
@@ -28,8 +28,8 @@ use Rattle.lustat_init.specs.Faults.{IsFault as IsClassFault, EquationSays, is_a
 use Rattle.lustat_init.specs.Faults as class
 use Rattle.lustat_init.specs.Judged.{KeepsClasses}
 use Rattle.lustat_rules.specs.Classes.{IsLeast, CurrentsStart}
-use Rattle.lustat.specs.First.{stage_told, IsToldFirst}
-use Rattle.lustat.specs.First.IsToldFirst.{memory, names, clocks, classes}
+use Rattle.lustat.specs.First.{stage_reported, IsReportedFirst}
+use Rattle.lustat.specs.First.IsReportedFirst.{memory, names, clocks, classes}
 
 -- AT THE SAME PLACE OF TWO LISTS
 
@@ -49,7 +49,7 @@ partner {U = U} {V = V} f g xs ys e h j x at =
 -- FAULTS AT ONE PLACE
 
 fault_along : (asked : Rule → Bool) (b c : ℕ) (K L : Rule → Type 0) (e : StatError) → b ≡ c → ((r : Rule) → L r → K r) → FaultAt asked b K e → FaultAt asked c L e
-fault_along asked b c K L e same implies h = record { rule = h.rule; told = h.told; one = h.one; at = h.at ∙ same; broken = λ kept. h.broken (implies h.rule kept) }
+fault_along asked b c K L e same implies h = record { rule = h.rule; reported = h.reported; one = h.one; at = h.at ∙ same; broken = λ kept. h.broken (implies h.rule kept) }
 
 among_along : {A : Type 0} (xs ys : List A) (F G : ℕ → A → StatError → Type 0) (e : StatError) → ((j : ℕ) (x : A) → slice_get xs j ≡ Some x → F j x e → (y : A) × (slice_get ys j ≡ Some y) × G j y e) → FaultAmong xs F e
     → FaultAmong ys G e
@@ -159,7 +159,7 @@ module _ (p q : Program) (main : List ℕ) (trees : program_view p ≡ program_v
         there = there;
         recursive = subst (λ (t : ProgramTree). Reaches t m.name m.name) trees (subst (λ (t : NodeTree). Reaches (program_view p) t.name t.name) h.tree a.recursive);
         first = subst (λ (t : ProgramTree). NoneRecursiveBefore t a.place) trees a.first;
-        told = a.told ∙ ap (λ (t : NodePlaces). RecursiveNode t.name) h.places;
+        reported = a.reported ∙ ap (λ (t : NodePlaces). RecursiveNode t.name) h.places;
       }
 
   name_of : (e : StatError) → IsNameFault p main e → IsNameFault q main e
@@ -190,12 +190,12 @@ least_along : (F G : StatError → Type 0) (e : StatError) → ((f : StatError) 
 least_along F G e to back h = (to e h.0, λ f fault. h.1 f (back f fault))
 
 -- what is reported of a program is reported of each with its tree and its places
-pub told_along : (p q : Program) (main : List ℕ) (e : StatError) → program_view p ≡ program_view q → places_view p ≡ places_view q → IsToldFirst p main e → IsToldFirst q main e
-told_along p q main e trees places (memory h) = memory h
-told_along p q main e trees places (names s h) = names s (least_along (IsNameFault p main) (IsNameFault q main) e (name_of p q main trees places) (name_of q p main (sym trees) (sym places)) h)
-told_along p q main e trees places (clocks s h) =
+pub reported_along : (p q : Program) (main : List ℕ) (e : StatError) → program_view p ≡ program_view q → places_view p ≡ places_view q → IsReportedFirst p main e → IsReportedFirst q main e
+reported_along p q main e trees places (memory h) = memory h
+reported_along p q main e trees places (names s h) = names s (least_along (IsNameFault p main) (IsNameFault q main) e (name_of p q main trees places) (name_of q p main (sym trees) (sym places)) h)
+reported_along p q main e trees places (clocks s h) =
     clocks s (least_along (IsFault is_clock_rule p main) (IsFault is_clock_rule q main) e (fault_of p q main trees places is_clock_rule) (fault_of q p main (sym trees) (sym places) is_clock_rule) h)
-told_along p q main e trees places (classes s h) =
+reported_along p q main e trees places (classes s h) =
     classes s (least_along (IsClassFault p.nodes) (IsClassFault q.nodes) e (class_of p q main trees places) (class_of q p main (sym trees) (sym places)) h)
 
 -- ONE REFUSAL
@@ -250,30 +250,30 @@ broken_kept tree main r (breaks.declaration i j n d at there never) keeps = neve
 broken_kept tree main r (breaks.equation i j n q at there never) keeps = never (keeps.equations i j n q at there)
 
 -- of two refusals that are reported neither is of a stage before the other's
-not_earlier : (tree : ProgramTree) (main : List ℕ) (e f : StatError) → Tells 3 tree main e → Tells 3 tree main f → 0 < stage_told e → stage_told e < stage_told f → ⊥
-not_earlier tree main e f told other some less = by_rules (rule_of e) (rule_of f) refl refl told other
+not_earlier : (tree : ProgramTree) (main : List ℕ) (e f : StatError) → ReportsRule 3 tree main e → ReportsRule 3 tree main f → 0 < stage_reported e → stage_reported e < stage_reported f → ⊥
+not_earlier tree main e f reported other some less = by_rules (rule_of e) (rule_of f) refl refl reported other
   where
-    by_rules : (a b : Option Rule) → rule_of e ≡ a → rule_of f ≡ b → RuleTold 3 tree main a → RuleTold 3 tree main b → ⊥
-    by_rules None b is also h k = let none = ap number_told is in absurd (omega (arith, some, none))
-    by_rules (Some r) None is also h k = let none = ap number_told also in absurd (omega (arith, less, none))
+    by_rules : (a b : Option Rule) → rule_of e ≡ a → rule_of f ≡ b → RuleReported 3 tree main a → RuleReported 3 tree main b → ⊥
+    by_rules None b is also h k = let none = ap number_reported is in absurd (omega (arith, some, none))
+    by_rules (Some r) None is also h k = let none = ap number_reported also in absurd (omega (arith, less, none))
     by_rules (Some r) (Some s) is also h k =
-        let one = ap number_told is in
-        let two = ap number_told also in
+        let one = ap number_reported is in
+        let two = ap number_reported also in
         broken_kept tree main r h.1.broken (k.1.before r (omega (arith, one, two, less)))
 
 -- two refusals that are reported of one program are one, where memory lasts
-pub one_told : (p : Program) (main : List ℕ) (e f : StatError) → Tells 3 (program_view p) main e → Tells 3 (program_view p) main f → IsToldFirst p main e → IsToldFirst p main f
+pub one_reported : (p : Program) (main : List ℕ) (e f : StatError) → ReportsRule 3 (program_view p) main e → ReportsRule 3 (program_view p) main f → IsReportedFirst p main e → IsReportedFirst p main f
     → (e ≡ OutOfMemory → ⊥) → (f ≡ OutOfMemory → ⊥) → e ≡ f
-one_told p main e f tells also (memory h) y ne nf = absurd (ne h)
-one_told p main e f tells also (names s h) (memory k) ne nf = absurd (nf k)
-one_told p main e f tells also (names s h) (names t k) ne nf = one_least (IsNameFault p main) e f h k
-one_told p main e f tells also (names s h) (clocks t k) ne nf = absurd (not_earlier (program_view p) main e f tells also (omega (arith, s)) (omega (arith, s, t)))
-one_told p main e f tells also (names s h) (classes t k) ne nf = absurd (not_earlier (program_view p) main e f tells also (omega (arith, s)) (omega (arith, s, t)))
-one_told p main e f tells also (clocks s h) (memory k) ne nf = absurd (nf k)
-one_told p main e f tells also (clocks s h) (names t k) ne nf = absurd (not_earlier (program_view p) main f e also tells (omega (arith, t)) (omega (arith, s, t)))
-one_told p main e f tells also (clocks s h) (clocks t k) ne nf = one_least (IsFault is_clock_rule p main) e f h k
-one_told p main e f tells also (clocks s h) (classes t k) ne nf = absurd (not_earlier (program_view p) main e f tells also (omega (arith, s)) (omega (arith, s, t)))
-one_told p main e f tells also (classes s h) (memory k) ne nf = absurd (nf k)
-one_told p main e f tells also (classes s h) (names t k) ne nf = absurd (not_earlier (program_view p) main f e also tells (omega (arith, t)) (omega (arith, s, t)))
-one_told p main e f tells also (classes s h) (clocks t k) ne nf = absurd (not_earlier (program_view p) main f e also tells (omega (arith, t)) (omega (arith, s, t)))
-one_told p main e f tells also (classes s h) (classes t k) ne nf = one_least (IsClassFault p.nodes) e f h k
+one_reported p main e f tells also (memory h) y ne nf = absurd (ne h)
+one_reported p main e f tells also (names s h) (memory k) ne nf = absurd (nf k)
+one_reported p main e f tells also (names s h) (names t k) ne nf = one_least (IsNameFault p main) e f h k
+one_reported p main e f tells also (names s h) (clocks t k) ne nf = absurd (not_earlier (program_view p) main e f tells also (omega (arith, s)) (omega (arith, s, t)))
+one_reported p main e f tells also (names s h) (classes t k) ne nf = absurd (not_earlier (program_view p) main e f tells also (omega (arith, s)) (omega (arith, s, t)))
+one_reported p main e f tells also (clocks s h) (memory k) ne nf = absurd (nf k)
+one_reported p main e f tells also (clocks s h) (names t k) ne nf = absurd (not_earlier (program_view p) main f e also tells (omega (arith, t)) (omega (arith, s, t)))
+one_reported p main e f tells also (clocks s h) (clocks t k) ne nf = one_least (IsFault is_clock_rule p main) e f h k
+one_reported p main e f tells also (clocks s h) (classes t k) ne nf = absurd (not_earlier (program_view p) main e f tells also (omega (arith, s)) (omega (arith, s, t)))
+one_reported p main e f tells also (classes s h) (memory k) ne nf = absurd (nf k)
+one_reported p main e f tells also (classes s h) (names t k) ne nf = absurd (not_earlier (program_view p) main f e also tells (omega (arith, t)) (omega (arith, s, t)))
+one_reported p main e f tells also (classes s h) (clocks t k) ne nf = absurd (not_earlier (program_view p) main f e also tells (omega (arith, t)) (omega (arith, s, t)))
+one_reported p main e f tells also (classes s h) (classes t k) ne nf = one_least (IsClassFault p.nodes) e f h k

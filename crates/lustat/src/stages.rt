@@ -3,11 +3,11 @@
 ghost use Rattle.std.specs.Prelude.{◌≡◌, IfOk, IfErr};
 ghost use Rattle.lutree.specs.Tree.{program_view};
 ghost use Rattle.lustat_rules.specs.Accepted.{IsAccepted};
-ghost use Rattle.lustat_rules.specs.Told.{Tells};
+ghost use Rattle.lustat_rules.specs.Reported.{ReportsRule};
 ghost use Rattle.lustat_rules.specs.Faults.{AreKept};
 ghost use Rattle.lustat_clocks.specs.Asked.{is_asked};
 ghost use Rattle.lustat_init.specs.Rows.{AreClasses, plain};
-ghost use Rattle.lustat.specs.First.{IsToldFirst};
+ghost use Rattle.lustat.specs.First.{IsReportedFirst};
 
 use crate::checked::Checked;
 use lustat_clocks::clock_fault;
@@ -24,8 +24,8 @@ fn classes_of(alloc: Global, typed: &Typed) -> Result<Vec<Vec<bool>>, StatError>
         typed.now.main) }
     ensures classes { IfOk result (λ classes. AreClasses (program_view typed.now.program)
         (plain classes.items)) }
-    ensures told { IfErr result (Tells 3 (program_view typed.now.program) typed.now.main) }
-    ensures first { IfErr result (IsToldFirst typed.now.program typed.now.main) }
+    ensures reported { IfErr result (ReportsRule 3 (program_view typed.now.program) typed.now.main) }
+    ensures first { IfErr result (IsReportedFirst typed.now.program typed.now.main) }
 {
     match initialise(alloc, typed.catalog())? {
         Initialised::Kept(classes) => Ok(classes),
@@ -39,8 +39,8 @@ fn later_stages(alloc: Global, typed: &Typed) -> Result<Vec<Vec<bool>>, StatErro
         typed.now.main) }
     ensures classes { IfOk result (λ classes. AreClasses (program_view typed.now.program)
         (plain classes.items)) }
-    ensures told { IfErr result (Tells 3 (program_view typed.now.program) typed.now.main) }
-    ensures first { IfErr result (IsToldFirst typed.now.program typed.now.main) }
+    ensures reported { IfErr result (ReportsRule 3 (program_view typed.now.program) typed.now.main) }
+    ensures first { IfErr result (IsReportedFirst typed.now.program typed.now.main) }
 {
     let main = typed.main();
     match clock_fault(alloc, typed.catalog(), main)? {
@@ -67,8 +67,8 @@ pub fn check<'a>(
     ensures program { IfOk result (λ checked. checked.program ≡ program.now) }
     ensures main { IfOk result (λ checked. checked.main ≡ main.now) }
     ensures accepted { IfOk result (λ _. IsAccepted (program_view program.now) main.now) }
-    ensures told { IfErr result (Tells 3 (program_view program.now) main.now) }
-    ensures first { IfErr result (IsToldFirst program.now main.now) }
+    ensures reported { IfErr result (ReportsRule 3 (program_view program.now) main.now) }
+    ensures first { IfErr result (IsReportedFirst program.now main.now) }
 {
     let typed = names(alloc, program, main)?;
     let classes = later_stages(alloc, &typed)?;

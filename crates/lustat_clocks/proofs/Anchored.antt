@@ -5,7 +5,7 @@ use Rattle.lustat_rules.proofs.Fitting.{inside, outside}
 use Rattle.lutree.specs.Tree.{Tree, Trees, NodeTree}
 use Rattle.lutree.specs.Tree as tree
 use Rattle.lustat_rules.specs.Scope.{Clock}
-use Rattle.lustat_rules.specs.Clocks.{base, Fits, FitsInside, AllFitInside}
+use Rattle.lustat_rules.specs.Clocks.{base, FitsClock, FitsClockInside, AllFitInside}
 use Rattle.lustat_clocks.specs.Anchors.{or_else, clock_below, anchor, anchor_of_all}
 
 -- a clock is the one of an anchor, or there is no anchor and what holds of it holds of all clocks
@@ -22,17 +22,17 @@ weaker o k P Q w (inl e) = inl e
 weaker o k P Q w (inr f) = inr (f.0, λ j. w j (f.1 j))
 
 mutual
-  pub anchored : (n : NodeTree) (e : Tree) (k : Clock) → FitsInside n e k → IsAnchored (anchor n e) k (FitsInside n e)
+  pub anchored : (n : NodeTree) (e : Tree) (k : Clock) → FitsClockInside n e k → IsAnchored (anchor n e) k (FitsClockInside n e)
   anchored n (tree.number a) k f = inr (refl, λ j. tt)
   anchored n (tree.truth b) k f = inr (refl, λ j. tt)
   anchored n (tree.label l) k f = inr (refl, λ j. tt)
   anchored n (tree.variable x) k f = inl f
   anchored n (tree.unary op a) k f = anchored n a k f
-  anchored n (tree.binary op a b) k f = both (anchor n a) (anchor n b) k (FitsInside n a) (FitsInside n b) (anchored n a k f.0) (anchored n b k f.1)
+  anchored n (tree.binary op a b) k f = both (anchor n a) (anchor n b) k (FitsClockInside n a) (FitsClockInside n b) (anchored n a k f.0) (anchored n b k f.1)
   anchored n (tree.choice c a b) k f =
-      weaker (or_else (anchor n c) (or_else (anchor n a) (anchor n b))) k (λ j. FitsInside n c j × (FitsInside n a j × FitsInside n b j)) (FitsInside n (tree.choice c a b)) (λ j h. (h.0, h.1.0, h.1.1))
-      (both (anchor n c) (or_else (anchor n a) (anchor n b)) k (FitsInside n c) (λ j. FitsInside n a j × FitsInside n b j) (anchored n c k f.0)
-      (both (anchor n a) (anchor n b) k (FitsInside n a) (FitsInside n b) (anchored n a k f.1) (anchored n b k f.2)))
+      weaker (or_else (anchor n c) (or_else (anchor n a) (anchor n b))) k (λ j. FitsClockInside n c j × (FitsClockInside n a j × FitsClockInside n b j)) (FitsClockInside n (tree.choice c a b)) (λ j h. (h.0, h.1.0, h.1.1))
+      (both (anchor n c) (or_else (anchor n a) (anchor n b)) k (FitsClockInside n c) (λ j. FitsClockInside n a j × FitsClockInside n b j) (anchored n c k f.0)
+      (both (anchor n a) (anchor n b) k (FitsClockInside n a) (FitsClockInside n b) (anchored n a k f.1) (anchored n b k f.2)))
   anchored n (tree.when a c) k f = inl (ap Some (sym f.0))
   anchored n (tree.current x) k f = inl (ap (clock_below n) f.1 ∙ f.2)
   anchored n (tree.merge c ps all) k f = inl f.0
@@ -40,21 +40,21 @@ mutual
 
   pub all_anchored : (n : NodeTree) (all : Trees) (k : Clock) → AllFitInside n all k → IsAnchored (anchor_of_all n all) k (AllFitInside n all)
   all_anchored n tree.none k f = inr (refl, λ j. tt)
-  all_anchored n (tree.more a all) k f = both (anchor n a) (anchor_of_all n all) k (FitsInside n a) (AllFitInside n all) (anchored n a k f.0) (all_anchored n all k f.1)
+  all_anchored n (tree.more a all) k f = both (anchor n a) (anchor_of_all n all) k (FitsClockInside n a) (AllFitInside n all) (anchored n a k f.0) (all_anchored n all k f.1)
 
 -- what is fitted at all is fitted by the anchor, or by the base clock where there is none
-pub only_anchor : (n : NodeTree) (e : Tree) (k : Clock) (b : Bool) → anchor n e ≡ Some k → (IsTrue b ↔ Fits n e k) → IsTrue b ↔ ((j : Clock) × Fits n e j)
+pub only_anchor : (n : NodeTree) (e : Tree) (k : Clock) (b : Bool) → anchor n e ≡ Some k → (IsTrue b ↔ FitsClock n e k) → IsTrue b ↔ ((j : Clock) × FitsClock n e j)
 only_anchor n e k b at same = (
   λ h. (k, same.0 h),
   λ h. same.1 (
       elim (anchored n e h.0 (inside h.1)) [
-        | inl f ↦ let P : Option Clock → Type 0 = λ o. Fits n e (unwrap_or o base) in subst P (sym f ∙ at) h.1
+        | inl f ↦ let P : Option Clock → Type 0 = λ o. FitsClock n e (unwrap_or o base) in subst P (sym f ∙ at) h.1
         | inr f ↦ outside n e k (f.1 k)
       ]
       ),
 )
 
-pub only_base : (n : NodeTree) (e : Tree) (b : Bool) → anchor n e ≡ None → (IsTrue b ↔ Fits n e base) → IsTrue b ↔ ((j : Clock) × Fits n e j)
+pub only_base : (n : NodeTree) (e : Tree) (b : Bool) → anchor n e ≡ None → (IsTrue b ↔ FitsClock n e base) → IsTrue b ↔ ((j : Clock) × FitsClock n e j)
 only_base n e b at same = (
   λ h. (base, same.0 h),
   λ h. same.1 (elim (anchored n e h.0 (inside h.1)) [ inl f ↦ absurd (no_some (sym at ∙ f)) | inr f ↦ outside n e base (f.1 base) ]),

@@ -4,14 +4,14 @@ use Rattle.lutree.specs.declared.expr.Condition.{Condition}
 use Rattle.lutree.specs.Tree.{NodeTree}
 use Rattle.lutree.specs.Tree as tree
 use Rattle.lustat_rules.specs.Scope.{Clock, clock_of}
-use Rattle.lustat_rules.specs.Clocks.{base, FitsInside}
+use Rattle.lustat_rules.specs.Clocks.{base, FitsClockInside}
 use Rattle.lustat_rules.specs.ClockRefs.{clock_under}
 
 abbrev variable_of : Option Clock → List ℕ
 variable_of (Some (Some c)) = c.variable
 variable_of o = []
 
-pub held : (n : NodeTree) (x : List ℕ) (j k : Clock) (b : Bool) → clock_of n x ≡ Some j → (IsTrue b ↔ (clock_under n j ≡ Some k)) → IsTrue b ↔ FitsInside n (tree.current x) k
+pub held : (n : NodeTree) (x : List ℕ) (j k : Clock) (b : Bool) → clock_of n x ≡ Some j → (IsTrue b ↔ (clock_under n j ≡ Some k)) → IsTrue b ↔ FitsClockInside n (tree.current x) k
 held n x None k b at same = (
   λ h. absurd (no_some (same.0 h)),
   λ h. absurd (no_base (sym at ∙ h.1)),

@@ -20,7 +20,7 @@ module _ (byte : ℕ) (K : Rule → Type 0) where
   All4 = K clock_mismatch × (K not_a_clock × (K clocked_parameter × K hidden_clock))
 
   at_place : (rule : Rule) → IsTrue (is_asked rule) → (e : StatError) → Fault rule e → FaultAt is_asked byte K e
-  at_place rule one e h = record { rule = rule; told = h.0; one = one; at = h.1; broken = h.2 }
+  at_place rule one e h = record { rule = rule; reported = h.0; one = one; at = h.1; broken = h.2 }
 
   to : (e : StatError) → Any e → FaultAt is_asked byte K e
   to e (inl h) = at_place clock_mismatch refl e h
@@ -68,7 +68,7 @@ module _ (byte : ℕ) (K : Rule → Type 0) where
       IsJudged (FaultAt is_asked byte K) (AllKept is_asked K) (lesser_of a (lesser_of b (lesser_of c d)))
   all_judged a b c d ja jb jc jd =
       judged_same Any (FaultAt is_asked byte K) All4 (AllKept is_asked K) (lesser_of a (lesser_of b (lesser_of c d)))
-      to (λ e f. from_rule f.rule f.one e (f.told, f.at, f.broken)) kept
+      to (λ e f. from_rule f.rule f.one e (f.reported, f.at, f.broken)) kept
       (judged_both (Fault clock_mismatch) (λ e. Fault not_a_clock e ⊎ (Fault clocked_parameter e ⊎ Fault hidden_clock e)) (K clock_mismatch) (K not_a_clock × (K clocked_parameter × K hidden_clock)) a (lesser_of b (lesser_of c d)) ja
       (judged_both (Fault not_a_clock) (λ e. Fault clocked_parameter e ⊎ Fault hidden_clock e) (K not_a_clock) (K clocked_parameter × K hidden_clock) b (lesser_of c d) jb
       (judged_both (Fault clocked_parameter) (Fault hidden_clock) (K clocked_parameter) (K hidden_clock) c d jc jd)))

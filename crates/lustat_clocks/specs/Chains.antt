@@ -10,7 +10,8 @@ use Rattle.lubase.specs.Reach.{link}
 
 -- marks of those declarations whose clocks end at the base clock
 abbrev pub MarksEnds : NodeTree → List Bool → Type 0
-MarksEnds n marks = (i : ℕ) (d : DeclarationTree) → slice_get (declarations_of n) i ≡ Some d → Has marks i ↔ Ends n d.clock
+MarksEnds n marks = (i : ℕ) (d : DeclarationTree) → slice_get (declarations_of n) i ≡ Some d → Has marks i
+    ↔ Ends n d.clock
 
 -- the declaration at a place has no clock
 abbrev pub IsBased : List DeclarationTree → ℕ → Type 0

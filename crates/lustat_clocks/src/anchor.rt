@@ -3,7 +3,7 @@
 ghost use Rattle.std.specs.Prelude.{◌≡◌, ◌↔◌, IsTrue, option_map};
 ghost use Rattle.lutree.specs.Tree.{view, views, trees_of, node_view};
 ghost use Rattle.lustat_rules.specs.Scope.{Clock};
-ghost use Rattle.lustat_rules.specs.Clocks.{Fits};
+ghost use Rattle.lustat_rules.specs.Clocks.{FitsClock};
 ghost use Rattle.lustat_rules.specs.ClockRefs.{the_clock};
 ghost use Rattle.lustat_clocks.specs.Anchors.{current_anchor, anchor, anchor_of_all};
 
@@ -64,7 +64,7 @@ fn anchor_of_arguments<'s: 'e, 'e>(scope: &Scope<'s>, arguments: &'e [Expr]) -> 
 
 /// Whether there is a clock that an expression fits.
 pub fn fits_some(scope: &Scope, e: &Expr) -> bool
-    ensures { IsTrue result ↔ ((k : Clock) × Fits (node_view scope.now) (view e.now) k) }
+    ensures { IsTrue result ↔ ((k : Clock) × FitsClock (node_view scope.now) (view e.now) k) }
 {
     match anchor_of(scope, e) {
         None => fits(scope, e, ClockRef::Base),

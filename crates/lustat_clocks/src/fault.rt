@@ -12,7 +12,7 @@ ghost use Rattle.lustat_clocks.specs.Asked.{is_asked};
 use crate::agree::agrees;
 use crate::chain::{is_clock, names_clocks};
 use crate::parameter::{calls_unclocked, is_unclocked, is_visible};
-use lustat_rules::{Catalog, Scope, StatError, lesser, told};
+use lustat_rules::{Catalog, Scope, StatError, lesser, reported};
 use lutree::{Declaration, Equation};
 
 /// The least fault of a declaration, whatever the program round its node.
@@ -33,9 +33,9 @@ pub fn declaration_fault(
     let is_clock = is_clock(scope, declaration, place, ends);
     let is_unclocked = is_unclocked(scope, declaration, main);
     let is_visible = is_visible(scope, declaration, main);
-    let clock = told(is_clock, StatError::NotAClock { byte });
-    let parameter = told(is_unclocked, StatError::ClockedParameter { byte });
-    let hidden = told(is_visible, StatError::HiddenClock { byte });
+    let clock = reported(is_clock, StatError::NotAClock { byte });
+    let parameter = reported(is_unclocked, StatError::ClockedParameter { byte });
+    let hidden = reported(is_visible, StatError::HiddenClock { byte });
     lesser(clock, lesser(parameter, hidden))
 }
 
@@ -57,8 +57,8 @@ pub fn equation_fault(
     let agrees = agrees(scope, equation);
     let names_clocks = names_clocks(scope, equation);
     let calls_unclocked = calls_unclocked(equation, main, unclocked);
-    let mismatch = told(agrees, StatError::ClockMismatch { byte });
-    let clock = told(names_clocks, StatError::NotAClock { byte });
-    let parameter = told(calls_unclocked, StatError::ClockedParameter { byte });
+    let mismatch = reported(agrees, StatError::ClockMismatch { byte });
+    let clock = reported(names_clocks, StatError::NotAClock { byte });
+    let parameter = reported(calls_unclocked, StatError::ClockedParameter { byte });
     lesser(mismatch, lesser(clock, parameter))
 }

@@ -5,7 +5,7 @@ ghost use Rattle.lubase.specs.Places.{first_place};
 ghost use Rattle.lustat_rules.specs.Scope.{declarations_of, names_of};
 ghost use Rattle.lutree.specs.Tree.{view, views, trees_of, node_view};
 ghost use Rattle.lutree.specs.Tree as tree;
-ghost use Rattle.lustat_rules.specs.Clocks.{on, HasClock, Fits, FitsInside, AllFitInside, BranchesFitInside};
+ghost use Rattle.lustat_rules.specs.Clocks.{on, HasClock, FitsClock, FitsClockInside, AllFitInside, BranchesFitInside};
 ghost use Rattle.lustat_rules.specs.ClockRefs.{the_clock, placed_view, clock_under, IsPlaced};
 
 use lustat_rules::{ClockRef, PatternRef, PlacedClock, Scope};
@@ -38,7 +38,7 @@ fn is_under(scope: &Scope, j: PlacedClock, k: PlacedClock) -> bool
 // Whether `current` of a variable fits a clock.
 fn current_fits(scope: &Scope, name: &str, k: PlacedClock) -> bool
     requires { IsPlaced (node_view scope.now) k }
-    ensures { IsTrue result ↔ FitsInside (node_view scope.now) (tree.current name.now)
+    ensures { IsTrue result ↔ FitsClockInside (node_view scope.now) (tree.current name.now)
         (placed_view k.entry) }
 {
     match scope.placed_clock(name) {
@@ -51,7 +51,7 @@ fn current_fits(scope: &Scope, name: &str, k: PlacedClock) -> bool
 #[cycle(fits)]
 fn fits_inside(scope: &Scope, e: &Expr, k: PlacedClock) -> bool
     requires { IsPlaced (node_view scope.now) k }
-    ensures { IsTrue result ↔ FitsInside (node_view scope.now) (view e.now) (placed_view k.entry) }
+    ensures { IsTrue result ↔ FitsClockInside (node_view scope.now) (view e.now) (placed_view k.entry) }
 {
     match e {
         Expr::Number(_) | Expr::Truth(_) | Expr::Label(_) => true,
@@ -90,7 +90,7 @@ fn fits_inside(scope: &Scope, e: &Expr, k: PlacedClock) -> bool
 fn branch_fits(scope: &Scope, name: &str, place: Option<usize>, pattern: &Pattern, e: &Expr) -> bool
     requires { place ≡ first_place (names_of (declarations_of (node_view scope.now))) name.now }
     ensures { IsTrue result
-        ↔ FitsInside (node_view scope.now) (view e.now) (on name.now pattern.now) }
+        ↔ FitsClockInside (node_view scope.now) (view e.now) (on name.now pattern.now) }
 {
     let clock = ClockRef::On(name, PatternRef::of(pattern));
     fits_inside(scope, e, PlacedClock { clock, place })
@@ -137,7 +137,7 @@ fn all_fit(scope: &Scope, arguments: &[Expr], k: PlacedClock) -> bool
 /// whatever the length of the clock's name. Takes no memory.
 pub fn fits_placed(scope: &Scope, e: &Expr, k: PlacedClock) -> bool
     requires { IsPlaced (node_view scope.now) k }
-    ensures { IsTrue result ↔ Fits (node_view scope.now) (view e.now) (placed_view k.entry) }
+    ensures { IsTrue result ↔ FitsClock (node_view scope.now) (view e.now) (placed_view k.entry) }
 {
     fits_inside(scope, e, k)
 }
@@ -145,7 +145,7 @@ pub fn fits_placed(scope: &Scope, e: &Expr, k: PlacedClock) -> bool
 /// Whether an expression of a node fits a clock. The time grows with the length of the expression and of the clock's name. Takes no
 /// memory.
 pub fn fits(scope: &Scope, e: &Expr, k: ClockRef) -> bool
-    ensures { IsTrue result ↔ Fits (node_view scope.now) (view e.now) (the_clock k.entry) }
+    ensures { IsTrue result ↔ FitsClock (node_view scope.now) (view e.now) (the_clock k.entry) }
 {
     fits_placed(scope, e, scope.placed(k))
 }

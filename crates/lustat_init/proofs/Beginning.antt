@@ -141,8 +141,8 @@ is_started n x marks clocks i b marked at e = by_clock (clock_of n x) refl
         (λ h. record { clock = λ c has. absurd (no_base c (sym is ∙ has)) }, λ h. e ∙ ap (λ o. unwrap_or o true) m.1 ∙ m.2.1 tt)
     by_clock (Some (Some c)) is =
         let m = marked_at (IsBegun (all_begun n.equations)) marks clocks i (Some c) marked (sym at ∙ is) in
-        let told : b ≡ m.0 = e ∙ ap (λ o. unwrap_or o true) m.1 in
+        let reported : b ≡ m.0 = e ∙ ap (λ o. unwrap_or o true) m.1 in
         let here = at_first n c m.0 m.2 in (
-          λ h. record { clock = λ d has. subst (IsTrueAtFirst n) (same_condition c d (sym is ∙ has)) (here.0 (sym told ∙ h)) },
-          λ h. told ∙ here.1 (h.clock c is),
+          λ h. record { clock = λ d has. subst (IsTrueAtFirst n) (same_condition c d (sym is ∙ has)) (here.0 (sym reported ∙ h)) },
+          λ h. reported ∙ here.1 (h.clock c is),
         )

@@ -35,7 +35,7 @@ module _ (byte : ℕ) (K : Rule → Type 0) where
   Both = K maybe_nil × K current_may_be_nil
 
   at_place : (rule : Rule) → IsTrue (is_asked rule) → (e : StatError) → Fault rule e → FaultAt is_asked byte K e
-  at_place rule one e h = record { rule = rule; told = h.0; one = one; at = h.1; broken = h.2 }
+  at_place rule one e h = record { rule = rule; reported = h.0; one = one; at = h.1; broken = h.2 }
 
   to : (e : StatError) → Any e → FaultAt is_asked byte K e
   to e (inl h) = at_place maybe_nil refl e h
@@ -80,5 +80,5 @@ module _ (byte : ℕ) (K : Rule → Type 0) where
   pub equation_judged : (a b : Option StatError) → One maybe_nil a → One current_may_be_nil b → IsJudged (FaultAt is_asked byte K) (AllKept is_asked K) (lesser_of a b)
   equation_judged a b ja jb =
       judged_same Any (FaultAt is_asked byte K) Both (AllKept is_asked K) (lesser_of a b)
-      to (λ e f. from_rule f.rule f.one e (f.told, f.at, f.broken)) kept
+      to (λ e f. from_rule f.rule f.one e (f.reported, f.at, f.broken)) kept
       (judged_both (Fault maybe_nil) (Fault current_may_be_nil) (K maybe_nil) (K current_may_be_nil) a b ja jb)

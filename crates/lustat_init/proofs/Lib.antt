@@ -1,7 +1,7 @@
 mod Sourcing
 mod Spreading
 mod Leasts
-mod Telling
+mod Reporting
 mod Starting
 mod Equations
 pub mod Rowing

@@ -14,14 +14,14 @@ use Rattle.lustat_rules.specs.Scope.{IsVariable}
 use Rattle.lustat_rules.specs.Classes.{Classes, Meets, HasClasses, CurrentsStart}
 use Rattle.lustat_rules.specs.Accepted.{Rule, duplicate_name, unknown_name, unknown_node, type_mismatch, wrong_arity, undefined, defined_twice, recursive_node, no_main, bad_merge, clock_mismatch, not_a_clock, clocked_parameter, hidden_clock, maybe_nil, current_may_be_nil, Keeps, Breaks, Passes}
 use Rattle.lustat_rules.specs.declared.error.StatError.{StatError}
-use Rattle.lustat_rules.specs.Told.{rule_of}
+use Rattle.lustat_rules.specs.Reported.{rule_of}
 use Rattle.lustat_rules.proofs.Keeping.{view_item, item_view}
 use Rattle.lustat_init.specs.Assigned.{assigned, LeftsKnown}
 use Rattle.lustat_init.specs.Judged.{KeepsClasses}
-use Rattle.lustat_init.specs.Faults.{is_asked, KeepsLeast, EquationSays, AreKept, IsFault, TellsBroken}
+use Rattle.lustat_init.specs.Faults.{is_asked, KeepsLeast, EquationSays, AreKept, IsFault, ReportsBroken}
 use Rattle.lustat_init.specs.Rows.{Rows, plain, row_at, GiveLeast, GiveLeastBelow, AreClasses, LeftsLaw}
 use Rattle.lustat_init.proofs.Leasts.{contained_at, at_contained}
-use Rattle.lustat_init.proofs.Telling.{tells, keeps_all_met}
+use Rattle.lustat_init.proofs.Reporting.{reports, keeps_all_met}
 
 -- A ROW MORE
 
@@ -112,7 +112,7 @@ module _ (p : Program) (rows : Rows) (least : GiveLeastBelow (length p.nodes) p.
       let n = node_view m in
       let a : Classes = assigned n (row_at rows i) in
       let given = least.each i m (slice_get_within nodes i m at) at in
-      (tells n a given.least given.caused).kept
+      (reports n a given.least given.caused).kept
       (all_from_places (KeepsClasses a n) n.equations (λ j q there. equation_least i m at j q there a given.least))
 
   pub classes_kept : AreClasses (program_view p) rows
@@ -176,40 +176,40 @@ least_kept : (n : NodeTree) (q : EquationTree) → Contains n.equations q → (�
 least_kept n q among breaks has = breaks (λ a least. keeps_all_met n a least has q among)
 
 broken_rule : (p : Program) (main : List ℕ) (e : StatError) (i : ℕ) (m : Node) (j : ℕ) (q : Equation) → slice_get p.nodes i ≡ Some m → slice_get m.equations j ≡ Some q
-    → (rule : Rule) → IsTrue (is_asked rule) → rule_of e ≡ Some rule → (¬ EquationSays m q rule) → TellsBroken (program_view p) main e
-broken_rule p main e i m j q at there maybe_nil one told = λ no.
+    → (rule : Rule) → IsTrue (is_asked rule) → rule_of e ≡ Some rule → (¬ EquationSays m q rule) → ReportsBroken (program_view p) main e
+broken_rule p main e i m j q at there maybe_nil one reported = λ no.
     let here = item_view equation_view m.equations j q there in
     record {
       rule = maybe_nil;
-      told = told;
+      reported = reported;
       third = refl;
       broken = Breaks.node i (node_view m) (item_view node_view p.nodes i m at)
           (least_kept (node_view m) (equation_view q) (at_contained (node_view m).equations (equation_view q) j here) no);
     }
-broken_rule p main e i m j q at there current_may_be_nil one told = λ no.
+broken_rule p main e i m j q at there current_may_be_nil one reported = λ no.
     record {
       rule = current_may_be_nil;
-      told = told;
+      reported = reported;
       third = refl;
       broken = Breaks.equation i j (node_view m) (equation_view q) (item_view node_view p.nodes i m at) (item_view equation_view m.equations j q there) no;
     }
-broken_rule p main e i m j q at there duplicate_name one told = absurd (true≢false (sym one))
-broken_rule p main e i m j q at there unknown_name one told = absurd (true≢false (sym one))
-broken_rule p main e i m j q at there unknown_node one told = absurd (true≢false (sym one))
-broken_rule p main e i m j q at there type_mismatch one told = absurd (true≢false (sym one))
-broken_rule p main e i m j q at there wrong_arity one told = absurd (true≢false (sym one))
-broken_rule p main e i m j q at there undefined one told = absurd (true≢false (sym one))
-broken_rule p main e i m j q at there defined_twice one told = absurd (true≢false (sym one))
-broken_rule p main e i m j q at there recursive_node one told = absurd (true≢false (sym one))
-broken_rule p main e i m j q at there no_main one told = absurd (true≢false (sym one))
-broken_rule p main e i m j q at there bad_merge one told = absurd (true≢false (sym one))
-broken_rule p main e i m j q at there clock_mismatch one told = absurd (true≢false (sym one))
-broken_rule p main e i m j q at there not_a_clock one told = absurd (true≢false (sym one))
-broken_rule p main e i m j q at there clocked_parameter one told = absurd (true≢false (sym one))
-broken_rule p main e i m j q at there hidden_clock one told = absurd (true≢false (sym one))
+broken_rule p main e i m j q at there duplicate_name one reported = absurd (true≢false (sym one))
+broken_rule p main e i m j q at there unknown_name one reported = absurd (true≢false (sym one))
+broken_rule p main e i m j q at there unknown_node one reported = absurd (true≢false (sym one))
+broken_rule p main e i m j q at there type_mismatch one reported = absurd (true≢false (sym one))
+broken_rule p main e i m j q at there wrong_arity one reported = absurd (true≢false (sym one))
+broken_rule p main e i m j q at there undefined one reported = absurd (true≢false (sym one))
+broken_rule p main e i m j q at there defined_twice one reported = absurd (true≢false (sym one))
+broken_rule p main e i m j q at there recursive_node one reported = absurd (true≢false (sym one))
+broken_rule p main e i m j q at there no_main one reported = absurd (true≢false (sym one))
+broken_rule p main e i m j q at there bad_merge one reported = absurd (true≢false (sym one))
+broken_rule p main e i m j q at there clock_mismatch one reported = absurd (true≢false (sym one))
+broken_rule p main e i m j q at there not_a_clock one reported = absurd (true≢false (sym one))
+broken_rule p main e i m j q at there clocked_parameter one reported = absurd (true≢false (sym one))
+broken_rule p main e i m j q at there hidden_clock one reported = absurd (true≢false (sym one))
 
-pub told_broken : (p : Program) (main : List ℕ) (e : StatError) → IsFault p.nodes e → TellsBroken (program_view p) main e
-told_broken p main e h =
+pub reported_broken : (p : Program) (main : List ℕ) (e : StatError) → IsFault p.nodes e → ReportsBroken (program_view p) main e
+reported_broken p main e h =
     let g = h.3 in
     let f = g.3 in
-    broken_rule p main e h.0 h.1 g.0 g.1 h.2 g.2 f.rule f.one f.told f.broken
+    broken_rule p main e h.0 h.1 g.0 g.1 h.2 g.2 f.rule f.one f.reported f.broken

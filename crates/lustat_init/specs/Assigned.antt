@@ -23,4 +23,5 @@ LeftsKnown n = All (λ (q : EquationTree). All (IsVariable n) q.left) n.equation
 
 -- a variable of class 1 has an equation whose right side is of class 1
 abbrev pub IsCaused : Classes → NodeTree → Type 0
-IsCaused a n = (x : List ℕ) → IsTrue (a x) → (q : EquationTree) × Contains n.equations q × Contains q.left x × IsTrue (is_one a q.right)
+IsCaused a n = (x : List ℕ) → IsTrue (a x) → (q : EquationTree) × Contains n.equations q × Contains q.left x
+    × IsTrue (is_one a q.right)

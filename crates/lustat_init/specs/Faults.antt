@@ -6,7 +6,7 @@ use Rattle.lutree.specs.Tree.{EquationTree, NodeTree, ProgramTree, equation_view
 use Rattle.lustat_rules.specs.Classes.{Classes, IsLeast, CurrentsStart}
 use Rattle.lustat_rules.specs.Accepted.{Rule, maybe_nil, current_may_be_nil, stage, Breaks}
 use Rattle.lustat_rules.specs.declared.error.StatError.{StatError}
-use Rattle.lustat_rules.specs.Told.{rule_of}
+use Rattle.lustat_rules.specs.Reported.{rule_of}
 use Rattle.lustat_rules.specs.Faults.{FaultAt, AllKept, FaultAmong, KeptAmong}
 use Rattle.lustat_init.specs.Judged.{KeepsClasses}
 
@@ -45,8 +45,8 @@ abbrev pub IsFault : List Node → StatError → Type 0
 IsFault nodes = FaultAmong nodes (λ _ n. InNodeFault n)
 
 -- a refusal reports a rule of initialisation that the program breaks
-pub record TellsBroken (p : ProgramTree) (main : List ℕ) (e : StatError) : Type 0 where
+pub record ReportsBroken (p : ProgramTree) (main : List ℕ) (e : StatError) : Type 0 where
   pub rule : Rule
-  pub told : rule_of e ≡ Some rule
+  pub reported : rule_of e ≡ Some rule
   pub third : stage rule ≡ 3
   pub broken : Breaks p main rule

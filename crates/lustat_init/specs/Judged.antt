@@ -36,16 +36,17 @@ pub record IsFree (n : NodeTree) (x : List ℕ) : Type 0 where
   pub output : ¬ IsOutput n x
   pub clock : ¬ Contains (clock_variables n) x
 
--- An equation keeps the rules of classes: what its right side needs is there, and where it is of class 1 it defines no input,
+-- An equation keeps the rules of classes: what its right side needs is there, and where it is of class 1 it
+-- defines no input,
 -- no output and no variable that a clock names.
 pub record KeepsClasses (a : Classes) (n : NodeTree) (q : EquationTree) : Type 0 where
   pub needs : NeedsMet a q.right
   pub held : IsTrue (is_one a q.right) → All (IsFree n) q.left
 
 -- with the least classes, a node has classes exactly where all its equations keep the rules
-pub record LeastTells (n : NodeTree) (a : Classes) : Type 0 where
+pub record LeastReports (n : NodeTree) (a : Classes) : Type 0 where
   pub kept : All (KeepsClasses a n) n.equations → Meets a n
   pub broken : (q : EquationTree) → Contains n.equations q → (¬ KeepsClasses a n q) → ¬ HasClasses n
 
-abbrev pub LeastTellsLaw : Type 0
-LeastTellsLaw = (n : NodeTree) (a : Classes) → IsLeast a n → IsCaused a n → LeastTells n a
+abbrev pub LeastReportsLaw : Type 0
+LeastReportsLaw = (n : NodeTree) (a : Classes) → IsLeast a n → IsCaused a n → LeastReports n a

@@ -1,6 +1,8 @@
--- How class 1 spreads: from variables to the equations that read them, and from equations to the variables that they define.
+-- How class 1 spreads: from variables to the equations that read them, and from equations to the variables
+-- that they define.
 -- A variable is known by the place of its declaration, an equation by its place behind all declarations.
-use Rattle.std.specs.Prelude.{◌≡◌, ◌<◌, ◌↔◌, ◌+◌, ℕ, List, [], ◌∷◌, ◌++◌, Option, Some, None, slice_get, IsTrue, Contains}
+use Rattle.std.specs.Prelude.{◌≡◌, ◌<◌, ◌↔◌, ◌+◌, ℕ, List, [], ◌∷◌, ◌++◌, Option, Some, None, slice_get}
+use Rattle.std.specs.Prelude.{IsTrue, Contains}
 use Rattle.lutree.specs.declared.expr.Prefix.TheVariants.{Data as Data1, Pre}
 use Rattle.lutree.specs.declared.expr.Infix.TheVariants.{Data as Data2, Arrow, FollowedBy}
 use Rattle.lutree.specs.Tree.{Tree, EquationTree, NodeTree}
@@ -46,7 +48,9 @@ abbrev pub links_in : NodeTree → ℕ → List EquationTree → List Link
 links_in n w [] = []
 links_in n w (q ∷ qs) = (reads_in n w q.right ++ writes_in n w q.left) ++ links_in n (w + 1) qs
 
--- the equations, of those before a place, that are of class 1 by themselves; the first of all is known by a number
+-- the equations, of those before a place, that are of class 1 by themselves; the first of all is known by a
+-- number
 abbrev pub AreStarts : List EquationTree → ℕ → ℕ → List ℕ → Type 0
 AreStarts qs first k starts =
-    (w : ℕ) → Contains starts w ↔ ((i : ℕ) × (q : EquationTree) × (w ≡ first + i) × (i < k) × (slice_get qs i ≡ Some q) × IsTrue (is_one zero_classes q.right))
+    (w : ℕ) → Contains starts w ↔ ((i : ℕ) × (q : EquationTree) × (w ≡ first + i) × (i < k)
+    × (slice_get qs i ≡ Some q) × IsTrue (is_one zero_classes q.right))

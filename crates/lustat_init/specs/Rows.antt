@@ -1,5 +1,6 @@
 -- The classes of all nodes of a program.
-use Rattle.std.specs.Prelude.{◌≡◌, ◌<◌, ℕ, Bool, List, [], Option, Some, None, All, length, map, slice_get, unwrap_or, Vec}
+use Rattle.std.specs.Prelude.{◌≡◌, ◌<◌, ℕ, Bool, List, [], Option, Some, None, All, length, map, slice_get}
+use Rattle.std.specs.Prelude.{unwrap_or, Vec}
 use Rattle.std.specs.Global.{Global}
 use Rattle.lutree.specs.declared.program.Node.{Node}
 use Rattle.lutree.specs.Tree.{NodeTree, ProgramTree, node_view}

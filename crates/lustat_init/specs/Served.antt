@@ -7,7 +7,8 @@ use Rattle.lustat_init.specs.Assigned.{assigned}
 use Rattle.lustat_init.specs.Judged.{clock_variables}
 use Rattle.lustat_init.specs.Rows.{Rows, row_at}
 
--- the names are those that clocks name in the node, the table of first values is the node's, and the marks give its least classes
+-- the names are those that clocks name in the node, the table of first values is the node's, and the marks
+-- give its least classes
 pub record Serves (n : Node) (named : List (List ℕ)) (firsts : Node) (marks : List Bool) : Type 0 where
   pub named_by_clocks : named ≡ clock_variables (node_view n)
   pub own : firsts ≡ n
@@ -16,4 +17,5 @@ pub record Serves (n : Node) (named : List (List ℕ)) (firsts : Node) (marks : 
 -- there is a row of marks for each node, which gives its least classes
 pub record AreLeast (nodes : List Node) (rows : Rows) : Type 0 where
   pub long : length rows ≡ length nodes
-  pub each : (i : ℕ) (n : Node) → slice_get nodes i ≡ Some n → IsLeast (assigned (node_view n) (row_at rows i)) (node_view n)
+  pub each : (i : ℕ) (n : Node) → slice_get nodes i ≡ Some n
+      → IsLeast (assigned (node_view n) (row_at rows i)) (node_view n)

@@ -29,4 +29,5 @@ zero_classes x = false
 
 -- an expression is of class 1 where it is so by itself, or where one of those variables is
 abbrev pub SourcesLaw : Type 0
-SourcesLaw = (a : Classes) (e : Tree) → IsTrue (is_one a e) ↔ (IsTrue (is_one zero_classes e) ⊎ ((x : List ℕ) × Contains (class_sources e) x × IsTrue (a x)))
+SourcesLaw = (a : Classes) (e : Tree) → IsTrue (is_one a e)
+    ↔ (IsTrue (is_one zero_classes e) ⊎ ((x : List ℕ) × Contains (class_sources e) x × IsTrue (a x)))

@@ -7,4 +7,5 @@ use Rattle.lustat_init.specs.declared.current.Firsts.TheInside.{Inside}
 use Rattle.lustat_init.specs.Beginnings.{all_begun, IsBegun, AreMarked}
 
 pub record AreFirsts (s : Inside) : Type 0 where
-  pub started : AreMarked (IsBegun (all_begun (map equation_view s.node.now.equations))) s.started.items (clock_list (declared_in s.node.now))
+  pub started : AreMarked (IsBegun (all_begun (map equation_view s.node.now.equations))) s.started.items
+      (clock_list (declared_in s.node.now))

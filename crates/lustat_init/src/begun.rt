@@ -111,7 +111,7 @@ fn are_once(names: &Places, all: &[Beginning]) -> bool
 /// The equations of a node that begin with a constant, with a table of the variables that they define. A look-up looks at one of
 /// them, but where a variable has several.
 #[derive(Drop)]
-pub struct Table<'a> {
+pub struct BeginningTable<'a> {
     all: Vec<Beginning<'a>>,
     names: Places<'a>,
     is_once: bool,
@@ -119,16 +119,16 @@ pub struct Table<'a> {
     ghost once: { IsTrue is_once → AreDistinct (spelled all.items) },
 }
 
-impl<'a> Table<'a> {
+impl<'a> BeginningTable<'a> {
     /// The table of some equations. Its time grows with their length.
-    pub fn new(alloc: Global, equations: &'a [Equation]) -> Result<Table<'a>, AllocError>
+    pub fn new(alloc: Global, equations: &'a [Equation]) -> Result<BeginningTable<'a>, AllocError>
         ensures { IfOk result (λ table. map begun_view table.all.items
             ≡ all_begun (map equation_view equations.now)) }
     {
         let all = beginnings_of(alloc, equations)?;
         let names = names_of(alloc, &all)?;
         let is_once = are_once(&names, &all);
-        Ok(Table {
+        Ok(BeginningTable {
             all,
             names,
             is_once,

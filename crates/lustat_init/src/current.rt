@@ -7,14 +7,14 @@ ghost use Rattle.lustat_init.specs.Beginnings.{begun_view, IsBegun, AreMarked};
 ghost use Rattle.lustat_init.specs.Currents.{IsStarted, EachCurrent, EachCurrentOfAll};
 ghost use Rattle.lustat_rules.specs.Scopes.{clock_list};
 
-use crate::begun::Table;
+use crate::begun::BeginningTable;
 use lustat_rules::Scope;
 use lutree::{Declaration, Equation, Expr, Node};
 use std::alloc::{AllocError, Global};
 use std::marker::Model;
 
 // Whether the clock of a declaration, if it has one, is true at first.
-fn starts_by(table: &Table, declaration: &Declaration) -> bool
+fn starts_by(table: &BeginningTable, declaration: &Declaration) -> bool
     ensures { IsTrue result
         ↔ IsBegun (map begun_view table.now.all.items) declaration.now.clock }
 {
@@ -27,7 +27,7 @@ fn starts_by(table: &Table, declaration: &Declaration) -> bool
 // For each of some declarations whether its clock is true at first.
 fn starts_of(
     alloc: Global,
-    table: &Table,
+    table: &BeginningTable,
     declarations: &[&Declaration],
 ) -> Result<Vec<bool>, AllocError>
     ensures { IfOk result (λ marks. AreMarked (IsBegun (map begun_view table.now.all.items))
@@ -82,7 +82,7 @@ impl<'a> Firsts<'a> {
         ensures { IfOk result (λ firsts. firsts ≡ scope.now) }
     {
         let node = scope.node();
-        let table = Table::new(alloc, node.equations.as_slice())?;
+        let table = BeginningTable::new(alloc, node.equations.as_slice())?;
         let started = starts_of(alloc, &table, scope.declarations())?;
         Ok(Firsts { node, started })
     }

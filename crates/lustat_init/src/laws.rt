@@ -1,6 +1,6 @@
 //! What the least classes decide, as contracts of functions that do nothing.
 
-ghost use Rattle.lustat_init.specs.Judged.{LeastTellsLaw};
+ghost use Rattle.lustat_init.specs.Judged.{LeastReportsLaw};
 ghost use Rattle.lustat_init.specs.Rows.{LeftsLaw};
 ghost use Rattle.lustat_init.specs.Sources.{SourcesLaw};
 
@@ -10,8 +10,8 @@ pub fn sources_law()
 {}
 
 /// With the least classes, a node has classes exactly where all its equations keep the rules.
-pub fn least_tells_law()
-    ensures { LeastTellsLaw }
+pub fn least_reports_law()
+    ensures { LeastReportsLaw }
 {}
 
 /// A program that keeps the rules of names has in each node only equations of declared variables.

@@ -6,14 +6,14 @@ ghost use Rattle.lutree.specs.Tree.{node_view, program_view};
 ghost use Rattle.lustat_rules.specs.Accepted.{Passes};
 ghost use Rattle.lustat_rules.specs.Faults.{IsJudged};
 ghost use Rattle.lustat_init.specs.Assigned.{LeftsKnown};
-ghost use Rattle.lustat_init.specs.Faults.{EquationKept, EquationFault, AreKept, IsFault, TellsBroken};
+ghost use Rattle.lustat_init.specs.Faults.{EquationKept, EquationFault, AreKept, IsFault, ReportsBroken};
 ghost use Rattle.lustat_init.specs.Served.{Serves, AreLeast};
 ghost use Rattle.lustat_init.specs.Rows.{plain, GiveLeastBelow, AreClasses, IfKept, IfBroken, fault_of};
 
 use crate::Firsts;
 use crate::judge::{clocks_named, keeps_classes};
 use crate::least::least_classes;
-use lustat_rules::{Catalog, Places, Scope, Stage, StatError, least_fault, lesser, told};
+use lustat_rules::{Catalog, Places, Scope, Stage, StatError, least_fault, lesser, reported};
 use lutree::{Declaration, DeclaredName, Equation, TypeDeclaration};
 use std::alloc::{AllocError, Global};
 
@@ -126,8 +126,8 @@ impl<'r, 'a> Stage<'a> for ClassStage<'r, 'a> {
         let byte = equation.byte;
         let keeps = keeps_classes(scope, prepared.marks, &prepared.named, equation);
         let starts = prepared.firsts.currents_start(scope, equation);
-        let nil = told(keeps, StatError::MaybeNil { byte });
-        let current = told(starts, StatError::CurrentMayBeNil { byte });
+        let nil = reported(keeps, StatError::MaybeNil { byte });
+        let current = reported(starts, StatError::CurrentMayBeNil { byte });
         lesser(nil, current)
     }
 }
@@ -173,7 +173,7 @@ pub fn initialise(alloc: Global, catalog: &Catalog) -> Result<Initialised, Alloc
     ensures passes { IfOk result (λ found. IfKept found
         (λ _. (main : List ℕ) → Passes (program_view catalog.now) main 3)) }
     ensures broken { IfOk result (λ found. IfBroken found
-        (λ e. (main : List ℕ) → TellsBroken (program_view catalog.now) main e)) }
+        (λ e. (main : List ℕ) → ReportsBroken (program_view catalog.now) main e)) }
     ensures first { IfOk result (λ found. IsJudged (IsFault catalog.now.nodes)
         (AreKept catalog.now.nodes) (fault_of found)) }
 {

@@ -41,17 +41,17 @@ place_in (Enum place size) = suc place
 place_in kind = 0
 
 -- one more than the place of an enumeration, and 0 of any other type
-abbrev pub place_told : Option Kind → ℕ
-place_told None = 0
-place_told (Some kind) = place_in kind
+abbrev pub place_reported : Option Kind → ℕ
+place_reported None = 0
+place_reported (Some kind) = place_in kind
 
 abbrev number_in : Pattern → ℕ
 number_in (patterns.Truth b) = 0
 number_in (patterns.Label l) = l.number
 
-abbrev pub number_told : Option Clock → ℕ
-number_told (Some (Some c)) = number_in c.pattern
-number_told o = 0
+abbrev pub number_reported : Option Clock → ℕ
+number_reported (Some (Some c)) = number_in c.pattern
+number_reported o = 0
 
 abbrev pub first_sign : List Pattern → Bool
 first_sign (patterns.Truth b ∷ ps) = b

@@ -6,7 +6,7 @@ use Rattle.std.proofs.lemmas.Bool.Decides.{nat_tests}
 use Rattle.std.proofs.lemmas.Option.{slice_get_within}
 use Rattle.lustat_rules.specs.Accepted.{Rule}
 use Rattle.lustat_rules.specs.declared.error.StatError.{StatError}
-use Rattle.lustat_rules.specs.Told.{rule_of, byte_of, number_of, number_told}
+use Rattle.lustat_rules.specs.Reported.{rule_of, byte_of, number_of, number_reported}
 use Rattle.lustat_rules.specs.Faults.{is_before, lesser_of, IsAtMost, IsJudged, FaultAmong, KeptAmong}
 
 -- WHAT IS TOLD FIRST
@@ -47,7 +47,7 @@ pub judged_rule : (rule : Rule) (byte : ℕ) (Kept : Type 0) (b : Bool) (e : Sta
     → IsJudged (RuleFault rule byte Kept) Kept (if b then None else Some e)
 judged_rule rule byte Kept true e r at same = (same.0 refl, λ f h. h.2 (same.0 refl))
 judged_rule rule byte Kept false e r at same =
-    ((r, at, λ k. true≢false (sym (same.1 k))), λ f h. inr (at ∙ sym h.1, (let n : number_of e ≡ number_of f = ap number_told (r ∙ sym h.0) in omega (arith, n))))
+    ((r, at, λ k. true≢false (sym (same.1 k))), λ f h. inr (at ∙ sym h.1, (let n : number_of e ≡ number_of f = ap number_reported (r ∙ sym h.0) in omega (arith, n))))
 
 judged_two : (S T : StatError → Type 0) (P Q : Type 0) (e f : StatError) (b : Bool) → is_before f e ≡ b
     → IsJudged S P (Some e) → IsJudged T Q (Some f) → IsJudged (λ g. S g ⊎ T g) (P × Q) (if b then Some f else Some e)
@@ -130,9 +130,9 @@ judged_all xs F Q k best end before =
     before
 
 -- the same of what was reported
-pub judged_told : (rule : Rule) (byte : ℕ) (Kept : Type 0) (b : Bool) (e : StatError) (o : Option StatError) → o ≡ (if b then None else Some e) → rule_of e ≡ Some rule → byte_of e ≡ byte → (IsTrue b ↔ Kept)
+pub judged_reported : (rule : Rule) (byte : ℕ) (Kept : Type 0) (b : Bool) (e : StatError) (o : Option StatError) → o ≡ (if b then None else Some e) → rule_of e ≡ Some rule → byte_of e ≡ byte → (IsTrue b ↔ Kept)
     → IsJudged (RuleFault rule byte Kept) Kept o
-judged_told rule byte Kept b e o is r at same = subst (IsJudged (RuleFault rule byte Kept) Kept) (sym is) (judged_rule rule byte Kept b e r at same)
+judged_reported rule byte Kept b e o is r at same = subst (IsJudged (RuleFault rule byte Kept) Kept) (sym is) (judged_rule rule byte Kept b e r at same)
 
 -- one place more, in a loop
 pub judged_step : {A : Type 0} (xs : List A) (F : ℕ → A → StatError → Type 0) (Q : ℕ → A → Type 0) (k : ℕ) (x : A) (best o r : Option StatError)

@@ -11,7 +11,7 @@ use Rattle.lutree.specs.Tree.{TypeTree, DeclarationTree, EquationTree, NodeTree,
 use Rattle.lustat_rules.specs.Scope.{declarations_of}
 use Rattle.lustat_rules.specs.Accepted.{Rule, TypeKeeps, NameKeeps, NodeKeeps, DeclarationKeeps, EquationKeeps, Breaks}
 use Rattle.lustat_rules.specs.declared.error.StatError.{StatError}
-use Rattle.lustat_rules.specs.Told.{rule_of}
+use Rattle.lustat_rules.specs.Reported.{rule_of}
 use Rattle.lustat_rules.specs.Faults.{declared_in, lesser_of, IsJudged, FaultAmong, KeptAmong, ProgramKept, ProgramFault, TypeKept, TypeFault, NameKept, NameFault, AllOfTypeKept, InTypeFault, NodeKept, NodeFault, DeclarationKept, DeclarationFault, EquationKept, EquationFault, AllOfNodeKept, InNodeFault, IsFault, AreKept}
 use Rattle.lustat_rules.proofs.Judging.{judged_joined, judged_same}
 use Rattle.lustat_rules.specs.Stages.{BrokenInType, KeptInType, BrokenInside, KeptInside, BrokenIn, KeptIn}
@@ -69,34 +69,34 @@ kept_everywhere asked p main whole types nodes rule one =
 -- a rule that a refusal reports, of those that were asked for, is broken
 pub record IsBroken (asked : Rule → Bool) (p : Program) (main : List ℕ) (e : StatError) : Type 0 where
   pub rule : Rule
-  pub told : rule_of e ≡ Some rule
+  pub reported : rule_of e ≡ Some rule
   pub one : IsTrue (asked rule)
   pub broken : Breaks (program_view p) main rule
 
 -- a fault in memory breaks its rule
 pub broken_somewhere : (asked : Rule → Bool) (p : Program) (main : List ℕ) (e : StatError) → IsFault asked p main e → IsBroken asked p main e
-broken_somewhere asked p main e (inl f) = record { rule = f.rule; told = f.told; one = f.one; broken = Breaks.program f.broken }
+broken_somewhere asked p main e (inl f) = record { rule = f.rule; reported = f.reported; one = f.one; broken = Breaks.program f.broken }
 broken_somewhere asked p main e (inr (inl h)) = in_type h.0 h.1 h.2 h.3
   where
     in_type : (i : ℕ) (t : TypeDeclaration) → slice_get p.types i ≡ Some t → InTypeFault asked p main i t e → IsBroken asked p main e
-    in_type i t at (inl f) = record { rule = f.rule; told = f.told; one = f.one; broken = Breaks.enumeration i (type_view t) (item_view type_view p.types i t at) f.broken }
+    in_type i t at (inl f) = record { rule = f.rule; reported = f.reported; one = f.one; broken = Breaks.enumeration i (type_view t) (item_view type_view p.types i t at) f.broken }
     in_type i t at (inr g) =
         let f = g.3 in
         record {
           rule = f.rule;
-          told = f.told;
+          reported = f.reported;
           one = f.one;
           broken = Breaks.name i g.0 (type_view t) g.1.name (item_view type_view p.types i t at) (item_view (λ (y : DeclaredName). y.name) t.names g.0 g.1 g.2) f.broken;
         }
 broken_somewhere asked p main e (inr (inr h)) = inside h.0 h.1 h.2 h.3
   where
     inside : (i : ℕ) (n : Node) → slice_get p.nodes i ≡ Some n → InNodeFault asked p main i n e → IsBroken asked p main e
-    inside i n at (inl f) = record { rule = f.rule; told = f.told; one = f.one; broken = Breaks.node i (node_view n) (item_view node_view p.nodes i n at) f.broken }
+    inside i n at (inl f) = record { rule = f.rule; reported = f.reported; one = f.one; broken = Breaks.node i (node_view n) (item_view node_view p.nodes i n at) f.broken }
     inside i n at (inr (inl g)) =
         let f = g.3 in
         record {
           rule = f.rule;
-          told = f.told;
+          reported = f.reported;
           one = f.one;
           broken = Breaks.declaration i g.0 (node_view n) (declaration_view g.1) (item_view node_view p.nodes i n at)
               (sym (ap (λ l. slice_get l g.0) (view_of_declared n)) ∙ item_view declaration_view (declared_in n) g.0 g.1 g.2) f.broken;
@@ -105,25 +105,25 @@ broken_somewhere asked p main e (inr (inr h)) = inside h.0 h.1 h.2 h.3
         let f = g.3 in
         record {
           rule = f.rule;
-          told = f.told;
+          reported = f.reported;
           one = f.one;
           broken = Breaks.equation i g.0 (node_view n) (equation_view g.1) (item_view node_view p.nodes i n at) (item_view equation_view n.equations g.0 g.1 g.2) f.broken;
         }
 
 -- from the types, the nodes and the program as a whole to all of the program
-pub judged_program : (asked : Rule → Bool) (p : Program) (main : List ℕ) (whole found told : Option StatError) → told ≡ lesser_of whole found
+pub judged_program : (asked : Rule → Bool) (p : Program) (main : List ℕ) (whole found reported : Option StatError) → reported ≡ lesser_of whole found
     → IsJudged (ProgramFault asked p main) (ProgramKept asked p main) whole
     → IsJudged (BrokenIn p (BrokenInType (TypeFault asked p main) (NameFault asked p main)) (BrokenInside (NodeFault asked p main) (DeclarationFault asked p main) (EquationFault asked p main)))
     (KeptIn p (KeptInType (TypeKept asked p main) (NameKept asked p main)) (KeptInside (NodeKept asked p main) (DeclarationKept asked p main) (EquationKept asked p main))) found
-    → IsJudged (IsFault asked p main) (AreKept asked p main) told
-judged_program asked p main whole found told is of_program of_places =
+    → IsJudged (IsFault asked p main) (AreKept asked p main) reported
+judged_program asked p main whole found reported is of_program of_places =
     let S : StatError → Type 0 = ProgramFault asked p main in
     let T : StatError → Type 0 = λ e. FaultAmong p.types (InTypeFault asked p main) e ⊎ FaultAmong p.nodes (InNodeFault asked p main) e in
     let P : Type 0 = ProgramKept asked p main in
     let Q : Type 0 = KeptIn p (KeptInType (TypeKept asked p main) (NameKept asked p main)) (KeptInside (NodeKept asked p main) (DeclarationKept asked p main) (EquationKept asked p main)) in
-    judged_same (λ e. S e ⊎ T e) (IsFault asked p main) (P × Q) (AreKept asked p main) told
+    judged_same (λ e. S e ⊎ T e) (IsFault asked p main) (P × Q) (AreKept asked p main) reported
     (λ e h. h) (λ e h. h)
     (λ h.
     kept_everywhere asked p main h.0 (λ i t at. let k = h.1.0 i t at in record { own = k.0; names = k.1 })
     (λ i n at. let k = h.1.1 i n at in record { node = k.0; declarations = k.1.0; equations = k.1.1 }))
-    (judged_joined S T P Q whole found told is of_program of_places)
+    (judged_joined S T P Q whole found reported is of_program of_places)

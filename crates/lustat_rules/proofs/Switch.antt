@@ -9,7 +9,7 @@ use Rattle.lutree.specs.Tree.{TypeTree, EquationTree}
 use Rattle.lustat_rules.specs.Scope.{declarations_of, names_of, labels_of, IsVariable, IsInput}
 use Rattle.lustat_rules.specs.Naming.{LabelKnown, PatternKnown}
 use Rattle.lustat_rules.specs.Typing.{IsNumbered, AreNames}
-use Rattle.lustat_rules.specs.Clocks.{on, base, HasClock, IsTypedClock, NamesClocks, Ends, FitsInside}
+use Rattle.lustat_rules.specs.Clocks.{on, base, HasClock, IsTypedClock, NamesClocks, Ends, FitsClockInside}
 use Rattle.lustat_rules.specs.Parts as part
 use Rattle.lustat_rules.specs.Classes.{Classes, IsRaised, NeedsMet, IsHeld, SamplersAreZero, HasClasses}
 use Rattle.lustat_rules.specs.Accepted.{Rule, IsAccepted}
@@ -41,7 +41,7 @@ off_known = (mode, (refl, refl), refl)
 pub names_clocks : NamesClocks switch (part.merge (codes "m") three 3)
 names_clocks = (tt, All-from_recursion (λ p. IsTypedClock switch (record { variable = codes "m"; pattern = p })) three (refl, (refl, (refl, tt))))
 
-pub whole_fits : FitsInside switch whole base
+pub whole_fits : FitsClockInside switch whole base
 whole_fits = (refl, ((refl, (base, refl, refl)), (refl, (tt, tt))))
 
 -- no variable of the node has the name of a name

@@ -2,9 +2,12 @@
 use Rattle.std.specs.Prelude.{◌≡◌, ◌<◌, ◌/◌, ℕ, List, Some, slice_get}
 use Rattle.lutree.specs.Tree.{TypeTree, DeclarationTree, EquationTree, NodeTree, ProgramTree}
 use Rattle.lustat_rules.specs.Scope.{declarations_of}
-use Rattle.lustat_rules.specs.Naming.{IsNewType, IsNewLabel, IsNewNode, IsNewVariable, NamesKnown, DeclarationKnown, CallsKnown, AritiesRight, IsDefined, DefinesAnew, IsNotRecursive, HasMain}
+use Rattle.lustat_rules.specs.Naming.{IsNewType, IsNewLabel, IsNewNode, IsNewVariable, NamesKnown}
+use Rattle.lustat_rules.specs.Naming.{DeclarationKnown, CallsKnown, AritiesRight, IsDefined, DefinesAnew}
+use Rattle.lustat_rules.specs.Naming.{IsNotRecursive, HasMain}
 use Rattle.lustat_rules.specs.Typing.{MergesWhole, IsTyped}
-use Rattle.lustat_rules.specs.Clocks.{ClocksAgree, IsClock, ClocksAreTyped, IsUnclocked, CallsAreUnclocked, IsVisible}
+use Rattle.lustat_rules.specs.Clocks.{ClocksAgree, IsClock, ClocksAreTyped, IsUnclocked, CallsAreUnclocked}
+use Rattle.lustat_rules.specs.Clocks.{IsVisible}
 use Rattle.lustat_rules.specs.Classes.{HasClasses, CurrentsStart}
 
 -- the rules by the names of their refusals
@@ -101,19 +104,25 @@ module _ (p : ProgramTree) (main : List ℕ) where
   pub record Keeps (rule : Rule) : Type 0 where
     pub program : ProgramKeeps rule
     pub types : (i : ℕ) (t : TypeTree) → slice_get p.types i ≡ Some t → TypeKeeps rule i t
-    pub names : (i j : ℕ) (t : TypeTree) (x : List ℕ) → slice_get p.types i ≡ Some t → slice_get t.names j ≡ Some x → NameKeeps rule i t j x
+    pub names : (i j : ℕ) (t : TypeTree) (x : List ℕ) → slice_get p.types i ≡ Some t
+        → slice_get t.names j ≡ Some x → NameKeeps rule i t j x
     pub nodes : (i : ℕ) (n : NodeTree) → slice_get p.nodes i ≡ Some n → NodeKeeps rule i n
-    pub declarations : (i j : ℕ) (n : NodeTree) (d : DeclarationTree) → slice_get p.nodes i ≡ Some n → slice_get (declarations_of n) j ≡ Some d → DeclarationKeeps rule n j d
-    pub equations : (i j : ℕ) (n : NodeTree) (q : EquationTree) → slice_get p.nodes i ≡ Some n → slice_get n.equations j ≡ Some q → EquationKeeps rule n j q
+    pub declarations : (i j : ℕ) (n : NodeTree) (d : DeclarationTree) → slice_get p.nodes i ≡ Some n
+        → slice_get (declarations_of n) j ≡ Some d → DeclarationKeeps rule n j d
+    pub equations : (i j : ℕ) (n : NodeTree) (q : EquationTree) → slice_get p.nodes i ≡ Some n
+        → slice_get n.equations j ≡ Some q → EquationKeeps rule n j q
 
   -- the program breaks a rule somewhere
   pub data Breaks (rule : Rule) : Type 0 where
     program : (¬ ProgramKeeps rule) → Breaks rule
     enumeration : (i : ℕ) (t : TypeTree) → slice_get p.types i ≡ Some t → (¬ TypeKeeps rule i t) → Breaks rule
-    name : (i j : ℕ) (t : TypeTree) (x : List ℕ) → slice_get p.types i ≡ Some t → slice_get t.names j ≡ Some x → (¬ NameKeeps rule i t j x) → Breaks rule
+    name : (i j : ℕ) (t : TypeTree) (x : List ℕ) → slice_get p.types i ≡ Some t → slice_get t.names j ≡ Some x
+        → (¬ NameKeeps rule i t j x) → Breaks rule
     node : (i : ℕ) (n : NodeTree) → slice_get p.nodes i ≡ Some n → (¬ NodeKeeps rule i n) → Breaks rule
-    declaration : (i j : ℕ) (n : NodeTree) (d : DeclarationTree) → slice_get p.nodes i ≡ Some n → slice_get (declarations_of n) j ≡ Some d → (¬ DeclarationKeeps rule n j d) → Breaks rule
-    equation : (i j : ℕ) (n : NodeTree) (q : EquationTree) → slice_get p.nodes i ≡ Some n → slice_get n.equations j ≡ Some q → (¬ EquationKeeps rule n j q) → Breaks rule
+    declaration : (i j : ℕ) (n : NodeTree) (d : DeclarationTree) → slice_get p.nodes i ≡ Some n
+        → slice_get (declarations_of n) j ≡ Some d → (¬ DeclarationKeeps rule n j d) → Breaks rule
+    equation : (i j : ℕ) (n : NodeTree) (q : EquationTree) → slice_get p.nodes i ≡ Some n
+        → slice_get n.equations j ≡ Some q → (¬ EquationKeeps rule n j q) → Breaks rule
 
   -- all rules of a stage are kept
   abbrev pub Passes : ℕ → Type 0

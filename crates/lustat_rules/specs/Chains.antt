@@ -9,7 +9,8 @@ use Rattle.lustat_rules.specs.Naming.{IsCallOrder}
 use Rattle.lustat_rules.specs.Clocks.{on, base}
 use Rattle.lustat_rules.specs.Classes.{HasClasses}
 use Rattle.lustat_rules.specs.Accepted.{Rule, EquationKeeps, DeclarationKeeps, NodeKeeps}
-use Rattle.lustat_rules.specs.Vectors.{int_variable, bool_variable, defines, x, s, merge_on, call_one, keeps, breaks, main, delay}
+use Rattle.lustat_rules.specs.Vectors.{int_variable, bool_variable, defines, x, s, merge_on, call_one, keeps}
+use Rattle.lustat_rules.specs.Vectors.{breaks, main, delay}
 
 -- FBY
 
@@ -35,19 +36,22 @@ held =
       outputs = int_variable (codes "y") base ∷ [];
       locals = int_variable (codes "v") (on (codes "c") (patterns.Truth true)) ∷ [];
       equations =
-          defines (codes "v") (tree.when (tree.unary Pre x) (record { variable = codes "c"; pattern = patterns.Truth true }))
+          defines (codes "v") (tree.when (tree.unary Pre x)
+          (record { variable = codes "c"; pattern = patterns.Truth true }))
           ∷ defines (codes "y") (tree.current (codes "v"))
           ∷ [];
     }
 
--- node late(x: int; d: bool) returns (y: int); var c: bool; v: int when c; let c = pre d; v = x when c; y = x; tel
+-- node late(x: int; d: bool) returns (y: int); var c: bool; v: int when c; let c = pre d; v = x when c; y =
+-- x; tel
 abbrev pub late : NodeTree
 late =
     record {
       name = codes "late";
       inputs = int_variable (codes "x") base ∷ bool_variable (codes "d") base ∷ [];
       outputs = int_variable (codes "y") base ∷ [];
-      locals = bool_variable (codes "c") base ∷ int_variable (codes "v") (on (codes "c") (patterns.Truth true)) ∷ [];
+      locals = bool_variable (codes "c") base ∷ int_variable (codes "v")
+          (on (codes "c") (patterns.Truth true)) ∷ [];
       equations =
           defines (codes "c") (tree.unary Pre (tree.variable (codes "d")))
           ∷ defines (codes "v") (tree.when x (record { variable = codes "c"; pattern = patterns.Truth true }))
@@ -75,26 +79,33 @@ pub record NeededVectors : Type 0 where
   pub variable_of_current : ¬ HasClasses held
   pub clock_variable : ¬ HasClasses late
   pub variable_of_merge : ¬ HasClasses (sampled_late (merge_on (codes "c") (tree.number 0) (tree.number 1)))
-  pub variable_of_when : ¬ HasClasses (sampled_late (tree.when x (record { variable = codes "c"; pattern = patterns.Truth true })))
+  pub variable_of_when : ¬ HasClasses (sampled_late (tree.when x (record {
+    variable = codes "c";
+    pattern = patterns.Truth true;
+  })))
 
 -- CLOCKS
 
--- node main(d: bool; x: int) returns (y: int); var c: bool; v: int when not c; let c = FIRST -> d; v = x when not c; y = current v; tel
+-- node main(d: bool; x: int) returns (y: int); var c: bool; v: int when not c; let c = FIRST -> d; v = x when
+-- not c; y = current v; tel
 abbrev pub turned : Tree → NodeTree
 turned first =
     record {
       name = codes "main";
       inputs = bool_variable (codes "d") base ∷ int_variable (codes "x") base ∷ [];
       outputs = int_variable (codes "y") base ∷ [];
-      locals = bool_variable (codes "c") base ∷ int_variable (codes "v") (on (codes "c") (patterns.Truth false)) ∷ [];
+      locals = bool_variable (codes "c") base ∷ int_variable (codes "v")
+          (on (codes "c") (patterns.Truth false)) ∷ [];
       equations =
           defines (codes "c") (tree.binary Arrow first (tree.variable (codes "d")))
-          ∷ defines (codes "v") (tree.when x (record { variable = codes "c"; pattern = patterns.Truth false }))
+          ∷ defines (codes "v")
+          (tree.when x (record { variable = codes "c"; pattern = patterns.Truth false }))
           ∷ defines (codes "y") (tree.current (codes "v"))
           ∷ [];
     }
 
--- node main(b: bool; x: int) returns (c: bool when b; v: int when c; w: bool when l; y: int); var l: bool when w;
+-- node main(b: bool; x: int) returns (c: bool when b; v: int when c; w: bool when l; y: int); var l: bool
+-- when w;
 -- let c = (x < 2) when b; v = (x when b) when c; tel
 abbrev pub chained : NodeTree
 chained =
@@ -112,7 +123,8 @@ chained =
     }
 
 abbrev pub twice : Tree
-twice = tree.when (tree.when x (record { variable = codes "b"; pattern = patterns.Truth true })) (record { variable = codes "c"; pattern = patterns.Truth true })
+twice = tree.when (tree.when x (record { variable = codes "b"; pattern = patterns.Truth true }))
+    (record { variable = codes "c"; pattern = patterns.Truth true })
 
 abbrev pub keeps_chained : Rule → EquationTree → Type 0
 keeps_chained rule q = EquationKeeps (program_of (chained ∷ [])) main rule chained 0 q
@@ -121,17 +133,23 @@ abbrev pub declares : Rule → ℕ → DeclarationTree → Type 0
 declares rule i d = DeclarationKeeps (program_of (chained ∷ [])) main rule chained i d
 
 pub record ClockChainVectors : Type 0 where
-  pub false_at_first : EquationKeeps (program_of (turned (tree.truth false) ∷ [])) main Rule.current_may_be_nil (turned (tree.truth false)) 2 (defines (codes "y") (tree.current (codes "v")))
-  pub true_at_first : ¬ EquationKeeps (program_of (turned (tree.truth true) ∷ [])) main Rule.current_may_be_nil (turned (tree.truth true)) 2 (defines (codes "y") (tree.current (codes "v")))
+  pub false_at_first : EquationKeeps (program_of (turned (tree.truth false) ∷ [])) main
+      Rule.current_may_be_nil (turned (tree.truth false)) 2 (defines (codes "y") (tree.current (codes "v")))
+  pub true_at_first : ¬ EquationKeeps (program_of (turned (tree.truth true) ∷ [])) main
+      Rule.current_may_be_nil (turned (tree.truth true)) 2 (defines (codes "y") (tree.current (codes "v")))
   pub sampled_twice : keeps_chained Rule.clock_mismatch (defines (codes "v") twice)
-  pub sampled_once : ¬ keeps_chained Rule.clock_mismatch (defines (codes "v") (tree.when x (record { variable = codes "c"; pattern = patterns.Truth true })))
+  pub sampled_once : ¬ keeps_chained Rule.clock_mismatch (defines (codes "v")
+      (tree.when x (record { variable = codes "c"; pattern = patterns.Truth true })))
   pub current_of_chain : keeps_chained Rule.clock_mismatch (defines (codes "c") (tree.current (codes "v")))
   pub current_to_base : ¬ keeps_chained Rule.clock_mismatch (defines (codes "y") (tree.current (codes "v")))
   pub chain : declares Rule.not_a_clock 3 (int_variable (codes "v") (on (codes "c") (patterns.Truth true)))
   pub loop : ¬ declares Rule.not_a_clock 4 (bool_variable (codes "w") (on (codes "l") (patterns.Truth true)))
-  pub loop_of_local : ¬ declares Rule.not_a_clock 6 (bool_variable (codes "l") (on (codes "w") (patterns.Truth true)))
-  pub clock_is_an_output : declares Rule.hidden_clock 3 (int_variable (codes "v") (on (codes "c") (patterns.Truth true)))
-  pub clock_is_a_local : ¬ declares Rule.hidden_clock 4 (bool_variable (codes "w") (on (codes "l") (patterns.Truth true)))
+  pub loop_of_local : ¬ declares Rule.not_a_clock 6 (bool_variable (codes "l")
+      (on (codes "w") (patterns.Truth true)))
+  pub clock_is_an_output : declares Rule.hidden_clock 3 (int_variable (codes "v")
+      (on (codes "c") (patterns.Truth true)))
+  pub clock_is_a_local : ¬ declares Rule.hidden_clock 4 (bool_variable (codes "w")
+      (on (codes "l") (patterns.Truth true)))
 
 -- CALLS
 
@@ -148,7 +166,8 @@ calling f g =
 
 -- two nodes that call each other, and one that calls the first of them
 abbrev pub round : ProgramTree
-round = program_of (calling (codes "f") (codes "g") ∷ calling (codes "g") (codes "f") ∷ calling (codes "h") (codes "f") ∷ [])
+round = program_of (calling (codes "f") (codes "g") ∷ calling (codes "g") (codes "f") ∷ calling (codes "h")
+    (codes "f") ∷ [])
 
 -- a node that calls the next, and that calls the last
 abbrev pub straight : ProgramTree

@@ -10,9 +10,11 @@ use Rattle.lutree.specs.declared.expr.Pattern.TheVariants as patterns
 use Rattle.lutree.specs.Tree.{Tree, EquationTree, NodeTree, program_of}
 use Rattle.lutree.specs.Tree as tree
 use Rattle.lustat_rules.specs.Clocks.{on, base, clocks_in}
-use Rattle.lustat_rules.specs.Classes.{Classes, is_one, NeedsMet, IsRaised, SamplersAreZero, HasClasses, currents_in}
+use Rattle.lustat_rules.specs.Classes.{Classes, is_one, NeedsMet, IsRaised, SamplersAreZero, HasClasses}
+use Rattle.lustat_rules.specs.Classes.{currents_in}
 use Rattle.lustat_rules.specs.Accepted.{Rule, EquationKeeps}
-use Rattle.lustat_rules.specs.Vectors.{int_variable, bool_variable, defines, x, c, plus, merge_on, call_one, main, delay}
+use Rattle.lustat_rules.specs.Vectors.{int_variable, bool_variable, defines, x, c, plus, merge_on, call_one}
+use Rattle.lustat_rules.specs.Vectors.{main, delay}
 
 -- SPELLING
 
@@ -244,7 +246,8 @@ holding sign right =
       name = main;
       inputs = bool_variable (codes "d") base ∷ int_variable (codes "x") base ∷ [];
       outputs = int_variable (codes "y") base ∷ [];
-      locals = bool_variable (codes "c") base ∷ int_variable (codes "v") (on (codes "c") (patterns.Truth sign)) ∷ [];
+      locals = bool_variable (codes "c") base ∷ int_variable (codes "v")
+          (on (codes "c") (patterns.Truth sign)) ∷ [];
       equations =
           defines (codes "c") right
           ∷ defines (codes "v") (tree.when x (record { variable = codes "c"; pattern = patterns.Truth sign }))

@@ -1,6 +1,8 @@
--- The rules of initialisation: what of class 0 is never nil; what is of class 1 is nil at most at the first instant
+-- The rules of initialisation: what of class 0 is never nil; what is of class 1 is nil at most at the first
+-- instant
 -- of its clock.
-use Rattle.std.specs.Prelude.{◌≡◌, ℕ, Bool, true, false, ◌||◌, List, [], ◌∷◌, ◌++◌, Some, IsTrue, IsFalse, IfSome, All, Contains}
+use Rattle.std.specs.Prelude.{◌≡◌, ℕ, Bool, true, false, ◌||◌, List, [], ◌∷◌, ◌++◌, Some, IsTrue, IsFalse}
+use Rattle.std.specs.Prelude.{IfSome, All, Contains}
 use Rattle.lutree.specs.declared.expr.Pattern.{Pattern}
 use Rattle.lutree.specs.declared.expr.Condition.{Condition}
 use Rattle.lutree.specs.declared.expr.Prefix.TheVariants.{Data as Data1, Pre}
@@ -36,7 +38,8 @@ is_one a (tree.call f all) = false
 abbrev pub IsZero : Classes → Tree → Type 0
 IsZero a e = IsFalse (is_one a e)
 
--- what an expression needs in class 0 is there: what stands after `pre`, on the right of `fby` and in a branch of `merge`,
+-- what an expression needs in class 0 is there: what stands after `pre`, on the right of `fby` and in a
+-- branch of `merge`,
 -- the variable after `current`, and the arguments of calls
 abbrev mutual
   pub NeedsMet : Classes → Tree → Type 0
@@ -116,14 +119,16 @@ abbrev mutual
   currents_in_all tree.none = []
   currents_in_all (tree.more a all) = currents_in a ++ currents_in_all all
 
--- what begins with the constant of a pattern: `true -> e` or `true fby e`; likewise for `false` and for a name of an enumeration
+-- what begins with the constant of a pattern: `true -> e` or `true fby e`; likewise for `false` and for a
+-- name of an enumeration
 pub data StartsWith (pattern : Pattern) : Tree → Type 0 where
   arrow : (e : Tree) → StartsWith pattern (tree.binary Arrow (tree.constant_of pattern) e)
   followed : (e : Tree) → StartsWith pattern (tree.binary FollowedBy (tree.constant_of pattern) e)
 
 -- a clock is true at the first instant of its own clock, by the form of its variable's equation
 abbrev pub IsTrueAtFirst : NodeTree → Condition → Type 0
-IsTrueAtFirst n c = (q : EquationTree) × Contains n.equations q × (q.left ≡ c.variable ∷ []) × StartsWith c.pattern q.right
+IsTrueAtFirst n c = (q : EquationTree) × Contains n.equations q × (q.left ≡ c.variable ∷ [])
+    × StartsWith c.pattern q.right
 
 -- the clock of a variable is true at first, if it has one
 abbrev pub ClockIsTrueAtFirst : NodeTree → List ℕ → Type 0

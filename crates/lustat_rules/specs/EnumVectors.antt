@@ -12,7 +12,8 @@ use Rattle.lutree.specs.Tree as tree
 use Rattle.lustat_rules.specs.Scope.{Clock}
 use Rattle.lustat_rules.specs.Typing.{type_of}
 use Rattle.lustat_rules.specs.Clocks.{on, base}
-use Rattle.lustat_rules.specs.Accepted.{Rule, TypeKeeps, NameKeeps, DeclarationKeeps, EquationKeeps, IsAccepted, IsRefused}
+use Rattle.lustat_rules.specs.Accepted.{Rule, TypeKeeps, NameKeeps, DeclarationKeeps, EquationKeeps}
+use Rattle.lustat_rules.specs.Accepted.{IsAccepted, IsRefused}
 use Rattle.lustat_rules.specs.Vectors.{int_variable, defines, x, merge_on, main, keeps, breaks}
 
 -- SPELLING
@@ -87,8 +88,10 @@ abbrev pub switch : NodeTree
 switch =
     record {
       name = main;
-      inputs = typed_variable (codes "m") of_mode (codes "mode") base ∷ typed_variable (codes "k") of_side (codes "side") base ∷ int_variable (codes "x") base ∷ [];
-      outputs = int_variable (codes "y") base ∷ int_variable (codes "z") (on (codes "m") (patterns.Label down)) ∷ [];
+      inputs = typed_variable (codes "m") of_mode (codes "mode") base ∷ typed_variable (codes "k") of_side
+          (codes "side") base ∷ int_variable (codes "x") base ∷ [];
+      outputs = int_variable (codes "y") base ∷ int_variable (codes "z")
+          (on (codes "m") (patterns.Label down)) ∷ [];
       locals = [];
       equations = defines (codes "z") (x_on down (codes "m")) ∷ defines (codes "y") whole ∷ [];
     }
@@ -96,7 +99,8 @@ switch =
 abbrev pub switched : ProgramTree
 switched = record { types = mode ∷ side ∷ []; nodes = switch ∷ [] }
 
--- node main(m: mode; x: int) returns (y: int); let y = merge m (Up -> x when Up(m)) (Down -> x when Down(m)); tel
+-- node main(m: mode; x: int) returns (y: int); let y = merge m (Up -> x when Up(m)) (Down -> x when Down(m));
+-- tel
 abbrev pub halved : NodeTree
 halved =
     record {
@@ -104,17 +108,20 @@ halved =
       inputs = typed_variable (codes "m") of_mode (codes "mode") base ∷ int_variable (codes "x") base ∷ [];
       outputs = int_variable (codes "y") base ∷ [];
       locals = [];
-      equations = defines (codes "y") (tree.merge (codes "m") (patterns_of (up ∷ down ∷ [])) (tree.more (x_on up (codes "m")) (tree.more (x_on down (codes "m")) tree.none))) ∷ [];
+      equations = defines (codes "y") (tree.merge (codes "m") (patterns_of (up ∷ down ∷ []))
+          (tree.more (x_on up (codes "m")) (tree.more (x_on down (codes "m")) tree.none))) ∷ [];
     }
 
--- node main(m: mode; x: int) returns (y: int); var n: mode; v: int when Up(n); let n = RIGHT; v = x when Up(n); y = current v; tel
+-- node main(m: mode; x: int) returns (y: int); var n: mode; v: int when Up(n); let n = RIGHT; v = x when
+-- Up(n); y = current v; tel
 abbrev pub rising : Tree → NodeTree
 rising right =
     record {
       name = main;
       inputs = typed_variable (codes "m") of_mode (codes "mode") base ∷ int_variable (codes "x") base ∷ [];
       outputs = int_variable (codes "y") base ∷ [];
-      locals = typed_variable (codes "n") of_mode (codes "mode") base ∷ int_variable (codes "v") (on (codes "n") (patterns.Label up)) ∷ [];
+      locals = typed_variable (codes "n") of_mode (codes "mode") base ∷ int_variable (codes "v")
+          (on (codes "n") (patterns.Label up)) ∷ [];
       equations =
           defines (codes "n") right
           ∷ defines (codes "v") (x_on up (codes "n"))
@@ -170,20 +177,28 @@ switch_declares r i d = DeclarationKeeps switched main r switch i d
 
 pub record EnumNamesAre : Type 0 where
   -- type mode = ..; type mode = ..;
-  pub two_types : ¬ TypeKeeps (record { types = mode ∷ mode ∷ []; nodes = [] }) main Rule.duplicate_name 1 mode
+  pub two_types : ¬ TypeKeeps (record { types = mode ∷ mode ∷ []; nodes = [] }) main Rule.duplicate_name 1
+      mode
   pub one_type : TypeKeeps switched main Rule.duplicate_name 1 side
-  pub twice_in_a_type : ¬ NameKeeps (record { types = repeated ∷ []; nodes = [] }) main Rule.duplicate_name 0 repeated 1 (codes "Up")
-  pub in_two_types : ¬ NameKeeps (record { types = mode ∷ shared ∷ []; nodes = [] }) main Rule.duplicate_name 1 shared 1 (codes "Off")
+  pub twice_in_a_type : ¬ NameKeeps (record { types = repeated ∷ []; nodes = [] }) main Rule.duplicate_name 0
+      repeated 1 (codes "Up")
+  pub in_two_types : ¬ NameKeeps (record { types = mode ∷ shared ∷ []; nodes = [] }) main Rule.duplicate_name
+      1 shared 1 (codes "Off")
   pub once : NameKeeps switched main Rule.duplicate_name 1 side 0 (codes "Left")
   pub variable_of_a_name : ¬ switch_declares Rule.duplicate_name 2 (int_variable (codes "Off") base)
   -- type names and variables are apart
   pub variable_of_a_type : switch_declares Rule.duplicate_name 0 (int_variable (codes "mode") base)
-  pub unknown_type : ¬ switch_declares Rule.unknown_name 0 (typed_variable (codes "m") (Enum 0 0) (codes "lost") base)
-  pub other_type : ¬ switch_declares Rule.unknown_name 0 (typed_variable (codes "m") of_side (codes "mode") base)
-  pub known_type : switch_declares Rule.unknown_name 1 (typed_variable (codes "k") of_side (codes "side") base)
+  pub unknown_type : ¬ switch_declares Rule.unknown_name 0 (typed_variable (codes "m") (Enum 0 0)
+      (codes "lost") base)
+  pub other_type : ¬ switch_declares Rule.unknown_name 0 (typed_variable (codes "m") of_side
+      (codes "mode") base)
+  pub known_type : switch_declares Rule.unknown_name 1 (typed_variable (codes "k") of_side
+      (codes "side") base)
   pub unwritten_type : ¬ switch_declares Rule.unknown_name 0 (tree.declared (codes "m") of_mode base)
-  pub unknown_in_clock : ¬ switch_declares Rule.unknown_name 4 (int_variable (codes "z") (on (codes "m") (patterns.Label lost)))
-  pub known_in_clock : switch_declares Rule.unknown_name 4 (int_variable (codes "z") (on (codes "m") (patterns.Label down)))
+  pub unknown_in_clock : ¬ switch_declares Rule.unknown_name 4 (int_variable (codes "z")
+      (on (codes "m") (patterns.Label lost)))
+  pub known_in_clock : switch_declares Rule.unknown_name 4 (int_variable (codes "z")
+      (on (codes "m") (patterns.Label down)))
   pub unknown_constant : switch_breaks Rule.unknown_name (tree.label lost)
   pub known_constant : switch_keeps Rule.unknown_name (equals m (tree.label left))
   pub unknown_after_when : switch_breaks Rule.unknown_name (x_on lost (codes "m"))
@@ -204,10 +219,14 @@ pub record EnumMergesAre : Type 0 where
   pub truths : switch_breaks Rule.bad_merge (merge_on (codes "m") x x)
   pub more_branches : switch_breaks Rule.bad_merge (merge_three (patterns_of (up ∷ down ∷ [])) x x x)
   -- inside another expression
-  pub inside : switch_breaks Rule.bad_merge (tree.binary Arrow x (merge_one (codes "m") (patterns.Label up) x))
+  pub inside : switch_breaks Rule.bad_merge (tree.binary Arrow x (merge_one (codes "m")
+      (patterns.Label up) x))
   -- on a bool: true and false alone, and names are a matter of clocks; so is a merge on an int
-  pub truths_turned : breaks Rule.bad_merge (defines (codes "y") (tree.merge (codes "c") (patterns.Truth false ∷ patterns.Truth true ∷ []) (tree.more x (tree.more x tree.none))))
-  pub names_on_a_bool : keeps Rule.bad_merge (defines (codes "y") (merge_one (codes "c") (patterns.Label up) x))
+  pub truths_turned : breaks Rule.bad_merge (defines (codes "y")
+      (tree.merge (codes "c") (patterns.Truth false ∷ patterns.Truth true ∷ [])
+      (tree.more x (tree.more x tree.none))))
+  pub names_on_a_bool : keeps Rule.bad_merge (defines (codes "y")
+      (merge_one (codes "c") (patterns.Label up) x))
   pub names_on_an_int : switch_keeps Rule.bad_merge (merge_one (codes "x") (patterns.Label up) x)
   -- types aren't checked of a merge that isn't whole
   pub unjudged : switch_keeps Rule.type_mismatch (merge_one (codes "m") (patterns.Label up) m)
@@ -218,24 +237,34 @@ pub record EnumClocksAre : Type 0 where
   pub clock : switch_keeps Rule.not_a_clock (x_on down (codes "m"))
   pub clock_of_another_type : switch_breaks Rule.not_a_clock (x_on down (codes "k"))
   pub clock_of_an_int : switch_breaks Rule.not_a_clock (x_on down (codes "x"))
-  pub no_bool : switch_breaks Rule.not_a_clock (tree.when x (record { variable = codes "m"; pattern = patterns.Truth true }))
+  pub no_bool : switch_breaks Rule.not_a_clock (tree.when x (record {
+    variable = codes "m";
+    pattern = patterns.Truth true;
+  }))
   pub merge : switch_keeps Rule.not_a_clock whole
   pub merge_of_an_int : switch_breaks Rule.not_a_clock (merge_one (codes "x") (patterns.Label up) x)
-  pub merge_of_a_bool_by_names : breaks Rule.not_a_clock (defines (codes "y") (merge_one (codes "c") (patterns.Label up) x))
-  pub declared_clock : switch_declares Rule.not_a_clock 4 (int_variable (codes "z") (on (codes "m") (patterns.Label down)))
-  pub declared_of_another_type : ¬ switch_declares Rule.not_a_clock 4 (int_variable (codes "z") (on (codes "k") (patterns.Label down)))
-  pub declared_no_bool : ¬ switch_declares Rule.not_a_clock 4 (int_variable (codes "z") (on (codes "m") (patterns.Truth true)))
+  pub merge_of_a_bool_by_names : breaks Rule.not_a_clock (defines (codes "y")
+      (merge_one (codes "c") (patterns.Label up) x))
+  pub declared_clock : switch_declares Rule.not_a_clock 4 (int_variable (codes "z")
+      (on (codes "m") (patterns.Label down)))
+  pub declared_of_another_type : ¬ switch_declares Rule.not_a_clock 4 (int_variable (codes "z")
+      (on (codes "k") (patterns.Label down)))
+  pub declared_no_bool : ¬ switch_declares Rule.not_a_clock 4 (int_variable (codes "z")
+      (on (codes "m") (patterns.Truth true)))
   -- y = whole, and y = merge m (Up -> x when Down(m)) (Down -> z) (Off -> 0)
   pub fits : switch_keeps Rule.clock_mismatch whole
-  pub other_name : switch_breaks Rule.clock_mismatch (merge_three (patterns_of (up ∷ down ∷ off ∷ [])) (x_on down (codes "m")) z (tree.number 0))
-  pub sum_of_two_names : ¬ EquationKeeps switched main Rule.clock_mismatch switch 0 (defines (codes "z") (tree.binary (Data2 Add) z (x_on up (codes "m"))))
+  pub other_name : switch_breaks Rule.clock_mismatch (merge_three (patterns_of (up ∷ down ∷ off ∷ []))
+      (x_on down (codes "m")) z (tree.number 0))
+  pub sum_of_two_names : ¬ EquationKeeps switched main Rule.clock_mismatch switch 0 (defines (codes "z")
+      (tree.binary (Data2 Add) z (x_on up (codes "m"))))
 
 -- CURRENT
 
 abbrev pub rises : Tree → Type 0
 rises right =
     let n = rising right in
-    EquationKeeps (record { types = mode ∷ []; nodes = n ∷ [] }) main Rule.current_may_be_nil n 2 (defines (codes "y") (tree.current (codes "v")))
+    EquationKeeps (record { types = mode ∷ []; nodes = n ∷ [] }) main Rule.current_may_be_nil n 2
+    (defines (codes "y") (tree.current (codes "v")))
 
 pub record EnumBeginningsAre : Type 0 where
   pub name_arrow : rises (tree.binary Arrow (tree.label up) m)

@@ -1,5 +1,6 @@
 -- The faults of a program with their places in the text, and the least of them.
-use Rattle.std.specs.Prelude.{◌≡◌, ◌<◌, ◌≤◌, ◌⊎◌, ℕ, Bool, ◌&&◌, ◌||◌, nat_eq, nat_lt, if◌then◌else◌, List, ◌++◌, Option, Some, None, IsTrue, slice_get}
+use Rattle.std.specs.Prelude.{◌≡◌, ◌<◌, ◌≤◌, ◌⊎◌, ℕ, Bool, ◌&&◌, ◌||◌, nat_eq, nat_lt, if◌then◌else◌, List}
+use Rattle.std.specs.Prelude.{◌++◌, Option, Some, None, IsTrue, slice_get}
 use Rattle.lutree.specs.declared.program.DeclaredName.{DeclaredName}
 use Rattle.lutree.specs.declared.program.TypeDeclaration.{TypeDeclaration}
 use Rattle.lutree.specs.declared.program.Declaration.{Declaration}
@@ -7,9 +8,10 @@ use Rattle.lutree.specs.declared.program.Equation.{Equation}
 use Rattle.lutree.specs.declared.program.Node.{Node}
 use Rattle.lutree.specs.declared.program.Program.{Program}
 use Rattle.lutree.specs.Tree.{type_view, declaration_view, equation_view, node_view, program_view}
-use Rattle.lustat_rules.specs.Accepted.{Rule, ProgramKeeps, TypeKeeps, NameKeeps, NodeKeeps, DeclarationKeeps, EquationKeeps, Keeps}
+use Rattle.lustat_rules.specs.Accepted.{Rule, ProgramKeeps, TypeKeeps, NameKeeps, NodeKeeps, DeclarationKeeps}
+use Rattle.lustat_rules.specs.Accepted.{EquationKeeps, Keeps}
 use Rattle.lustat_rules.specs.declared.error.StatError.{StatError}
-use Rattle.lustat_rules.specs.Told.{rule_of, byte_of, number_of}
+use Rattle.lustat_rules.specs.Reported.{rule_of, byte_of, number_of}
 
 -- the variables of a node, in memory: inputs, outputs and locals, each in order of declaration
 abbrev pub declared_in : Node → List Declaration
@@ -19,7 +21,8 @@ declared_in n = n.inputs ++ (n.outputs ++ n.locals)
 
 -- one fault has the lesser byte, or at equal bytes the lesser number
 abbrev pub is_before : StatError → StatError → Bool
-is_before e f = nat_lt (byte_of e) (byte_of f) || (nat_eq (byte_of e) (byte_of f) && nat_lt (number_of e) (number_of f))
+is_before e f = nat_lt (byte_of e) (byte_of f) || (nat_eq (byte_of e) (byte_of f) && nat_lt (number_of e)
+    (number_of f))
 
 -- of two faults the one that is reported
 abbrev pub lesser_of : Option StatError → Option StatError → Option StatError
@@ -31,7 +34,8 @@ lesser_of (Some e) (Some f) = if is_before f e then Some f else Some e
 abbrev pub IsAtMost : StatError → StatError → Type 0
 IsAtMost e f = (byte_of e < byte_of f) ⊎ ((byte_of e ≡ byte_of f) × (number_of e ≤ number_of f))
 
--- A search is right: where it reports nothing, all is kept, and there is no fault. What it reports is a fault, and no other is reported before it.
+-- A search is right: where it reports nothing, all is kept, and there is no fault. What it reports is a
+-- fault, and no other is reported before it.
 abbrev pub IsJudged : (StatError → Type 0) → Type 0 → Option StatError → Type 0
 IsJudged IsFault Kept None = Kept × ((e : StatError) → IsFault e → ⊥)
 IsJudged IsFault Kept (Some e) = IsFault e × ((f : StatError) → IsFault f → IsAtMost e f)
@@ -51,7 +55,7 @@ module _ (asked : Rule → Bool) where
   -- a refusal reports one of these rules, broken at this byte
   pub record FaultAt (byte : ℕ) (Kept : Rule → Type 0) (e : StatError) : Type 0 where
     pub rule : Rule
-    pub told : rule_of e ≡ Some rule
+    pub reported : rule_of e ≡ Some rule
     pub one : IsTrue (asked rule)
     pub at : byte_of e ≡ byte
     pub broken : ¬ Kept rule
@@ -87,16 +91,21 @@ module _ (asked : Rule → Bool) where
     NodeFault i n = FaultAt n.byte (λ rule. NodeKeeps (program_view p) main rule i (node_view n))
 
     abbrev pub DeclarationKept : Node → ℕ → Declaration → Type 0
-    DeclarationKept n j d = AllKept (λ rule. DeclarationKeeps (program_view p) main rule (node_view n) j (declaration_view d))
+    DeclarationKept n j d =
+        AllKept (λ rule. DeclarationKeeps (program_view p) main rule (node_view n) j (declaration_view d))
 
     abbrev pub DeclarationFault : Node → ℕ → Declaration → StatError → Type 0
-    DeclarationFault n j d = FaultAt d.byte (λ rule. DeclarationKeeps (program_view p) main rule (node_view n) j (declaration_view d))
+    DeclarationFault n j d =
+        FaultAt d.byte (λ rule. DeclarationKeeps (program_view p) main rule (node_view n) j
+        (declaration_view d))
 
     abbrev pub EquationKept : Node → ℕ → Equation → Type 0
-    EquationKept n j q = AllKept (λ rule. EquationKeeps (program_view p) main rule (node_view n) j (equation_view q))
+    EquationKept n j q =
+        AllKept (λ rule. EquationKeeps (program_view p) main rule (node_view n) j (equation_view q))
 
     abbrev pub EquationFault : Node → ℕ → Equation → StatError → Type 0
-    EquationFault n j q = FaultAt q.byte (λ rule. EquationKeeps (program_view p) main rule (node_view n) j (equation_view q))
+    EquationFault n j q =
+        FaultAt q.byte (λ rule. EquationKeeps (program_view p) main rule (node_view n) j (equation_view q))
 
     -- what is kept in a type at a place, and a fault in it
     pub record AllOfTypeKept (i : ℕ) (t : TypeDeclaration) : Type 0 where
@@ -113,7 +122,8 @@ module _ (asked : Rule → Bool) where
       pub equations : KeptAmong n.equations (EquationKept n)
 
     abbrev pub InNodeFault : ℕ → Node → StatError → Type 0
-    InNodeFault i n e = NodeFault i n e ⊎ FaultAmong (declared_in n) (DeclarationFault n) e ⊎ FaultAmong n.equations (EquationFault n) e
+    InNodeFault i n e = NodeFault i n e ⊎ FaultAmong (declared_in n) (DeclarationFault n) e
+        ⊎ FaultAmong n.equations (EquationFault n) e
 
     -- a fault of the program, at its place
     abbrev pub IsFault : StatError → Type 0

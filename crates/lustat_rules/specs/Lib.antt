@@ -8,7 +8,7 @@ pub mod Accepted
 pub mod Vectors
 pub mod Chains
 pub mod EnumVectors
-pub mod Told
+pub mod Reported
 pub mod Faults
 pub mod Lines
 pub mod ClassVectors

@@ -2,7 +2,12 @@
 use Rattle.std.specs.Prelude.{ℕ, List, ◌++◌, codes}
 use Rattle.std.specs.Fmt.{decimal}
 use Rattle.lustat_rules.specs.declared.error.StatError.{StatError}
-use Rattle.lustat_rules.specs.declared.error.StatError.TheVariants.{DuplicateName, UnknownName, UnknownNode, TypeMismatch, WrongArity, Undefined, DefinedTwice, RecursiveNode, NoMain, BadMerge, ClockMismatch, NotAClock, ClockedParameter, HiddenClock, MaybeNil, CurrentMayBeNil, OutOfMemory}
+use Rattle.lustat_rules.specs.declared.error.StatError.TheVariants.{DuplicateName, UnknownName, UnknownNode}
+use Rattle.lustat_rules.specs.declared.error.StatError.TheVariants.{TypeMismatch, WrongArity, Undefined}
+use Rattle.lustat_rules.specs.declared.error.StatError.TheVariants.{DefinedTwice, RecursiveNode, NoMain}
+use Rattle.lustat_rules.specs.declared.error.StatError.TheVariants.{BadMerge, ClockMismatch, NotAClock}
+use Rattle.lustat_rules.specs.declared.error.StatError.TheVariants.{ClockedParameter, HiddenClock, MaybeNil}
+use Rattle.lustat_rules.specs.declared.error.StatError.TheVariants.{CurrentMayBeNil, OutOfMemory}
 
 -- a code and a name, and where; no line feed
 abbrev pub line_of : StatError → List ℕ

@@ -1,14 +1,18 @@
--- The rules of names: each name is declared once, each variable has one equation, each call is of a node and has its arity.
-use Rattle.std.specs.Prelude.{◌≡◌, ◌⊎◌, ◌<◌, ℕ, suc, if◌then◌else◌, slice_get, List, [], ◌∷◌, ◌++◌, map, flat_map, take, length, Option, Some, None, IfSome, option_map, All, Contains}
+-- The rules of names: each name is declared once, each variable has one equation, each call is of a node and
+-- has its arity.
+use Rattle.std.specs.Prelude.{◌≡◌, ◌⊎◌, ◌<◌, ℕ, suc, if◌then◌else◌, slice_get, List, [], ◌∷◌, ◌++◌, map}
+use Rattle.std.specs.Prelude.{flat_map, take, length, Option, Some, None, IfSome, option_map, All, Contains}
 use Rattle.std.specs.Str.{bytes_eq}
 use Rattle.lutree.specs.declared.expr.Label.{Label}
 use Rattle.lutree.specs.declared.expr.Pattern.{Pattern}
 use Rattle.lutree.specs.declared.expr.Pattern.TheVariants as patterns
 use Rattle.lutree.specs.declared.program.Kind.{Kind}
 use Rattle.lutree.specs.declared.program.Kind.TheVariants.{Int, Bool as Truths, Enum}
-use Rattle.lutree.specs.Tree.{Tree, Trees, list_of, TypeTree, DeclarationTree, EquationTree, NodeTree, ProgramTree}
+use Rattle.lutree.specs.Tree.{Tree, Trees, list_of, TypeTree, DeclarationTree, EquationTree, NodeTree}
+use Rattle.lutree.specs.Tree.{ProgramTree}
 use Rattle.lutree.specs.Tree as tree
-use Rattle.lustat_rules.specs.Scope.{declarations_of, names_of, IsVariable, IsInput, node_called, IsNode, labels_of, lefts_of, IsNew, AreDistinct}
+use Rattle.lustat_rules.specs.Scope.{declarations_of, names_of, IsVariable, IsInput, node_called, IsNode}
+use Rattle.lustat_rules.specs.Scope.{labels_of, lefts_of, IsNew, AreDistinct}
 use Rattle.lustat_rules.specs.Parts.{Part, EachPart}
 use Rattle.lustat_rules.specs.Parts as part
 
@@ -62,7 +66,8 @@ abbrev pub inner_calls : Tree → List Call
 inner_calls (tree.call f all) = calls_in_all all
 inner_calls e = calls_in e
 
--- how many values a right side has: a call as many as the node has outputs, any other expression one; none is known of a call of no node
+-- how many values a right side has: a call as many as the node has outputs, any other expression one; none is
+-- known of a call of no node
 abbrev pub value_count : ProgramTree → Tree → Option ℕ
 value_count p (tree.call f all) = option_map (λ (n : NodeTree). length n.outputs) (node_called p f)
 value_count p e = Some 1
@@ -140,10 +145,12 @@ pub record DeclarationKnown (p : ProgramTree) (n : NodeTree) (d : DeclarationTre
 abbrev pub CallsKnown : ProgramTree → EquationTree → Type 0
 CallsKnown p q = All (λ c. IsNode p c.node) (calls_in q.right)
 
--- E14: each call has as many arguments as its node has inputs, each call inside an expression is of a node with one output,
+-- E14: each call has as many arguments as its node has inputs, each call inside an expression is of a node
+-- with one output,
 -- and an equation has as many variables on its left side as there are values on its right, and one at least
 pub record AritiesRight (p : ProgramTree) (q : EquationTree) : Type 0 where
-  pub arguments : All (λ c. IfSome (node_called p c.node) (λ n. c.arguments ≡ length n.inputs)) (calls_in q.right)
+  pub arguments : All (λ c. IfSome (node_called p c.node) (λ n. c.arguments ≡ length n.inputs))
+      (calls_in q.right)
   pub inner : All (λ c. IfSome (node_called p c.node) (λ n. length n.outputs ≡ 1)) (inner_calls q.right)
   pub values : IfSome (value_count p q.right) (λ count. length q.left ≡ count)
   pub some : 0 < length q.left
@@ -152,7 +159,8 @@ pub record AritiesRight (p : ProgramTree) (q : EquationTree) : Type 0 where
 abbrev pub IsDefined : NodeTree → DeclarationTree → Type 0
 IsDefined n d = IsInput n d.name ⊎ Contains (lefts_of n.equations) d.name
 
--- E16: the equation at a place names no variable twice on its left side, none that an equation before it defines, and no input
+-- E16: the equation at a place names no variable twice on its left side, none that an equation before it
+-- defines, and no input
 pub record DefinesAnew (n : NodeTree) (i : ℕ) (q : EquationTree) : Type 0 where
   pub once : AreDistinct q.left
   pub first : All (λ x. ¬ Contains (lefts_of (take i n.equations)) x) q.left
@@ -185,11 +193,13 @@ HasMain p main = IsNode p main
 -- a variable stands on the left side of one equation alone
 abbrev pub IsDefinedOnce : NodeTree → Type 0
 IsDefinedOnce n =
-    (i j : ℕ) (q r : EquationTree) (x : List ℕ) → slice_get n.equations i ≡ Some q → slice_get n.equations j ≡ Some r → Contains q.left x → Contains r.left x → i ≡ j
+    (i j : ℕ) (q r : EquationTree) (x : List ℕ) → slice_get n.equations i ≡ Some q
+    → slice_get n.equations j ≡ Some r → Contains q.left x → Contains r.left x → i ≡ j
 
 -- so it is where each equation defines anew
 abbrev pub DefinedOnceLaw : Type 0
-DefinedOnceLaw = (n : NodeTree) → ((i : ℕ) (q : EquationTree) → slice_get n.equations i ≡ Some q → DefinesAnew n i q) → IsDefinedOnce n
+DefinedOnceLaw = (n : NodeTree) → ((i : ℕ) (q : EquationTree) → slice_get n.equations i ≡ Some q
+    → DefinesAnew n i q) → IsDefinedOnce n
 
 -- the place of the first node of a name in a list
 abbrev pub place_of_first : List NodeTree → List ℕ → Option ℕ
@@ -203,7 +213,9 @@ node_place p f = place_of_first p.nodes f
 -- all nodes by place, each after those that it calls
 pub record IsCallOrder (p : ProgramTree) (order : List ℕ) : Type 0 where
   pub all : (i : ℕ) → i < length p.nodes → Contains order i
-  pub after : (k i j : ℕ) (n : NodeTree) (f : List ℕ) → slice_get order k ≡ Some i → slice_get p.nodes i ≡ Some n → Contains (called_by n) f → node_place p f ≡ Some j → Contains (take k order) j
+  pub after : (k i j : ℕ) (n : NodeTree) (f : List ℕ) → slice_get order k ≡ Some i
+      → slice_get p.nodes i ≡ Some n → Contains (called_by n) f → node_place p f ≡ Some j
+      → Contains (take k order) j
 
 -- where there is such an order, no node reaches itself by calls
 abbrev pub CallOrderLaw : Type 0

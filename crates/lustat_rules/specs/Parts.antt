@@ -6,7 +6,8 @@ use Rattle.lutree.specs.declared.expr.Condition.{Condition}
 use Rattle.lutree.specs.Tree.{Tree, Trees, list_of}
 use Rattle.lutree.specs.Tree as tree
 
--- a name of an enumeration as a constant, a clock after `when`, or a merge: its variable, the patterns of its branches, and how many
+-- a name of an enumeration as a constant, a clock after `when`, or a merge: its variable, the patterns of its
+-- branches, and how many
 -- branches it has
 pub data Part : Type 0 where
   label : Label → Part

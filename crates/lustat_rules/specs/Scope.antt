@@ -1,5 +1,6 @@
 -- What a name means in a node, and which node a call means.
-use Rattle.std.specs.Prelude.{◌≡◌, ℕ, if◌then◌else◌, List, [], ◌∷◌, ◌++◌, map, flat_map, take, Option, Some, None, IsSome, option_map, slice_get, Contains}
+use Rattle.std.specs.Prelude.{◌≡◌, ℕ, if◌then◌else◌, List, [], ◌∷◌, ◌++◌, map, flat_map, take, Option, Some}
+use Rattle.std.specs.Prelude.{None, IsSome, option_map, slice_get, Contains}
 use Rattle.std.specs.Str.{bytes_eq}
 use Rattle.lutree.specs.declared.expr.Condition.{Condition}
 use Rattle.lutree.specs.declared.program.Kind.{Kind}
@@ -38,7 +39,8 @@ kind_of n x = option_map (λ (d : DeclarationTree). d.kind) (meaning n x)
 abbrev pub Clock : Type 0
 Clock = Option Condition
 
--- the clock of a variable; none where the name is no variable, and some base clock where it is one without a clock
+-- the clock of a variable; none where the name is no variable, and some base clock where it is one without a
+-- clock
 abbrev pub clock_of : NodeTree → List ℕ → Option Clock
 clock_of n x = option_map (λ (d : DeclarationTree). d.clock) (meaning n x)
 

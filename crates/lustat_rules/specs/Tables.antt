@@ -11,4 +11,5 @@ pub record AreTables (s : Inside) : Type 0 where
   pub inputs : s.inputs ≡ spellings s.node.now.inputs
   pub outputs : s.outputs ≡ spellings s.node.now.outputs
   pub clocks : map placed_view s.clocks.items ≡ clock_list (declared_in s.node.now)
-  pub places : map (λ k. k.place) s.clocks.items ≡ map (place_among (spellings (declared_in s.node.now))) (clock_list (declared_in s.node.now))
+  pub places : map (λ k. k.place) s.clocks.items ≡ map (place_among (spellings (declared_in s.node.now)))
+      (clock_list (declared_in s.node.now))

@@ -1,11 +1,13 @@
 -- The types of expressions.
-use Rattle.std.specs.Prelude.{◌≡◌, ℕ, nat_eq, Bool, true, false, ◌&&◌, if◌then◌else◌, List, [], ◌∷◌, map, fold, length, slice_get, Option, Some, None, option_map, All}
+use Rattle.std.specs.Prelude.{◌≡◌, ℕ, nat_eq, Bool, true, false, ◌&&◌, if◌then◌else◌, List, [], ◌∷◌, map}
+use Rattle.std.specs.Prelude.{fold, length, slice_get, Option, Some, None, option_map, All}
 use Rattle.lutree.specs.declared.expr.Pattern.{Pattern}
 use Rattle.lutree.specs.declared.expr.Pattern.TheVariants as patterns
 use Rattle.lutree.specs.declared.expr.UnaryOperator.{UnaryOperator}
 use Rattle.lutree.specs.declared.expr.UnaryOperator.TheVariants.{Minus, Not}
 use Rattle.lutree.specs.declared.expr.BinaryOperator.{BinaryOperator}
-use Rattle.lutree.specs.declared.expr.BinaryOperator.TheVariants.{Add, Subtract, Multiply, Divide, Modulo, Equal, Unequal, And, Or, Xor, Implies}
+use Rattle.lutree.specs.declared.expr.BinaryOperator.TheVariants.{Add, Subtract, Multiply, Divide, Modulo}
+use Rattle.lutree.specs.declared.expr.BinaryOperator.TheVariants.{Equal, Unequal, And, Or, Xor, Implies}
 use Rattle.lutree.specs.declared.expr.Prefix.TheVariants.{Data as Data1, Pre}
 use Rattle.lutree.specs.declared.expr.Infix.TheVariants.{Data as Data2, Arrow, FollowedBy}
 use Rattle.lutree.specs.declared.program.Kind.{Kind}
@@ -92,7 +94,8 @@ arguments_fit (k ∷ ks) (d ∷ ds) = has_kind k d.kind && arguments_fit ks ds
 -- the types of a call's outputs, by those of its arguments
 abbrev pub call_kinds : Option NodeTree → List (Option Kind) → Option (List Kind)
 call_kinds None ks = None
-call_kinds (Some n) ks = if arguments_fit ks n.inputs then Some (map (λ (d : DeclarationTree). d.kind) n.outputs) else None
+call_kinds (Some n) ks = if arguments_fit ks n.inputs
+    then Some (map (λ (d : DeclarationTree). d.kind) n.outputs) else None
 
 -- the one type of a call with one output
 abbrev pub only : Option (List Kind) → Option Kind
@@ -115,7 +118,8 @@ abbrev pub IsSign : Pattern → Type 0
 IsSign (patterns.Truth b) = Unit {0}
 IsSign (patterns.Label l) = ⊥
 
--- The patterns of a merge on a variable of a type: of an enumeration all its names, and `true` and `false` on a bool, if none of them is a name.
+-- The patterns of a merge on a variable of a type: of an enumeration all its names, and `true` and `false` on
+-- a bool, if none of them is a name.
 -- Others are a matter of clocks.
 abbrev pub PatternsAre : Option Kind → List Pattern → Type 0
 PatternsAre (Some (Enum place size)) ps = AreNames (Enum place size) size ps
@@ -133,7 +137,8 @@ MergesWhole n q = EachPart (IsWholeMerge n) q.right
 
 -- EXPRESSIONS
 
--- The type of an expression in a node, or none where it has none. The name of a clock has no type to meet here.
+-- The type of an expression in a node, or none where it has none. The name of a clock has no type to meet
+-- here.
 module _ (p : ProgramTree) (n : NodeTree) where
   abbrev mutual
     pub type_of : Tree → Option Kind
@@ -163,8 +168,10 @@ module _ (p : ProgramTree) (n : NodeTree) where
 
   -- the right side has types, and the variables on the left have just these
   abbrev pub IsWellTyped : EquationTree → Type 0
-  IsWellTyped q = (kinds : List Kind) × (right_types q.right ≡ Some kinds) × (map (kind_of n) q.left ≡ map Some kinds)
+  IsWellTyped q = (kinds : List Kind) × (right_types q.right ≡ Some kinds)
+      × (map (kind_of n) q.left ≡ map Some kinds)
 
-  -- E13: an equation whose names and calls are known, whose arities are right and whose merges are whole is well typed
+  -- E13: an equation whose names and calls are known, whose arities are right and whose merges are whole is
+  -- well typed
   abbrev pub IsTyped : EquationTree → Type 0
   IsTyped q = NamesKnown p n q → CallsKnown p q → AritiesRight p q → MergesWhole n q → IsWellTyped q

@@ -7,14 +7,16 @@ use Rattle.lutree.specs.declared.expr.Infix.TheVariants.{Data as Data2, Arrow, F
 use Rattle.lutree.specs.declared.expr.Pattern.TheVariants as patterns
 use Rattle.lutree.specs.declared.program.Kind.{Kind}
 use Rattle.lutree.specs.declared.program.Kind.TheVariants.{Int, Bool as Truths}
-use Rattle.lutree.specs.Tree.{Tree, Trees, DeclarationTree, EquationTree, NodeTree, ProgramTree, program_of, declared}
+use Rattle.lutree.specs.Tree.{Tree, Trees, DeclarationTree, EquationTree, NodeTree, ProgramTree, program_of}
+use Rattle.lutree.specs.Tree.{declared}
 use Rattle.lutree.specs.Tree as tree
 use Rattle.lustat_rules.specs.Scope.{Clock, kind_of, clock_of}
 use Rattle.lustat_rules.specs.Naming.{Call, names_in, calls_in, inner_calls, value_count}
 use Rattle.lustat_rules.specs.Typing.{type_of, right_types}
 use Rattle.lustat_rules.specs.Clocks.{on, base}
 use Rattle.lustat_rules.specs.Classes.{HasClasses}
-use Rattle.lustat_rules.specs.Accepted.{Rule, stage, EquationKeeps, DeclarationKeeps, NodeKeeps, ProgramKeeps, IsAccepted, IsRefused}
+use Rattle.lustat_rules.specs.Accepted.{Rule, stage, EquationKeeps, DeclarationKeeps, NodeKeeps, ProgramKeeps}
+use Rattle.lustat_rules.specs.Accepted.{IsAccepted, IsRefused}
 
 -- SPELLING
 
@@ -47,7 +49,8 @@ x_when_c = tree.when x (record { variable = codes "c"; pattern = patterns.Truth 
 
 -- merge NAME (true -> a) (false -> b)
 abbrev pub merge_on : List ℕ → Tree → Tree → Tree
-merge_on c a b = tree.merge c (patterns.Truth true ∷ patterns.Truth false ∷ []) (tree.more a (tree.more b tree.none))
+merge_on c a b = tree.merge c (patterns.Truth true ∷ patterns.Truth false ∷ [])
+    (tree.more a (tree.more b tree.none))
 
 abbrev pub call_one : List ℕ → Tree → Tree
 call_one f e = tree.call f (tree.more e tree.none)
@@ -61,7 +64,8 @@ sampler =
     record {
       name = codes "main";
       inputs = int_variable (codes "x") base ∷ bool_variable (codes "c") base ∷ [];
-      outputs = int_variable (codes "y") base ∷ int_variable (codes "z") (on (codes "c") (patterns.Truth true)) ∷ [];
+      outputs = int_variable (codes "y") base ∷ int_variable (codes "z")
+          (on (codes "c") (patterns.Truth true)) ∷ [];
       locals = int_variable (codes "s") (on (codes "c") (patterns.Truth true)) ∷ [];
       equations =
           defines (codes "s") x_when_c
@@ -78,7 +82,8 @@ two =
       inputs = int_variable (codes "x") base ∷ [];
       outputs = int_variable (codes "p") base ∷ bool_variable (codes "q") base ∷ [];
       locals = [];
-      equations = defines (codes "p") (plus x (tree.number 1)) ∷ defines (codes "q") (tree.binary (Data2 Less) x (tree.number 2)) ∷ [];
+      equations = defines (codes "p") (plus x (tree.number 1)) ∷ defines (codes "q")
+          (tree.binary (Data2 Less) x (tree.number 2)) ∷ [];
     }
 
 -- node one(x: int) returns (p: int); let p = one(x); tel
@@ -99,7 +104,8 @@ program = program_of (sampler ∷ two ∷ one ∷ [])
 
 -- one(one(x) + s when c)
 abbrev pub nested : Tree
-nested = call_one (codes "one") (plus (call_one (codes "one") x) (tree.when s (record { variable = codes "c"; pattern = patterns.Truth true })))
+nested = call_one (codes "one") (plus (call_one (codes "one") x)
+    (tree.when s (record { variable = codes "c"; pattern = patterns.Truth true })))
 
 abbrev pub to_one : Call
 to_one = record { node = codes "one"; arguments = 1 }
@@ -145,7 +151,8 @@ pub record TypesAre : Type 0 where
   pub choice_by_int : has_type (tree.choice x x s) ≡ None
   pub choice_of_both : has_type (tree.choice c x c) ≡ None
   -- that a clock is bool is no matter of types
-  pub sample : has_type (tree.when c (record { variable = codes "x"; pattern = patterns.Truth false })) ≡ Some Truths
+  pub sample : has_type (tree.when c (record { variable = codes "x"; pattern = patterns.Truth false })) ≡ Some
+      Truths
   pub held : has_type (tree.current (codes "s")) ≡ Some Int
   pub merged : has_type (merge_on (codes "c") s x) ≡ Some Int
   pub merged_of_both : has_type (merge_on (codes "c") s c) ≡ None
@@ -192,13 +199,15 @@ pub record NamedEquations : Type 0 where
   pub unknown_node : breaks Rule.unknown_node (defines (codes "y") (call_one (codes "lost") x))
   -- one(), two(x) + 1, y = two(x), (y, c) = one(x), (y, c) = two(x)
   pub few_arguments : breaks Rule.wrong_arity (defines (codes "y") (tree.call (codes "one") tree.none))
-  pub two_inside : breaks Rule.wrong_arity (defines (codes "y") (plus (call_one (codes "two") x) (tree.number 1)))
+  pub two_inside : breaks Rule.wrong_arity (defines (codes "y") (plus (call_one (codes "two") x)
+      (tree.number 1)))
   pub two_for_one : breaks Rule.wrong_arity (defines (codes "y") (call_one (codes "two") x))
   pub one_for_two : breaks Rule.wrong_arity (defines_both (codes "y") (codes "c") (call_one (codes "one") x))
   pub two_for_two : keeps Rule.wrong_arity (defines_both (codes "y") (codes "c") (call_one (codes "two") x))
   pub first : keeps Rule.defined_twice (defines (codes "y") x)
   pub second : ¬ EquationKeeps program main Rule.defined_twice sampler 3 (defines (codes "y") x)
-  pub twice_on_left : breaks Rule.defined_twice (defines_both (codes "y") (codes "y") (call_one (codes "two") x))
+  pub twice_on_left : breaks Rule.defined_twice (defines_both (codes "y") (codes "y")
+      (call_one (codes "two") x))
   pub of_an_input : breaks Rule.defined_twice (defines (codes "x") (tree.number 1))
 
 pub record TypedEquations : Type 0 where
@@ -206,19 +215,26 @@ pub record TypedEquations : Type 0 where
   pub typed_pair : keeps Rule.type_mismatch (defines_both (codes "y") (codes "c") (call_one (codes "two") x))
   pub truth_for_int : breaks Rule.type_mismatch (defines (codes "y") c)
   pub sum_of_truth : breaks Rule.type_mismatch (defines (codes "y") (plus x c))
-  pub pair_turned : breaks Rule.type_mismatch (defines_both (codes "c") (codes "y") (call_one (codes "two") x))
+  pub pair_turned : breaks Rule.type_mismatch (defines_both (codes "c") (codes "y")
+      (call_one (codes "two") x))
   -- where a name isn't known, types aren't checked
   pub unknown_is_unjudged : keeps Rule.type_mismatch (defines (codes "y") (plus w c))
 
 pub record ClockedEquations : Type 0 where
   pub constant_anywhere : keeps Rule.clock_mismatch (defines (codes "z") (plus s (tree.number 1)))
   pub sampled : keeps Rule.clock_mismatch (defines (codes "z") (plus s x_when_c))
-  pub merged : keeps Rule.clock_mismatch (defines (codes "y") (merge_on (codes "c") s (tree.when x (record { variable = codes "c"; pattern = patterns.Truth false }))))
+  pub merged : keeps Rule.clock_mismatch (defines (codes "y")
+      (merge_on (codes "c") s (tree.when x (record {
+        variable = codes "c";
+        pattern = patterns.Truth false;
+      }))))
   pub held : keeps Rule.clock_mismatch (defines (codes "y") (tree.current (codes "s")))
   pub sum_of_two_clocks : breaks Rule.clock_mismatch (defines (codes "y") (plus x x_when_c))
   pub slow_for_fast : breaks Rule.clock_mismatch (defines (codes "y") s)
-  pub wrong_sign : breaks Rule.clock_mismatch (defines (codes "z") (tree.when x (record { variable = codes "c"; pattern = patterns.Truth false })))
-  pub merged_turned : breaks Rule.clock_mismatch (defines (codes "y") (merge_on (codes "c") (tree.number 1) s))
+  pub wrong_sign : breaks Rule.clock_mismatch (defines (codes "z")
+      (tree.when x (record { variable = codes "c"; pattern = patterns.Truth false })))
+  pub merged_turned : breaks Rule.clock_mismatch (defines (codes "y")
+      (merge_on (codes "c") (tree.number 1) s))
   pub held_on_base : breaks Rule.clock_mismatch (defines (codes "y") (tree.current (codes "x")))
   pub two_clocks_left : breaks Rule.clock_mismatch (defines_both (codes "y") (codes "z") (tree.number 1))
   pub truth_is_a_clock : keeps Rule.not_a_clock (defines (codes "z") x_when_c)
@@ -233,7 +249,8 @@ holder =
       name = codes "main";
       inputs = bool_variable (codes "d") base ∷ int_variable (codes "x") base ∷ [];
       outputs = int_variable (codes "y") base ∷ [];
-      locals = bool_variable (codes "c") base ∷ int_variable (codes "v") (on (codes "c") (patterns.Truth true)) ∷ [];
+      locals = bool_variable (codes "c") base ∷ int_variable (codes "v")
+          (on (codes "c") (patterns.Truth true)) ∷ [];
       equations =
           defines (codes "c") (tree.binary Arrow (tree.truth true) (tree.variable (codes "d")))
           ∷ defines (codes "v") x_when_c
@@ -255,22 +272,29 @@ delay right =
 pub record InitialisedNodes : Type 0 where
   pub arrow_before_pre : HasClasses (delay (tree.binary Arrow (tree.number 0) (tree.unary Pre x)))
   pub bare_pre : ¬ HasClasses (delay (tree.unary Pre x))
-  pub pre_of_pre : ¬ HasClasses (delay (tree.binary Arrow (tree.number 0) (tree.unary Pre (tree.unary Pre x))))
+  pub pre_of_pre : ¬ HasClasses (delay (tree.binary Arrow (tree.number 0)
+      (tree.unary Pre (tree.unary Pre x))))
   pub pre_as_argument : ¬ HasClasses (delay (call_one (codes "one") (tree.unary Pre x)))
-  pub current_of_started : EquationKeeps (program_of (holder ∷ [])) main Rule.current_may_be_nil holder 2 (defines (codes "y") (tree.current (codes "v")))
+  pub current_of_started : EquationKeeps (program_of (holder ∷ [])) main Rule.current_may_be_nil holder 2
+      (defines (codes "y") (tree.current (codes "v")))
   pub current_on_an_input : breaks Rule.current_may_be_nil (defines (codes "y") (tree.current (codes "s")))
 
 -- DECLARATIONS AND NODES
 
--- node main(x: int; x: int; k: int when b) returns (y: int when x; z: int when l); var l: bool; a: int when b; b: bool when b;
+-- node main(x: int; x: int; k: int when b) returns (y: int when x; z: int when l); var l: bool; a: int when
+-- b; b: bool when b;
 -- let tel
 abbrev pub faulty : NodeTree
 faulty =
     record {
       name = codes "main";
-      inputs = int_variable (codes "x") base ∷ int_variable (codes "x") base ∷ int_variable (codes "k") (on (codes "b") (patterns.Truth true)) ∷ [];
-      outputs = int_variable (codes "y") (on (codes "x") (patterns.Truth true)) ∷ int_variable (codes "z") (on (codes "l") (patterns.Truth true)) ∷ [];
-      locals = bool_variable (codes "l") base ∷ int_variable (codes "a") (on (codes "w") (patterns.Truth true)) ∷ bool_variable (codes "b") (on (codes "b") (patterns.Truth true)) ∷ [];
+      inputs = int_variable (codes "x") base ∷ int_variable (codes "x") base ∷ int_variable (codes "k")
+          (on (codes "b") (patterns.Truth true)) ∷ [];
+      outputs = int_variable (codes "y") (on (codes "x") (patterns.Truth true)) ∷ int_variable (codes "z")
+          (on (codes "l") (patterns.Truth true)) ∷ [];
+      locals = bool_variable (codes "l") base ∷ int_variable (codes "a")
+          (on (codes "w") (patterns.Truth true)) ∷ bool_variable (codes "b")
+          (on (codes "b") (patterns.Truth true)) ∷ [];
       equations = [];
     }
 
@@ -279,17 +303,28 @@ declaration_breaks r j d = ¬ DeclarationKeeps (program_of (faulty ∷ [])) main
 
 pub record DeclarationsAndNodes : Type 0 where
   pub declared_twice : declaration_breaks Rule.duplicate_name 1 (int_variable (codes "x") base)
-  pub unknown_clock : declaration_breaks Rule.unknown_name 6 (int_variable (codes "a") (on (codes "w") (patterns.Truth true)))
-  pub undefined : declaration_breaks Rule.undefined 3 (int_variable (codes "y") (on (codes "x") (patterns.Truth true)))
-  pub input_is_given : DeclarationKeeps (program_of (faulty ∷ [])) main Rule.undefined faulty 0 (int_variable (codes "x") base)
-  pub int_clock : declaration_breaks Rule.not_a_clock 3 (int_variable (codes "y") (on (codes "x") (patterns.Truth true)))
-  pub clock_of_itself : declaration_breaks Rule.not_a_clock 7 (bool_variable (codes "b") (on (codes "b") (patterns.Truth true)))
-  pub clock : DeclarationKeeps program main Rule.not_a_clock sampler 4 (int_variable (codes "s") (on (codes "c") (patterns.Truth true)))
-  pub clocked_input : declaration_breaks Rule.clocked_parameter 2 (int_variable (codes "k") (on (codes "b") (patterns.Truth true)))
-  pub clocked_output : ¬ DeclarationKeeps program (codes "two") Rule.clocked_parameter sampler 3 (int_variable (codes "z") (on (codes "c") (patterns.Truth true)))
-  pub clocked_output_of_main : DeclarationKeeps program main Rule.clocked_parameter sampler 3 (int_variable (codes "z") (on (codes "c") (patterns.Truth true)))
-  pub hidden_clock : declaration_breaks Rule.hidden_clock 4 (int_variable (codes "z") (on (codes "l") (patterns.Truth true)))
-  pub visible_clock : DeclarationKeeps program main Rule.hidden_clock sampler 3 (int_variable (codes "z") (on (codes "c") (patterns.Truth true)))
+  pub unknown_clock : declaration_breaks Rule.unknown_name 6 (int_variable (codes "a")
+      (on (codes "w") (patterns.Truth true)))
+  pub undefined : declaration_breaks Rule.undefined 3 (int_variable (codes "y")
+      (on (codes "x") (patterns.Truth true)))
+  pub input_is_given : DeclarationKeeps (program_of (faulty ∷ [])) main Rule.undefined faulty 0
+      (int_variable (codes "x") base)
+  pub int_clock : declaration_breaks Rule.not_a_clock 3 (int_variable (codes "y")
+      (on (codes "x") (patterns.Truth true)))
+  pub clock_of_itself : declaration_breaks Rule.not_a_clock 7 (bool_variable (codes "b")
+      (on (codes "b") (patterns.Truth true)))
+  pub clock : DeclarationKeeps program main Rule.not_a_clock sampler 4 (int_variable (codes "s")
+      (on (codes "c") (patterns.Truth true)))
+  pub clocked_input : declaration_breaks Rule.clocked_parameter 2 (int_variable (codes "k")
+      (on (codes "b") (patterns.Truth true)))
+  pub clocked_output : ¬ DeclarationKeeps program (codes "two") Rule.clocked_parameter sampler 3
+      (int_variable (codes "z") (on (codes "c") (patterns.Truth true)))
+  pub clocked_output_of_main : DeclarationKeeps program main Rule.clocked_parameter sampler 3
+      (int_variable (codes "z") (on (codes "c") (patterns.Truth true)))
+  pub hidden_clock : declaration_breaks Rule.hidden_clock 4 (int_variable (codes "z")
+      (on (codes "l") (patterns.Truth true)))
+  pub visible_clock : DeclarationKeeps program main Rule.hidden_clock sampler 3 (int_variable (codes "z")
+      (on (codes "c") (patterns.Truth true)))
   pub two_nodes : ¬ NodeKeeps (program_of (two ∷ two ∷ [])) main Rule.duplicate_name 1 two
   pub calls_itself : ¬ NodeKeeps program main Rule.recursive_node 2 one
   pub calls_none : NodeKeeps program main Rule.recursive_node 1 two

@@ -2,7 +2,7 @@
 
 ghost use Rattle.std.specs.Prelude.{◌≡◌};
 ghost use Rattle.lustat_rules.specs.declared.error.StatError.TheVariants.{OutOfMemory};
-ghost use Rattle.lustat_rules.specs.Told.{byte_of, number_of};
+ghost use Rattle.lustat_rules.specs.Reported.{byte_of, number_of};
 
 use std::alloc::{AllocError, AllocFailed};
 use std::fmt;

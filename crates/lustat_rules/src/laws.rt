@@ -4,7 +4,7 @@ ghost use Rattle.lustat_rules.specs.Accepted.{BreaksIsNotKept};
 ghost use Rattle.lustat_rules.specs.Chains.{FollowedVectors, NeededVectors, ClockChainVectors, CallVectors};
 ghost use Rattle.lustat_rules.specs.ClassVectors.{ClassVectors, BeginningVectors};
 ghost use Rattle.lustat_rules.specs.Classes.{LeastDecides};
-ghost use Rattle.lustat_rules.specs.Clocks.{FitsLaw};
+ghost use Rattle.lustat_rules.specs.Clocks.{FitsClockLaw};
 ghost use Rattle.lustat_rules.specs.EnumVectors.{EnumVectors, EnumClockVectors, EnumProgramsAre};
 ghost use Rattle.lustat_rules.specs.Naming.{CallOrderLaw, DefinedOnceLaw};
 ghost use Rattle.lustat_rules.specs.Vectors.{VectorsLaw, NamedEquations, TypedEquations, ClockedEquations, InitialisedNodes, DeclarationsAndNodes, ProgramsAre};
@@ -16,7 +16,7 @@ pub fn breaks_law()
 
 /// What it asks of an expression to fit a clock, form by form.
 pub fn fits_law()
-    ensures { FitsLaw }
+    ensures { FitsClockLaw }
 {}
 
 /// Where some assignment of classes meets all rules, the least one that meets the rules but the needs does.

@@ -15,8 +15,8 @@
 //!
 //! # Refusals
 //!
-//! - `specs/Told.antt` and [`StatError`]: what a refusal reports.
-//! - `specs/Faults.antt`, [`told`] and [`lesser`]: the faults of a program, and the one that is reported.
+//! - `specs/Reported.antt` and [`StatError`]: what a refusal reports.
+//! - `specs/Faults.antt`, [`reported`] and [`lesser`]: the faults of a program, and the one that is reported.
 //!
 //! # Look-up and the search
 //!
@@ -42,7 +42,7 @@ mod stage;
 pub use catalog::Catalog;
 pub use clock_ref::{ClockRef, PatternRef, PlacedClock};
 pub use error::StatError;
-pub use least::{is_told_before, lesser, told};
+pub use least::{is_reported_before, lesser, reported};
 pub use lubase::Places;
 pub use scope::Scope;
 pub use stage::{Stage, least_fault};

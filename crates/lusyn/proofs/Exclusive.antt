@@ -48,8 +48,8 @@ not_wrong text ts byte found s wrong =
     let parts : unplaced wrong.before ++ unplaced wrong.rest ≡ unplaced ts = sym (map-append (λ (x : Placed). x.1) wrong.before wrong.rest) ∙ ap unplaced wrong.parts in
     none_wrong (unplaced wrong.before) (unplaced wrong.rest) found wrong.none (subst (λ us. Spells us found) (sym parts) s)
 
-lexer_fine : (text : List ℕ) (ts : List Placed) (told : LexError) → IsLexed text ts → lexing.IsRefused text told → ⊥
-lexer_fine text ts told lexed refused = ok_or_err _ ts told (lexed-whole text ts lexed) (refused-whole text told lexed.0 refused)
+lexer_fine : (text : List ℕ) (ts : List Placed) (reported : LexError) → IsLexed text ts → lexing.IsRefused text reported → ⊥
+lexer_fine text ts reported lexed refused = ok_or_err _ ts reported (lexed-whole text ts lexed) (refused-whole text reported lexed.0 refused)
 
 pub not_refused : (text : List ℕ) (found : ProgramTree) (refusal : SynError) → SpellsText text found → IsRefused text refusal → ⊥
 not_refused text found e.TooLong (written, (ts, lexed, s), few, same) (inl h) = lexer_fine text ts l.TooLong lexed h

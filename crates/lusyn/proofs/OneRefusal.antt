@@ -20,7 +20,7 @@ use Rattle.lusyn.proofs.Exclusive.{tokens_same, not_wrong}
 data Reaches (text : List ℕ) (error : SynError) : Type 0 where
   long : 1048576 < length text → error ≡ e.TooLong → Reaches text error
   wide : length text ≤ 1048576 → IsNotAscii text → error ≡ e.NotAscii → Reaches text error
-  scan : (told : LexError) → IsPlain text → whole text ≡ Err told → error ≡ refusal told → Reaches text error
+  scan : (reported : LexError) → IsPlain text → whole text ≡ Err reported → error ≡ refusal reported → Reaches text error
   wrong : (ts : List Placed) (byte : ℕ) → IsLexed text ts → IsWrongFrom ts (length text) byte → error ≡ e.Syntax byte → Reaches text error
   many : (found : ProgramTree) → HasProgram text found → error ≡ e.TooLong → Reaches text error
 
@@ -47,8 +47,8 @@ ok_or_err : {A E : Type 0} (r : Result A E) (a : A) (b : E) → r ≡ Ok a → r
 ok_or_err r a b h k = absurd cc
 
 -- a text with tokens isn't refused by the lexer
-not_scanned : (text : List ℕ) (ts : List Placed) (told : LexError) → IsLexed text ts → whole text ≡ Err told → ⊥
-not_scanned text ts told lexed h = ok_or_err (whole text) ts told (lexed-whole text ts lexed) h
+not_scanned : (text : List ℕ) (ts : List Placed) (reported : LexError) → IsLexed text ts → whole text ≡ Err reported → ⊥
+not_scanned text ts reported lexed h = ok_or_err (whole text) ts reported (lexed-whole text ts lexed) h
 
 -- tokens that spell a program aren't wrong from anywhere
 not_both : (text : List ℕ) (ts : List Placed) (byte : ℕ) (found : ProgramTree) → IsLexed text ts → IsWrongFrom ts (length text) byte → HasProgram text found → ⊥
@@ -58,28 +58,28 @@ not_both text ts byte found lexed h (us, also, spelled) =
 one_of : (text : List ℕ) (a b : SynError) → Reaches text a → Reaches text b → a ≡ b
 one_of text a b (long h is) (long k also) = is ∙ sym also
 one_of text a b (long h is) (wide k n also) = absurd (omega (arith, h, k))
-one_of text a b (long h is) (scan told plain k also) = absurd (not_long text h plain)
+one_of text a b (long h is) (scan reported plain k also) = absurd (not_long text h plain)
 one_of text a b (long h is) (wrong ts byte lexed k also) = absurd (not_long text h lexed.0)
 one_of text a b (long h is) (many found k also) = is ∙ sym also
 one_of text a b (wide h n is) (long k also) = absurd (omega (arith, h, k))
 one_of text a b (wide h n is) (wide k m also) = is ∙ sym also
-one_of text a b (wide h n is) (scan told plain k also) = absurd (not_wide text n plain)
+one_of text a b (wide h n is) (scan reported plain k also) = absurd (not_wide text n plain)
 one_of text a b (wide h n is) (wrong ts byte lexed k also) = absurd (not_wide text n lexed.0)
 one_of text a b (wide h n is) (many found k also) = absurd (not_wide text n k.1.0)
-one_of text a b (scan told plain h is) (long k also) = absurd (not_long text k plain)
-one_of text a b (scan told plain h is) (wide k n also) = absurd (not_wide text n plain)
-one_of text a b (scan told plain h is) (scan other same k also) = is ∙ ap refusal (err_same (whole text) told other h k) ∙ sym also
-one_of text a b (scan told plain h is) (wrong ts byte lexed k also) = absurd (not_scanned text ts told lexed h)
-one_of text a b (scan told plain h is) (many found k also) = absurd (not_scanned text k.0 told k.1 h)
+one_of text a b (scan reported plain h is) (long k also) = absurd (not_long text k plain)
+one_of text a b (scan reported plain h is) (wide k n also) = absurd (not_wide text n plain)
+one_of text a b (scan reported plain h is) (scan other same k also) = is ∙ ap refusal (err_same (whole text) reported other h k) ∙ sym also
+one_of text a b (scan reported plain h is) (wrong ts byte lexed k also) = absurd (not_scanned text ts reported lexed h)
+one_of text a b (scan reported plain h is) (many found k also) = absurd (not_scanned text k.0 reported k.1 h)
 one_of text a b (wrong ts byte lexed h is) (long k also) = absurd (not_long text k lexed.0)
 one_of text a b (wrong ts byte lexed h is) (wide k n also) = absurd (not_wide text n lexed.0)
-one_of text a b (wrong ts byte lexed h is) (scan told plain k also) = absurd (not_scanned text ts told lexed k)
+one_of text a b (wrong ts byte lexed h is) (scan reported plain k also) = absurd (not_scanned text ts reported lexed k)
 one_of text a b (wrong ts byte lexed h is) (wrong us other same k also) =
     is ∙ ap e.Syntax (same_place us (length text) byte other (subst (λ xs. IsWrongFrom xs (length text) byte) (tokens_same text ts us lexed same) h) k) ∙ sym also
 one_of text a b (wrong ts byte lexed h is) (many found k also) = absurd (not_both text ts byte found lexed h k)
 one_of text a b (many found h is) (long k also) = is ∙ sym also
 one_of text a b (many found h is) (wide k n also) = absurd (not_wide text n h.1.0)
-one_of text a b (many found h is) (scan told plain k also) = absurd (not_scanned text h.0 told h.1 k)
+one_of text a b (many found h is) (scan reported plain k also) = absurd (not_scanned text h.0 reported h.1 k)
 one_of text a b (many found h is) (wrong ts byte lexed k also) = absurd (not_both text ts byte found lexed k h)
 one_of text a b (many found h is) (many other k also) = is ∙ sym also
 

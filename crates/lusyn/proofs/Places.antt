@@ -65,9 +65,9 @@ two_nodes-scanned : whole two_nodes ≡ Ok two_nodes_tokens
 unfolding lex piece
 two_nodes-scanned = refl
 
-two_nodes-told : places_in two_nodes_tokens ≡ two_nodes_places
+two_nodes-reported : places_in two_nodes_tokens ≡ two_nodes_places
 unfolding types_in nodes_in behind declared begun enumerated
-two_nodes-told = refl
+two_nodes-reported = refl
 
 pub two_nodes-places : PlacesVector
-two_nodes-places = (two_nodes_tokens, answer-is two_nodes (Ok two_nodes_tokens) (omega arith, low two_nodes two_nodes-low) two_nodes-scanned, two_nodes-told)
+two_nodes-places = (two_nodes_tokens, answer-is two_nodes (Ok two_nodes_tokens) (omega arith, low two_nodes two_nodes-low) two_nodes-scanned, two_nodes-reported)

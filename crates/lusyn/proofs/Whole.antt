@@ -27,7 +27,7 @@ use Rattle.lusyn.proofs.Limits.{not_large}
 -- ---- the lexer refuses
 
 module _ {Y : Type 0} (seen : Y → List Lexeme) (text : List ℕ) where
-  without_tokens : (told : LexError) (error : SynError) (ts : List Placed) → Lexes {X = Y} seen (Err told) (Ok ts) → Refuses (Err (refusal told)) error
+  without_tokens : (reported : LexError) (error : SynError) (ts : List Placed) → Lexes {X = Y} seen (Err reported) (Ok ts) → Refuses (Err (refusal reported)) error
   without_tokens l.OutOfMemory error ts h = tt
   without_tokens l.TooLong error ts h = absurd cc
   without_tokens l.NotAscii error ts h = absurd cc
@@ -35,10 +35,10 @@ module _ {Y : Type 0} (seen : Y → List Lexeme) (text : List ℕ) where
   without_tokens (l.NumberTooLarge byte) error ts h = absurd cc
   without_tokens (l.LongRun byte) error ts h = absurd cc
 
-  Err-same : (told error : LexError) (r : Result (List Placed) LexError) → r ≡ Err told → r ≡ Err error → told ≡ error
-  Err-same told error r h k = cc
+  Err-same : (reported error : LexError) (r : Result (List Placed) LexError) → r ≡ Err reported → r ≡ Err error → reported ≡ error
+  Err-same reported error r h k = cc
 
-  same_refusal : (told error : LexError) → Lexes {X = Y} seen (Err told) (Err error) → Refuses (Err (refusal told)) (refusal error)
+  same_refusal : (reported error : LexError) → Lexes {X = Y} seen (Err reported) (Err error) → Refuses (Err (refusal reported)) (refusal error)
   same_refusal l.OutOfMemory error h = tt
   same_refusal l.TooLong error h = ap refusal (Err-same l.TooLong error (Err error) h refl)
   same_refusal l.NotAscii error h = ap refusal (Err-same l.NotAscii error (Err error) h refl)
@@ -46,7 +46,7 @@ module _ {Y : Type 0} (seen : Y → List Lexeme) (text : List ℕ) where
   same_refusal (l.NumberTooLarge byte) error h = ap refusal (Err-same (l.NumberTooLarge byte) error (Err error) h refl)
   same_refusal (l.LongRun byte) error h = ap refusal (Err-same (l.LongRun byte) error (Err error) h refl)
 
-  not_answered : (told : LexError) (tree : ProgramTree) (ts : List Placed) → Lexes {X = Y} seen (Err told) (Ok ts) → IsAnswered (Err (refusal told)) tree
+  not_answered : (reported : LexError) (tree : ProgramTree) (ts : List Placed) → Lexes {X = Y} seen (Err reported) (Ok ts) → IsAnswered (Err (refusal reported)) tree
   not_answered l.OutOfMemory tree ts h = tt
   not_answered l.TooLong tree ts h = absurd cc
   not_answered l.NotAscii tree ts h = absurd cc
@@ -54,23 +54,23 @@ module _ {Y : Type 0} (seen : Y → List Lexeme) (text : List ℕ) where
   not_answered (l.NumberTooLarge byte) tree ts h = absurd cc
   not_answered (l.LongRun byte) tree ts h = absurd cc
 
-  pub lexer-only : (told : LexError) (tree : ProgramTree) → ((ts : List Placed) → IsLexed text ts → Lexes {X = Y} seen (Err told) (Ok ts))
-      → HasProgram text tree → IsAnswered (Err (refusal told)) tree
-  lexer-only told tree only (ts, lexed, s) = not_answered told tree ts (only ts lexed)
+  pub lexer-only : (reported : LexError) (tree : ProgramTree) → ((ts : List Placed) → IsLexed text ts → Lexes {X = Y} seen (Err reported) (Ok ts))
+      → HasProgram text tree → IsAnswered (Err (refusal reported)) tree
+  lexer-only reported tree only (ts, lexed, s) = not_answered reported tree ts (only ts lexed)
 
-  pub lexer-refuses : (told : LexError) (error : SynError) → ((ts : List Placed) → IsLexed text ts → Lexes {X = Y} seen (Err told) (Ok ts))
-      → ((other : LexError) → lexing.IsRefused text other → Lexes {X = Y} seen (Err told) (Err other)) → IsRefused text error → Refuses (Err (refusal told)) error
-  lexer-refuses told e.TooLong only refuses (inl h) = same_refusal told l.TooLong (refuses l.TooLong h)
-  lexer-refuses told e.TooLong only refuses (inr (found, (ts, lexed, s), many)) = without_tokens told e.TooLong ts (only ts lexed)
-  lexer-refuses told e.NotAscii only refuses h = same_refusal told l.NotAscii (refuses l.NotAscii h)
-  lexer-refuses told (e.Syntax byte) only refuses (inl h) = same_refusal told (l.NoToken byte) (refuses (l.NoToken byte) h)
-  lexer-refuses told (e.Syntax byte) only refuses (inr (ts, lexed, wrong)) = without_tokens told (e.Syntax byte) ts (only ts lexed)
-  lexer-refuses told (e.NumberTooLarge byte) only refuses h = same_refusal told (l.NumberTooLarge byte) (refuses (l.NumberTooLarge byte) h)
-  lexer-refuses told (e.LongRun byte) only refuses h = same_refusal told (l.LongRun byte) (refuses (l.LongRun byte) h)
-  lexer-refuses told e.OutOfMemory only refuses h = absurd h
+  pub lexer-refuses : (reported : LexError) (error : SynError) → ((ts : List Placed) → IsLexed text ts → Lexes {X = Y} seen (Err reported) (Ok ts))
+      → ((other : LexError) → lexing.IsRefused text other → Lexes {X = Y} seen (Err reported) (Err other)) → IsRefused text error → Refuses (Err (refusal reported)) error
+  lexer-refuses reported e.TooLong only refuses (inl h) = same_refusal reported l.TooLong (refuses l.TooLong h)
+  lexer-refuses reported e.TooLong only refuses (inr (found, (ts, lexed, s), many)) = without_tokens reported e.TooLong ts (only ts lexed)
+  lexer-refuses reported e.NotAscii only refuses h = same_refusal reported l.NotAscii (refuses l.NotAscii h)
+  lexer-refuses reported (e.Syntax byte) only refuses (inl h) = same_refusal reported (l.NoToken byte) (refuses (l.NoToken byte) h)
+  lexer-refuses reported (e.Syntax byte) only refuses (inr (ts, lexed, wrong)) = without_tokens reported (e.Syntax byte) ts (only ts lexed)
+  lexer-refuses reported (e.NumberTooLarge byte) only refuses h = same_refusal reported (l.NumberTooLarge byte) (refuses (l.NumberTooLarge byte) h)
+  lexer-refuses reported (e.LongRun byte) only refuses h = same_refusal reported (l.LongRun byte) (refuses (l.LongRun byte) h)
+  lexer-refuses reported e.OutOfMemory only refuses h = absurd h
 
-pub lexer-refused : (text : List ℕ) (told : LexError) → (told ≡ l.OutOfMemory) ⊎ lexing.IsRefused text told → (refusal told ≡ e.OutOfMemory) ⊎ IsRefused text (refusal told)
-lexer-refused text told (inl h) = inl (ap refusal h)
+pub lexer-refused : (text : List ℕ) (reported : LexError) → (reported ≡ l.OutOfMemory) ⊎ lexing.IsRefused text reported → (refusal reported ≡ e.OutOfMemory) ⊎ IsRefused text (refusal reported)
+lexer-refused text reported (inl h) = inl (ap refusal h)
 lexer-refused text l.TooLong (inr h) = inr (inl h)
 lexer-refused text l.NotAscii (inr h) = inr h
 lexer-refused text (l.NoToken byte) (inr h) = inr (inl h)
@@ -119,37 +119,37 @@ ParsesOnly ls r = (tree : ProgramTree) → Spells (toks ls) tree → parsing.IsA
 abbrev ParserRefuses : List Lexeme → ℕ → Result Program ParseError → Type 0
 ParserRefuses ls end r = (byte : ℕ) → IsWrongFrom (located ls) end byte → IsRefusedAt r byte
 
-refused_tree : (told : ParseError) (tree : ProgramTree) → parsing.IsAnswered (Err told) tree → IsAnswered (Err (syntax_refusal told)) tree
+refused_tree : (reported : ParseError) (tree : ProgramTree) → parsing.IsAnswered (Err reported) tree → IsAnswered (Err (syntax_refusal reported)) tree
 refused_tree (p.Syntax byte) tree h = absurd h
 refused_tree p.OutOfMemory tree h = tt
 
-refused_many : (told : ParseError) (tree : ProgramTree) (error : SynError) → parsing.IsAnswered (Err told) tree → Refuses (Err (syntax_refusal told)) error
+refused_many : (reported : ParseError) (tree : ProgramTree) (error : SynError) → parsing.IsAnswered (Err reported) tree → Refuses (Err (syntax_refusal reported)) error
 refused_many (p.Syntax byte) tree error h = absurd h
 refused_many p.OutOfMemory tree error h = tt
 
-refused_byte : (told : ParseError) (byte : ℕ) → IsRefusedAt (Err told) byte → Refuses (Err (syntax_refusal told)) (e.Syntax byte)
+refused_byte : (reported : ParseError) (byte : ℕ) → IsRefusedAt (Err reported) byte → Refuses (Err (syntax_refusal reported)) (e.Syntax byte)
 refused_byte (p.Syntax other) byte h = ap e.Syntax (sym h)
 refused_byte p.OutOfMemory byte h = tt
 
-pub parser-only : (text : List ℕ) (ls : List Lexeme) (told : ParseError) (tree : ProgramTree) → Scanned text ls → ParsesOnly ls (Err told)
-    → HasProgram text tree → IsAnswered (Err (syntax_refusal told)) tree
-parser-only text ls told tree h only (ts, lexed, s) = refused_tree told tree (only tree (spelled-at text ls ts tree h lexed s))
+pub parser-only : (text : List ℕ) (ls : List Lexeme) (reported : ParseError) (tree : ProgramTree) → Scanned text ls → ParsesOnly ls (Err reported)
+    → HasProgram text tree → IsAnswered (Err (syntax_refusal reported)) tree
+parser-only text ls reported tree h only (ts, lexed, s) = refused_tree reported tree (only tree (spelled-at text ls ts tree h lexed s))
 
-pub parser-refused : (text : List ℕ) (ls : List Lexeme) (told : ParseError) → Scanned text ls → parsing.IsRefused (located ls) (length text) told
-    → (syntax_refusal told ≡ e.OutOfMemory) ⊎ IsRefused text (syntax_refusal told)
+pub parser-refused : (text : List ℕ) (ls : List Lexeme) (reported : ParseError) → Scanned text ls → parsing.IsRefused (located ls) (length text) reported
+    → (syntax_refusal reported ≡ e.OutOfMemory) ⊎ IsRefused text (syntax_refusal reported)
 parser-refused text ls (p.Syntax byte) h wrong = inr (inr (located ls, h.lexed, wrong))
 parser-refused text ls p.OutOfMemory h wrong = inl refl
 
-pub parser-refuses : (text : List ℕ) (ls : List Lexeme) (told : ParseError) (error : SynError) → Scanned text ls → ParsesOnly ls (Err told) → ParserRefuses ls (length text) (Err told)
-    → IsRefused text error → Refuses (Err (syntax_refusal told)) error
-parser-refuses text ls told e.TooLong h only refuses (inl r) = absurd (h.fine l.TooLong r)
-parser-refuses text ls told e.TooLong h only refuses (inr (found, (ts, lexed, s), many)) = refused_many told found e.TooLong (only found (spelled-at text ls ts found h lexed s))
-parser-refuses text ls told e.NotAscii h only refuses r = absurd (h.fine l.NotAscii r)
-parser-refuses text ls told (e.Syntax byte) h only refuses (inl r) = absurd (h.fine (l.NoToken byte) r)
-parser-refuses text ls told (e.Syntax byte) h only refuses (inr (ts, lexed, wrong)) = refused_byte told byte (refuses byte (wrong-from text ls ts (length text) byte h lexed wrong))
-parser-refuses text ls told (e.NumberTooLarge byte) h only refuses r = absurd (h.fine (l.NumberTooLarge byte) r)
-parser-refuses text ls told (e.LongRun byte) h only refuses r = absurd (h.fine (l.LongRun byte) r)
-parser-refuses text ls told e.OutOfMemory h only refuses r = absurd r
+pub parser-refuses : (text : List ℕ) (ls : List Lexeme) (reported : ParseError) (error : SynError) → Scanned text ls → ParsesOnly ls (Err reported) → ParserRefuses ls (length text) (Err reported)
+    → IsRefused text error → Refuses (Err (syntax_refusal reported)) error
+parser-refuses text ls reported e.TooLong h only refuses (inl r) = absurd (h.fine l.TooLong r)
+parser-refuses text ls reported e.TooLong h only refuses (inr (found, (ts, lexed, s), many)) = refused_many reported found e.TooLong (only found (spelled-at text ls ts found h lexed s))
+parser-refuses text ls reported e.NotAscii h only refuses r = absurd (h.fine l.NotAscii r)
+parser-refuses text ls reported (e.Syntax byte) h only refuses (inl r) = absurd (h.fine (l.NoToken byte) r)
+parser-refuses text ls reported (e.Syntax byte) h only refuses (inr (ts, lexed, wrong)) = refused_byte reported byte (refuses byte (wrong-from text ls ts (length text) byte h lexed wrong))
+parser-refuses text ls reported (e.NumberTooLarge byte) h only refuses r = absurd (h.fine (l.NumberTooLarge byte) r)
+parser-refuses text ls reported (e.LongRun byte) h only refuses r = absurd (h.fine (l.LongRun byte) r)
+parser-refuses text ls reported e.OutOfMemory h only refuses r = absurd r
 
 -- ---- the parser gives a program
 
@@ -186,7 +186,7 @@ few-only text ls found tree h only has = read-same text ls found tree h only has
 abbrev WrittenOnly : List ℕ → Result Program SynError → Type 0
 WrittenOnly text r = (tree : ProgramTree) → HasProgram text tree → IsSmall tree → IsAnswered r tree
 
-any_tree : (told : SynError) (one other : ProgramTree) → IsAnswered (Err told) one → IsAnswered (Err told) other
+any_tree : (reported : SynError) (one other : ProgramTree) → IsAnswered (Err reported) one → IsAnswered (Err reported) other
 any_tree e.OutOfMemory one other h = tt
 any_tree e.TooLong one other h = absurd h
 any_tree e.NotAscii one other h = absurd h
@@ -194,8 +194,8 @@ any_tree (e.Syntax byte) one other h = absurd h
 any_tree (e.NumberTooLarge byte) one other h = absurd h
 any_tree (e.LongRun byte) one other h = absurd h
 
-pub refused-only : (text : List ℕ) (told : SynError) (tree : ProgramTree) → WrittenOnly text (Err told) → SpellsText text tree → IsAnswered (Err told) tree
-refused-only text told tree only (written, has, few, same) = any_tree told written tree (only written has few)
+pub refused-only : (text : List ℕ) (reported : SynError) (tree : ProgramTree) → WrittenOnly text (Err reported) → SpellsText text tree → IsAnswered (Err reported) tree
+refused-only text reported tree only (written, has, few, same) = any_tree reported written tree (only written has few)
 
 pub resolved-only : (text : List ℕ) (written found : Program) (tree : ProgramTree) → WrittenOnly text (Ok written) → program_view found ≡ resolved (program_view written) → SpellsText text tree → tree ≡ program_view found
 resolved-only text written found tree only is (other, has, few, same) = sym same ∙ ap resolved (only other has few) ∙ sym is

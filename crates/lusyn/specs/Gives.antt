@@ -19,7 +19,7 @@ IsAnswered (Err _) tree = ⊥
 abbrev pub Refuses : Result Program SynError → SynError → Type 0
 Refuses (Ok found) error = ⊥
 Refuses (Err e.OutOfMemory) error = Unit {0}
-Refuses (Err told) error = told ≡ error
+Refuses (Err reported) error = reported ≡ error
 
 -- a refusal stays as the lexer reports it
 abbrev pub refusal : LexError → SynError

@@ -2,7 +2,8 @@
 use Rattle.std.specs.Prelude.{ℕ, List, ◌++◌, codes}
 use Rattle.std.specs.Fmt.{decimal}
 use Rattle.lusyn.specs.declared.error.SynError.{SynError}
-use Rattle.lusyn.specs.declared.error.SynError.TheVariants.{Syntax, NumberTooLarge, NotAscii, TooLong, LongRun, OutOfMemory}
+use Rattle.lusyn.specs.declared.error.SynError.TheVariants.{Syntax, NumberTooLarge, NotAscii, TooLong}
+use Rattle.lusyn.specs.declared.error.SynError.TheVariants.{LongRun, OutOfMemory}
 
 -- a code and a name, and where; no line feed
 abbrev pub line_of : SynError → List ℕ

@@ -26,10 +26,13 @@ HasLongType (x ∷ xs) = (most_names < length x.names) ⊎ HasLongType xs
 abbrev pub IsLarge : ProgramTree → Type 0
 IsLarge p = (most_nodes < length p.nodes) ⊎ ((most_types < length p.types) ⊎ HasLongType p.types)
 
--- The text spells the program that it has as it is written, with what its names stand for, where that isn't too large.
+-- The text spells the program that it has as it is written, with what its names stand for, where that isn't
+-- too large.
 abbrev pub SpellsText : List ℕ → ProgramTree → Type 0
-SpellsText text found = (written : ProgramTree) × HasProgram text written × IsSmall written × (resolved written ≡ found)
+SpellsText text found = (written : ProgramTree) × HasProgram text written × IsSmall written
+    × (resolved written ≡ found)
 
 -- This text spells the program again, if some text spells it and this one isn't longer than a text may be.
 abbrev pub IsReadBack : List ℕ → ProgramTree → Type 0
-IsReadBack text found = (source : List ℕ) → SpellsText source found → length text ≤ longest_program → SpellsText text found
+IsReadBack text found = (source : List ℕ) → SpellsText source found → length text ≤ longest_program
+    → SpellsText text found

@@ -166,13 +166,13 @@ large-lex text byte (ps, w, rest, n, cut, size, is, longest, large) =
 -- ---- every text is cut into pieces as far as they go
 
 -- where the pieces end
-data Stop (rest : List ℕ) : Type 0 where
-  ended : rest ≡ [] → Stop rest
-  nothing : (b : ℕ) (u : List ℕ) → rest ≡ b ∷ u → BeginsNoPiece (b ∷ u) → Stop rest
-  large : (w u : List ℕ) (n : ℕ) → rest ≡ w ++ u → IsPiece w (Some (number n)) → IsLongest w u → 2 ^ 63 ≤ n → Stop rest
+data CutHere (rest : List ℕ) : Type 0 where
+  ended : rest ≡ [] → CutHere rest
+  nothing : (b : ℕ) (u : List ℕ) → rest ≡ b ∷ u → BeginsNoPiece (b ∷ u) → CutHere rest
+  large : (w u : List ℕ) (n : ℕ) → rest ≡ w ++ u → IsPiece w (Some (number n)) → IsLongest w u → 2 ^ 63 ≤ n → CutHere rest
 
 abbrev Cut : List ℕ → Type 0
-Cut z = (ps : Pieces) × (rest : List ℕ) × CutsTo z ps rest × Stop rest
+Cut z = (ps : Pieces) × (rest : List ℕ) × CutsTo z ps rest × CutHere rest
 
 begins_none : (b : ℕ) (z : List ℕ) → (piece (b ∷ z)).0 ≡ illegal → (piece (b ∷ z)).1 ≡ 1 → BeginsNoPiece (b ∷ z)
 begins_none b z is one = λ w rest t wis e.
@@ -229,7 +229,7 @@ pub data Outcome (text : List ℕ) : Type 0 where
   no_token : (byte : ℕ) → HasNoToken text byte → Outcome text
   large_number : (byte : ℕ) → HasLargeNumber text byte → Outcome text
 
-outcome-from : (text : List ℕ) (ps : Pieces) (rest : List ℕ) → CutsTo text ps rest → Stop rest → Outcome text
+outcome-from : (text : List ℕ) (ps : Pieces) (rest : List ℕ) → CutsTo text ps rest → CutHere rest → Outcome text
 outcome-from text ps rest cut (ended e) = let P : List ℕ → Type 0 = CutsTo text ps in found (placed 0 ps) (ps, subst P e cut, refl)
 outcome-from text ps rest cut (nothing b u e none) = let P : List ℕ → Type 0 = CutsTo text ps in no_token (length (bytes ps)) (ps, b, u, subst P e cut, refl, none)
 outcome-from text ps rest cut (large w u n e is longest big) =

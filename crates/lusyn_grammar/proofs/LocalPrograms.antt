@@ -272,9 +272,9 @@ module _ (x : Tok) (rest us : List Tok) where
   not_refused ts found e = absurd cc
 
   refused_alike : (k : ℕ) (r s : Read ProgramTree) (found : ProgramTree) → Same x rest us k r s → (r >>= to_the_end) ≡ Err (x ∷ rest) → s ≡ Ok (found, []) → ⊥
-  refused_alike k r s found (read v q b e h) at_x told = not_read q v found (sym h ∙ told)
-  refused_alike k r s found (refused q e h) at_x told = not_refused (q ++ x ∷ us) found (sym h ∙ told)
-  refused_alike k r s found (beyond b) at_x told = longer r b at_x
+  refused_alike k r s found (read v q b e h) at_x reported = not_read q v found (sym h ∙ reported)
+  refused_alike k r s found (refused q e h) at_x reported = not_refused (q ++ x ∷ us) found (sym h ∙ reported)
+  refused_alike k r s found (beyond b) at_x reported = longer r b at_x
 
 -- no text goes on with the token that is refused
 pub no_text : (before : List Tok) (x : Tok) (rest us : List Tok) (found : ProgramTree) → all_of (before ++ x ∷ rest) ≡ Err (x ∷ rest) → Spells (before ++ x ∷ us) found → ⊥

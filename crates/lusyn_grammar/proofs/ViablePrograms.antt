@@ -189,20 +189,20 @@ reader_declarations n =
     reader_then {most = n} {more = n} (declaration n []) (many (begins f.Semicolon) (further_declaration n) n) declared_and_more (some_along none_declared some_here) (omega arith) (reader_declaration n [])
     (λ xs. reader_many (begins f.Semicolon) (further_declaration n) none_declared further_declared n (reader_more_declared n) xs)
 
-abbrev Inputs : Part → Type 0
-Inputs = Spelled decls (Each IsProperDeclaration)
+abbrev ProperInputs : Part → Type 0
+ProperInputs = Spelled decls (Each IsProperDeclaration)
 
-inputs_of : (d : Part) → Spelled decls AreDeclared d → Inputs d
+inputs_of : (d : Part) → Spelled decls AreDeclared d → ProperInputs d
 inputs_of d (xs, p, h) = (xs, p.1, h)
 
-some_inputs : Some_part Inputs 0
+some_inputs : Some_part ProperInputs 0
 some_inputs = some_along (λ d here. ([], tt, here)) some_here
 
-reader_inputs : (n : ℕ) → Reader Inputs 0 n (inputs n)
+reader_inputs : (n : ℕ) → Reader ProperInputs 0 n (inputs n)
 unfolding inputs
 reader_inputs n =
-    let none : Reader Inputs 0 n (λ ts. Ok ([], ts)) = reader_along (λ d here. ([], tt, here)) (reader_ok []) in
-    let some : Reader Inputs 0 n (declarations n) = reader_less (omega arith) (omega arith) (reader_along inputs_of (reader_declarations n)) in
+    let none : Reader ProperInputs 0 n (λ ts. Ok ([], ts)) = reader_along (λ d here. ([], tt, here)) (reader_ok []) in
+    let some : Reader ProperInputs 0 n (declarations n) = reader_less (omega arith) (omega arith) (reader_along inputs_of (reader_declarations n)) in
     record {
       done = λ ts x e. tested (begins f.Close ts) (Ok ([], ts)) (declarations n ts) (Ok x) e (λ held first. none.done ts x first) (λ failed first. some.done ts x first);
       stopped = λ ts us short e. tested (begins f.Close ts) (Ok ([], ts)) (declarations n ts) (Err us) e (λ held first. none.stopped ts us short first) (λ failed first. some.stopped ts us short first);

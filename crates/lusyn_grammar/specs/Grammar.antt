@@ -24,10 +24,12 @@
 --   branch   = "(" ident "->" expr ")"
 --   call     = ident "(" [ expr { "," expr } ] ")"
 --
--- The rules from `expr` to `atom` are the levels 0 to 10 of `Tokens.antt`: what a rule spells has its level or one above, and
+-- The rules from `expr` to `atom` are the levels 0 to 10 of `Tokens.antt`: what a rule spells has its level
+-- or one above, and
 -- a place asks for a rule by its level.
 --
--- What a name stands for is none of the grammar's: a name in an expression is a variable, and of a name in a clock or a branch nothing is known but
+-- What a name stands for is none of the grammar's: a name in an expression is a variable, and of a name in a
+-- clock or a branch nothing is known but
 -- the name.
 use Rattle.std.specs.Prelude.{◌≡◌, ◌≤◌, ◌⊎◌, ℕ, Bool, true, false, List, [], ◌∷◌, map, Option, Some, None}
 use Rattle.std.specs.List.{flat_map}
@@ -85,7 +87,8 @@ pub record WrittenEquation : Type 0 where
   pub left : List (List ℕ)
   pub right : Written
 
--- The flags say whether the semicolons stand there that may be left out. No inputs or no locals are none of their text.
+-- The flags say whether the semicolons stand there that may be left out. No inputs or no locals are none of
+-- their text.
 pub record WrittenNode : Type 0 where
   pub name : List ℕ
   pub inputs : List WrittenDeclaration
@@ -141,7 +144,8 @@ sign_tokens false rest = fixed f.Not ∷ rest
 -- clock
 abbrev pub pattern_tokens : Pattern → List ℕ → List Tok → List Tok
 pattern_tokens (patterns.Truth sign) x rest = sign_tokens sign (identifier x ∷ rest)
-pattern_tokens (patterns.Label l) x rest = identifier l.name ∷ fixed f.Open ∷ identifier x ∷ fixed f.Close ∷ rest
+pattern_tokens (patterns.Label l) x rest = identifier l.name ∷ fixed f.Open ∷ identifier x ∷ fixed f.Close
+    ∷ rest
 
 -- "when" clock
 abbrev pub when_tokens : Condition → List Tok → List Tok
@@ -164,7 +168,8 @@ abbrev mutual
   tokens (current x) rest = fixed f.Current ∷ identifier x ∷ rest
   tokens (merge x patterns cs) rest = fixed f.Merge ∷ identifier x ∷ branches cs patterns rest
   tokens (call g none) rest = identifier g ∷ fixed f.Open ∷ fixed f.Close ∷ rest
-  tokens (call g (more c cs)) rest = identifier g ∷ fixed f.Open ∷ tokens c (further cs (fixed f.Close ∷ rest))
+  tokens (call g (more c cs)) rest =
+      identifier g ∷ fixed f.Open ∷ tokens c (further cs (fixed f.Close ∷ rest))
   tokens (paren c) rest = fixed f.Open ∷ tokens c (fixed f.Close ∷ rest)
 
   -- { "," expr }
@@ -176,7 +181,8 @@ abbrev mutual
   pub branches : Writtens → List Pattern → List Tok → List Tok
   branches none ps rest = rest
   branches (more c cs) [] rest = rest
-  branches (more c cs) (p ∷ ps) rest = fixed f.Open ∷ branch_token p ∷ fixed f.Arrow ∷ tokens c (fixed f.Close ∷ branches cs ps rest)
+  branches (more c cs) (p ∷ ps) rest = fixed f.Open ∷ branch_token p ∷ fixed f.Arrow
+      ∷ tokens c (fixed f.Close ∷ branches cs ps rest)
 
 -- "int" | "bool" | ident
 abbrev pub type_token : WrittenType → Tok
@@ -210,12 +216,14 @@ equation e rest = left_tokens e.left (fixed f.Equal ∷ tokens e.right rest)
 -- "node" ident "(" [ decls ] ")" "returns" "(" decls ")" [ ";" ]
 abbrev pub heading : WrittenNode → List Tok → List Tok
 heading n rest =
-    fixed f.Node ∷ identifier n.name ∷ fixed f.Open ∷ separated f.Semicolon declaration n.inputs (fixed f.Close ∷ fixed f.Returns ∷ fixed f.Open
+    fixed f.Node ∷ identifier n.name ∷ fixed f.Open ∷ separated f.Semicolon declaration n.inputs
+    (fixed f.Close ∷ fixed f.Returns ∷ fixed f.Open
     ∷ separated f.Semicolon declaration n.outputs (fixed f.Close ∷ optional n.is_heading_ended rest))
 
 -- "let" { equation ";" } "tel" [ ";" ]
 abbrev pub body : WrittenNode → List Tok → List Tok
-body n rest = fixed f.Let ∷ repeated (ended f.Semicolon equation) n.equations (fixed f.Tel ∷ optional n.is_ended rest)
+body n rest = fixed f.Let ∷ repeated (ended f.Semicolon equation) n.equations (fixed f.Tel
+    ∷ optional n.is_ended rest)
 
 -- node
 abbrev pub node : WrittenNode → List Tok → List Tok
@@ -224,7 +232,8 @@ node n rest = heading n (locals n.locals (body n rest))
 -- typedecl
 abbrev pub type_declaration : TypeTree → List Tok → List Tok
 type_declaration x rest =
-    fixed f.Type ∷ identifier x.name ∷ fixed f.Equal ∷ fixed f.Enum ∷ fixed f.OpenBrace ∷ separated f.Comma name x.names (fixed f.CloseBrace ∷ fixed f.Semicolon ∷ rest)
+    fixed f.Type ∷ identifier x.name ∷ fixed f.Equal ∷ fixed f.Enum ∷ fixed f.OpenBrace
+    ∷ separated f.Comma name x.names (fixed f.CloseBrace ∷ fixed f.Semicolon ∷ rest)
 
 -- { typedecl } node { node }
 abbrev pub program : WrittenProgram → List Tok → List Tok

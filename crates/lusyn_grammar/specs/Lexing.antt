@@ -1,5 +1,7 @@
--- Which tokens a text has. A text is cut into pieces, which are white space, comments and tokens, and each is the longest that fits.
-use Rattle.std.specs.Prelude.{◌≡◌, ◌≢◌, ◌+◌, ◌<◌, ◌≤◌, ◌^◌, ℕ, Bool, true, false, not, ◌&&◌, ◌||◌, ◌==◌, List, [], ◌∷◌, ◌++◌, length, Option, Some, None}
+-- Which tokens a text has. A text is cut into pieces, which are white space, comments and tokens, and each is
+-- the longest that fits.
+use Rattle.std.specs.Prelude.{◌≡◌, ◌≢◌, ◌+◌, ◌<◌, ◌≤◌, ◌^◌, ℕ, Bool, true, false, not, ◌&&◌, ◌||◌, ◌==◌, List}
+use Rattle.std.specs.Prelude.{[], ◌∷◌, ◌++◌, length, Option, Some, None}
 use Rattle.std.specs.Char.{is_ascii_digit, is_ascii_alphabetic, is_ascii_alphanumeric}
 use Rattle.std.specs.List.{list_all}
 use Rattle.std.specs.Str.Parse.{digits_value}
@@ -32,7 +34,8 @@ abbrev pub is_digits : List ℕ → Bool
 is_digits [] = false
 is_digits (b ∷ w) = list_all is_ascii_digit (b ∷ w)
 
--- These bytes are one piece: this token, or none where they are white space or a comment. A keyword or a sign is `spelled`
+-- These bytes are one piece: this token, or none where they are white space or a comment. A keyword or a sign
+-- is `spelled`
 -- as it is, a name is a word that none of these has, and a number has any size here. 45 is `-`.
 pub data IsPiece (w : List ℕ) (t : Option Tok) : Type 0 where
   blank : (b : ℕ) → is_blank b ≡ true → w ≡ b ∷ [] → t ≡ None → IsPiece w t

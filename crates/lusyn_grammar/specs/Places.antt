@@ -1,4 +1,5 @@
--- The places of a program's parts, as its tokens give them: where the names of its types and of their enumerations, the names of its nodes, its
+-- The places of a program's parts, as its tokens give them: where the names of its types and of their
+-- enumerations, the names of its nodes, its
 -- declared names and its equations begin.
 use Rattle.std.specs.Prelude.{ℕ, Bool, true, false, not, ◌||◌, List, [], ◌∷◌, if◌then◌else◌}
 use Rattle.lutree.specs.Places.{TypePlaces, NodePlaces, ProgramPlaces}
@@ -40,21 +41,24 @@ abbrev pub is_declared : Bool → Tok → Bool
 is_declared used (identifier x) = not used
 is_declared used _ = false
 
--- the places of the names that are declared here; the truth value says whether the first token is behind `:`, `when`, `not` or `(`
+-- the places of the names that are declared here; the truth value says whether the first token is behind `:`,
+-- `when`, `not` or `(`
 unfoldable pub declared : Bool → List Placed → List ℕ
 declared used [] = []
 declared used (x ∷ xs) =
     let others = declared (begins_use x.1) xs in
     if ends_declarations x.1 then [] else if is_declared used x.1 then x.0 ∷ others else others
 
--- The places at which equations begin here, up to `tel`: one begins behind each `;`, and the truth value says whether one begins at the first token.
+-- The places at which equations begin here, up to `tel`: one begins behind each `;`, and the truth value says
+-- whether one begins at the first token.
 unfoldable pub begun : Bool → List Placed → List ℕ
 begun here [] = []
 begun here (x ∷ xs) =
     let others = begun (is f.Semicolon x.1) xs in
     if is f.Tel x.1 then [] else if here then x.0 ∷ others else others
 
--- The places of a node, of the tokens behind `node`: its name comes first, inputs are declared behind `(`, outputs behind the
+-- The places of a node, of the tokens behind `node`: its name comes first, inputs are declared behind `(`,
+-- outputs behind the
 -- `(` behind `returns`, locals behind `var`, and equations begin behind `let`.
 abbrev pub node_places_in : List Placed → NodePlaces
 node_places_in xs = record {
@@ -81,7 +85,8 @@ enumerated (x ∷ xs) =
     let others = enumerated xs in
     if is f.CloseBrace x.1 then [] else if is_name x.1 then x.0 ∷ others else others
 
--- the places of a type, of the tokens behind `type`: its name comes first, and those of its enumeration behind `{`
+-- the places of a type, of the tokens behind `type`: its name comes first, and those of its enumeration
+-- behind `{`
 abbrev pub type_places_in : List Placed → TypePlaces
 type_places_in xs = record { name = first xs; names = enumerated (behind f.OpenBrace xs) }
 

@@ -1,6 +1,9 @@
--- The canonical form of a tree: parentheses exactly where they are needed, and one name a declaration. The semicolons that may
--- be left out stand after a heading, and not after a node's end. A name of an enumeration is given by its name alone.
-use Rattle.std.specs.Prelude.{◌≡◌, ◌⊎◌, ℕ, true, false, nat_le, List, [], ◌∷◌, map, Option, Some, None, if◌then◌else◌}
+-- The canonical form of a tree: parentheses exactly where they are needed, and one name a declaration. The
+-- semicolons that may
+-- be left out stand after a heading, and not after a node's end. A name of an enumeration is given by its
+-- name alone.
+use Rattle.std.specs.Prelude.{◌≡◌, ◌⊎◌, ℕ, true, false, nat_le, List, [], ◌∷◌, map, Option, Some, None}
+use Rattle.std.specs.Prelude.{if◌then◌else◌}
 use Rattle.lutree.specs.declared.expr.Pattern.{Pattern}
 use Rattle.lutree.specs.declared.expr.Pattern.TheVariants as patterns
 use Rattle.lutree.specs.declared.expr.Condition.{Condition}
@@ -9,7 +12,11 @@ use Rattle.lutree.specs.declared.program.Kind.TheVariants as kinds
 use Rattle.lutree.specs.Tree.{Tree, Trees, TypeTree, DeclarationTree, EquationTree, NodeTree, ProgramTree}
 use Rattle.lutree.specs.Tree as t
 use Rattle.lusyn_grammar.specs.Tokens.{left, right}
-use Rattle.lusyn_grammar.specs.Grammar.{Written, Writtens, number, truth, variable, unary, binary, choice, when, current, merge, call, paren, none, more, level_of, WrittenType, int, bool, named, WrittenDeclaration, WrittenEquation, WrittenNode, WrittenProgram, Each, IsNonempty, IsDefinedBy, bare_label, truths, declared}
+use Rattle.lusyn_grammar.specs.Grammar.{Written, Writtens, number, truth, variable, unary, binary, choice}
+use Rattle.lusyn_grammar.specs.Grammar.{when, current, merge, call, paren, none, more, level_of, WrittenType}
+use Rattle.lusyn_grammar.specs.Grammar.{int, bool, named, WrittenDeclaration, WrittenEquation, WrittenNode}
+use Rattle.lusyn_grammar.specs.Grammar.{WrittenProgram, Each, IsNonempty, IsDefinedBy, bare_label, truths}
+use Rattle.lusyn_grammar.specs.Grammar.{declared}
 
 -- in parentheses exactly where it binds less tightly than its place asks
 abbrev pub placed : ℕ → Written → Written
@@ -53,7 +60,11 @@ written_type kinds.Bool None = bool
 written_type (kinds.Enum place size) None = named []
 
 abbrev pub written_declaration : DeclarationTree → WrittenDeclaration
-written_declaration d = record { names = d.name ∷ []; kind = written_type d.kind d.type_name; clock = bare_clock d.clock }
+written_declaration d = record {
+  names = d.name ∷ [];
+  kind = written_type d.kind d.type_name;
+  clock = bare_clock d.clock;
+}
 
 abbrev pub written_equation : EquationTree → WrittenEquation
 written_equation e = record { left = e.left; right = written e.right }
@@ -72,7 +83,8 @@ written_node n = record {
 abbrev pub written_program : ProgramTree → WrittenProgram
 written_program p = record { types = p.types; nodes = map written_node p.nodes }
 
--- The tree without what its names of enumerations stand for: each is a variable in an expression, and elsewhere a name of which nothing else is
+-- The tree without what its names of enumerations stand for: each is a variable in an expression, and
+-- elsewhere a name of which nothing else is
 -- known.
 
 abbrev mutual
@@ -133,7 +145,8 @@ abbrev mutual
   IsPrintableTree (t.binary op a b) = IsPrintableTree a × IsPrintableTree b
   IsPrintableTree (t.choice a b c) = IsPrintableTree a × IsPrintableTree b × IsPrintableTree c
   IsPrintableTree (t.when a clock) = IsPrintableTree a
-  IsPrintableTree (t.merge x patterns xs) = ArePrintable xs × AreMatched xs patterns × ArePrintablePatterns patterns
+  IsPrintableTree (t.merge x patterns xs) = ArePrintable xs × AreMatched xs patterns
+      × ArePrintablePatterns patterns
   IsPrintableTree (t.call g xs) = ArePrintable xs
   IsPrintableTree _ = Unit {0}
 

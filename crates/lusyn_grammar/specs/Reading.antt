@@ -1,20 +1,25 @@
--- Reading from left to right, by the levels of the operators. Where the tokens don't begin so, the answer is the rest of the
--- tokens from the refused one on, which is the first that isn't what has to stand there; it is empty where tokens are missing.
+-- Reading from left to right, by the levels of the operators. Where the tokens don't begin so, the answer is
+-- the rest of the
+-- tokens from the refused one on, which is the first that isn't what has to stand there; it is empty where
+-- tokens are missing.
 -- What is found of several pieces is put behind what was found before.
-use Rattle.std.specs.Prelude.{ℕ, zero, suc, Bool, true, false, ◌&&◌, ◌||◌, nat_le, List, [], ◌∷◌, ◌++◌, map, length, Option, Some, None, Result, Ok, Err, if◌then◌else◌}
+use Rattle.std.specs.Prelude.{ℕ, zero, suc, Bool, true, false, ◌&&◌, ◌||◌, nat_le, List, [], ◌∷◌, ◌++◌, map}
+use Rattle.std.specs.Prelude.{length, Option, Some, None, Result, Ok, Err, if◌then◌else◌}
 use Rattle.std.specs.Result.{is_ok}
 use Rattle.std.specs.Str.{bytes_eq}
 use Rattle.lutree.specs.declared.expr.Prefix.{Prefix}
 use Rattle.lutree.specs.declared.expr.Infix.{Infix}
 use Rattle.lutree.specs.declared.expr.Pattern.TheVariants as patterns
 use Rattle.lutree.specs.declared.expr.Condition.{Condition}
-use Rattle.lutree.specs.Tree.{Tree, none, more, trees_of, TypeTree, DeclarationTree, EquationTree, NodeTree, ProgramTree}
+use Rattle.lutree.specs.Tree.{Tree, none, more, trees_of, TypeTree, DeclarationTree, EquationTree, NodeTree}
+use Rattle.lutree.specs.Tree.{ProgramTree}
 use Rattle.lutree.specs.Tree as t
 use Rattle.lusyn_grammar.specs.declared.token.Fixed.{Fixed}
 use Rattle.lusyn_grammar.specs.declared.token.Fixed.TheVariants as f
 use Rattle.lusyn_grammar.specs.Tokens.{Tok, identifier, number, fixed, text_of}
 use Rattle.lusyn_grammar.specs.Tokens.{infix_of, prefix_of, level, left, right}
-use Rattle.lusyn_grammar.specs.Grammar.{WrittenType, int, bool, named as named_type, bare_label, truths as both_truths, declared}
+use Rattle.lusyn_grammar.specs.Grammar.{WrittenType, int, bool, named as named_type, bare_label}
+use Rattle.lusyn_grammar.specs.Grammar.{truths as both_truths, declared}
 
 -- what was read, and what follows it; or the rest from the refused token on
 abbrev pub Read : Type 0 → Type 0
@@ -137,7 +142,8 @@ closed (Ok x) = after f.Close x.1 >>= λ rest. Ok (x.0, rest)
 
 -- the merge on this variable with these branches, each with its name
 abbrev pub merged : List ℕ → List (List ℕ × Tree) → Tree
-merged v branches = t.merge v (map (λ b. patterns.Label (bare_label b.0)) branches) (trees_of (map (λ b. b.1) branches))
+merged v branches = t.merge v (map (λ b. patterns.Label (bare_label b.0)) branches)
+    (trees_of (map (λ b. b.1) branches))
 
 -- after `current`
 abbrev pub current : List Tok → Read Tree
@@ -170,7 +176,8 @@ module _ (read : ℕ → List Tok → Read Tree) where
   -- after the parenthesis that opens them
   abbrev pub operands_by : ℕ → List Tok → Result (List Tok) (List Tok) → Read (List Tree)
   operands_by n ts (Ok rest) = Ok ([], rest)
-  operands_by n ts (Err us) = closed (read 0 ts >>= λ x. many (begins f.Comma) further_operand n (x.0 ∷ []) x.1)
+  operands_by n ts (Err us) =
+      closed (read 0 ts >>= λ x. many (begins f.Comma) further_operand n (x.0 ∷ []) x.1)
 
   unfoldable pub operands : ℕ → List Tok → Read (List Tree)
   operands n ts = operands_by n ts (after f.Close ts)
@@ -256,7 +263,8 @@ module _ (read : ℕ → List Tok → Read Tree) where
   head_by n least (fixed f.Open) rest = at_level 10 (inside rest)
   head_by n least (fixed f.If) rest = allowed 0 least (fixed f.If ∷ rest) (choice rest)
   head_by n least (fixed f.Current) rest = allowed 8 least (fixed f.Current ∷ rest) (current rest)
-  head_by n least (fixed g) rest = allowed 8 least (fixed g ∷ rest) (prefixed (fixed g ∷ rest) (prefix_of g) rest)
+  head_by n least (fixed g) rest =
+      allowed 8 least (fixed g ∷ rest) (prefixed (fixed g ∷ rest) (prefix_of g) rest)
 
   unfoldable pub head : ℕ → ℕ → List Tok → Result (ℕ × Tree × List Tok) (List Tok)
   head n least [] = Err []
@@ -320,7 +328,8 @@ ended_declaration n found ts = ended (declaration n found ts)
 
 abbrev pub locals_by : ℕ → List Tok → Result (List Tok) (List Tok) → Read (List DeclarationTree)
 locals_by n ts (Err us) = Ok ([], ts)
-locals_by n ts (Ok rest) = ended_declaration n [] rest >>= λ x. many begins_name (ended_declaration n) n x.0 x.1
+locals_by n ts (Ok rest) =
+    ended_declaration n [] rest >>= λ x. many begins_name (ended_declaration n) n x.0 x.1
 
 unfoldable pub locals : ℕ → List Tok → Read (List DeclarationTree)
 locals n ts = locals_by n ts (after f.Var ts)
@@ -389,7 +398,16 @@ heading n ts = do
   e ← after f.Open d
   outs ← declarations n e
   rest ← after f.Close outs.1
-  Ok (record { name = x.0; inputs = ins.0; outputs = outs.0; locals = []; equations = [] }, past f.Semicolon rest)
+  Ok (
+    record {
+      name = x.0;
+      inputs = ins.0;
+      outputs = outs.0;
+      locals = [];
+      equations = [];
+    },
+    past f.Semicolon rest,
+  )
 
 unfoldable pub body : ℕ → List Tok → Read (List EquationTree)
 body n ts = do
@@ -403,7 +421,16 @@ node n ts = do
   h ← heading n ts
   ls ← locals n h.1
   es ← body n ls.1
-  Ok (record { name = h.0.name; inputs = h.0.inputs; outputs = h.0.outputs; locals = ls.0; equations = es.0 }, es.1)
+  Ok (
+    record {
+      name = h.0.name;
+      inputs = h.0.inputs;
+      outputs = h.0.outputs;
+      locals = ls.0;
+      equations = es.0;
+    },
+    es.1,
+  )
 
 abbrev pub further_node : ℕ → List NodeTree → List Tok → Read (List NodeTree)
 further_node n found ts = node n ts >>= λ x. Ok (found ++ x.0 ∷ [], x.1)

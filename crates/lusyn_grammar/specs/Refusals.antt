@@ -23,7 +23,8 @@ BeginsNoPiece z = (w rest : List ℕ) (t : Option Tok) → IsPiece w t → w ++ 
 -- behind pieces stands a byte that begins none
 abbrev pub HasNoToken : List ℕ → ℕ → Type 0
 HasNoToken text byte =
-    (ps : Pieces) × (b : ℕ) × (rest : List ℕ) × CutsTo text ps (b ∷ rest) × (length (bytes ps) ≡ byte) × BeginsNoPiece (b ∷ rest)
+    (ps : Pieces) × (b : ℕ) × (rest : List ℕ) × CutsTo text ps (b ∷ rest) × (length (bytes ps) ≡ byte)
+    × BeginsNoPiece (b ∷ rest)
 
 -- behind pieces the longest one is a number above 9223372036854775807
 abbrev pub HasLargeNumber : List ℕ → ℕ → Type 0

@@ -17,7 +17,8 @@ are_of_run = list_all (λ x. is_of_run x.1)
 
 -- no more than 1,000 tokens stand next to one another without a `;`
 abbrev pub HasShortRuns : List Placed → Type 0
-HasShortRuns ts = (front run rest : List Placed) → front ++ (run ++ rest) ≡ ts → are_of_run run ≡ true → length run ≤ longest_run
+HasShortRuns ts = (front run rest : List Placed) → front ++ (run ++ rest) ≡ ts → are_of_run run ≡ true
+    → length run ≤ longest_run
 
 -- the token at this place is the first one with 1,000 others of its run before it
 abbrev pub IsTooMany : List Placed → ℕ → Type 0

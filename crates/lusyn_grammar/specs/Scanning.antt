@@ -1,5 +1,6 @@
 -- Finding the tokens of a text from left to right.
-use Rattle.std.specs.Prelude.{ℕ, zero, suc, ◌+◌, ◌-◌, ◌^◌, Bool, ◌&&◌, ◌==◌, nat_lt, List, [], ◌∷◌, ◌++◌, take, Option, Some, None, Result, Ok, Err, if◌then◌else◌, slice_index}
+use Rattle.std.specs.Prelude.{ℕ, zero, suc, ◌+◌, ◌-◌, ◌^◌, Bool, ◌&&◌, ◌==◌, nat_lt, List, [], ◌∷◌, ◌++◌}
+use Rattle.std.specs.Prelude.{take, Option, Some, None, Result, Ok, Err, if◌then◌else◌, slice_index}
 use Rattle.std.specs.Char.{is_ascii_digit}
 use Rattle.std.specs.List.{prefix_len}
 use Rattle.std.specs.Str.Parse.{digits_value}
@@ -38,7 +39,8 @@ sign b next =
     else if b == 42 then Some (f.Star, 1)
     else if b == 45 then (if next == 62 then Some (f.Arrow, 2) else Some (f.Minus, 1))
     else if b == 61 then (if next == 62 then Some (f.Implies, 2) else Some (f.Equal, 1))
-    else if b == 60 then (if next == 61 then Some (f.LessEqual, 2) else if next == 62 then Some (f.Unequal, 2) else Some (f.Less, 1))
+    else if b == 60 then (if next == 61 then Some (f.LessEqual, 2) else if next == 62 then Some (f.Unequal, 2)
+    else Some (f.Less, 1))
     else if b == 62 then (if next == 61 then Some (f.GreaterEqual, 2) else Some (f.Greater, 1))
     else None
 
@@ -62,8 +64,10 @@ unfoldable pub piece : List ℕ → Piece × ℕ
 piece z =
     if is_blank (slice_index z 0) then (blank, 1)
     else if is_comment (slice_index z 0) (slice_index z 1) then (blank, prefix_len is_line z)
-    else if is_letter (slice_index z 0) then (token (word (take (prefix_len is_word z) z)), prefix_len is_word z)
-    else if is_ascii_digit (slice_index z 0) then (numeral (take (prefix_len is_ascii_digit z) z), prefix_len is_ascii_digit z)
+    else if is_letter (slice_index z 0)
+    then (token (word (take (prefix_len is_word z) z)), prefix_len is_word z)
+    else if is_ascii_digit (slice_index z 0)
+    then (numeral (take (prefix_len is_ascii_digit z) z), prefix_len is_ascii_digit z)
     else signed (sign (slice_index z 0) (slice_index z 1))
 
 -- the tokens with their places, or why there are none
@@ -81,7 +85,8 @@ after at (token t) (Err e) = Err e
 after at too_large rest = Err (NumberTooLarge at)
 after at illegal rest = Err (NoToken at)
 
--- The tokens from a place on, each with its place; the first number counts the bytes that are left of the last one.
+-- The tokens from a place on, each with its place; the first number counts the bytes that are left of the
+-- last one.
 unfoldable pub lex : ℕ → ℕ → List ℕ → Lexed
 lex left at [] = Ok []
 lex (suc left) at (b ∷ z) = lex left (at + 1) z
@@ -97,7 +102,8 @@ first (Some place) at = Some place
 
 -- one token more
 abbrev pub counted : Count → Placed → Count
-counted c x = if is_of_run x.1 then (if nat_lt c.0 longest_run then (c.0 + 1, c.1) else (c.0, first c.1 x.0)) else (0, c.1)
+counted c x = if is_of_run x.1 then (if nat_lt c.0 longest_run then (c.0 + 1, c.1) else (c.0, first c.1 x.0))
+    else (0, c.1)
 
 abbrev pub count : Count → List Placed → Count
 count c [] = c

@@ -68,7 +68,9 @@ text_of f.Implies = codes "=>"
 -- those that are spelled like identifiers
 abbrev pub keywords : List Fixed
 keywords =
-    f.Node ∷ f.Returns ∷ f.Var ∷ f.Let ∷ f.Tel ∷ f.Int ∷ f.Bool ∷ f.True ∷ f.False ∷ f.If ∷ f.Then ∷ f.Else ∷ f.Pre ∷ f.FollowedBy ∷ f.Current ∷ f.When ∷ f.Merge ∷ f.Not ∷ f.And ∷ f.Or ∷ f.Xor ∷ f.Divide ∷ f.Modulo ∷ f.Type ∷ f.Enum ∷ []
+    f.Node ∷ f.Returns ∷ f.Var ∷ f.Let ∷ f.Tel ∷ f.Int ∷ f.Bool ∷ f.True ∷ f.False ∷ f.If ∷ f.Then ∷ f.Else
+    ∷ f.Pre ∷ f.FollowedBy ∷ f.Current ∷ f.When ∷ f.Merge ∷ f.Not ∷ f.And ∷ f.Or ∷ f.Xor ∷ f.Divide
+    ∷ f.Modulo ∷ f.Type ∷ f.Enum ∷ []
 
 abbrev pub keyword_among : List Fixed → List ℕ → Option Fixed
 keyword_among [] x = None
@@ -93,7 +95,8 @@ located = map (λ l. (l.place, tok l.token))
 
 -- OPERATORS
 
--- How tightly each form binds, and how tightly the forms at its places have to. A greater level binds more tightly. A rule of
+-- How tightly each form binds, and how tightly the forms at its places have to. A greater level binds more
+-- tightly. A rule of
 -- the grammar has the forms of its level and of all above.
 --
 --   level  rule   form                            its operands
@@ -108,7 +111,8 @@ located = map (λ l. (l.place, tok l.token))
 --   8      unary  not, - before an operand, pre   8
 --          unary  current                         a name
 --   9      post   when                            9, and a clock
---   10     atom   names, numbers, true, false, calls, parentheses, merge; 0 for arguments, in parentheses and for branches
+--   10     atom   names, numbers, true, false, calls, parentheses, merge; 0 for arguments, in parentheses and
+-- for branches
 
 -- the token of each operator
 abbrev pub prefix_token : Prefix → Fixed

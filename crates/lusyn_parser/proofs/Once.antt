@@ -26,8 +26,8 @@ same_node v a a' b b' c c' d d' h k l m = cc
 abbrev whole : List TypeTree → List NodeTree → ProgramTree
 whole ds ns = record { types = ds; nodes = ns }
 
-abbrev told : DeclarationTree → Kind → Option Condition → DeclarationTree
-told d k c = record { name = d.name; kind = k; type_name = d.type_name; clock = c }
+abbrev reported : DeclarationTree → Kind → Option Condition → DeclarationTree
+reported d k c = record { name = d.name; kind = k; type_name = d.type_name; clock = c }
 
 map_same : {A : Type 0} (f : A → A) → ((x : A) → f x ≡ x) → (xs : List A) → map f xs ≡ xs
 map_same f h [] = refl
@@ -88,8 +88,8 @@ module _ (types : List TypeTree) where
 
   declaration-twice : (d : DeclarationTree) → resolved_declaration types (resolved_declaration types d) ≡ resolved_declaration types d
   declaration-twice d =
-      ap (λ (k : Kind). told d k (resolved_clock types (resolved_clock types d.clock))) (kind-twice d.kind d.type_name)
-      ∙ ap (told d (resolved_kind types d.kind d.type_name)) (clock-twice d.clock)
+      ap (λ (k : Kind). reported d k (resolved_clock types (resolved_clock types d.clock))) (kind-twice d.kind d.type_name)
+      ∙ ap (reported d (resolved_kind types d.kind d.type_name)) (clock-twice d.clock)
 
   equation-twice : (e : EquationTree) → resolved_equation types (resolved_equation types e) ≡ resolved_equation types e
   equation-twice e = ap (defined e.left) (tree-twice e.right)
@@ -138,7 +138,7 @@ kind-same kind None = refl
 kind-same kind (Some x) = refl
 
 declaration-same : (d : DeclarationTree) → resolved_declaration [] d ≡ d
-declaration-same d = ap (λ (k : Kind). told d k (resolved_clock [] d.clock)) (kind-same d.kind d.type_name) ∙ ap (told d d.kind) (clock-same d.clock)
+declaration-same d = ap (λ (k : Kind). reported d k (resolved_clock [] d.clock)) (kind-same d.kind d.type_name) ∙ ap (reported d d.kind) (clock-same d.clock)
 
 equation-same : (e : EquationTree) → resolved_equation [] e ≡ e
 equation-same e = ap (defined e.left) (tree-same e.right)

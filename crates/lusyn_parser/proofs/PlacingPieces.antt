@@ -23,7 +23,7 @@ use Rattle.lutree.specs.declared.program.DeclaredName.{DeclaredName}
 use Rattle.lusyn_parser.specs.Gives.{Gives, ahead}
 use Rattle.lusyn_parser.specs.declared.error.Stop.{Stop}
 use Rattle.lusyn_parser.specs.Refused.{place}
-use Rattle.lusyn_parser.specs.Places.{from, TellsNames, Lists, Declares, Defines}
+use Rattle.lusyn_parser.specs.Places.{from, SpellsNames, Lists, Declares, Defines}
 use Rattle.lusyn_parser.proofs.Placing.{stands, same_from, begun_first, begun_over}
 
 -- SINGLE TOKENS
@@ -119,7 +119,7 @@ lists_name ls at next end old new x v more there e =
           ∙ ap (λ (us : List ℕ). name_places old ++ us) (sym (ap F (at_name ls at next v e) ∙ t.name (first (from ls at)) v (from ls next)));
     }
 
-declared_tells : TellsNames (declared false)
+declared_tells : SpellsNames (declared false)
 declared_tells = record { name = declared_name; comma = λ p xs. declared_sign f.Comma p xs refl refl }
 
 pub declares_listed : (ls : List Lexeme) (at next : ℕ) (a b : List ℕ) → Lists ls at next a b → Declares ls at next a b
@@ -133,7 +133,7 @@ enumerated_comma : (p : ℕ) (xs : List Placed) → enumerated ((p, fixed f.Comm
 unfolding enumerated
 enumerated_comma p xs = refl
 
-pub enumerated_tells : TellsNames enumerated
+pub enumerated_tells : SpellsNames enumerated
 enumerated_tells = record { name = enumerated_name; comma = enumerated_comma }
 
 -- TYPES AND CLOCKS

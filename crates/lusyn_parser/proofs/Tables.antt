@@ -20,34 +20,34 @@ use Rattle.lusyn_parser.specs.Tables.{types_view, mark, marked, marks_of, names_
 -- WHAT IS FOUND
 
 -- what a name stands for, where its place in the row, counted from a number on, is given
-abbrev pub Told : List Label → List ℕ → ℕ → Option ℕ → Type 0
-Told ls x i None = label_among ls x ≡ None
-Told ls x i (Some k) = (j : ℕ) × (k ≡ i + j) × (m : Kind × ℕ) × (slice_get (marks_of ls) j ≡ Some m) × (label_among ls x ≡ Some (marked x m))
+abbrev pub FindsLabel : List Label → List ℕ → ℕ → Option ℕ → Type 0
+FindsLabel ls x i None = label_among ls x ≡ None
+FindsLabel ls x i (Some k) = (j : ℕ) × (k ≡ i + j) × (m : Kind × ℕ) × (slice_get (marks_of ls) j ≡ Some m) × (label_among ls x ≡ Some (marked x m))
 
-told_behind : (l : Label) (ls : List Label) (x : List ℕ) (i : ℕ) (o : Option ℕ) → bytes_eq l.name x ≡ false → Told ls x (i + 1) o → Told (l ∷ ls) x i o
-told_behind l ls x i None other h = ap (λ (b : Bool). cond b (Some (marked x (mark l))) (label_among ls x)) other ∙ h
-told_behind l ls x i (Some k) other (j, e, m, here, found) =
+reported_behind : (l : Label) (ls : List Label) (x : List ℕ) (i : ℕ) (o : Option ℕ) → bytes_eq l.name x ≡ false → FindsLabel ls x (i + 1) o → FindsLabel (l ∷ ls) x i o
+reported_behind l ls x i None other h = ap (λ (b : Bool). cond b (Some (marked x (mark l))) (label_among ls x)) other ∙ h
+reported_behind l ls x i (Some k) other (j, e, m, here, found) =
     (suc j, omega (arith, e), m, here, ap (λ (b : Bool). cond b (Some (marked x (mark l))) (label_among ls x)) other ∙ found)
 
-told_step : (l : Label) (ls : List Label) (x : List ℕ) (i : ℕ) (o : Option ℕ) (b : Bool) → bytes_eq l.name x ≡ b → Told ls x (i + 1) o → Told (l ∷ ls) x i (cond b (Some i) o)
-told_step l ls x i o true same h = (0, omega arith, mark l, refl, ap (λ (b : Bool). cond b (Some (marked x (mark l))) (label_among ls x)) same)
-told_step l ls x i o false other h = told_behind l ls x i o other h
+reported_step : (l : Label) (ls : List Label) (x : List ℕ) (i : ℕ) (o : Option ℕ) (b : Bool) → bytes_eq l.name x ≡ b → FindsLabel ls x (i + 1) o → FindsLabel (l ∷ ls) x i (cond b (Some i) o)
+reported_step l ls x i o true same h = (0, omega arith, mark l, refl, ap (λ (b : Bool). cond b (Some (marked x (mark l))) (label_among ls x)) same)
+reported_step l ls x i o false other h = reported_behind l ls x i o other h
 
-told : (ls : List Label) (x : List ℕ) (i : ℕ) → Told ls x i (place_from i (names_of ls) x)
-told [] x i = refl
-told (l ∷ ls) x i = told_step l ls x i (place_from (i + 1) (names_of ls) x) (bytes_eq l.name x) refl (told ls x (i + 1))
+reported : (ls : List Label) (x : List ℕ) (i : ℕ) → FindsLabel ls x i (place_from i (names_of ls) x)
+reported [] x i = refl
+reported (l ∷ ls) x i = reported_step l ls x i (place_from (i + 1) (names_of ls) x) (bytes_eq l.name x) refl (reported ls x (i + 1))
 
-pub told-first : (ls : List Label) (x : List ℕ) (o : Option ℕ) → first_place (names_of ls) x ≡ o → Told ls x 0 o
-told-first ls x o e = subst (Told ls x 0) e (told ls x 0)
+pub reported-first : (ls : List Label) (x : List ℕ) (o : Option ℕ) → first_place (names_of ls) x ≡ o → FindsLabel ls x 0 o
+reported-first ls x o e = subst (FindsLabel ls x 0) e (reported ls x 0)
 
 pub found-at : (ls : List Label) (x : List ℕ) (k : ℕ) → first_place (names_of ls) x ≡ Some k → (m : Kind × ℕ) × (slice_get (marks_of ls) k ≡ Some m) × (label_among ls x ≡ Some (marked x m))
 found-at ls x k e =
-    let (j, is, m, here, found) = told-first ls x (Some k) e in
+    let (j, is, m, here, found) = reported-first ls x (Some k) e in
     let same : j ≡ k = omega (arith, is) in
     (m, subst (λ (i : ℕ). slice_get (marks_of ls) i ≡ Some m) same here, found)
 
 pub not-found : (ls : List Label) (x : List ℕ) → first_place (names_of ls) x ≡ None → label_among ls x ≡ None
-not-found ls x e = told-first ls x None e
+not-found ls x e = reported-first ls x None e
 
 -- THE ROWS SIDE BY SIDE
 

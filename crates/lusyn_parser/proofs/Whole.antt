@@ -57,7 +57,7 @@ is_wrong ls end byte at there e =
       before = before;
       rest = rest;
       parts = take-append-drop at (located ls);
-      told = there ∙ ap (place end) (sym (drop-map (λ (l : Lexeme). (l.place, tok l.token)) at ls));
+      reported = there ∙ ap (place end) (sym (drop-map (λ (l : Lexeme). (l.place, tok l.token)) at ls));
       begun = (others, found, subst P same spelled);
       none = goes_on (unplaced before) (unplaced rest) (ap all_of whole ∙ read);
     }
@@ -98,7 +98,7 @@ not_begun before rest behind x mid none e others found s =
     subst N e none (unplaced mid ++ others) found (subst S split s)
 
 same_by : (ts : List Placed) (end one other : ℕ) (a : IsWrongFrom ts end one) (b : IsWrongFrom ts end other) → Cuts a.before b.before a.rest b.rest → one ≡ other
-same_by ts end one other a b (same e) = a.told ∙ ap (place end) e ∙ sym b.told
+same_by ts end one other a b (same e) = a.reported ∙ ap (place end) e ∙ sym b.reported
 same_by ts end one other a b (later x mid e h) =
     let S : List Placed → Type 0 = λ us. Spells (unplaced us ++ b.begun.0) b.begun.1 in
     absurd (not_begun a.before a.rest b.rest x mid a.none e b.begun.0 b.begun.1 (subst S h b.begun.2))

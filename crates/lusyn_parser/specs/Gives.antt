@@ -1,6 +1,8 @@
 -- What the functions of the parser answer, against the reading of the grammar.
-use Rattle.std.specs.Prelude.{◌≡◌, ◌++◌, ◌∷◌, ℕ, true, false, List, [], map, drop, Option, Some, None, Result, Ok, Err}
-use Rattle.lutree.specs.Tree.{Tree, TypeTree, EquationTree, NodeTree, view, type_view as enumeration_view, declarations_view, equation_view, node_view}
+use Rattle.std.specs.Prelude.{◌≡◌, ◌++◌, ◌∷◌, ℕ, true, false, List, [], map, drop, Option, Some, None, Result}
+use Rattle.std.specs.Prelude.{Ok, Err}
+use Rattle.lutree.specs.Tree.{Tree, TypeTree, EquationTree, NodeTree, view, type_view as enumeration_view}
+use Rattle.lutree.specs.Tree.{declarations_view, equation_view, node_view}
 use Rattle.lutree.specs.declared.program.DeclaredName.{DeclaredName}
 use Rattle.lutree.specs.declared.program.TypeDeclaration.{TypeDeclaration}
 use Rattle.lutree.specs.declared.program.Equation.{Equation}
@@ -97,13 +99,17 @@ atom (fixed f.True ∷ rest) = Ok (t.truth true, rest)
 atom (fixed f.False ∷ rest) = Ok (t.truth false, rest)
 atom ts = Err ts
 
--- a name before these tokens isn't called, and an operand of the greatest level before them ends there in a place that asks for this level
+-- a name before these tokens isn't called, and an operand of the greatest level before them ends there in a
+-- place that asks for this level
 pub record EndsOperand (least : ℕ) (ts : List Tok) : Type 0 where
   pub uncalled : reading.begins f.Open ts ≡ false
-  pub stays : (read : ℕ → List Tok → Read Tree) (turns : ℕ) (found : Tree) → reading.climb read turns least 10 found ts ≡ Ok (found, ts)
+  pub stays : (read : ℕ → List Tok → Read Tree) (turns : ℕ) (found : Tree)
+      → reading.climb read turns least 10 found ts ≡ Ok (found, ts)
 
--- What was read, seen by `view`, and the place behind it are what a reading function of the grammar gives of the tokens from a place on.
-abbrev pub Reads : {X Y : Type 0} → List Lexeme → ℕ → (X → Y) → Result (X × ℕ) Stop → (List Tok → Read Y) → Type 0
+-- What was read, seen by `view`, and the place behind it are what a reading function of the grammar gives of
+-- the tokens from a place on.
+abbrev pub Reads : {X Y : Type 0} → List Lexeme → ℕ → (X → Y) → Result (X × ℕ) Stop → (List Tok → Read Y)
+    → Type 0
 Reads ls at view result reader = Gives ls (λ x. (view x.0, ahead ls x.1)) result (reader (ahead ls at))
 
 -- The same where what was read was put behind what had been found, and the place alone is answered.

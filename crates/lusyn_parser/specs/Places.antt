@@ -6,7 +6,8 @@ use Rattle.lutree.specs.declared.program.Equation.{Equation}
 use Rattle.lusyn_grammar.specs.declared.token.Fixed.TheVariants as f
 use Rattle.lusyn_grammar.specs.declared.token.Lexeme.{Lexeme}
 use Rattle.lusyn_grammar.specs.Tokens.{identifier, fixed, located}
-use Rattle.lusyn_grammar.specs.Places.{Placed, first, behind, declared, begun, node_places_in, nodes_in, types_in}
+use Rattle.lusyn_grammar.specs.Places.{Placed, first, behind, declared, begun, node_places_in, nodes_in}
+use Rattle.lusyn_grammar.specs.Places.{types_in}
 use Rattle.lusyn_parser.specs.declared.pieces.Heading.{Heading}
 
 -- the tokens from one of them on, with their places
@@ -14,16 +15,18 @@ abbrev pub from : List Lexeme → ℕ → List Placed
 from ls at = located (drop at ls)
 
 -- a function of tokens that gives the place of each name before the others, and passes over commas
-pub record TellsNames (F : List Placed → List ℕ) : Type 0 where
+pub record SpellsNames (F : List Placed → List ℕ) : Type 0 where
   pub name : (p : ℕ) (x : List ℕ) (xs : List Placed) → F ((p, identifier x) ∷ xs) ≡ p ∷ F xs
   pub comma : (p : ℕ) (xs : List Placed) → F ((p, fixed f.Comma) ∷ xs) ≡ F xs
 
--- From one token to another, what was found has grown by the names there: as each such function says, together with what stands from the second
+-- From one token to another, what was found has grown by the names there: as each such function says,
+-- together with what stands from the second
 -- token on it is what was found before together with what stands from the first token on.
 pub record Lists (ls : List Lexeme) (at next : ℕ) (old new : List ℕ) : Type 0 where
-  pub same : (F : List Placed → List ℕ) → TellsNames F → new ++ F (from ls next) ≡ old ++ F (from ls at)
+  pub same : (F : List Placed → List ℕ) → SpellsNames F → new ++ F (from ls next) ≡ old ++ F (from ls at)
 
--- From one token to another, what was found has grown by the names that are declared there: together with those from the second token on it is what
+-- From one token to another, what was found has grown by the names that are declared there: together with
+-- those from the second token on it is what
 -- was found before together with those from the first token on.
 pub record Declares (ls : List Lexeme) (at next : ℕ) (old new : List ℕ) : Type 0 where
   pub same : new ++ declared false (from ls next) ≡ old ++ declared false (from ls at)
@@ -42,11 +45,13 @@ pub record TypesGrow (ls : List Lexeme) (at next : ℕ) (old new : List TypePlac
   pub same : new ++ types_in (from ls next) ≡ old ++ types_in (from ls at)
   pub nodes : nodes_in (from ls at) ≡ nodes_in (from ls next)
 
--- A heading stands from one token, which is `node`, to another: its places are those of the node, whose locals and equations are still to come.
+-- A heading stands from one token, which is `node`, to another: its places are those of the node, whose
+-- locals and equations are still to come.
 pub record HeadingPlaces (ls : List Lexeme) (at next : ℕ) (h : Heading) : Type 0 where
   pub name : h.byte ≡ first (from ls (at + 1))
   pub inputs : declaration_places h.inputs.items ≡ declared false (behind f.Open (from ls (at + 1)))
-  pub outputs : declaration_places h.outputs.items ++ declared false (from ls next) ≡ declared false (behind f.Open (behind f.Returns (from ls (at + 1))))
+  pub outputs : declaration_places h.outputs.items ++ declared false (from ls next) ≡ declared false
+      (behind f.Open (behind f.Returns (from ls (at + 1))))
   pub locals : behind f.Var (from ls (at + 1)) ≡ behind f.Var (from ls next)
   pub equations : behind f.Let (from ls (at + 1)) ≡ behind f.Let (from ls next)
   pub nodes : nodes_in (from ls at) ≡ node_places_in (from ls (at + 1)) ∷ nodes_in (from ls next)

@@ -20,15 +20,17 @@ place end (x ∷ xs) = x.0
 -- no program goes on after these tokens with the first of those, or ends there if there are none
 abbrev pub NoneGoesOn : List Tok → List Tok → Type 0
 NoneGoesOn before [] = (found : ProgramTree) → Spells before found → ⊥
-NoneGoesOn before (refused ∷ rest) = (others : List Tok) (found : ProgramTree) → Spells (before ++ refused ∷ others) found → ⊥
+NoneGoesOn before (refused ∷ rest) = (others : List Tok) (found : ProgramTree)
+    → Spells (before ++ refused ∷ others) found → ⊥
 
--- Tokens of a text that ends at `end` are wrong from this byte on: those before it begin a program, and no program goes on
+-- Tokens of a text that ends at `end` are wrong from this byte on: those before it begin a program, and no
+-- program goes on
 -- with the one at it, or ends there if there is none.
 pub record IsWrongFrom (ts : List Placed) (end byte : ℕ) : Type 0 where
   pub before : List Placed
   pub rest : List Placed
   pub parts : before ++ rest ≡ ts
-  pub told : byte ≡ place end rest
+  pub reported : byte ≡ place end rest
   pub begun : (others : List Tok) × (found : ProgramTree) × Spells (unplaced before ++ others) found
   pub none : NoneGoesOn (unplaced before) (unplaced rest)
 
@@ -47,4 +49,4 @@ IsAnswered (Err (e.Syntax byte)) tree = ⊥
 abbrev pub IsRefusedAt : Result Program ParseError → ℕ → Type 0
 IsRefusedAt (Ok found) byte = ⊥
 IsRefusedAt (Err e.OutOfMemory) byte = Unit {0}
-IsRefusedAt (Err (e.Syntax told)) byte = byte ≡ told
+IsRefusedAt (Err (e.Syntax reported)) byte = byte ≡ reported

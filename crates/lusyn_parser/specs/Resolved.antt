@@ -1,5 +1,7 @@
--- What the names of a program stand for: each name of an enumeration is a label, which knows its type and its number there, and each type that is
--- given by a name is the enumeration of that name. Types and their names count from 0, in order of text; of two that have one name the first counts.
+-- What the names of a program stand for: each name of an enumeration is a label, which knows its type and its
+-- number there, and each type that is
+-- given by a name is the enumeration of that name. Types and their names count from 0, in order of text; of
+-- two that have one name the first counts.
 -- What no type has stays as it is.
 use Rattle.std.specs.Prelude.{ℕ, ◌+◌, List, [], ◌∷◌, ◌++◌, length, map, Option, Some, None, if◌then◌else◌}
 use Rattle.std.specs.Str.{bytes_eq}
@@ -34,7 +36,8 @@ labels = labels_from 0
 -- the first one with this name
 abbrev pub label_among : List Label → List ℕ → Option Label
 label_among [] x = None
-label_among (l ∷ ls) x = if bytes_eq l.name x then Some (record { name = x; kind = l.kind; number = l.number }) else label_among ls x
+label_among (l ∷ ls) x = if bytes_eq l.name x
+    then Some (record { name = x; kind = l.kind; number = l.number }) else label_among ls x
 
 abbrev pub label_of : List TypeTree → List ℕ → Option Label
 label_of types = label_among (labels types)
@@ -42,7 +45,8 @@ label_of types = label_among (labels types)
 -- the first type with this name
 abbrev pub kind_from : ℕ → List TypeTree → List ℕ → Option Kind
 kind_from place [] x = None
-kind_from place (y ∷ ys) x = if bytes_eq y.name x then Some (enumeration place y) else kind_from (place + 1) ys x
+kind_from place (y ∷ ys) x = if bytes_eq y.name x then Some (enumeration place y)
+    else kind_from (place + 1) ys x
 
 abbrev pub kind_of : List TypeTree → List ℕ → Option Kind
 kind_of = kind_from 0

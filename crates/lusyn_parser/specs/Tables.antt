@@ -30,4 +30,5 @@ AreFew types = (length types ≤ most_types) × Each (λ x. length x.names ≤ m
 
 -- no type at any place has more names than that
 abbrev pub AreShort : List TypeDeclaration → Type 0
-AreShort ts = (i : ℕ) (t : TypeDeclaration) → i < length ts → slice_index_or ts i t ≡ t → length t.names ≤ most_names
+AreShort ts = (i : ℕ) (t : TypeDeclaration) → i < length ts → slice_index_or ts i t ≡ t
+    → length t.names ≤ most_names

@@ -235,10 +235,10 @@ impl<'t> Reader<'t> {
 
     /// What was read, as an operand of this level.
     fn operand(&self, level: u8, read: Result<(Expr, usize), Stop>) -> Result<Operand, Stop>
-        ensures operand { (told : reading.Read t.Tree) → Gives self.now.tokens.now
-            (λ x. (view x.0, ahead self.now.tokens.now x.1)) read told
+        ensures operand { (reported : reading.Read t.Tree) → Gives self.now.tokens.now
+            (λ x. (view x.0, ahead self.now.tokens.now x.1)) read reported
             → Gives self.now.tokens.now (operand_view self.now.tokens.now) result
-            (reading.at_level level told) }
+            (reading.at_level level reported) }
         ensures within { (at : ℕ) → IfOk read (λ x. at ≤ x.1) → IfOk result (λ x. at ≤ x.next) }
     {
         Ok(operand_of(level, read?))

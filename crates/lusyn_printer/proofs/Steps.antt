@@ -38,11 +38,11 @@ ended (Err x) old mid new first last all e h k = tt
 pub six_grown : {A E : Type 0} (answer : Result A E) (old a b c d e new first second third fourth fifth last all : List ℕ)
     → a ≡ old ++ first → b ≡ a ++ second → c ≡ b ++ third → d ≡ c ++ fourth → e ≡ d ++ fifth → all ≡ first ++ second ++ third ++ fourth ++ fifth ++ last
     → IfOk answer (λ _. new ≡ e ++ last) → IfOk answer (λ _. new ≡ old ++ all)
-six_grown answer old a b c d e new first second third fourth fifth last all e1 e2 e3 e4 e5 told h =
+six_grown answer old a b c d e new first second third fourth fifth last all e1 e2 e3 e4 e5 reported h =
     let two = joint old a b first second e1 e2 in
     let three = joint old b c (first ++ second) third two e3 in
     let four = joint old c d (first ++ second ++ third) fourth three e4 in
-    grown answer old e new (first ++ second ++ third ++ fourth ++ fifth) last all (joint old d e (first ++ second ++ third ++ fourth) fifth four e5) told h
+    grown answer old e new (first ++ second ++ third ++ fourth ++ fifth) last all (joint old d e (first ++ second ++ third ++ fourth) fifth four e5) reported h
 
 -- what an expression is written as, where its form is known
 seen : (e : Expr) (form : Expr) (tree : Tree) → e ≡ form → view form ≡ tree → expression (written (view e)) ≡ expression (written tree)
@@ -94,9 +94,9 @@ when_written a c e x is there =
 
 pub merge_text : (x : List ℕ) (ps : Box (List Pattern) Global) (vs : Vec Expr Global) (e : Expr) (labels : List Pattern) (values : List Expr)
     → e ≡ variant.Merge x ps vs → labels ≡ ps.value → values ≡ vs.items → operand e ≡ (codes "merge " ++ x) ++ branches (writtens (trees_of (views values))) (map bare_pattern labels)
-merge_text x ps vs e labels values is told given =
+merge_text x ps vs e labels values is reported given =
     seen e _ (t.merge x ps.value (trees_of (views vs.items))) is (viewed-Merge x ps vs)
-    ∙ ap (λ (qs : List Pattern). codes "merge " ++ x ++ branches (writtens (trees_of (views vs.items))) (map bare_pattern qs)) (sym told)
+    ∙ ap (λ (qs : List Pattern). codes "merge " ++ x ++ branches (writtens (trees_of (views vs.items))) (map bare_pattern qs)) (sym reported)
     ∙ ap (λ (us : List Expr). codes "merge " ++ x ++ branches (writtens (trees_of (views us))) (map bare_pattern labels)) (sym given)
 
 pub call_text : (f : List ℕ) (vs : Vec Expr Global) (e : Expr) (values : List Expr) → e ≡ variant.Call f vs → values ≡ vs.items

@@ -9,7 +9,8 @@
 --     y = merge m (Up -> x when Up(m)) (Down -> pre y when Down(m));
 --   tel
 --
--- Each line ends with a line feed, and a node follows what stands before it without a blank line. Parentheses stand where
+-- Each line ends with a line feed, and a node follows what stands before it without a blank line. Parentheses
+-- stand where
 -- `written` puts them, which is where they are needed.
 use Rattle.std.specs.Prelude.{ℕ, Bool, true, false, List, [], ◌∷◌, ◌++◌, codes, Option, Some, None}
 use Rattle.std.specs.List.{flat_map}
@@ -20,7 +21,9 @@ use Rattle.lutree.specs.declared.expr.Condition.{Condition}
 use Rattle.lutree.specs.Tree.{TypeTree, DeclarationTree, EquationTree, NodeTree, ProgramTree}
 use Rattle.lusyn_grammar.specs.Tokens.{text_of}
 use Rattle.lusyn_grammar.specs.Tokens.{prefix_token, infix_token}
-use Rattle.lusyn_grammar.specs.Grammar.{Written, Writtens, number, truth, variable, unary, binary, choice, when, current, merge, call, paren, none, more, WrittenType, int, bool, named}
+use Rattle.lusyn_grammar.specs.Grammar.{Written, Writtens, number, truth, variable, unary, binary, choice}
+use Rattle.lusyn_grammar.specs.Grammar.{when, current, merge, call, paren, none, more, WrittenType, int, bool}
+use Rattle.lusyn_grammar.specs.Grammar.{named}
 use Rattle.lusyn_grammar.specs.Printing.{written, written_type}
 
 -- all of them in order, with this text between each two
@@ -63,8 +66,10 @@ abbrev mutual
   expression (truth b) = truth_text b
   expression (variable x) = x
   expression (unary op c) = text_of (prefix_token op) ++ codes " " ++ expression c
-  expression (binary op a b) = expression a ++ codes " " ++ text_of (infix_token op) ++ codes " " ++ expression b
-  expression (choice a b c) = codes "if " ++ expression a ++ codes " then " ++ expression b ++ codes " else " ++ expression c
+  expression (binary op a b) = expression a ++ codes " " ++ text_of (infix_token op) ++ codes " "
+      ++ expression b
+  expression (choice a b c) = codes "if " ++ expression a ++ codes " then " ++ expression b ++ codes " else "
+      ++ expression c
   expression (when c clock) = expression c ++ when_text clock
   expression (current x) = codes "current " ++ x
   expression (merge x ps cs) = codes "merge " ++ x ++ branches cs ps
@@ -85,7 +90,8 @@ abbrev mutual
   pub branches : Writtens → List Pattern → List ℕ
   branches none ps = []
   branches (more c cs) [] = []
-  branches (more c cs) (p ∷ ps) = codes " (" ++ branch_text p ++ codes " -> " ++ expression c ++ codes ")" ++ branches cs ps
+  branches (more c cs) (p ∷ ps) = codes " (" ++ branch_text p ++ codes " -> " ++ expression c ++ codes ")"
+      ++ branches cs ps
 
 -- DECLARATIONS, EQUATIONS AND NODES
 
@@ -110,7 +116,8 @@ declarations = joined (codes "; ") declaration
 
 -- `node f(x: int; y: bool) returns (z: int);`
 abbrev pub heading : NodeTree → List ℕ
-heading n = codes "node " ++ n.name ++ codes "(" ++ declarations n.inputs ++ codes ") returns (" ++ declarations n.outputs ++ codes ");"
+heading n = codes "node " ++ n.name ++ codes "(" ++ declarations n.inputs ++ codes ") returns ("
+    ++ declarations n.outputs ++ codes ");"
 
 -- the line `var x: int; y: bool;`, or no line where nothing is declared
 abbrev pub locals : List DeclarationTree → List ℕ
@@ -127,11 +134,13 @@ abbrev pub equation : EquationTree → List ℕ
 equation e = line (codes "  " ++ left_side e.left ++ codes " = " ++ expression (written e.right) ++ codes ";")
 
 abbrev pub node : NodeTree → List ℕ
-node n = line (heading n) ++ locals n.locals ++ line (codes "let") ++ flat_map equation n.equations ++ line (codes "tel")
+node n = line (heading n) ++ locals n.locals ++ line (codes "let") ++ flat_map equation n.equations
+    ++ line (codes "tel")
 
 -- the line `type t = enum { A, B };`
 abbrev pub type_declaration : TypeTree → List ℕ
-type_declaration x = line (codes "type " ++ x.name ++ codes " = enum { " ++ joined (codes ", ") (λ y. y) x.names ++ codes " };")
+type_declaration x = line (codes "type " ++ x.name ++ codes " = enum { " ++ joined (codes ", ")
+    (λ y. y) x.names ++ codes " };")
 
 -- the text of a whole program
 abbrev pub canonical : ProgramTree → List ℕ

@@ -10,12 +10,15 @@ use Rattle.lusyn_printer.specs.Canonical.{line, canonical}
 
 -- it has tokens, they spell the same program, and no run of them is too long where none of the text was
 abbrev pub ReadBackLaw : Type 0
-ReadBackLaw = (text : List ℕ) (ts : List Placed) (p : ProgramTree) → HasTokens text ts → Spells (map (λ x. x.1) ts) p
-    → (us : List Placed) × HasTokens (canonical p) us × Spells (map (λ x. x.1) us) p × (HasShortRuns ts → HasShortRuns us)
+ReadBackLaw = (text : List ℕ) (ts : List Placed) (p : ProgramTree) → HasTokens text ts
+    → Spells (map (λ x. x.1) ts) p
+    → (us : List Placed) × HasTokens (canonical p) us × Spells (map (λ x. x.1) us) p × (HasShortRuns ts
+    → HasShortRuns us)
 
 -- all its bytes are below 128
 abbrev pub AsciiLaw : Type 0
-AsciiLaw = (text : List ℕ) (ts : List Placed) (p : ProgramTree) → HasTokens text ts → Spells (map (λ x. x.1) ts) p → IsAscii (canonical p)
+AsciiLaw = (text : List ℕ) (ts : List Placed) (p : ProgramTree) → HasTokens text ts
+    → Spells (map (λ x. x.1) ts) p → IsAscii (canonical p)
 
 -- the canonical text of a worked program with an enumeration
 abbrev pub CanonicalVector : Type 0

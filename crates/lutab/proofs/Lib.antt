@@ -4,7 +4,7 @@ mod Fields
 mod Reached
 mod Headers
 mod Plain
-pub mod Told
+pub mod Reported
 pub mod Texts
 mod Rowwise
 pub mod Joins

@@ -73,9 +73,9 @@ datum_plain names kinds.Bool datums.Nil has = absurd has
 datum_plain names (kinds.Enum p n) (datums.Int z) has = absurd has
 datum_plain names (kinds.Enum p n) (datums.Bool b) has = absurd has
 datum_plain names (kinds.Enum p n) (datums.Name k) has =
-    let told = has.1 in
-    let text : told.name ≡ name_of names k = sym (ap (λ o. unwrap_or o []) told.there) in
-    subst (λ (t : List ℕ). IsOneLine t × (commas_in t ≡ 0)) text (name_plain told.name told.plain)
+    let reported = has.1 in
+    let text : reported.name ≡ name_of names k = sym (ap (λ o. unwrap_or o []) reported.there) in
+    subst (λ (t : List ℕ). IsOneLine t × (commas_in t ≡ 0)) text (name_plain reported.name reported.plain)
 datum_plain names (kinds.Enum p n) datums.Nil has = absurd has
 
 -- ---- rows

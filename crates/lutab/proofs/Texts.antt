@@ -13,7 +13,7 @@ use Rattle.luflow.specs.declared.data.Datum.TheVariants as datums
 use Rattle.luflow.specs.declared.variable.Enum.{Enum}
 use Rattle.luflow.specs.declared.variable.Variable.{Variable}
 use Rattle.luflow.specs.Types.{names_of as names_of_type}
-use Rattle.luflow.specs.Program.{Column, Table}
+use Rattle.luflow.specs.Program.{Column, InputsView}
 use Rattle.luflow.specs.Sound.{IsConstantOf}
 use Rattle.luflow.specs.Tables.{IsTable, AreColumnsOf}
 use Rattle.lutab.specs.Text.{Sort, sort_of, IsWord, IsValueOf, HasKind, IsRow, row_text}
@@ -131,7 +131,7 @@ count_of cs (suc n) = omega (arith, length-append (rows_of cs n) (row_of cs n �
 
 -- ---- the text
 
-pub header_same : (ks : List Sort) (xs : List Variable) (table : Table) → AreColumnsOf xs table.columns → table_text ks table ≡ header_text xs ++ flat_map (row_text ks) (rows_of table.columns table.instants)
+pub header_same : (ks : List Sort) (xs : List Variable) (table : InputsView) → AreColumnsOf xs table.columns → table_text ks table ≡ header_text xs ++ flat_map (row_text ks) (rows_of table.columns table.instants)
 header_same ks xs table is = rw (names_of xs table.columns is) refl
 
 -- a text that isn't too long has few line feeds
@@ -164,13 +164,13 @@ text_read types xs text body n cs short e read = record {
 
 -- ---- no text spells two tables
 
-filled_in : (types : List Enum) (xs : List Variable) (table : Table) (text : List ℕ) → IsTextOf types xs table text → AreFilled table.instants (sorts_of types xs) table.columns
+filled_in : (types : List Enum) (xs : List Variable) (table : InputsView) (text : List ℕ) → IsTextOf types xs table text → AreFilled table.instants (sorts_of types xs) table.columns
 filled_in types xs table text is = filled_of types table.instants xs table.columns is.columns is.is_table.long is.words
 
-pub rows_in : (types : List Enum) (xs : List Variable) (table : Table) (text : List ℕ) → IsTextOf types xs table text → All (IsRow (sorts_of types xs)) (rows_of table.columns table.instants)
+pub rows_in : (types : List Enum) (xs : List Variable) (table : InputsView) (text : List ℕ) → IsTextOf types xs table text → All (IsRow (sorts_of types xs)) (rows_of table.columns table.instants)
 rows_in types xs table text is = rows_are_rows table.instants table.instants (sorts_of types xs) table.columns (filled_in types xs table text is) (omega arith)
 
-pub spelled_in : (types : List Enum) (xs : List Variable) (table : Table) (text : List ℕ) → IsTextOf types xs table text → text ≡ header_text xs ++ flat_map (row_text (sorts_of types xs)) (rows_of table.columns table.instants)
+pub spelled_in : (types : List Enum) (xs : List Variable) (table : InputsView) (text : List ℕ) → IsTextOf types xs table text → text ≡ header_text xs ++ flat_map (row_text (sorts_of types xs)) (rows_of table.columns table.instants)
 spelled_in types xs table text is = is.spelled ∙ header_same (sorts_of types xs) xs table is.columns
 
 read_row_at : (cs : List Column) (n t : ℕ) → t < n → get_or (rows_of cs n) t [] ≡ row_of cs t
@@ -211,10 +211,10 @@ columns_same n (x ∷ xs) (c ∷ cs) (d ∷ ds) a b la lb rows =
     let more : cs ≡ ds = columns_same n xs cs ds a.2 b.2 (All-tail (IsLong n) c cs la) (All-tail (IsLong n) d ds lb) (λ t lt. data_are (get_or c.values t datums.Nil) (get_or d.values t datums.Nil) (row_of cs t) (row_of ds t) (rows t lt)) in
     rw (column_same c d (a.0 ∙ sym b.0) values, more) refl
 
-table_same : (a b : Table) → a.instants ≡ b.instants → a.columns ≡ b.columns → a ≡ b
+table_same : (a b : InputsView) → a.instants ≡ b.instants → a.columns ≡ b.columns → a ≡ b
 table_same a b n c = ap (λ (x : ℕ). record { instants = x; columns = a.columns }) n ∙ ap (λ (x : List Column). record { instants = b.instants; columns = x }) c
 
-pub one_table : (types : List Enum) (xs : List Variable) (text : List ℕ) (a b : Table) → IsTextOf types xs a text → IsTextOf types xs b text → a ≡ b
+pub one_table : (types : List Enum) (xs : List Variable) (text : List ℕ) (a b : InputsView) → IsTextOf types xs a text → IsTextOf types xs b text → a ≡ b
 one_table types xs text a b p q =
     let bodies = append_cancel_left (header_text xs) _ _ (sym (spelled_in types xs a text p) ∙ spelled_in types xs b text q) in
     let rows : rows_of a.columns a.instants ≡ rows_of b.columns b.instants = rows_same (sorts_of types xs) _ _ (rows_in types xs a text p) (rows_in types xs b text q) bodies in

@@ -19,7 +19,7 @@ use Rattle.lutree.specs.declared.program.Kind.TheVariants as kinds
 use Rattle.luflow.specs.declared.data.Datum.{Datum}
 use Rattle.luflow.specs.declared.data.Datum.TheVariants as datums
 use Rattle.luflow.specs.Types.{name_of}
-use Rattle.lutab.specs.Text.{Sort, datum_text, is_end, IsTold, IsValueOf, HasKind}
+use Rattle.lutab.specs.Text.{Sort, datum_text, is_end, IsFieldName, IsValueOf, HasKind}
 use Rattle.lutab.specs.Reading.{◌>>=◌, digits_from, number_at, natural_value, negative_value, int_at, after, or_else, truth, bool_at, field_length, front_field, name_at, value_of, value_at}
 
 -- what the digits say behind those of n
@@ -268,15 +268,15 @@ found names word k e =
     )
 
 -- a name that a field spells is found again
-found_again : (names : List (List ℕ)) (k : ℕ) (told : IsTold names k) → position (λ name. bytes_eq name told.name) names ≡ Some k
-found_again names k told =
-    let test : List ℕ → Bool = λ name. bytes_eq name told.name in
-    let inside : k < length names = slice_get_within names k told.name told.there in
-    let here : get_or names k [] ≡ told.name = get_or_from_slice_get names k told.name [] told.there in
+found_again : (names : List (List ℕ)) (k : ℕ) (reported : IsFieldName names k) → position (λ name. bytes_eq name reported.name) names ≡ Some k
+found_again names k reported =
+    let test : List ℕ → Bool = λ name. bytes_eq name reported.name in
+    let inside : k < length names = slice_get_within names k reported.name reported.there in
+    let here : get_or names k [] ≡ reported.name = get_or_from_slice_get names k reported.name [] reported.there in
     let is : position_or_len test names ≡ k =
     position_or_len_is test names k [] (omega (arith, inside))
-    (λ j l. false_from_ne_true (test (get_or names j [])) (λ yes. told.first j (get_or names j []) l (slice_get-get_or names j [] (omega (arith, l, inside))) ((bytes_eq-Decides (get_or names j []) told.name).0 yes)))
-    (λ l. (bytes_eq-Decides (get_or names k []) told.name).1 here) in
+    (λ j l. false_from_ne_true (test (get_or names j [])) (λ yes. reported.first j (get_or names j []) l (slice_get-get_or names j [] (omega (arith, l, inside))) ((bytes_eq-Decides (get_or names j []) reported.name).0 yes)))
+    (λ l. (bytes_eq-Decides (get_or names k []) reported.name).1 here) in
     rw (is, lt-ltb k (length names) inside) refl
 
 -- how much stands before the first byte that passes
@@ -320,12 +320,12 @@ name_takes names p n bytes d rest e =
     ) in
     subst (λ (y : Datum × List ℕ). (bytes ≡ datum_text names y.0 ++ y.1) × IsValueOf names (kinds.Enum p n) y.0) c.1 whole
 
-name_again : (names : List (List ℕ)) (n k end : ℕ) (rest : List ℕ) → k < n → IsTold names k → is_end end ≡ true → name_at names n (datum_text names (datums.Name k) ++ end ∷ rest) ≡ Some (datums.Name k, end ∷ rest)
+name_again : (names : List (List ℕ)) (n k end : ℕ) (rest : List ℕ) → k < n → IsFieldName names k → is_end end ≡ true → name_at names n (datum_text names (datums.Name k) ++ end ∷ rest) ≡ Some (datums.Name k, end ∷ rest)
 unfolding name_at
-name_again names n k end rest l told stop =
-    let text : name_of names k ≡ told.name = ap (λ o. unwrap_or o []) told.there in
-    let long = front_again told.name end rest told.plain stop in
-    rw (text, long, take_at told.name (end ∷ rest) (length told.name) refl, drop_at told.name (end ∷ rest) (length told.name) refl, found_again names k told, lt-ltb k n l) refl
+name_again names n k end rest l reported stop =
+    let text : name_of names k ≡ reported.name = ap (λ o. unwrap_or o []) reported.there in
+    let long = front_again reported.name end rest reported.plain stop in
+    rw (text, long, take_at reported.name (end ∷ rest) (length reported.name) refl, drop_at reported.name (end ∷ rest) (length reported.name) refl, found_again names k reported, lt-ltb k n l) refl
 
 -- ---- values
 

@@ -1,11 +1,12 @@
 -- The text of a table of outputs, or of all main variables.
-use Rattle.std.specs.Prelude.{ℕ, zero, suc, ◌+◌, Bool, if◌then◌else◌, List, [], ◌∷◌, ◌++◌, length, map, slice_get, slice_index_or, unwrap_or}
+use Rattle.std.specs.Prelude.{ℕ, zero, suc, ◌+◌, Bool, if◌then◌else◌, List, [], ◌∷◌, ◌++◌, length, map}
+use Rattle.std.specs.Prelude.{slice_get, slice_index_or, unwrap_or}
 use Rattle.std.specs.Option.{option_map}
 use Rattle.lutree.specs.declared.program.Kind.{Kind}
 use Rattle.luflow.specs.declared.data.Status.TheVariants.{Absent}
 use Rattle.luflow.specs.declared.variable.Enum.{Enum}
 use Rattle.luflow.specs.declared.variable.Variable.{Variable}
-use Rattle.luflow.specs.Program.{FlatProgram}
+use Rattle.luflow.specs.Program.{FlatView}
 use Rattle.luflow.specs.Tables.{OutputColumn}
 use Rattle.luflow.specs.Types.{names_of}
 use Rattle.luflow.specs.Variables.{outputs_of}
@@ -30,7 +31,8 @@ names_in types kinds i = unwrap_or (option_map (names_of types) (slice_get kinds
 -- what the outputs from number i on have at an instant, spelled by the names of their types
 abbrev pub statuses_from : List Enum → List Kind → ℕ → List OutputColumn → ℕ → List (List ℕ)
 statuses_from types kinds i [] t = []
-statuses_from types kinds i (c ∷ cs) t = status_text (names_in types kinds i) (slice_index_or c.statuses t Absent) ∷ statuses_from types kinds (i + 1) cs t
+statuses_from types kinds i (c ∷ cs) t = status_text (names_in types kinds i)
+    (slice_index_or c.statuses t Absent) ∷ statuses_from types kinds (i + 1) cs t
 
 abbrev pub statuses_at : List Enum → List Kind → List OutputColumn → ℕ → List (List ℕ)
 statuses_at types kinds outputs t = statuses_from types kinds 0 outputs t
@@ -42,7 +44,8 @@ names_text outputs = line_text (map (λ c. c.name) outputs)
 -- a line for each of the first n instants
 abbrev pub lines_of : List Enum → List Kind → List OutputColumn → ℕ → List ℕ
 lines_of types kinds outputs zero = []
-lines_of types kinds outputs (suc n) = lines_of types kinds outputs n ++ line_text (statuses_at types kinds outputs n)
+lines_of types kinds outputs (suc n) =
+    lines_of types kinds outputs n ++ line_text (statuses_at types kinds outputs n)
 
 -- a line of the names, and a line for each of so many instants
 abbrev pub lines_text : List Enum → List Kind → List OutputColumn → ℕ → List ℕ
@@ -58,5 +61,5 @@ abbrev pub column_text : List Enum → List Kind → List OutputColumn → List 
 column_text types kinds columns = lines_text types kinds columns (instants_of columns)
 
 -- the outputs of a program
-abbrev pub output_text : FlatProgram → List OutputColumn → List ℕ
+abbrev pub output_text : FlatView → List OutputColumn → List ℕ
 output_text flat outputs = column_text flat.types (output_kinds flat.variables) outputs

@@ -1,5 +1,6 @@
 -- Reading a row from left to right: a value and the bytes after it, if the bytes begin with one.
-use Rattle.std.specs.Prelude.{ℕ, ◌+◌, ◌-◌, ◌*◌, List, [], ◌∷◌, length, codes, true, false, Bool, Option, Some, None, if◌then◌else◌, nat_lt, nat_eq, ◌==◌, pos, negsuc, position, take, drop}
+use Rattle.std.specs.Prelude.{ℕ, ◌+◌, ◌-◌, ◌*◌, List, [], ◌∷◌, length, codes, true, false, Bool, Option, Some}
+use Rattle.std.specs.Prelude.{None, if◌then◌else◌, nat_lt, nat_eq, ◌==◌, pos, negsuc, position, take, drop}
 use Rattle.std.specs.Char.{is_ascii_digit}
 use Rattle.std.specs.Cmp.Lexicographic.{pointwise}
 use Rattle.std.specs.List.{position_or_len}
@@ -19,27 +20,32 @@ None >>= f = None
 unfoldable pub digits_from : ℕ → List ℕ → Option (ℕ × List ℕ)
 digits_from n [] = Some (n, [])
 digits_from n (b ∷ bs) =
-    if is_ascii_digit b then (if nat_lt 922337203685477580 n then None else digits_from (n * 10 + (b - 48)) bs) else Some (n, b ∷ bs)
+    if is_ascii_digit b then (if nat_lt 922337203685477580 n then None
+    else digits_from (n * 10 + (b - 48)) bs) else Some (n, b ∷ bs)
 
 -- digits with no leading zero
 unfoldable pub number_at : List ℕ → Option (ℕ × List ℕ)
 number_at [] = None
-number_at (b ∷ bs) = if b == 48 then Some (0, bs) else (if is_ascii_digit b then digits_from (b - 48) bs else None)
+number_at (b ∷ bs) = if b == 48 then Some (0, bs) else (if is_ascii_digit b then digits_from (b - 48) bs
+    else None)
 
 -- the number is the value itself, or the absolute value of one below 0
 unfoldable pub natural_value : ℕ × List ℕ → Option (Datum × List ℕ)
 natural_value x = if nat_lt x.0 9223372036854775808 then Some (datums.Int (pos x.0), x.1) else None
 
 unfoldable pub negative_value : ℕ × List ℕ → Option (Datum × List ℕ)
-negative_value x = if x.0 == 0 then None else (if nat_lt 9223372036854775808 x.0 then None else Some (datums.Int (negsuc (x.0 - 1)), x.1))
+negative_value x = if x.0 == 0 then None else (if nat_lt 9223372036854775808 x.0 then None
+    else Some (datums.Int (negsuc (x.0 - 1)), x.1))
 
 unfoldable pub int_at : List ℕ → Option (Datum × List ℕ)
 int_at [] = None
-int_at (b ∷ bs) = if b == 45 then (number_at bs >>= negative_value) else (number_at (b ∷ bs) >>= natural_value)
+int_at (b ∷ bs) = if b == 45 then (number_at bs >>= negative_value)
+    else (number_at (b ∷ bs) >>= natural_value)
 
 -- what follows the word
 abbrev pub after : List ℕ → List ℕ → Option (List ℕ)
-after word bytes = if pointwise nat_eq (take (length word) bytes) word then Some (drop (length word) bytes) else None
+after word bytes = if pointwise nat_eq (take (length word) bytes) word then Some (drop (length word) bytes)
+    else None
 
 abbrev pub or_else : {A : Type 0} → Option A → Option A → Option A
 or_else (Some x) o = Some x
@@ -49,7 +55,8 @@ abbrev pub truth : Bool → List ℕ → Option (Datum × List ℕ)
 truth b rest = Some (datums.Bool b, rest)
 
 unfoldable pub bool_at : List ℕ → Option (Datum × List ℕ)
-bool_at bytes = or_else (after (codes "true") bytes >>= truth true) (after (codes "false") bytes >>= truth false)
+bool_at bytes = or_else (after (codes "true") bytes >>= truth true)
+    (after (codes "false") bytes >>= truth false)
 
 -- the field at the front: what stands before the next comma or line feed
 abbrev pub field_length : List ℕ → ℕ

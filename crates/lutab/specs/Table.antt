@@ -1,5 +1,7 @@
 -- The text of a table of inputs, and what is reported of a text that is none.
-use Rattle.std.specs.Prelude.{◌≡◌, ◌⊎◌, ℕ, zero, suc, ◌+◌, ◌<◌, List, [], ◌∷◌, ◌++◌, length, map, All, Bool, true, false, not, ◌||◌, nat_lt, nat_eq, count_by, position, take, Result, Err, slice_index_or}
+use Rattle.std.specs.Prelude.{◌≡◌, ◌⊎◌, ℕ, zero, suc, ◌+◌, ◌<◌, List, [], ◌∷◌, ◌++◌, length, map, All, Bool}
+use Rattle.std.specs.Prelude.{true, false, not, ◌||◌, nat_lt, nat_eq, count_by, position, take, Result, Err}
+use Rattle.std.specs.Prelude.{slice_index_or}
 use Rattle.std.specs.List.{flat_map}
 use Rattle.std.specs.Option.{option_map_or}
 use Rattle.lulimits.specs.Limits.{longest_table, most_instants}
@@ -8,7 +10,7 @@ use Rattle.luflow.specs.declared.data.Datum.{Datum}
 use Rattle.luflow.specs.declared.data.Datum.TheVariants.{Nil}
 use Rattle.luflow.specs.declared.variable.Enum.{Enum}
 use Rattle.luflow.specs.declared.variable.Variable.{Variable}
-use Rattle.luflow.specs.Program.{Column, Table}
+use Rattle.luflow.specs.Program.{Column, InputsView}
 use Rattle.luflow.specs.Tables.{IsTable, AreColumnsOf}
 use Rattle.lutab.specs.declared.error.TabError.{TabError}
 use Rattle.lutab.specs.declared.error.TabError.TheVariants.{BadHeader, BadRow, BadValue, TooLong, OutOfMemory}
@@ -39,8 +41,9 @@ abbrev pub sorts_of : List Enum → List Variable → List Sort
 sorts_of types inputs = sorts_in types (kinds_of inputs)
 
 -- a line of the columns' names, and a line for each instant
-abbrev pub table_text : List Sort → Table → List ℕ
-table_text sorts table = line_text (map (λ c. c.name) table.columns) ++ flat_map (row_text sorts) (rows_of table.columns table.instants)
+abbrev pub table_text : List Sort → InputsView → List ℕ
+table_text sorts table = line_text (map (λ c. c.name) table.columns) ++ flat_map (row_text sorts)
+    (rows_of table.columns table.instants)
 
 -- each value of these columns is one that a text spells
 abbrev pub AreWords : List Sort → List Column → Type 0
@@ -48,9 +51,11 @@ AreWords [] columns = Unit {0}
 AreWords (s ∷ sorts) [] = Unit {0}
 AreWords (s ∷ sorts) (c ∷ columns) = All (IsWord s.names) c.values × AreWords sorts columns
 
--- The text is the spelling of this table of these inputs in a program with these enumerations: numbers have 64 bits, and names are
+-- The text is the spelling of this table of these inputs in a program with these enumerations: numbers have
+-- 64 bits, and names are
 -- found by what is spelled.
-pub record IsTextOf (types : List Enum) (inputs : List Variable) (table : Table) (text : List ℕ) : Type 0 where
+pub record IsTextOf (types : List Enum) (inputs : List Variable) (table : InputsView)
+    (text : List ℕ) : Type 0 where
   pub columns : AreColumnsOf inputs table.columns
   pub is_table : IsTable table
   pub words : AreWords (sorts_of types inputs) table.columns
@@ -73,15 +78,19 @@ has_other_count (suc n) line = not (nat_eq (count_by is_comma line) n)
 
 -- the first line isn't ended, or has another number of fields
 unfoldable pub is_bad_row : ℕ → List ℕ → Bool
-is_bad_row fields rest = option_map_or (λ end. has_other_count fields (take end rest)) (position is_feed rest) true
+is_bad_row fields rest = option_map_or (λ end. has_other_count fields (take end rest))
+    (position is_feed rest) true
 
 -- no row of these types is spelled by the first line
 abbrev pub IsNoRow : List Sort → List ℕ → Type 0
-IsNoRow sorts rest = (row : List Datum) (after : List ℕ) → IsRow sorts row → rest ≡ row_text sorts row ++ after → ⊥
+IsNoRow sorts rest = (row : List Datum) (after : List ℕ) → IsRow sorts row → rest ≡ row_text sorts row
+    ++ after → ⊥
 
--- The text isn't too long and begins with the header of these inputs; all lines behind it and before this one, counted from
+-- The text isn't too long and begins with the header of these inputs; all lines behind it and before this
+-- one, counted from
 -- 1, are rows of their types, and this line begins the rest.
-pub record StandsAt (types : List Enum) (inputs : List Variable) (text : List ℕ) (line : ℕ) (rest : List ℕ) : Type 0 where
+pub record StandsAt (types : List Enum) (inputs : List Variable) (text : List ℕ) (line : ℕ)
+    (rest : List ℕ) : Type 0 where
   pub short : is_too_long text ≡ false
   pub rows : List (List Datum)
   pub each : All (IsRow (sorts_of types inputs)) rows
@@ -89,14 +98,18 @@ pub record StandsAt (types : List Enum) (inputs : List Variable) (text : List �
   pub number : line ≡ length rows + 2
   pub some : 0 < length rest
 
--- the text is refused so: the first that is true of it, in the order of these lines and, behind the header, of the text's
+-- the text is refused so: the first that is true of it, in the order of these lines and, behind the header,
+-- of the text's
 abbrev pub IsRefused : List Enum → List Variable → List ℕ → TabError → Type 0
 IsRefused types inputs text TooLong = is_too_long text ≡ true
-IsRefused types inputs text BadHeader = (is_too_long text ≡ false) × ((body : List ℕ) → text ≡ header_text inputs ++ body → ⊥)
-IsRefused types inputs text (BadRow line) = (rest : List ℕ) × StandsAt types inputs text line rest × (is_bad_row (length inputs) rest ≡ true)
-IsRefused types inputs text (BadValue line) = (rest : List ℕ) × StandsAt types inputs text line rest × (is_bad_row (length inputs) rest ≡ false) × IsNoRow (sorts_of types inputs) rest
+IsRefused types inputs text BadHeader =
+    (is_too_long text ≡ false) × ((body : List ℕ) → text ≡ header_text inputs ++ body → ⊥)
+IsRefused types inputs text (BadRow line) = (rest : List ℕ) × StandsAt types inputs text line rest
+    × (is_bad_row (length inputs) rest ≡ true)
+IsRefused types inputs text (BadValue line) = (rest : List ℕ) × StandsAt types inputs text line rest
+    × (is_bad_row (length inputs) rest ≡ false) × IsNoRow (sorts_of types inputs) rest
 IsRefused types inputs text OutOfMemory = ⊥
 
 -- the answer is this one, unless memory ran out
-abbrev pub Answers : Result Table TabError → Result Table TabError → Type 0
+abbrev pub Answers : Result InputsView TabError → Result InputsView TabError → Type 0
 Answers answer this = (answer ≡ this) ⊎ (answer ≡ Err OutOfMemory)

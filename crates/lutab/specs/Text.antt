@@ -1,5 +1,6 @@
 -- How values, rows and headers are spelled.
-use Rattle.std.specs.Prelude.{◌≡◌, ◌≢◌, ℕ, zero, suc, ◌<◌, Bool, true, false, ◌||◌, nat_eq, List, [], ◌∷◌, ◌++◌, All, codes, Some, slice_get, FitsSigned}
+use Rattle.std.specs.Prelude.{◌≡◌, ◌≢◌, ℕ, zero, suc, ◌<◌, Bool, true, false, ◌||◌, nat_eq, List, [], ◌∷◌}
+use Rattle.std.specs.Prelude.{◌++◌, All, codes, Some, slice_get, FitsSigned}
 use Rattle.std.specs.Int.{w64}
 use Rattle.std.specs.Fmt.{signed_decimal}
 use Rattle.std.specs.List.{join_with_byte}
@@ -52,9 +53,10 @@ row_text sorts row = line_text (fields_text sorts row)
 abbrev pub is_end : ℕ → Bool
 is_end byte = nat_eq byte 44 || nat_eq byte 10
 
--- A name that a field spells: it has neither a comma nor a line feed, and none before it is spelled so. All names of a program that was
+-- A name that a field spells: it has neither a comma nor a line feed, and none before it is spelled so. All
+-- names of a program that was
 -- read are such.
-pub record IsTold (names : List (List ℕ)) (k : ℕ) : Type 0 where
+pub record IsFieldName (names : List (List ℕ)) (k : ℕ) : Type 0 where
   pub name : List ℕ
   pub there : slice_get names k ≡ Some name
   pub plain : All (λ b. is_end b ≡ false) name
@@ -64,7 +66,7 @@ pub record IsTold (names : List (List ℕ)) (k : ℕ) : Type 0 where
 abbrev pub IsWord : List (List ℕ) → Datum → Type 0
 IsWord names (Int z) = FitsSigned w64 z
 IsWord names (Truth b) = Unit {0}
-IsWord names (Name k) = IsTold names k
+IsWord names (Name k) = IsFieldName names k
 IsWord names Nil = Unit {0}
 
 -- a value of a type: a number of 64 bits, a truth value or one of its names, and not nil
@@ -79,7 +81,7 @@ IsValueOf names Truths (Name k) = ⊥
 IsValueOf names Truths Nil = ⊥
 IsValueOf names (Names place size) (Int z) = ⊥
 IsValueOf names (Names place size) (Truth b) = ⊥
-IsValueOf names (Names place size) (Name k) = (k < size) × IsTold names k
+IsValueOf names (Names place size) (Name k) = (k < size) × IsFieldName names k
 IsValueOf names (Names place size) Nil = ⊥
 
 abbrev pub HasKind : Sort → Datum → Type 0

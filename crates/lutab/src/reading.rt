@@ -2,8 +2,8 @@
 
 ghost use Rattle.std.specs.Prelude.{◌≡◌, ◌≢◌, ◌≤◌, ◌++◌, List, ℕ, length, false, Ok, Err, IfOk, IfErr, IfSome, IfNone, count_by, string_bytes};
 ghost use Rattle.lulimits.specs.Limits.{longest_table, most_instants};
-ghost use Rattle.luflow.specs.Program.{Table};
-ghost use Rattle.luflow.specs.Tables.{IsTable, Fits, columns_view};
+ghost use Rattle.luflow.specs.Program.{InputsView};
+ghost use Rattle.luflow.specs.Tables.{IsTable, FitsProgram, columns_view};
 ghost use Rattle.luflow.specs.Variables.{inputs_of};
 ghost use Rattle.lutab.specs.declared.error.TabError.{TabError as Refusal};
 ghost use Rattle.lutab.specs.declared.error.TabError.TheVariants.{OutOfMemory};
@@ -143,7 +143,7 @@ pub fn read_inputs(alloc: Global, flat: &Flat, text: &str) -> Result<Inputs, Tab
     // A text that is read isn't too long.
     ensures short { IfOk result (λ _. is_too_long text.now ≡ false) }
     // Each text that spells a table and isn't too long is read, and spells no other.
-    ensures only { (table : Table) → IsTextOf flat.now.types (inputs_of flat.now.variables) table
+    ensures only { (table : InputsView) → IsTextOf flat.now.types (inputs_of flat.now.variables) table
         text.now → is_too_long text.now ≡ false → Answers result (Ok table) }
     // What is reported is true of the text, and nothing before it in order is.
     ensures refused { IfErr result (λ e. e ≢ OutOfMemory → IsRefused flat.now.types
@@ -151,7 +151,7 @@ pub fn read_inputs(alloc: Global, flat: &Flat, text: &str) -> Result<Inputs, Tab
     // What is true of the text, and nothing before it in order, is reported.
     ensures refuses { (e : Refusal) → IsRefused flat.now.types (inputs_of flat.now.variables)
         text.now e → Answers result (Err e) }
-    ensures fits { IfOk result (λ table. Fits flat.now table) }
+    ensures fits { IfOk result (λ table. FitsProgram flat.now table) }
 {
     read_text(alloc, flat.types(), flat.inputs(), text)
 }

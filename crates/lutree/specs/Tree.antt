@@ -16,7 +16,8 @@ use Rattle.lutree.specs.declared.program.Equation.{Equation}
 use Rattle.lutree.specs.declared.program.Node.{Node}
 use Rattle.lutree.specs.declared.program.Program.{Program}
 
--- An expression; a name is its bytes. `choice` is `if`, `truth` is `true` or `false`, `label` is a name of an enumeration as a constant.
+-- An expression; a name is its bytes. `choice` is `if`, `truth` is `true` or `false`, `label` is a name of an
+-- enumeration as a constant.
 -- A merge has the patterns of its branches, and as many branches.
 mutual
   pub data Tree : Type 0 where

@@ -1,4 +1,4 @@
-mod Told
+mod Reported
 pub mod CallPlaces
 mod CallsPushed
 pub mod CallWays

@@ -2,7 +2,7 @@
 use Rattle.std.proofs.Common.{◌≡◌, ◌⊎◌, inl, inr, ℕ, Option, Some, IsTrue, refl, sym, true≢false}
 use Rattle.lustat_rules.specs.Accepted.{Rule, duplicate_name, unknown_name, unknown_node, type_mismatch, wrong_arity, undefined, defined_twice, recursive_node, no_main, bad_merge, clock_mismatch, not_a_clock, clocked_parameter, hidden_clock, maybe_nil, current_may_be_nil}
 use Rattle.lustat_rules.specs.declared.error.StatError.{StatError}
-use Rattle.lustat_rules.specs.Told.{rule_of, byte_of}
+use Rattle.lustat_rules.specs.Reported.{rule_of, byte_of}
 use Rattle.lustat_rules.specs.Faults.{lesser_of, IsJudged, FaultAt, AllKept}
 use Rattle.lustat_rules.proofs.Judging.{RuleFault, judged_both, judged_same}
 use Rattle.lutype.specs.Asked.{is_asked}
@@ -16,25 +16,25 @@ abbrev program_rules : (Rule → Type 0) → Type 0
 program_rules K = K no_main
 
 program_to : (byte : ℕ) (K : Rule → Type 0) (e : StatError) → program_faults byte K e → FaultAt is_asked byte K e
-program_to byte K e h = record { rule = no_main; told = h.0; one = refl; at = h.1; broken = h.2 }
+program_to byte K e h = record { rule = no_main; reported = h.0; one = refl; at = h.1; broken = h.2 }
 
 program_from_rule : (byte : ℕ) (K : Rule → Type 0) → K duplicate_name → K unknown_name → K unknown_node → K type_mismatch → K wrong_arity → K undefined → K defined_twice → K bad_merge → (e : StatError) (rule : Rule) → rule_of e ≡ Some rule → IsTrue (is_asked rule) → byte_of e ≡ byte → (¬ K rule) → program_faults byte K e
-program_from_rule byte K t0 t1 t2 t3 t4 t5 t6 t7 e duplicate_name told one at broken = absurd (broken t0)
-program_from_rule byte K t0 t1 t2 t3 t4 t5 t6 t7 e unknown_name told one at broken = absurd (broken t1)
-program_from_rule byte K t0 t1 t2 t3 t4 t5 t6 t7 e unknown_node told one at broken = absurd (broken t2)
-program_from_rule byte K t0 t1 t2 t3 t4 t5 t6 t7 e type_mismatch told one at broken = absurd (broken t3)
-program_from_rule byte K t0 t1 t2 t3 t4 t5 t6 t7 e wrong_arity told one at broken = absurd (broken t4)
-program_from_rule byte K t0 t1 t2 t3 t4 t5 t6 t7 e undefined told one at broken = absurd (broken t5)
-program_from_rule byte K t0 t1 t2 t3 t4 t5 t6 t7 e defined_twice told one at broken = absurd (broken t6)
-program_from_rule byte K t0 t1 t2 t3 t4 t5 t6 t7 e recursive_node told one at broken = absurd (true≢false (sym one))
-program_from_rule byte K t0 t1 t2 t3 t4 t5 t6 t7 e no_main told one at broken = (told, at, broken)
-program_from_rule byte K t0 t1 t2 t3 t4 t5 t6 t7 e bad_merge told one at broken = absurd (broken t7)
-program_from_rule byte K t0 t1 t2 t3 t4 t5 t6 t7 e clock_mismatch told one at broken = absurd (true≢false (sym one))
-program_from_rule byte K t0 t1 t2 t3 t4 t5 t6 t7 e not_a_clock told one at broken = absurd (true≢false (sym one))
-program_from_rule byte K t0 t1 t2 t3 t4 t5 t6 t7 e clocked_parameter told one at broken = absurd (true≢false (sym one))
-program_from_rule byte K t0 t1 t2 t3 t4 t5 t6 t7 e hidden_clock told one at broken = absurd (true≢false (sym one))
-program_from_rule byte K t0 t1 t2 t3 t4 t5 t6 t7 e maybe_nil told one at broken = absurd (true≢false (sym one))
-program_from_rule byte K t0 t1 t2 t3 t4 t5 t6 t7 e current_may_be_nil told one at broken = absurd (true≢false (sym one))
+program_from_rule byte K t0 t1 t2 t3 t4 t5 t6 t7 e duplicate_name reported one at broken = absurd (broken t0)
+program_from_rule byte K t0 t1 t2 t3 t4 t5 t6 t7 e unknown_name reported one at broken = absurd (broken t1)
+program_from_rule byte K t0 t1 t2 t3 t4 t5 t6 t7 e unknown_node reported one at broken = absurd (broken t2)
+program_from_rule byte K t0 t1 t2 t3 t4 t5 t6 t7 e type_mismatch reported one at broken = absurd (broken t3)
+program_from_rule byte K t0 t1 t2 t3 t4 t5 t6 t7 e wrong_arity reported one at broken = absurd (broken t4)
+program_from_rule byte K t0 t1 t2 t3 t4 t5 t6 t7 e undefined reported one at broken = absurd (broken t5)
+program_from_rule byte K t0 t1 t2 t3 t4 t5 t6 t7 e defined_twice reported one at broken = absurd (broken t6)
+program_from_rule byte K t0 t1 t2 t3 t4 t5 t6 t7 e recursive_node reported one at broken = absurd (true≢false (sym one))
+program_from_rule byte K t0 t1 t2 t3 t4 t5 t6 t7 e no_main reported one at broken = (reported, at, broken)
+program_from_rule byte K t0 t1 t2 t3 t4 t5 t6 t7 e bad_merge reported one at broken = absurd (broken t7)
+program_from_rule byte K t0 t1 t2 t3 t4 t5 t6 t7 e clock_mismatch reported one at broken = absurd (true≢false (sym one))
+program_from_rule byte K t0 t1 t2 t3 t4 t5 t6 t7 e not_a_clock reported one at broken = absurd (true≢false (sym one))
+program_from_rule byte K t0 t1 t2 t3 t4 t5 t6 t7 e clocked_parameter reported one at broken = absurd (true≢false (sym one))
+program_from_rule byte K t0 t1 t2 t3 t4 t5 t6 t7 e hidden_clock reported one at broken = absurd (true≢false (sym one))
+program_from_rule byte K t0 t1 t2 t3 t4 t5 t6 t7 e maybe_nil reported one at broken = absurd (true≢false (sym one))
+program_from_rule byte K t0 t1 t2 t3 t4 t5 t6 t7 e current_may_be_nil reported one at broken = absurd (true≢false (sym one))
 
 program_kept : (K : Rule → Type 0) → K duplicate_name → K unknown_name → K unknown_node → K type_mismatch → K wrong_arity → K undefined → K defined_twice → K bad_merge → program_rules K → AllKept is_asked K
 program_kept K t0 t1 t2 t3 t4 t5 t6 t7 h duplicate_name one = t0
@@ -60,7 +60,7 @@ pub program_judged : (byte : ℕ) (K : Rule → Type 0) (o0 : Option StatError) 
 program_judged byte K o0 t0 t1 t2 t3 t4 t5 t6 t7 j0 =
     judged_same (program_faults byte K) (FaultAt is_asked byte K) (program_rules K) (AllKept is_asked K) o0
     (program_to byte K)
-    (λ e h. program_from_rule byte K t0 t1 t2 t3 t4 t5 t6 t7 e h.rule h.told h.one h.at h.broken)
+    (λ e h. program_from_rule byte K t0 t1 t2 t3 t4 t5 t6 t7 e h.rule h.reported h.one h.at h.broken)
     (program_kept K t0 t1 t2 t3 t4 t5 t6 t7)
     j0
 
@@ -73,25 +73,25 @@ abbrev name_rules : (Rule → Type 0) → Type 0
 name_rules K = K duplicate_name
 
 name_to : (byte : ℕ) (K : Rule → Type 0) (e : StatError) → name_faults byte K e → FaultAt is_asked byte K e
-name_to byte K e h = record { rule = duplicate_name; told = h.0; one = refl; at = h.1; broken = h.2 }
+name_to byte K e h = record { rule = duplicate_name; reported = h.0; one = refl; at = h.1; broken = h.2 }
 
 name_from_rule : (byte : ℕ) (K : Rule → Type 0) → K unknown_name → K unknown_node → K type_mismatch → K wrong_arity → K undefined → K defined_twice → K no_main → K bad_merge → (e : StatError) (rule : Rule) → rule_of e ≡ Some rule → IsTrue (is_asked rule) → byte_of e ≡ byte → (¬ K rule) → name_faults byte K e
-name_from_rule byte K t0 t1 t2 t3 t4 t5 t6 t7 e duplicate_name told one at broken = (told, at, broken)
-name_from_rule byte K t0 t1 t2 t3 t4 t5 t6 t7 e unknown_name told one at broken = absurd (broken t0)
-name_from_rule byte K t0 t1 t2 t3 t4 t5 t6 t7 e unknown_node told one at broken = absurd (broken t1)
-name_from_rule byte K t0 t1 t2 t3 t4 t5 t6 t7 e type_mismatch told one at broken = absurd (broken t2)
-name_from_rule byte K t0 t1 t2 t3 t4 t5 t6 t7 e wrong_arity told one at broken = absurd (broken t3)
-name_from_rule byte K t0 t1 t2 t3 t4 t5 t6 t7 e undefined told one at broken = absurd (broken t4)
-name_from_rule byte K t0 t1 t2 t3 t4 t5 t6 t7 e defined_twice told one at broken = absurd (broken t5)
-name_from_rule byte K t0 t1 t2 t3 t4 t5 t6 t7 e recursive_node told one at broken = absurd (true≢false (sym one))
-name_from_rule byte K t0 t1 t2 t3 t4 t5 t6 t7 e no_main told one at broken = absurd (broken t6)
-name_from_rule byte K t0 t1 t2 t3 t4 t5 t6 t7 e bad_merge told one at broken = absurd (broken t7)
-name_from_rule byte K t0 t1 t2 t3 t4 t5 t6 t7 e clock_mismatch told one at broken = absurd (true≢false (sym one))
-name_from_rule byte K t0 t1 t2 t3 t4 t5 t6 t7 e not_a_clock told one at broken = absurd (true≢false (sym one))
-name_from_rule byte K t0 t1 t2 t3 t4 t5 t6 t7 e clocked_parameter told one at broken = absurd (true≢false (sym one))
-name_from_rule byte K t0 t1 t2 t3 t4 t5 t6 t7 e hidden_clock told one at broken = absurd (true≢false (sym one))
-name_from_rule byte K t0 t1 t2 t3 t4 t5 t6 t7 e maybe_nil told one at broken = absurd (true≢false (sym one))
-name_from_rule byte K t0 t1 t2 t3 t4 t5 t6 t7 e current_may_be_nil told one at broken = absurd (true≢false (sym one))
+name_from_rule byte K t0 t1 t2 t3 t4 t5 t6 t7 e duplicate_name reported one at broken = (reported, at, broken)
+name_from_rule byte K t0 t1 t2 t3 t4 t5 t6 t7 e unknown_name reported one at broken = absurd (broken t0)
+name_from_rule byte K t0 t1 t2 t3 t4 t5 t6 t7 e unknown_node reported one at broken = absurd (broken t1)
+name_from_rule byte K t0 t1 t2 t3 t4 t5 t6 t7 e type_mismatch reported one at broken = absurd (broken t2)
+name_from_rule byte K t0 t1 t2 t3 t4 t5 t6 t7 e wrong_arity reported one at broken = absurd (broken t3)
+name_from_rule byte K t0 t1 t2 t3 t4 t5 t6 t7 e undefined reported one at broken = absurd (broken t4)
+name_from_rule byte K t0 t1 t2 t3 t4 t5 t6 t7 e defined_twice reported one at broken = absurd (broken t5)
+name_from_rule byte K t0 t1 t2 t3 t4 t5 t6 t7 e recursive_node reported one at broken = absurd (true≢false (sym one))
+name_from_rule byte K t0 t1 t2 t3 t4 t5 t6 t7 e no_main reported one at broken = absurd (broken t6)
+name_from_rule byte K t0 t1 t2 t3 t4 t5 t6 t7 e bad_merge reported one at broken = absurd (broken t7)
+name_from_rule byte K t0 t1 t2 t3 t4 t5 t6 t7 e clock_mismatch reported one at broken = absurd (true≢false (sym one))
+name_from_rule byte K t0 t1 t2 t3 t4 t5 t6 t7 e not_a_clock reported one at broken = absurd (true≢false (sym one))
+name_from_rule byte K t0 t1 t2 t3 t4 t5 t6 t7 e clocked_parameter reported one at broken = absurd (true≢false (sym one))
+name_from_rule byte K t0 t1 t2 t3 t4 t5 t6 t7 e hidden_clock reported one at broken = absurd (true≢false (sym one))
+name_from_rule byte K t0 t1 t2 t3 t4 t5 t6 t7 e maybe_nil reported one at broken = absurd (true≢false (sym one))
+name_from_rule byte K t0 t1 t2 t3 t4 t5 t6 t7 e current_may_be_nil reported one at broken = absurd (true≢false (sym one))
 
 name_kept : (K : Rule → Type 0) → K unknown_name → K unknown_node → K type_mismatch → K wrong_arity → K undefined → K defined_twice → K no_main → K bad_merge → name_rules K → AllKept is_asked K
 name_kept K t0 t1 t2 t3 t4 t5 t6 t7 h duplicate_name one = h
@@ -117,7 +117,7 @@ pub name_judged : (byte : ℕ) (K : Rule → Type 0) (o0 : Option StatError) →
 name_judged byte K o0 t0 t1 t2 t3 t4 t5 t6 t7 j0 =
     judged_same (name_faults byte K) (FaultAt is_asked byte K) (name_rules K) (AllKept is_asked K) o0
     (name_to byte K)
-    (λ e h. name_from_rule byte K t0 t1 t2 t3 t4 t5 t6 t7 e h.rule h.told h.one h.at h.broken)
+    (λ e h. name_from_rule byte K t0 t1 t2 t3 t4 t5 t6 t7 e h.rule h.reported h.one h.at h.broken)
     (name_kept K t0 t1 t2 t3 t4 t5 t6 t7)
     j0
 
@@ -130,27 +130,27 @@ abbrev declaration_rules : (Rule → Type 0) → Type 0
 declaration_rules K = K duplicate_name × (K unknown_name × (K undefined))
 
 declaration_to : (byte : ℕ) (K : Rule → Type 0) (e : StatError) → declaration_faults byte K e → FaultAt is_asked byte K e
-declaration_to byte K e (inl h) = record { rule = duplicate_name; told = h.0; one = refl; at = h.1; broken = h.2 }
-declaration_to byte K e (inr (inl h)) = record { rule = unknown_name; told = h.0; one = refl; at = h.1; broken = h.2 }
-declaration_to byte K e (inr (inr h)) = record { rule = undefined; told = h.0; one = refl; at = h.1; broken = h.2 }
+declaration_to byte K e (inl h) = record { rule = duplicate_name; reported = h.0; one = refl; at = h.1; broken = h.2 }
+declaration_to byte K e (inr (inl h)) = record { rule = unknown_name; reported = h.0; one = refl; at = h.1; broken = h.2 }
+declaration_to byte K e (inr (inr h)) = record { rule = undefined; reported = h.0; one = refl; at = h.1; broken = h.2 }
 
 declaration_from_rule : (byte : ℕ) (K : Rule → Type 0) → K unknown_node → K type_mismatch → K wrong_arity → K defined_twice → K no_main → K bad_merge → (e : StatError) (rule : Rule) → rule_of e ≡ Some rule → IsTrue (is_asked rule) → byte_of e ≡ byte → (¬ K rule) → declaration_faults byte K e
-declaration_from_rule byte K t0 t1 t2 t3 t4 t5 e duplicate_name told one at broken = inl (told, at, broken)
-declaration_from_rule byte K t0 t1 t2 t3 t4 t5 e unknown_name told one at broken = inr (inl (told, at, broken))
-declaration_from_rule byte K t0 t1 t2 t3 t4 t5 e unknown_node told one at broken = absurd (broken t0)
-declaration_from_rule byte K t0 t1 t2 t3 t4 t5 e type_mismatch told one at broken = absurd (broken t1)
-declaration_from_rule byte K t0 t1 t2 t3 t4 t5 e wrong_arity told one at broken = absurd (broken t2)
-declaration_from_rule byte K t0 t1 t2 t3 t4 t5 e undefined told one at broken = inr (inr (told, at, broken))
-declaration_from_rule byte K t0 t1 t2 t3 t4 t5 e defined_twice told one at broken = absurd (broken t3)
-declaration_from_rule byte K t0 t1 t2 t3 t4 t5 e recursive_node told one at broken = absurd (true≢false (sym one))
-declaration_from_rule byte K t0 t1 t2 t3 t4 t5 e no_main told one at broken = absurd (broken t4)
-declaration_from_rule byte K t0 t1 t2 t3 t4 t5 e bad_merge told one at broken = absurd (broken t5)
-declaration_from_rule byte K t0 t1 t2 t3 t4 t5 e clock_mismatch told one at broken = absurd (true≢false (sym one))
-declaration_from_rule byte K t0 t1 t2 t3 t4 t5 e not_a_clock told one at broken = absurd (true≢false (sym one))
-declaration_from_rule byte K t0 t1 t2 t3 t4 t5 e clocked_parameter told one at broken = absurd (true≢false (sym one))
-declaration_from_rule byte K t0 t1 t2 t3 t4 t5 e hidden_clock told one at broken = absurd (true≢false (sym one))
-declaration_from_rule byte K t0 t1 t2 t3 t4 t5 e maybe_nil told one at broken = absurd (true≢false (sym one))
-declaration_from_rule byte K t0 t1 t2 t3 t4 t5 e current_may_be_nil told one at broken = absurd (true≢false (sym one))
+declaration_from_rule byte K t0 t1 t2 t3 t4 t5 e duplicate_name reported one at broken = inl (reported, at, broken)
+declaration_from_rule byte K t0 t1 t2 t3 t4 t5 e unknown_name reported one at broken = inr (inl (reported, at, broken))
+declaration_from_rule byte K t0 t1 t2 t3 t4 t5 e unknown_node reported one at broken = absurd (broken t0)
+declaration_from_rule byte K t0 t1 t2 t3 t4 t5 e type_mismatch reported one at broken = absurd (broken t1)
+declaration_from_rule byte K t0 t1 t2 t3 t4 t5 e wrong_arity reported one at broken = absurd (broken t2)
+declaration_from_rule byte K t0 t1 t2 t3 t4 t5 e undefined reported one at broken = inr (inr (reported, at, broken))
+declaration_from_rule byte K t0 t1 t2 t3 t4 t5 e defined_twice reported one at broken = absurd (broken t3)
+declaration_from_rule byte K t0 t1 t2 t3 t4 t5 e recursive_node reported one at broken = absurd (true≢false (sym one))
+declaration_from_rule byte K t0 t1 t2 t3 t4 t5 e no_main reported one at broken = absurd (broken t4)
+declaration_from_rule byte K t0 t1 t2 t3 t4 t5 e bad_merge reported one at broken = absurd (broken t5)
+declaration_from_rule byte K t0 t1 t2 t3 t4 t5 e clock_mismatch reported one at broken = absurd (true≢false (sym one))
+declaration_from_rule byte K t0 t1 t2 t3 t4 t5 e not_a_clock reported one at broken = absurd (true≢false (sym one))
+declaration_from_rule byte K t0 t1 t2 t3 t4 t5 e clocked_parameter reported one at broken = absurd (true≢false (sym one))
+declaration_from_rule byte K t0 t1 t2 t3 t4 t5 e hidden_clock reported one at broken = absurd (true≢false (sym one))
+declaration_from_rule byte K t0 t1 t2 t3 t4 t5 e maybe_nil reported one at broken = absurd (true≢false (sym one))
+declaration_from_rule byte K t0 t1 t2 t3 t4 t5 e current_may_be_nil reported one at broken = absurd (true≢false (sym one))
 
 declaration_kept : (K : Rule → Type 0) → K unknown_node → K type_mismatch → K wrong_arity → K defined_twice → K no_main → K bad_merge → declaration_rules K → AllKept is_asked K
 declaration_kept K t0 t1 t2 t3 t4 t5 h duplicate_name one = h.0
@@ -176,7 +176,7 @@ pub declaration_judged : (byte : ℕ) (K : Rule → Type 0) (o0 o1 o2 : Option S
 declaration_judged byte K o0 o1 o2 t0 t1 t2 t3 t4 t5 j0 j1 j2 =
     judged_same (declaration_faults byte K) (FaultAt is_asked byte K) (declaration_rules K) (AllKept is_asked K) (lesser_of o0 (lesser_of o1 (o2)))
     (declaration_to byte K)
-    (λ e h. declaration_from_rule byte K t0 t1 t2 t3 t4 t5 e h.rule h.told h.one h.at h.broken)
+    (λ e h. declaration_from_rule byte K t0 t1 t2 t3 t4 t5 e h.rule h.reported h.one h.at h.broken)
     (declaration_kept K t0 t1 t2 t3 t4 t5)
     (judged_both (RuleFault duplicate_name byte (K duplicate_name)) (λ e. RuleFault unknown_name byte (K unknown_name) e ⊎ (RuleFault undefined byte (K undefined) e)) (K duplicate_name) (K unknown_name × (K undefined)) o0 (lesser_of o1 (o2)) j0 (judged_both (RuleFault unknown_name byte (K unknown_name)) (λ e. RuleFault undefined byte (K undefined) e) (K unknown_name) (K undefined) o1 o2 j1 j2))
 
@@ -189,30 +189,30 @@ abbrev equation_rules : (Rule → Type 0) → Type 0
 equation_rules K = K unknown_name × (K unknown_node × (K type_mismatch × (K wrong_arity × (K defined_twice × (K bad_merge)))))
 
 equation_to : (byte : ℕ) (K : Rule → Type 0) (e : StatError) → equation_faults byte K e → FaultAt is_asked byte K e
-equation_to byte K e (inl h) = record { rule = unknown_name; told = h.0; one = refl; at = h.1; broken = h.2 }
-equation_to byte K e (inr (inl h)) = record { rule = unknown_node; told = h.0; one = refl; at = h.1; broken = h.2 }
-equation_to byte K e (inr (inr (inl h))) = record { rule = type_mismatch; told = h.0; one = refl; at = h.1; broken = h.2 }
-equation_to byte K e (inr (inr (inr (inl h)))) = record { rule = wrong_arity; told = h.0; one = refl; at = h.1; broken = h.2 }
-equation_to byte K e (inr (inr (inr (inr (inl h))))) = record { rule = defined_twice; told = h.0; one = refl; at = h.1; broken = h.2 }
-equation_to byte K e (inr (inr (inr (inr (inr h))))) = record { rule = bad_merge; told = h.0; one = refl; at = h.1; broken = h.2 }
+equation_to byte K e (inl h) = record { rule = unknown_name; reported = h.0; one = refl; at = h.1; broken = h.2 }
+equation_to byte K e (inr (inl h)) = record { rule = unknown_node; reported = h.0; one = refl; at = h.1; broken = h.2 }
+equation_to byte K e (inr (inr (inl h))) = record { rule = type_mismatch; reported = h.0; one = refl; at = h.1; broken = h.2 }
+equation_to byte K e (inr (inr (inr (inl h)))) = record { rule = wrong_arity; reported = h.0; one = refl; at = h.1; broken = h.2 }
+equation_to byte K e (inr (inr (inr (inr (inl h))))) = record { rule = defined_twice; reported = h.0; one = refl; at = h.1; broken = h.2 }
+equation_to byte K e (inr (inr (inr (inr (inr h))))) = record { rule = bad_merge; reported = h.0; one = refl; at = h.1; broken = h.2 }
 
 equation_from_rule : (byte : ℕ) (K : Rule → Type 0) → K duplicate_name → K undefined → K no_main → (e : StatError) (rule : Rule) → rule_of e ≡ Some rule → IsTrue (is_asked rule) → byte_of e ≡ byte → (¬ K rule) → equation_faults byte K e
-equation_from_rule byte K t0 t1 t2 e duplicate_name told one at broken = absurd (broken t0)
-equation_from_rule byte K t0 t1 t2 e unknown_name told one at broken = inl (told, at, broken)
-equation_from_rule byte K t0 t1 t2 e unknown_node told one at broken = inr (inl (told, at, broken))
-equation_from_rule byte K t0 t1 t2 e type_mismatch told one at broken = inr (inr (inl (told, at, broken)))
-equation_from_rule byte K t0 t1 t2 e wrong_arity told one at broken = inr (inr (inr (inl (told, at, broken))))
-equation_from_rule byte K t0 t1 t2 e undefined told one at broken = absurd (broken t1)
-equation_from_rule byte K t0 t1 t2 e defined_twice told one at broken = inr (inr (inr (inr (inl (told, at, broken)))))
-equation_from_rule byte K t0 t1 t2 e recursive_node told one at broken = absurd (true≢false (sym one))
-equation_from_rule byte K t0 t1 t2 e no_main told one at broken = absurd (broken t2)
-equation_from_rule byte K t0 t1 t2 e bad_merge told one at broken = inr (inr (inr (inr (inr (told, at, broken)))))
-equation_from_rule byte K t0 t1 t2 e clock_mismatch told one at broken = absurd (true≢false (sym one))
-equation_from_rule byte K t0 t1 t2 e not_a_clock told one at broken = absurd (true≢false (sym one))
-equation_from_rule byte K t0 t1 t2 e clocked_parameter told one at broken = absurd (true≢false (sym one))
-equation_from_rule byte K t0 t1 t2 e hidden_clock told one at broken = absurd (true≢false (sym one))
-equation_from_rule byte K t0 t1 t2 e maybe_nil told one at broken = absurd (true≢false (sym one))
-equation_from_rule byte K t0 t1 t2 e current_may_be_nil told one at broken = absurd (true≢false (sym one))
+equation_from_rule byte K t0 t1 t2 e duplicate_name reported one at broken = absurd (broken t0)
+equation_from_rule byte K t0 t1 t2 e unknown_name reported one at broken = inl (reported, at, broken)
+equation_from_rule byte K t0 t1 t2 e unknown_node reported one at broken = inr (inl (reported, at, broken))
+equation_from_rule byte K t0 t1 t2 e type_mismatch reported one at broken = inr (inr (inl (reported, at, broken)))
+equation_from_rule byte K t0 t1 t2 e wrong_arity reported one at broken = inr (inr (inr (inl (reported, at, broken))))
+equation_from_rule byte K t0 t1 t2 e undefined reported one at broken = absurd (broken t1)
+equation_from_rule byte K t0 t1 t2 e defined_twice reported one at broken = inr (inr (inr (inr (inl (reported, at, broken)))))
+equation_from_rule byte K t0 t1 t2 e recursive_node reported one at broken = absurd (true≢false (sym one))
+equation_from_rule byte K t0 t1 t2 e no_main reported one at broken = absurd (broken t2)
+equation_from_rule byte K t0 t1 t2 e bad_merge reported one at broken = inr (inr (inr (inr (inr (reported, at, broken)))))
+equation_from_rule byte K t0 t1 t2 e clock_mismatch reported one at broken = absurd (true≢false (sym one))
+equation_from_rule byte K t0 t1 t2 e not_a_clock reported one at broken = absurd (true≢false (sym one))
+equation_from_rule byte K t0 t1 t2 e clocked_parameter reported one at broken = absurd (true≢false (sym one))
+equation_from_rule byte K t0 t1 t2 e hidden_clock reported one at broken = absurd (true≢false (sym one))
+equation_from_rule byte K t0 t1 t2 e maybe_nil reported one at broken = absurd (true≢false (sym one))
+equation_from_rule byte K t0 t1 t2 e current_may_be_nil reported one at broken = absurd (true≢false (sym one))
 
 equation_kept : (K : Rule → Type 0) → K duplicate_name → K undefined → K no_main → equation_rules K → AllKept is_asked K
 equation_kept K t0 t1 t2 h duplicate_name one = t0
@@ -238,6 +238,6 @@ pub equation_judged : (byte : ℕ) (K : Rule → Type 0) (o0 o1 o2 o3 o4 o5 : Op
 equation_judged byte K o0 o1 o2 o3 o4 o5 t0 t1 t2 j0 j1 j2 j3 j4 j5 =
     judged_same (equation_faults byte K) (FaultAt is_asked byte K) (equation_rules K) (AllKept is_asked K) (lesser_of o0 (lesser_of o1 (lesser_of o2 (lesser_of o3 (lesser_of o4 (o5))))))
     (equation_to byte K)
-    (λ e h. equation_from_rule byte K t0 t1 t2 e h.rule h.told h.one h.at h.broken)
+    (λ e h. equation_from_rule byte K t0 t1 t2 e h.rule h.reported h.one h.at h.broken)
     (equation_kept K t0 t1 t2)
     (judged_both (RuleFault unknown_name byte (K unknown_name)) (λ e. RuleFault unknown_node byte (K unknown_node) e ⊎ (RuleFault type_mismatch byte (K type_mismatch) e ⊎ (RuleFault wrong_arity byte (K wrong_arity) e ⊎ (RuleFault defined_twice byte (K defined_twice) e ⊎ (RuleFault bad_merge byte (K bad_merge) e))))) (K unknown_name) (K unknown_node × (K type_mismatch × (K wrong_arity × (K defined_twice × (K bad_merge))))) o0 (lesser_of o1 (lesser_of o2 (lesser_of o3 (lesser_of o4 (o5))))) j0 (judged_both (RuleFault unknown_node byte (K unknown_node)) (λ e. RuleFault type_mismatch byte (K type_mismatch) e ⊎ (RuleFault wrong_arity byte (K wrong_arity) e ⊎ (RuleFault defined_twice byte (K defined_twice) e ⊎ (RuleFault bad_merge byte (K bad_merge) e)))) (K unknown_node) (K type_mismatch × (K wrong_arity × (K defined_twice × (K bad_merge)))) o1 (lesser_of o2 (lesser_of o3 (lesser_of o4 (o5)))) j1 (judged_both (RuleFault type_mismatch byte (K type_mismatch)) (λ e. RuleFault wrong_arity byte (K wrong_arity) e ⊎ (RuleFault defined_twice byte (K defined_twice) e ⊎ (RuleFault bad_merge byte (K bad_merge) e))) (K type_mismatch) (K wrong_arity × (K defined_twice × (K bad_merge))) o2 (lesser_of o3 (lesser_of o4 (o5))) j2 (judged_both (RuleFault wrong_arity byte (K wrong_arity)) (λ e. RuleFault defined_twice byte (K defined_twice) e ⊎ (RuleFault bad_merge byte (K bad_merge) e)) (K wrong_arity) (K defined_twice × (K bad_merge)) o3 (lesser_of o4 (o5)) j3 (judged_both (RuleFault defined_twice byte (K defined_twice)) (λ e. RuleFault bad_merge byte (K bad_merge) e) (K defined_twice) (K bad_merge) o4 o5 j4 j5)))))

@@ -3,7 +3,8 @@ use Rattle.std.specs.Prelude.{◌≡◌, ◌<◌, ℕ, List, Some, All, length, 
 use Rattle.std.specs.Global.{Global}
 use Rattle.std.specs.List.{filter_map}
 use Rattle.lutree.specs.Tree.{Tree, Trees, NodeTree, ProgramTree}
-use Rattle.lustat_rules.specs.Naming.{Call, calls_in, calls_in_all, called_by, node_place, Reaches, IsNotRecursive}
+use Rattle.lustat_rules.specs.Naming.{Call, calls_in, calls_in_all, called_by, node_place, Reaches}
+use Rattle.lustat_rules.specs.Naming.{IsNotRecursive}
 use Rattle.lubase.specs.Graph.{Graph}
 
 -- the names that an expression calls, each after those of its arguments
@@ -24,7 +25,8 @@ IsCallGraph p g = map (λ (row : Vec ℕ Global). row.items) g ≡ map (places_c
 -- places of nodes, none twice
 pub record AreOnce (p : ProgramTree) (order : List ℕ) : Type 0 where
   pub inside : All (λ i. i < length p.nodes) order
-  pub once : (k l : ℕ) → k < length order → l < length order → slice_index order k ≡ slice_index order l → k ≡ l
+  pub once : (k l : ℕ) → k < length order → l < length order → slice_index order k ≡ slice_index order l
+      → k ≡ l
 
 -- the node at a place reaches itself by calls
 abbrev pub IsRecursive : ProgramTree → ℕ → Type 0

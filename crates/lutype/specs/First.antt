@@ -18,12 +18,12 @@ pub record IsRecursionFault (p : Program) (e : StatError) : Type 0 where
   pub there : slice_get p.nodes place ≡ Some node
   pub recursive : Reaches (program_view p) node.name node.name
   pub first : NoneRecursiveBefore (program_view p) place
-  pub told : e ≡ RecursiveNode node.byte
+  pub reported : e ≡ RecursiveNode node.byte
 
 -- a fault by the rules of names and types
 abbrev pub IsNameFault : Program → List ℕ → StatError → Type 0
 IsNameFault p main e = IsFault is_asked p main e ⊎ IsRecursionFault p e
 
 -- a refusal is the least of these, unless memory ran out
-abbrev pub IsToldFirst : Program → List ℕ → StatError → Type 0
-IsToldFirst p main e = (e ≡ OutOfMemory) ⊎ IsLeastFault (IsNameFault p main) e
+abbrev pub IsReportedFirst : Program → List ℕ → StatError → Type 0
+IsReportedFirst p main e = (e ≡ OutOfMemory) ⊎ IsLeastFault (IsNameFault p main) e

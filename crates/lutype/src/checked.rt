@@ -4,8 +4,8 @@ ghost use Rattle.std.specs.Prelude.{◌≡◌, ◌<◌, Some, IfOk, IfErr, lengt
 ghost use Rattle.lutree.specs.declared.program.Node.{Node};
 ghost use Rattle.lutree.specs.Tree.{program_view};
 ghost use Rattle.lustat_rules.specs.Accepted.{IsNamed};
-ghost use Rattle.lustat_rules.specs.Told.{Tells};
-ghost use Rattle.lutype.specs.First.{IsToldFirst};
+ghost use Rattle.lustat_rules.specs.Reported.{ReportsRule};
+ghost use Rattle.lutype.specs.First.{IsReportedFirst};
 ghost use Rattle.lutype.specs.Named.{AreInOrder};
 
 use crate::search::least_fault;
@@ -30,8 +30,8 @@ fn order_of_names(alloc: Global, catalog: &Catalog, main: &str) -> Result<Vec<us
       main = main.now;
       order = order.items;
     })) }
-    ensures told { IfErr result (Tells 1 (program_view catalog.now) main.now) }
-    ensures first { IfErr result (IsToldFirst catalog.now main.now) }
+    ensures reported { IfErr result (ReportsRule 1 (program_view catalog.now) main.now) }
+    ensures first { IfErr result (IsReportedFirst catalog.now main.now) }
 {
     let found = least_fault(alloc, catalog, main)?;
     match call_order(alloc, catalog)? {
@@ -60,8 +60,8 @@ pub fn names<'a>(alloc: Global, program: &'a Program, main: &'a str) -> Result<T
     ensures program { IfOk result (λ typed. typed.program ≡ program.now) }
     ensures main { IfOk result (λ typed. typed.main ≡ main.now) }
     ensures named { IfOk result (λ _. IsNamed (program_view program.now) main.now) }
-    ensures told { IfErr result (Tells 1 (program_view program.now) main.now) }
-    ensures first { IfErr result (IsToldFirst program.now main.now) }
+    ensures reported { IfErr result (ReportsRule 1 (program_view program.now) main.now) }
+    ensures first { IfErr result (IsReportedFirst program.now main.now) }
 {
     let catalog = Catalog::new(alloc, program)?;
     let order = order_of_names(alloc, &catalog, main)?;

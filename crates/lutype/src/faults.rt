@@ -11,7 +11,7 @@ use crate::{
     Definitions, arities_are_right, calls_are_known, declaration_is_known, defines_anew,
     is_defined, is_well_typed, merges_are_whole, names_are_known,
 };
-use lustat_rules::{Catalog, Scope, StatError, is_told_before, lesser, told};
+use lustat_rules::{Catalog, Scope, StatError, is_reported_before, lesser, reported};
 use lutree::{Declaration, DeclaredName, Equation, Node, TypeDeclaration};
 
 /// Whether a place that was found is another.
@@ -83,7 +83,7 @@ pub fn program_fault(catalog: &Catalog, main: &str) -> Option<StatError>
     ensures { IsJudged (ProgramFault is_asked catalog.now main.now)
         (ProgramKept is_asked catalog.now main.now) result }
 {
-    told(has_main(catalog, main), StatError::NoMain)
+    reported(has_main(catalog, main), StatError::NoMain)
 }
 
 /// The fault of a type's name.
@@ -98,7 +98,7 @@ pub fn type_fault(
 {
     let byte = declaration.byte;
     let is_new = is_new_type(catalog, place, declaration);
-    told(is_new, StatError::DuplicateName { byte })
+    reported(is_new, StatError::DuplicateName { byte })
 }
 
 /// The fault of a name of an enumeration.
@@ -117,7 +117,7 @@ pub fn label_fault(
 {
     let byte = name.byte;
     let is_new = catalog.is_new_label(place, declaration, number, name);
-    told(is_new, StatError::DuplicateName { byte })
+    reported(is_new, StatError::DuplicateName { byte })
 }
 
 /// The fault of a node's name.
@@ -127,7 +127,7 @@ pub fn name_fault(catalog: &Catalog, place: usize, node: &Node) -> Option<StatEr
         (NodeKept is_asked catalog.now main place node.now) result }
 {
     let is_new = is_new_node(catalog, place, node);
-    told(is_new, StatError::DuplicateName { byte: node.byte })
+    reported(is_new, StatError::DuplicateName { byte: node.byte })
 }
 
 /// The least fault of a declaration.
@@ -148,9 +148,9 @@ pub fn declaration_fault(
     let is_new = is_new_variable(catalog, scope, place, declaration);
     let is_known = declaration_is_known(catalog, scope, declaration);
     let is_defined = is_defined(scope, definitions, declaration);
-    let duplicate = told(is_new, StatError::DuplicateName { byte });
-    let unknown = told(is_known, StatError::UnknownName { byte });
-    let undefined = told(is_defined, StatError::Undefined { byte });
+    let duplicate = reported(is_new, StatError::DuplicateName { byte });
+    let unknown = reported(is_known, StatError::UnknownName { byte });
+    let undefined = reported(is_defined, StatError::Undefined { byte });
     lesser(duplicate, lesser(unknown, undefined))
 }
 
@@ -179,12 +179,12 @@ pub fn equation_fault(
         are_known && are_nodes && are_right && are_whole,
     );
     let is_anew = defines_anew(scope, definitions, place, equation);
-    let unknown_name = told(are_known, StatError::UnknownName { byte });
-    let unknown_node = told(are_nodes, StatError::UnknownNode { byte });
-    let mismatch = told(is_typed, StatError::TypeMismatch { byte });
-    let arity = told(are_right, StatError::WrongArity { byte });
-    let twice = told(is_anew, StatError::DefinedTwice { byte });
-    let merge = told(are_whole, StatError::BadMerge { byte });
+    let unknown_name = reported(are_known, StatError::UnknownName { byte });
+    let unknown_node = reported(are_nodes, StatError::UnknownNode { byte });
+    let mismatch = reported(is_typed, StatError::TypeMismatch { byte });
+    let arity = reported(are_right, StatError::WrongArity { byte });
+    let twice = reported(is_anew, StatError::DefinedTwice { byte });
+    let merge = reported(are_whole, StatError::BadMerge { byte });
     lesser(
         unknown_name,
         lesser(
@@ -201,7 +201,7 @@ pub fn with_recursion(found: Option<StatError>, recursion: StatError) -> StatErr
     match found {
         None => recursion,
         Some(fault) => {
-            if is_told_before(&recursion, &fault) {
+            if is_reported_before(&recursion, &fault) {
                 recursion
             } else {
                 fault

@@ -6,10 +6,10 @@ use Rattle.std.proofs.lemmas.Slice.Eq.{bytes_eq-Decides}
 use Rattle.std.proofs.lemmas.Option.{slice_get_within}
 use Rattle.std.proofs.lemmas.List.Elements.{All-contains, All-append, Contains-append_left, Contains-append_right, Contains-append_cases}
 use Rattle.luflow.specs.declared.form.Flow.{Flow}
-use Rattle.luflow.specs.Program.{FlatProgram, flow_at, flows_of, places, clock_reads}
+use Rattle.luflow.specs.Program.{FlatView, flow_at, flows_of, places, clock_reads}
 use Rattle.luflow.specs.Flats.{IsFlat, IsWithin}
 use Rattle.luflow.specs.Rank.{row}
-use Rattle.luworld.specs.Needs.{Distribution, flow_sites}
+use Rattle.luworld.specs.Needs.{PlanView, flow_sites}
 use Rattle.lubase.specs.Graph.{Graph, row_of, PointsTo, Reaches, IsCycle, one as one_edge, more as more_edges}
 use Rattle.luways.specs.Ways.{named, Reads, Leads, IsParted, NoneParted}
 use Rattle.luways.specs.Ways.{one, more}
@@ -22,29 +22,29 @@ none_named : (r : ℕ) → Contains (named None) r → ⊥
 none_named r c = contains_none r c
 
 -- there is a flow that reads, and what it reads is a flow
-pub record IsRead (flat : FlatProgram) (i r : ℕ) : Type 0 where
+pub record IsRead (flat : FlatView) (i r : ℕ) : Type 0 where
   pub flow : Flow
   pub there : flow_at flat i ≡ Some flow
   pub names : Contains (places flow.form ++ clock_reads flow.clock) r
 
-pub read_is : (flat : FlatProgram) (i r : ℕ) → Reads flat i r → IsRead flat i r
+pub read_is : (flat : FlatView) (i r : ℕ) → Reads flat i r → IsRead flat i r
 read_is flat i r h = go (flow_at flat i) refl h
   where
     go : (o : Option Flow) → flow_at flat i ≡ o → Contains (named o) r → IsRead flat i r
     go None e c = absurd (none_named r c)
     go (Some flow) e c = record { flow = flow; there = e; names = c }
 
-pub reader_inside : (flat : FlatProgram) (i r : ℕ) → Reads flat i r → i < flows_of flat
+pub reader_inside : (flat : FlatView) (i r : ℕ) → Reads flat i r → i < flows_of flat
 reader_inside flat i r h = let w = read_is flat i r h in slice_get_within flat.flows i w.flow w.there
 
-pub reads_inside : (flat : FlatProgram) → IsFlat flat → (i r : ℕ) → Reads flat i r → r < flows_of flat
+pub reads_inside : (flat : FlatView) → IsFlat flat → (i r : ℕ) → Reads flat i r → r < flows_of flat
 reads_inside flat ok i r h =
     let w = read_is flat i r h in
     All-contains (λ x. x < flows_of flat) (places w.flow.form ++ clock_reads w.flow.clock) r
     (All-append (λ x. x < flows_of flat) (places w.flow.form) (clock_reads w.flow.clock) (ok.ordered.places_in i w.flow w.there) (ok.ordered.clocks_in i w.flow w.there))
     w.names
 
-pub reads_within : (flat : FlatProgram) → IsFlat flat → (i r : ℕ) → Reads flat i r → IsWithin flat i r
+pub reads_within : (flat : FlatView) → IsFlat flat → (i r : ℕ) → Reads flat i r → IsWithin flat i r
 reads_within flat ok i r h =
     let w = read_is flat i r h in
     All-contains (IsWithin flat i) (places w.flow.form ++ clock_reads w.flow.clock) r (ok.inner i w.flow w.there) w.names
@@ -52,52 +52,52 @@ reads_within flat ok i r h =
 -- CHAINS
 
 -- a flow itself, or one that it leads to
-abbrev pub Comes : FlatProgram → ℕ → ℕ → Type 0
+abbrev pub Comes : FlatView → ℕ → ℕ → Type 0
 Comes flat i j = (i ≡ j) ⊎ Leads flat i j
 
-onward : (flat : FlatProgram) (i j r : ℕ) → Comes flat i j → Reads flat j r → Leads flat i r
+onward : (flat : FlatView) (i j r : ℕ) → Comes flat i j → Reads flat j r → Leads flat i r
 onward flat i j r (inl e) h = one i r (subst (λ x. Reads flat x r) (sym e) h)
 onward flat i j r (inr l) h = more i j r l h
 
-leads_on : (flat : FlatProgram) (i j k : ℕ) → Leads flat i j → Leads flat j k → Leads flat i k
+leads_on : (flat : FlatView) (i j k : ℕ) → Leads flat i j → Leads flat j k → Leads flat i k
 leads_on flat i j k l (one _ _ h) = more i j k l h
 leads_on flat i j k l (more _ m _ w h) = more i m k (leads_on flat i j m l w) h
 
-lead_comes : (flat : FlatProgram) (i j k : ℕ) → Leads flat i j → Comes flat j k → Leads flat i k
+lead_comes : (flat : FlatView) (i j k : ℕ) → Leads flat i j → Comes flat j k → Leads flat i k
 lead_comes flat i j k l (inl e) = subst (Leads flat i) e l
 lead_comes flat i j k l (inr w) = leads_on flat i j k l w
 
-comes_lead : (flat : FlatProgram) (i j k : ℕ) → Comes flat i j → Leads flat j k → Leads flat i k
+comes_lead : (flat : FlatView) (i j k : ℕ) → Comes flat i j → Leads flat j k → Leads flat i k
 comes_lead flat i j k (inl e) w = subst (λ x. Leads flat x k) (sym e) w
 comes_lead flat i j k (inr l) w = leads_on flat i j k l w
 
-reader_of_lead : (flat : FlatProgram) (i j : ℕ) → Leads flat i j → i < flows_of flat
+reader_of_lead : (flat : FlatView) (i j : ℕ) → Leads flat i j → i < flows_of flat
 reader_of_lead flat i j (one _ _ h) = reader_inside flat i j h
 reader_of_lead flat i j (more _ m _ l h) = reader_of_lead flat i m l
 
 -- SITES
 
-same_from : (plan : Distribution) (i j : ℕ) → same_sites plan i j ≡ true → flow_sites plan i ≡ flow_sites plan j
+same_from : (plan : PlanView) (i j : ℕ) → same_sites plan i j ≡ true → flow_sites plan i ≡ flow_sites plan j
 same_from plan i j e = (bytes_eq-Decides (flow_sites plan i) (flow_sites plan j)).0 e
 
-apart_from : (plan : Distribution) (i j : ℕ) → same_sites plan i j ≡ false → flow_sites plan i ≢ flow_sites plan j
+apart_from : (plan : PlanView) (i j : ℕ) → same_sites plan i j ≡ false → flow_sites plan i ≢ flow_sites plan j
 apart_from plan i j e s = true≢false (sym ((bytes_eq-Decides (flow_sites plan i) (flow_sites plan j)).1 s) ∙ e)
 
-pub same_or_apart : (plan : Distribution) (i j : ℕ) → (flow_sites plan i ≡ flow_sites plan j) ⊎ (flow_sites plan i ≢ flow_sites plan j)
+pub same_or_apart : (plan : PlanView) (i j : ℕ) → (flow_sites plan i ≡ flow_sites plan j) ⊎ (flow_sites plan i ≢ flow_sites plan j)
 same_or_apart plan i j = go (same_sites plan i j) refl
   where
     go : (b : Bool) → same_sites plan i j ≡ b → (flow_sites plan i ≡ flow_sites plan j) ⊎ (flow_sites plan i ≢ flow_sites plan j)
     go true e = inl (same_from plan i j e)
     go false e = inr (apart_from plan i j e)
 
-not_same : (plan : Distribution) (i j : ℕ) → flow_sites plan i ≢ flow_sites plan j → not (same_sites plan i j) ≡ true
+not_same : (plan : PlanView) (i j : ℕ) → flow_sites plan i ≢ flow_sites plan j → not (same_sites plan i j) ≡ true
 not_same plan i j ne = go (same_sites plan i j) refl
   where
     go : (b : Bool) → same_sites plan i j ≡ b → not b ≡ true
     go true e = absurd (ne (same_from plan i j e))
     go false e = refl
 
-same_not : (plan : Distribution) (i j : ℕ) → not (same_sites plan i j) ≡ true → flow_sites plan i ≢ flow_sites plan j
+same_not : (plan : PlanView) (i j : ℕ) → not (same_sites plan i j) ≡ true → flow_sites plan i ≢ flow_sites plan j
 same_not plan i j h = go (same_sites plan i j) refl h
   where
     go : (b : Bool) → same_sites plan i j ≡ b → not b ≡ true → flow_sites plan i ≢ flow_sites plan j
@@ -105,7 +105,7 @@ same_not plan i j h = go (same_sites plan i j) refl h
     go false e n = apart_from plan i j e
 
 -- a chain from i to j with a read of a flow that stands at other sites
-pub record IsCrossing (plan : Distribution) (i j : ℕ) : Type 0 where
+pub record IsCrossing (plan : PlanView) (i j : ℕ) : Type 0 where
   pub from : ℕ
   pub to : ℕ
   pub before : Comes plan.flat i from
@@ -113,11 +113,11 @@ pub record IsCrossing (plan : Distribution) (i j : ℕ) : Type 0 where
   pub apart : flow_sites plan from ≢ flow_sites plan to
   pub behind : Comes plan.flat to j
 
-crossing_leads : (plan : Distribution) (i j : ℕ) → IsCrossing plan i j → Leads plan.flat i j
+crossing_leads : (plan : PlanView) (i j : ℕ) → IsCrossing plan i j → Leads plan.flat i j
 crossing_leads plan i j c = lead_comes plan.flat i c.to j (onward plan.flat i c.from c.to c.before c.reads) c.behind
 
 -- a chain between flows of other sites has such a read
-pub crossing_on : (plan : Distribution) (i j : ℕ) → Leads plan.flat i j → flow_sites plan i ≢ flow_sites plan j → IsCrossing plan i j
+pub crossing_on : (plan : PlanView) (i j : ℕ) → Leads plan.flat i j → flow_sites plan i ≢ flow_sites plan j → IsCrossing plan i j
 crossing_on plan i j (one _ _ h) ne = record { from = i; to = j; before = inl refl; reads = h; apart = ne; behind = inl refl }
 crossing_on plan i j (more _ m _ l h) ne = go (same_or_apart plan m j) (crossing_on plan i m l)
   where
@@ -128,7 +128,7 @@ crossing_on plan i j (more _ m _ l h) ne = go (same_or_apart plan m j) (crossing
     go (inr a) rest = record { from = m; to = j; before = inr l; reads = h; apart = a; behind = inl refl }
 
 -- a flow with a crossing back to itself is on a parted cycle
-pub crossing_parts : (plan : Distribution) (i : ℕ) → IsCrossing plan i i → IsParted plan i
+pub crossing_parts : (plan : PlanView) (i : ℕ) → IsCrossing plan i i → IsParted plan i
 crossing_parts plan i c =
     let flat = plan.flat in
     let whole = crossing_leads plan i i c in
@@ -142,13 +142,13 @@ crossing_parts plan i c =
     ]
 
 -- a flow on a parted cycle has a crossing back to itself
-pub parted_crosses : (plan : Distribution) (i : ℕ) → IsParted plan i → IsCrossing plan i i
+pub parted_crosses : (plan : PlanView) (i : ℕ) → IsParted plan i → IsCrossing plan i i
 parted_crosses plan i (j, share, apart) =
     let c = crossing_on plan i j share.there apart in
     record { from = c.from; to = c.to; before = c.before; reads = c.reads; apart = c.apart; behind = inr (comes_lead plan.flat c.to j i c.behind share.back) }
 
 -- where no main variable is on a parted cycle, no cycle is parted
-pub none_parted : (plan : Distribution) → IsFlat plan.flat → ((v : ℕ) → v < length plan.flat.variables → IsParted plan v → ⊥) → NoneParted plan
+pub none_parted : (plan : PlanView) → IsFlat plan.flat → ((v : ℕ) → v < length plan.flat.variables → IsParted plan v → ⊥) → NoneParted plan
 none_parted plan ok none i j share = elim (same_or_apart plan i j) [
   | inl s ↦ s
   | inr a ↦ absurd (crossed (crossing_on plan i j share.there a))
@@ -168,7 +168,7 @@ none_parted plan ok none i j share = elim (same_or_apart plan i j) [
 
 -- THE GRAPH
 
-module _ (plan : Distribution) (ok : IsFlat plan.flat) (g : Graph) (layers : AreLayers plan g) where
+module _ (plan : PlanView) (ok : IsFlat plan.flat) (g : Graph) (layers : AreLayers plan g) where
   abbrev n : ℕ
   n = flows_of plan.flat
 

@@ -13,7 +13,7 @@ use Rattle.std.proofs.lemmas.Option.{slice_get-get_or}
 use Rattle.luflow.specs.Program.{flows_of}
 use Rattle.luflow.specs.Flats.{IsFlat}
 use Rattle.luworld.specs.declared.link.Link.{Link}
-use Rattle.luworld.specs.Needs.{Distribution, IsPlan}
+use Rattle.luworld.specs.Needs.{PlanView, IsPlan}
 use Rattle.luworld.proofs.Fitting.{fits}
 use Rattle.lubase.specs.Graph.{Graph, MarksCycles}
 use Rattle.lublock_plan.specs.Classes.{class_in}
@@ -82,7 +82,7 @@ all_marked P marks from count there back =
 
 -- PARTED CYCLES
 
-pub parted_all : (plan : Distribution) → IsFlat plan.flat → (g : Graph) (marks : List Bool) → AreLayers plan g → MarksCycles g marks → AreAll (IsPartedVariable plan) (marked marks (flows_of plan.flat + flows_of plan.flat) (length plan.flat.variables))
+pub parted_all : (plan : PlanView) → IsFlat plan.flat → (g : Graph) (marks : List Bool) → AreLayers plan g → MarksCycles g marks → AreAll (IsPartedVariable plan) (marked marks (flows_of plan.flat + flows_of plan.flat) (length plan.flat.variables))
 parted_all plan ok g marks layers cycles =
     let n : ℕ = flows_of plan.flat in
     let main : ℕ = length plan.flat.variables in
@@ -96,29 +96,29 @@ parted_all plan ok g marks layers cycles =
     let inside : n + n + v < length g = omega (arith, lv, layers.long) in
     (w.0, (cycles (n + n + v) inside).1 ((parted_exactly plan ok g layers v lv).1 w.1)))
 
-pub none_listed : (plan : Distribution) → IsFlat plan.flat → AreAll (IsPartedVariable plan) [] → NoneParted plan
+pub none_listed : (plan : PlanView) → IsFlat plan.flat → AreAll (IsPartedVariable plan) [] → NoneParted plan
 none_listed plan ok all = none_parted plan ok (λ v lt p. contains_none v ((all.exactly v).1 (lt, p)))
 
 -- SENT AND MAYBE NIL
 
 -- the link that sends a variable, by its number
-record IsSentBy (plan : Distribution) (v : ℕ) : Type 0 where
+record IsSentBy (plan : PlanView) (v : ℕ) : Type 0 where
   number : ℕ
   link : Link
   below : number < length plan.links
   there : slice_get plan.links number ≡ Some link
   carries : link.flow ≡ v
 
-sent_by : (plan : Distribution) (v : ℕ) → IsSent plan v → IsSentBy plan v
+sent_by : (plan : PlanView) (v : ℕ) → IsSent plan v → IsSentBy plan v
 sent_by plan v (link, c, e) = record { number = c.0; link = link; below = c.1; there = slice_get-get_or plan.links c.0 link c.1 ∙ ap (λ (x : Link). Some x) c.2; carries = e }
 
-sent_main : (plan : Distribution) → IsPlan plan → (v : ℕ) → IsSent plan v → v < length plan.flat.variables
+sent_main : (plan : PlanView) → IsPlan plan → (v : ℕ) → IsSent plan v → v < length plan.flat.variables
 sent_main plan ok v sent =
     let by = sent_by plan v sent in
     let e = ap (λ (o : Option Link). unwrap_or (option_map (λ (x : Link). x.flow) o) 0) by.there in
     omega (arith, e, by.carries, (fits plan ok).carries by.number by.below)
 
-module _ (plan : Distribution) (ok : IsPlan plan) (nils marks : List Bool) (least : AreLeast plan.flat nils) (told : AreSentNils plan nils (length plan.links) marks) where
+module _ (plan : PlanView) (ok : IsPlan plan) (nils marks : List Bool) (least : AreLeast plan.flat nils) (reported : AreSentNils plan nils (length plan.links) marks) where
   abbrev main : ℕ
   main = length plan.flat.variables
 
@@ -126,7 +126,7 @@ module _ (plan : Distribution) (ok : IsPlan plan) (nils marks : List Bool) (leas
   from_mark v lt h =
       let z : 0 + v ≡ v = omega arith in
       let there = sym (ap (λ x. slice_index_or marks x false) z) ∙ h in
-      (told.sent v there, λ class are. least.must class are v (omega (arith, lt, ok.flat_is.variables_first)) (told.nil v there))
+      (reported.sent v there, λ class are. least.must class are v (omega (arith, lt, ok.flat_is.variables_first)) (reported.nil v there))
 
   to_mark : (v : ℕ) → IsSentNil plan v → (v < main) × (slice_index_or marks (0 + v) false ≡ true)
   to_mark v w =
@@ -134,7 +134,7 @@ module _ (plan : Distribution) (ok : IsPlan plan) (nils marks : List Bool) (leas
       let lt = sent_main plan ok v w.0 in
       let z : by.link.flow ≡ 0 + v = omega (arith, by.carries) in
       let nil : class_in nils by.link.flow ≡ true = ap (class_in nils) by.carries ∙ w.1 (class_in nils) least.meet in
-      (lt, sym (ap (λ x. slice_index_or marks x false) z) ∙ told.all by.number by.link by.below by.there (omega (arith, by.carries, lt, ok.flat_is.variables_first)) nil)
+      (lt, sym (ap (λ x. slice_index_or marks x false) z) ∙ reported.all by.number by.link by.below by.there (omega (arith, by.carries, lt, ok.flat_is.variables_first)) nil)
 
   pub nils_all : AreAll (IsSentNil plan) (marked marks 0 main)
   nils_all = all_marked (IsSentNil plan) marks 0 main from_mark to_mark
@@ -156,7 +156,7 @@ none_from [] n e h = refl
 none_from (x ∷ xs) n e h = let z = eqb-true n 0 h in absurd (omega (arith, z, e))
 
 -- where nothing stands in the way, a run goes by rows
-pub rows_from : (plan : Distribution) → IsFlat plan.flat → AreAll (IsPartedVariable plan) [] → ((v : ℕ) → IsSent plan v → Contains [] v ⊎ IsInitialised plan.flat v) → GoesByRows plan
+pub rows_from : (plan : PlanView) → IsFlat plan.flat → AreAll (IsPartedVariable plan) [] → ((v : ℕ) → IsSent plan v → Contains [] v ⊎ IsInitialised plan.flat v) → GoesByRows plan
 rows_from plan ok all others = record {
   together = none_listed plan ok all;
   initialised = λ v sent. elim (others v sent) [

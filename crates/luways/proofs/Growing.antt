@@ -4,7 +4,7 @@ use Rattle.std.specs.Prelude.{Vec}
 use Rattle.std.specs.Global.{Global}
 use Rattle.std.proofs.lemmas.Bool.{cases_lt}
 use Rattle.luflow.specs.Program.{flows_of}
-use Rattle.luworld.specs.Needs.{Distribution}
+use Rattle.luworld.specs.Needs.{PlanView}
 use Rattle.lubase.specs.Graph.{Graph, row_of}
 use Rattle.luways.specs.Layers.{first_row, second_row, third_row, HasMore, AreLayers}
 
@@ -34,7 +34,7 @@ more_push rows n old new r more is = record {
   ];
 }
 
-pub layers_from : (plan : Distribution) (a b c : Graph) → HasMore (first_row plan) (flows_of plan.flat) [] a → HasMore (second_row plan) (flows_of plan.flat) a b → HasMore third_row (flows_of plan.flat) b c → AreLayers plan c
+pub layers_from : (plan : PlanView) (a b c : Graph) → HasMore (first_row plan) (flows_of plan.flat) [] a → HasMore (second_row plan) (flows_of plan.flat) a b → HasMore third_row (flows_of plan.flat) b c → AreLayers plan c
 layers_from plan a b c first second third =
     let n : ℕ = flows_of plan.flat in
     let la : length a ≡ n = omega (arith, first.long) in

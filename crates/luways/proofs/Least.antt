@@ -12,7 +12,7 @@ use Rattle.luflow.specs.declared.form.Clock.TheVariants.{Base, On}
 use Rattle.luflow.specs.declared.form.Flow.{Flow}
 use Rattle.luflow.specs.declared.form.Form.{Form}
 use Rattle.luflow.specs.declared.form.Form.TheVariants.{Input, Constant, Copied, Unary, Binary, If, Pre, Arrow, When, Current, Merge}
-use Rattle.luflow.specs.Program.{FlatProgram, flow_at, flows_of, places, clock_reads, form_reads}
+use Rattle.luflow.specs.Program.{FlatView, flow_at, flows_of, places, clock_reads, form_reads}
 use Rattle.luflow.specs.Flats.{IsFlat}
 use Rattle.luflow.specs.Sound.{IsSound, FormFits, ClockFits, BranchesFit}
 use Rattle.luflow.proofs.Solutions.{first_of_all, second_of_all, third_of_all, rest_of_all, all_left, all_at, place_of, rank_of}
@@ -104,14 +104,14 @@ clock_below nils class (On c d) less fits = first_of_all (λ r. class r ≡ fals
 
 -- THE CLASSES OF A SOUND PROGRAM
 
-branches_false : (flat : FlatProgram) (class : ℕ → Bool) (s : Kind) (c : ℕ) (ds : List Datum) (xs : List ℕ) → BranchesFit flat class s c ds xs → (k x : ℕ) → slice_get xs k ≡ Some x → class x ≡ false
+branches_false : (flat : FlatView) (class : ℕ → Bool) (s : Kind) (c : ℕ) (ds : List Datum) (xs : List ℕ) → BranchesFit flat class s c ds xs → (k x : ℕ) → slice_get xs k ≡ Some x → class x ≡ false
 branches_false flat class s c [] [] fit k x at = absurd cc
 branches_false flat class s c [] (y ∷ xs) fit k x at = absurd fit
 branches_false flat class s c (d ∷ ds) [] fit k x at = absurd fit
 branches_false flat class s c (d ∷ ds) (y ∷ xs) fit zero x at = let e : y ≡ x = cc in subst (λ z. class z ≡ false) e fit.1
 branches_false flat class s c (d ∷ ds) (y ∷ xs) fit (suc k) x at = branches_false flat class s c ds xs fit.2 k x at
 
-class_from : (flat : FlatProgram) (class : ℕ → Bool) (k : Clock) (s : Kind) (e : Bool) (form : Form) → FormFits flat class k s e form → ClassFits class e form
+class_from : (flat : FlatView) (class : ℕ → Bool) (k : Clock) (s : Kind) (e : Bool) (form : Form) → FormFits flat class k s e form → ClassFits class e form
 class_from flat class k s e (Input c) fit = tt
 class_from flat class k s e (Constant d) fit = tt
 class_from flat class k s e (Copied a) fit = fit.1
@@ -124,12 +124,12 @@ class_from flat class k s e (When a) (c, d, u, k', is, on, there, f) = f
 class_from flat class k s e (Current a) (c, d, on, f, begins) = f
 class_from flat class k s e (Merge c xs) (u, some, on, f, fit) = (f, branches_false flat class s c _ xs fit)
 
-clock_from : (flat : FlatProgram) (class : ℕ → Bool) (clock : Clock) → ClockFits flat class clock → ClockClass class clock
+clock_from : (flat : FlatView) (class : ℕ → Bool) (clock : Clock) → ClockFits flat class clock → ClockClass class clock
 clock_from flat class Base fit = tt
 clock_from flat class (On c d) (k, u, there, on, f) = f
 
 -- a sound program has classes that meet the rules
-pub sound_classes : (flat : FlatProgram) (sound : IsSound flat) → AreClasses flat sound.class
+pub sound_classes : (flat : FlatView) (sound : IsSound flat) → AreClasses flat sound.class
 sound_classes flat sound = record {
   forms = λ i flow here. class_from flat sound.class flow.clock flow.kind (sound.class i) flow.form (sound.forms i flow here);
   clocks = λ i flow here. clock_from flat sound.class flow.clock (sound.clocks i flow here);
@@ -138,7 +138,7 @@ sound_classes flat sound = record {
 
 -- BY RANK
 
-module _ (flat : FlatProgram) (ok : IsFlat flat) where
+module _ (flat : FlatView) (ok : IsFlat flat) where
   -- the flow of a rank
   abbrev at_rank : ℕ → ℕ
   at_rank p = slice_index flat.order p

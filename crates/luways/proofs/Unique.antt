@@ -5,7 +5,7 @@ use Rattle.std.specs.List.{AllPairs}
 use Rattle.std.proofs.lemmas.Bool.{true≢false}
 use Rattle.std.proofs.lemmas.List.Elements.{Contains-get_or}
 use Rattle.std.proofs.lemmas.List.Kept.{AllPairs-from_increasing}
-use Rattle.luworld.specs.Needs.{Distribution}
+use Rattle.luworld.specs.Needs.{PlanView}
 use Rattle.luways.specs.declared.way.Way.TheVariants.{Rows, Parted, Nil}
 use Rattle.luways.specs.Ways.{IsPartedVariable, IsSentNil, NoneParted, GoesByRows, AreAll}
 use Rattle.luways.specs.Laws.{OneWay}
@@ -57,12 +57,12 @@ same_all P xs ys a b =
 first_of : (P : ℕ → Type 0) (vs : List ℕ) → 0 < length vs → AreAll P vs → P (slice_index vs 0)
 first_of P vs some all = (all.exactly (slice_index vs 0)).0 (Contains-get_or vs 0 0 some)
 
-not_parted : (plan : Distribution) (vs : List ℕ) → NoneParted plan → 0 < length vs → AreAll (IsPartedVariable plan) vs → ⊥
+not_parted : (plan : PlanView) (vs : List ℕ) → NoneParted plan → 0 < length vs → AreAll (IsPartedVariable plan) vs → ⊥
 not_parted plan vs none some all =
     let w = first_of (IsPartedVariable plan) vs some all in
     w.1.2 (none (slice_index vs 0) w.1.0 w.1.1)
 
-not_nil : (plan : Distribution) (vs : List ℕ) → GoesByRows plan → 0 < length vs → AreAll (IsSentNil plan) vs → ⊥
+not_nil : (plan : PlanView) (vs : List ℕ) → GoesByRows plan → 0 < length vs → AreAll (IsSentNil plan) vs → ⊥
 not_nil plan vs rows some all =
     let w = first_of (IsSentNil plan) vs some all in
     let i = rows.initialised (slice_index vs 0) w.0 in

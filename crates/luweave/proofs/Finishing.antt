@@ -4,20 +4,20 @@ use Rattle.std.specs.Prelude.{slice_get, Some}
 use Rattle.std.proofs.lemmas.Bool.{cases_lt}
 use Rattle.std.proofs.lemmas.List.{length-map}
 use Rattle.luworld.specs.declared.turn.Turn.TheVariants.{Moved}
-use Rattle.luworld.specs.World.{Item, System, World, new_world, turn, step, run, reached, total_below}
+use Rattle.luworld.specs.Systems.{Item, System, ItemCounts, new_world, turn, step, run, reached, total_below}
 use Rattle.luworld.specs.Outline.{left_at, left_after}
 use Rattle.luworld.specs.Needs.{sites_of}
-use Rattle.luworld.specs.Runs.{Run, IsRun, streams_of, outline, script, system_of, NoFault}
-use Rattle.luworld.specs.Progress.{AllEnded}
+use Rattle.luworld.specs.Jobs.{JobView, IsJobView, streams_of, outline, script, system_of, NoFault}
+use Rattle.luworld.specs.WorldViews.{AllEnded}
 use Rattle.luworld.proofs.Outlines.{is_wired, is_outline, no_break}
 use Rattle.luworld.proofs.Ended.{done_ends}
 use Rattle.luworld.proofs.Left.{left_step, left_covers, left_zero}
-use Rattle.lusite.specs.Sites.{SiteAt}
-use Rattle.luweave.specs.declared.lane.Lane.{Lane}
+use Rattle.lusite.specs.Sites.{SiteView}
+use Rattle.luweave.specs.declared.link_queue.LinkQueue.{LinkQueue}
 use Rattle.luweave.specs.Worlds.{IsWorld, IsLater, dones_of, undone, left_of}
 use Rattle.luweave.proofs.Worlds.{done_at}
 
-module _ (job : Run) (sites : List SiteAt) (lanes : List Lane) (capacity : ℕ) (w : IsWorld job sites lanes capacity) where
+module _ (job : JobView) (sites : List SiteView) (link_queues : List LinkQueue) (capacity : ℕ) (w : IsWorld job sites link_queues capacity) where
   -- a turn that moves leaves fewer items
   pub left_falls : (s : ℕ) → turn (system_of job) (dones_of sites) s ≡ Moved → left_of job (step (system_of job) (dones_of sites) s) < left_of job (dones_of sites)
   left_falls s e = left_step (outline job (streams_of job)) (is_outline job w.is_job) (dones_of sites) w.good s e
@@ -47,41 +47,41 @@ module _ (job : Run) (sites : List SiteAt) (lanes : List Lane) (capacity : ℕ) 
           ])
 
   -- one site more
-  pub left_more : (s : ℕ) (v : SiteAt) (n : ℕ) → slice_get sites s ≡ Some v → n ≡ left_after (outline v.job (streams_of v.job)) v.site v.done → total_below (left_at (outline job (streams_of job)) (dones_of sites)) (s + 1) ≡ total_below (left_at (outline job (streams_of job)) (dones_of sites)) s + n
+  pub left_more : (s : ℕ) (v : SiteView) (n : ℕ) → slice_get sites s ≡ Some v → n ≡ left_after (outline v.job (streams_of v.job)) v.site v.done → total_below (left_at (outline job (streams_of job)) (dones_of sites)) (s + 1) ≡ total_below (left_at (outline job (streams_of job)) (dones_of sites)) s + n
   left_more s v n at e =
       let h = w.sites_are s v at in
-      let same = ap (λ (j : Run). left_after (outline j (streams_of j)) v.site v.done) h.0 ∙ ap₂ (left_after (outline job (streams_of job))) h.1 (sym (done_at sites s v at)) in
+      let same = ap (λ (j : JobView). left_after (outline j (streams_of j)) v.site v.done) h.0 ∙ ap₂ (left_after (outline job (streams_of job))) h.1 (sym (done_at sites s v at)) in
       let f = e ∙ same in
       let k = ap (total_below (left_at (outline job (streams_of job)) (dones_of sites))) (add-one s) in
       omega (arith, f, k)
 
   -- there are at most 16 sites
-  pub sites_few : (s : ℕ) (v : SiteAt) → slice_get sites s ≡ Some v → IsRun v.job → length sites ≤ 16
+  pub sites_few : (s : ℕ) (v : SiteView) → slice_get sites s ≡ Some v → IsJobView v.job → length sites ≤ 16
   sites_few s v at run =
-      let few = (subst IsRun (w.sites_are s v at).0 run).plan_is.few_sites in
+      let few = (subst IsJobView (w.sites_are s v at).0 run).plan_is.few_sites in
       let long = w.good.long in
-      let n = length-map sites (λ (x : SiteAt). x.done) in
+      let n = length-map sites (λ (x : SiteView). x.done) in
       omega (arith, few, long, n)
 
   pub sites_long : length sites ≡ sites_of job.plan
   sites_long =
       let long = w.good.long in
-      let n = length-map sites (λ (x : SiteAt). x.done) in
+      let n = length-map sites (λ (x : SiteView). x.done) in
       omega (arith, long, n)
 
 -- turns, and then others
-run_on : (sys : System) (world : World) (turns more : List ℕ) → run sys world (turns ++ more) ≡ run sys (run sys world turns) more
+run_on : (sys : System) (world : ItemCounts) (turns more : List ℕ) → run sys world (turns ++ more) ≡ run sys (run sys world turns) more
 run_on sys world [] more = refl
 run_on sys world (t ∷ turns) more = run_on sys (step sys world t) turns more
 
 -- no turn at all, and one turn more
-pub later_none : (job : Run) (dones : List ℕ) → IsLater job dones dones
+pub later_none : (job : JobView) (dones : List ℕ) → IsLater job dones dones
 later_none job dones = ([], refl)
 
-pub later_more : (job : Run) (first dones next : List ℕ) (s : ℕ) → IsLater job first dones → next ≡ step (system_of job) dones s → IsLater job first next
+pub later_more : (job : JobView) (first dones next : List ℕ) (s : ℕ) → IsLater job first dones → next ≡ step (system_of job) dones s → IsLater job first next
 later_more job first dones next s later e =
-    (later.0 ++ s ∷ [], run_on (system_of job) first later.0 (s ∷ []) ∙ ap (λ (x : World). step (system_of job) x s) later.1 ∙ sym e)
+    (later.0 ++ s ∷ [], run_on (system_of job) first later.0 (s ∷ []) ∙ ap (λ (x : ItemCounts). step (system_of job) x s) later.1 ∙ sym e)
 
 -- some turns after a schedule: a longer schedule
-pub reached_later : (job : Run) (schedule dones : List ℕ) → IsLater job (reached (system_of job) schedule) dones → (longer : List ℕ) × (reached (system_of job) longer ≡ dones)
+pub reached_later : (job : JobView) (schedule dones : List ℕ) → IsLater job (reached (system_of job) schedule) dones → (longer : List ℕ) × (reached (system_of job) longer ≡ dones)
 reached_later job schedule dones later = (schedule ++ later.0, run_on (system_of job) (new_world (system_of job)) schedule later.0 ∙ later.1)

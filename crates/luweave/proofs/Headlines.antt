@@ -3,18 +3,18 @@ use Rattle.std.proofs.Common.{◌≡◌, ℕ, zero, suc, ◌<◌, ◌≤◌, Lis
 use Rattle.std.proofs.lemmas.List.{take_all, length-take}
 use Rattle.luflow.specs.declared.data.Status.{Status}
 use Rattle.luflow.specs.declared.message.Msg.{Msg}
-use Rattle.luworld.specs.World.{put_count, taken_count}
-use Rattle.luworld.specs.Runs.{Run, streams_of, system_of, link_list}
+use Rattle.luworld.specs.Systems.{put_count, taken_count}
+use Rattle.luworld.specs.Jobs.{JobView, streams_of, system_of, link_list}
 use Rattle.lusource.specs.Source.{SourceStreams}
 use Rattle.lumeaning.specs.Meaning.{IsMeant, NoneBreaks, source_list}
 use Rattle.lumeaning.proofs.Sources.{same_list, same_marks, none_breaks}
-use Rattle.lusite.specs.Sites.{SiteAt}
-use Rattle.lusite_program.proofs.Posts.{output_there}
-use Rattle.luweave.specs.declared.lane.Lane.{Lane}
+use Rattle.lusite.specs.Sites.{SiteView}
+use Rattle.lusite_program.proofs.SiteFlows.{output_there}
+use Rattle.luweave.specs.declared.link_queue.LinkQueue.{LinkQueue}
 use Rattle.luweave.specs.Worlds.{IsWorld, dones_of}
-use Rattle.luworld.specs.Progress.{IsCollected, IsBeginning, AllEnded}
+use Rattle.luworld.specs.WorldViews.{IsCollected, IsPrefixOf, AllEnded}
 use Rattle.luweave.specs.Headline.{IsCollectedOf, IsWithin, IsTakenOf, IsFaithful}
-use Rattle.luweave.proofs.Worlds.{take_begins, both_begin, lane_view}
+use Rattle.luweave.proofs.Worlds.{take_begins, both_begin, link_queue_view}
 use Rattle.luweave.proofs.Endings.{all_taken, no_fault}
 
 drop_all : (n : ℕ) (xs : List Msg) → length xs ≤ n → drop n xs ≡ []
@@ -23,7 +23,7 @@ drop_all zero (x ∷ xs) le = absurd (omega arith)
 drop_all (suc n) [] le = refl
 drop_all (suc n) (x ∷ xs) le = drop_all n xs (omega arith)
 
-module _ (job : Run) (sites : List SiteAt) (lanes : List Lane) (capacity : ℕ) (w : IsWorld job sites lanes capacity) where
+module _ (job : JobView) (sites : List SiteView) (link_queues : List LinkQueue) (capacity : ℕ) (w : IsWorld job sites link_queues capacity) where
   abbrev ds : List ℕ
   ds = dones_of sites
 
@@ -47,26 +47,26 @@ module _ (job : Run) (sites : List SiteAt) (lanes : List Lane) (capacity : ℕ) 
 
   pub put_within : (l : ℕ) → l < length job.plan.links → put_count (system_of job) ds l ≤ length (link_list job (streams_of job) l)
   put_within l lt =
-      let k = lane_view job sites lanes capacity w l lt in
+      let k = link_queue_view job sites link_queues capacity w l lt in
       let e = ap length k.2.put_is in
       let m = length-take (put_count (system_of job) ds l) (link_list job (streams_of job) l) in
       omega (arith, e, k.2.put_len, m)
 
   module _ (σ : SourceStreams) (meant : IsMeant job σ) where
-    pub taken_source : (l : ℕ) (xs : List Msg) → l < length job.plan.links → xs ≡ front l → IsBeginning xs (source_list job σ l)
+    pub taken_source : (l : ℕ) (xs : List Msg) → l < length job.plan.links → xs ≡ front l → IsPrefixOf xs (source_list job σ l)
     taken_source l xs lt e =
         let same = same_list job σ w.is_job meant l lt in
-        subst (IsBeginning xs) (sym same) (subst (λ ys. IsBeginning ys (link_list job (streams_of job) l)) (sym e) (take_begins (taken_count (system_of job) ds l) (link_list job (streams_of job) l)))
+        subst (IsPrefixOf xs) (sym same) (subst (λ ys. IsPrefixOf ys (link_list job (streams_of job) l)) (sym e) (take_begins (taken_count (system_of job) ds l) (link_list job (streams_of job) l)))
 
     pub taken_source_whole : (l : ℕ) (xs : List Msg) → l < length job.plan.links → xs ≡ front l → AllEnded job ds → xs ≡ source_list job σ l
     taken_source_whole l xs lt e all = taken_whole l xs lt e all ∙ sym (same_list job σ w.is_job meant l lt)
 
-    pub queued_source : (l : ℕ) (xs : List Msg) → l < length job.plan.links → xs ≡ rest l → IsBeginning (take (taken_count (system_of job) ds l) (source_list job σ l) ++ xs) (source_list job σ l)
+    pub queued_source : (l : ℕ) (xs : List Msg) → l < length job.plan.links → xs ≡ rest l → IsPrefixOf (take (taken_count (system_of job) ds l) (source_list job σ l) ++ xs) (source_list job σ l)
     queued_source l xs lt e =
         let same = same_list job σ w.is_job meant l lt in
         let n = taken_count (system_of job) ds l in
         let both = both_begin n (put_count (system_of job) ds l) (link_list job (streams_of job) l) (w.good.taken_put l) in
-        subst (λ ys. IsBeginning (take n ys ++ xs) ys) (sym same) (subst (λ ys. IsBeginning (take n (link_list job (streams_of job) l) ++ ys) (link_list job (streams_of job) l)) (sym e) both)
+        subst (λ ys. IsPrefixOf (take n ys ++ xs) ys) (sym same) (subst (λ ys. IsPrefixOf (take n (link_list job (streams_of job) l) ++ ys) (link_list job (streams_of job) l)) (sym e) both)
 
     pub collected_source : (k : ℕ) (xs : List Status) → IsCollected job ds k xs → IsCollectedOf job ds σ k xs
     collected_source k xs h v at =

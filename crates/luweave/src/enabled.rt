@@ -4,9 +4,9 @@
 ghost use Rattle.std.specs.Prelude.{◌≡◌, ◌≢◌, ◌↔◌, ℕ, ◌<◌, length, slice_get, true, Some, None};
 ghost use Rattle.std.specs.Option.{ForSome};
 ghost use Rattle.luworld.specs.declared.turn.Turn.{Turn};
-ghost use Rattle.luworld.specs.World.{turn, NoTurnMoves};
-ghost use Rattle.luworld.specs.Runs.{system_of, NoFault};
-ghost use Rattle.luworld.specs.Progress.{AllEnded};
+ghost use Rattle.luworld.specs.Systems.{turn, NoTurnMoves};
+ghost use Rattle.luworld.specs.Jobs.{system_of, NoFault};
+ghost use Rattle.luworld.specs.WorldViews.{AllEnded};
 
 use crate::offers::{has_room, has_some, next_of};
 use crate::world::World;
@@ -28,8 +28,8 @@ impl World {
     {
         match next_of(&self.sites, s) {
             Next::Local => true,
-            Next::Put(l, _) => has_room(&self.lanes, l, self.capacity),
-            Next::Take(l) => has_some(&self.lanes, l),
+            Next::Put(l, _) => has_room(&self.link_queues, l, self.capacity),
+            Next::Take(l) => has_some(&self.link_queues, l),
             Next::Ended => false,
             Next::Faulted => false,
         }

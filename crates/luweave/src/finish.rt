@@ -2,9 +2,9 @@
 
 ghost use Rattle.std.specs.Prelude.{◌≡◌, ℕ, ◌<◌};
 ghost use Rattle.luworld.specs.declared.turn.Turn.{Turn};
-ghost use Rattle.luworld.specs.World.{turn, step, NoTurnMoves};
-ghost use Rattle.luworld.specs.Runs.{system_of, NoFault};
-ghost use Rattle.luworld.specs.Progress.{AllEnded};
+ghost use Rattle.luworld.specs.Systems.{turn, step, NoTurnMoves};
+ghost use Rattle.luworld.specs.Jobs.{system_of, NoFault};
+ghost use Rattle.luworld.specs.WorldViews.{AllEnded};
 ghost use Rattle.luweave.specs.Worlds.{left_of, IsLater, IsOnlyEnd};
 ghost use Rattle.luweave.specs.Headline.{IsFaithful};
 
@@ -17,7 +17,7 @@ impl World {
             → left_of self.now.job (step (system_of self.now.job) self.now.dones s)
             < left_of self.now.job self.now.dones }
     {
-        let _ = self.lanes.len();
+        let _ = self.link_queues.len();
     }
 
     /// Gives the turn of `enabled` until no turn moves any more. Then all sites have ended, or some flow faults; and the world

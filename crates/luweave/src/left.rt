@@ -3,10 +3,10 @@
 ghost use Rattle.std.specs.Prelude.{◌≡◌, ◌↔◌, ℕ, ◌<◌, ◌≤◌, length, slice_get};
 ghost use Rattle.std.specs.Option.{ForSome};
 ghost use Rattle.luworld.specs.declared.turn.Turn.{Turn};
-ghost use Rattle.luworld.specs.World.{turn, step};
+ghost use Rattle.luworld.specs.Systems.{turn, step};
 ghost use Rattle.luworld.specs.Outline.{left_after};
-ghost use Rattle.luworld.specs.Runs.{IsRun, NoFault, outline, streams_of, system_of};
-ghost use Rattle.luworld.specs.Progress.{AllEnded};
+ghost use Rattle.luworld.specs.Jobs.{IsJobView, NoFault, outline, streams_of, system_of};
+ghost use Rattle.luworld.specs.WorldViews.{AllEnded};
 ghost use Rattle.lusite.specs.Widths.{most_left};
 ghost use Rattle.luweave.specs.Worlds.{left_of, undone};
 
@@ -19,7 +19,7 @@ fn left_at(sites: &Vec<Site>, s: usize) -> u64
     ensures left { ForSome (slice_get sites.now.items s) (λ v. result
         ≡ left_after (outline v.job (streams_of v.job)) v.site v.done) }
     ensures few { result ≤ most_left }
-    ensures run { ForSome (slice_get sites.now.items s) (λ v. IsRun v.job) }
+    ensures run { ForSome (slice_get sites.now.items s) (λ v. IsJobView v.job) }
 {
     sites[s].left()
 }

@@ -6,8 +6,8 @@
 
 mod enabled;
 mod finish;
-mod lane;
 mod left;
+mod link_queue;
 mod next;
 mod offers;
 mod sites;

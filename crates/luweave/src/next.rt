@@ -1,6 +1,6 @@
 //! What the sites of a world do next.
 
-ghost use Rattle.luworld.specs.World.{done};
+ghost use Rattle.luworld.specs.Systems.{done};
 ghost use Rattle.lusite.specs.Machine.{IsNext};
 
 use crate::offers::next_of;

@@ -6,7 +6,7 @@ ghost use Rattle.std.specs.Option.{ForSome};
 ghost use Rattle.lusite.specs.Machine.{IsNext};
 ghost use Rattle.luweave.specs.Worlds.{room_in, some_in};
 
-use crate::lane::Lane;
+use crate::link_queue::LinkQueue;
 use lusite::{Next, Site};
 
 /// What a site offers next.
@@ -19,25 +19,25 @@ pub fn next_of(sites: &Vec<Site>, s: usize) -> Next
 }
 
 /// Whether the queue has room.
-pub fn has_room(lanes: &Vec<Lane>, l: usize, capacity: usize) -> bool
-    requires lens { ForSome (slice_get lanes.now.items l) (λ x. x.taken ≤ length x.put.items) }
-    ensures { result ≡ room_in lanes.now.items l capacity }
+pub fn has_room(link_queues: &Vec<LinkQueue>, l: usize, capacity: usize) -> bool
+    requires lens { ForSome (slice_get link_queues.now.items l) (λ x. x.taken ≤ length x.put.items) }
+    ensures { result ≡ room_in link_queues.now.items l capacity }
 {
-    if l < lanes.len() {
-        let lane = &lanes[l];
-        lane.put.len() - lane.taken < capacity
+    if l < link_queues.len() {
+        let link_queue = &link_queues[l];
+        link_queue.put.len() - link_queue.taken < capacity
     } else {
         false
     }
 }
 
 /// Whether a message waits.
-pub fn has_some(lanes: &Vec<Lane>, l: usize) -> bool
-    ensures { result ≡ some_in lanes.now.items l }
+pub fn has_some(link_queues: &Vec<LinkQueue>, l: usize) -> bool
+    ensures { result ≡ some_in link_queues.now.items l }
 {
-    if l < lanes.len() {
-        let lane = &lanes[l];
-        lane.taken < lane.put.len()
+    if l < link_queues.len() {
+        let link_queue = &link_queues[l];
+        link_queue.taken < link_queue.put.len()
     } else {
         false
     }

@@ -3,7 +3,7 @@
 ghost use Rattle.std.specs.Prelude.{◌≡◌, ◌<◌, ℕ, Some, slice_get, IfOk};
 ghost use Rattle.std.specs.Option.{ForSome};
 ghost use Rattle.luworld.specs.Needs.{sites_of};
-ghost use Rattle.lusite.specs.Sites.{SiteAt};
+ghost use Rattle.lusite.specs.Sites.{SiteView};
 ghost use Rattle.luweave.specs.Worlds.{IsNewWorld};
 
 use luplace::Job;

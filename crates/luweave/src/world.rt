@@ -4,20 +4,20 @@
 ghost use Rattle.std.specs.Prelude.{◌≡◌, ℕ, ◌++◌, true, [], ◌+◌, ◌<◌, ◌≤◌, length, take, drop, slice_get, slice_set, slice_index, vec_capacity, List, Some, None, IfOk};
 ghost use Rattle.std.specs.Option.{ForSome};
 ghost use Rattle.lusite.specs.Machine.{IsLocalNext, IsPutNext, IsTakeNext};
-ghost use Rattle.lusite.specs.Sites.{SiteAt};
-ghost use Rattle.luweave.specs.declared.lane.Lane.{Lane};
-ghost use Rattle.luworld.specs.Runs.{link_list, streams_of};
-ghost use Rattle.luworld.specs.World.{done, turn, step, reached, put_count, taken_count, new_world};
-ghost use Rattle.luworld.specs.Runs.{system_of, IsJob};
-ghost use Rattle.luweave.specs.Worlds.{more, IsPutInto, IsTakeFrom, IsNewWorld, IsNewLane, IsUnstuck, IsOnlyEnd, IsDone, IsToldBySome};
-ghost use Rattle.luworld.specs.Progress.{IsCollected, IsBeginning, AllEnded, list_of_link, taken_of, queued_of};
+ghost use Rattle.lusite.specs.Sites.{SiteView};
+ghost use Rattle.luweave.specs.declared.link_queue.LinkQueue.{LinkQueue};
+ghost use Rattle.luworld.specs.Jobs.{link_list, streams_of};
+ghost use Rattle.luworld.specs.Systems.{done, turn, step, reached, put_count, taken_count, new_world};
+ghost use Rattle.luworld.specs.Jobs.{system_of, IsJob};
+ghost use Rattle.luweave.specs.Worlds.{more, IsPutInto, IsTakeFrom, IsNewWorld, IsNewLinkQueue, IsUnstuck, IsOnlyEnd, IsDone, IsReportedAtSome};
+ghost use Rattle.luworld.specs.WorldViews.{IsCollected, IsPrefixOf, AllEnded, list_of_link, taken_of, queued_of};
 ghost use Rattle.lusource.specs.Source.{SourceStreams};
 ghost use Rattle.lumeaning.specs.Meaning.{IsMeant, NoneBreaks, source_list};
 ghost use Rattle.luweave.specs.Headline.{InEachSource, WaitsNext, IsCollectedOf, IsFaithful};
 ghost use Rattle.lusite.specs.Logs.{IsOutput};
-ghost use Rattle.luworld.specs.Runs.{NoFault, outputs_of};
+ghost use Rattle.luworld.specs.Jobs.{NoFault, outputs_of};
 
-use crate::lane::Lane;
+use crate::link_queue::LinkQueue;
 use crate::offers::{has_room, has_some, next_of};
 use luflow::{Msg, Status};
 use luplace::Plan;
@@ -31,7 +31,7 @@ use std::snapshot::Snapshot;
 /// each site has done.
 pub struct World {
     pub(crate) sites: Vec<Site>,
-    pub(crate) lanes: Vec<Lane>,
+    pub(crate) link_queues: Vec<LinkQueue>,
     pub(crate) capacity: usize,
     first: Snapshot<Site>,
 }
@@ -41,7 +41,7 @@ impl Drop for World {
     fn drop(self) {
         let Self {
             sites: _,
-            lanes: _,
+            link_queues: _,
             capacity: _,
             first: _,
         } = self;
@@ -50,13 +50,13 @@ impl Drop for World {
 
 impl Model for World {
     ghost use Rattle.luweave.specs.Worlds.{dones_of, IsWorld};
-    ghost use Rattle.luworld.specs.Progress.{Progress};
+    ghost use Rattle.luworld.specs.WorldViews.{WorldView};
 
-    ghost Value = { Progress };
+    ghost Value = { WorldView };
 
     ghost view = { λ a. record { job = a.first.value.job; dones = dones_of a.sites.items } };
 
-    ghost invariant = { λ a. IsWorld a.first.value.job a.sites.items a.lanes.items a.capacity };
+    ghost invariant = { λ a. IsWorld a.first.value.job a.sites.items a.link_queues.items a.capacity };
 }
 
 #[inline(always)]
@@ -91,25 +91,25 @@ fn given_at(sites: &mut Vec<Site>, s: usize, msg: Msg)
     site.given(msg);
 }
 
-fn put_at(lanes: &mut Vec<Lane>, l: usize, msg: Msg)
-    requires within { l < length lanes.old.items }
-    requires room { ForSome (slice_get lanes.old.items l)
+fn put_at(link_queues: &mut Vec<LinkQueue>, l: usize, msg: Msg)
+    requires within { l < length link_queues.old.items }
+    requires room { ForSome (slice_get link_queues.old.items l)
         (λ x. length x.put.items < vec_capacity x.put) }
-    ensures { ForSome (slice_get lanes.old.items l) (λ x. IsPutInto lanes.old.items l x msg
-        lanes.new.items) }
+    ensures { ForSome (slice_get link_queues.old.items l) (λ x. IsPutInto link_queues.old.items l x msg
+        link_queues.new.items) }
 {
-    let lane = &mut lanes[l];
-    lane.put(msg);
+    let link_queue = &mut link_queues[l];
+    link_queue.put(msg);
 }
 
-fn take_at(lanes: &mut Vec<Lane>, l: usize) -> Msg
-    requires within { l < length lanes.old.items }
-    requires some { ForSome (slice_get lanes.old.items l) (λ x. x.taken < length x.put.items) }
-    ensures { ForSome (slice_get lanes.old.items l) (λ x. IsTakeFrom lanes.old.items l x result
-        lanes.new.items) }
+fn take_at(link_queues: &mut Vec<LinkQueue>, l: usize) -> Msg
+    requires within { l < length link_queues.old.items }
+    requires some { ForSome (slice_get link_queues.old.items l) (λ x. x.taken < length x.put.items) }
+    ensures { ForSome (slice_get link_queues.old.items l) (λ x. IsTakeFrom link_queues.old.items l x result
+        link_queues.new.items) }
 {
-    let lane = &mut lanes[l];
-    lane.take()
+    let link_queue = &mut link_queues[l];
+    link_queue.take()
 }
 
 impl World {
@@ -131,18 +131,18 @@ impl World {
                 Turn::Moved
             }
             Next::Put(l, msg) => {
-                if !has_room(&self.lanes, l, self.capacity) {
+                if !has_room(&self.link_queues, l, self.capacity) {
                     return Turn::Blocked;
                 }
-                put_at(&mut self.lanes, l, msg);
+                put_at(&mut self.link_queues, l, msg);
                 sent_at(&mut self.sites, s);
                 Turn::Moved
             }
             Next::Take(l) => {
-                if !has_some(&self.lanes, l) {
+                if !has_some(&self.link_queues, l) {
                     return Turn::Blocked;
                 }
-                let msg = take_at(&mut self.lanes, l);
+                let msg = take_at(&mut self.link_queues, l);
                 given_at(&mut self.sites, s, msg);
                 Turn::Moved
             }
@@ -158,16 +158,16 @@ impl World {
     pub fn taken(&self, link: LinkNo) -> &[Msg]
         requires { link < length self.now.job.plan.links }
         ensures exact { result.now ≡ taken_of self.now link }
-        ensures begins { IsBeginning result.now (list_of_link self.now link) }
+        ensures begins { IsPrefixOf result.now (list_of_link self.now link) }
         ensures whole { AllEnded self.now.job self.now.dones → result.now
             ≡ list_of_link self.now link }
         ensures source { InEachSource self.now.job
-            (λ σ. IsBeginning result.now (source_list self.now.job σ link)) }
+            (λ σ. IsPrefixOf result.now (source_list self.now.job σ link)) }
         ensures source_whole { InEachSource self.now.job
             (λ σ. AllEnded self.now.job self.now.dones
             → result.now ≡ source_list self.now.job σ link) }
     {
-        taken_at(&self.lanes, link)
+        taken_at(&self.link_queues, link)
     }
 
     /// What waits in a link, never more than its capacity: behind what was taken, it goes on with the link's list, also as the
@@ -176,26 +176,26 @@ impl World {
         requires { link < length self.now.job.plan.links }
         ensures exact { result.now ≡ queued_of self.now link }
         ensures within { length result.now ≤ self.now.job.plan.capacity }
-        ensures follows { IsBeginning (taken_of self.now link ++ result.now)
+        ensures follows { IsPrefixOf (taken_of self.now link ++ result.now)
             (list_of_link self.now link) }
         ensures none { AllEnded self.now.job self.now.dones → result.now ≡ [] }
         ensures source { InEachSource self.now.job (WaitsNext self.now link result.now) }
     {
-        queued_at(&self.lanes, link)
+        queued_at(&self.link_queues, link)
     }
 
     /// Without a fault all sites have ended or some turn moves, at any capacity and after any turns.
     pub fn never_stuck(&self)
         ensures { IsUnstuck self.now.job self.now.dones }
     {
-        let _ = self.lanes.len();
+        let _ = self.link_queues.len();
     }
 
     /// Where no turn moves any more, every schedule that goes on until none does ends in this world, faults or not.
     pub fn same_end(&self)
         ensures { IsOnlyEnd self.now.job self.now.dones }
     {
-        let _ = self.lanes.len();
+        let _ = self.link_queues.len();
     }
 
     /// After any turns each link is within its list, in the source's words, and where all sites have ended its list was taken
@@ -203,7 +203,7 @@ impl World {
     pub fn faithful(&self)
         ensures { IsFaithful self.now.job self.now.dones }
     {
-        let _ = self.lanes.len();
+        let _ = self.link_queues.len();
     }
 
     /// A site of the world as it stands. Takes no memory.
@@ -227,40 +227,40 @@ fn site_in(sites: &Vec<Site>, s: usize) -> &Site
     &sites[s]
 }
 
-fn taken_at(lanes: &Vec<Lane>, l: usize) -> &[Msg]
-    requires within { l < length lanes.now.items }
-    requires order { ForSome (slice_get lanes.now.items l) (λ x. x.taken ≤ length x.put.items) }
-    ensures { ForSome (slice_get lanes.now.items l) (λ x. result.now ≡ take x.taken x.put.items) }
+fn taken_at(link_queues: &Vec<LinkQueue>, l: usize) -> &[Msg]
+    requires within { l < length link_queues.now.items }
+    requires order { ForSome (slice_get link_queues.now.items l) (λ x. x.taken ≤ length x.put.items) }
+    ensures { ForSome (slice_get link_queues.now.items l) (λ x. result.now ≡ take x.taken x.put.items) }
 {
-    lanes[l].taken()
+    link_queues[l].taken()
 }
 
-fn queued_at(lanes: &Vec<Lane>, l: usize) -> &[Msg]
-    requires within { l < length lanes.now.items }
-    requires order { ForSome (slice_get lanes.now.items l) (λ x. x.taken ≤ length x.put.items) }
-    ensures { ForSome (slice_get lanes.now.items l) (λ x. result.now ≡ drop x.taken x.put.items) }
+fn queued_at(link_queues: &Vec<LinkQueue>, l: usize) -> &[Msg]
+    requires within { l < length link_queues.now.items }
+    requires order { ForSome (slice_get link_queues.now.items l) (λ x. x.taken ≤ length x.put.items) }
+    ensures { ForSome (slice_get link_queues.now.items l) (λ x. result.now ≡ drop x.taken x.put.items) }
 {
-    lanes[l].queued()
+    link_queues[l].queued()
 }
 
 /// Empty queues with room for all messages of a run.
-fn new_lanes(alloc: Global, links: usize, room: u32) -> Result<Vec<Lane>, AllocError>
+fn new_link_queues(alloc: Global, links: usize, room: u32) -> Result<Vec<LinkQueue>, AllocError>
     ensures len { IfOk result (λ x. length x.items ≡ links) }
     ensures each { IfOk result (λ x. (l : ℕ) → ForSome (slice_get x.items l)
-        (λ y. IsNewLane room y)) }
+        (λ y. IsNewLinkQueue room y)) }
 {
-    let mut lanes = Vec::with_capacity(alloc, links)?;
+    let mut link_queues = Vec::with_capacity(alloc, links)?;
     for _ in 0..links {
         let put = Vec::with_capacity(alloc, room as usize + 1)?;
-        lanes.push_reserved(Lane { put, taken: 0 });
+        link_queues.push_reserved(LinkQueue { put, taken: 0 });
     }
-    Ok(lanes)
+    Ok(link_queues)
 }
 
 fn instants_of(sites: &Vec<Site>) -> u32
     requires { 0 < length sites.now.items }
     ensures instants { ForSome (slice_get sites.now.items 0) (λ v. result ≡ v.job.inputs.instants) }
-    ensures job { (v : SiteAt) → slice_get sites.now.items 0 ≡ Some v → IsJob v.job }
+    ensures job { (v : SiteView) → slice_get sites.now.items 0 ≡ Some v → IsJob v.job }
 {
     sites[0].instants()
 }
@@ -275,8 +275,8 @@ fn output_in(sites: &Vec<Site>, s: usize, k: usize) -> &[Status]
 
 fn has_ended(sites: &Vec<Site>, s: usize) -> bool
     requires { s < length sites.now.items }
-    ensures only { (v : SiteAt) → slice_get sites.now.items s ≡ Some v → result ≡ true → IsDone v }
-    ensures all { (v : SiteAt) → slice_get sites.now.items s ≡ Some v → IsDone v → result ≡ true }
+    ensures only { (v : SiteView) → slice_get sites.now.items s ≡ Some v → result ≡ true → IsDone v }
+    ensures all { (v : SiteView) → slice_get sites.now.items s ≡ Some v → IsDone v → result ≡ true }
 {
     match next_of(sites, s) {
         Next::Ended => true,
@@ -302,12 +302,12 @@ fn all_ended(sites: &Vec<Site>) -> bool
 
 /// The statuses of output k that one of the sites reports.
 fn outputs_in(sites: &Vec<Site>, k: usize) -> &[Status]
-    ensures { IsToldBySome sites.now.items k result.now }
+    ensures { IsReportedAtSome sites.now.items k result.now }
 {
     for s in 0..sites.len() {
-        let told = output_in(sites, s, k);
-        if told.len() > 0 {
-            return told;
+        let reported = output_in(sites, s, k);
+        if reported.len() > 0 {
+            return reported;
         }
     }
     &[]
@@ -344,11 +344,11 @@ impl World {
         ensures dones { IfOk result (λ x. x.dones ≡ new_world (system_of x.job)) }
     {
         let instants = instants_of(&sites);
-        let lanes = new_lanes(alloc, plan.links().len(), instants)?;
+        let link_queues = new_link_queues(alloc, plan.links().len(), instants)?;
         let first = Snapshot::of(&sites[0]);
         Ok(World {
             sites,
-            lanes,
+            link_queues,
             capacity: plan.capacity() as usize,
             first,
         })

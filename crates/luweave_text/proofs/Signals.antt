@@ -2,13 +2,13 @@
 use Rattle.std.proofs.Common.{◌≡◌, ◌∙◌, ℕ, ◌+◌, List, [], ◌∷◌, ◌++◌, length, map, sym, ap, subst, length-append}
 use Rattle.std.specs.Prelude.{Some, slice_get}
 use Rattle.std.proofs.lemmas.List.{map-append}
-use Rattle.luworld.specs.Progress.{Progress}
+use Rattle.luworld.specs.WorldViews.{WorldView}
 use Rattle.luchart.specs.declared.signal.Signal.{Signal as Borrowed}
 use Rattle.luchart.specs.Signals.{Signal, signal_view, signals_view}
 use Rattle.luweave.proofs.NewSites.{pushed}
 use Rattle.luweave_text.specs.Waves.{IsOutputSignal}
 
-module _ (w : Progress) (old new : List Borrowed) (x : Borrowed) (is : new ≡ old ++ x ∷ []) where
+module _ (w : WorldView) (old new : List Borrowed) (x : Borrowed) (is : new ≡ old ++ x ∷ []) where
   view : signals_view new ≡ signals_view old ++ signal_view x ∷ []
   view = ap signals_view is ∙ map-append signal_view old (x ∷ [])
 

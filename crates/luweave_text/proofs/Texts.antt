@@ -4,11 +4,11 @@ use Rattle.std.specs.Prelude.{slice_get}
 use Rattle.std.specs.List.{range_with_len}
 use Rattle.std.proofs.lemmas.Bool.{false≢true}
 use Rattle.luflow.specs.declared.data.Status.{Status}
-use Rattle.luworld.specs.Runs.{outputs_of}
+use Rattle.luworld.specs.Jobs.{outputs_of}
 use Rattle.luworld.proofs.Rounds.{range_more, one_more}
 use Rattle.luworld.specs.declared.link.Link.{Link}
 use Rattle.lusite_program.proofs.Ranges.{filter_more}
-use Rattle.luworld.specs.Progress.{Progress, IsCollected}
+use Rattle.luworld.specs.WorldViews.{WorldView, IsCollected}
 use Rattle.luweave_text.specs.WorldText.{AreOutputLines, NoOutput, OneOutputMore, output_line, links_text, line_of}
 use Rattle.luflow.specs.Types.{variable_names}
 use Rattle.luflow.specs.Variables.{is_output_of, variable_name}
@@ -32,7 +32,7 @@ found_at p a (suc n) (suc d) lt e =
     let m : a + 1 + d ≡ a + suc d = omega arith in
     found_next p a n (a + suc d) d (p a) (found_at p (a + 1) n d (omega (arith, lt)) (ap p m ∙ e) ∙ ap Some m)
 
-module _ (w : Progress) (v k : ℕ) (lines : List ℕ) (are : AreOutputLines w v k lines) (count : k ≡ length (filter (is_output_of w.job.plan.flat) (range_with_len 0 v))) where
+module _ (w : WorldView) (v k : ℕ) (lines : List ℕ) (are : AreOutputLines w v k lines) (count : k ≡ length (filter (is_output_of w.job.plan.flat) (range_with_len 0 v))) where
   counted : (b : Bool) → is_output_of w.job.plan.flat v ≡ b → length (filter (is_output_of w.job.plan.flat) (range_with_len 0 (v + 1))) ≡ k + cond b 1 0
   counted b is =
       let e = ap length (filter_more (is_output_of w.job.plan.flat) v) ∙ length-append (filter (is_output_of w.job.plan.flat) (range_with_len 0 v)) (cond (is_output_of w.job.plan.flat v) (v ∷ []) []) in
@@ -43,14 +43,14 @@ module _ (w : Progress) (v k : ℕ) (lines : List ℕ) (are : AreOutputLines w v
       sizes true = refl
       sizes false = refl
 
-  pub count_told : is_output_of w.job.plan.flat v ≡ true → k + 1 ≡ length (filter (is_output_of w.job.plan.flat) (range_with_len 0 (v + 1)))
-  count_told is = sym (counted true is)
+  pub count_reported : is_output_of w.job.plan.flat v ≡ true → k + 1 ≡ length (filter (is_output_of w.job.plan.flat) (range_with_len 0 (v + 1)))
+  count_reported is = sym (counted true is)
 
   pub count_other : is_output_of w.job.plan.flat v ≡ false → k ≡ length (filter (is_output_of w.job.plan.flat) (range_with_len 0 (v + 1)))
   count_other is = let c = counted false is in omega (arith, c)
 
-  pub told_more : v < length w.job.plan.flat.variables → is_output_of w.job.plan.flat v ≡ true → (statuses : List Status) → IsCollected w.job w.dones k statuses → AreOutputLines w (v + 1) (k + 1) (lines ++ output_line (variable_name w.job.plan.flat v) (variable_names w.job.plan.flat v) statuses)
-  told_more lv is statuses collected =
+  pub reported_more : v < length w.job.plan.flat.variables → is_output_of w.job.plan.flat v ≡ true → (statuses : List Status) → IsCollected w.job w.dones k statuses → AreOutputLines w (v + 1) (k + 1) (lines ++ output_line (variable_name w.job.plan.flat v) (variable_names w.job.plan.flat v) statuses)
+  reported_more lv is statuses collected =
       let z : 0 + v ≡ v = omega arith in
       let at = ap (slice_get (outputs_of w.job.plan)) count ∙ found_at (is_output_of w.job.plan.flat) 0 (length w.job.plan.flat.variables) v lv (ap (is_output_of w.job.plan.flat) z ∙ is) ∙ ap Some z in
       OneOutputMore v k lines statuses are at collected
@@ -59,7 +59,7 @@ module _ (w : Progress) (v k : ℕ) (lines : List ℕ) (are : AreOutputLines w v
   other_more is = NoOutput v k lines are is
 
 -- the line of one link more
-pub links_more : (w : Progress) (n : ℕ) (link : Link) → slice_get w.job.plan.links n ≡ Some link → links_text w (n + 1) ≡ links_text w n ++ line_of w (Some link) n
+pub links_more : (w : WorldView) (n : ℕ) (link : Link) → slice_get w.job.plan.links n ≡ Some link → links_text w (n + 1) ≡ links_text w n ++ line_of w (Some link) n
 links_more w n link at =
     let z : 0 + n ≡ n = omega arith in
     ap (flat_map (λ l. line_of w (slice_get w.job.plan.links l) l)) (range_more 0 n ∙ ap (λ k. range_with_len 0 n ++ k ∷ []) z)

@@ -2,8 +2,8 @@
 
 ghost use Rattle.std.specs.Prelude.{◌≡◌, ◌<◌, Some, flat_map, length, slice_get};
 ghost use Rattle.std.specs.List.{range_with_len};
-ghost use Rattle.luworld.specs.World.{Item, done, next_item};
-ghost use Rattle.luworld.specs.Runs.{system_of};
+ghost use Rattle.luworld.specs.Systems.{Item, done, next_item};
+ghost use Rattle.luworld.specs.Jobs.{system_of};
 ghost use Rattle.lusite.specs.Machine.{IsNext};
 ghost use Rattle.luweave_text.specs.WorldText.{Adds};
 ghost use Rattle.luweave_text.specs.Charted.{cell, chart_line, crosses, filler, heading, item_row, mark, named, own_blank, receiver_of, row, target_of, word_in};

@@ -4,14 +4,14 @@ ghost use Rattle.std.specs.Prelude.{◌≡◌, ◌++◌, ◌≤◌, ◌+◌, ℕ
 ghost use Rattle.std.specs.Option.{ForSome};
 ghost use Rattle.luflow.specs.Types.{variable_names};
 ghost use Rattle.luflow.specs.Variables.{variable_name};
-ghost use Rattle.luworld.specs.World.{Item, done, next_item, run, step, NoTurnMoves};
-ghost use Rattle.luworld.specs.Runs.{Run, carried, script, streams_of, system_of};
+ghost use Rattle.luworld.specs.Systems.{Item, done, next_item, run, step, NoTurnMoves};
+ghost use Rattle.luworld.specs.Jobs.{JobView, carried, script, streams_of, system_of};
 ghost use Rattle.lusite.specs.Machine.{IsNext};
 ghost use Rattle.luweave.specs.Worlds.{IsNewWorld};
 ghost use Rattle.luweave.specs.Headline.{IsFaithful};
 ghost use Rattle.luweave_text.specs.WorldText.{Adds};
 ghost use Rattle.luweave_text.specs.Items.{message_text, item_text};
-ghost use Rattle.luweave_text.specs.Traced.{item_line, next_line, one_more, opening, turn_text, trace_text, told_of, HasMore, IsTraced};
+ghost use Rattle.luweave_text.specs.Traced.{item_line, next_line, one_more, opening, turn_text, trace_text, reported_of, HasMore, IsTraced};
 
 use crate::charting::{put_chart_line, put_heading};
 use crate::form::TraceForm;
@@ -90,7 +90,7 @@ pub(crate) fn put_item(
 
 /// Whether a site does anything more.
 fn goes_on(next: Next) -> bool
-    ensures { (job : Run) (s n : ℕ) → IsNext job s n next
+    ensures { (job : JobView) (s n : ℕ) → IsNext job s n next
         → result ≡ is_some (slice_get (script job (streams_of job) s) n) }
 {
     match next {
@@ -127,20 +127,20 @@ fn next_line(
     plan: &Plan,
     world: &World,
     form: TraceForm,
-    told: usize,
+    reported: usize,
     site: u8,
 ) -> Result<String, AllocError>
     requires { world.now.job.plan ≡ plan.now }
-    ensures { IfOk result (λ line. string_bytes line ≡ next_line form world.now told site
+    ensures { IfOk result (λ line. string_bytes line ≡ next_line form world.now reported site
         (next_item (system_of world.now.job) world.now.dones site)) }
 {
     let mut line = String::new(alloc);
     let next = world.next(site);
     if goes_on(next) {
         match form {
-            TraceForm::Lines => put_line(&mut line, plan, world, told, site, next)?,
+            TraceForm::Lines => put_line(&mut line, plan, world, reported, site, next)?,
             TraceForm::Chart => {
-                put_chart_line(alloc, &mut line, plan, world, told, site, next)?;
+                put_chart_line(alloc, &mut line, plan, world, reported, site, next)?;
             }
         }
     }
@@ -154,29 +154,29 @@ fn traced_turn(
     plan: &Plan,
     world: &mut World,
     form: TraceForm,
-    told: usize,
+    reported: usize,
     site: u8,
 ) -> Result<usize, AllocError>
     requires plan_is { world.old.job.plan ≡ plan.now }
-    requires few { told ≤ length (string_bytes text.old) }
+    requires few { reported ≤ length (string_bytes text.old) }
     ensures job { world.new.job ≡ world.old.job }
     ensures dones { IfOk result
         (λ _. world.new.dones ≡ step (system_of world.old.job) world.old.dones site) }
-    ensures text { Adds result text.old text.new (turn_text form world.old told site) }
-    ensures told { IfOk result (λ n. n ≡ one_more told (turn_text form world.old told site)) }
+    ensures text { Adds result text.old text.new (turn_text form world.old reported site) }
+    ensures reported { IfOk result (λ n. n ≡ one_more reported (turn_text form world.old reported site)) }
     ensures few { IfOk result (λ n. n ≤ length (string_bytes text.new)) }
 {
-    let line = next_line(alloc, plan, world, form, told, site)?;
+    let line = next_line(alloc, plan, world, form, reported, site)?;
     match world.turn(site) {
         Turn::Moved => {
             text.push_str(line.as_str())?;
             if line.is_empty() {
-                return Ok(told);
+                return Ok(reported);
             }
-            Ok(told + 1)
+            Ok(reported + 1)
         }
-        Turn::Blocked => Ok(told),
-        Turn::Over => Ok(told),
+        Turn::Blocked => Ok(reported),
+        Turn::Over => Ok(reported),
     }
 }
 
@@ -194,14 +194,14 @@ fn traced_turns(
     ensures dones { IfOk result
         (λ _. world.new.dones ≡ run (system_of world.old.job) world.old.dones turns.now) }
     ensures text { Adds result text.old text.new (trace_text form world.old 0 turns.now) }
-    ensures told { IfOk result (λ n. n ≡ told_of form world.old 0 turns.now) }
+    ensures reported { IfOk result (λ n. n ≡ reported_of form world.old 0 turns.now) }
     ensures few { IfOk result (λ n. n ≤ length (string_bytes text.new)) }
 {
-    let mut told = 0;
+    let mut reported = 0;
     for site in turns {
-        told = traced_turn(alloc, text, plan, world, form, told, *site)?;
+        reported = traced_turn(alloc, text, plan, world, form, reported, *site)?;
     }
-    Ok(told)
+    Ok(reported)
 }
 
 /// Gives the turn of the least site that can move until none can, each reported.
@@ -221,10 +221,10 @@ fn traced_finish(
         (string_bytes text.new)) }
     ensures quiet { IfOk result (λ _. NoTurnMoves (system_of world.new.job) world.new.dones) }
 {
-    let mut told = before;
+    let mut reported = before;
     while let Some(site) = world.enabled() {
         let _ = world.left();
-        told = traced_turn(alloc, text, plan, world, form, told, site)?;
+        reported = traced_turn(alloc, text, plan, world, form, reported, site)?;
     }
     Ok(())
 }
@@ -261,12 +261,12 @@ pub fn trace(
 {
     let mut world = World::new(alloc, plan, sites)?;
     let mut text = opening(alloc, plan, form)?;
-    let told = traced_turns(alloc, &mut text, plan, &mut world, form, turns)?;
+    let reported = traced_turns(alloc, &mut text, plan, &mut world, form, turns)?;
     if !finish {
         world.faithful();
         return Ok((world, text));
     }
-    traced_finish(alloc, &mut text, plan, &mut world, form, told)?;
+    traced_finish(alloc, &mut text, plan, &mut world, form, reported)?;
     world.faithful();
     Ok((world, text))
 }

@@ -2,7 +2,7 @@
 
 ghost use Rattle.std.specs.Prelude.{if◌then◌else◌, ◌≡◌, ◌∷◌, ◌++◌, IfOk, OnOk, cond, [], string_bytes};
 ghost use Rattle.luworld.specs.Needs.{stands};
-ghost use Rattle.luworld.specs.Runs.{outputs_of};
+ghost use Rattle.luworld.specs.Jobs.{outputs_of};
 ghost use Rattle.luchart.specs.Pieces.{Adds};
 ghost use Rattle.luchart.specs.Signals.{signal_view, signals_view};
 ghost use Rattle.luchart.specs.Dump.{declaration};

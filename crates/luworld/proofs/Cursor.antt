@@ -7,9 +7,9 @@ use Rattle.std.proofs.lemmas.List.Elements.{All-push, All-get_or}
 use Rattle.std.proofs.lemmas.List.Concat.{flat_map-append}
 use Rattle.std.proofs.lemmas.Option.{slice_get_within, get_or_from_slice_get, slice_get-get_or}
 use Rattle.luworld.specs.Needs.{home}
-use Rattle.luworld.specs.Runs.{Run, cell, round, endless, items_before, outline, carried, receiver_of}
+use Rattle.luworld.specs.Jobs.{JobView, cell, round, endless, items_before, outline, carried, receiver_of}
 use Rattle.luflow.specs.Streams.{Streams}
-use Rattle.luworld.specs.World.{Item, Compute, Puts, Takes, puts, takes}
+use Rattle.luworld.specs.Systems.{Item, Compute, Puts, Takes, puts, takes}
 use Rattle.luworld.specs.Outline.{IsOutline, shows, full_script, round as outline_round}
 use Rattle.luworld.proofs.Rounds.{rounds_are, rounds_before, put_number, take_number}
 
@@ -70,7 +70,7 @@ flat_map_more_length : {X Y : Type 0} (f : X → List Y) (xs : List X) (x : X) �
 flat_map_more_length f xs x =
     ap length (flat_map-append f xs (x ∷ [])) ∙ length-append (flat_map f xs) (flat_map f (x ∷ [])) ∙ ap (λ ys. length (flat_map f xs) + length ys) (append-nil (f x))
 
-module _ (job : Run) (σ : Streams) (s : ℕ) where
+module _ (job : JobView) (σ : Streams) (s : ℕ) where
   pub endless_rounds : endless job σ s ≡ flat_map (round job σ s) (range_with_len 0 (job.inputs.instants + 1))
   unfolding endless cell
   endless_rounds = rounds_are (outline job σ) s
@@ -136,7 +136,7 @@ module _ (job : Run) (σ : Streams) (s : ℕ) where
       slice_get-flat_map (cell job σ s t) order p j (slice_index order p) (slice_get-get_or order p 0 lp) lj
 
 -- the number of the message that a put (take) at hand is about
-module _ (job : Run) (σ : Streams) (ok : IsOutline (outline job σ)) (s t p j l : ℕ) (lt : t ≤ job.inputs.instants) (lp : p < length job.plan.flat.order) (listed : l < length job.plan.links) where
+module _ (job : JobView) (σ : Streams) (ok : IsOutline (outline job σ)) (s t p j l : ℕ) (lt : t ≤ job.inputs.instants) (lp : p < length job.plan.flat.order) (listed : l < length job.plan.links) where
   pub puts_done : home job.plan (carried job.plan l) ≡ s → slice_get (cell job σ s t (slice_index job.plan.flat.order p)) j ≡ Some (Puts l) → count_by (puts l) (take (items_before job σ s t p j) (endless job σ s)) ≡ shows (outline job σ) (carried job.plan l) t
   unfolding items_before endless cell
   puts_done at_home at =

@@ -1,7 +1,7 @@
 -- A script up to the item at which it stops.
 use Rattle.std.proofs.Common.{◌≡◌, ℕ, zero, suc, ◌+◌, Bool, true, false, cond, List, [], ◌∷◌, ◌++◌, length, take, slice_get, Some, refl, sym, ap, ◌∙◌, arith, append_assoc, append-nil}
 use Rattle.std.proofs.lemmas.Bool.{false≢true}
-use Rattle.luworld.specs.World.{Item}
+use Rattle.luworld.specs.Systems.{Item}
 use Rattle.luworld.specs.Outline.{Outline, cut, stops, NoStop}
 
 module _ (plan : Outline) where

@@ -1,20 +1,20 @@
 -- The least site whose turn moves, and the numbers of messages.
 use Rattle.std.proofs.Common.{◌≡◌, ◌≢◌, ◌⊎◌, ℕ, zero, suc, ◌<◌, List, length, Option, Some, None, MatchOption, refl, sym, ap, ◌∙◌, subst, arith, inl, inr, ⊎_elim}
 use Rattle.std.proofs.lemmas.Bool.{cases_lt}
-use Rattle.luworld.specs.World.{Puts, Takes, puts, takes, System, IsWired, World, done, turn, NoTurnMoves, enabled_below, or_next, reached, IsAllDone}
+use Rattle.luworld.specs.Systems.{Puts, Takes, puts, takes, System, IsWired, ItemCounts, done, turn, NoTurnMoves, enabled_below, or_next, reached, IsAllDone}
 use Rattle.luworld.specs.declared.turn.Turn.{Turn}
 use Rattle.luworld.specs.declared.turn.Turn.TheVariants.{Moved, Blocked, Over}
 use Rattle.luworld.specs.Laws.{NumbersAre}
 use Rattle.luworld.specs.Outline.{Outline, IsOutline, NoFault, system, script}
 use Rattle.luworld.proofs.Counts.{nth, count_after}
 use Rattle.luworld.proofs.Steps.{puts_true, takes_true, puts_self, takes_self, moved_item, site_within}
-use Rattle.luworld.proofs.Runs.{good_reached}
+use Rattle.luworld.proofs.Jobs.{good_reached}
 use Rattle.luworld.proofs.Ends.{reachable_done}
 use Rattle.luworld.specs.Reach.{IsGood}
 use Rattle.luworld.proofs.Wired.{wired}
 use Rattle.luworld.proofs.Whole.{all_reached}
 
-module _ (sys : System) (world : World) where
+module _ (sys : System) (world : ItemCounts) where
   abbrev NoneBelow : ℕ → Type 0
   NoneBelow n = (site : ℕ) → site < n → turn sys world site ≢ Moved
 
@@ -58,7 +58,7 @@ module _ (sys : System) (world : World) where
     takes_in_order = λ place later here lt. count_after (takes link) (sys.script (sys.receiver link)) place later (Takes link) here (takes_self link) lt;
   }
 
-module _ (plan : Outline) (ok : IsOutline plan) (fine : NoFault plan) (world : World) (good : IsGood (system plan) world) where
+module _ (plan : Outline) (ok : IsOutline plan) (fine : NoFault plan) (world : ItemCounts) (good : IsGood (system plan) world) where
   -- where no turn moves, all is done
   pub quiet_done : NoTurnMoves (system plan) world → IsAllDone (system plan) world
   quiet_done quiet site =

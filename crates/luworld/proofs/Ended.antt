@@ -5,7 +5,7 @@ use Rattle.std.proofs.lemmas.List.FromFn.{get_or-range_with_len, length-range_wi
 use Rattle.std.proofs.lemmas.List.Sums.{sum_by-cons, sum_by-append}
 use Rattle.std.proofs.lemmas.Option.{slice_get-get_or}
 use Rattle.std.proofs.lemmas.Bool.{lt-leb}
-use Rattle.luworld.specs.World.{Item, Compute, Puts, Takes, takes, World, done}
+use Rattle.luworld.specs.Systems.{Item, Compute, Puts, Takes, takes, ItemCounts, done}
 use Rattle.luworld.specs.Outline.{Outline, IsOutline, NoFault, Cell, shown_items, cell_at, close_cell, cells, compute_items, message_items, full_script, script, cut, stops, NoStop, HasEnded, events, list_length}
 use Rattle.luworld.proofs.Wired.{Each, each_at}
 use Rattle.luworld.proofs.Steps.{takes_self}
@@ -52,7 +52,7 @@ module _ (plan : Outline) where
   sound before [] none = tt
   sound before (item ∷ items) none = (sound_item before item none.0, sound (before ++ item ∷ []) items none.1)
 
-  module _ (world : World) (site : ℕ) (ended : HasEnded plan world site) where
+  module _ (world : ItemCounts) (site : ℕ) (ended : HasEnded plan world site) where
     pub ended_whole : script plan site ≡ full_script plan site
     ended_whole = cut_whole [] (full_script plan site) ended.no_stop
 
@@ -84,7 +84,7 @@ module _ (plan : Outline) (ok : IsOutline plan) (fine : NoFault plan) where
           let t = sum_by-cons (λ i. one_if (takes link i)) (Takes link) items in
           lt-leb _ _ (omega (arith, s, t, few link, ap one_if (takes_self link)))
 
-  pub done_ends : (world : World) (site : ℕ) → done world site ≡ length (script plan site) → HasEnded plan world site
+  pub done_ends : (world : ItemCounts) (site : ℕ) → done world site ≡ length (script plan site) → HasEnded plan world site
   done_ends world site e = record {
     whole = e;
     no_stop = no_stop [] (script plan site) (λ link. subst (λ (s : List Item). count_by (takes link) s ≤ list_length plan link) (sym (not_cut plan ok fine site ∙ script_parts plan site)) (omega (arith, any_received plan ok link site (events plan), passed_le plan ok fine link)));

@@ -1,14 +1,14 @@
 -- Where no turn moves, the done items are the reachable ones.
 use Rattle.std.proofs.Common.{◌≡◌, ℕ, ◌+◌, ◌<◌, ◌≤◌, slice_get, Some, sym, ◌∙◌, subst, arith, ext_get_or, ⊎_elim}
 use Rattle.std.proofs.lemmas.Bool.{cases_lt}
-use Rattle.luworld.specs.World.{Item, Compute, Puts, Takes, puts, takes, System, IsWired, puts_before, takes_before, World, done, NoTurnMoves}
+use Rattle.luworld.specs.Systems.{Item, Compute, Puts, Takes, puts, takes, System, IsWired, puts_before, takes_before, ItemCounts, done, NoTurnMoves}
 use Rattle.luworld.specs.Reach.{IsReachable, reach_compute, reach_early_put, reach_late_put, reach_take}
 use Rattle.luworld.proofs.Counts.{count_after}
 use Rattle.luworld.proofs.Steps.{puts_self, takes_self, MayGo, moved_item, moves_item}
-use Rattle.luworld.proofs.Runs.{takes_there, puts_there, reach_next}
+use Rattle.luworld.proofs.Jobs.{takes_there, puts_there, reach_next}
 use Rattle.luworld.specs.Reach.{IsGood}
 
-module _ (sys : System) (wired : IsWired sys) (world : World) (quiet : NoTurnMoves sys world) where
+module _ (sys : System) (wired : IsWired sys) (world : ItemCounts) (quiet : NoTurnMoves sys world) where
   -- a place with all before it done is done, where its item may go
   passed : (site place : ℕ) (item : Item) → slice_get (sys.script site) place ≡ Some item → ((before : ℕ) → before < place → before < done world site) → (place ≡ done world site → MayGo sys world item) → place < done world site
   passed site place item here before may =
@@ -45,20 +45,20 @@ module _ (sys : System) (wired : IsWired sys) (world : World) (quiet : NoTurnMov
 
 module _ (sys : System) (wired : IsWired sys) where
   -- a world that has done all reachable items can't move
-  pub none_moves : (world : World) → IsGood sys world → ((site place : ℕ) → IsReachable sys site place → place < done world site) → NoTurnMoves sys world
+  pub none_moves : (world : ItemCounts) → IsGood sys world → ((site place : ℕ) → IsReachable sys site place → place < done world site) → NoTurnMoves sys world
   none_moves world good all site e =
       let m = moved_item sys world site e in
       let lt : done world site < done world site = all site (done world site) (reach_next sys wired world good site m.0 m.1 m.2) in
       omega (arith, lt)
 
-  no_less : (one other : World) → IsGood sys one → NoTurnMoves sys other → (site : ℕ) → done one site ≤ done other site
+  no_less : (one other : ItemCounts) → IsGood sys one → NoTurnMoves sys other → (site : ℕ) → done one site ≤ done other site
   no_less one other good quiet site =
       ⊎_elim
       (λ lt. let l : done other site < done other site = reachable_done sys wired other quiet site (done other site) (good.reachable site (done other site) lt) in absurd (omega (arith, l)))
       (λ le. le)
       (cases_lt (done other site) (done one site))
 
-  pub same_end : (one other : World) → IsGood sys one → IsGood sys other → NoTurnMoves sys one → NoTurnMoves sys other → one ≡ other
+  pub same_end : (one other : ItemCounts) → IsGood sys one → IsGood sys other → NoTurnMoves sys one → NoTurnMoves sys other → one ≡ other
   same_end one other good good' quiet quiet' =
       ext_get_or 0 one other (good.long ∙ sym good'.long)
       (λ site _. omega (arith, no_less one other good quiet' site, no_less other one good' quiet site))

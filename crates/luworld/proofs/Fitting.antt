@@ -9,11 +9,11 @@ use Rattle.std.proofs.lemmas.List.Elements.{Contains-get_or}
 use Rattle.std.proofs.lemmas.Iterator.Adapters.{position_from-zero}
 use Rattle.std.proofs.Math.Nat.{mul-le-mul}
 use Rattle.luflow.specs.declared.form.Flow.{Flow}
-use Rattle.luflow.specs.Program.{FlatProgram, flow_at, flows_of, places, clock_reads}
+use Rattle.luflow.specs.Program.{FlatView, flow_at, flows_of, places, clock_reads}
 use Rattle.luflow.specs.Flats.{IsFlat, IsWithin}
 use Rattle.luworld.specs.declared.link.Link.{Link}
-use Rattle.luworld.specs.Needs.{Distribution, sites_of, flow_sites, is_in, stands, home, IsNeeded, read_there, clock_there, clock_needed, is_linked, links_of_variable, all_links, IsPlacedAt, IsPlan}
-use Rattle.luworld.specs.Runs.{Run, IsRun, Fits, IsJob, flow_of_link, carried, receiver_of, carriers, is_into, link_into, knows, listed}
+use Rattle.luworld.specs.Needs.{PlanView, sites_of, flow_sites, is_in, stands, home, IsNeeded, read_there, clock_there, clock_needed, is_linked, links_of_variable, all_links, IsPlacedAt, IsPlan}
+use Rattle.luworld.specs.Jobs.{JobView, IsJobView, IsCoherent, IsJob, flow_of_link, carried, receiver_of, carriers, is_into, link_into, knows, listed}
 use Rattle.luflow.proofs.Solutions.{some_at}
 use Rattle.luworld.proofs.Wired.{Each, each_append, each_at}
 use Rattle.luflow.specs.Rank.{row}
@@ -264,10 +264,10 @@ all_back P [] ys h = h
 all_back P (x ∷ xs) ys h = all_back P xs ys (λ j e lj. h (suc j) e (omega arith))
 
 -- The clock variable of a main variable is a main variable.
-abbrev pub HasMainClocks : FlatProgram → Type 0
+abbrev pub HasMainClocks : FlatView → Type 0
 HasMainClocks flat = (v : ℕ) (flow : Flow) → v < length flat.variables → flow_at flat v ≡ Some flow → All (λ c. c < length flat.variables) (clock_reads flow.clock)
 
-module _ (plan : Distribution) (ok : IsPlan plan) where
+module _ (plan : PlanView) (ok : IsPlan plan) where
   abbrev main : ℕ
   main = length plan.flat.variables
 
@@ -412,7 +412,7 @@ module _ (plan : Distribution) (ok : IsPlan plan) where
         go false off h = clock_known_taken s i flow here h
 
 -- the parts of a plan fit each other
-pub fits : (plan : Distribution) → IsPlan plan → Fits plan
+pub fits : (plan : PlanView) → IsPlan plan → IsCoherent plan
 fits plan ok =
     let clocks : HasMainClocks plan.flat = ok.flat_is.main_clocks in
     record {
@@ -436,5 +436,5 @@ fits plan ok =
     }
 
 -- every run is a job of the machines
-pub job_of_run : (job : Run) → IsRun job → IsJob job
+pub job_of_run : (job : JobView) → IsJobView job → IsJob job
 job_of_run job run = record { is_plan = fits job.plan run.plan_is; few = run.table_is.few; fit = run.fit }

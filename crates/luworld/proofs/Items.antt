@@ -4,7 +4,7 @@ use Rattle.std.specs.List.{range_with_len}
 use Rattle.std.proofs.lemmas.List.Sums.{sum_by-cons, sum_by-append}
 use Rattle.std.proofs.lemmas.List.Concat.{length-flat_map}
 use Rattle.std.proofs.lemmas.Bool.{eqb-true, eq-eqb, ne_eqb, cases_eq}
-use Rattle.luworld.specs.World.{Item, Compute, Puts, Takes, item_count, total_below}
+use Rattle.luworld.specs.Systems.{Item, Compute, Puts, Takes, item_count, total_below}
 use Rattle.luworld.specs.Outline.{Outline, IsOutline, NoFault, links_of, script, system, part, Event, Computed, Passed, message_events, events_at, events, list_length, stand_count, status_count}
 use Rattle.luworld.proofs.Parts.{script_parts}
 use Rattle.luworld.proofs.Passing.{passes, one_if}

@@ -2,12 +2,12 @@
 use Rattle.std.proofs.Common.{◌≡◌, ◌≢◌, ◌↔◌, ◌⊎◌, ℕ, zero, suc, ◌+◌, ◌-◌, ◌<◌, ◌≤◌, Bool, true, false, cond, List, [], ◌∷◌, ◌++◌, length, flat_map, nat_lt, refl, sym, ap, ap₂, ◌∙◌, subst, arith, inl, inr, ⊎_elim, length-append}
 use Rattle.std.proofs.lemmas.List.Sums.{sum_by-cons}
 use Rattle.std.proofs.lemmas.Bool.{cases_lt, cases_eq, lt-ltb, le-ltb, eqb-true, ne_eqb, and_left, and_parts}
-use Rattle.luworld.specs.World.{Item, World, done, turn, step, reached, moved_turns, item_count, IsAllDone, total_below}
+use Rattle.luworld.specs.Systems.{Item, ItemCounts, done, turn, step, reached, moved_turns, item_count, IsAllDone, total_below}
 use Rattle.luworld.specs.declared.turn.Turn.TheVariants.{Moved}
 use Rattle.luworld.specs.OutlineLaws.{LeftIs}
 use Rattle.luworld.proofs.Steps.{moved_item, site_within}
 use Rattle.std.proofs.lemmas.Option.{slice_get_within}
-use Rattle.luworld.proofs.Runs.{good_reached}
+use Rattle.luworld.proofs.Jobs.{good_reached}
 use Rattle.luworld.proofs.Totals.{moved_total, total_le}
 use Rattle.luworld.proofs.Turns.{turn_of}
 use Rattle.luworld.specs.Reach.{IsGood}
@@ -147,7 +147,7 @@ total_none : (f : ℕ → ℕ) → ((i : ℕ) → f i ≡ 0) → (n : ℕ) → t
 total_none f z zero = refl
 total_none f z (suc n) = omega (arith, z n, total_none f z n)
 
-module _ (plan : Outline) (world : World) (site : ℕ) where
+module _ (plan : Outline) (world : ItemCounts) (site : ℕ) where
   faulted_done : has_faulted plan world site ≡ true → done world site ≡ length (script plan site)
   faulted_done e = eqb-true _ _ (and_parts _ _ e).0
 
@@ -169,7 +169,7 @@ module _ (plan : Outline) (world : World) (site : ℕ) where
       go false e = omega (arith, cut_length plan [] (full_script plan site), left_enough (cells plan site) (done world site))
 
 -- in every world that turns can make
-module _ (plan : Outline) (ok : IsOutline plan) (world : World) (good : IsGood (system plan) world) where
+module _ (plan : Outline) (ok : IsOutline plan) (world : ItemCounts) (good : IsGood (system plan) world) where
   pub left_step : (site : ℕ) → turn (system plan) world site ≡ Moved → left plan (step (system plan) world site) < left plan world
   left_step site e =
       let t = turn_of (system plan) (wired plan ok) world good site in

@@ -1,6 +1,6 @@
 pub mod Counts
 pub mod Steps
-pub mod Runs
+pub mod Jobs
 pub mod Ends
 mod Totals
 mod Turns

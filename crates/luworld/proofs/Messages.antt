@@ -11,7 +11,7 @@ use Rattle.luflow.specs.declared.data.Status.TheVariants.{Absent, Present}
 use Rattle.luflow.specs.declared.message.Msg.{Msg}
 use Rattle.luflow.specs.declared.message.Body.TheVariants.{Value, Close}
 use Rattle.luflow.specs.Streams.{Mark, Known, Broken, newer, before, is_broken}
-use Rattle.luworld.specs.Runs.{Run, streams_of, link_list, messages_of, flow_of_link}
+use Rattle.luworld.specs.Jobs.{JobView, streams_of, link_list, messages_of, flow_of_link}
 use Rattle.luflow.specs.Messages.{marks, messages, once_if, presents}
 
 pub newer_back : (m : Mark) (o : Option Datum) (d : Datum) → newer m o ≡ Some d → (is_broken m ≡ false) × (e : Datum) × (o ≡ Some e)
@@ -79,7 +79,7 @@ short n (Broken ∷ ms) = omega arith
 short n (Known Absent ∷ ms) = let h = short n ms in omega arith
 short n (Known (Present d) ∷ ms) = let h = short (n + 1) ms in omega arith
 
-pub lists_short : (job : Run) (l : ℕ) → length (link_list job (streams_of job) l) ≤ job.inputs.instants + 1
+pub lists_short : (job : JobView) (l : ℕ) → length (link_list job (streams_of job) l) ≤ job.inputs.instants + 1
 unfolding link_list
 lists_short job l = go (flow_of_link job.plan l)
   where

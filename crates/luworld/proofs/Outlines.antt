@@ -8,7 +8,7 @@ use Rattle.std.proofs.lemmas.List.Sums.{sum_by-cons}
 use Rattle.std.proofs.lemmas.List.Elements.{Contains-get_or, All-get_or}
 use Rattle.std.proofs.lemmas.Option.{slice_get_within, slice_get-get_or}
 use Rattle.std.proofs.lemmas.Bool.{cases_lt, false≢true, true≢false, lt-ltb, ltb-true, eqb-true, eq-eqb, ne_eqb, cases_eq}
-use Rattle.luworld.specs.World.{Item, Compute, Puts, Takes, puts, takes, IsWired}
+use Rattle.luworld.specs.Systems.{Item, Compute, Puts, Takes, puts, takes, IsWired}
 use Rattle.luworld.specs.Outline.{Outline, IsOutline, NoFault as NoBreak, message_items, shown_items, messages_from, shows}
 use Rattle.luworld.proofs.Passing.{one_if}
 use Rattle.luworld.proofs.Wired.{wired}
@@ -17,10 +17,10 @@ use Rattle.luflow.specs.declared.data.Status.{Status}
 use Rattle.luflow.specs.declared.data.Status.TheVariants.{Absent, Present}
 use Rattle.luflow.specs.declared.form.Flow.{Flow}
 use Rattle.luworld.specs.declared.link.Link.{Link}
-use Rattle.luworld.specs.Needs.{Distribution, stands, home}
+use Rattle.luworld.specs.Needs.{PlanView, stands, home}
 use Rattle.luflow.specs.declared.form.Outcome.{Outcome}
 use Rattle.luflow.specs.declared.form.Outcome.TheVariants.{Gives, Faults, Stuck}
-use Rattle.luworld.specs.Runs.{Run, IsJob, Fits, outline, system_of, script, cell, sends, link_into, listed, carried, carriers, receiver_of, flow_of_link, is_open, NoFault, link_list, messages_of, streams_of}
+use Rattle.luworld.specs.Jobs.{JobView, IsJob, IsCoherent, outline, system_of, script, cell, sends, link_into, listed, carried, carriers, receiver_of, flow_of_link, is_open, NoFault, link_list, messages_of, streams_of}
 use Rattle.luflow.specs.Streams.{Mark, Known, Broken, Streams, before, newer, clock_at, is_broken}
 use Rattle.luflow.specs.Values.{under, mark_of, value_at}
 use Rattle.luflow.specs.Program.{column_of, flow_at, flows_of}
@@ -84,14 +84,14 @@ filter_in p a (suc n) k l = go (p a) k l (filter_in p (a + 1) n)
     go false k l rest = omega (arith, rest k l)
 
 -- a link that carries a flow
-pub flow_of_carried : (plan : Distribution) (l i : ℕ) → l < length plan.links → carried plan l ≡ i → flow_of_link plan l ≡ Some i
+pub flow_of_carried : (plan : PlanView) (l i : ℕ) → l < length plan.links → carried plan l ≡ i → flow_of_link plan l ≡ Some i
 flow_of_carried plan l i lt e =
     let k = some_at plan.links l lt in
     let f = ap (option_map (λ (x : Link). x.flow)) k.1 in
     f ∙ ap Some (sym (ap (λ o. unwrap_or o 0) f) ∙ e)
 
 -- a link by which a site sends a flow: it carries the flow, and the site is the flow's home
-pub carrier_is : (plan : Distribution) (s i k : ℕ) → k < length (sends plan s i) → (slice_index (sends plan s i) k < length plan.links) × (carried plan (slice_index (sends plan s i) k) ≡ i) × (home plan i ≡ s)
+pub carrier_is : (plan : PlanView) (s i k : ℕ) → k < length (sends plan s i) → (slice_index (sends plan s i) k < length plan.links) × (carried plan (slice_index (sends plan s i) k) ≡ i) × (home plan i ≡ s)
 carrier_is plan s i k l = go (nat_eq (home plan i) s) refl l
   where
     go : (b : Bool) → nat_eq (home plan i) s ≡ b → k < length (cond b (carriers plan i) []) → (slice_index (cond b (carriers plan i) []) k < length plan.links) × (carried plan (slice_index (cond b (carriers plan i) []) k) ≡ i) × (home plan i ≡ s)
@@ -101,7 +101,7 @@ carrier_is plan s i k l = go (nat_eq (home plan i) s) refl l
     go false e l = absurd (omega arith)
 
 -- a flow's items, by the plan's tables
-module _ (job : Run) (σ : Streams) (ok : Fits job.plan) (s t i : ℕ) (li : i < flows_of job.plan.flat) where
+module _ (job : JobView) (σ : Streams) (ok : IsCoherent job.plan) (s t i : ℕ) (li : i < flows_of job.plan.flat) where
   abbrev pub passes : List Item
   passes = cond (stands job.plan i s) (map Puts (sends job.plan s i)) (map Takes (listed (link_into job.plan s i)))
 
@@ -133,7 +133,7 @@ module _ (job : Run) (σ : Streams) (ok : Fits job.plan) (s t i : ℕ) (li : i <
   unfolding cell
   cell_is = ap (λ (ys : List Item). cond (nat_lt t job.inputs.instants) (cond (is_open (clock_of_flow job.inputs σ (flow_at job.plan.flat i) t)) (cond (stands job.plan i s) (Compute i t ∷ []) [] ++ ys) []) ys) message_is
 
-module _ (job : Run) (ij : IsJob job) where
+module _ (job : JobView) (ij : IsJob job) where
   -- a flow of the plan, and what its equation says
   pub says_there : (i t : ℕ) → i < flows_of job.plan.flat → t < job.inputs.instants → (flow : Flow) × (flow_at job.plan.flat i ≡ Some flow) × (streams_of job i t ≡ under (clock_of_flow job.inputs (streams_of job) (flow_at job.plan.flat i) t) (value_at job.inputs (streams_of job) flow.clock flow.form t))
   says_there i t li lt =

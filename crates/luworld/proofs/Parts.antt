@@ -4,7 +4,7 @@ use Rattle.std.proofs.lemmas.Grind.{flat_map-append}
 use Rattle.std.proofs.lemmas.List.Folds.{flat_map-map}
 use Rattle.std.proofs.lemmas.Bool.{eqb-true}
 use Rattle.std.specs.List.{range_with_len}
-use Rattle.luworld.specs.World.{Item, Puts, Takes}
+use Rattle.luworld.specs.Systems.{Item, Puts, Takes}
 use Rattle.luworld.specs.Outline.{Outline, links_of, message_items, compute_items, flow_items, shown_items, cell_at, close_cell, full_script, Computed, Passed, part, message_events, events_at, events}
 
 pub flat_map_twice : {A B C : Type 0} (f : B → List C) (g : A → List B) (xs : List A) → flat_map f (flat_map g xs) ≡ flat_map (λ x. flat_map f (g x)) xs

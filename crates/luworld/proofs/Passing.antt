@@ -3,7 +3,7 @@ use Rattle.std.proofs.Common.{◌≡◌, ℕ, zero, suc, ◌+◌, ◌<◌, ◌�
 use Rattle.std.specs.List.{range_with_len}
 use Rattle.std.proofs.lemmas.List.Sums.{sum_by-cons, sum_by-append}
 use Rattle.std.proofs.lemmas.Bool.{eqb-true, eqb-false, eq-eqb, ne_eqb, cases_eq}
-use Rattle.luworld.specs.World.{Compute, Puts, Takes, puts, takes}
+use Rattle.luworld.specs.Systems.{Compute, Puts, Takes, puts, takes}
 use Rattle.luworld.specs.Outline.{Outline, IsOutline, NoFault, Event, Computed, Passed, part, message_events, events_at, events, messages_from, list_length}
 
 abbrev pub passes : ℕ → Event → Bool

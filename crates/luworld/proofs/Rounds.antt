@@ -7,7 +7,7 @@ use Rattle.std.proofs.lemmas.List.Folds.{flat_map-map}
 use Rattle.std.proofs.lemmas.List.Sums.{sum_by-append}
 use Rattle.std.proofs.lemmas.Option.{slice_get_within}
 use Rattle.std.proofs.lemmas.Bool.{lt-ltb, cases_lt, ltb-true}
-use Rattle.luworld.specs.World.{Item, Puts, Takes, puts, takes}
+use Rattle.luworld.specs.Systems.{Item, Puts, Takes, puts, takes}
 use Rattle.luworld.specs.Outline.{Outline, IsOutline, shown_items, cell_at, close_cell, full_script, message_items, round_cell, round, shows, Event, part, message_events, events_at}
 use Rattle.luworld.proofs.Parts.{flat_map_twice, flat_map_same, event_parts, message_parts}
 use Rattle.luworld.proofs.Passing.{passes, one_if, sent, received}

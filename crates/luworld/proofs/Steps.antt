@@ -2,7 +2,7 @@
 use Rattle.std.proofs.Common.{◌≡◌, ◌≢◌, ℕ, suc, ◌+◌, ◌<◌, Bool, true, false, List, length, take, set, slice_get, Option, Some, None, count_by, refl, sym, ap, ◌∙◌, subst, arith, get_or-set_same, get_or-set_other, inl, inr, ⊎_elim, ◌⊎◌, cond}
 use Rattle.std.proofs.lemmas.Option.{none-some}
 use Rattle.std.proofs.lemmas.Bool.{cases_lt, cases_eq, eqb-true, eq-eqb, ltb-true, lt-ltb}
-use Rattle.luworld.specs.World.{Item, Compute, Puts, Takes, puts, takes, System, IsWired, World, done, put_count, taken_count, moved_if, turn_at, next_item, turn, world_after, step}
+use Rattle.luworld.specs.Systems.{Item, Compute, Puts, Takes, puts, takes, System, IsWired, ItemCounts, done, put_count, taken_count, moved_if, turn_at, next_item, turn, world_after, step}
 use Rattle.luworld.specs.declared.turn.Turn.{Turn}
 use Rattle.luworld.specs.declared.turn.Turn.TheVariants.{Moved, Blocked, Over}
 use Rattle.luworld.proofs.Counts.{count_yes, count_no}
@@ -24,7 +24,7 @@ pub takes_self : (link : ℕ) → takes link (Takes link) ≡ true
 takes_self link = eq-eqb link link refl
 
 -- what an item waits for
-abbrev pub MayGo : System → World → Item → Type 0
+abbrev pub MayGo : System → ItemCounts → Item → Type 0
 MayGo sys world (Compute flow instant) = Unit {0}
 MayGo sys world (Puts link) = put_count sys world link < taken_count sys world link + sys.capacity
 MayGo sys world (Takes link) = taken_count sys world link < put_count sys world link
@@ -33,7 +33,7 @@ moved_true : (b : Bool) → moved_if b ≡ Moved → b ≡ true
 moved_true true e = refl
 moved_true false e = cc
 
-module _ (sys : System) (world : World) where
+module _ (sys : System) (world : ItemCounts) where
   moved_at : (next : Option Item) → turn_at sys world next ≡ Moved → (item : Item) × (next ≡ Some item) × MayGo sys world item
   moved_at None e = cc
   moved_at (Some (Compute flow instant)) e = (Compute flow instant, refl, tt)
@@ -79,7 +79,7 @@ site_within sys wired site place item here =
     (λ past. absurd (none-some item (sym (ap (λ (s : List Item). slice_get s place) (wired.no_more_sites site past)) ∙ here)))
     (cases_lt site sys.sites)
 
-module _ (sys : System) (wired : IsWired sys) (world : World) (site : ℕ) (item : Item) (here : next_item sys world site ≡ Some item) (long : length world ≡ sys.sites) where
+module _ (sys : System) (wired : IsWired sys) (world : ItemCounts) (site : ℕ) (item : Item) (here : next_item sys world site ≡ Some item) (long : length world ≡ sys.sites) where
   within : site < length world
   within = let lt = site_within sys wired site (done world site) item here in omega arith
 

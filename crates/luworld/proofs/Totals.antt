@@ -2,20 +2,20 @@
 use Rattle.std.proofs.Common.{◌≡◌, ◌≢◌, ℕ, zero, suc, ◌+◌, ◌<◌, ◌≤◌, List, [], ◌∷◌, length, get_or, take, set, replicate, sum, refl, sym, ap, ◌∙◌, subst, arith, add-one, take_all, ⊎_elim}
 use Rattle.std.proofs.lemmas.Bool.{cases_lt}
 use Rattle.std.proofs.lemmas.List.Sums.{sum_by_more, sum_by-set, sum_by-cons}
-use Rattle.luworld.specs.World.{Item, System, IsWired, World, done, new_world, turn, step, run, moves, moves_of, moved_turns, reached, total_below, item_count, IsAllDone}
+use Rattle.luworld.specs.Systems.{Item, System, IsWired, ItemCounts, done, new_world, turn, step, run, moves, moves_of, moved_turns, reached, total_below, item_count, IsAllDone}
 use Rattle.luworld.specs.declared.turn.Turn.{Turn}
 use Rattle.luworld.specs.declared.turn.Turn.TheVariants.{Moved, Blocked, Over}
 use Rattle.luworld.proofs.Steps.{moved_item, step_stays, step_moved, cases_moved, site_within}
-use Rattle.luworld.proofs.Runs.{good_reached, good_step, good_new}
+use Rattle.luworld.proofs.Jobs.{good_reached, good_step, good_new}
 use Rattle.luworld.specs.Reach.{IsGood}
 
-total_take : (world : World) (n : ℕ) → n ≤ length world → sum (take n world) ≡ total_below (done world) n
+total_take : (world : ItemCounts) (n : ℕ) → n ≤ length world → sum (take n world) ≡ total_below (done world) n
 total_take world zero le = refl
 total_take world (suc n) le =
     let e : sum (take (n + 1) world) ≡ sum (take n world) + get_or world n 0 = sum_by_more (λ x. x) world n 0 le in
     (rw add-one at e) ∙ ap (λ k. k + get_or world n 0) (total_take world n (omega arith))
 
-sum_total : (world : World) → sum world ≡ total_below (done world) (length world)
+sum_total : (world : ItemCounts) → sum world ≡ total_below (done world) (length world)
 sum_total world = ap sum (sym (take_all (length world) world (omega arith))) ∙ total_take world (length world) (omega arith)
 
 pub total_le : (f g : ℕ → ℕ) → ((i : ℕ) → f i ≤ g i) → (n : ℕ) → total_below f n ≤ total_below g n
@@ -42,7 +42,7 @@ sum_zeros zero = refl
 sum_zeros (suc n) = sum_by-cons (λ x. x) 0 (replicate n 0) ∙ omega (arith, sum_zeros n)
 
 module _ (sys : System) (wired : IsWired sys) where
-  step_sum : (world : World) → IsGood sys world → (site : ℕ) → sum (step sys world site) ≡ moves_of (turn sys world site) + sum world
+  step_sum : (world : ItemCounts) → IsGood sys world → (site : ℕ) → sum (step sys world site) ≡ moves_of (turn sys world site) + sum world
   step_sum world good site = ⊎_elim moved other (cases_moved sys world site)
     where
       moved : turn sys world site ≡ Moved → sum (step sys world site) ≡ moves_of (turn sys world site) + sum world
@@ -61,7 +61,7 @@ module _ (sys : System) (wired : IsWired sys) where
       other : turn sys world site ≢ Moved → sum (step sys world site) ≡ moves_of (turn sys world site) + sum world
       other ne = ap sum (step_stays sys world site ne) ∙ omega (arith, idle (turn sys world site) ne)
 
-  run_sum : (schedule : List ℕ) (world : World) → IsGood sys world → sum (run sys world schedule) ≡ moves sys world schedule + sum world
+  run_sum : (schedule : List ℕ) (world : ItemCounts) → IsGood sys world → sum (run sys world schedule) ≡ moves sys world schedule + sum world
   run_sum [] world good = omega arith
   run_sum (site ∷ schedule) world good =
       let r = run_sum schedule (step sys world site) (good_step sys wired world good site) in

@@ -1,22 +1,22 @@
 -- What a turn changes.
 use Rattle.std.proofs.Common.{◌≡◌, ℕ, suc, ◌+◌, List, cond, Some, ap, ◌∙◌, ⊎_elim, get_or-set_other}
-use Rattle.luworld.specs.World.{Item, System, IsWired, World, done, turn, step, reached, next_item, put_count, taken_count, puts, takes}
+use Rattle.luworld.specs.Systems.{Item, System, IsWired, ItemCounts, done, turn, step, reached, next_item, put_count, taken_count, puts, takes}
 use Rattle.luworld.specs.declared.turn.Turn.TheVariants.{Moved}
 use Rattle.luworld.specs.Laws.{TurnIs}
 use Rattle.luworld.proofs.Steps.{moved_item, step_stays, step_moved, cases_moved, done_same, put_exact, take_exact}
-use Rattle.luworld.proofs.Runs.{good_reached, good_step}
+use Rattle.luworld.proofs.Jobs.{good_reached, good_step}
 use Rattle.luworld.specs.Reach.{IsGood}
 
-module _ (sys : System) (wired : IsWired sys) (world : World) (good : IsGood sys world) (site : ℕ) where
+module _ (sys : System) (wired : IsWired sys) (world : ItemCounts) (good : IsGood sys world) (site : ℕ) where
   pub turn_of : TurnIs sys world site
   turn_of = record {
     moved = λ e.
         let m = moved_item sys world site e in
-        (ap (λ (w : World). done w site) (step_moved sys world site e) ∙ done_same sys wired world site m.0 m.1 good.long, (good_step sys wired world good site).inside site);
+        (ap (λ (w : ItemCounts). done w site) (step_moved sys world site e) ∙ done_same sys wired world site m.0 m.1 good.long, (good_step sys wired world good site).inside site);
     others = λ other ne.
         ⊎_elim
-        (λ e. ap (λ (w : World). done w other) (step_moved sys world site e) ∙ get_or-set_other world site other (suc (done world site)) 0 ne)
-        (λ stays. ap (λ (w : World). done w other) (step_stays sys world site stays))
+        (λ e. ap (λ (w : ItemCounts). done w other) (step_moved sys world site e) ∙ get_or-set_other world site other (suc (done world site)) 0 ne)
+        (λ stays. ap (λ (w : ItemCounts). done w other) (step_stays sys world site stays))
         (cases_moved sys world site);
     not_moved = step_stays sys world site;
   }
@@ -35,7 +35,7 @@ step_counts sys wired schedule site e =
       m.0,
       m.1,
       λ link. (
-        ap (λ (v : World). put_count sys v link) (step_moved sys w site e) ∙ put_exact sys wired w site m.0 m.1 long link,
-        ap (λ (v : World). taken_count sys v link) (step_moved sys w site e) ∙ take_exact sys wired w site m.0 m.1 long link,
+        ap (λ (v : ItemCounts). put_count sys v link) (step_moved sys w site e) ∙ put_exact sys wired w site m.0 m.1 long link,
+        ap (λ (v : ItemCounts). taken_count sys v link) (step_moved sys w site e) ∙ take_exact sys wired w site m.0 m.1 long link,
       ),
     )

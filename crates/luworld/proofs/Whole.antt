@@ -4,7 +4,7 @@ use Rattle.std.proofs.lemmas.List.{take_at}
 use Rattle.std.proofs.lemmas.List.Sums.{sum_by-cons, sum_by-append}
 use Rattle.std.proofs.lemmas.Grind.{flat_map-append}
 use Rattle.std.proofs.lemmas.Bool.{eqb-true, eq-eqb, ne_eqb, cases_lt, lt-leb}
-use Rattle.luworld.specs.World.{Item, Compute, Puts, Takes, puts, takes, puts_before, takes_before}
+use Rattle.luworld.specs.Systems.{Item, Compute, Puts, Takes, puts, takes, puts_before, takes_before}
 use Rattle.luworld.specs.Reach.{IsReachable, reach_compute, reach_early_put, reach_late_put, reach_take}
 use Rattle.luworld.specs.Outline.{Outline, IsOutline, NoFault, full_script, script, cut, stops, system, Event, Computed, Passed, part, events, list_length}
 use Rattle.luworld.proofs.Counts.{nth}

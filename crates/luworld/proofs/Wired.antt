@@ -2,7 +2,7 @@
 use Rattle.std.proofs.Common.{◌≡◌, ℕ, zero, suc, ◌≤◌, Bool, true, false, cond, List, [], ◌∷◌, ◌++◌, nat_eq, flat_map, slice_get, Some, refl, sym, ap, ap₂, ◌∙◌, subst, arith}
 use Rattle.std.proofs.lemmas.Bool.{eqb-true, ne_eqb}
 use Rattle.std.proofs.lemmas.Option.{same_Some, none-some}
-use Rattle.luworld.specs.World.{Item, Compute, Puts, Takes, IsWired}
+use Rattle.luworld.specs.Systems.{Item, Compute, Puts, Takes, IsWired}
 use Rattle.luworld.specs.Outline.{Outline, IsOutline, full_script, script, cut, stops, system, Event, Computed, Passed, part, events}
 use Rattle.luworld.proofs.Parts.{script_parts}
 

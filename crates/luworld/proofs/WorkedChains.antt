@@ -8,7 +8,7 @@ use Rattle.luflow.specs.Vectors.{sampled_flow, slow_truths}
 use Rattle.luflow.proofs.Worked.{contains_from_has}
 use Rattle.luflow.proofs.Vectors.{counters_worked, held_worked, chained_worked, idle_worked}
 use Rattle.luworld.specs.Needs.{IsNeeded, clock_needed}
-use Rattle.luworld.specs.Runs.{IsRun}
+use Rattle.luworld.specs.Jobs.{IsJobView}
 use Rattle.luworld.specs.PlanVectors.{handed_run, chained_run, idle_run, lonely_run}
 use Rattle.luworld.proofs.WorkedPlans.{placed_at, together, some_name, all_named, needs_are, sum_is_run}
 
@@ -24,7 +24,7 @@ handed_needs capacity (suc zero) r l = needs_are (handed_run capacity).plan 1 (a
 handed_needs capacity (suc (suc zero)) r l = needs_are (handed_run capacity).plan 2 (handed_at_c capacity) refl refl r
 handed_needs capacity (suc (suc (suc s))) r l = absurd (omega arith)
 
-pub handed_is_run : (capacity : ℕ) → 1 ≤ capacity → capacity ≤ 1024 → IsRun (handed_run capacity)
+pub handed_is_run : (capacity : ℕ) → 1 ≤ capacity → capacity ≤ 1024 → IsJobView (handed_run capacity)
 handed_is_run capacity room small =
     record {
       plan_is =
@@ -59,7 +59,7 @@ chained_needs (suc zero) r l = needs_are chained_run.plan 1 (all_named chained_r
 chained_needs (suc (suc zero)) r l = needs_are chained_run.plan 2 chained_at_c refl refl r
 chained_needs (suc (suc (suc s))) r l = absurd (omega arith)
 
-pub chained_is_run : IsRun chained_run
+pub chained_is_run : IsJobView chained_run
 chained_is_run =
     record {
       plan_is =
@@ -80,7 +80,7 @@ chained_is_run =
       fit = chained_worked.fit;
     }
 
-pub idle_is_run : (capacity : ℕ) → 1 ≤ capacity → capacity ≤ 1024 → IsRun (idle_run capacity)
+pub idle_is_run : (capacity : ℕ) → 1 ≤ capacity → capacity ≤ 1024 → IsJobView (idle_run capacity)
 idle_is_run capacity room small =
     record {
       plan_is = (sum_is_run capacity room small).plan_is;
@@ -93,7 +93,7 @@ lonely_needs zero r l = needs_are lonely_run.plan 0 (all_named lonely_run.plan 0
 lonely_needs (suc zero) r l = needs_are lonely_run.plan 1 (all_named lonely_run.plan 1 refl) refl refl r
 lonely_needs (suc (suc s)) r l = absurd (omega arith)
 
-pub lonely_is_run : IsRun lonely_run
+pub lonely_is_run : IsJobView lonely_run
 lonely_is_run =
     record {
       plan_is =

@@ -12,8 +12,8 @@ use Rattle.luflow.specs.Program.{flow_at, flows_of, places, clock_reads}
 use Rattle.luflow.specs.Rank.{has, row}
 use Rattle.luflow.proofs.Worked.{passes, pass_at, on_flow, flow_passes, all_where, contains_from_has, implied}
 use Rattle.luflow.proofs.Vectors.{counters_worked, sum_worked, division_worked, quotient_worked, held_worked}
-use Rattle.luworld.specs.Needs.{Distribution, flow_sites, stands, IsNeeded, read_there, clock_there, clock_needed, IsPlacedAt}
-use Rattle.luworld.specs.Runs.{IsRun}
+use Rattle.luworld.specs.Needs.{PlanView, flow_sites, stands, IsNeeded, read_there, clock_there, clock_needed, IsPlacedAt}
+use Rattle.luworld.specs.Jobs.{IsJobView}
 use Rattle.luworld.specs.RunVectors.{counters_run, sampled_run, shared_run, spread_run, division_run, quotient_run, returned_run, held_run}
 
 -- at least one site, in order
@@ -40,7 +40,7 @@ abbrev named_by : Option Flow → List ℕ
 named_by None = []
 named_by (Some flow) = places flow.form ++ clock_reads flow.clock
 
-module _ (plan : Distribution) where
+module _ (plan : PlanView) where
   pub placed_at : (sites n : ℕ) → passes (λ v. are_sites sites (row plan.placed v)) n ≡ true → (v : ℕ) → v < n → IsPlacedAt sites (row plan.placed v)
   placed_at sites n h v l = sites_are sites (row plan.placed v) (pass_at (λ v. are_sites sites (row plan.placed v)) n v h l)
 
@@ -108,7 +108,7 @@ counters_needs zero r l = needs_are counters_run.plan 0 (all_named counters_run.
 counters_needs (suc zero) r l = needs_are counters_run.plan 1 (all_named counters_run.plan 1 refl) refl refl r
 counters_needs (suc (suc s)) r l = absurd (omega arith)
 
-pub counters_is_run : IsRun counters_run
+pub counters_is_run : IsJobView counters_run
 counters_is_run =
     record {
       plan_is =
@@ -134,7 +134,7 @@ sum_needs capacity zero r l = needs_are (sampled_run capacity).plan 0 (all_named
 sum_needs capacity (suc zero) r l = needs_are (sampled_run capacity).plan 1 (all_named (sampled_run capacity).plan 1 refl) refl refl r
 sum_needs capacity (suc (suc s)) r l = absurd (omega arith)
 
-pub sum_is_run : (capacity : ℕ) → 1 ≤ capacity → capacity ≤ 1024 → IsRun (sampled_run capacity)
+pub sum_is_run : (capacity : ℕ) → 1 ≤ capacity → capacity ≤ 1024 → IsJobView (sampled_run capacity)
 sum_is_run capacity room small =
     record {
       plan_is =
@@ -160,7 +160,7 @@ shared_needs zero r l = needs_are shared_run.plan 0 (all_named shared_run.plan 0
 shared_needs (suc zero) r l = needs_are shared_run.plan 1 (all_named shared_run.plan 1 refl) refl refl r
 shared_needs (suc (suc s)) r l = absurd (omega arith)
 
-pub shared_is_run : IsRun shared_run
+pub shared_is_run : IsJobView shared_run
 shared_is_run =
     record {
       plan_is =
@@ -187,7 +187,7 @@ spread_needs (suc zero) r l = needs_are spread_run.plan 1 (all_named spread_run.
 spread_needs (suc (suc zero)) r l = needs_are spread_run.plan 2 (all_named spread_run.plan 2 refl) refl refl r
 spread_needs (suc (suc (suc s))) r l = absurd (omega arith)
 
-pub spread_is_run : IsRun spread_run
+pub spread_is_run : IsJobView spread_run
 spread_is_run =
     record {
       plan_is =
@@ -213,7 +213,7 @@ division_needs capacity zero r l = needs_are (division_run capacity).plan 0 (all
 division_needs capacity (suc zero) r l = needs_are (division_run capacity).plan 1 (all_named (division_run capacity).plan 1 refl) refl refl r
 division_needs capacity (suc (suc s)) r l = absurd (omega arith)
 
-pub division_is_run : (capacity : ℕ) → 1 ≤ capacity → capacity ≤ 1024 → IsRun (division_run capacity)
+pub division_is_run : (capacity : ℕ) → 1 ≤ capacity → capacity ≤ 1024 → IsJobView (division_run capacity)
 division_is_run capacity room small =
     record {
       plan_is =
@@ -239,7 +239,7 @@ quotient_needs zero r l = needs_are quotient_run.plan 0 (all_named quotient_run.
 quotient_needs (suc zero) r l = needs_are quotient_run.plan 1 (all_named quotient_run.plan 1 refl) refl refl r
 quotient_needs (suc (suc s)) r l = absurd (omega arith)
 
-pub quotient_is_run : IsRun quotient_run
+pub quotient_is_run : IsJobView quotient_run
 quotient_is_run =
     record {
       plan_is =
@@ -265,7 +265,7 @@ returned_needs zero r l = needs_are returned_run.plan 0 (all_named returned_run.
 returned_needs (suc zero) r l = needs_are returned_run.plan 1 (all_named returned_run.plan 1 refl) refl refl r
 returned_needs (suc (suc s)) r l = absurd (omega arith)
 
-pub returned_is_run : IsRun returned_run
+pub returned_is_run : IsJobView returned_run
 returned_is_run =
     record {
       plan_is =
@@ -297,7 +297,7 @@ held_needs zero r l = needs_are held_run.plan 0 (all_named held_run.plan 0 refl)
 held_needs (suc zero) r l = needs_are held_run.plan 1 held_at_b refl refl r
 held_needs (suc (suc s)) r l = absurd (omega arith)
 
-pub held_is_run : IsRun held_run
+pub held_is_run : IsJobView held_run
 held_is_run =
     record {
       plan_is =

@@ -1,12 +1,12 @@
-pub mod World
+pub mod Systems
 pub mod Reach
 pub mod Outline
 pub mod Laws
 pub mod OutlineLaws
 pub mod Vectors
 pub mod Needs
-pub mod Runs
+pub mod Jobs
 pub mod RunVectors
-pub mod Progress
+pub mod WorldViews
 pub mod RunLaws
 pub mod PlanVectors

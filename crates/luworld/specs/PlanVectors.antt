@@ -1,21 +1,23 @@
 -- Worked plans in full: three sites with a slow clock, a clock on a clock, runs without instants, a
 -- site without items, and what is left where something never comes. Worked out by hand from what is
 -- said of needs, links, messages and scripts.
-use Rattle.std.specs.Prelude.{◌≡◌, ◌≤◌, ℕ, true, false, List, [], ◌∷◌, ◌++◌, map, pos, codes, replicate, Some, None}
+use Rattle.std.specs.Prelude.{◌≡◌, ◌≤◌, ℕ, true, false, List, [], ◌∷◌, ◌++◌, map, pos, codes, replicate, Some}
+use Rattle.std.specs.Prelude.{None}
 use Rattle.std.specs.List.{range_with_len}
 use Rattle.luflow.specs.declared.data.Datum.TheVariants.{Int, Bool as Truth}
 use Rattle.luflow.specs.declared.message.Msg.{Msg}
-use Rattle.luflow.specs.Program.{Table}
+use Rattle.luflow.specs.Program.{InputsView}
 use Rattle.luflow.specs.Vectors.{two_counters, three, held_sample, three_samples, chained, four_rows}
 use Rattle.luflow.specs.FormVectors.{no_samples}
 use Rattle.luworld.specs.declared.turn.Turn.TheVariants.{Moved, Blocked, Over}
-use Rattle.luworld.specs.World.{Compute, Puts, Takes, turn, reached, moved_turns, item_count, enabled_below}
+use Rattle.luworld.specs.Systems.{Compute, Puts, Takes, turn, reached, moved_turns, item_count, enabled_below}
 use Rattle.luworld.specs.Outline.{has_faulted, left, list_length, status_count, stand_count, system}
 use Rattle.luworld.specs.Outline as abstract
 use Rattle.luworld.specs.Needs.{all_links, home, IsPlacedAt, IsPlan}
-use Rattle.luworld.specs.Runs.{Run, IsRun, system_of, outputs_of}
+use Rattle.luworld.specs.Jobs.{JobView, IsJobView, system_of, outputs_of}
 use Rattle.luworld.specs.Vectors.{example, shared, faulty}
-use Rattle.luworld.specs.RunVectors.{link_of, value_no, close_no, outline_of, script_of, list_of, by_turns, a_and_b, sampled_run, sampled, quotient_run}
+use Rattle.luworld.specs.RunVectors.{link_of, value_no, close_no, outline_of, script_of, list_of, by_turns}
+use Rattle.luworld.specs.RunVectors.{a_and_b, sampled_run, sampled, quotient_run}
 
 abbrev pub three_names : List (List ℕ)
 three_names = codes "A" ∷ codes "B" ∷ codes "C" ∷ []
@@ -26,7 +28,7 @@ three_names = codes "A" ∷ codes "B" ∷ codes "C" ∷ []
 -- let c = true -> not pre c; s = x when c; y = current s;
 -- z = merge c (true -> s) (false -> 0 when not c); tel: x and c at A, s and z at B, y at C.
 -- C reads s alone, which is B's, and needs c, which is A's, since s is on it.
-abbrev pub handed_run : ℕ → Run
+abbrev pub handed_run : ℕ → JobView
 handed_run capacity =
     record {
       plan =
@@ -41,10 +43,10 @@ handed_run capacity =
       inputs = three_samples;
     }
 
-abbrev pub handed : Run
+abbrev pub handed : JobView
 handed = handed_run 16
 
-abbrev pub narrow_handed : Run
+abbrev pub narrow_handed : JobView
 narrow_handed = handed_run 1
 
 -- c is true, false, true
@@ -55,7 +57,7 @@ three_ticks =
 -- The lists are those of x, of c twice, and of s. There are 27 present statuses and 15 messages, each
 -- of which is put and taken: 57 items.
 pub record HandedRun : Type 0 where
-  pub is_run : (capacity : ℕ) → 1 ≤ capacity → capacity ≤ 1024 → IsRun (handed_run capacity)
+  pub is_run : (capacity : ℕ) → 1 ≤ capacity → capacity ≤ 1024 → IsJobView (handed_run capacity)
   pub links : all_links handed.plan ≡
       link_of 0 0 1 ∷ link_of 3 0 1 ∷ link_of 3 0 2 ∷ link_of 4 1 2 ∷ []
   pub outputs : outputs_of handed.plan ≡ 1 ∷ 2 ∷ []
@@ -98,7 +100,8 @@ pub record HandedRun : Type 0 where
 
 -- PLANS
 
--- the sites of a variable: one at least, in order, each of the two that there are; and a link holds 1 to 1,024 messages
+-- the sites of a variable: one at least, in order, each of the two that there are; and a link holds 1 to
+-- 1,024 messages
 pub record PlansAre : Type 0 where
   pub at_one : IsPlacedAt 2 (1 ∷ [])
   pub at_both : IsPlacedAt 2 (0 ∷ 1 ∷ [])
@@ -113,7 +116,7 @@ pub record PlansAre : Type 0 where
 
 -- c = d when b, s = (x when b) when c and z = s: the inputs and c at A, s at B, z at C.
 -- C reads s, its own clock is c, and it needs b since c is on it.
-abbrev pub chained_run : Run
+abbrev pub chained_run : JobView
 chained_run =
     record {
       plan =
@@ -132,7 +135,7 @@ chained_run =
 
 -- where b is false nothing but b passes to C, and where c is false s doesn't
 pub record ChainedRun : Type 0 where
-  pub is_run : IsRun chained_run
+  pub is_run : IsJobView chained_run
   pub first_script : script_of chained_run 0 ≡
       Compute 0 0 ∷ Puts 0 ∷ Compute 1 0 ∷ Puts 1 ∷ Puts 2 ∷ Compute 2 0 ∷ Compute 3 0 ∷ Puts 3 ∷ Puts 4
       ∷ Compute 0 1 ∷ Puts 0 ∷ Compute 1 1 ∷ Puts 1 ∷ Puts 2 ∷ Compute 2 1
@@ -161,21 +164,21 @@ pub record ChainedRun : Type 0 where
 -- WITHOUT INSTANTS, AND WITHOUT ITEMS
 
 -- the sampler, whose links carry c and s to B, without instants
-abbrev pub idle_run : ℕ → Run
+abbrev pub idle_run : ℕ → JobView
 idle_run capacity = record { plan = (sampled_run capacity).plan; inputs = no_samples }
 
-abbrev pub idle : Run
+abbrev pub idle : JobView
 idle = idle_run 1
 
 -- three sites without instants
-abbrev pub no_rows : Table
+abbrev pub no_rows : InputsView
 no_rows = record { instants = 0; columns = record { name = codes "x"; values = [] } ∷ [] }
 
-abbrev pub idle_handed : Run
+abbrev pub idle_handed : JobView
 idle_handed = record { plan = handed.plan; inputs = no_rows }
 
 -- two counters, both at A
-abbrev pub lonely_run : Run
+abbrev pub lonely_run : JobView
 lonely_run =
     record {
       plan =
@@ -192,7 +195,7 @@ lonely_run =
 
 -- each link's close is put and taken, in order of rank, and nothing else
 pub record IdleRun : Type 0 where
-  pub is_run : (capacity : ℕ) → 1 ≤ capacity → capacity ≤ 1024 → IsRun (idle_run capacity)
+  pub is_run : (capacity : ℕ) → 1 ≤ capacity → capacity ≤ 1024 → IsJobView (idle_run capacity)
   pub outputs : outputs_of idle.plan ≡ 2 ∷ 3 ∷ []
   pub first_script : script_of idle 0 ≡ Puts 0 ∷ Puts 1 ∷ []
   pub second_script : script_of idle 1 ≡ Takes 0 ∷ Takes 1 ∷ []
@@ -212,7 +215,7 @@ pub record IdleRun : Type 0 where
 
 -- B has nothing to do, so it is over from the start, and has not faulted
 pub record LonelyRun : Type 0 where
-  pub is_run : IsRun lonely_run
+  pub is_run : IsJobView lonely_run
   pub links : all_links lonely_run.plan ≡ []
   pub second_script : script_of lonely_run 1 ≡ []
   pub items : item_count (system_of lonely_run) ≡ 30

@@ -1,12 +1,16 @@
 -- The items that some run can reach, without an order of turns.
 use Rattle.std.specs.Prelude.{◌≡◌, ℕ, ◌+◌, ◌<◌, ◌≤◌, length, Some, slice_get}
-use Rattle.luworld.specs.World.{Compute, Puts, Takes, System, World, done, put_count, taken_count, puts_before, takes_before}
+use Rattle.luworld.specs.Systems.{Compute, Puts, Takes, System, ItemCounts, done, put_count, taken_count}
+use Rattle.luworld.specs.Systems.{puts_before, takes_before}
 
--- The least set of places of scripts that holds a place where it holds all places before it in that script and,
+-- The least set of places of scripts that holds a place where it holds all places before it in that script
+-- and,
 -- for a take of a message, the put of that message;
--- for a put of a message whose number isn't less than the capacity, the take of the message that is the capacity earlier.
+-- for a put of a message whose number isn't less than the capacity, the take of the message that is the
+-- capacity earlier.
 pub data IsReachable (sys : System) : ℕ → ℕ → Type 0 where
-  reach_compute : {site place : ℕ} (flow instant : ℕ) → slice_get (sys.script site) place ≡ Some (Compute flow instant)
+  reach_compute : {site place : ℕ} (flow instant : ℕ)
+      → slice_get (sys.script site) place ≡ Some (Compute flow instant)
       → ((before : ℕ) → before < place → IsReachable sys site before) → IsReachable sys site place
   reach_early_put : {site place : ℕ} (link : ℕ) → slice_get (sys.script site) place ≡ Some (Puts link)
       → puts_before sys link site place < sys.capacity
@@ -23,7 +27,7 @@ pub data IsReachable (sys : System) : ℕ → ℕ → Type 0 where
       → ((before : ℕ) → before < place → IsReachable sys site before) → IsReachable sys site place
 
 -- what every reached world keeps
-pub record IsGood (sys : System) (world : World) : Type 0 where
+pub record IsGood (sys : System) (world : ItemCounts) : Type 0 where
   pub long : length world ≡ sys.sites
   pub inside : (site : ℕ) → done world site ≤ length (sys.script site)
   pub taken_put : (link : ℕ) → taken_count sys world link ≤ put_count sys world link

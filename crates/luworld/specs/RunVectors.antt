@@ -1,16 +1,20 @@
 -- Worked runs: a program, its table, a plan, and what its sites then do, computed on the definitions.
-use Rattle.std.specs.Prelude.{◌≡◌, ℕ, zero, suc, ◌≤◌, true, false, List, [], ◌∷◌, ◌++◌, length, pos, codes, replicate, Some, None, slice_get}
+use Rattle.std.specs.Prelude.{◌≡◌, ℕ, zero, suc, ◌≤◌, true, false, List, [], ◌∷◌, ◌++◌, length, pos, codes}
+use Rattle.std.specs.Prelude.{replicate, Some, None, slice_get}
 use Rattle.luflow.specs.declared.data.Datum.{Datum}
 use Rattle.luflow.specs.declared.data.Datum.TheVariants.{Int, Bool as Truth, Nil}
 use Rattle.luflow.specs.declared.message.Msg.{Msg}
 use Rattle.luflow.specs.declared.message.Body.TheVariants.{Value, Close}
-use Rattle.luflow.specs.Vectors.{two_counters, three, sampled_sum, four_samples, division, one_zero, one_two, held_sample, three_samples}
+use Rattle.luflow.specs.Vectors.{two_counters, three, sampled_sum, four_samples, division, one_zero, one_two}
+use Rattle.luflow.specs.Vectors.{held_sample, three_samples}
 use Rattle.luworld.specs.declared.link.Link.{Link}
 use Rattle.luworld.specs.declared.turn.Turn.TheVariants.{Blocked, Over}
-use Rattle.luworld.specs.World.{Item, Compute, Puts, Takes, turn, next_item, reached, moved_turns, item_count, enabled_below}
+use Rattle.luworld.specs.Systems.{Item, Compute, Puts, Takes, turn, next_item, reached, moved_turns}
+use Rattle.luworld.specs.Systems.{item_count, enabled_below}
 use Rattle.luworld.specs.Outline.{Outline, has_faulted, left}
 use Rattle.luworld.specs.Outline as abstract
-use Rattle.luworld.specs.Runs.{Run, IsRun, streams_of, outline, system_of, script, link_list, outputs_of}
+use Rattle.luworld.specs.Jobs.{JobView, IsJobView, streams_of, outline, system_of, script, link_list}
+use Rattle.luworld.specs.Jobs.{outputs_of}
 use Rattle.luworld.specs.Vectors.{example, shared, faulty, eight_four, ten_six}
 
 abbrev pub value_no : ℕ → Datum → Msg
@@ -25,11 +29,13 @@ zero_to_two = value_no 0 (Int (pos 0)) ∷ value_no 1 (Int (pos 1)) ∷ value_no
 
 -- the clock: true, false, true, true and the close
 abbrev pub clock_messages : List Msg
-clock_messages = value_no 0 (Truth true) ∷ value_no 1 (Truth false) ∷ value_no 2 (Truth true) ∷ value_no 3 (Truth true) ∷ close_no 4 ∷ []
+clock_messages = value_no 0 (Truth true) ∷ value_no 1 (Truth false) ∷ value_no 2 (Truth true)
+    ∷ value_no 3 (Truth true) ∷ close_no 4 ∷ []
 
 -- the samples where the clock is true: 1, 3, 4 and the close
 abbrev pub sample_messages : List Msg
-sample_messages = value_no 0 (Int (pos 1)) ∷ value_no 1 (Int (pos 3)) ∷ value_no 2 (Int (pos 4)) ∷ close_no 3 ∷ []
+sample_messages = value_no 0 (Int (pos 1)) ∷ value_no 1 (Int (pos 3)) ∷ value_no 2 (Int (pos 4)) ∷ close_no 3
+    ∷ []
 
 -- nil, 1 and the close
 abbrev pub quotient_messages : List Msg
@@ -43,7 +49,7 @@ abbrev pub a_and_b : List (List ℕ)
 a_and_b = codes "A" ∷ codes "B" ∷ []
 
 -- two counters that feed each other, a at site A and b at site B, over links that hold one message
-abbrev pub counters_run : Run
+abbrev pub counters_run : JobView
 counters_run =
     record {
       plan =
@@ -59,7 +65,7 @@ counters_run =
     }
 
 -- a sum, and a doubled sample on a slow clock, which is at site B
-abbrev pub sampled_run : ℕ → Run
+abbrev pub sampled_run : ℕ → JobView
 sampled_run capacity =
     record {
       plan =
@@ -75,7 +81,7 @@ sampled_run capacity =
     }
 
 -- the same with its clock at both sites, so that no link carries it
-abbrev pub shared_run : Run
+abbrev pub shared_run : JobView
 shared_run =
     record {
       plan =
@@ -91,7 +97,7 @@ shared_run =
     }
 
 -- the same over three sites: the clock at A and B, y at B, and z at B and C
-abbrev pub spread_run : Run
+abbrev pub spread_run : JobView
 spread_run =
     record {
       plan =
@@ -107,7 +113,7 @@ spread_run =
     }
 
 -- one divided by the input, one instant later at site B
-abbrev pub division_run : ℕ → Run
+abbrev pub division_run : ℕ → JobView
 division_run capacity =
     record {
       plan =
@@ -123,7 +129,7 @@ division_run capacity =
     }
 
 -- the same with the delay at site B too, so that the quotient itself passes the link
-abbrev pub quotient_run : Run
+abbrev pub quotient_run : JobView
 quotient_run =
     record {
       plan =
@@ -139,7 +145,7 @@ quotient_run =
     }
 
 -- the division at site B and its delay at site A, so that the quotient goes there and back
-abbrev pub returned_run : Run
+abbrev pub returned_run : JobView
 returned_run =
     record {
       plan =
@@ -155,7 +161,7 @@ returned_run =
     }
 
 -- a sample that site B holds, which needs the sample and so its clock
-abbrev pub held_run : Run
+abbrev pub held_run : JobView
 held_run =
     record {
       plan =
@@ -171,26 +177,27 @@ held_run =
     }
 
 -- two of them at the usual capacity, and over links that hold one message
-abbrev pub sampled : Run
+abbrev pub sampled : JobView
 sampled = sampled_run 16
 
-abbrev pub narrow_sampled : Run
+abbrev pub narrow_sampled : JobView
 narrow_sampled = sampled_run 1
 
-abbrev pub divided : Run
+abbrev pub divided : JobView
 divided = division_run 16
 
-abbrev pub narrow_divided : Run
+abbrev pub narrow_divided : JobView
 narrow_divided = division_run 1
 
--- by the run's own solution: where its flows are present and broken, what a site does, and what a link carries
-abbrev pub outline_of : Run → Outline
+-- by the run's own solution: where its flows are present and broken, what a site does, and what a link
+-- carries
+abbrev pub outline_of : JobView → Outline
 outline_of job = outline job (streams_of job)
 
-abbrev pub script_of : Run → ℕ → List Item
+abbrev pub script_of : JobView → ℕ → List Item
 script_of job s = script job (streams_of job) s
 
-abbrev pub list_of : Run → ℕ → List Msg
+abbrev pub list_of : JobView → ℕ → List Msg
 list_of job l = link_list job (streams_of job) l
 
 -- n turns of each of some sites, one site after the other
@@ -198,12 +205,14 @@ abbrev pub by_turns : List ℕ → ℕ → List ℕ
 by_turns sites zero = []
 by_turns sites (suc n) = sites ++ by_turns sites n
 
--- In each record `is_run` says among the rest that the flows' order is that of their ranks, and that the needs and the links
+-- In each record `is_run` says among the rest that the flows' order is that of their ranks, and that the
+-- needs and the links
 -- listed above are exactly those that are defined.
 
--- Each site does 23 items, and both links carry 0, 1, 2 and the close. Alone, site A gets no further than its first take.
+-- Each site does 23 items, and both links carry 0, 1, 2 and the close. Alone, site A gets no further than its
+-- first take.
 pub record CountersRun : Type 0 where
-  pub is_run : IsRun counters_run
+  pub is_run : IsJobView counters_run
   pub outputs : outputs_of counters_run.plan ≡ 0 ∷ 1 ∷ []
   pub items : item_count (system_of counters_run) ≡ 46
   pub first_script : length (script_of counters_run 0) ≡ 23
@@ -217,9 +226,10 @@ pub record CountersRun : Type 0 where
   pub moves : moved_turns (system_of counters_run) (by_turns (0 ∷ 1 ∷ []) 42) ≡ 46
   pub over : turn (system_of counters_run) (23 ∷ 23 ∷ []) 0 ≡ Over
 
--- The scripts are those of the plan in the abstract; at capacity 1, site A alone gets no further than the second put of c.
+-- The scripts are those of the plan in the abstract; at capacity 1, site A alone gets no further than the
+-- second put of c.
 pub record SampledRun : Type 0 where
-  pub is_run : (capacity : ℕ) → 1 ≤ capacity → capacity ≤ 1024 → IsRun (sampled_run capacity)
+  pub is_run : (capacity : ℕ) → 1 ≤ capacity → capacity ≤ 1024 → IsJobView (sampled_run capacity)
   pub outputs : outputs_of sampled.plan ≡ 2 ∷ 3 ∷ []
   pub items : item_count (system_of sampled) ≡ 47
   pub first_script : length (script_of sampled 0) ≡ 32
@@ -238,20 +248,22 @@ pub record SampledRun : Type 0 where
 
 -- The clock is computed at both sites, and only s passes a link.
 pub record SharedRun : Type 0 where
-  pub is_run : IsRun shared_run
+  pub is_run : IsJobView shared_run
   pub items : item_count (system_of shared_run) ≡ 41
   pub first_same : script_of shared_run 0 ≡ abstract.script shared 0
   pub second_same : script_of shared_run 1 ≡ abstract.script shared 1
   pub list : list_of shared_run 0 ≡ sample_messages
 
--- The clock is sent by A, which is the least of its sites, and the sample goes to both sites that need it, in order.
+-- The clock is sent by A, which is the least of its sites, and the sample goes to both sites that need it, in
+-- order.
 pub record SpreadRun : Type 0 where
-  pub is_run : IsRun spread_run
+  pub is_run : IsJobView spread_run
   pub items : item_count (system_of spread_run) ≡ 75
   pub first_script : length (script_of spread_run 0) ≡ 29
   pub second_script : length (script_of spread_run 1) ≡ 31
   pub third_script : length (script_of spread_run 2) ≡ 15
-  pub first_list : list_of spread_run 0 ≡ value_no 0 (Int (pos 1)) ∷ value_no 1 (Int (pos 2)) ∷ value_no 2 (Int (pos 3)) ∷ value_no 3 (Int (pos 4)) ∷ close_no 4 ∷ []
+  pub first_list : list_of spread_run 0 ≡ value_no 0 (Int (pos 1)) ∷ value_no 1 (Int (pos 2))
+      ∷ value_no 2 (Int (pos 3)) ∷ value_no 3 (Int (pos 4)) ∷ close_no 4 ∷ []
   pub second_list : list_of spread_run 1 ≡ clock_messages
   pub third_list : list_of spread_run 2 ≡ sample_messages
   pub fourth_list : list_of spread_run 3 ≡ sample_messages
@@ -260,10 +272,11 @@ pub record SpreadRun : Type 0 where
   pub waits : turn (system_of spread_run) (8 ∷ 0 ∷ 0 ∷ []) 0 ≡ Blocked
   pub end : reached (system_of spread_run) (by_turns (0 ∷ 1 ∷ 2 ∷ []) 34) ≡ 29 ∷ 31 ∷ 15 ∷ []
 
--- Site A faults at its tenth item, and site B then waits for the close of p, which never comes; at capacity 1, site A alone
+-- Site A faults at its tenth item, and site B then waits for the close of p, which never comes; at capacity
+-- 1, site A alone
 -- gets no further than the second put of p.
 pub record DivisionRun : Type 0 where
-  pub is_run : (capacity : ℕ) → 1 ≤ capacity → capacity ≤ 1024 → IsRun (division_run capacity)
+  pub is_run : (capacity : ℕ) → 1 ≤ capacity → capacity ≤ 1024 → IsJobView (division_run capacity)
   pub outputs : outputs_of divided.plan ≡ 1 ∷ []
   pub items : item_count (system_of divided) ≡ 17
   pub first_script : length (script_of divided 0) ≡ 10
@@ -283,21 +296,25 @@ pub record DivisionRun : Type 0 where
   pub waits_for : next_item (system_of narrow_divided) (7 ∷ 0 ∷ []) 0 ≡ Some (Puts 0)
   pub waits : turn (system_of narrow_divided) (7 ∷ 0 ∷ []) 0 ≡ Blocked
 
--- The quotient's list ends at its fault, without a close, and site B's script ends at the take of what never comes.
+-- The quotient's list ends at its fault, without a close, and site B's script ends at the take of what never
+-- comes.
 pub record QuotientRun : Type 0 where
-  pub is_run : IsRun quotient_run
+  pub is_run : IsJobView quotient_run
   pub items : item_count (system_of quotient_run) ≡ 13
-  pub first_script : script_of quotient_run 0 ≡ Compute 0 0 ∷ Compute 4 0 ∷ Compute 2 0 ∷ Puts 0 ∷ Compute 0 1 ∷ Compute 4 1 ∷ Compute 2 1 ∷ []
-  pub second_script : script_of quotient_run 1 ≡ Compute 3 0 ∷ Takes 0 ∷ Compute 5 0 ∷ Compute 1 0 ∷ Compute 3 1 ∷ Takes 0 ∷ []
+  pub first_script : script_of quotient_run 0 ≡ Compute 0 0 ∷ Compute 4 0 ∷ Compute 2 0 ∷ Puts 0 ∷ Compute 0 1
+      ∷ Compute 4 1 ∷ Compute 2 1 ∷ []
+  pub second_script : script_of quotient_run 1 ≡ Compute 3 0 ∷ Takes 0 ∷ Compute 5 0 ∷ Compute 1 0
+      ∷ Compute 3 1 ∷ Takes 0 ∷ []
   pub list : list_of quotient_run 0 ≡ value_no 0 (Int (pos 1)) ∷ []
   pub end : reached (system_of quotient_run) ten_six ≡ 7 ∷ 5 ∷ []
   pub end_waits : turn (system_of quotient_run) (7 ∷ 5 ∷ []) 1 ≡ Blocked
   pub first_faulted : has_faulted (outline_of quotient_run) (7 ∷ 5 ∷ []) 0 ≡ true
   pub second_not : has_faulted (outline_of quotient_run) (7 ∷ 5 ∷ []) 1 ≡ false
 
--- Messages pass in order of rank at each instant and at the close: p, which is one instant behind y, before y.
+-- Messages pass in order of rank at each instant and at the close: p, which is one instant behind y, before
+-- y.
 pub record ReturnedRun : Type 0 where
-  pub is_run : IsRun returned_run
+  pub is_run : IsJobView returned_run
   pub items : item_count (system_of returned_run) ≡ 30
   pub first_script : script_of returned_run 0 ≡
       Compute 0 0 ∷ Puts 0 ∷ Compute 3 0 ∷ Puts 2 ∷ Takes 1
@@ -307,18 +324,21 @@ pub record ReturnedRun : Type 0 where
       Takes 0 ∷ Takes 2 ∷ Compute 4 0 ∷ Compute 2 0 ∷ Puts 1 ∷ Compute 5 0 ∷ Compute 1 0
       ∷ Takes 0 ∷ Takes 2 ∷ Compute 4 1 ∷ Compute 2 1 ∷ Puts 1 ∷ Compute 5 1 ∷ Compute 1 1
       ∷ Takes 0 ∷ Takes 2 ∷ Puts 1 ∷ []
-  pub quotient_list : list_of returned_run 1 ≡ value_no 0 (Int (pos 1)) ∷ value_no 1 (Int (pos 0)) ∷ close_no 2 ∷ []
+  pub quotient_list : list_of returned_run 1 ≡ value_no 0 (Int (pos 1)) ∷ value_no 1 (Int (pos 0))
+      ∷ close_no 2 ∷ []
   pub delayed_list : list_of returned_run 2 ≡ quotient_messages
   pub end : reached (system_of returned_run) (by_turns (0 ∷ 1 ∷ []) 30) ≡ 13 ∷ 17 ∷ []
 
 -- Site B takes the clock at each instant and the sample where it is true.
 pub record HeldRun : Type 0 where
-  pub is_run : IsRun held_run
+  pub is_run : IsJobView held_run
   pub outputs : outputs_of held_run.plan ≡ 1 ∷ 2 ∷ []
   pub items : item_count (system_of held_run) ≡ 41
   pub first_script : length (script_of held_run 0) ≡ 31
-  pub second_script : script_of held_run 1 ≡ Takes 0 ∷ Takes 1 ∷ Compute 1 0 ∷ Takes 0 ∷ Compute 1 1 ∷ Takes 0 ∷ Takes 1 ∷ Compute 1 2 ∷ Takes 0 ∷ Takes 1 ∷ []
-  pub first_list : list_of held_run 0 ≡ value_no 0 (Truth true) ∷ value_no 1 (Truth false) ∷ value_no 2 (Truth true) ∷ close_no 3 ∷ []
+  pub second_script : script_of held_run 1 ≡ Takes 0 ∷ Takes 1 ∷ Compute 1 0 ∷ Takes 0 ∷ Compute 1 1 ∷ Takes 0
+      ∷ Takes 1 ∷ Compute 1 2 ∷ Takes 0 ∷ Takes 1 ∷ []
+  pub first_list : list_of held_run 0 ≡ value_no 0 (Truth true) ∷ value_no 1 (Truth false)
+      ∷ value_no 2 (Truth true) ∷ close_no 3 ∷ []
   pub second_list : list_of held_run 1 ≡ value_no 0 (Int (pos 1)) ∷ value_no 1 (Int (pos 3)) ∷ close_no 2 ∷ []
   pub end : reached (system_of held_run) (by_turns (0 ∷ 1 ∷ []) 41) ≡ 31 ∷ 10 ∷ []
 

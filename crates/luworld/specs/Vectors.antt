@@ -1,7 +1,10 @@
--- One program's run as an example: node main(x: int; c: bool) returns (y: int; z: int when c), with s = x when c, z = 2 * s
--- at site 1 and all else at site 0; c is true, false, true, true. Flows are x 0, c 1, y 2, z 3, s 4, 2 at 5, pre y at 6, pre y + x at 7.
-use Rattle.std.specs.Prelude.{◌≡◌, ◌≤◌, ℕ, Bool, true, false, cond, List, [], ◌∷◌, ◌&&◌, ◌||◌, not, nat_eq, length, slice_get, Some, None, replicate, ◌++◌}
-use Rattle.luworld.specs.World.{Puts, reached, moved_turns, item_count, enabled_below}
+-- One program's run as an example: node main(x: int; c: bool) returns (y: int; z: int when c), with s = x
+-- when c, z = 2 * s
+-- at site 1 and all else at site 0; c is true, false, true, true. Flows are x 0, c 1, y 2, z 3, s 4, 2 at 5,
+-- pre y at 6, pre y + x at 7.
+use Rattle.std.specs.Prelude.{◌≡◌, ◌≤◌, ℕ, Bool, true, false, cond, List, [], ◌∷◌, ◌&&◌, ◌||◌, not, nat_eq}
+use Rattle.std.specs.Prelude.{length, slice_get, Some, None, replicate, ◌++◌}
+use Rattle.luworld.specs.Systems.{Puts, reached, moved_turns, item_count, enabled_below}
 use Rattle.luworld.specs.Outline.{Outline, IsOutline, script, system, left, list_length}
 
 abbrev pub is_slow : ℕ → Bool
@@ -25,7 +28,8 @@ example instants capacity = record {
 abbrev pub eight_four : List ℕ
 eight_four = replicate 8 0 ++ replicate 4 1
 
--- node main(x: int) returns (z: int); y = 1 div x, p = pre y, z = 0 -> p, with z at site 1; x is 1, 0, so y breaks at instant 1.
+-- node main(x: int) returns (z: int); y = 1 div x, p = pre y, z = 0 -> p, with z at site 1; x is 1, 0, so y
+-- breaks at instant 1.
 -- Flows are x 0, z 1, y 2, p 3, 1 at 4, 0 at 5.
 abbrev pub faulty : Outline
 faulty = record {

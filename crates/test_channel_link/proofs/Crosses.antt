@@ -11,7 +11,7 @@ use Rattle.crossbeam_channel.proofs.flavors.array.Rows.TheSendSync as rows
 use Rattle.test_channel_link.proofs.doors.Doors.TheSendSync as doors
 use Rattle.luflow.proofs.message.Msg.TheSendSync as msg
 use Rattle.atomic_table.proofs.badge.Badge.TheSendSync as badge
-use Rattle.atomic_table.proofs.shared.Seat.TheSendSync as seat
+use Rattle.atomic_table.proofs.shared.Seat.TheSendSync as link_pass
 use Rattle.std.proofs.option.Option.TheSendSync as option
 use Rattle.std.proofs.alloc.Global.TheSendSync as heap
 use Rattle.std.proofs.Crossing.{crosses, frees}
@@ -22,7 +22,7 @@ inside_tx =
     (struct_send (shape tx.the_type) (
       search (sendable, sending.the_field_send, rows.the_send, rows.the_sync, msg.the_send, badge.the_send, option.the_send, heap.the_send, frees) depth 8,
       (
-        search (sendable, seat.the_send, badge.the_send),
+        search (sendable, link_pass.the_send, badge.the_send),
         (
           record { owned = λ d vs. ((λ vss. (tt, ((λ uss. (tt, tt)), tt))), tt); leaving = λ k f vs. tt },
           (
@@ -45,7 +45,7 @@ inside_rx =
     (struct_send (shape rx.the_type) (
       search (sendable, receiving.the_field_send, rows.the_send, rows.the_sync, msg.the_send, badge.the_send, option.the_send, heap.the_send, frees) depth 8,
       (
-        search (sendable, seat.the_send, badge.the_send),
+        search (sendable, link_pass.the_send, badge.the_send),
         (
           record { owned = λ d vs. ((λ vss. (tt, ((λ uss. (tt, tt)), tt))), tt); leaving = λ k f vs. tt },
           (search sendable, (search (sendable, crosses, doors.the_send, doors.the_sync, heap.the_send) depth 8, tt)),

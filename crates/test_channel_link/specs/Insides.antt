@@ -10,13 +10,29 @@ use Rattle.test_channel_link.specs.declared.sender.Tx.TheInside as tx
 use Rattle.test_channel_link.specs.declared.receiver.Rx.TheInside as rx
 
 abbrev pub sender_view : tx.Inside → SenderView
-sender_view t = record { job = t.job.value; link = t.link; capacity = ruled_capacity (sends_on t.end); put = (known t.seat).done; seen = [] }
+sender_view t = record {
+  job = t.job.value;
+  link = t.link;
+  capacity = ruled_capacity (sends_on t.end);
+  put = (known t.link_pass).done;
+  seen = [];
+}
 
 abbrev pub receiver_view : rx.Inside → ReceiverView
-receiver_view t = record { job = t.job.value; link = t.link; capacity = ruled_capacity (receives_on t.end); taken = (known t.seat).done; seen = [] }
+receiver_view t = record {
+  job = t.job.value;
+  link = t.link;
+  capacity = ruled_capacity (receives_on t.end);
+  taken = (known t.link_pass).done;
+  seen = [];
+}
 
 abbrev pub IsSender : tx.Inside → Type 0
-IsSender t = IsSeatAt (sends_on t.end) t.seat × (known t.seat ≡ sender (ruled_capacity (sends_on t.end)) (list_of t.job.value t.link) (known t.seat).done) × IsPrefix (known t.seat).done (list_of t.job.value t.link)
+IsSender t = IsSeatAt (sends_on t.end) t.link_pass
+    × (known t.link_pass ≡ sender (ruled_capacity (sends_on t.end)) (list_of t.job.value t.link)
+    (known t.link_pass).done) × IsPrefix (known t.link_pass).done (list_of t.job.value t.link)
 
 abbrev pub IsReceiver : rx.Inside → Type 0
-IsReceiver t = IsSeatAt (receives_on t.end) t.seat × (known t.seat ≡ receiver (ruled_capacity (receives_on t.end)) (list_of t.job.value t.link) (known t.seat).done) × IsPrefix (known t.seat).done (list_of t.job.value t.link)
+IsReceiver t = IsSeatAt (receives_on t.end) t.link_pass
+    × (known t.link_pass ≡ receiver (ruled_capacity (receives_on t.end)) (list_of t.job.value t.link)
+    (known t.link_pass).done) × IsPrefix (known t.link_pass).done (list_of t.job.value t.link)

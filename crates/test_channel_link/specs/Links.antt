@@ -2,20 +2,20 @@
 use Rattle.std.specs.Prelude.{◌≡◌, ℕ, ◌≤◌, ◌⊎◌, List, [], ◌∷◌, ◌++◌, length, Some, slice_get}
 use mathlib.Core.List.{IsPrefix}
 use Rattle.luflow.specs.declared.message.Msg.{Msg}
-use Rattle.test_channel_link.specs.declared.rule.Progress.{Progress}
+use Rattle.test_channel_link.specs.declared.rule.PassState.{PassState}
 use Rattle.test_channel_link.specs.declared.rule.Role.TheVariants.{Opener, Producer, Consumer}
 
-abbrev pub fresh : Progress
+abbrev pub fresh : PassState
 fresh = record { role = Opener; room = 0; list = []; done = [] }
 
-abbrev pub sender : ℕ → List Msg → List Msg → Progress
+abbrev pub sender : ℕ → List Msg → List Msg → PassState
 sender room list put = record { role = Producer; room = room; list = list; done = put }
 
-abbrev pub receiver : ℕ → List Msg → List Msg → Progress
+abbrev pub receiver : ℕ → List Msg → List Msg → PassState
 receiver room list taken = record { role = Consumer; room = room; list = list; done = taken }
 
 -- what was put is what was taken and then what the channel holds; it is a prefix of the list
-pub record Running (items : List Msg) (views : List Progress) : Type 0 where
+pub record Running (items : List Msg) (views : List PassState) : Type 0 where
   pub room : ℕ
   pub list : List Msg
   pub taken : List Msg
@@ -23,15 +23,15 @@ pub record Running (items : List Msg) (views : List Progress) : Type 0 where
   pub fits : length items ≤ room
   pub begins : IsPrefix (taken ++ items) list
 
-abbrev pub Linked : List Msg → List Progress → Type 0
+abbrev pub Linked : List Msg → List PassState → Type 0
 Linked items views = ((items ≡ []) × (views ≡ fresh ∷ [])) ⊎ Running items views
 
-abbrev pub with_one : Progress → Msg → Progress
+abbrev pub with_one : PassState → Msg → PassState
 with_one v m = record { role = v.role; room = v.room; list = v.list; done = v.done ++ m ∷ [] }
 
-abbrev pub HasSent : Progress → Msg → Progress → Type 0
+abbrev pub HasSent : PassState → Msg → PassState → Type 0
 HasSent v m w = w ≡ with_one v m
 
 -- the message is the next of the list
-abbrev pub HasReceived : Progress → Msg → Progress → Type 0
+abbrev pub HasReceived : PassState → Msg → PassState → Type 0
 HasReceived v m w = (w ≡ with_one v m) × (slice_get v.list (length v.done) ≡ Some m)

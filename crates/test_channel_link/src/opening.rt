@@ -36,12 +36,12 @@ pub fn open_link(
     let room = usize::from(capacity);
     let doors = Arc::new(alloc, Doors::new())?;
     let other_doors = Arc::try_clone(&doors)?;
-    let (sends, receives, mut seat) = bounded_with(alloc, room)?;
+    let (sends, receives, mut link_pass) = bounded_with(alloc, room)?;
     let spare = receives.try_clone()?;
-    let other = part::<Brand>(&sends, &mut seat, job, link, room);
+    let other = part::<Brand>(&sends, &mut link_pass, job, link, room);
     let tx = Tx {
         end: sends,
-        seat,
+        link_pass,
         job: Snapshot::of(job),
         link,
         doors,
@@ -49,7 +49,7 @@ pub fn open_link(
     };
     let rx = Rx {
         end: receives,
-        seat: other,
+        link_pass: other,
         job: Snapshot::of(job),
         link,
         doors: other_doors,

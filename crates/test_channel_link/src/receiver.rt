@@ -1,12 +1,12 @@
 //! The receiver's end.
 
 ghost use Rattle.std.specs.Prelude.{◌≡◌, IfOk, IfErr, IfSome};
-ghost use Rattle.luworld.specs.Progress.{IsBeginning};
+ghost use Rattle.luworld.specs.WorldViews.{IsPrefixOf};
 ghost use Rattle.lulink.specs.Lists.{list_of};
 ghost use Rattle.lulink.specs.Views.{IsNextToTake, IsWholeAt, HasTaken, HasTakenNothing, TakenOrNot};
 
 use crate::doors::Doors;
-use crate::rule::{Receives, Seat, Takes};
+use crate::rule::{LinkPass, Receives, Takes};
 use luflow::Msg;
 use lulink::{LinkNo, TakeError};
 use luplace::Job;
@@ -18,7 +18,7 @@ use std::thread;
 /// The receiver's end. A contract sees its job and link, the capacity, and what was taken. An end that is dropped leaves.
 pub struct Rx {
     pub(crate) end: Receives,
-    pub(crate) seat: Seat,
+    pub(crate) link_pass: LinkPass,
     pub(crate) job: Snapshot<Job>,
     pub(crate) link: LinkNo,
     pub(crate) doors: Arc<Doors>,
@@ -49,7 +49,7 @@ impl Rx {
         ensures taken { TakenOrNot result self.old self.new }
         ensures whole { IfSome result (λ m. IsWholeAt m self.new) }
     {
-        match self.end.try_recv_as::<Takes, R>(rt, &mut self.seat) {
+        match self.end.try_recv_as::<Takes, R>(rt, &mut self.link_pass) {
             Ok(msg) => Some(msg),
             Err(_) => None,
         }
@@ -86,7 +86,7 @@ impl Rx {
 
     /// What was taken is a prefix of the link's list.
     pub fn taken_begins_law(&self)
-        ensures { IsBeginning self.now.taken (list_of self.now.job self.now.link) }
+        ensures { IsPrefixOf self.now.taken (list_of self.now.job self.now.link) }
     {
         let _link = self.link;
     }
@@ -99,7 +99,7 @@ impl Drop for Rx {
     fn drop(self) {
         let Rx {
             end: _,
-            seat: _,
+            link_pass: _,
             job: _,
             link: _,
             doors,

@@ -21,7 +21,7 @@ pub enum Role {
 }
 
 /// What a pass knows: its role, the channel's capacity, the link's list, and what its end has put or taken. No value of it is made.
-pub struct Progress {
+pub struct PassState {
     pub role: Role,
     pub room: u64,
     pub list: LinkedList<Msg>,
@@ -30,7 +30,7 @@ pub struct Progress {
 
 pub struct InOrder;
 
-impl Protocol<Msg, Progress> for InOrder {
+impl Protocol<Msg, PassState> for InOrder {
     ghost use Rattle.test_channel_link.specs.Links.{fresh, Linked};
 
     ghost holds = { Linked };
@@ -38,11 +38,11 @@ impl Protocol<Msg, Progress> for InOrder {
     ghost first = { fresh };
 }
 
-pub type Sends = RuledSender<Msg, Progress, InOrder>;
+pub type Sends = RuledSender<Msg, PassState, InOrder>;
 
-pub type Receives = RuledReceiver<Msg, Progress, InOrder>;
+pub type Receives = RuledReceiver<Msg, PassState, InOrder>;
 
-pub type Seat = Pass<Msg, Progress>;
+pub type LinkPass = Pass<Msg, PassState>;
 
 /// The list of one link, and the capacity. Each call that opens a link picks them.
 pub trait Terms {
@@ -66,7 +66,7 @@ pub struct TwoEnds<J> {
     of: PhantomData<J>,
 }
 
-impl<J: Terms> Split<Progress> for TwoEnds<J> {
+impl<J: Terms> Split<PassState> for TwoEnds<J> {
     ghost use Rattle.std.specs.Prelude.{[]};
     ghost use Rattle.test_channel_link.specs.Links.{sender, receiver};
 
@@ -78,11 +78,11 @@ impl<J: Terms> Split<Progress> for TwoEnds<J> {
 /// Cuts the opener's pass into the sender's and the receiver's, which know the link's list.
 pub fn part<J: Terms>(
     end: &Sends,
-    first: &mut Seat,
+    first: &mut LinkPass,
     job: &Job,
     link: usize,
     capacity: usize,
-) -> Seat
+) -> LinkPass
     requires channel { IsSeatAt (sends_on end.now) first.old × (view first.old ≡ fresh) }
     requires terms { (J.list ≡ list_of job.now link) × (J.room ≡ capacity) }
     ensures sender { IsSeatAt (sends_on end.now) first.new
@@ -96,25 +96,25 @@ pub fn part<J: Terms>(
 /// A send adds its message to what was put.
 pub struct Puts;
 
-impl Outcome<Msg, Progress> for Puts {
+impl Outcome<Msg, PassState> for Puts {
     ghost use Rattle.test_channel_link.specs.Links.{HasSent};
 
     ghost then = { HasSent };
 }
 
-impl Lesson<Msg, Progress> for Puts {
+impl Lesson<Msg, PassState> for Puts {
     ghost fact = { λ v items. Unit {0} };
 }
 
 /// A receive adds its message, which is the list's next, to what was taken.
 pub struct Takes;
 
-impl Outcome<Msg, Progress> for Takes {
+impl Outcome<Msg, PassState> for Takes {
     ghost use Rattle.test_channel_link.specs.Links.{HasReceived};
 
     ghost then = { HasReceived };
 }
 
-impl Lesson<Msg, Progress> for Takes {
+impl Lesson<Msg, PassState> for Takes {
     ghost fact = { λ v items. Unit {0} };
 }

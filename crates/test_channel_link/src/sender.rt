@@ -1,12 +1,12 @@
 //! The sender's end.
 
 ghost use Rattle.std.specs.Prelude.{◌≡◌, IfOk, IfErr};
-ghost use Rattle.luworld.specs.Progress.{IsBeginning};
+ghost use Rattle.luworld.specs.WorldViews.{IsPrefixOf};
 ghost use Rattle.lulink.specs.Lists.{list_of};
 ghost use Rattle.lulink.specs.Views.{IsNextToPut, HasPut, HasPutNothing, PutOrBack};
 
 use crate::doors::Doors;
-use crate::rule::{Puts, Receives, Seat, Sends};
+use crate::rule::{LinkPass, Puts, Receives, Sends};
 use luflow::Msg;
 use lulink::{LinkNo, Offer, PutError};
 use luplace::Job;
@@ -18,7 +18,7 @@ use std::thread;
 /// The sender's end. A contract sees its job and link, the capacity, and what was put. An end that is dropped leaves.
 pub struct Tx {
     pub(crate) end: Sends,
-    pub(crate) seat: Seat,
+    pub(crate) link_pass: LinkPass,
     pub(crate) job: Snapshot<Job>,
     pub(crate) link: LinkNo,
     pub(crate) doors: Arc<Doors>,
@@ -52,7 +52,10 @@ impl Tx {
         requires { IsNextToPut self.old msg }
         ensures put { PutOrBack result msg self.old self.new }
     {
-        match self.end.try_send_as::<Puts, R>(rt, &mut self.seat, msg) {
+        match self
+            .end
+            .try_send_as::<Puts, R>(rt, &mut self.link_pass, msg)
+        {
             Ok(()) => Offer::Done,
             Err(e) => Offer::Full(e.into_inner()),
         }
@@ -91,7 +94,7 @@ impl Tx {
 
     /// What was put is a prefix of the link's list.
     pub fn put_begins_law(&self)
-        ensures { IsBeginning self.now.put (list_of self.now.job self.now.link) }
+        ensures { IsPrefixOf self.now.put (list_of self.now.job self.now.link) }
     {
         let _link = self.link;
     }
@@ -104,7 +107,7 @@ impl Drop for Tx {
     fn drop(self) {
         let Tx {
             end: _,
-            seat: _,
+            link_pass: _,
             job: _,
             link: _,
             doors,

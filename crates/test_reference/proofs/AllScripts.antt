@@ -6,9 +6,9 @@ use Rattle.std.proofs.lemmas.Bool.{cases_lt}
 use Rattle.std.proofs.lemmas.List.{length-map, take-map}
 use Rattle.std.proofs.lemmas.List.FromFn.{length-map-range_with_len, get_or-map-range_with_len}
 use Rattle.std.proofs.lemmas.Option.{slice_get_past}
-use Rattle.luworld.specs.World.{Item}
+use Rattle.luworld.specs.Systems.{Item}
 use Rattle.luworld.specs.Needs.{sites_of}
-use Rattle.luworld.specs.Runs.{Run, IsRun, script, streams_of}
+use Rattle.luworld.specs.Jobs.{JobView, IsJobView, script, streams_of}
 use Rattle.luworld.proofs.Fitting.{job_of_run}
 use Rattle.luworld.proofs.Outlines.{is_wired}
 use Rattle.test_reference.specs.declared.item.Item.{Item as CodeItem}
@@ -21,7 +21,7 @@ seen_in [] s = refl
 seen_in (row ∷ rows) zero = refl
 seen_in (row ∷ rows) (suc s) = seen_in rows s
 
-pub scripts_are : (job : Run) (n k : ℕ) (rows : List (List CodeItem)) → IsRun job → n ≡ sites_of job.plan → n ≤ k → k ≤ n → map (map as_item) rows ≡ map (script job (streams_of job)) (range_with_len 0 k) → AreScripts job rows
+pub scripts_are : (job : JobView) (n k : ℕ) (rows : List (List CodeItem)) → IsJobView job → n ≡ sites_of job.plan → n ≤ k → k ≤ n → map (map as_item) rows ≡ map (script job (streams_of job)) (range_with_len 0 k) → AreScripts job rows
 scripts_are job n k rows run en nk kn are = record {
   each = λ s.
       let f = script job (streams_of job) in
@@ -36,7 +36,7 @@ scripts_are job n k rows run en nk kn are = record {
 }
 
 -- the items that pass a test, among the first n of a site
-pub counted_in : (p : Item → Bool) (job : Run) (rows : List (List CodeItem)) (s n : ℕ) → AreScripts job rows → count_by (λ item. p (as_item item)) (take n (script_in rows s)) ≡ count_by p (take n (script job (streams_of job) s))
+pub counted_in : (p : Item → Bool) (job : JobView) (rows : List (List CodeItem)) (s n : ℕ) → AreScripts job rows → count_by (λ item. p (as_item item)) (take n (script_in rows s)) ≡ count_by p (take n (script job (streams_of job) s))
 counted_in p job rows s n are =
     sym (count_by-map p as_item (take n (script_in rows s)))
     ∙ ap (count_by p) (sym (take-map as_item n (script_in rows s)) ∙ ap (take n) (are.each s))

@@ -6,7 +6,7 @@ use Rattle.std.specs.Option.{option_map}
 use Rattle.std.proofs.lemmas.Option.{get_or_from_slice_get, slice_get_within, same_Some}
 use Rattle.std.proofs.lemmas.List.FromFn.{length-map-range_with_len}
 use Rattle.luworld.specs.declared.link.Link.{Link}
-use Rattle.luworld.specs.Runs.{Run, IsRun, streams_of, carried, link_list, messages_of}
+use Rattle.luworld.specs.Jobs.{JobView, IsJobView, streams_of, carried, link_list, messages_of}
 use Rattle.luworld.proofs.Fitting.{job_of_run}
 use Rattle.luflow.specs.Streams as streams
 use Rattle.luflow.specs.Messages.{marks, messages}
@@ -15,7 +15,7 @@ use Rattle.std.specs.Prelude.{slice_index, All, Contains}
 use Rattle.std.proofs.lemmas.Bool.{cases_lt}
 use Rattle.std.proofs.lemmas.List.Elements.{All-weaker}
 use Rattle.luflow.specs.declared.form.Flow.{Flow}
-use Rattle.luflow.specs.Program.{FlatProgram, Table, IsOrdered, flow_at, flows_of, places, clock_reads, form_reads, reads}
+use Rattle.luflow.specs.Program.{FlatView, InputsView, IsOrdered, flow_at, flows_of, places, clock_reads, form_reads, reads}
 use Rattle.luflow.specs.declared.form.Clock.{Clock}
 use Rattle.luflow.specs.Streams.{Streams, clock_at}
 use Rattle.luflow.specs.Solution.{says, solution, clock_of_flow}
@@ -26,7 +26,7 @@ use Rattle.test_reference.specs.AsMark.{as_mark}
 use Rattle.test_reference.specs.Grids.{held, IsWith}
 use Rattle.test_reference.specs.Filled.{IsFilled, IsFilledTo, IsWhole}
 
-module _ (flat : FlatProgram) (inputs : Table) (ordered : IsOrdered flat) where
+module _ (flat : FlatView) (inputs : InputsView) (ordered : IsOrdered flat) where
   abbrev σ : Streams
   σ = solution flat inputs
 
@@ -85,14 +85,14 @@ module _ (flat : FlatProgram) (inputs : Table) (ordered : IsOrdered flat) where
     ];
   }
 
-pub filled_start : (flat : FlatProgram) (inputs : Table) (grid : Grid) → grid.width ≡ flows_of flat → IsFilled flat inputs grid 0
+pub filled_start : (flat : FlatView) (inputs : InputsView) (grid : Grid) → grid.width ≡ flows_of flat → IsFilled flat inputs grid 0
 filled_start flat inputs grid w = record { width = w; past = λ i u li lu. absurd (omega arith) }
 
-pub marks_same : (flat : FlatProgram) (inputs : Table) (grid : Grid) (n i : ℕ) → IsFilled flat inputs grid n → i < flows_of flat → marks (held grid i) n ≡ marks (solution flat inputs i) n
+pub marks_same : (flat : FlatView) (inputs : InputsView) (grid : Grid) (n i : ℕ) → IsFilled flat inputs grid n → i < flows_of flat → marks (held grid i) n ≡ marks (solution flat inputs i) n
 marks_same flat inputs grid n i f l = map_same (held grid i) (solution flat inputs i) n (λ t lt. f.past i t l lt)
 
 -- the same, by the lists that a program has at hand
-pub filled_by : (flat : FlatProgram) (inputs : Table) → IsOrdered flat → (old new : Grid) (t q : ℕ) (flows : List Flow) (order : List ℕ) (d : Flow) (mark : Mark) → flows ≡ flat.flows → order ≡ flat.order → IsFilledTo flat inputs old t q → q < length order → as_mark mark ≡ says inputs (held old) (Some (get_or flows (slice_index order q) d)) t → IsWith old new (slice_index order q) t mark → IsFilledTo flat inputs new t (q + 1)
+pub filled_by : (flat : FlatView) (inputs : InputsView) → IsOrdered flat → (old new : Grid) (t q : ℕ) (flows : List Flow) (order : List ℕ) (d : Flow) (mark : Mark) → flows ≡ flat.flows → order ≡ flat.order → IsFilledTo flat inputs old t q → q < length order → as_mark mark ≡ says inputs (held old) (Some (get_or flows (slice_index order q) d)) t → IsWith old new (slice_index order q) t mark → IsFilledTo flat inputs new t (q + 1)
 filled_by flat inputs ordered old new t q flows order d mark ef eo to lq m with' =
     let lq' : q < length flat.order = subst (λ (xs : List ℕ). q < length xs) eo lq in
     let place : slice_index order q ≡ slice_index flat.order q = ap (λ (xs : List ℕ). slice_index xs q) eo in
@@ -101,35 +101,35 @@ filled_by flat inputs ordered old new t q flows order d mark ef eo to lq m with'
     let with'' : IsWith old new (slice_index flat.order q) t mark = subst (λ (i : ℕ). IsWith old new i t mark) place with' in
     filled_more flat inputs ordered old new t q w.0 mark to lq' w.1 (m ∙ ap (λ (f : Flow). says inputs (held old) (Some f) t) is) with''
 
-pub whole_of : (job : Run) (flat : FlatProgram) (inputs : Table) (n : ℕ) (r : Result Grid AllocError) → IsRun job → flat ≡ job.plan.flat → inputs ≡ job.inputs → n ≡ job.inputs.instants → IfOk r (λ grid. IsFilled flat inputs grid n) → IfOk r (λ grid. grid.instants ≡ n) → IfOk r (IsWhole job)
+pub whole_of : (job : JobView) (flat : FlatView) (inputs : InputsView) (n : ℕ) (r : Result Grid AllocError) → IsJobView job → flat ≡ job.plan.flat → inputs ≡ job.inputs → n ≡ job.inputs.instants → IfOk r (λ grid. IsFilled flat inputs grid n) → IfOk r (λ grid. grid.instants ≡ n) → IfOk r (IsWhole job)
 whole_of job flat inputs n (Err e) run ef ei en f s = tt
 whole_of job flat inputs n (Ok grid) run ef ei en f s =
-    let f1 = subst (λ (p : FlatProgram). IsFilled p inputs grid n) ef f in
-    let f2 = subst (λ (t : Table). IsFilled job.plan.flat t grid n) ei f1 in
+    let f1 = subst (λ (p : FlatView). IsFilled p inputs grid n) ef f in
+    let f2 = subst (λ (t : InputsView). IsFilled job.plan.flat t grid n) ei f1 in
     record { filled = subst (λ (k : ℕ). IsFilled job.plan.flat job.inputs grid k) en f2; sized = s ∙ en; few = run.table_is.few }
 
 -- the marks of a flow, as they are in a job's grid
-pub whole_marks : (job : Run) (grid : Grid) (i : ℕ) → IsWhole job grid → i < flows_of job.plan.flat → marks (held grid i) grid.instants ≡ marks (streams_of job i) job.inputs.instants
+pub whole_marks : (job : JobView) (grid : Grid) (i : ℕ) → IsWhole job grid → i < flows_of job.plan.flat → marks (held grid i) grid.instants ≡ marks (streams_of job i) job.inputs.instants
 whole_marks job grid i w l = ap (λ (n : ℕ). marks (held grid i) n) w.sized ∙ marks_same job.plan.flat job.inputs grid job.inputs.instants i w.filled l
 
 pub length-marks : (s : ℕ → streams.Mark) (n : ℕ) → length (marks s n) ≡ n
 length-marks s n = length-map-range_with_len s 0 n
 
-pub flow_inside : (job : Run) (l : ℕ) (k : Link) → IsRun job → slice_get job.plan.links l ≡ Some k → k.flow < flows_of job.plan.flat
+pub flow_inside : (job : JobView) (l : ℕ) (k : Link) → IsJobView job → slice_get job.plan.links l ≡ Some k → k.flow < flows_of job.plan.flat
 flow_inside job l k run is =
     let e : carried job.plan l ≡ k.flow = ap (λ (o : Option Link). unwrap_or (option_map (λ (x : Link). x.flow) o) 0) is in
     subst (λ (n : ℕ). n < flows_of job.plan.flat) e (let c = (job_of_run job run).is_plan.carries l (slice_get_within job.plan.links l k is) in let v = (job_of_run job run).is_plan.variables_first in omega (arith, c, v))
 
-pub list_there : (job : Run) (l : ℕ) (k : Link) → slice_get job.plan.links l ≡ Some k → link_list job (streams_of job) l ≡ messages 0 (marks (streams_of job k.flow) job.inputs.instants)
+pub list_there : (job : JobView) (l : ℕ) (k : Link) → slice_get job.plan.links l ≡ Some k → link_list job (streams_of job) l ≡ messages 0 (marks (streams_of job k.flow) job.inputs.instants)
 unfolding link_list
 list_there job l k is = ap (λ (o : Option Link). messages_of job (streams_of job) (option_map (λ (x : Link). x.flow) o)) is
 
-pub list_none : (job : Run) (l : ℕ) → slice_get job.plan.links l ≡ None → link_list job (streams_of job) l ≡ []
+pub list_none : (job : JobView) (l : ℕ) → slice_get job.plan.links l ≡ None → link_list job (streams_of job) l ≡ []
 unfolding link_list
 list_none job l is = ap (λ (o : Option Link). messages_of job (streams_of job) (option_map (λ (x : Link). x.flow) o)) is
 
 -- a clock, read from a grid that has all marks
-pub clock_held : (flat : FlatProgram) (inputs : Table) (grid : Grid) (i t : ℕ) (k : Clock) → IsOrdered flat → IsFilled flat inputs grid inputs.instants → t < inputs.instants
+pub clock_held : (flat : FlatView) (inputs : InputsView) (grid : Grid) (i t : ℕ) (k : Clock) → IsOrdered flat → IsFilled flat inputs grid inputs.instants → t < inputs.instants
     → option_map (λ (f : Flow). f.clock) (flow_at flat i) ≡ Some k → clock_at inputs (held grid) k t ≡ clock_of_flow inputs (solution flat inputs) (flow_at flat i) t
 clock_held flat inputs grid i t k ordered filled lt at = go (flow_at flat i) refl at
   where

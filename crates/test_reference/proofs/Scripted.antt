@@ -7,16 +7,16 @@ use Rattle.std.proofs.lemmas.Bool.{eq-eqb, ne_eqb}
 use Rattle.std.proofs.lemmas.List.{map-append}
 use Rattle.std.proofs.lemmas.Simd.{map-map}
 use Rattle.std.proofs.lemmas.List.Folds.{fold-map}
-use Rattle.luworld.specs.World as world
+use Rattle.luworld.specs.Systems as world
 use Rattle.luworld.specs.Outline.{Outline, message_items, messages_from}
-use Rattle.luworld.specs.Needs.{Distribution, home}
-use Rattle.luworld.specs.Runs.{Run, outline, streams_of, carriers, receiver_of}
+use Rattle.luworld.specs.Needs.{PlanView, home}
+use Rattle.luworld.specs.Jobs.{JobView, outline, streams_of, carriers, receiver_of}
 use Rattle.luworld.proofs.Rounds.{range_more, one_more}
 use Rattle.test_reference.specs.declared.item.Item.{Item}
 use Rattle.test_reference.specs.declared.item.Item.TheVariants.{Put, Take}
 use Rattle.test_reference.specs.AsItem.{as_item}
 
-module _ (job : Run) (site flow : ℕ) where
+module _ (job : JobView) (site flow : ℕ) where
   pub puts_are : (links : List ℕ) (r : Result (Vec Item Global) AllocError) → links ≡ carriers job.plan flow → home job.plan flow ≡ site → IfOk r (λ items. items.items ≡ map (λ link. Put link) links) → IfOk r (λ items. map as_item items.items ≡ message_items (outline job (streams_of job)) site flow)
   puts_are links (Err e) l h are = tt
   puts_are links (Ok items) l h are =
@@ -24,10 +24,10 @@ module _ (job : Run) (site flow : ℕ) where
       ap (map as_item) are ∙ map-map as_item (λ link. Put link) links ∙ ap (map world.Puts) l
       ∙ sym (ap (λ b. cond b (map world.Puts (carriers job.plan flow)) takes) (eq-eqb (home job.plan flow) site h))
 
-  pub takes_are : (plan : Distribution) (links : List ℕ) (r : Result (Vec Item Global) AllocError) → plan ≡ job.plan → links ≡ carriers job.plan flow → home job.plan flow ≢ site → IfOk r (λ items. items.items ≡ map (λ link. Take link) (filter (λ link. nat_eq (receiver_of plan link) site) links)) → IfOk r (λ items. map as_item items.items ≡ message_items (outline job (streams_of job)) site flow)
+  pub takes_are : (plan : PlanView) (links : List ℕ) (r : Result (Vec Item Global) AllocError) → plan ≡ job.plan → links ≡ carriers job.plan flow → home job.plan flow ≢ site → IfOk r (λ items. items.items ≡ map (λ link. Take link) (filter (λ link. nat_eq (receiver_of plan link) site) links)) → IfOk r (λ items. map as_item items.items ≡ message_items (outline job (streams_of job)) site flow)
   takes_are plan links (Err e) p l h are = tt
   takes_are plan links (Ok items) p l h are =
-      let into : Distribution → List ℕ → List ℕ = λ d ls. filter (λ link. nat_eq (receiver_of d link) site) ls in
+      let into : PlanView → List ℕ → List ℕ = λ d ls. filter (λ link. nat_eq (receiver_of d link) site) ls in
       ap (map as_item) are ∙ map-map as_item (λ link. Take link) (into plan links) ∙ ap₂ (λ d ls. map world.Takes (into d ls)) p l
       ∙ sym (ap (λ b. cond b (map world.Puts (carriers job.plan flow)) (map world.Takes (into job.plan (carriers job.plan flow)))) (ne_eqb (home job.plan flow) site h))
 

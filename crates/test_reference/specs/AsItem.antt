@@ -1,5 +1,5 @@
 -- The items of the code are those of the definitions.
-use Rattle.luworld.specs.World as world
+use Rattle.luworld.specs.Systems as world
 use Rattle.test_reference.specs.declared.item.Item.{Item}
 use Rattle.test_reference.specs.declared.item.Item.TheVariants.{Compute, Put, Take}
 

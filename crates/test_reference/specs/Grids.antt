@@ -7,7 +7,8 @@ use Rattle.test_reference.specs.AsMark.{as_mark, mark_there}
 
 -- the streams that a grid holds: broken where it has no cell
 abbrev pub held : Grid → Streams
-held grid i t = cond (nat_lt i grid.width) (mark_there (slice_get grid.cells.items (t * grid.width + i))) Broken
+held grid i t =
+    cond (nat_lt i grid.width) (mark_there (slice_get grid.cells.items (t * grid.width + i))) Broken
 
 -- a grid with one cell changed
 pub record IsWith (old new : Grid) (i t : ℕ) (mark : Mark) : Type 0 where

@@ -2,7 +2,7 @@
 
 ghost use Rattle.std.specs.Prelude.{◌≡◌, ◌<◌, IfOk, filter, map, nat_eq, option_map, slice_get};
 ghost use Rattle.luworld.specs.Outline.{compute_items, flow_items, message_items, round_cell};
-ghost use Rattle.luworld.specs.Runs.{carriers, is_open, outline, receiver_of, streams_of};
+ghost use Rattle.luworld.specs.Jobs.{carriers, is_open, outline, receiver_of, streams_of};
 ghost use Rattle.test_reference.specs.AsItem.{as_item};
 ghost use Rattle.test_reference.specs.Filled.{IsWhole};
 

@@ -3,7 +3,7 @@
 ghost use Rattle.std.specs.Prelude.{◌≡◌, ◌<◌, ◌^◌, IfOk, length, map};
 ghost use Rattle.luflow.specs.Messages.{marks, messages};
 ghost use Rattle.luflow.specs.Program.{flows_of};
-ghost use Rattle.luworld.specs.Runs.{link_list, streams_of};
+ghost use Rattle.luworld.specs.Jobs.{link_list, streams_of};
 ghost use Rattle.test_reference.specs.AsMark.{as_mark};
 
 use crate::filling::whole;

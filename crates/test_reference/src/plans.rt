@@ -2,7 +2,7 @@
 
 ghost use Rattle.std.specs.Prelude.{◌≡◌, slice_get, slice_index};
 ghost use Rattle.luworld.specs.Needs.{home};
-ghost use Rattle.luworld.specs.Runs.{carried, receiver_of};
+ghost use Rattle.luworld.specs.Jobs.{carried, receiver_of};
 
 use luplace::Plan;
 use luworld::Link;

@@ -2,8 +2,8 @@
 
 ghost use Rattle.std.specs.Prelude.{◌≡◌, ◌&&◌, [], IfOk, cond, count_by, map, nat_lt};
 ghost use Rattle.luworld.specs.Outline.{cut, full_script, list_length, round, stops};
-ghost use Rattle.luworld.specs.Runs.{outline, script, streams_of};
-ghost use Rattle.luworld.specs.World.{takes};
+ghost use Rattle.luworld.specs.Jobs.{outline, script, streams_of};
+ghost use Rattle.luworld.specs.Systems.{takes};
 ghost use Rattle.luflow.specs.Streams.{is_broken};
 ghost use Rattle.test_reference.specs.AsMark.{as_mark};
 ghost use Rattle.test_reference.specs.AsItem.{as_item};

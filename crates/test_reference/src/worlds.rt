@@ -3,8 +3,8 @@
 
 ghost use Rattle.std.specs.Prelude.{◌≡◌, ◌+◌, IfOk, Some, count_by, nat_lt, slice_set, take};
 ghost use Rattle.luworld.specs.Needs.{sites_of};
-ghost use Rattle.luworld.specs.Runs.{IsRun, system_of};
-ghost use Rattle.luworld.specs.World.{done, moved_if, put_count, puts, reached, step, taken_count, takes, turn_at};
+ghost use Rattle.luworld.specs.Jobs.{IsJobView, system_of};
+ghost use Rattle.luworld.specs.Systems.{done, moved_if, put_count, puts, reached, step, taken_count, takes, turn_at};
 ghost use Rattle.test_reference.specs.AsItem.{as_item};
 ghost use Rattle.test_reference.specs.Scripts.{AreScripts, script_in};
 
@@ -40,7 +40,7 @@ pub fn scripts_of(alloc: Global, job: &Job) -> Result<Vec<Row<Item>>, AllocError
 /// The number of the sites.
 fn sites_of(job: &Job) -> u8
     ensures sites { result ≡ sites_of job.now.plan }
-    ensures run { IsRun job.now }
+    ensures run { IsJobView job.now }
 {
     let _flat = job.plan().flat();
     job.plan().sites().len() as u8

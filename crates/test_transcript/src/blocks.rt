@@ -36,7 +36,7 @@ struct Meeting {
 }
 
 /// Waits until a site has been named. False where it isn't.
-fn is_told(count: &AtomicU64) -> bool {
+fn is_reported(count: &AtomicU64) -> bool {
     for _ in 0..LOOKS {
         if count.load(Ordering::SeqCst) > 0 {
             return true;
@@ -55,7 +55,7 @@ impl Gate for Meeting {
         } else {
             (&self.second, &self.first)
         };
-        if own.fetch_add(1, Ordering::SeqCst) == 0 && self.meet && !is_told(other) {
+        if own.fetch_add(1, Ordering::SeqCst) == 0 && self.meet && !is_reported(other) {
             self.failed.store(1, Ordering::SeqCst);
         }
     }
@@ -256,13 +256,13 @@ fn fed(feeders: (Feeder<'_>, Feeder<'_>)) -> bool {
 }
 
 /// Writes what a station reports: the outputs, by the numbers of their variables.
-fn put_told(rt: &HostRuntime, report: Option<RowReport>) -> io::Result<()> {
+fn put_reported(rt: &HostRuntime, report: Option<RowReport>) -> io::Result<()> {
     let Some(report) = report else {
         return println!(rt; "= cut");
     };
     println!(rt; "= ended")?;
-    for told in report.into_outputs() {
-        put_output(rt, told.0, &told.1)?;
+    for reported in report.into_outputs() {
+        put_output(rt, reported.0, &reported.1)?;
     }
     Ok(())
 }
@@ -285,7 +285,7 @@ fn put_sender<R: Threads + Wait + Sync>(threads: &R, rt: &HostRuntime, job: &Job
         move || gone_on(threads, station),
         move || taken_from(threads, ends, rooms),
     );
-    put_told(rt, report)?;
+    put_reported(rt, report)?;
     put_taken(rt, &first, first.len())?;
     put_taken(rt, &second, second.len())
 }
@@ -307,7 +307,7 @@ fn put_receiver<R: Threads + Wait + Sync>(
         move || gone_on(threads, station),
         move || fed(feeders),
     );
-    put_told(rt, report)?;
+    put_reported(rt, report)?;
     println!(rt;
         "{}",
         if all {

@@ -3,8 +3,8 @@
 
 ghost use Rattle.std.specs.Prelude.{◌≡◌, ◌≤◌, ◌+◌, IfSome, ℕ, count_by, length, slice_get, take};
 ghost use Rattle.std.specs.Thread.{IsSync};
-ghost use Rattle.luworld.specs.Runs.{Run};
-ghost use Rattle.luworld.specs.World.{takes};
+ghost use Rattle.luworld.specs.Jobs.{JobView};
+ghost use Rattle.luworld.specs.Systems.{takes};
 ghost use Rattle.lulink.specs.Lists.{list_of};
 ghost use Rattle.test_reference.specs.AsItem.{as_item};
 ghost use Rattle.test_transcript.specs.Driven.{IsGiven, IsPlain};
@@ -116,7 +116,7 @@ fn message_at(list: &[Msg], number: usize) -> Option<Msg>
 
 /// What a site that has done so many items of its script is given from a link, by the lists of the first two.
 fn next_of(script: &[Item], first: &[Msg], second: &[Msg], link: usize, done: usize) -> Option<Msg>
-    ensures { (job : Run) (s : ℕ) → IsPlain job s script.now first.now second.now
+    ensures { (job : JobView) (s : ℕ) → IsPlain job s script.now first.now second.now
         → IfSome result (IsGiven job s link done) }
 {
     let number = takes_in(script, done, link);

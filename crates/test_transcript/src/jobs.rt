@@ -2,13 +2,13 @@
 
 use crate::lines::word;
 use luplace::Job;
-use lusdist_answers::Stop;
+use lusdist_answers::CallError;
 use lusdist_answers::jobs::job_for;
 use lusdist_answers::sources::{flat_of, job_of, plan_of};
 use lusdist_shell::Files;
 use std::alloc::Global;
 
-fn read_job(alloc: Global, program: &str, place: &str, table: &str) -> Result<Job, Stop> {
+fn read_job(alloc: Global, program: &str, place: &str, table: &str) -> Result<Job, CallError> {
     let flat = flat_of(alloc, program.as_bytes(), "main")?;
     let plan = plan_of(alloc, flat, place.as_bytes())?;
     job_of(alloc, plan, table.as_bytes())

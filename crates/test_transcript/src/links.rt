@@ -127,10 +127,10 @@ fn timed<R: Threads + Wait + Sync + Clock + Print>(
     requires list { list.now ≡ list_of job.now 0 }
 {
     let start = Instant::now(rt)?;
-    let told = done(rt, alloc, job, list, task);
+    let reported = done(rt, alloc, job, list, task);
     let nanos = nanos_since(rt, &start)?;
     let messages = (list.len() as u64).saturating_mul(u64::from(task.runs));
-    match told {
+    match reported {
         Ok(()) if task.runs > 1 => println!(rt; "= {messages} messages, {nanos} ns"),
         Ok(()) => println!(rt; "= {messages} messages"),
         Err(what) => println!(rt; "! {what}"),

@@ -171,7 +171,7 @@ fn put_written(rt: &HostRuntime, case: &Case<'_>) -> io::Result<()> {
 }
 
 /// Writes an output, what was written into files, behind `! ` what went to the error stream, and behind `= ` a status.
-fn put_told(
+fn put_reported(
     rt: &HostRuntime,
     case: &Case<'_>,
     out: &[u8],
@@ -208,7 +208,7 @@ fn put_answer<R: Threads + Wait + Clock + Sync>(
         &mut out,
         &mut err,
     );
-    put_told(rt, case, out.writer().bytes(), err.writer(), status)
+    put_reported(rt, case, out.writer().bytes(), err.writer(), status)
 }
 
 /// Does what a line says.

@@ -7,7 +7,7 @@ use crate::jobs::job_of_texts;
 use lubase::Row;
 use luflow::{Msg, Status};
 use luplace::Job;
-use lusdist_answers::{Stop, replayed};
+use lusdist_answers::{CallError, replayed};
 use luweave::World;
 use std::alloc::{AllocError, Global};
 use test_reference::{Item, Mark, Marks, list_of_link, marks_of, scripts_of, world_by};
@@ -131,7 +131,7 @@ fn world_agrees(
     scripts: &[Row<Item>],
     turns: &[u8],
     world: &World,
-) -> Result<bool, Stop>
+) -> Result<bool, CallError>
     requires scripts { AreScripts job.now scripts.now }
     requires world { world.now.job ≡ job.now }
 {
@@ -146,7 +146,7 @@ fn agrees(
     plain: &Plain,
     scripts: &[Row<Item>],
     turns: &[u8],
-) -> Result<bool, Stop>
+) -> Result<bool, CallError>
     requires { AreScripts job.now scripts.now }
 {
     let world = replayed(alloc, job, turns, false)?;
@@ -160,7 +160,7 @@ fn all_agree_after(
     plain: &Plain,
     scripts: &[Row<Item>],
     first: &[u8],
-) -> Result<bool, Stop>
+) -> Result<bool, CallError>
     requires { AreScripts job.now scripts.now }
 {
     for number in 0..6_561 {
@@ -176,7 +176,12 @@ fn all_agree_after(
 const FIRST: &[&[u8]] = &[&[], &[0, 0, 0, 0, 0, 1, 1, 1, 1, 1, 2, 2, 2, 2, 2]];
 
 /// Whether all agree behind each of these prefixes of a schedule.
-fn all_agree(alloc: Global, job: &Job, plain: &Plain, scripts: &[Row<Item>]) -> Result<bool, Stop>
+fn all_agree(
+    alloc: Global,
+    job: &Job,
+    plain: &Plain,
+    scripts: &[Row<Item>],
+) -> Result<bool, CallError>
     requires { AreScripts job.now scripts.now }
 {
     for first in FIRST {
@@ -188,13 +193,13 @@ fn all_agree(alloc: Global, job: &Job, plain: &Plain, scripts: &[Row<Item>]) -> 
 }
 
 /// Whether all agree, by the scripts of a job.
-fn all_agree_by(alloc: Global, job: &Job, plain: &Plain) -> Result<bool, Stop> {
+fn all_agree_by(alloc: Global, job: &Job, plain: &Plain) -> Result<bool, CallError> {
     let scripts = scripts_of(alloc, job)?;
     all_agree(alloc, job, plain, &scripts)
 }
 
 /// Whether all agree, of a job.
-fn all_agree_of(alloc: Global, job: &Job) -> Result<bool, Stop> {
+fn all_agree_of(alloc: Global, job: &Job) -> Result<bool, CallError> {
     let plain = plain_of(alloc, job)?;
     all_agree_by(alloc, job, &plain)
 }

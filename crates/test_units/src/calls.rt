@@ -28,7 +28,7 @@ impl Write for Full {
 const NO_MEMORY: (u8, &str) = (3, "R2 OutOfMemory\n");
 
 /// Whether words that can't be read for this reason have this status and line.
-fn is_unread_told(alloc: Global, why: io::ErrorKind, want: (u8, &str)) -> bool {
+fn is_unread_reported(alloc: Global, why: io::ErrorKind, want: (u8, &str)) -> bool {
     let mut err = Sink::new(Vec::new(alloc));
     put_unread(&mut err, why) == want.0 && err.writer().as_slice() == want.1.as_bytes()
 }
@@ -40,8 +40,8 @@ const NO_TEXT: (u8, &str) = (
 
 #[test]
 fn words_that_cannot_be_read_and_errors_that_cannot_be_written(rt: HostRuntime) {
-    assert!(rt; is_unread_told(rt.alloc(), io::ErrorKind::OutOfMemory, NO_MEMORY));
-    assert!(rt; is_unread_told(rt.alloc(), io::ErrorKind::InvalidData, NO_TEXT));
+    assert!(rt; is_unread_reported(rt.alloc(), io::ErrorKind::OutOfMemory, NO_MEMORY));
+    assert!(rt; is_unread_reported(rt.alloc(), io::ErrorKind::InvalidData, NO_TEXT));
     let mut err = Sink::new(Full);
     assert!(rt; put_unread(&mut err, io::ErrorKind::InvalidData) == 2 && err.failed());
     assert!(rt; put_out(&mut Sink::new(Full), &mut err, b"site A ended\n") == 3);

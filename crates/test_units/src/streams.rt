@@ -10,10 +10,10 @@ use std::alloc::{AllocError, Global};
 use std::test::Fail;
 
 /// The number of instants and the columns of a table.
-type Table = (u32, &'static [(&'static str, &'static [Datum])]);
+type ColumnsOf = (u32, &'static [(&'static str, &'static [Datum])]);
 
 /// The table, where it is one.
-fn inputs_of(alloc: Global, table: Table) -> Result<Option<Inputs>, AllocError> {
+fn inputs_of(alloc: Global, table: ColumnsOf) -> Result<Option<Inputs>, AllocError> {
     let mut columns = Vec::new(alloc);
     for (name, data) in table.1 {
         columns.push((
@@ -60,7 +60,12 @@ fn is_answer(alloc: Global, flat: &Flat, inputs: &Inputs, want: Want) -> bool {
 }
 
 /// Whether this is the answer at a table.
-fn is_answer_at(alloc: Global, flat: &Flat, table: Table, want: Want) -> Result<bool, AllocError> {
+fn is_answer_at(
+    alloc: Global,
+    flat: &Flat,
+    table: ColumnsOf,
+    want: Want,
+) -> Result<bool, AllocError> {
     match inputs_of(alloc, table)? {
         Some(inputs) => Ok(is_answer(alloc, flat, &inputs, want)),
         None => Ok(false),
@@ -68,7 +73,7 @@ fn is_answer_at(alloc: Global, flat: &Flat, table: Table, want: Want) -> Result<
 }
 
 /// Whether this is the answer of the program of a text at a table.
-fn is_answered(alloc: Global, text: &str, table: Table, want: Want) -> bool {
+fn is_answered(alloc: Global, text: &str, table: ColumnsOf, want: Want) -> bool {
     match flat_of(alloc, text) {
         Some(flat) => is_answer_at(alloc, &flat, table, want).unwrap_or(false),
         None => false,
@@ -99,7 +104,7 @@ const DIVISION: &str =
 const HELD_SAMPLE: &str =
     "node main(x: int) returns (y: int; z: int); var c: bool; s: int when c; let c = true -> not pre c; s = x when c; y = current s; z = merge c (true -> s) (false -> 0 when not c); tel";
 
-const ANSWERS: &[(&str, Table, Want)] = &[
+const ANSWERS: &[(&str, ColumnsOf, Want)] = &[
     (
         DIVISION,
         (2, &[("x", &[Datum::Int(1), Datum::Int(2)])]),
@@ -143,7 +148,7 @@ const ONES: (&str, &[Datum]) = ("x", ONE_TWICE);
 
 const TRUTHS: (&str, &[Datum]) = ("c", &[Datum::Bool(true), Datum::Bool(true)]);
 
-const TABLES: &[(Table, Option<bool>)] = &[
+const TABLES: &[(ColumnsOf, Option<bool>)] = &[
     ((2, &[ONES, TRUTHS]), Some(true)),
     // by names
     ((2, &[TRUTHS, ONES]), Some(false)),
@@ -163,7 +168,7 @@ const TABLES: &[(Table, Option<bool>)] = &[
 fn fits_so(
     alloc: Global,
     flat: &Flat,
-    table: Table,
+    table: ColumnsOf,
     want: Option<bool>,
 ) -> Result<bool, AllocError> {
     match inputs_of(alloc, table)? {
@@ -173,7 +178,7 @@ fn fits_so(
 }
 
 /// Whether a table fits the program `SAMPLES`, as is wanted.
-fn fits_samples(alloc: Global, table: Table, want: Option<bool>) -> bool {
+fn fits_samples(alloc: Global, table: ColumnsOf, want: Option<bool>) -> bool {
     match flat_of(alloc, SAMPLES) {
         Some(flat) => fits_so(alloc, &flat, table, want).unwrap_or(false),
         None => false,

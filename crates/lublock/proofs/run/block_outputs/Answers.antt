@@ -17,7 +17,7 @@ pub returns-in-Some-clause-tidy : goal.returns-in-Some-clause-tidy
 returns-in-Some-clause-tidy c = all_types c.args.flat.now c.args.inputs.now c.recall_invariant.ensures c.requires.fit
 
 pub returns-in-Some-clause-no_fault : goal.returns-in-Some-clause-no_fault
-returns-in-Some-clause-no_fault c = on_ok (HasNoFault c.args.flat.now c.args.inputs.now) c.told.result (no_fault c.args.flat.now c.args.inputs.now c.in-Some.columns.items c.recall_invariant.ensures c.requires.fit (search rules))
+returns-in-Some-clause-no_fault c = on_ok (HasNoFault c.args.flat.now c.args.inputs.now) c.reported.result (no_fault c.args.flat.now c.args.inputs.now c.in-Some.columns.items c.recall_invariant.ensures c.requires.fit (search rules))
 
 pub returns-in_default-clause-fault : goal.returns-in_default-clause-fault
 returns-in_default-clause-fault c = c.whole_outputs.ensures.fault

@@ -2,12 +2,12 @@ use Rattle.std.proofs.Common.{◌≡◌, ℕ, List, sym, ap, ◌∙◌, subst}
 use Rattle.luflow.specs.declared.form.Flow.{Flow}
 use Rattle.luflow.specs.declared.variable.Variable.{Variable}
 use Rattle.luflow.specs.declared.variable.Enum.{Enum}
-use Rattle.luflow.specs.Program.{FlatProgram}
+use Rattle.luflow.specs.Program.{FlatView}
 use Rattle.luflow.specs.Flats.{IsFlat}
 use Rattle.lublock_site.proofs.flats.flat_copy.Goals as goal
 
 -- a program is what its parts are
-from_parts : (flat : FlatProgram) (ts : List Enum) (fs : List Flow) (os ws : List ℕ) (vs : List Variable) → ts ≡ flat.types → fs ≡ flat.flows → os ≡ flat.order → ws ≡ flat.owners → vs ≡ flat.variables
+from_parts : (flat : FlatView) (ts : List Enum) (fs : List Flow) (os ws : List ℕ) (vs : List Variable) → ts ≡ flat.types → fs ≡ flat.flows → os ≡ flat.order → ws ≡ flat.owners → vs ≡ flat.variables
     → IsFlat flat → IsFlat (record { types = ts; flows = fs; order = os; owners = ws; variables = vs })
 from_parts flat ts fs os ws vs et ef eo ew ev is =
     let all : flat ≡ record { types = ts; flows = fs; order = os; owners = ws; variables = vs } =

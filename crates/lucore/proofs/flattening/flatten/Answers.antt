@@ -3,17 +3,17 @@ use Rattle.std.specs.Prelude.{All, slice_get, slice_index}
 use Rattle.luflow.specs.declared.form.Flow.{Flow}
 use Rattle.luflow.specs.declared.variable.Variable.{Variable}
 use Rattle.luflow.specs.declared.variable.Enum.{Enum}
-use Rattle.luflow.specs.Program.{reads, FlatProgram}
+use Rattle.luflow.specs.Program.{reads, FlatView}
 use Rattle.luflow.specs.Rank.{IsRankOrder, Chain}
 use Rattle.luflow.specs.Flats.{IsFlat}
 use Rattle.lutree.specs.Tree.{program_view}
 use Rattle.lucore_laws.specs.Answer.{IfOrdered, IfCyclic}
 use Rattle.lucore_laws.specs.Rank.{AreClosed, IsLeastOnCycle}
 use Rattle.lucore.specs.Result.{IsFlatOf}
-use Rattle.lucore.proofs.Told.{too_large, listed_for, are_closed, few_if, flat_is, has_owner, owners_in, cycle_told}
+use Rattle.lucore.proofs.Reported.{too_large, listed_for, are_closed, few_if, flat_is, has_owner, owners_in, cycle_reported}
 use Rattle.lucore.proofs.flattening.flatten.Goals as goal
 
-abbrev flat_record : List Enum → List Flow → List ℕ → List ℕ → List Variable → FlatProgram
+abbrev flat_record : List Enum → List Flow → List ℕ → List ℕ → List Variable → FlatView
 flat_record types flows order owners variables = record { types = types; flows = flows; order = order; owners = owners; variables = variables }
 
 pub returns-then-branch-clause-refuses : goal.returns-then-branch-clause-refuses
@@ -102,7 +102,7 @@ returns-in_ok-variable-in-Cyclic-clause-refuses c =
     let few = few_if p main laid accepted listed c.in_ok-is_too_large.field-0 c.in_ok-is_too_large.ensures.flows c.if-branch.false in
     let least = subst (λ fs. IsLeastOnCycle (map reads fs) c.in-Cyclic.place) c.deref.ensures.value (subst (λ r. IfCyclic r (IsLeastOnCycle (map reads c.deref.result.now))) c.in-Cyclic.is c.in_ok-order.ensures.cycle) in
     let place = c.in-Cyclic.place in
-    cycle_told p main laid accepted listed c.in_ok-variable-in-Cyclic.variable place few least (λ x there.
+    cycle_reported p main laid accepted listed c.in_ok-variable-in-Cyclic.variable place few least (λ x there.
     c.in_ok-variable-in-Cyclic.ensures x
     (ap (λ vs. slice_get vs (slice_index c.deref-in-Cyclic.result.now place)) c.deref-in-Cyclic-2.ensures.value
     ∙ ap (λ os. slice_get laid.variables.items (slice_index os place)) c.deref-in-Cyclic.ensures.value ∙ there))

@@ -3,7 +3,7 @@ use Rattle.std.proofs.lemmas.List.{length-set}
 use Rattle.luflow.specs.Tables.{OutputColumn, outputs_view}
 use Rattle.lueval_lines.specs.Columns.{lists_of}
 use Rattle.lueval_lines.specs.Outputs.{columns_in}
-use Rattle.lueval_lines.proofs.Told.{more}
+use Rattle.lueval_lines.proofs.Reported.{more}
 use Rattle.lueval_lines.proofs.Named.{Left, step, done, from_past}
 use Rattle.lueval_lines.proofs.outputs.taken_columns.Goals as goal
 

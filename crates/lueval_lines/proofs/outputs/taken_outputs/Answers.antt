@@ -3,7 +3,7 @@ use Rattle.std.proofs.lemmas.List.{length-set}
 use Rattle.luflow.specs.Tables.{OutputColumn, outputs_view}
 use Rattle.lueval_lines.specs.Columns.{lists_of}
 use Rattle.lueval_lines.specs.Outputs.{output_in, outputs_in}
-use Rattle.lueval_lines.proofs.Told.{From, step, done, more, from_past}
+use Rattle.lueval_lines.proofs.Reported.{From, step, done, more, from_past}
 use Rattle.lueval_lines.proofs.outputs.taken_outputs.Goals as goal
 
 pub loop-v-init : goal.loop-v-init

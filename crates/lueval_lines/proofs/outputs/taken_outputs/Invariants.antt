@@ -2,7 +2,7 @@ use Rattle.std.proofs.Common.{◌≡◌, ◌++◌, length}
 use Rattle.luflow.specs.Tables.{outputs_view}
 use Rattle.lueval_lines.specs.Columns.{lists_of}
 use Rattle.lueval_lines.specs.Outputs.{outputs_in}
-use Rattle.lueval_lines.proofs.Told.{From}
+use Rattle.lueval_lines.proofs.Reported.{From}
 use Rattle.lueval_lines.proofs.outputs.taken_outputs.Given as goal
 
 -- those so far, and those of the variables that are left, whose columns are as they were

@@ -1,6 +1,6 @@
 use Rattle.std.proofs.lemmas.Grind.{common_steps}
 use Rattle.std.proofs.Common.{◌<◌, ◌^◌, [], length, ap, sym, refl, ◌∙◌, subst, inl, arith}
-use Rattle.luworld.specs.Runs.{Run}
+use Rattle.luworld.specs.Jobs.{JobView}
 use Rattle.lulink.specs.Lists.{list_of}
 use Rattle.lulink.specs.declared.rule.Terms.{Terms}
 use Rattle.lulink.specs.declared.rule.Role.TheVariants.{Producer, Consumer}
@@ -15,7 +15,7 @@ vacant-requires c =
     let room = c.from-room.ensures in
     let some_room = c.requires in (
       (omega arith),
-      subst (λ (j : Run). length (list_of j c.args.link) < 2 ^ 62) (sym c.of.ensures) (small_list c.args.job.now c.args.link c.recall_invariant.ensures),
+      subst (λ (j : JobView). length (list_of j c.args.link) < 2 ^ 62) (sym c.of.ensures) (small_list c.args.job.now c.args.link c.recall_invariant.ensures),
       inl record { words = refl; homes = refl; views = refl },
     )
 
@@ -41,7 +41,7 @@ invariant_of-tx c =
             slots = ap (λ x. x.shared.table_id.slots) b ∙ e.1;
             room = omega arith;
             below = omega arith;
-            small = subst (λ (j : Run). length (list_of j c.args.link) < 2 ^ 62) (sym c.of.ensures) (small_list c.args.job.now c.args.link c.recall_invariant.ensures);
+            small = subst (λ (j : JobView). length (list_of j c.args.link) < 2 ^ 62) (sym c.of.ensures) (small_list c.args.job.now c.args.link c.recall_invariant.ensures);
           }
           (s.0 ∙ e.2 ∙ sym (ap (λ x. x.shared.table_id) b)) (s.2 ∙ ap (λ (m : Holding). (seated Producer m.0, m.1)) e.4) refl refl refl refl;
     }
@@ -63,7 +63,7 @@ invariant_of-rx c =
             slots = ap (λ x. x.shared.table_id.slots) b ∙ e.1;
             room = omega arith;
             below = omega arith;
-            small = subst (λ (j : Run). length (list_of j c.args.link) < 2 ^ 62) (sym c.of.ensures) (small_list c.args.job.now c.args.link c.recall_invariant.ensures);
+            small = subst (λ (j : JobView). length (list_of j c.args.link) < 2 ^ 62) (sym c.of.ensures) (small_list c.args.job.now c.args.link c.recall_invariant.ensures);
           }
           (s.3 ∙ e.2 ∙ sym (ap (λ x. x.shared.table_id) b)) (s.4 ∙ ap (λ (m : Holding). (seated Consumer m.0, [])) e.4) refl refl refl refl;
     }

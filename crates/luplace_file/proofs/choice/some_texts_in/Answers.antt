@@ -6,4 +6,4 @@ use Rattle.luplace_file.proofs.choice.some_texts_in.Goals as goal
 pub returns : goal.returns
 returns c =
     let some : 1 ≤ length c.args.values.now = search rules in
-    subst (λ told. Gives (or_bad_key told) c.texts_in.result) (some_texts_are c.args.values.now some) c.texts_in.ensures
+    subst (λ reported. Gives (or_bad_key reported) c.texts_in.result) (some_texts_are c.args.values.now some) c.texts_in.ensures

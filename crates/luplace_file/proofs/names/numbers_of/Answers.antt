@@ -10,14 +10,14 @@ loop-i-preserved-then-not-is_among c =
     let p : ℕ → Bool = λ site. is_among c.args.names.now (slice_index_or c.args.sites.now site []) in
     let within : c.loop-i.i < length c.args.sites.now = search rules in
     let name = c.as_str.ensures ∙ c.index-sites-i.is ∙ get_or_default c.args.sites.now c.loop-i.i c.index-sites-i.result [] within in
-    let told : c.is_among.result ≡ false = search rules in
-    c.loop-i.invariant ∙ filter_left p c.loop-i.i (ap (is_among c.args.names.now) (sym name) ∙ sym c.is_among.ensures ∙ told)
+    let reported : c.is_among.result ≡ false = search rules in
+    c.loop-i.invariant ∙ filter_left p c.loop-i.i (ap (is_among c.args.names.now) (sym name) ∙ sym c.is_among.ensures ∙ reported)
 
 pub loop-i-preserved : goal.loop-i-preserved
 loop-i-preserved c =
     let p : ℕ → Bool = λ site. is_among c.args.names.now (slice_index_or c.args.sites.now site []) in
     let within : c.loop-i.i < length c.args.sites.now = search rules in
     let name = c.as_str.ensures ∙ c.index-sites-i.is ∙ get_or_default c.args.sites.now c.loop-i.i c.index-sites-i.result [] within in
-    let told : c.is_among.result ≡ true = search rules in
+    let reported : c.is_among.result ≡ true = search rules in
     let pushed : c.push.new.self.items ≡ c.loop-i.numbers.items ++ c.loop-i.i ∷ [] = search rules in
-    pushed ∙ ap (λ ns. ns ++ c.loop-i.i ∷ []) c.loop-i.invariant ∙ filter_kept p c.loop-i.i (ap (is_among c.args.names.now) (sym name) ∙ sym c.is_among.ensures ∙ told)
+    pushed ∙ ap (λ ns. ns ++ c.loop-i.i ∷ []) c.loop-i.invariant ∙ filter_kept p c.loop-i.i (ap (is_among c.args.names.now) (sym name) ∙ sym c.is_among.ensures ∙ reported)

@@ -1,5 +1,5 @@
 use Rattle.std.proofs.Common.{rules, ◌≡◌, subst, true}
-use Rattle.luplace_file.specs.Content.{Placement}
+use Rattle.luplace_file.specs.Content.{PlaceView}
 use Rattle.luplace_file.specs.Rules.{stated, is_capacity}
 use Rattle.luplace_file.specs.Lawful.{IsLawful}
 use Rattle.luplace_file.proofs.LawfulLemmas.{stated_is_lawful, in_range_parts}
@@ -12,6 +12,6 @@ size_of-requires c =
 
 pub of_parts-requires : goal.of_parts-requires
 of_parts-requires c =
-    let made : Placement = record { sites = c.args.draft.sites; default = c.in_ok-default.default; capacity = c.size_of.result; place = c.in_ok-entries.entries } in
+    let made : PlaceView = record { sites = c.args.draft.sites; default = c.in_ok-default.default; capacity = c.size_of.result; place = c.in_ok-entries.entries } in
     let same : stated c.args.draft ≡ made = search rules in
     subst IsLawful same (stated_is_lawful c.args.draft c.requires.drafted c.requires.in_range c.requires.differ c.requires.known)

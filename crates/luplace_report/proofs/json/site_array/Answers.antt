@@ -7,13 +7,13 @@ use Rattle.luplace_report.proofs.json.site_array.Goals as goal
 
 pub loop-site-preserved : goal.loop-site-preserved
 loop-site-preserved c =
-    let told : ℕ → Data = λ s. string (site_name c.args.names.now s) in
+    let reported : ℕ → Data = λ s. string (site_name c.args.names.now s) in
     let sites = c.args.sites.now in
     let k = c.loop-site.site-index in
-    taken_more view told sites k 0 (get_or sites k 0) c.loop-site.values.items c.push.new.self.items c.in_ok-try_from_str.field-0
+    taken_more view reported sites k 0 (get_or sites k 0) c.loop-site.values.items c.push.new.self.items c.in_ok-try_from_str.field-0
     c.loop-site-test.true refl c.loop-site.invariant c.in_ok-push.ensures.items (c.in_ok-try_from_str.ensures ∙ ap string c.site_name.ensures)
 
 pub returns : goal.returns
 returns c =
-    let told : ℕ → Data = λ s. string (site_name c.args.names.now s) in
-    all_taken told c.args.sites.now c.loop-site.site-index c.loop-site.values c.loop-site.invariant c.loop-site-test.false
+    let reported : ℕ → Data = λ s. string (site_name c.args.names.now s) in
+    all_taken reported c.args.sites.now c.loop-site.site-index c.loop-site.values c.loop-site.invariant c.loop-site-test.false

@@ -1,40 +1,40 @@
 use Rattle.std.proofs.Common.{◌≡◌, ℕ, suc, ◌+◌, ◌∷◌, [], length, length-append, sym, ap, ◌∙◌, subst, rules, arith}
 use Rattle.std.specs.Prelude.{slice_get, vec_len}
-use Rattle.luworld.specs.Needs.{Distribution, sites_of}
+use Rattle.luworld.specs.Needs.{PlanView, sites_of}
 use Rattle.lurun_threads.specs.Stations.{IsStationOf}
-use Rattle.lurun.specs.Making.{IsBench}
-use Rattle.lurun.proofs.Benches.{new_station}
+use Rattle.lurun.specs.Making.{IsAssembly}
+use Rattle.lurun.proofs.Assemblies.{new_station}
 use Rattle.lurun_reports.proofs.Lists.{pushed_at}
 use Rattle.lurun.proofs.Rearranged.{stations_of, stations_complete}
 use Rattle.lurun.proofs.making.stations.Goals as goal
 
-pub loop-bench-init : goal.loop-bench-init
-loop-bench-init c =
+pub loop-assembly-init : goal.loop-assembly-init
+loop-assembly-init c =
     let job = c.args.job.now in
     let are = c.loop-l.invariant.are in
-    let gives = c.into_iter-bench-iterator.ensures.into_iter_gives.0 in
-    let n = ap length (c.links-l-end.ensures ∙ ap (λ (q : Distribution). q.links) c.plan.ensures.plan) in
+    let gives = c.into_iter-assembly-iterator.ensures.into_iter_gives.0 in
+    let n = ap length (c.links-l-end.ensures ∙ ap (λ (q : PlanView). q.links) c.plan.ensures.plan) in
     let all : c.loop-l.l ≡ length job.plan.links = (let a = c.loop-l.invariant.le in omega (arith, a, c.loop-l-test.false, n)) in
     let none = c.in_ok-stations.ensures.items in
     record {
       room = search rules;
-      count = (let m : vec_len c.loop-l.benches ≡ sites_of job.plan = (let b = are.len in search rules) in search rules);
+      count = (let m : vec_len c.loop-l.assemblies ≡ sites_of job.plan = (let b = are.len in search rules) in search rules);
       done = λ s x e. (let z = ap (λ xs. slice_get xs s) (sym none) ∙ e in absurd cc);
       left = λ k b e.
           (let is = are.each k b (ap (λ xs. slice_get xs k) (sym gives) ∙ e) in
           let z : k ≡ length c.in_ok-stations.stations.items + k = (let y = ap length none in omega (arith, y)) in
-          subst (λ (m : ℕ). IsBench job (length job.plan.links) m b) z (subst (λ (m : ℕ). IsBench job m k b) all is));
+          subst (λ (m : ℕ). IsAssembly job (length job.plan.links) m b) z (subst (λ (m : ℕ). IsAssembly job m k b) all is));
     }
 
 pub new-requires : goal.new-requires
-new-requires c = new_station c.args.job.now _ c.in-Some.bench (c.loop-bench.invariant.left 0 c.in-Some.bench (ap (λ xs. slice_get xs 0) c.in-Some.ensures.steps.0))
+new-requires c = new_station c.args.job.now _ c.in-Some.assembly (c.loop-assembly.invariant.left 0 c.in-Some.assembly (ap (λ xs. slice_get xs 0) c.in-Some.ensures.steps.0))
 
-pub loop-bench-preserved : goal.loop-bench-preserved
-loop-bench-preserved c =
+pub loop-assembly-preserved : goal.loop-assembly-preserved
+loop-assembly-preserved c =
     let job = c.args.job.now in
-    let inv = c.loop-bench.invariant in
-    let b = c.in-Some.bench in
-    let old = c.loop-bench.stations.items in
+    let inv = c.loop-assembly.invariant in
+    let b = c.in-Some.assembly in
+    let old = c.loop-assembly.stations.items in
     let is = inv.left 0 b (ap (λ xs. slice_get xs 0) c.in-Some.ensures.steps.0) in
     let z : length old + 0 ≡ length old = omega arith in
     let here : IsStationOf job (length old + 0) c.new.result = subst (IsStationOf job (length old + 0)) (sym c.new.ensures) (record { job_is = is.job_is; site_is = is.site_is; new = new_station job _ b is }) in
@@ -46,11 +46,11 @@ loop-bench-preserved c =
       left = λ k y e.
           (let at = ap (λ xs. slice_get xs (suc k)) c.in-Some.ensures.steps.0 ∙ e in
           let more : length old + suc k ≡ length c.push_reserved.new.self.items + k = (let n = ap length p ∙ length-append old (c.new.result ∷ []) in omega (arith, n)) in
-          subst (λ (m : ℕ). IsBench job (length job.plan.links) m y) more (inv.left (suc k) y at));
+          subst (λ (m : ℕ). IsAssembly job (length job.plan.links) m y) more (inv.left (suc k) y at));
     }
 
 pub returns-clause-of : goal.returns-clause-of
-returns-clause-of c = stations_of c.args.job.now c.loop-bench.stations.items (record { len = search rules; each = c.loop-bench.invariant.done })
+returns-clause-of c = stations_of c.args.job.now c.loop-assembly.stations.items (record { len = search rules; each = c.loop-assembly.invariant.done })
 
 pub returns-clause-complete : goal.returns-clause-complete
-returns-clause-complete c = stations_complete c.args.job.now c.loop-bench.stations.items (record { len = search rules; each = c.loop-bench.invariant.done }) c.plan.ensures.run.plan_is.some_sites
+returns-clause-complete c = stations_complete c.args.job.now c.loop-assembly.stations.items (record { len = search rules; each = c.loop-assembly.invariant.done }) c.plan.ensures.run.plan_is.some_sites

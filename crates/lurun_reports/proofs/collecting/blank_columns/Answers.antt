@@ -2,7 +2,7 @@ use Rattle.std.proofs.Common.{◌≡◌, ℕ, ◌∷◌, [], Some, length, lengt
 use Rattle.std.specs.Prelude.{slice_get, List}
 use Rattle.std.proofs.lemmas.List.{length-map, map-append}
 use Rattle.luflow.specs.Tables.{OutputColumn, output_view, outputs_view}
-use Rattle.lurun_reports.specs.Reports.{IsToldBySome, NoneTells}
+use Rattle.lurun_reports.specs.Reports.{IsReportedBySome, NoneReports}
 use Rattle.lurun_reports.proofs.Lists.{pushed_at, got_at}
 use Rattle.lurun_reports.proofs.collecting.blank_columns.Goals as goal
 
@@ -13,8 +13,8 @@ loop-k-preserved c =
     let old = c.loop-k.columns.items in
     let n = length-append old (c.in_ok-column.column ∷ []) in
     let e = ap length p.items in
-    let P : ℕ → OutputColumn → Type 0 = λ j x. (slice_get c.args.names.now j ≡ Some x.name) × IsToldBySome [] j x.statuses in
-    let here : P c.loop-k.k (output_view c.in_ok-column.column) = subst (P c.loop-k.k) (sym c.in_ok-column.ensures) (got_at c.args.names.now c.loop-k.k c.index-names-k.result c.loop-k-test.true c.index-names-k.is, NoneTells refl (λ p r at. absurd cc)) in
+    let P : ℕ → OutputColumn → Type 0 = λ j x. (slice_get c.args.names.now j ≡ Some x.name) × IsReportedBySome [] j x.statuses in
+    let here : P c.loop-k.k (output_view c.in_ok-column.column) = subst (P c.loop-k.k) (sym c.in_ok-column.ensures) (got_at c.args.names.now c.loop-k.k c.index-names-k.result c.loop-k-test.true c.index-names-k.is, NoneReports refl (λ p r at. absurd cc)) in
     let len : length (outputs_view old) ≡ c.loop-k.k = length-map old output_view ∙ inv.len in
     let more = ap outputs_view p.items ∙ map-append output_view old (c.in_ok-column.column ∷ []) in
     record {

@@ -1,10 +1,10 @@
 use Rattle.std.proofs.Common.{List, take, sym, subst}
-use Rattle.lusite.specs.Sites.{SiteAt}
+use Rattle.lusite.specs.Sites.{SiteView}
 use Rattle.lurun_reports.specs.Reports.{IsLeast}
 use Rattle.lurun_reports.proofs.Lists.{take_next, got_at}
 use Rattle.lurun_reports.proofs.collecting.least_fault.Goals as goal
 
 pub loop-i-preserved : goal.loop-i-preserved
 loop-i-preserved c =
-    subst (λ (xs : List SiteAt). IsLeast xs c.lesser-least.result) (sym (take_next c.args.reports.now c.loop-i.i c.index-reports-i.result (got_at c.args.reports.now c.loop-i.i c.index-reports-i.result c.loop-i-test.true c.index-reports-i.is)))
+    subst (λ (xs : List SiteView). IsLeast xs c.lesser-least.result) (sym (take_next c.args.reports.now c.loop-i.i c.index-reports-i.result (got_at c.args.reports.now c.loop-i.i c.index-reports-i.result c.loop-i-test.true c.index-reports-i.is)))
     (c.lesser-least.ensures (take c.loop-i.i c.args.reports.now) c.loop-i.invariant)

@@ -1,6 +1,6 @@
 use Rattle.std.proofs.Common.{arith, subst}
 use Rattle.lurun_reports.specs.Reports.{IsLeast}
-use Rattle.lurun_reports.proofs.Told.{least_new, least_kept, least_changed, least_passed}
+use Rattle.lurun_reports.proofs.Reported.{least_new, least_kept, least_changed, least_passed}
 use Rattle.lurun_reports.proofs.collecting.lesser.Goals as goal
 
 pub returns-in-Ended : goal.returns-in-Ended

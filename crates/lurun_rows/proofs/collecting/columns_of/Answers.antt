@@ -2,8 +2,8 @@ use Rattle.std.proofs.Common.{◌≡◌, ◌∷◌, [], length, map, vec_len, ru
 use Rattle.std.specs.Prelude.{IfSome, slice_get}
 use Rattle.std.specs.declared.string.String.{String}
 use Rattle.luflow.specs.declared.data.Status.{Status}
-use Rattle.luworld.specs.Runs.{Run}
-use Rattle.lublock_site.specs.RowStations.{AreWhole, outputs_told}
+use Rattle.luworld.specs.Jobs.{JobView}
+use Rattle.lublock_site.specs.RowStations.{AreWhole, outputs_reported}
 use Rattle.std.specs.Vec.Iter.{into_iter_items}
 use Rattle.std.proofs.lemmas.List.{length-map, map-append}
 use Rattle.luflow.specs.Tables.{output_view, outputs_view}
@@ -28,14 +28,14 @@ loop-heading-preserved c =
     let len = p.len in
     let cap = p.capacity in
     let room = inv.room in
-    let is = λ (job : Run) (whole : AreWhole job (outputs_told c.args.told.items)). subst (λ (o : Option (String Global × Vec Status Global)). IfSome o (λ x. IsColumnOf job (heading_view c.in-Some.heading) (output_view x))) c.in-Some-column_of.is (c.column_of.ensures.column job (inv.told job whole)) in
+    let is = λ (job : JobView) (whole : AreWhole job (outputs_reported c.args.reported.items)). subst (λ (o : Option (String Global × Vec Status Global)). IfSome o (λ x. IsColumnOf job (heading_view c.in-Some.heading) (output_view x))) c.in-Some-column_of.is (c.column_of.ensures.column job (inv.reported job whole)) in
     let count = inv.count in
     record {
       room = omega (arith, room, gone, len, cap);
       count = omega (arith, count, gone, len);
       first = λ job whole. column_more job hs rest old new (heading_view c.in-Some.heading) (output_view column) more (λ k h at. inv.left k h (ap (λ ls. slice_get ls k) next ∙ at)) (is job whole) (inv.first job whole);
       left = left_less hs left rest (length old) (length new) (heading_view c.in-Some.heading) next n inv.left;
-      told = λ job whole. c.column_of.ensures.left job (inv.told job whole);
+      reported = λ job whole. c.column_of.ensures.left job (inv.reported job whole);
     }
 
 pub returns : goal.returns

@@ -1,5 +1,5 @@
 use Rattle.std.proofs.Common.{◌<◌, length, rules, Vec, Global}
-use Rattle.lublock_site.specs.RowStations.{RowAt}
+use Rattle.lublock_site.specs.RowStations.{RowStationView}
 use Rattle.lurun_reports.proofs.Lists.{got_at}
 use Rattle.lurun_threads.proofs.Dealing.{one_dealt}
 use Rattle.lurun_rows.proofs.crew.deal_to.Goals as goal
@@ -8,4 +8,4 @@ pub returns-clause-one : goal.returns-clause-one
 returns-clause-one c =
     let l : c.args.to < length c.args.shares.now.items = search rules in
     let now = c.index_mut-share.result.now in
-    one_dealt (λ (s : Vec RowAt Global). s.items) c.args.shares.now.items c.args.to now c.push.new.self c.args.seat (got_at c.args.shares.now.items c.args.to now l c.index_mut-share.ensures.value) c.in_ok-push.ensures.items
+    one_dealt (λ (s : Vec RowStationView Global). s.items) c.args.shares.now.items c.args.to now c.push.new.self c.args.served (got_at c.args.shares.now.items c.args.to now l c.index_mut-share.ensures.value) c.in_ok-push.ensures.items

@@ -1,16 +1,16 @@
 use Rattle.std.proofs.Common.{◌≡◌, length, length-append, List, vec_len, rules, ap, sym, subst, ◌∙◌, arith, Vec, Global}
 use Rattle.std.specs.Vec.Iter.{into_iter_items}
 use Rattle.std.specs.declared.thread.PromisedHandle.{PromisedHandle}
-use Rattle.lublock_site.specs.RowStations.{RowAt, RowTold}
+use Rattle.lublock_site.specs.RowStations.{RowStationView, RowReportView}
 use Rattle.lurun_reports.proofs.Lists.{empty_list}
 use Rattle.lurun_rows.specs.declared.crew.ReportsOf.{ReportsOf}
-use Rattle.lurun_rows.specs.Hands.{promised}
+use Rattle.lurun_rows.specs.RowShares.{promised}
 use Rattle.lurun_rows.specs.Rows.{AreReportedSoFar}
 use Rattle.lurun_rows.proofs.Reported.{none_reported, some_reported, reports_so_far}
 use Rattle.lurun_rows.proofs.crew.join_all.Goals as goal
 
 abbrev Workers : Type 0
-Workers = List (PromisedHandle (Vec RowTold Global) ReportsOf)
+Workers = List (PromisedHandle (Vec RowReportView Global) ReportsOf)
 
 pub loop-worker-init : goal.loop-worker-init
 loop-worker-init g c =
@@ -21,16 +21,16 @@ loop-worker-init g c =
     let m : vec_len c.args.all ≡ length c.args.all.items = search rules in
     record {
       room = omega (arith, n, none, room);
-      so_far = subst (λ (ls : List RowAt). AreReportedSoFar (promised c.args.workers.items) c.args.all.items ls) (sym same) (none_reported (promised c.args.workers.items) c.args.all.items (empty_list c.args.all.items (sym m ∙ none)));
+      so_far = subst (λ (ls : List RowStationView). AreReportedSoFar (promised c.args.workers.items) c.args.all.items ls) (sym same) (none_reported (promised c.args.workers.items) c.args.all.items (empty_list c.args.all.items (sym m ∙ none)));
     }
 
 pub gather-requires : goal.gather-requires
 gather-requires g c =
     let room = c.loop-worker.invariant.room in
-    let hand = c.in-Some.worker.promise.0.value.items in
+    let row_share = c.in-Some.worker.promise.0.value.items in
     let rest = into_iter_items c.next.new.self in
     let all = ap (λ (ws : Workers). length (promised ws)) c.in-Some.ensures.steps.0 in
-    let both = length-append hand (promised rest) in
+    let both = length-append row_share (promised rest) in
     let few = c.join.ensures.few in
     let n : vec_len c.join.result ≡ length c.join.result.items = search rules in
     omega (arith, room, all, both, few, n)
@@ -38,12 +38,12 @@ gather-requires g c =
 pub loop-worker-preserved : goal.loop-worker-preserved
 loop-worker-preserved g c =
     let inv = c.loop-worker.invariant in
-    let hand = c.in-Some.worker.promise.0.value.items in
+    let row_share = c.in-Some.worker.promise.0.value.items in
     let left = into_iter_items c.loop-worker.worker-iterator in
     let rest = into_iter_items c.next.new.self in
     let all = ap (λ (ws : Workers). promised ws) c.in-Some.ensures.steps.0 in
     let count = ap (λ (ws : Workers). length (promised ws)) c.in-Some.ensures.steps.0 in
-    let both = length-append hand (promised rest) in
+    let both = length-append row_share (promised rest) in
     let few = c.join.ensures.few in
     let n = ap length c.gather.ensures.items ∙ length-append c.loop-worker.all.items c.join.result.items in
     let a : vec_len c.loop-worker.all ≡ length c.loop-worker.all.items = search rules in
@@ -52,7 +52,7 @@ loop-worker-preserved g c =
     let room = inv.room in
     record {
       room = omega (arith, room, count, both, few, n, a, b, cap);
-      so_far = some_reported (promised c.args.workers.items) (promised left) hand (promised rest) c.loop-worker.all.items c.join.result.items c.gather.new.all.items all c.join.ensures c.gather.ensures.items inv.so_far;
+      so_far = some_reported (promised c.args.workers.items) (promised left) row_share (promised rest) c.loop-worker.all.items c.join.result.items c.gather.new.all.items all c.join.ensures c.gather.ensures.items inv.so_far;
     }
 
 pub returns : goal.returns

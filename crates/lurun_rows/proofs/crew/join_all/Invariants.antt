@@ -1,6 +1,6 @@
 use Rattle.std.proofs.Common.{◌≤◌, ◌+◌, length, vec_len, vec_capacity}
 use Rattle.std.specs.Vec.Iter.{into_iter_items}
-use Rattle.lurun_rows.specs.Hands.{promised}
+use Rattle.lurun_rows.specs.RowShares.{promised}
 use Rattle.lurun_rows.specs.Rows.{AreReportedSoFar}
 use Rattle.lurun_rows.proofs.crew.join_all.Given as goal
 

@@ -3,11 +3,11 @@ use Rattle.std.proofs.Crossing.{crosses}
 use denote.Param.Send.{sendable}
 use Rattle.lublock_site.proofs.Crosses.{report_field_send}
 use Rattle.lurun_rows.specs.Rows.{AreReportsOf}
-use Rattle.lurun_rows.proofs.Crosses.{hand_field_send}
+use Rattle.lurun_rows.proofs.Crosses.{row_share_field_send}
 use Rattle.lurun_rows.proofs.crew.start.Goals as goal
 
 pub spawn_with-requires-send-F : goal.spawn_with-requires-send-F
-spawn_with-requires-send-F g c κs within = search (sendable, crosses, hand_field_send, c.type_bounds.sync-R, c.type_bounds.sync-G) depth 20
+spawn_with-requires-send-F g c κs within = search (sendable, crosses, row_share_field_send, c.type_bounds.sync-R, c.type_bounds.sync-G) depth 20
 
 pub spawn_with-requires-clause-keeps : goal.spawn_with-requires-clause-keeps
 spawn_with-requires-clause-keeps g c κs within = λ r are. subst (λ v. AreReportsOf v.items r.items) (sym c.of.ensures) are

@@ -1,7 +1,7 @@
 use Rattle.std.proofs.Common.{rules, subst, ◌∷◌}
 use Rattle.std.specs.List.Sorted.{IsPermutation}
 use Rattle.std.specs.Vec.Iter.{into_iter_items}
-use Rattle.lurun_threads.specs.Stations.{StationAt}
+use Rattle.lurun_threads.specs.Stations.{StationView}
 use Rattle.lurun_threads.specs.Crew.{dealt}
 use Rattle.lurun_reports.proofs.Lists.{empty_list}
 use Rattle.lurun_threads.proofs.Dealing.{nothing_dealt, dealt_on}
@@ -17,5 +17,5 @@ pub loop-station-preserved : goal.loop-station-preserved
 loop-station-preserved c = record {
   len = search rules;
   all = dealt_on c.args.stations.items (dealt c.loop-station.shares.items) (dealt c.deal_to.new.shares.items) (into_iter_items c.loop-station.station-iterator) (into_iter_items c.next.new.self) c.in-Some.station c.in-Some.ensures.steps.0 c.loop-station.invariant.all
-      (subst (λ (s : StationAt). IsPermutation (s ∷ dealt c.loop-station.shares.items) (dealt c.deal_to.new.shares.items)) c.seat_of-seat.ensures c.in_ok-deal_to.ensures.one);
+      (subst (λ (s : StationView). IsPermutation (s ∷ dealt c.loop-station.shares.items) (dealt c.deal_to.new.shares.items)) c.served_of-served.ensures c.in_ok-deal_to.ensures.one);
 }

@@ -1,7 +1,7 @@
 use Rattle.std.proofs.Common.{◌≤◌, ◌+◌, ◌++◌, length, map, vec_len, vec_capacity}
 use Rattle.std.specs.List.Sorted.{IsPermutation}
 use Rattle.std.specs.Vec.Iter.{into_iter_items}
-use Rattle.lurun_threads.specs.Hands.{promised}
+use Rattle.lurun_threads.specs.SiteShares.{promised}
 use Rattle.lurun_threads.specs.Stations.{place_of, places}
 use Rattle.lurun_threads.proofs.crew.join_all.Given as goal
 

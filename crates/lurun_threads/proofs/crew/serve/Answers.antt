@@ -8,11 +8,11 @@ use Rattle.lurun_threads.proofs.crew.serve.Goals as goal
 pub loop-init : goal.loop-init
 loop-init g c = record {
   room = search rules;
-  all = (let none : length c.args.reports.items ≡ 0 = search rules in nothing_dealt (places c.args.seats.items) (map place_of c.args.reports.items) (places c.args.seats.items) (ap (map place_of) (empty_list c.args.reports.items none)) refl);
+  all = (let none : length c.args.reports.items ≡ 0 = search rules in nothing_dealt (places c.args.served_sites.items) (map place_of c.args.reports.items) (places c.args.served_sites.items) (ap (map place_of) (empty_list c.args.reports.items none)) refl);
 }
 
 pub loop-preserved-then-go_at : goal.loop-preserved-then-go_at
 loop-preserved-then-go_at g c = record {
   room = search rules;
-  all = report_moved (places c.args.seats.items) (places c.loop.seats.items) (places c.go_at.new.seats.items) (places c.take_out.new.seats.items) c.loop.reports.items c.push_reserved.new.self.items c.take_out.result c.loop.invariant.all c.go_at.ensures.same c.take_out.ensures.one c.push_reserved.ensures.items;
+  all = report_moved (places c.args.served_sites.items) (places c.loop.served_sites.items) (places c.go_at.new.served_sites.items) (places c.take_out.new.served_sites.items) c.loop.reports.items c.push_reserved.new.self.items c.take_out.result c.loop.invariant.all c.go_at.ensures.same c.take_out.ensures.one c.push_reserved.ensures.items;
 }

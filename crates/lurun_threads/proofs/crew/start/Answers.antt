@@ -3,11 +3,11 @@ use Rattle.std.proofs.Crossing.{crosses}
 use denote.Param.Send.{sendable}
 use Rattle.lurun_threads.specs.Stations.{AreReportsOf}
 use Rattle.lurun_threads.proofs.Crosses.{report_field_send}
-use Rattle.lurun_threads.proofs.Crosses.{seat_field_send}
+use Rattle.lurun_threads.proofs.Crosses.{served_field_send}
 use Rattle.lurun_threads.proofs.crew.start.Goals as goal
 
 pub spawn_with-requires-send-F : goal.spawn_with-requires-send-F
-spawn_with-requires-send-F g c κs within = search (sendable, crosses, seat_field_send, report_field_send, c.type_bounds.sync-R, c.type_bounds.sync-G) depth 20
+spawn_with-requires-send-F g c κs within = search (sendable, crosses, served_field_send, report_field_send, c.type_bounds.sync-R, c.type_bounds.sync-G) depth 20
 
 pub spawn_with-requires-clause-keeps : goal.spawn_with-requires-clause-keeps
 spawn_with-requires-clause-keeps g c κs within = λ r are. subst (λ v. AreReportsOf v.items r.items) (sym c.of.ensures) are

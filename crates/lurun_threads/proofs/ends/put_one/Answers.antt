@@ -1,5 +1,5 @@
 use Rattle.std.proofs.Common.{Bool, refl, subst}
-use Rattle.luworld.specs.World.{Puts}
+use Rattle.luworld.specs.Systems.{Puts}
 use Rattle.lurun_threads.specs.Stations.{PutAs}
 use Rattle.lurun_threads.proofs.Moves.{put_moves, put_none_moves, receivers_kept}
 use Rattle.lurun_threads.proofs.ends.put_one.Goals as goal

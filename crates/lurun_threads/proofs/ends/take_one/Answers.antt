@@ -1,6 +1,6 @@
 use Rattle.std.proofs.Common.{Option, refl, subst}
 use Rattle.luflow.specs.declared.message.Msg.{Msg}
-use Rattle.luworld.specs.World.{Takes}
+use Rattle.luworld.specs.Systems.{Takes}
 use Rattle.lurun_threads.specs.Stations.{TakenAs}
 use Rattle.lurun_threads.proofs.Moves.{take_moves, take_none_moves, senders_kept}
 use Rattle.lurun_threads.proofs.ends.take_one.Goals as goal

@@ -1,5 +1,5 @@
 use Rattle.std.proofs.Common.{refl}
-use Rattle.luworld.specs.World.{Compute}
+use Rattle.luworld.specs.Systems.{Compute}
 use Rattle.lurun_threads.proofs.Moves.{senders_kept, receivers_kept}
 use Rattle.lurun_threads.proofs.ends.work_one.Goals as goal
 

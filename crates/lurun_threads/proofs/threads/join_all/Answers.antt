@@ -3,8 +3,8 @@ use Rattle.std.specs.List.Sorted.{IsPermutation}
 use Rattle.std.specs.Vec.Iter.{into_iter_items}
 use Rattle.std.specs.declared.thread.PromisedHandle.{PromisedHandle}
 use Rattle.std.proofs.lemmas.List.Sorted.{IsPermutation-refl}
-use Rattle.luworld.specs.Runs.{Run}
-use Rattle.lusite.specs.Sites.{SiteAt}
+use Rattle.luworld.specs.Jobs.{JobView}
+use Rattle.lusite.specs.Sites.{SiteView}
 use Rattle.lurun_threads.specs.declared.threads.ReportOf.{ReportOf}
 use Rattle.lurun_threads.specs.Stations.{place_of, places}
 use Rattle.lurun_threads.specs.Workers.{promised}
@@ -23,9 +23,9 @@ loop-child-preserved g c =
     let left = into_iter_items c.loop-child.child-iterator in
     let rest = places (promised (into_iter_items c.next.new.self)) in
     let one : IsPermutation (place_of here.at ∷ rest) (place_of c.join.result ∷ rest) =
-    subst (λ (p : Run × ℕ). IsPermutation (place_of here.at ∷ rest) (p ∷ rest)) (sym (report_place here c.join.result c.join.ensures)) (IsPermutation-refl (place_of here.at ∷ rest)) in
+    subst (λ (p : JobView × ℕ). IsPermutation (place_of here.at ∷ rest) (p ∷ rest)) (sym (report_place here c.join.result c.join.ensures)) (IsPermutation-refl (place_of here.at ∷ rest)) in
     record {
       room = omega (arith, len, cap, gone, room);
       all = report_moved (places (promised c.args.children.items)) (places (promised left)) (place_of here.at ∷ rest) rest c.loop-child.reports.items c.push_reserved.new.self.items c.join.result inv.all
-          (sym (ap (λ (hs : List (PromisedHandle SiteAt ReportOf)). places (promised hs)) c.in-Some.ensures.steps.0)) one push.items;
+          (sym (ap (λ (hs : List (PromisedHandle SiteView ReportOf)). places (promised hs)) c.in-Some.ensures.steps.0)) one push.items;
     }

@@ -1,5 +1,5 @@
 use Rattle.std.proofs.Common.{refl, subst}
-use Rattle.luworld.specs.World.{Puts}
+use Rattle.luworld.specs.Systems.{Puts}
 use Rattle.lurun_threads.specs.declared.tries.Tried.{Tried}
 use Rattle.lurun_threads.specs.Crew.{is_done}
 use Rattle.lurun_threads.specs.Stations.{PutAs}

@@ -31,7 +31,7 @@ pub returns-in_err-_flat-clause-stopped : goal.returns-in_err-_flat-clause-stopp
 returns-in_err-_flat-clause-stopped g c =
     let p = err_from_is_err_and c.from_residual-in_err-_flat.result c.from_residual-in_err-_flat.ensures.1 in
     let gives = g.F.Files.gives c.args.files.now in
-    rw (p.1, p.2) (check_program (program_refused c.deref.result.now (subst (λ (b : List ℕ). gives c.args.request.program.now (Some b)) (sym c.deref.ensures.value) c.in_ok-bytes.ensures.given) (unruled (program_view c.in_ok-program.program) (places_view c.in_ok-program.program) c.in_ok-program.ensures.spelled c.in_ok-program.ensures.places c.in_err-_flat.ensures.told)))
+    rw (p.1, p.2) (check_program (program_refused c.deref.result.now (subst (λ (b : List ℕ). gives c.args.request.program.now (Some b)) (sym c.deref.ensures.value) c.in_ok-bytes.ensures.given) (unruled (program_view c.in_ok-program.program) (places_view c.in_ok-program.program) c.in_ok-program.ensures.spelled c.in_ok-program.ensures.places c.in_err-_flat.ensures.reported)))
 
 pub returns-in_err-bytes-clause-stopped : goal.returns-in_err-bytes-clause-stopped
 returns-in_err-bytes-clause-stopped g c =

@@ -1,5 +1,5 @@
 use Rattle.std.proofs.Common.{subst, sym}
-use Rattle.luflow.specs.Program.{Table}
+use Rattle.luflow.specs.Program.{InputsView}
 use Rattle.luflow.specs.Sound.{IsFit}
 use Rattle.lueval_lines.specs.declared.error.EvalError.TheVariants.{Fault}
 use Rattle.lueval.specs.Whole.{IsAnswer}
@@ -14,16 +14,16 @@ columns_of-requires-clause-fit c =
     let flat = c.args.flat.now in
     let inputs = c.args.inputs.now in
     let n = c.args.instant in
-    subst (λ (t : Table). IsFit flat t) (sym c.in_ok-before.ensures) (fit n inputs c.requires.early flat c.requires.fit)
+    subst (λ (t : InputsView). IsFit flat t) (sym c.in_ok-before.ensures) (fit n inputs c.requires.early flat c.requires.fit)
 
 pub unreachable-requires : goal.unreachable-requires
 unreachable-requires c =
     let flat = c.args.flat.now in
     let inputs = c.args.inputs.now in
     let n = c.args.instant in
-    let told : IsAnswer flat c.in_ok-before.before (Fault c.in-Err-Fault._variable c.in-Err-Fault._instant c.in-Err-Fault._kind) = subst (IsAnswer flat c.in_ok-before.before) c.in-Err-Fault.field-0-is c.in-Err-Fault.ensures.fault in
+    let reported : IsAnswer flat c.in_ok-before.before (Fault c.in-Err-Fault._variable c.in-Err-Fault._instant c.in-Err-Fault._kind) = subst (IsAnswer flat c.in_ok-before.before) c.in-Err-Fault.field-0-is c.in-Err-Fault.ensures.fault in
     cut_fine flat inputs n c.in-Err-Fault._variable c.in-Err-Fault._instant c.in-Err-Fault._kind c.recall_invariant.ensures c.requires.early c.requires.no_fault
-    (subst (λ (t : Table). IsAnswer flat t (Fault c.in-Err-Fault._variable c.in-Err-Fault._instant c.in-Err-Fault._kind)) c.in_ok-before.ensures told)
+    (subst (λ (t : InputsView). IsAnswer flat t (Fault c.in-Err-Fault._variable c.in-Err-Fault._instant c.in-Err-Fault._kind)) c.in_ok-before.ensures reported)
 
 pub returns-in-Ok : goal.returns-in-Ok
 returns-in-Ok c =
@@ -32,4 +32,4 @@ returns-in-Ok c =
     let n = c.args.instant in
     let xs = shown_of c.args.all flat.variables in
     are_before flat inputs xs n c.in-Ok.columns c.recall_invariant.ensures c.requires.early
-    (subst (λ (t : Table). AreEvaluated flat t xs t.instants c.in-Ok.columns) c.in_ok-before.ensures c.in-Ok.ensures.columns)
+    (subst (λ (t : InputsView). AreEvaluated flat t xs t.instants c.in-Ok.columns) c.in_ok-before.ensures c.in-Ok.ensures.columns)

@@ -16,5 +16,5 @@ returns-in-Ok-clause-stopped g c = IfErr-weaker c.shown.result _ _ (λ stop h. u
 pub returns-in-Ok-clause-before : goal.returns-in-Ok-clause-before
 returns-in-Ok-clause-before g c = IfErr-weaker c.shown.result _ _ (λ stop h. unfiled_shown (g.F.Files.takes c.args.files.now) c.args.request c.args.flat.now c.args.inputs.now stop h) c.shown.ensures.stopped
 
-pub faulted-requires-clause-told : goal.faulted-requires-clause-told
-faulted-requires-clause-told g c = subst (IsAnswer c.args.flat.now c.args.inputs.now) c.in-Err-Fault.field-0-is c.in-Err-Fault.ensures.fault
+pub faulted-requires-clause-reported : goal.faulted-requires-clause-reported
+faulted-requires-clause-reported g c = subst (IsAnswer c.args.flat.now c.args.inputs.now) c.in-Err-Fault.field-0-is c.in-Err-Fault.ensures.fault

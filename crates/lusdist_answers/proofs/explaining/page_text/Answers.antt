@@ -1,7 +1,7 @@
 use Rattle.std.proofs.Common.{ℕ, List, Option, Bor, refl, sym, ap, ◌∙◌}
 use Rattle.std.specs.Prelude.{option_map}
 use Rattle.lusdist_call.specs.declared.mistake.Mistake.TheVariants.{UnknownCode}
-use Rattle.lusdist_call.specs.declared.stop.Stop.TheVariants.{Mistaken}
+use Rattle.lusdist_call.specs.declared.call_error.CallError.TheVariants.{Mistaken}
 use Rattle.lusdist_call.specs.Explained.IsExplainStopped.{explain_unknown}
 use Rattle.lusdist_answers.proofs.explaining.page_text.Goals as goal
 

@@ -1,7 +1,7 @@
 use Rattle.std.proofs.Common.{Some, List, ℕ, ◌<◌, length, sym, subst}
 use Rattle.std.proofs.lemmas.Result.{IfOk-weaker, IfErr-weaker, err_from_is_err_and}
 use Rattle.luflow.specs.Variables.{outputs_of}
-use Rattle.luworld.specs.Needs.{Distribution}
+use Rattle.luworld.specs.Needs.{PlanView}
 use Rattle.lusdist_call.specs.Stopped.StopsAtJob.{no_plan, table_unread, table_refused}
 use Rattle.lusdist_answers.proofs.Ran.{job_found}
 use Rattle.lusdist_answers.proofs.HasOutputs.{some_output}
@@ -28,7 +28,7 @@ pub returns-clause-some : goal.returns-clause-some
 returns-clause-some g c =
     let found = c.in_ok-plan.ensures.plan in
     let some = some_output found.program c.args.main.now found.flat.tree c.in_ok-plan.plan.flat found.flat.spelled found.flat.flat_is in
-    IfOk-weaker c.job_of.result _ _ (λ job same. subst (λ (p : Distribution). 0 < length (outputs_of p.flat.variables)) (sym same) some) c.job_of.ensures.plan
+    IfOk-weaker c.job_of.result _ _ (λ job same. subst (λ (p : PlanView). 0 < length (outputs_of p.flat.variables)) (sym same) some) c.job_of.ensures.plan
 
 pub returns-clause-stopped : goal.returns-clause-stopped
 returns-clause-stopped g c =

@@ -1,6 +1,6 @@
 use Rattle.std.proofs.Common.{ℕ, List, [], ◌++◌, append-nil, ap, ap₂, sym, subst, refl, ◌∙◌}
-use Rattle.luworld.specs.World.{run, reached, new_world, NoTurnMoves}
-use Rattle.luworld.specs.Runs.{Run, system_of}
+use Rattle.luworld.specs.Systems.{run, reached, new_world, NoTurnMoves}
+use Rattle.luworld.specs.Jobs.{JobView, system_of}
 use Rattle.lusdist_answers.proofs.Worlds.{world_job, run_on}
 use Rattle.lusdist_answers.proofs.replaying.replayed.Goals as goal
 
@@ -10,7 +10,7 @@ returns-then-not-finish-clause-world c =
     record {
       job_is = same;
       more = [];
-      dones_are = c.in_ok-world.ensures.dones ∙ ap₂ (λ (j : Run) (ts : List ℕ). reached (system_of j) ts) same (sym (append-nil c.args.turns.now));
+      dones_are = c.in_ok-world.ensures.dones ∙ ap₂ (λ (j : JobView) (ts : List ℕ). reached (system_of j) ts) same (sym (append-nil c.args.turns.now));
       no_more = λ e. refl;
       quiet = λ e. absurd cc;
     }
@@ -28,7 +28,7 @@ returns-clause-world c =
       dones_are = sym later.1
           ∙ ap (λ w. run (system_of own) w later.0) c.in_ok-world.ensures.dones
           ∙ sym (run_on (system_of own) (new_world (system_of own)) turns later.0)
-          ∙ ap (λ (j : Run). reached (system_of j) (turns ++ later.0)) same;
+          ∙ ap (λ (j : JobView). reached (system_of j) (turns ++ later.0)) same;
       no_more = λ e. absurd cc;
-      quiet = λ e. subst (λ (j : Run). NoTurnMoves (system_of j) c.finish.new.self.dones) whole c.finish.ensures.quiet;
+      quiet = λ e. subst (λ (j : JobView). NoTurnMoves (system_of j) c.finish.new.self.dones) whole c.finish.ensures.quiet;
     }

@@ -5,7 +5,7 @@ use Rattle.lusdist_answers.proofs.serve.perform.Goals as goal
 
 pub returns-in-Ok : goal.returns-in-Ok
 returns-in-Ok g c =
-    let put = c.put_said.ensures in
+    let put = c.put_reply.ensures in
     let text = string_bytes c.in-Ok.found.text in
     let notes = string_bytes c.in-Ok.found.notes in
     elim put.status [

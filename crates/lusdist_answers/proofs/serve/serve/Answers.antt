@@ -2,7 +2,7 @@ use Rattle.std.proofs.Common.{map, refl, inl, inr}
 use Rattle.std.specs.Prelude.{string_bytes}
 use Rattle.clap.specs.Words.{kind_of}
 use Rattle.lusdist_call.specs.Left.IsCallEnded.{asked, helped, mistaken, no_memory, no_help}
-use Rattle.lusdist_answers.proofs.Ends.{done, quiet, kept, told, which, memory, help, mistake}
+use Rattle.lusdist_answers.proofs.Ends.{done, quiet, kept, reported, which, memory, help, mistake}
 use Rattle.lusdist_answers.proofs.serve.serve.Goals as goal
 
 pub returns-in-Ok-clause-ended : goal.returns-in-Ok-clause-ended
@@ -22,11 +22,11 @@ returns-in-Ok-clause-silent g c = λ zero none.
 
 pub returns-in-Ok-clause-text : goal.returns-in-Ok-clause-text
 returns-in-Ok-clause-text g c = λ one.
-    told (g.F.Files.gives c.args.files.now) (g.F.Files.takes c.args.files.now) (map string_bytes c.args.words.now) c.in-Ok.request c.in-Ok.ensures.asked c.perform.result _ 1 (inl refl) c.perform.ensures one
+    reported (g.F.Files.gives c.args.files.now) (g.F.Files.takes c.args.files.now) (map string_bytes c.args.words.now) c.in-Ok.request c.in-Ok.ensures.asked c.perform.result _ 1 (inl refl) c.perform.ensures one
 
 pub returns-in-Ok-clause-file : goal.returns-in-Ok-clause-file
 returns-in-Ok-clause-file g c = λ taken two.
-    told (g.F.Files.gives c.args.files.now) (g.F.Files.takes c.args.files.now) (map string_bytes c.args.words.now) c.in-Ok.request c.in-Ok.ensures.asked c.perform.result _ 2 (inr refl) c.perform.ensures two
+    reported (g.F.Files.gives c.args.files.now) (g.F.Files.takes c.args.files.now) (map string_bytes c.args.words.now) c.in-Ok.request c.in-Ok.ensures.asked c.perform.result _ 2 (inr refl) c.perform.ensures two
 
 pub returns-in-Err-clause-ended : goal.returns-in-Err-clause-ended
 returns-in-Err-clause-ended g c =

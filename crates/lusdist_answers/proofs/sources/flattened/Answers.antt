@@ -2,14 +2,14 @@ use Rattle.std.proofs.Common.{ℕ, List, refl, subst}
 use Rattle.lutree.specs.declared.program.Program.{Program}
 use Rattle.lutree.specs.Tree.{program_view}
 use Rattle.lucore.specs.Result.{Refuses}
-use Rattle.lusdist_call.specs.Refused.IsToldOf.{rule, flat}
+use Rattle.lusdist_call.specs.Refused.IsReportedOf.{rule, flat}
 use Rattle.lusdist_answers.proofs.sources.flattened.Goals as goal
 
-pub returns-in-Err-clause-told : goal.returns-in-Err-clause-told
-returns-in-Err-clause-told c = rule c.in-Err.e c.args.program.now refl c.in-Err.ensures.told refl refl c.in-Err.ensures.first
+pub returns-in-Err-clause-reported : goal.returns-in-Err-clause-reported
+returns-in-Err-clause-reported c = rule c.in-Err.e c.args.program.now refl c.in-Err.ensures.reported refl refl c.in-Err.ensures.first
 
-pub returns-clause-told : goal.returns-clause-told
-returns-clause-told c =
+pub returns-clause-reported : goal.returns-clause-reported
+returns-clause-reported c =
     let e = c.in-Err-flatten.e in
     let checked = c.in-Ok.checked in
     let same = subst (λ (g : Program). Refuses (program_view g) checked.main e) c.in-Ok.ensures.program c.in-Err-flatten.ensures.refuses in

@@ -11,7 +11,7 @@ returns-in-Err-clause-refused c =
     let utf8 = c.in-Some.ensures.1 in
     elim c.in-Err.ensures.exact [
       | inl memory ↦ inr (utf8, inl memory)
-      | inr told ↦ inr (utf8, inr (inl (sym same ∙ told)))
+      | inr reported ↦ inr (utf8, inr (inl (sym same ∙ reported)))
     ]
 
 pub returns-clause-refused : goal.returns-clause-refused
@@ -20,5 +20,5 @@ returns-clause-refused c =
     let utf8 = c.in-Some.ensures.1 in
     elim c.in-Err-make.ensures.refused [
       | inl memory ↦ inr (utf8, inl memory)
-      | inr told ↦ inr (utf8, inr (inr (c.in-Ok.place, sym same ∙ c.in-Ok.ensures.exact, told)))
+      | inr reported ↦ inr (utf8, inr (inr (c.in-Ok.place, sym same ∙ c.in-Ok.ensures.exact, reported)))
     ]

@@ -6,8 +6,8 @@ use Rattle.luflow.specs.declared.data.Status.TheVariants as status
 use Rattle.lueval_lines.specs.Cells.{statuses}
 use Rattle.luflow.specs.Program.{flows_of, IsOrdered}
 use Rattle.luworld.proofs.Cursor.{before_start}
-use Rattle.luworld.specs.Needs.{Distribution}
-use Rattle.luworld.specs.Runs.{knows, link_into, streams_of, items_before}
+use Rattle.luworld.specs.Needs.{PlanView}
+use Rattle.luworld.specs.Jobs.{knows, link_into, streams_of, items_before}
 use Rattle.std.specs.Prelude.{slice_get, ◌||◌, is_some}
 use Rattle.std.specs.Option.{option_map}
 use Rattle.luflow.proofs.Solutions.{some_at}
@@ -22,7 +22,7 @@ use Rattle.lusite.proofs.Skips.{stands_skip, before_skip, logged_skip}
 use Rattle.lusite_program.proofs.Ranks.{places_has}
 use Rattle.lusite.proofs.Moves.{start_next}
 use Rattle.lusite.proofs.Starts.{stands_start}
-use Rattle.lusite.proofs.Told.{logged_new, none_yet, wanted_known}
+use Rattle.lusite.proofs.Reported.{logged_new, none_yet, wanted_known}
 use Rattle.lusite.proofs.Machine.{there}
 use Rattle.lusite.proofs.site.begun.Goals as goal
 
@@ -49,7 +49,7 @@ pub settle-requires-clause-stands : goal.settle-requires-clause-stands
 settle-requires-clause-stands c =
     let job = c.args.inputs.job in
     let program = c.args.program in
-    let n : flows_of program.plan.flat ≡ flows_of job.plan.flat = ap (λ (q : Distribution). flows_of q.flat) c.requires.plan_is in
+    let n : flows_of program.plan.flat ≡ flows_of job.plan.flat = ap (λ (q : PlanView). flows_of q.flat) c.requires.plan_is in
     let places = places_of program.plan program.site in
     let m = length places in
     let held = c.args.held in
@@ -88,16 +88,16 @@ settle-requires-clause-logged c =
     let e = c.requires in
     let at = start_next p job s c.requires.plan_is c.requires.site_is in
     let ok = c.requires.job in
-    let ordered = subst (λ (q : Distribution). IsOrdered q.flat) (sym c.requires.plan_is) ok.is_plan.ordered in
+    let ordered = subst (λ (q : PlanView). IsOrdered q.flat) (sym c.requires.plan_is) ok.is_plan.ordered in
     none_yet job s (logs_in p logs) 0 c.rank-place.result true
     (subst (λ (r : ℕ). IsLogged job s (logs_in p logs) 0 r) (sym c.rank-place.ensures)
     (logged_skip job s ok (logs_in p logs) 0 0 (rank_at p 0) (omega arith) at.1
     (logged_new job s (logs_in p logs) (λ q lq. (there job s ok q lq).2)
     (λ i li wanted.
     let known : knows p.plan p.site i ≡ true = ap₂ (λ q k. knows q k i) c.requires.plan_is c.requires.site_is ∙ ap (λ b. b || is_some (link_into job.plan s i)) (wanted_known job s i ok li wanted) in
-    let w = places_has p ordered i (subst (λ (q : Distribution). i < flows_of q.flat) (sym c.requires.plan_is) li) known in
+    let w = places_has p ordered i (subst (λ (q : PlanView). i < flows_of q.flat) (sym c.requires.plan_is) li) known in
     let here : slice_get (places_of p.plan p.site) w.0 ≡ Some i = slice_get-get_or (places_of p.plan p.site) w.0 0 w.1 ∙ ap Some w.2 in
     let y = some_at logs w.0 (let n = e.len in let l = w.1 in omega (arith, l, n)) in
-    let told = ap₂ (λ q k. (part_of q k i).told) c.requires.plan_is c.requires.site_is ∙ wanted in
+    let reported = ap₂ (λ q k. (part_of q k i).reported) c.requires.plan_is c.requires.site_is ∙ wanted in
     let new = e.each w.0 i here y.0 y.1 in
-    (log_view y.0, logs_row p logs ordered e.len w.0 i here ∙ slice_get-map log_view logs w.0 ∙ ap (option_map log_view) y.1, new.empty, let room = new.room told in room)))))
+    (log_view y.0, logs_row p logs ordered e.len w.0 i here ∙ slice_get-map log_view logs w.0 ∙ ap (option_map log_view) y.1, new.empty, let room = new.room reported in room)))))

@@ -2,10 +2,10 @@ use Rattle.std.proofs.Common.{◌≡◌, ℕ, ◌<◌, Some, arith}
 use Rattle.std.specs.Prelude.{slice_get}
 use Rattle.luflow.specs.Program.{flows_of}
 use Rattle.luflow.proofs.Solutions.{some_at}
-use Rattle.luworld.specs.Runs.{outputs_of}
+use Rattle.luworld.specs.Jobs.{outputs_of}
 use Rattle.luworld.proofs.Fitting.{fits}
 use Rattle.lusite_program.proofs.OutputLogs.{one_drawn, others_left, all_drawn, logs_row}
-use Rattle.lusite_program.proofs.Posts.{output_there}
+use Rattle.lusite_program.proofs.SiteFlows.{output_there}
 use Rattle.lusite_program.proofs.logs.drawn.Goals as goal
 
 pub loop-k-preserved : goal.loop-k-preserved

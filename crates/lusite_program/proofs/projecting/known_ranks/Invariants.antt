@@ -1,7 +1,7 @@
 use Rattle.std.proofs.Common.{◌≡◌, filter}
 use Rattle.std.specs.Prelude.{slice_index}
 use Rattle.std.specs.List.{range_with_len}
-use Rattle.luworld.specs.Runs.{knows}
+use Rattle.luworld.specs.Jobs.{knows}
 use Rattle.lusite_program.proofs.projecting.known_ranks.Given as goal
 
 abbrev pub invariant-loop-p : goal.invariant-loop-p

@@ -2,7 +2,7 @@ use Rattle.std.proofs.Common.{ℕ, ◌<◌, List, length, ap, ◌∙◌, rules, 
 use Rattle.std.specs.Prelude.{slice_get, slice_index}
 use Rattle.std.proofs.lemmas.List.{length-replicate, length-set}
 use Rattle.std.proofs.lemmas.Option.{slice_get_within}
-use Rattle.lusite_program.proofs.Posts.{number_noted}
+use Rattle.lusite_program.proofs.SiteFlows.{number_noted}
 use Rattle.lusite_program.proofs.projecting.numbers_of.Goals as goal
 
 pub loop-k-init : goal.loop-k-init

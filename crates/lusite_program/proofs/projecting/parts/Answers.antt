@@ -3,16 +3,16 @@ use Rattle.std.specs.Prelude.{slice_index}
 use Rattle.std.proofs.lemmas.List.{map-append, take_more, take_all}
 use Rattle.std.proofs.lemmas.Option.{get_or_from_slice_get}
 use Rattle.luflow.specs.Program.{flows_of}
-use Rattle.luworld.specs.Runs.{link_into}
+use Rattle.luworld.specs.Jobs.{link_into}
 use Rattle.lusite_program.specs.declared.program.Part.{Part}
-use Rattle.lusite_program.specs.Programs.{SitePlan, part_of}
+use Rattle.lusite_program.specs.Programs.{SiteProgramView, part_of}
 use Rattle.lusite_program.proofs.Ranks.{places_in, places_once}
 use Rattle.lusite_program.proofs.projecting.parts.Goals as goal
 
 pub loop-k-init : goal.loop-k-init
 loop-k-init c =
     let plan = c.args.plan.now in
-    let p : SitePlan = record { plan = plan; site = c.args.site } in
+    let p : SiteProgramView = record { plan = plan; site = c.args.site } in
     record {
       made = c.in_ok-all.ensures.items;
       room = let e = c.in_ok-all.ensures.exact in omega (arith, e);

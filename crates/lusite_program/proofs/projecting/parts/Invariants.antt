@@ -1,7 +1,7 @@
 use Rattle.std.proofs.Common.{◌≡◌, ℕ, ◌<◌, ◌≤◌, map, take, length}
 use Rattle.std.specs.Prelude.{slice_get, slice_index, vec_capacity}
 use Rattle.std.specs.Option.{ForSome}
-use Rattle.luworld.specs.Runs.{sends}
+use Rattle.luworld.specs.Jobs.{sends}
 use Rattle.lusite_program.specs.Programs.{part_of}
 use Rattle.lusite_program.proofs.projecting.parts.Given as goal
 

@@ -3,7 +3,7 @@ use Rattle.std.specs.Prelude.{slice_get}
 use Rattle.std.proofs.lemmas.Bool.{eq-eqb}
 use Rattle.luworld.specs.Needs.{home}
 use Rattle.lusite_program.specs.Programs.{places_of}
-use Rattle.lusite_program.proofs.Posts.{number_home, both}
+use Rattle.lusite_program.proofs.SiteFlows.{number_home, both}
 use Rattle.lusite_program.proofs.projecting.reported_flow.Goals as goal
 
 pub returns-then-home-site : goal.returns-then-home-site

@@ -4,10 +4,10 @@ use Rattle.lutree.specs.Tree.{program_view}
 use Rattle.lustat_rules.specs.Accepted.{Passes}
 use Rattle.lustat_rules.specs.Faults.{IsJudged}
 use Rattle.lustat_init.specs.Assigned.{LeftsKnown}
-use Rattle.lustat_init.specs.Faults.{AreKept, IsFault, TellsBroken}
+use Rattle.lustat_init.specs.Faults.{AreKept, IsFault, ReportsBroken}
 use Rattle.lustat_init.specs.Rows.{AreClasses, IfKept, IfBroken, fault_of, plain}
 use Rattle.lustat_init.proofs.Rowing.{lefts}
-use Rattle.lustat.proofs.Telling.{accepted_from, told_by_classes}
+use Rattle.lustat.proofs.Reporting.{accepted_from, reported_by_classes}
 use Rattle.lustat.proofs.First.{first_of_classes}
 use Rattle.lustat.proofs.stages.classes_of.Goals as goal
 
@@ -30,14 +30,14 @@ returns-in-Kept-clause-classes c =
     let rows = subst (λ f. IfKept f (AreClasses (program_view c.catalog.result.now))) c.in-Kept.is c.in_ok-classes.ensures.classes in
     subst (λ (x : Program). AreClasses (program_view x) (plain c.in-Kept.classes.items)) c.catalog.ensures.catalog rows
 
-pub returns-in-Broken-clause-told : goal.returns-in-Broken-clause-told
-returns-in-Broken-clause-told c =
+pub returns-in-Broken-clause-reported : goal.returns-in-Broken-clause-reported
+returns-in-Broken-clause-reported c =
     let p : Program = c.args.typed.now.program in
     let main = c.args.typed.now.main in
     let e = c.in-Broken.fault in
     let seen : Program = c.catalog.result.now in
-    let broken = subst (λ f. IfBroken f (λ e. (m : List ℕ) → TellsBroken (program_view seen) m e)) c.in-Broken.is c.in_ok-classes.ensures.broken in
-    told_by_classes p main e c.catalog.ensures.names c.requires (subst (λ (x : Program). TellsBroken (program_view x) main e) c.catalog.ensures.catalog (broken main))
+    let broken = subst (λ f. IfBroken f (λ e. (m : List ℕ) → ReportsBroken (program_view seen) m e)) c.in-Broken.is c.in_ok-classes.ensures.broken in
+    reported_by_classes p main e c.catalog.ensures.names c.requires (subst (λ (x : Program). ReportsBroken (program_view x) main e) c.catalog.ensures.catalog (broken main))
 
 pub returns-in-Broken-clause-first : goal.returns-in-Broken-clause-first
 returns-in-Broken-clause-first c =
@@ -45,7 +45,7 @@ returns-in-Broken-clause-first c =
     let main = c.args.typed.now.main in
     let e = c.in-Broken.fault in
     let seen : Program = c.catalog.result.now in
-    let broken = subst (λ f. IfBroken f (λ e. (m : List ℕ) → TellsBroken (program_view seen) m e)) c.in-Broken.is c.in_ok-classes.ensures.broken in
+    let broken = subst (λ f. IfBroken f (λ e. (m : List ℕ) → ReportsBroken (program_view seen) m e)) c.in-Broken.is c.in_ok-classes.ensures.broken in
     let judged = subst (λ f. IsJudged (IsFault seen.nodes) (AreKept seen.nodes) (fault_of f)) c.in-Broken.is c.in_ok-classes.ensures.first in
-    first_of_classes p main e (subst (λ (x : Program). TellsBroken (program_view x) main e) c.catalog.ensures.catalog (broken main))
+    first_of_classes p main e (subst (λ (x : Program). ReportsBroken (program_view x) main e) c.catalog.ensures.catalog (broken main))
     (subst (λ (x : Program). IsJudged (IsFault x.nodes) (AreKept x.nodes) (Some e)) c.catalog.ensures.catalog judged)

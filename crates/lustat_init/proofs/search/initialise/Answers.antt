@@ -7,7 +7,7 @@ use Rattle.lustat_rules.specs.Faults.{IsJudged}
 use Rattle.lustat_init.specs.Assigned.{LeftsKnown}
 use Rattle.lustat_init.specs.Faults.{AreKept, IsFault}
 use Rattle.lustat_init.specs.Rows.{plain, GiveLeastBelow}
-use Rattle.lustat_init.proofs.Rowing.{all_of_views, classes_kept, all_pass, told_broken}
+use Rattle.lustat_init.proofs.Rowing.{all_of_views, classes_kept, all_pass, reported_broken}
 use Rattle.lustat_init.proofs.search.initialise.Goals as goal
 
 pub rows_of-requires : goal.rows_of-requires
@@ -38,4 +38,4 @@ pub returns-in-Some-clause-broken : goal.returns-in-Some-clause-broken
 returns-in-Some-clause-broken c = λ main.
     let nodes : List Node = c.args.catalog.now.nodes in
     let judged = subst (IsJudged (IsFault nodes) (AreKept nodes)) c.in-Some.is c.in_ok-nodes_fault.ensures in
-    told_broken c.args.catalog.now main c.in-Some.fault judged.0
+    reported_broken c.args.catalog.now main c.in-Some.fault judged.0

@@ -7,7 +7,7 @@ use Rattle.lustat_rules.specs.Typing.{IsNumbered, IsSign}
 use Rattle.lustat_rules.specs.EnumVectors.{mode, side, of_side, up, down, left, lost, switch}
 use Rattle.lustat_rules.proofs.OneNode.{each}
 use Rattle.lustat_rules.proofs.Switch.{all_names, down_known}
-use Rattle.lustat_rules.proofs.Enumerated.{is_named, lost_unknown, place_told, first_sign, one_is_none, none_is_one, one_is_three, two_is_three}
+use Rattle.lustat_rules.proofs.Enumerated.{is_named, lost_unknown, place_reported, first_sign, one_is_none, none_is_one, one_is_three, two_is_three}
 use Rattle.lustat_rules.proofs.Worked.{zero_less, one_less, false_is_true, not_in, nothing_in}
 use Rattle.lustat_rules.proofs.laws.enum_vectors_law.Goals as goal
 
@@ -45,7 +45,7 @@ returns c = record {
     one_left_out = λ f. one_is_three f.0.1.count;
     turned = λ f. one_is_none (f.0.1.each 0 (patterns.Label down) refl).1;
     one_twice = λ f. none_is_one (f.0.1.each 1 (patterns.Label up) refl).1;
-    other_names = λ f. let e = ap place_told (ap (λ kind. Some kind) (f.0.1.each 0 (patterns.Label up) refl).0) in omega (arith, e);
+    other_names = λ f. let e = ap place_reported (ap (λ kind. Some kind) (f.0.1.each 0 (patterns.Label up) refl).0) in omega (arith, e);
     truths = λ f. two_is_three f.0.1.count;
     more_branches = λ f. two_is_three f.0.0;
     inside = λ f. one_is_three f.1.0.1.count;

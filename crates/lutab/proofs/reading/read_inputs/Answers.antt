@@ -3,7 +3,7 @@ use Rattle.luflow.specs.declared.variable.Enum.{Enum}
 use Rattle.luflow.specs.declared.variable.Variable.{Variable}
 use Rattle.luflow.specs.Variables.{inputs_of}
 use Rattle.lutab.specs.Filling.{ReadsText}
-use Rattle.lutab.proofs.Told.{spells, is_short, tells, only_table, only_refusal, fitting}
+use Rattle.lutab.proofs.Reported.{spells, is_short, reports, only_table, only_refusal, fitting}
 use Rattle.lutab.proofs.reading.read_inputs.Goals as goal
 
 pub returns : goal.returns
@@ -19,7 +19,7 @@ returns c =
       spelled = spells types inputs text r h;
       short = is_short types inputs text r h;
       only = only_table types inputs text r h;
-      refused = tells types inputs text r h;
+      refused = reports types inputs text r h;
       refuses = only_refusal types inputs text r h;
       fits = fitting c.args.flat.now text r h;
     }

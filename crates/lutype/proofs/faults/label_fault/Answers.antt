@@ -2,7 +2,7 @@ use Rattle.std.proofs.Common.{refl}
 use Rattle.lutree.specs.Tree.{program_view, type_view}
 use Rattle.lustat_rules.specs.Accepted.{Rule, NameKeeps, duplicate_name}
 use Rattle.lustat_rules.specs.declared.error.StatError.TheVariants.{DuplicateName}
-use Rattle.lustat_rules.proofs.Judging.{judged_told}
+use Rattle.lustat_rules.proofs.Judging.{judged_reported}
 use Rattle.lutype.proofs.Places.{name_judged}
 use Rattle.lutype.proofs.faults.label_fault.Goals as goal
 
@@ -11,5 +11,5 @@ returns c = λ main.
     let t = c.args.declaration.now in
     let x = c.args.name.now in
     let K : Rule → Type 0 = λ rule. NameKeeps (program_view c.args.catalog.now) main rule c.args.place (type_view t) c.args.number x.name in
-    name_judged x.byte K c.told.result tt tt tt tt tt tt tt tt
-    (judged_told duplicate_name x.byte (K duplicate_name) c.is_new_label-is_new.result (DuplicateName x.byte) c.told.result c.told.ensures refl refl c.is_new_label-is_new.ensures)
+    name_judged x.byte K c.reported.result tt tt tt tt tt tt tt tt
+    (judged_reported duplicate_name x.byte (K duplicate_name) c.is_new_label-is_new.result (DuplicateName x.byte) c.reported.result c.reported.ensures refl refl c.is_new_label-is_new.ensures)

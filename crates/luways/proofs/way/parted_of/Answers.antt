@@ -1,5 +1,5 @@
 use Rattle.std.proofs.Common.{◌≡◌, ◌+◌, ℕ, List, Bool, length, ap, ap₂, sym, ◌∙◌, subst}
-use Rattle.luflow.specs.Program.{FlatProgram, flows_of}
+use Rattle.luflow.specs.Program.{FlatView, flows_of}
 use Rattle.lubase.specs.Graph.{Graph, MarksCycles}
 use Rattle.luways.specs.Ways.{IsPartedVariable, AreAll}
 use Rattle.luways.specs.Sent.{marked}
@@ -10,8 +10,8 @@ pub returns : goal.returns
 returns c =
     let plan = c.args.plan.now in
     let same = c.flat-flat.ensures.flat in
-    let flows : length c.flows-flows.result.now ≡ flows_of plan.flat = ap length c.flows-flows.ensures.flows ∙ ap (λ (f : FlatProgram). length f.flows) same in
-    let main : length c.variables-variables.result.now ≡ length plan.flat.variables = ap length c.variables-variables.ensures ∙ ap (λ (f : FlatProgram). length f.variables) same in
+    let flows : length c.flows-flows.result.now ≡ flows_of plan.flat = ap length c.flows-flows.ensures.flows ∙ ap (λ (f : FlatView). length f.flows) same in
+    let main : length c.variables-variables.result.now ≡ length plan.flat.variables = ap length c.variables-variables.ensures ∙ ap (λ (f : FlatView). length f.variables) same in
     let cycles = subst (λ (g : Graph). MarksCycles g c.in_ok-cycles.cycles.items) c.as_slice.ensures.value c.in_ok-cycles.ensures.marks in
     let e : c.in_ok-marked.field-0.items ≡ marked c.in_ok-cycles.cycles.items (flows_of plan.flat + flows_of plan.flat) (length plan.flat.variables) =
     c.in_ok-marked.ensures

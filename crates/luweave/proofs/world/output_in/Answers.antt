@@ -1,6 +1,6 @@
 use Rattle.std.proofs.Common.{◌∙◌, subst}
 use Rattle.std.proofs.lemmas.Option.{get_or_from_slice_get}
-use Rattle.lusite.specs.Sites.{SiteAt}
+use Rattle.lusite.specs.Sites.{SiteView}
 use Rattle.lusite.specs.Logs.{IsOutput}
 use Rattle.luweave.proofs.world.output_in.Goals as goal
 
@@ -8,4 +8,4 @@ pub returns : goal.returns
 returns c x e =
     let now = c.index.result.now in
     let same = c.index.ensures ∙ get_or_from_slice_get c.args.sites.now.items c.args.s x now e in
-    subst (λ (v : SiteAt). IsOutput v.job v.site v.done c.args.k c.outputs.result.now) same c.outputs.ensures
+    subst (λ (v : SiteView). IsOutput v.job v.site v.done c.args.k c.outputs.result.now) same c.outputs.ensures

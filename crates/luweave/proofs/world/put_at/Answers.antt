@@ -1,17 +1,17 @@
 use Rattle.std.proofs.Common.{◌++◌, ◌∷◌, [], ap, ◌∙◌, refl}
 use Rattle.std.specs.Prelude.{vec_capacity}
 use Rattle.std.proofs.lemmas.Option.{get_or_from_slice_get}
-use Rattle.luweave.specs.declared.lane.Lane.{Lane}
+use Rattle.luweave.specs.declared.link_queue.LinkQueue.{LinkQueue}
 use Rattle.luweave.proofs.world.put_at.Goals as goal
 
 pub returns : goal.returns
 returns c x e =
-    let now = c.index_mut-lane.result.now in
-    let same = c.index_mut-lane.ensures.value ∙ get_or_from_slice_get c.args.lanes.now.items c.args.l x now e in
+    let now = c.index_mut-link_queue.result.now in
+    let same = c.index_mut-link_queue.ensures.value ∙ get_or_from_slice_get c.args.link_queues.now.items c.args.l x now e in
     record {
-      lane = c.put.new.self;
+      link_queue = c.put.new.self;
       is = refl;
-      items = c.put.ensures.items ∙ ap (λ (y : Lane). y.put.items ++ c.args.msg ∷ []) same;
-      taken = c.put.ensures.taken ∙ ap (λ (y : Lane). y.taken) same;
-      capacity = c.put.ensures.capacity ∙ ap (λ (y : Lane). vec_capacity y.put) same;
+      items = c.put.ensures.items ∙ ap (λ (y : LinkQueue). y.put.items ++ c.args.msg ∷ []) same;
+      taken = c.put.ensures.taken ∙ ap (λ (y : LinkQueue). y.taken) same;
+      capacity = c.put.ensures.capacity ∙ ap (λ (y : LinkQueue). vec_capacity y.put) same;
     }

@@ -1,6 +1,6 @@
 use Rattle.std.proofs.Common.{◌≡◌, drop}
-use Rattle.luworld.specs.World.{run}
-use Rattle.luworld.specs.Runs.{system_of}
+use Rattle.luworld.specs.Systems.{run}
+use Rattle.luworld.specs.Jobs.{system_of}
 use Rattle.luweave.proofs.world.replay.Given as goal
 
 abbrev pub invariant-loop-site : goal.invariant-loop-site

@@ -1,5 +1,5 @@
 use Rattle.std.proofs.Common.{◌≡◌, ◌∙◌, ℕ, List, ap, subst}
-use Rattle.luflow.specs.Program.{FlatProgram}
+use Rattle.luflow.specs.Program.{FlatView}
 use Rattle.luflow.specs.Types.{variable_names}
 use Rattle.luflow.specs.Variables.{variable_name}
 use Rattle.luweave_text.specs.WorldText.{Adds, site_name, carried_line}
@@ -11,8 +11,8 @@ returns c =
     let link = c.args.link.now in
     let taken = c.args.taken.now in
     let queued = c.args.queued in
-    let flow = c.variable_name-flow.ensures ∙ ap (λ (f : FlatProgram). variable_name f link.flow) c.flat.ensures.flat in
-    let names = c.variable_names-names.ensures ∙ ap (λ (f : FlatProgram). variable_names f link.flow) c.flat-2.ensures.flat in
+    let flow = c.variable_name-flow.ensures ∙ ap (λ (f : FlatView). variable_name f link.flow) c.flat.ensures.flat in
+    let names = c.variable_names-names.ensures ∙ ap (λ (f : FlatView). variable_names f link.flow) c.flat-2.ensures.flat in
     let from = c.site_name-from.ensures ∙ ap (λ (ns : List (List ℕ)). site_name ns link.from) c.sites.ensures in
     let to = c.site_name-to.ensures ∙ ap (λ (ns : List (List ℕ)). site_name ns link.to) c.sites-2.ensures in
     let same =

@@ -3,7 +3,7 @@ use Rattle.std.specs.Prelude.{slice_get}
 use Rattle.std.proofs.lemmas.Option.{slice_get-get_or}
 use Rattle.luflow.specs.declared.message.Msg.{Msg}
 use Rattle.luworld.specs.declared.link.Link.{Link}
-use Rattle.luworld.specs.Needs.{Distribution}
+use Rattle.luworld.specs.Needs.{PlanView}
 use Rattle.luweave_text.specs.WorldText.{link_line, links_text, line_of}
 use Rattle.luweave_text.proofs.Texts.{then_more, links_more}
 use Rattle.luweave_text.proofs.text.put_links.Goals as goal
@@ -16,9 +16,9 @@ loop-number-preserved c =
     let none : Link = record { flow = 0; from = 0; to = 0 } in
     let link : Link = get_or items n none in
     let at : slice_get w.job.plan.links n ≡ Some link =
-    ap (λ (q : Distribution). slice_get q.links n) c.requires ∙ ap (λ (xs : List Link). slice_get xs n) (sym c.links-link-items.ensures) ∙ slice_get-get_or items n none c.loop-number-test.true in
+    ap (λ (q : PlanView). slice_get q.links n) c.requires ∙ ap (λ (xs : List Link). slice_get xs n) (sym c.links-link-items.ensures) ∙ slice_get-get_or items n none c.loop-number-test.true in
     let line : link_line c.args.plan.now link c.taken.result.now (length c.queued-queued.result.now) ≡ line_of w (Some link) n =
-    ap (λ (q : Distribution). link_line q link c.taken.result.now (length c.queued-queued.result.now)) (sym c.requires)
+    ap (λ (q : PlanView). link_line q link c.taken.result.now (length c.queued-queued.result.now)) (sym c.requires)
     ∙ ap₂ (λ (xs : List Msg) (ys : List Msg). link_line w.job.plan link xs (length ys)) c.taken.ensures.exact c.queued-queued.ensures.exact in
     let new : string_bytes c.put_link.new.text ≡ string_bytes c.loop-number.text ++ line_of w (Some link) n =
     c.in_ok-put_link.ensures ∙ ap (λ (xs : List ℕ). string_bytes c.loop-number.text ++ xs) line in

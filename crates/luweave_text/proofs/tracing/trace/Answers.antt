@@ -1,5 +1,5 @@
 use Rattle.std.proofs.Common.{[], refl, ap, ◌∙◌, string_bytes}
-use Rattle.luworld.specs.Runs.{Run}
+use Rattle.luworld.specs.Jobs.{JobView}
 use Rattle.luweave_text.specs.Traced.{HasMore}
 use Rattle.luweave_text.proofs.Lines.{no_lines, traced_whole, world_plan}
 use Rattle.luweave_text.proofs.tracing.trace.Goals as goal
@@ -9,7 +9,7 @@ traced_turns-requires c = world_plan c.args.plan.now c.args.sites.items c.in_ok-
 
 pub traced_finish-requires-clause-plan_is : goal.traced_finish-requires-clause-plan_is
 traced_finish-requires-clause-plan_is c =
-    ap (λ (j : Run). j.plan) c.traced_turns.ensures.job ∙ world_plan c.args.plan.now c.args.sites.items c.in_ok-world.world.job c.requires c.in_ok-world.ensures.job
+    ap (λ (j : JobView). j.plan) c.traced_turns.ensures.job ∙ world_plan c.args.plan.now c.args.sites.items c.in_ok-world.world.job c.requires c.in_ok-world.ensures.job
 
 pub returns-then-not-finish-clause-traced : goal.returns-then-not-finish-clause-traced
 returns-then-not-finish-clause-traced c =
@@ -17,19 +17,19 @@ returns-then-not-finish-clause-traced c =
     let w = c.traced_turns.new.world in
     let form = c.args.form in
     let text = string_bytes c.traced_turns.new.text in
-    let made = c.in_ok-told.ensures in
+    let made = c.in_ok-reported.ensures in
     let plan = world_plan c.args.plan.now c.args.sites.items new.job c.requires c.in_ok-world.ensures.job in
-    let none : HasMore form w c.in_ok-told.told text w.dones text = record { more = []; dones_are = refl; text_is = no_lines form w c.in_ok-told.told text } in
-    traced_whole form c.args.plan.now c.args.turns.now c.args.finish new w w c.in_ok-told.told (string_bytes c.in_ok-text.text) text text c.in_ok-world.ensures.dones plan c.in_ok-text.ensures
-    made.job made.dones made.told made.text refl none (λ e. refl) (λ e. absurd cc)
+    let none : HasMore form w c.in_ok-reported.reported text w.dones text = record { more = []; dones_are = refl; text_is = no_lines form w c.in_ok-reported.reported text } in
+    traced_whole form c.args.plan.now c.args.turns.now c.args.finish new w w c.in_ok-reported.reported (string_bytes c.in_ok-text.text) text text c.in_ok-world.ensures.dones plan c.in_ok-text.ensures
+    made.job made.dones made.reported made.text refl none (λ e. refl) (λ e. absurd cc)
 
 pub returns-clause-traced : goal.returns-clause-traced
 returns-clause-traced c =
     let new = c.in_ok-world.world in
     let w = c.traced_turns.new.world in
     let form = c.args.form in
-    let made = c.in_ok-told.ensures in
+    let made = c.in_ok-reported.ensures in
     let done = c.in_ok-traced_finish.ensures in
     let plan = world_plan c.args.plan.now c.args.sites.items new.job c.requires c.in_ok-world.ensures.job in
-    traced_whole form c.args.plan.now c.args.turns.now c.args.finish new w c.traced_finish.new.world c.in_ok-told.told (string_bytes c.in_ok-text.text) (string_bytes c.traced_turns.new.text) (string_bytes c.traced_finish.new.text) c.in_ok-world.ensures.dones plan c.in_ok-text.ensures
-    made.job made.dones made.told made.text done.job done.more (λ e. absurd cc) (λ e. done.quiet)
+    traced_whole form c.args.plan.now c.args.turns.now c.args.finish new w c.traced_finish.new.world c.in_ok-reported.reported (string_bytes c.in_ok-text.text) (string_bytes c.traced_turns.new.text) (string_bytes c.traced_finish.new.text) c.in_ok-world.ensures.dones plan c.in_ok-text.ensures
+    made.job made.dones made.reported made.text done.job done.more (λ e. absurd cc) (λ e. done.quiet)

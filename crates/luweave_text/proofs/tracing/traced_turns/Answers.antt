@@ -1,8 +1,8 @@
 use Rattle.std.proofs.Common.{◌≡◌, ◌+◌, ◌∷◌, drop, get_or, ◌∙◌, arith, string_bytes}
 use Rattle.std.proofs.lemmas.List.{drop_more, drop_all}
-use Rattle.luworld.specs.World.{step}
-use Rattle.luworld.specs.Runs.{system_of}
-use Rattle.luweave_text.proofs.Lines.{progress_is, run_next, told_next, text_next, text_whole, told_whole}
+use Rattle.luworld.specs.Systems.{step}
+use Rattle.luworld.specs.Jobs.{system_of}
+use Rattle.luweave_text.proofs.Lines.{progress_is, run_next, reported_next, text_next, text_whole, reported_whole}
 use Rattle.luweave_text.proofs.tracing.traced_turns.Goals as goal
 
 pub loop-site-preserved : goal.loop-site-preserved
@@ -16,21 +16,21 @@ loop-site-preserved c =
     let s = get_or turns i 0 in
     let rest = drop (i + 1) turns in
     let first : drop i turns ≡ s ∷ rest = drop_more turns i 0 c.loop-site-test.true in
-    let is = progress_is next now.job (step (system_of now.job) now.dones s) c.traced_turn.ensures.job c.in_ok-told.ensures.dones in
+    let is = progress_is next now.job (step (system_of now.job) now.dones s) c.traced_turn.ensures.job c.in_ok-reported.ensures.dones in
     record {
       job = c.traced_turn.ensures.job ∙ h.job;
       dones = run_next form now next s (drop i turns) rest first is ∙ h.dones;
-      text = text_next form now next s (drop i turns) rest first is c.loop-site.told c.in_ok-told.told (string_bytes c.loop-site.text) (string_bytes c.traced_turn.new.text) _ c.in_ok-told.ensures.told c.in_ok-told.ensures.text h.text;
-      told = told_next form now next s (drop i turns) rest first is c.loop-site.told c.in_ok-told.told _ c.in_ok-told.ensures.told h.told;
-      few = c.in_ok-told.ensures.few;
+      text = text_next form now next s (drop i turns) rest first is c.loop-site.reported c.in_ok-reported.reported (string_bytes c.loop-site.text) (string_bytes c.traced_turn.new.text) _ c.in_ok-reported.ensures.reported c.in_ok-reported.ensures.text h.text;
+      reported = reported_next form now next s (drop i turns) rest first is c.loop-site.reported c.in_ok-reported.reported _ c.in_ok-reported.ensures.reported h.reported;
+      few = c.in_ok-reported.ensures.few;
     }
 
 pub returns-clause-text : goal.returns-clause-text
 returns-clause-text c =
     let left = drop c.loop-site.site-index c.args.turns.now in
-    text_whole c.args.form c.loop-site.world c.loop-site.told left (string_bytes c.loop-site.text) _ (drop_all c.loop-site.site-index c.args.turns.now (omega (arith, c.loop-site-test.false))) c.loop-site.invariant.text
+    text_whole c.args.form c.loop-site.world c.loop-site.reported left (string_bytes c.loop-site.text) _ (drop_all c.loop-site.site-index c.args.turns.now (omega (arith, c.loop-site-test.false))) c.loop-site.invariant.text
 
-pub returns-clause-told : goal.returns-clause-told
-returns-clause-told c =
+pub returns-clause-reported : goal.returns-clause-reported
+returns-clause-reported c =
     let left = drop c.loop-site.site-index c.args.turns.now in
-    told_whole c.args.form c.loop-site.world c.loop-site.told left _ (drop_all c.loop-site.site-index c.args.turns.now (omega (arith, c.loop-site-test.false))) c.loop-site.invariant.told
+    reported_whole c.args.form c.loop-site.world c.loop-site.reported left _ (drop_all c.loop-site.site-index c.args.turns.now (omega (arith, c.loop-site-test.false))) c.loop-site.invariant.reported

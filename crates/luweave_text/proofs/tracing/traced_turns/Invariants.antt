@@ -1,14 +1,14 @@
 use Rattle.std.proofs.Common.{◌≡◌, ◌≤◌, ◌++◌, length, drop, string_bytes}
-use Rattle.luworld.specs.World.{run}
-use Rattle.luworld.specs.Runs.{system_of}
-use Rattle.luweave_text.specs.Traced.{trace_text, told_of}
+use Rattle.luworld.specs.Systems.{run}
+use Rattle.luworld.specs.Jobs.{system_of}
+use Rattle.luweave_text.specs.Traced.{trace_text, reported_of}
 use Rattle.luweave_text.proofs.tracing.traced_turns.Given as goal
 
 abbrev pub invariant-loop-site : goal.invariant-loop-site
 invariant-loop-site l = record {
   job : l.world.job ≡ l.initial.world.job;
   dones : run (system_of l.world.job) l.world.dones (drop l.site-index l.turns) ≡ run (system_of l.initial.world.job) l.initial.world.dones l.turns;
-  text : string_bytes l.text ++ trace_text l.form l.world l.told (drop l.site-index l.turns) ≡ string_bytes l.initial.text ++ trace_text l.form l.initial.world 0 l.turns;
-  told : told_of l.form l.world l.told (drop l.site-index l.turns) ≡ told_of l.form l.initial.world 0 l.turns;
-  few : l.told ≤ length (string_bytes l.text);
+  text : string_bytes l.text ++ trace_text l.form l.world l.reported (drop l.site-index l.turns) ≡ string_bytes l.initial.text ++ trace_text l.form l.initial.world 0 l.turns;
+  reported : reported_of l.form l.world l.reported (drop l.site-index l.turns) ≡ reported_of l.form l.initial.world 0 l.turns;
+  few : l.reported ≤ length (string_bytes l.text);
 }

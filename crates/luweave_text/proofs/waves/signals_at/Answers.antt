@@ -1,9 +1,9 @@
 use Rattle.std.proofs.Common.{◌≡◌, ◌∙◌, ℕ, List, sym, ap}
 use Rattle.std.specs.Prelude.{Some, slice_get}
 use Rattle.std.proofs.lemmas.Option.{slice_get-get_or}
-use Rattle.luflow.specs.Program.{FlatProgram}
-use Rattle.luworld.specs.Needs.{Distribution}
-use Rattle.luworld.specs.Runs.{outputs_of}
+use Rattle.luflow.specs.Program.{FlatView}
+use Rattle.luworld.specs.Needs.{PlanView}
+use Rattle.luworld.specs.Jobs.{outputs_of}
 use Rattle.luchart.specs.Signals.{Signal, signal_view}
 use Rattle.luweave_text.specs.Waves.{variable_signal, IsOutputSignal}
 use Rattle.luweave_text.proofs.Signals.{one_longer, one_more}
@@ -22,9 +22,9 @@ loop-k-preserved c =
     let all : numbers ≡ outputs_of w.job.plan = c.requires.outputs ∙ ap outputs_of (sym c.requires.plan_is) in
     let there : slice_get (outputs_of w.job.plan) k ≡ Some v =
     ap (λ (ns : List ℕ). slice_get ns k) (sym all) ∙ slice_get-get_or numbers k 0 c.loop-k-test.true ∙ ap (λ (n : ℕ). Some n) (sym c.number_at-variable.ensures) in
-    let flat : c.flat-flat.result.now ≡ w.job.plan.flat = c.flat-flat.ensures.flat ∙ ap (λ (p : Distribution). p.flat) (sym c.requires.plan_is) in
+    let flat : c.flat-flat.result.now ≡ w.job.plan.flat = c.flat-flat.ensures.flat ∙ ap (λ (p : PlanView). p.flat) (sym c.requires.plan_is) in
     let statuses = c.outputs.result.now in
-    let signal : signal_view x ≡ variable_signal w.job.plan.flat v statuses = c.variable_signal.ensures ∙ ap (λ (f : FlatProgram). variable_signal f v statuses) flat in
+    let signal : signal_view x ≡ variable_signal w.job.plan.flat v statuses = c.variable_signal.ensures ∙ ap (λ (f : FlatView). variable_signal f v statuses) flat in
     let known : (signal_view x).statuses ≡ statuses = ap (λ (s : Signal). s.statuses) signal in
     let here : IsOutputSignal w k (signal_view x) =
     record {

@@ -1,6 +1,6 @@
 use Rattle.std.proofs.Common.{refl}
 use Rattle.luflow.specs.Solution.{solution}
-use Rattle.luworld.specs.Runs.{link_list}
+use Rattle.luworld.specs.Jobs.{link_list}
 use Rattle.luworld.proofs.WorkedChains.{idle_is_run, lonely_is_run}
 use Rattle.luworld.proofs.laws.idle_vectors_law.Goals as goal
 

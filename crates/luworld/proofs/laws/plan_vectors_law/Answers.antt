@@ -1,6 +1,6 @@
 use Rattle.std.proofs.Common.{[], ◌∷◌, refl, arith}
 use Rattle.luflow.specs.Solution.{solution}
-use Rattle.luworld.specs.Runs.{link_list}
+use Rattle.luworld.specs.Jobs.{link_list}
 use Rattle.luworld.proofs.WorkedPlans.{sites_are}
 use Rattle.luworld.proofs.WorkedChains.{handed_is_run, chained_is_run}
 use Rattle.luworld.proofs.laws.plan_vectors_law.Goals as goal

@@ -1,5 +1,5 @@
-use Rattle.luworld.specs.World.{reached}
-use Rattle.luworld.proofs.Runs.{good_reached}
+use Rattle.luworld.specs.Systems.{reached}
+use Rattle.luworld.proofs.Jobs.{good_reached}
 use Rattle.luworld.proofs.Ends.{reachable_done, none_moves}
 use Rattle.luworld.proofs.laws.quiet_law.Goals as goal
 

@@ -1,4 +1,4 @@
-use Rattle.luworld.proofs.Runs.{good_reached}
+use Rattle.luworld.proofs.Jobs.{good_reached}
 use Rattle.luworld.proofs.laws.reachable_law.Goals as goal
 
 pub returns : goal.returns

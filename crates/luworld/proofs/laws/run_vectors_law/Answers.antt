@@ -1,6 +1,6 @@
 use Rattle.std.proofs.Common.{refl}
 use Rattle.luflow.specs.Solution.{solution}
-use Rattle.luworld.specs.Runs.{link_list}
+use Rattle.luworld.specs.Jobs.{link_list}
 use Rattle.luworld.proofs.WorkedPlans.{counters_is_run, sum_is_run, shared_is_run, spread_is_run, division_is_run, quotient_is_run, returned_is_run, held_is_run}
 use Rattle.luworld.proofs.laws.run_vectors_law.Goals as goal
 

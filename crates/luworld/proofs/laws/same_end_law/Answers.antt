@@ -1,5 +1,5 @@
-use Rattle.luworld.specs.World.{reached}
-use Rattle.luworld.proofs.Runs.{good_reached}
+use Rattle.luworld.specs.Systems.{reached}
+use Rattle.luworld.proofs.Jobs.{good_reached}
 use Rattle.luworld.proofs.Ends.{same_end}
 use Rattle.luworld.proofs.laws.same_end_law.Goals as goal
 

@@ -1,6 +1,6 @@
 use Rattle.std.proofs.Common.{◌≡◌, ◌++◌, [], map, drop}
 use Rattle.luworld.specs.Outline.{cut}
-use Rattle.luworld.specs.Runs.{outline, streams_of}
+use Rattle.luworld.specs.Jobs.{outline, streams_of}
 use Rattle.test_reference.specs.AsItem.{as_item}
 use Rattle.test_reference.proofs.scripts.cut.Given as goal
 

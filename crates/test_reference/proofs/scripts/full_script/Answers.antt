@@ -1,7 +1,7 @@
 use Rattle.std.proofs.Common.{◌≡◌, ◌+◌, ◌∙◌, ap, sym, arith, ◌++◌, flat_map}
 use Rattle.std.specs.List.{range_with_len}
 use Rattle.luworld.specs.Outline.{Outline, round}
-use Rattle.luworld.specs.Runs.{outline, streams_of}
+use Rattle.luworld.specs.Jobs.{outline, streams_of}
 use Rattle.luworld.proofs.Rounds.{rounds_are}
 use Rattle.test_reference.proofs.Scripted.{range_pieces}
 use Rattle.test_reference.proofs.scripts.full_script.Goals as goal

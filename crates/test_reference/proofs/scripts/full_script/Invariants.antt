@@ -1,7 +1,7 @@
 use Rattle.std.proofs.Common.{◌≡◌, map, flat_map}
 use Rattle.std.specs.List.{range_with_len}
 use Rattle.luworld.specs.Outline.{round}
-use Rattle.luworld.specs.Runs.{outline, streams_of}
+use Rattle.luworld.specs.Jobs.{outline, streams_of}
 use Rattle.test_reference.specs.AsItem.{as_item}
 use Rattle.test_reference.proofs.scripts.full_script.Given as goal
 

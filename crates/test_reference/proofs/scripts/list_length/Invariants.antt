@@ -1,6 +1,6 @@
 use Rattle.std.proofs.Common.{◌≡◌, ◌+◌, ◌-◌, ◌≤◌}
 use Rattle.luworld.specs.Outline.{messages_from}
-use Rattle.luworld.specs.Runs.{outline, streams_of}
+use Rattle.luworld.specs.Jobs.{outline, streams_of}
 use Rattle.test_reference.proofs.scripts.list_length.Given as goal
 
 abbrev pub invariant-loop-instant : goal.invariant-loop-instant

@@ -1,6 +1,6 @@
 use Rattle.std.proofs.Common.{◌≡◌, map, flat_map, take}
 use Rattle.luworld.specs.Outline.{round_cell}
-use Rattle.luworld.specs.Runs.{outline, streams_of}
+use Rattle.luworld.specs.Jobs.{outline, streams_of}
 use Rattle.test_reference.specs.AsItem.{as_item}
 use Rattle.test_reference.proofs.scripts.round.Given as goal
 

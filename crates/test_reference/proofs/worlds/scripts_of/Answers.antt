@@ -1,5 +1,5 @@
 use Rattle.std.proofs.Common.{map, ◌∙◌, ap}
-use Rattle.luworld.specs.Runs.{script, streams_of}
+use Rattle.luworld.specs.Jobs.{script, streams_of}
 use Rattle.test_reference.specs.AsItem.{as_item}
 use Rattle.test_reference.proofs.Ranges.{map_pushed}
 use Rattle.test_reference.proofs.AllScripts.{scripts_are}

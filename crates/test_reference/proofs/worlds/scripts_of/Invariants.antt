@@ -1,6 +1,6 @@
 use Rattle.std.proofs.Common.{◌≡◌, map}
 use Rattle.std.specs.List.{range_with_len}
-use Rattle.luworld.specs.Runs.{script, streams_of}
+use Rattle.luworld.specs.Jobs.{script, streams_of}
 use Rattle.test_reference.specs.AsItem.{as_item}
 use Rattle.test_reference.proofs.worlds.scripts_of.Given as goal
 

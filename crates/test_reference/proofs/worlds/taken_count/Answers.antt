@@ -1,7 +1,7 @@
 use Rattle.std.proofs.Common.{◌≡◌, ℕ, List, take, count_by, ◌∙◌, ap, ap₂}
-use Rattle.luworld.specs.World.{done, takes}
-use Rattle.luworld.specs.Needs.{Distribution}
-use Rattle.luworld.specs.Runs.{receiver_of, script, streams_of}
+use Rattle.luworld.specs.Systems.{done, takes}
+use Rattle.luworld.specs.Needs.{PlanView}
+use Rattle.luworld.specs.Jobs.{receiver_of, script, streams_of}
 use Rattle.test_reference.specs.declared.item.Item.{Item}
 use Rattle.test_reference.specs.AsItem.{as_item}
 use Rattle.test_reference.proofs.AllScripts.{counted_in}
@@ -13,7 +13,7 @@ returns c =
     let link = c.args.link in
     let rows = c.args.scripts.now in
     let world = c.args.world.now in
-    let site : c.from-receiver.result ≡ receiver_of plan link = c.from-receiver.ensures ∙ c.receiver_of.ensures ∙ ap (λ (p : Distribution). receiver_of p link) c.plan.ensures.plan in
+    let site : c.from-receiver.result ≡ receiver_of plan link = c.from-receiver.ensures ∙ c.receiver_of.ensures ∙ ap (λ (p : PlanView). receiver_of p link) c.plan.ensures.plan in
     c.takes_in.ensures
     ∙ ap₂ (λ (n : ℕ) (xs : List Item). count_by (λ item. takes link (as_item item)) (take n xs)) c.done.ensures c.script_in.ensures
     ∙ counted_in (takes link) c.args.job.now rows c.from-receiver.result (done world c.from-receiver.result) c.requires

@@ -1,6 +1,6 @@
 use Rattle.std.proofs.Common.{◌≡◌, drop}
-use Rattle.luworld.specs.Runs.{system_of}
-use Rattle.luworld.specs.World.{run, reached}
+use Rattle.luworld.specs.Jobs.{system_of}
+use Rattle.luworld.specs.Systems.{run, reached}
 use Rattle.test_reference.proofs.worlds.world_by.Given as goal
 
 abbrev pub invariant-loop-site : goal.invariant-loop-site

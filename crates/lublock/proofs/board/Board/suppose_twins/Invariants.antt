@@ -1,10 +1,10 @@
 use Rattle.std.proofs.Common.{◌≡◌, ℕ, length}
-use Rattle.luflow.specs.Program.{FlatProgram, Table}
+use Rattle.luflow.specs.Program.{FlatView, InputsView}
 use Rattle.lublock.specs.Boards.{StandsStill}
 use Rattle.lublock.proofs.board.Board.suppose_twins.Given as goal
 
 abbrev pub invariant-loop-twin : goal.invariant-loop-twin
 invariant-loop-twin l = record {
-  stands : (flat : FlatProgram) (inputs : Table) (t len : ℕ) → StandsStill flat inputs t len l.fn.self l.self;
+  stands : (flat : FlatView) (inputs : InputsView) (t len : ℕ) → StandsStill flat inputs t len l.fn.self l.self;
   flows : length l.self.spans.items ≡ length l.fn.self.spans.items;
 }

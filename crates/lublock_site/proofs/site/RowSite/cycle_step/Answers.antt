@@ -1,5 +1,5 @@
 use Rattle.std.proofs.Common.{◌≡◌, subst, ◌∙◌}
-use Rattle.luflow.specs.Program.{FlatProgram}
+use Rattle.luflow.specs.Program.{FlatView}
 use Rattle.lublock.specs.Boards.{StandsStill}
 use Rattle.lublock_site.proofs.Moving.{going_cycle}
 use Rattle.lublock_site.proofs.site.RowSite.cycle_step.Goals as goal
@@ -10,4 +10,4 @@ returns-clause-going c =
     let job = x.job.value in
     let flat_is : c.deref-flat.result.now ≡ job.plan.flat = c.deref-flat.ensures ∙ c.requires.frame.flat in
     going_cycle x c.cycle.new.self _ c.requires
-    (subst (λ (f : FlatProgram). StandsStill f job.inputs x.t x.len x.board c.cycle.new.self) flat_is (c.cycle.ensures.stands job.inputs x.t))
+    (subst (λ (f : FlatView). StandsStill f job.inputs x.t x.len x.board c.cycle.new.self) flat_is (c.cycle.ensures.stands job.inputs x.t))

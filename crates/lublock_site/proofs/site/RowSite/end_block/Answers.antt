@@ -1,7 +1,7 @@
 use Rattle.std.proofs.Common.{rules, ◌≡◌, ℕ, ◌+◌, ◌≤◌, List, Some, sym, subst, ap, ◌∙◌, arith}
 use Rattle.std.specs.Prelude.{slice_get}
-use Rattle.luflow.specs.Program.{FlatProgram, flows_of}
-use Rattle.luworld.specs.Runs.{streams_of}
+use Rattle.luflow.specs.Program.{FlatView, flows_of}
+use Rattle.luworld.specs.Jobs.{streams_of}
 use Rattle.lublock_kernels.specs.Parts.{knows}
 use Rattle.lublock.specs.Boards.{IsAfter}
 use Rattle.lublock.specs.Shown.{AreKept, StaysNearIn}
@@ -21,14 +21,14 @@ returns-clause-going c =
     let going = c.requires in
     let whole = c.is_whole.ensures c.if-not-is_whole.false in
     let within : x.t + x.len ≤ job.inputs.instants = let w = going.within in let all = going.frame.instants in omega (arith, w, all) in
-    let all : AreAllSure (flows_of job.plan.flat) x.frame.own.items x.frame.taken.items x.sure.items = subst (λ (f : FlatProgram). AreAllSure (flows_of f) x.frame.own.items x.frame.taken.items x.sure.items) going.frame.flat whole.sure in
-    let after : IsAfter job.plan.flat x.board c.renew.new.self = subst (λ (f : FlatProgram). IsAfter f x.board c.renew.new.self) flat_is c.renew.ensures in
+    let all : AreAllSure (flows_of job.plan.flat) x.frame.own.items x.frame.taken.items x.sure.items = subst (λ (f : FlatView). AreAllSure (flows_of f) x.frame.own.items x.frame.taken.items x.sure.items) going.frame.flat whole.sure in
+    let after : IsAfter job.plan.flat x.board c.renew.new.self = subst (λ (f : FlatView). IsAfter f x.board c.renew.new.self) flat_is c.renew.ensures in
     let right = block_right job x.site x.frame going.frame x.t x.len within x.board x.sure.items going.sheet all in
     let shown : StaysNearIn job.plan.flat x.t x.len x.board x.frame.needs.items x.columns.items c.show_part.new.columns.items =
-    subst (λ (f : FlatProgram). StaysNearIn f x.t x.len x.board x.frame.needs.items x.columns.items c.show_part.new.columns.items) flat_is
+    subst (λ (f : FlatView). StaysNearIn f x.t x.len x.board x.frame.needs.items x.columns.items c.show_part.new.columns.items) flat_is
     (subst (λ (needs : List ℕ). StaysNearIn c.deref-flat.result.now x.t x.len x.board needs x.columns.items c.show_part.new.columns.items) c.as_slice-needs.ensures.value (c.in-Ok-false.ensures.near (search rules))) in
     let near = shown.near (part_in x.frame) job.inputs (streams_of job) going.frame.run.fit (solved job going.frame.run) within going.frame.needs right going.past.near in
-    let kept : AreKept job.plan.flat c.show_part.new.columns.items c.clear_others.new.columns.items = subst (λ (f : FlatProgram). AreKept f c.show_part.new.columns.items c.clear_others.new.columns.items) flat_is c.clear_others.ensures.kept in
+    let kept : AreKept job.plan.flat c.show_part.new.columns.items c.clear_others.new.columns.items = subst (λ (f : FlatView). AreKept f c.show_part.new.columns.items c.clear_others.new.columns.items) flat_is c.clear_others.ensures.kept in
     record {
       frame = going.frame;
       within = c.next_len-self.ensures;

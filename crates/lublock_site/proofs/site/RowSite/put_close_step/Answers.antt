@@ -1,7 +1,7 @@
 use Rattle.std.proofs.Common.{rules, ◌≡◌, false, Some, sym, subst, ap, ◌∙◌}
 use Rattle.std.specs.Prelude.{slice_get}
 use Rattle.std.proofs.lemmas.Option.{same_Some}
-use Rattle.luflow.specs.Program.{FlatProgram}
+use Rattle.luflow.specs.Program.{FlatView}
 use Rattle.luflow.proofs.Solutions.{some_at}
 use Rattle.lublock_kernels.proofs.Steps.{got}
 use Rattle.lublock_site.specs.Going.{HasSentAt, IsGoing}
@@ -19,7 +19,7 @@ put_close_at-requires-clause-may c = λ o there.
     let same : c.index-outlet.result.now ≡ o = same_Some c.index-outlet.result.now o (sym here ∙ there) in
     let unclosed : o.closed ≡ false = ap (λ (p : Outlet). p.closed) (sym same) ∙ c.if-outlet.false in
     let none : o.sent ≡ 0 = ap (λ (p : Outlet). p.sent) (sym same) ∙ (search rules) in
-    subst (λ (f : FlatProgram). MayClose f o) (sym flat_is) (may_end x c.requires c.args.k o there (search rules) none unclosed)
+    subst (λ (f : FlatView). MayClose f o) (sym flat_is) (may_end x c.requires c.args.k o there (search rules) none unclosed)
 
 pub returns-clause-going : goal.returns-clause-going
 returns-clause-going c =
@@ -30,5 +30,5 @@ returns-clause-going c =
     (λ has.
     let o = some_at x.outlets.items c.args.k (search rules) in
     let s = has o.0 o.1 in
-    going_sent x c.put_close_at.new.outlets c.args.k o.0 s.0 c.requires o.1 s.1 (subst (λ (f : FlatProgram). HasSent f o.0 s.0) flat_is s.2))
+    going_sent x c.put_close_at.new.outlets c.args.k o.0 s.0 c.requires o.1 s.1 (subst (λ (f : FlatView). HasSent f o.0 s.0) flat_is s.2))
     c.put_close_at.ensures

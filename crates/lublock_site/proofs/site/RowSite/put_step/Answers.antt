@@ -2,7 +2,7 @@ use Rattle.std.proofs.Common.{rules, ◌≡◌, ℤ, List, Bool, true, false, So
 use Rattle.std.specs.Prelude.{Vec, slice_get}
 use Rattle.std.specs.declared.alloc.Global.{Global}
 use Rattle.std.proofs.lemmas.Option.{same_Some}
-use Rattle.luflow.specs.Program.{FlatProgram}
+use Rattle.luflow.specs.Program.{FlatView}
 use Rattle.luflow.proofs.Solutions.{some_at}
 use Rattle.lublock_kernels.specs.declared.span.Span.{Span}
 use Rattle.lublock_kernels.specs.Machine.{ticks_of}
@@ -23,7 +23,7 @@ put_at-requires-clause-may c = λ o there.
     let same : c.index-outlet.result.now ≡ o = same_Some c.index-outlet.result.now o (sym here ∙ there) in
     let unclosed : o.closed ≡ false = ap (λ (p : Outlet). p.closed) (sym same) ∙ c.if-outlet.false in
     let is_sure : marked x.sure.items o.flow ≡ true = subst (λ (p : Outlet). marked x.sure.items p.flow ≡ true) same (subst (λ (xs : List Bool). marked xs c.index-outlet.result.now.flow ≡ true) c.as_slice.ensures.value (sym c.is_marked.ensures ∙ c.if-not-is_marked.false)) in (
-      subst (λ (f : FlatProgram). MaySend f c.as_slice-rows.result.now c.as_slice-spans.result.now o) (sym flat_is)
+      subst (λ (f : FlatView). MaySend f c.as_slice-rows.result.now c.as_slice-spans.result.now o) (sym flat_is)
           (subst (λ (rows : List (Vec ℤ Global)). MaySend job.plan.flat rows c.as_slice-spans.result.now o) (sym c.as_slice-rows.ensures.value)
           (subst (λ (spans : List Span). MaySend job.plan.flat x.board.rows.items spans o) (sym c.as_slice-spans.ensures.value) (may_send x c.requires c.args.k o there unclosed is_sure))),
       c.ticks_at-to.ensures ∙ ap (λ (p : Outlet). ticks_of c.as_slice-spans.result.now p.flow) same,
@@ -38,5 +38,5 @@ returns-clause-going c =
     (λ has.
     let o = some_at x.outlets.items c.args.k (search rules) in
     let s = has o.0 o.1 in
-    going_run (record x { outlets = c.put_at.new.outlets }) c.put_at.new.run (going_sent x c.put_at.new.outlets c.args.k o.0 s.0 c.requires o.1 s.1 (subst (λ (f : FlatProgram). HasSent f o.0 s.0) flat_is s.2)))
+    going_run (record x { outlets = c.put_at.new.outlets }) c.put_at.new.run (going_sent x c.put_at.new.outlets c.args.k o.0 s.0 c.requires o.1 s.1 (subst (λ (f : FlatView). HasSent f o.0 s.0) flat_is s.2)))
     c.put_at.ensures

@@ -1,5 +1,5 @@
 use Rattle.std.proofs.Common.{◌≡◌, Bool, List, sym, subst, ◌∙◌}
-use Rattle.luflow.specs.Program.{FlatProgram}
+use Rattle.luflow.specs.Program.{FlatView}
 use Rattle.lublock.specs.Boards.{StandsStill}
 use Rattle.lublock_kernels.specs.Parts.{IsPart}
 use Rattle.lublock_site.specs.Marks.{marked_part}
@@ -16,10 +16,10 @@ returns-clause-going c =
     let own = c.as_slice-2.result.now in
     let flat = c.deref-flat.result.now in
     let taken = x.frame.taken.items in
-    let part : IsPart flat (marked_part own taken) = subst (λ (f : FlatProgram). IsPart f (marked_part own taken)) (sym flat_is) (subst (λ (xs : List Bool). IsPart job.plan.flat (marked_part xs taken)) (sym own_is) c.requires.frame.part) in
+    let part : IsPart flat (marked_part own taken) = subst (λ (f : FlatView). IsPart f (marked_part own taken)) (sym flat_is) (subst (λ (xs : List Bool). IsPart job.plan.flat (marked_part xs taken)) (sym own_is) c.requires.frame.part) in
     let was : AreSure flat own taken x.board.spans.items x.sure.items =
-    subst (λ (f : FlatProgram). AreSure f own taken x.board.spans.items x.sure.items) (sym flat_is) (subst (λ (xs : List Bool). AreSure job.plan.flat xs taken x.board.spans.items x.sure.items) (sym own_is) c.requires.sheet.sure) in
+    subst (λ (f : FlatView). AreSure f own taken x.board.spans.items x.sure.items) (sym flat_is) (subst (λ (xs : List Bool). AreSure job.plan.flat xs taken x.board.spans.items x.sure.items) (sym own_is) c.requires.sheet.sure) in
     let now = c.admit.ensures.sure c.if-admit.false taken part was in
     going_sure x c.admit.new.board c.admit.new.sure c.requires
-    (subst (λ (f : FlatProgram). StandsStill f job.inputs x.t x.len x.board c.admit.new.board) flat_is (c.admit.ensures.stands job.inputs x.t x.len))
-    (subst (λ (xs : List Bool). AreSure job.plan.flat xs taken c.admit.new.board.spans.items c.admit.new.sure.items) own_is (subst (λ (f : FlatProgram). AreSure f own taken c.admit.new.board.spans.items c.admit.new.sure.items) flat_is now))
+    (subst (λ (f : FlatView). StandsStill f job.inputs x.t x.len x.board c.admit.new.board) flat_is (c.admit.ensures.stands job.inputs x.t x.len))
+    (subst (λ (xs : List Bool). AreSure job.plan.flat xs taken c.admit.new.board.spans.items c.admit.new.sure.items) own_is (subst (λ (f : FlatView). AreSure f own taken c.admit.new.board.spans.items c.admit.new.sure.items) flat_is now))

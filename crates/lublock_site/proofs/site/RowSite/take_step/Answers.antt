@@ -1,7 +1,7 @@
 use Rattle.std.proofs.Common.{rules, ◌≡◌, Bool, List, false, Some, sym, subst, ap, ◌∙◌}
 use Rattle.std.specs.Prelude.{slice_get}
 use Rattle.std.proofs.lemmas.Option.{same_Some}
-use Rattle.luflow.specs.Program.{FlatProgram}
+use Rattle.luflow.specs.Program.{FlatView}
 use Rattle.luflow.proofs.Solutions.{some_at}
 use Rattle.lublock_kernels.specs.declared.span.Span.{Span}
 use Rattle.lublock_kernels.specs.Machine.{upto_of}
@@ -21,7 +21,7 @@ returns-clause-going c =
     let flat_is : c.deref-flat.result.now ≡ job.plan.flat = c.deref-flat.ensures ∙ c.requires.frame.flat in
     let board = c.count.new.self in
     let y = record x { board = board } in
-    let going : IsGoing y = going_still x board c.requires (subst (λ (f : FlatProgram). StandsStill f job.inputs x.t x.len x.board board) flat_is (c.count.ensures.stands job.inputs x.t)) in
+    let going : IsGoing y = going_still x board c.requires (subst (λ (f : FlatView). StandsStill f job.inputs x.t x.len x.board board) flat_is (c.count.ensures.stands job.inputs x.t)) in
     goes_map c.take_at.result (HasBroughtAt c.deref-flat.result.now c.args.k board x.sources.items c.take_at.new.board c.take_at.new.sources.items) (IsGoing (record x { board = c.take_at.new.board; sources = c.take_at.new.sources; run = c.take_at.new.run }))
     (λ has.
     let here : slice_get x.sources.items c.args.k ≡ Some c.index-source.result.now = got x.sources.items c.args.k c.index-source.result.now (search rules) c.index-source.ensures in
@@ -34,5 +34,5 @@ returns-clause-going c =
     let free : marked x.frame.own.items s.flow ≡ false =
     ap (marked x.frame.own.items) flow ∙ subst (λ (xs : List Bool). marked xs c.args.i ≡ false) c.as_slice-2.ensures.value (sym c.is_marked.ensures ∙ c.if-is_marked.false) in
     going_run (record x { board = c.take_at.new.board; sources = c.take_at.new.sources }) c.take_at.new.run
-    (going_brought y c.take_at.new.board c.take_at.new.sources c.args.k s h.0 going here unclosed even free h.1 (subst (λ (f : FlatProgram). HasBrought f s.flow board s c.take_at.new.board h.0) flat_is h.2)))
+    (going_brought y c.take_at.new.board c.take_at.new.sources c.args.k s h.0 going here unclosed even free h.1 (subst (λ (f : FlatView). HasBrought f s.flow board s c.take_at.new.board h.0) flat_is h.2)))
     c.take_at.ensures

@@ -1,6 +1,6 @@
 use Rattle.std.proofs.Common.{◌≡◌, false, sym, ap, ◌∙◌}
 use Rattle.luworld.specs.Needs.{sites_of}
-use Rattle.luworld.specs.Runs.{Run}
+use Rattle.luworld.specs.Jobs.{JobView}
 use Rattle.lublock_site.specs.Going.{IsGoing}
 use Rattle.lublock_site.proofs.Moving.{goes_on}
 use Rattle.lublock_site.proofs.Reported.{same_row}
@@ -14,7 +14,7 @@ invariant_of-self c =
     let inv = c.self.invariant in
     record {
       at = same_row x y same inv.at;
-      sites = inv.sites ∙ ap (λ (j : Run). sites_of j.plan) (sym same.0);
+      sites = inv.sites ∙ ap (λ (j : JobView). sites_of j.plan) (sym same.0);
       none = inv.none;
       going = λ open'. goes_on c.go-tried.result (IsGoing y) (sym c.is_over-self-inside.ensures ∙ open') c.go-tried.ensures.going;
     }

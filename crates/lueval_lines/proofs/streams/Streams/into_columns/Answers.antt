@@ -4,7 +4,7 @@ use Rattle.luflow.specs.declared.variable.Variable.{Variable}
 use Rattle.luflow.specs.Tables.{AreOutputs}
 use Rattle.lueval_lines.specs.Columns.{lists_of}
 use Rattle.lueval_lines.specs.Outputs.{columns_in}
-use Rattle.lueval_lines.proofs.Told.{Pairs, lists_long}
+use Rattle.lueval_lines.proofs.Reported.{Pairs, lists_long}
 use Rattle.lueval_lines.proofs.Named.{are_columns}
 use Rattle.lueval_lines.proofs.streams.Streams.into_columns.Goals as goal
 

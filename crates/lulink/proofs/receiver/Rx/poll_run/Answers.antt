@@ -4,7 +4,7 @@ use Rattle.lulink.specs.declared.rule.Terms.{Terms}
 use Rattle.lulink.specs.Words.{IsFinal}
 use Rattle.lulink.specs.Views.{ReceiverView, IsRunTaken}
 use Rattle.lulink.specs.Seen.{PolledRun}
-use Rattle.lulink.specs.Insides.{told_list, receiver_view, IsTakeSide}
+use Rattle.lulink.specs.Insides.{given_list, receiver_view, IsTakeSide}
 use Rattle.lulink.proofs.Ends.{receiver_ran, receiver_learned, receiver_whole}
 use Rattle.lulink.proofs.receiver.Rx.poll_run.Goals as goal
 use Rattle.lulink.proofs.receiver.Rx.poll_run.Goals.{After-take_run}
@@ -17,7 +17,7 @@ returns-clause-taken c =
     let d = c.deref-ring.ensures in
     let e = c.take_run.ensures in
     subst (λ (r : ReceiverView). IsRunTaken c.take_run.result c.args.into.now.items c.take_run.new.into.items r (receiver_view record { ring = c.self.inside.ring; side = c.take_run.new.self; link = c.self.inside.link })) c.self.view_is
-    (receiver_ran c.self.inside c.take_run.new.self c.take_run.result _ _ c.self.invariant (side (goal.at.returns-clause-taken c).After-take_run) e.count (e.into ∙ (λ i. c.args.into.now.items ++ take c.take_run.result (drop c.self.inside.side.count (told_list (d i).shared.key)))))
+    (receiver_ran c.self.inside c.take_run.new.self c.take_run.result _ _ c.self.invariant (side (goal.at.returns-clause-taken c).After-take_run) e.count (e.into ∙ (λ i. c.args.into.now.items ++ take c.take_run.result (drop c.self.inside.side.count (given_list (d i).shared.key)))))
 
 pub returns-clause-whole : goal.returns-clause-whole
 returns-clause-whole c =

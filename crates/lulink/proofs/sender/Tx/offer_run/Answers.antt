@@ -5,14 +5,14 @@ use Rattle.lulink.specs.declared.rule.Terms.{Terms}
 use Rattle.lulink.specs.Words.{number, IsFinal}
 use Rattle.lulink.specs.Views.{SenderView, HasPutAll}
 use Rattle.lulink.specs.Seen.{OfferedRun}
-use Rattle.lulink.specs.Insides.{told_list, sender_view, IsPutSide}
+use Rattle.lulink.specs.Insides.{given_list, sender_view, IsPutSide}
 use Rattle.lulink.proofs.Ends.{all_next_at, sender_ran, sender_learned}
 use Rattle.lulink.proofs.sender.Tx.offer_run.Goals as goal
 
 pub put_run-requires-clause-next : goal.put_run-requires-clause-next
 put_run-requires-clause-next c k m at =
     let d = c.deref-ring.ensures in
-    (λ i. slice_get (told_list (d i).shared.key) (c.self.inside.side.count + k)) ∙ all_next_at c.self.inside _ _ c.self.invariant c.self.view_is c.requires k m at
+    (λ i. slice_get (given_list (d i).shared.key) (c.self.inside.side.count + k)) ∙ all_next_at c.self.inside _ _ c.self.invariant c.self.view_is c.requires k m at
 
 pub returns-clause-put : goal.returns-clause-put
 returns-clause-put c =

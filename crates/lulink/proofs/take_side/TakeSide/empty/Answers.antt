@@ -1,7 +1,7 @@
 use Rattle.std.proofs.Common.{◌+◌, ◌%◌, [], ◌∷◌, ◌++◌, append_assoc, take, drop, ap, sym, ◌∙◌, arith}
 use Rattle.std.specs.Prelude.{slice_get}
 use Rattle.std.proofs.Math.Nat.{mod-lt}
-use Rattle.lulink.specs.Insides.{told_list}
+use Rattle.lulink.specs.Insides.{given_list}
 use Rattle.lulink.proofs.Parts.{take_next, at_drop, not_past}
 use Rattle.lulink.proofs.Slots.{first_is}
 use Rattle.lulink.proofs.Runs.{full_at_hand, emptied_more}
@@ -21,7 +21,7 @@ empty_slot-requires-clause-slot c =
 pub empty_slot-requires-clause-held : goal.empty_slot-requires-clause-held
 empty_slot-requires-clause-held c =
     let held = c.requires.held in
-    (slice_get (told_list c.args.ring.now.shared.key) (c.args.self.now.count + c.loop-i.i), full_at_hand _ _ _ c.requires.side c.loop-i.i c.loop-i.self c.loop-i.invariant.1 (omega arith))
+    (slice_get (given_list c.args.ring.now.shared.key) (c.args.self.now.count + c.loop-i.i), full_at_hand _ _ _ c.requires.side c.loop-i.i c.loop-i.self c.loop-i.invariant.1 (omega arith))
 
 pub unreachable-requires : goal.unreachable-requires
 unreachable-requires c =
@@ -29,7 +29,7 @@ unreachable-requires c =
     let held = c.requires.held in
     let put = i.put in
     let listed = i.listed in
-    not_past (told_list c.args.ring.now.shared.key) (c.args.self.now.count + c.loop-i.i) (omega arith)
+    not_past (given_list c.args.ring.now.shared.key) (c.args.self.now.count + c.loop-i.i) (omega arith)
     (first_is _ _ _ _ (sym (full_at_hand _ _ _ i c.loop-i.i c.loop-i.self c.loop-i.invariant.1 (omega arith)) ∙ c.empty_slot.ensures.found) ∙ c.in-None.is)
 
 pub loop-i-preserved : goal.loop-i-preserved
@@ -37,7 +37,7 @@ loop-i-preserved c =
     let i = c.requires.side in
     let held = c.requires.held in
     let f = c.empty_slot.ensures in
-    let list = told_list c.args.ring.now.shared.key in
+    let list = given_list c.args.ring.now.shared.key in
     let first = c.args.self.now.count in
     let here = first_is _ _ _ _ (sym (full_at_hand _ _ _ i c.loop-i.i c.loop-i.self c.loop-i.invariant.1 (omega arith)) ∙ f.found) ∙ c.in-Some.is in (
       omega arith,

@@ -2,7 +2,7 @@ use Rattle.std.proofs.Common.{◌≡◌, ◌+◌, ◌%◌, sym, refl, ap, ◌∙
 use Rattle.std.specs.Prelude.{slice_get}
 use native.Mathlib.Nat.{mod-add-mod}
 use Rattle.lulink.specs.declared.take_side.TakeSide.{TakeSide}
-use Rattle.lulink.specs.Insides.{told_list, HasEmptied}
+use Rattle.lulink.specs.Insides.{given_list, HasEmptied}
 use Rattle.lulink.proofs.Slots.{first_is}
 use Rattle.lulink.proofs.Runs.{turned_to, emptied_none, full_at_hand, emptied_one, stores_head, stored_head}
 use Rattle.lulink.proofs.take_side.TakeSide.take.Goals as goal
@@ -11,7 +11,7 @@ use Rattle.lulink.proofs.take_side.TakeSide.take.Goals.{After-turn}
 pub exchange-found-requires : goal.exchange-found-requires
 exchange-found-requires c =
     let i = c.requires.side in
-    (i.table, (slice_get (told_list c.args.ring.now.shared.key) (c.args.self.now.count + 0), full_at_hand _ _ c.args.self.now i 0 c.args.self.now (emptied_none _ _ _ i) c.requires.held))
+    (i.table, (slice_get (given_list c.args.ring.now.shared.key) (c.args.self.now.count + 0), full_at_hand _ _ c.args.self.now i 0 c.args.self.now (emptied_none _ _ _ i) c.requires.held))
 
 -- before the store
 abbrev free : After-turn → TakeSide
@@ -40,4 +40,4 @@ returns-clause-side c =
 pub returns-clause-next : goal.returns-clause-next
 returns-clause-next c =
     let here : c.args.self.now.count + 0 ≡ c.args.self.now.count = omega arith in
-    first_is _ _ _ _ (sym c.exchange-found.ensures.2 ∙ full_at_hand _ _ c.args.self.now c.requires.side 0 c.args.self.now (emptied_none _ _ _ c.requires.side) c.requires.held) ∙ ap (slice_get (told_list c.args.ring.now.shared.key)) here
+    first_is _ _ _ _ (sym c.exchange-found.ensures.2 ∙ full_at_hand _ _ c.args.self.now c.requires.side 0 c.args.self.now (emptied_none _ _ _ c.requires.side) c.requires.held) ∙ ap (slice_get (given_list c.args.ring.now.shared.key)) here

@@ -1,7 +1,7 @@
 use Rattle.std.proofs.Common.{List, ℕ, sym, ap, subst, ◌∙◌}
 use Rattle.std.specs.Prelude.{All}
 use Rattle.std.specs.List.Sorted.{IsStrictlyIncreasing}
-use Rattle.luworld.specs.Needs.{Distribution, IsPlan}
+use Rattle.luworld.specs.Needs.{PlanView, IsPlan}
 use Rattle.luplace.proofs.plan.Plan.make.Goals as goal
 
 pub of_parts-requires : goal.of_parts-requires
@@ -18,10 +18,10 @@ returns-clause-made c =
     record {
       accepted = c.in_ok-placed.ensures.accepted;
       plan_is = record {
-        flat_is = ap (λ (p : Distribution). p.flat) e;
-        names_are = ap (λ (p : Distribution). p.names) e ∙ c.in_ok-names.ensures.names;
-        capacity_is = ap (λ (p : Distribution). p.capacity) e ∙ c.capacity.ensures;
-        placed_are = ap (λ (p : Distribution). p.placed) e ∙ c.new.ensures ∙ c.in_ok-placed.ensures.rows;
-        in_order = subst (All IsStrictlyIncreasing) (sym (ap (λ (p : Distribution). p.needs) e)) c.in_ok-names.ensures.in_order;
+        flat_is = ap (λ (p : PlanView). p.flat) e;
+        names_are = ap (λ (p : PlanView). p.names) e ∙ c.in_ok-names.ensures.names;
+        capacity_is = ap (λ (p : PlanView). p.capacity) e ∙ c.capacity.ensures;
+        placed_are = ap (λ (p : PlanView). p.placed) e ∙ c.new.ensures ∙ c.in_ok-placed.ensures.rows;
+        in_order = subst (All IsStrictlyIncreasing) (sym (ap (λ (p : PlanView). p.needs) e)) c.in_ok-names.ensures.in_order;
       };
     }

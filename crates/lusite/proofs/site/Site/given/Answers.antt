@@ -2,37 +2,37 @@ use Rattle.std.proofs.Common.{sym, ap, ◌∙◌, subst}
 use Rattle.std.specs.Prelude.{is_some}
 use Rattle.std.proofs.lemmas.Bool.{false≢true}
 use Rattle.lusite.specs.Machine.{IsTakeNext}
-use Rattle.lusite.specs.Sites.{SiteAt}
+use Rattle.lusite.specs.Sites.{SiteView}
 use Rattle.lusite.proofs.OneMore.{not_stopped, same_job, same_site, done_more}
 use Rattle.lusite.proofs.site.Site.given.Goals as goal
 
 pub given_message-requires-clause-next : goal.given_message-requires-clause-next
-given_message-requires-clause-next c = subst (λ (v : SiteAt). IsTakeNext v.job v.site v.done c.args.msg) (sym c.self.view_is) c.requires
+given_message-requires-clause-next c = subst (λ (v : SiteView). IsTakeNext v.job v.site v.done c.args.msg) (sym c.self.view_is) c.requires
 
 pub given_message-requires-clause-going : goal.given_message-requires-clause-going
 given_message-requires-clause-going c =
-    let next = subst (λ (v : SiteAt). IsTakeNext v.job v.site v.done c.args.msg) (sym c.self.view_is) c.requires in
-    not_stopped c.self.inside.desk _ c.self.invariant.stands next.1
+    let next = subst (λ (v : SiteView). IsTakeNext v.job v.site v.done c.args.msg) (sym c.self.view_is) c.requires in
+    not_stopped c.self.inside.state _ c.self.invariant.stands next.1
 
 pub given_message-requires-clause-ready : goal.given_message-requires-clause-ready
 given_message-requires-clause-ready c =
-    let next = subst (λ (v : SiteAt). IsTakeNext v.job v.site v.done c.args.msg) (sym c.self.view_is) c.requires in
-    c.self.invariant.ready (not_stopped c.self.inside.desk _ c.self.invariant.stands next.1)
+    let next = subst (λ (v : SiteView). IsTakeNext v.job v.site v.done c.args.msg) (sym c.self.view_is) c.requires in
+    c.self.invariant.ready (not_stopped c.self.inside.state _ c.self.invariant.stands next.1)
 
 pub settle-requires : goal.settle-requires
 settle-requires c =
-    let next = subst (λ (v : SiteAt). IsTakeNext v.job v.site v.done c.args.msg) (sym c.self.view_is) c.requires in
+    let next = subst (λ (v : SiteView). IsTakeNext v.job v.site v.done c.args.msg) (sym c.self.view_is) c.requires in
     record {
       set = c.given_message.ensures.set;
       stands = c.given_message.ensures.stands;
       logged = c.given_message.ensures.logged;
-      going = ap is_some c.given_message.ensures.fault ∙ not_stopped c.self.inside.desk _ c.self.invariant.stands next.1;
+      going = ap is_some c.given_message.ensures.fault ∙ not_stopped c.self.inside.state _ c.self.invariant.stands next.1;
     }
 
 pub invariant_of-self : goal.invariant_of-self
 invariant_of-self c =
-    let next = subst (λ (v : SiteAt). IsTakeNext v.job v.site v.done c.args.msg) (sym c.self.view_is) c.requires in
-    let goes = not_stopped c.self.inside.desk _ c.self.invariant.stands next.1 in
+    let next = subst (λ (v : SiteView). IsTakeNext v.job v.site v.done c.args.msg) (sym c.self.view_is) c.requires in
+    let goes = not_stopped c.self.inside.state _ c.self.invariant.stands next.1 in
     record {
       set = c.settle.ensures.set;
       stands = c.settle.ensures.stands;
@@ -43,7 +43,7 @@ invariant_of-self c =
 
 pub returns : goal.returns
 returns c =
-    let a = c.self.inside.desk in
+    let a = c.self.inside.state in
     let b = c.given_message.new.self in
     let d = c.settle.new.self in
     let v = c.args.self.now in

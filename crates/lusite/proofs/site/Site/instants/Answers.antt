@@ -1,7 +1,7 @@
 use Rattle.std.proofs.Common.{subst}
-use Rattle.luworld.specs.Runs.{IsJob}
-use Rattle.lusite.specs.Sites.{SiteAt}
+use Rattle.luworld.specs.Jobs.{IsJob}
+use Rattle.lusite.specs.Sites.{SiteView}
 use Rattle.lusite.proofs.site.Site.instants.Goals as goal
 
 pub returns-clause-job : goal.returns-clause-job
-returns-clause-job c = subst (λ (v : SiteAt). IsJob v.job) c.self.view_is c.self.invariant.set.is_job
+returns-clause-job c = subst (λ (v : SiteView). IsJob v.job) c.self.view_is c.self.invariant.set.is_job

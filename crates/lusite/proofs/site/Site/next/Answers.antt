@@ -1,11 +1,11 @@
 use Rattle.std.proofs.Common.{subst, sym}
-use Rattle.lusite.specs.Sites.{SiteAt}
+use Rattle.lusite.specs.Sites.{SiteView}
 use Rattle.lusite.specs.Machine.{IsNext, done_of}
 use Rattle.lusite.proofs.Offers.{offer_is}
 use Rattle.lusite.proofs.site.Site.next.Goals as goal
 
 pub returns : goal.returns
 returns c =
-    let a = c.self.inside.desk in
+    let a = c.self.inside.state in
     let h = offer_is a c.self.invariant.set c.self.invariant.stands c.self.invariant.ready in
-    subst (λ (v : SiteAt). IsNext v.job v.site v.done c.offer.result) c.self.view_is (subst (IsNext a.inputs.job a.inputs.site (done_of a)) (sym c.offer.ensures) h)
+    subst (λ (v : SiteView). IsNext v.job v.site v.done c.offer.result) c.self.view_is (subst (IsNext a.inputs.job a.inputs.site (done_of a)) (sym c.offer.ensures) h)

@@ -2,37 +2,37 @@ use Rattle.std.proofs.Common.{sym, ap, ◌∙◌, subst}
 use Rattle.std.specs.Prelude.{is_some}
 use Rattle.std.proofs.lemmas.Bool.{false≢true}
 use Rattle.lusite.specs.Machine.{IsPutNext}
-use Rattle.lusite.specs.Sites.{SiteAt}
+use Rattle.lusite.specs.Sites.{SiteView}
 use Rattle.lusite.proofs.OneMore.{not_stopped, same_job, same_site, done_more}
 use Rattle.lusite.proofs.site.Site.sent.Goals as goal
 
 pub sent-requires-clause-next : goal.sent-requires-clause-next
-sent-requires-clause-next c = subst (λ (v : SiteAt). IsPutNext v.job v.site v.done) (sym c.self.view_is) c.requires
+sent-requires-clause-next c = subst (λ (v : SiteView). IsPutNext v.job v.site v.done) (sym c.self.view_is) c.requires
 
 pub sent-requires-clause-going : goal.sent-requires-clause-going
 sent-requires-clause-going c =
-    let next = subst (λ (v : SiteAt). IsPutNext v.job v.site v.done) (sym c.self.view_is) c.requires in
-    not_stopped c.self.inside.desk _ c.self.invariant.stands next.1
+    let next = subst (λ (v : SiteView). IsPutNext v.job v.site v.done) (sym c.self.view_is) c.requires in
+    not_stopped c.self.inside.state _ c.self.invariant.stands next.1
 
 pub sent-requires-clause-ready : goal.sent-requires-clause-ready
 sent-requires-clause-ready c =
-    let next = subst (λ (v : SiteAt). IsPutNext v.job v.site v.done) (sym c.self.view_is) c.requires in
-    c.self.invariant.ready (not_stopped c.self.inside.desk _ c.self.invariant.stands next.1)
+    let next = subst (λ (v : SiteView). IsPutNext v.job v.site v.done) (sym c.self.view_is) c.requires in
+    c.self.invariant.ready (not_stopped c.self.inside.state _ c.self.invariant.stands next.1)
 
 pub settle-requires : goal.settle-requires
 settle-requires c =
-    let next = subst (λ (v : SiteAt). IsPutNext v.job v.site v.done) (sym c.self.view_is) c.requires in
+    let next = subst (λ (v : SiteView). IsPutNext v.job v.site v.done) (sym c.self.view_is) c.requires in
     record {
       set = c.sent.ensures.set;
       stands = c.sent.ensures.stands;
       logged = c.sent.ensures.logged;
-      going = ap is_some c.sent.ensures.fault ∙ not_stopped c.self.inside.desk _ c.self.invariant.stands next.1;
+      going = ap is_some c.sent.ensures.fault ∙ not_stopped c.self.inside.state _ c.self.invariant.stands next.1;
     }
 
 pub invariant_of-self : goal.invariant_of-self
 invariant_of-self c =
-    let next = subst (λ (v : SiteAt). IsPutNext v.job v.site v.done) (sym c.self.view_is) c.requires in
-    let goes = not_stopped c.self.inside.desk _ c.self.invariant.stands next.1 in
+    let next = subst (λ (v : SiteView). IsPutNext v.job v.site v.done) (sym c.self.view_is) c.requires in
+    let goes = not_stopped c.self.inside.state _ c.self.invariant.stands next.1 in
     record {
       set = c.settle.ensures.set;
       stands = c.settle.ensures.stands;
@@ -43,7 +43,7 @@ invariant_of-self c =
 
 pub returns : goal.returns
 returns c =
-    let a = c.self.inside.desk in
+    let a = c.self.inside.state in
     let b = c.sent.new.self in
     let d = c.settle.new.self in
     let v = c.args.self.now in

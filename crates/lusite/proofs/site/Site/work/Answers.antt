@@ -2,22 +2,22 @@ use Rattle.std.proofs.Common.{sym, ap, ◌∙◌, subst}
 use Rattle.std.specs.Prelude.{is_some}
 use Rattle.std.proofs.lemmas.Bool.{false≢true}
 use Rattle.lusite.specs.Machine.{IsLocalNext}
-use Rattle.lusite.specs.Sites.{SiteAt}
+use Rattle.lusite.specs.Sites.{SiteView}
 use Rattle.lusite.proofs.OneMore.{not_stopped, same_job, same_site, done_more}
 use Rattle.lusite.proofs.site.Site.work.Goals as goal
 
 pub work-requires-clause-next : goal.work-requires-clause-next
-work-requires-clause-next c = subst (λ (v : SiteAt). IsLocalNext v.job v.site v.done) (sym c.self.view_is) c.requires
+work-requires-clause-next c = subst (λ (v : SiteView). IsLocalNext v.job v.site v.done) (sym c.self.view_is) c.requires
 
 pub work-requires-clause-going : goal.work-requires-clause-going
 work-requires-clause-going c =
-    let next = subst (λ (v : SiteAt). IsLocalNext v.job v.site v.done) (sym c.self.view_is) c.requires in
-    not_stopped c.self.inside.desk _ c.self.invariant.stands next.2
+    let next = subst (λ (v : SiteView). IsLocalNext v.job v.site v.done) (sym c.self.view_is) c.requires in
+    not_stopped c.self.inside.state _ c.self.invariant.stands next.2
 
 pub work-requires-clause-ready : goal.work-requires-clause-ready
 work-requires-clause-ready c =
-    let next = subst (λ (v : SiteAt). IsLocalNext v.job v.site v.done) (sym c.self.view_is) c.requires in
-    c.self.invariant.ready (not_stopped c.self.inside.desk _ c.self.invariant.stands next.2)
+    let next = subst (λ (v : SiteView). IsLocalNext v.job v.site v.done) (sym c.self.view_is) c.requires in
+    c.self.invariant.ready (not_stopped c.self.inside.state _ c.self.invariant.stands next.2)
 
 pub settle-requires : goal.settle-requires
 settle-requires c = record { set = c.work.ensures.set; stands = c.work.ensures.stands; logged = c.work.ensures.logged; going = c.if-is_none.ensures }
@@ -33,7 +33,7 @@ invariant_of-self c = record {
 
 pub returns-then-is_none : goal.returns-then-is_none
 returns-then-is_none c =
-    let a = c.self.inside.desk in
+    let a = c.self.inside.state in
     let b = c.work.new.self in
     let d = c.settle.new.self in
     let v = c.args.self.now in

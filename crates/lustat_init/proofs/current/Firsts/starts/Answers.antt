@@ -26,6 +26,6 @@ returns-in-Some c =
     let same : c.args.scope.now ≡ m = c.requires ∙ sym c.self.view_is in
     let at = subst (λ (n : Node). clock_of (node_view n) x ≡ slice_get (clock_list (declared_in n)) i) same (sym (clock_at_place c.args.scope.now x (Some i) (sym c.in-Some.is ∙ c.place.ensures))) in
     let marked = c.copied.ensures ∙ copied_item c.deref.result.now i c.get.result c.get.ensures.lookup ∙ ap (λ (l : List Bool). slice_get l i) c.deref.ensures.value in
-    let told = c.unwrap_or.ensures ∙ ap (λ (o : Option Bool). unwrap_or o true) marked in
+    let reported = c.unwrap_or.ensures ∙ ap (λ (o : Option Bool). unwrap_or o true) marked in
     subst (λ (n : Node). IsTrue c.unwrap_or.result ↔ IsStarted (node_view n) x) c.self.view_is
-    (is_started (node_view m) x c.self.inside.started.items clocks i c.unwrap_or.result c.self.invariant.started at told)
+    (is_started (node_view m) x c.self.inside.started.items clocks i c.unwrap_or.result c.self.invariant.started at reported)

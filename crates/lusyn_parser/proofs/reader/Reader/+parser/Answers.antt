@@ -102,15 +102,15 @@ further_branches-loop-preserved t c = record {
 
 pub head-returns-then-least-gt8-2 : goal.head-returns-then-least-gt8-2
 head-returns-then-least-gt8-2 t c =
-    let told = rw c.in-Some-Fixed.field-0-is at c.in-Some-Fixed.ensures in
-    record { head = prefix_refused (expr c.args.depth) c.args.depth c.args.least c.args.self.now.tokens.now c.args.at c.in-Some-Fixed.fixed c.in-Some.op (sym c.prefix_of.ensures ∙ c.in-Some.is) told.0 c.if-least-gt8-2.true; within = tt }
+    let reported = rw c.in-Some-Fixed.field-0-is at c.in-Some-Fixed.ensures in
+    record { head = prefix_refused (expr c.args.depth) c.args.depth c.args.least c.args.self.now.tokens.now c.args.at c.in-Some-Fixed.fixed c.in-Some.op (sym c.prefix_of.ensures ∙ c.in-Some.is) reported.0 c.if-least-gt8-2.true; within = tt }
 
 pub head-returns-in_err-found-in-Some-Fixed : goal.head-returns-in_err-found-in-Some-Fixed
 head-returns-in_err-found-in-Some-Fixed t c =
-    let told = rw c.in-Some-Fixed.field-0-is at c.in-Some-Fixed.ensures in
+    let reported = rw c.in-Some-Fixed.field-0-is at c.in-Some-Fixed.ensures in
     let p = err_from_is_err_and c.from_residual-in_err-found-in-Some-Fixed.result c.from_residual-in_err-found-in-Some-Fixed.ensures.1 in
     record {
-      head = rw (p.1, p.2) (prefix_fails (expr c.args.depth) c.args.depth c.args.least c.args.self.now.tokens.now c.args.at c.in-Some-Fixed.fixed c.in-Some.op (sym c.prefix_of.ensures ∙ c.in-Some.is) told.0 c.if-least-gt8-2.false _ c.in_err-found-in-Some-Fixed.ensures.expr);
+      head = rw (p.1, p.2) (prefix_fails (expr c.args.depth) c.args.depth c.args.least c.args.self.now.tokens.now c.args.at c.in-Some-Fixed.fixed c.in-Some.op (sym c.prefix_of.ensures ∙ c.in-Some.is) reported.0 c.if-least-gt8-2.false _ c.in_err-found-in-Some-Fixed.ensures.expr);
       within = rw p.1 tt;
     }
 
@@ -121,10 +121,10 @@ head-returns-in_err-unary-in-Some-Fixed t c =
 
 pub head-returns-in_ok-unary-in-Some-Fixed : goal.head-returns-in_ok-unary-in-Some-Fixed
 head-returns-in_ok-unary-in-Some-Fixed t c =
-    let told = rw c.in-Some-Fixed.field-0-is at c.in-Some-Fixed.ensures in
+    let reported = rw c.in-Some-Fixed.field-0-is at c.in-Some-Fixed.ensures in
     record {
       head =
-          prefix_taken (expr c.args.depth) c.args.depth c.args.least c.args.self.now.tokens.now c.args.at c.in-Some-Fixed.fixed c.in-Some.op (sym c.prefix_of.ensures ∙ c.in-Some.is) told.0 c.if-least-gt8-2.false _ _ _ c.operand_of-in-Some-Fixed.result c.in_ok-found-in-Some-Fixed.ensures.expr c.in_ok-unary-in-Some-Fixed.ensures
+          prefix_taken (expr c.args.depth) c.args.depth c.args.least c.args.self.now.tokens.now c.args.at c.in-Some-Fixed.fixed c.in-Some.op (sym c.prefix_of.ensures ∙ c.in-Some.is) reported.0 c.if-least-gt8-2.false _ _ _ c.operand_of-in-Some-Fixed.result c.in_ok-found-in-Some-Fixed.ensures.expr c.in_ok-unary-in-Some-Fixed.ensures
           c.operand_of-in-Some-Fixed.ensures.level (ap view c.operand_of-in-Some-Fixed.ensures.found) c.operand_of-in-Some-Fixed.ensures.next;
       within = omega (arith, c.operand_of-in-Some-Fixed.ensures.next, c.in_ok-found-in-Some-Fixed.ensures.within);
     }

@@ -1,7 +1,7 @@
 use Rattle.std.proofs.Common.{◌≢◌, ℕ, ◌<◌}
 use Rattle.luworld.specs.declared.turn.Turn.TheVariants.{Moved}
-use Rattle.luworld.specs.World.{turn}
-use Rattle.luworld.specs.Runs.{system_of}
+use Rattle.luworld.specs.Systems.{turn}
+use Rattle.luworld.specs.Jobs.{system_of}
 use Rattle.luweave.proofs.world.World.enabled.Given as goal
 
 abbrev pub invariant-loop-s : goal.invariant-loop-s

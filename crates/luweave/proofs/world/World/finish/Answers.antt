@@ -1,6 +1,6 @@
 use Rattle.std.proofs.Common.{refl, ap, ap₂, ◌∙◌, arith}
-use Rattle.luworld.specs.World.{step}
-use Rattle.luworld.specs.Runs.{Run, system_of}
+use Rattle.luworld.specs.Systems.{step}
+use Rattle.luworld.specs.Jobs.{JobView, system_of}
 use Rattle.luweave.specs.Worlds.{left_of}
 use Rattle.luweave.proofs.Finishing.{later_none, later_more}
 use Rattle.luweave.proofs.world.World.finish.Goals as goal
@@ -14,7 +14,7 @@ loop-site-preserved c =
     record {
       job = c.turn.ensures.job ∙ same;
       later = later_more c.args.self.now.job c.args.self.now.dones c.loop-site.self.dones c.turn.new.self.dones c.in-Some.site c.loop-site.invariant.later
-          (c.turn.ensures.dones ∙ ap (λ (j : Run). step (system_of j) c.loop-site.self.dones c.in-Some.site) same);
+          (c.turn.ensures.dones ∙ ap (λ (j : JobView). step (system_of j) c.loop-site.self.dones c.in-Some.site) same);
     }
 
 pub loop-site-smaller : goal.loop-site-smaller

@@ -1,7 +1,7 @@
 use Rattle.std.proofs.Common.{◌≡◌, ◌≤◌, ◌*◌}
-use Rattle.luworld.specs.World.{total_below}
+use Rattle.luworld.specs.Systems.{total_below}
 use Rattle.luworld.specs.Outline.{left_at}
-use Rattle.luworld.specs.Runs.{outline, streams_of}
+use Rattle.luworld.specs.Jobs.{outline, streams_of}
 use Rattle.lusite.specs.Widths.{most_left}
 use Rattle.luweave.proofs.world.World.left.Given as goal
 

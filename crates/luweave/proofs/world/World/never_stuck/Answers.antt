@@ -6,4 +6,4 @@ pub returns : goal.returns
 returns c =
     let a = c.self.inside in
     let j = a.first.value.job in
-    along (λ x. IsUnstuck x.job x.dones) c.args.self.now (record { job = j; dones = dones_of a.sites.items }) c.self.view_is (unstuck j a.sites.items a.lanes.items a.capacity c.self.invariant)
+    along (λ x. IsUnstuck x.job x.dones) c.args.self.now (record { job = j; dones = dones_of a.sites.items }) c.self.view_is (unstuck j a.sites.items a.link_queues.items a.capacity c.self.invariant)

@@ -1,0 +1,22 @@
+use Rattle.std.proofs.Common.{◌≡◌, length, vec_len, Ok, Err, rules, sym, subst, arith}
+use Rattle.std.specs.Prelude.{IfOk}
+use Rattle.std.specs.declared.result.Result.{Result}
+use Rattle.std.specs.List.Sorted.{IsPermutation}
+use Rattle.std.proofs.lemmas.List.Sorted.{length_permutation}
+use Rattle.lurun_threads.specs.Crew.{held}
+use Rattle.lurun_threads.proofs.crew.site_shares_for.Goals as goal
+
+weaker : {T E : Type 0} (P Q : T → Type 0) (r : Result T E) → ((x : T) → P x → Q x) → IfOk r P → IfOk r Q
+weaker P Q (Ok x) f p = f x p
+weaker P Q (Err e) f p = tt
+
+pub returns-clause-all : goal.returns-clause-all
+returns-clause-all c = weaker _ _ c.site_shares_of.result (λ site_shares same. subst (IsPermutation c.args.stations.items) (sym same) c.in_ok-shares.ensures) c.site_shares_of.ensures.all
+
+pub returns-clause-count : goal.returns-clause-count
+returns-clause-count c = weaker _ _ c.site_shares_of.result
+    (λ site_shares same.
+    (let n = length_permutation c.args.stations.items (held site_shares.items) (subst (IsPermutation c.args.stations.items) (sym same) c.in_ok-shares.ensures) in
+    let m : vec_len c.args.stations ≡ length c.args.stations.items = search rules in
+    omega (arith, n, m)))
+    c.site_shares_of.ensures.all

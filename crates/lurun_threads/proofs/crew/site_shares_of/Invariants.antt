@@ -1,0 +1,11 @@
+use Rattle.std.proofs.Common.{◌≡◌, ◌≤◌, ◌+◌, ◌++◌, All, vec_len, vec_capacity}
+use Rattle.std.specs.Vec.Iter.{into_iter_items, into_iter_len}
+use Rattle.lurun_threads.specs.Crew.{HasRoom, dealt, held}
+use Rattle.lurun_threads.proofs.crew.site_shares_of.Given as goal
+
+abbrev pub invariant-loop-served_sites : goal.invariant-loop-served_sites
+invariant-loop-served_sites l = record {
+  room : vec_len l.site_shares + into_iter_len l.served_sites-iterator ≤ vec_capacity l.site_shares;
+  each : All HasRoom l.site_shares.items;
+  all : held l.site_shares.items ++ dealt (into_iter_items l.served_sites-iterator) ≡ dealt l.fn.shares.items;
+}

@@ -1,0 +1,11 @@
+-- What the workers of a crew promise.
+use Rattle.std.specs.Prelude.{List, flat_map}
+use Rattle.std.proofs.Common.{Vec, Global}
+use Rattle.std.specs.declared.thread.PromisedHandle.{PromisedHandle}
+use Rattle.lusite.specs.Sites.{SiteView}
+use Rattle.lurun_threads.specs.declared.crew.ReportsOf.{ReportsOf}
+use Rattle.lurun_threads.specs.Stations.{StationView}
+
+-- the stations of which the workers promise reports
+abbrev pub promised : List (PromisedHandle (Vec SiteView Global) ReportsOf) → List StationView
+promised workers = flat_map (λ h. h.promise.0.value.items) workers

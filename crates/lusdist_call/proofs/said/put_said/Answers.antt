@@ -1,9 +1,0 @@
-use Rattle.std.proofs.lemmas.Grind.{common_steps}
-use Rattle.std.proofs.Common.{arith}
-use Rattle.lusdist_call.proofs.said.put_said.Goals as goal
-
-pub returns-clause-written : goal.returns-clause-written
-returns-clause-written g c = grind (arith, common_steps)
-
-pub returns-clause-noted : goal.returns-clause-noted
-returns-clause-noted g c = grind (arith, common_steps)

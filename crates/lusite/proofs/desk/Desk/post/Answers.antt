@@ -1,4 +1,0 @@
-use Rattle.lusite.proofs.desk.Desk.post.Goals as goal
-
-pub returns : goal.returns
-returns c = (c.here.result.1.now, c.here.result.2.now, c.here.ensures)
