@@ -51,8 +51,7 @@ slow_at kind row of d t n = cond (has_value d (status_in of (t + n)))
     (present_at kind row (seen_in of d t n)) Absent
 
 -- The instant of the first status in a main variable's column, in a block from t on: of an output the first
--- of all, since its column is kept;
--- of another variable the block's first.
+-- of all, since its column is kept; of another variable the block's first.
 abbrev pub first_for : Option Variable → ℕ → ℕ
 first_for None t = t
 first_for (Some x) t = cond (is_output x.role) 0 t
@@ -61,8 +60,7 @@ abbrev pub first_of : FlatView → ℕ → ℕ → ℕ
 first_of flat v t = first_for (slice_get flat.variables v) t
 
 -- The statuses of a flow on this clock at a block's instants were put at the end of its column, whose first
--- status is of instant s. The column of
--- its clock's variable has b statuses of before the block.
+-- status is of instant s. The column of its clock's variable has b statuses of before the block.
 abbrev pub IsShown : FlatView → List Column → ℕ → Kind → List ℤ → Clock → ℕ → ℕ → List Status → List Status
     → Type 0
 IsShown flat columns s kind row Base t len old new =

@@ -48,8 +48,7 @@ pub record IsSubPart (sub part : Part) : Type 0 where
   pub taken : (i : ℕ) → sub.taken i ≡ true → part.taken i ≡ true
 
 -- Rows that stand for a part stand for fewer of its flows: so what is whole so far can be seen to be right,
--- and put to links, before the block is
--- whole.
+-- and put to links, before the block is whole.
 abbrev pub SubLaw : Type 0
 SubLaw =
     (sub part : Part) → IsSubPart sub part → (flat : FlatView) (inputs : InputsView) (σ : Streams) (t len : ℕ)

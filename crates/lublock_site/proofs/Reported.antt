@@ -1,4 +1,4 @@
--- What a station tells that has ended.
+-- What a station reports that has ended.
 use Rattle.std.proofs.Common.{◌≡◌, ◌≢◌, ℕ, zero, suc, ◌<◌, Bool, true, false, List, [], ◌∷◌, length, map, get_or, Some, refl, sym, subst, ◌∙◌, ap, ap₂, arith}
 use Rattle.std.specs.Prelude.{All}
 use Rattle.luflow.specs.declared.data.Status.{Status}

@@ -1,4 +1,4 @@
--- What a site tells of its outputs when it has ended.
+-- What a site reports of its outputs when it has ended.
 use Rattle.std.specs.Prelude.{◌≡◌, ◌⊎◌, ℕ, List, [], Vec, All, Some, map, slice_get, slice_set}
 use Rattle.std.specs.declared.alloc.Global.{Global}
 use Rattle.luflow.specs.declared.data.Status.{Status}

@@ -49,7 +49,7 @@ IsSoundAt job s = (i t : ℕ) → stands job.plan i s ≡ true → i < flows_of 
 abbrev pub AreWhole : JobView → List (ℕ × List Status) → Type 0
 AreWhole job outputs = All (λ (x : ℕ × List Status). IsWhole job x.0 x.1) outputs
 
--- what a site tells that has ended
+-- what a site reports that has ended
 pub record IsReported (reported : RowReportView) : Type 0 where
   pub run : IsJobView reported.job
   pub sound : IsSoundAt reported.job reported.site

@@ -20,8 +20,7 @@ use Rattle.lublock_site.specs.declared.sources.Source.{Source}
 use Rattle.lublock_site.specs.declared.outlets.Outlet.{Outlet}
 
 -- The end of a link that brings flow i, in a block from instant t on: it has taken a message for each instant
--- before t at which the flow was present,
--- and one for each of its first n ticks.
+-- before t at which the flow was present, and one for each of its first n ticks.
 pub record BringsTicks (job : JobView) (t i n : ℕ) (r : ReceiverView) : Type 0 where
   pub job_is : r.job ≡ job
   pub listed : r.link < length job.plan.links

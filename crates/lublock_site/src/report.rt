@@ -1,4 +1,4 @@
-//! What a site that went on by blocks tells when it has ended.
+//! What a site that went on by blocks reports when it has ended.
 
 ghost use Rattle.std.specs.Prelude.{◌≡◌, map};
 ghost use Rattle.luworld.specs.Needs.{sites_of};
@@ -11,7 +11,7 @@ use std::marker::Model;
 use std::snapshot::Snapshot;
 use std::sync::Arc;
 
-/// What a site tells that has ended: outputs, each by the number of its variable and with all its statuses. A contract sees the
+/// What a site reports that has ended: outputs, each by the number of its variable and with all its statuses. A contract sees the
 /// job and the site too, and that no flow of the site breaks.
 pub struct RowReport {
     job: Snapshot<Job>,
@@ -54,7 +54,7 @@ impl Model for RowReport {
 }
 
 impl RowReport {
-    /// What a site tells that has ended.
+    /// What a site reports that has ended.
     pub(crate) fn new(
         job: Snapshot<Job>,
         site: u8,

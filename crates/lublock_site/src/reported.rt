@@ -1,4 +1,4 @@
-//! What a site tells of its outputs when it has ended.
+//! What a site reports of its outputs when it has ended.
 
 ghost use Rattle.std.specs.Prelude.{◌≡◌, ◌<◌, [], length, true, IfSome, Some, slice_get};
 ghost use Rattle.luflow.specs.Variables.{is_output};

@@ -131,7 +131,7 @@ fn frame_of(
     }))
 }
 
-/// A site in rows before its first block, and the outputs that it tells, by the numbers of their variables. None where the site doesn't work in
+/// A site in rows before its first block, and the outputs that it reports, by the numbers of their variables. None where the site doesn't work in
 /// blocks: a link or its flow doesn't fit the plan, a flow that it sends may be nil, what it computes and takes isn't a part of the program, or no
 /// order of its steps was found.
 ///

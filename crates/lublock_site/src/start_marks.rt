@@ -97,7 +97,7 @@ fn home_of(plan: &Plan, v: usize) -> Option<u8> {
     plan.sites_of(v).first().copied()
 }
 
-/// Whether a main variable is an output that a site tells: the site is the first of the variable's.
+/// Whether a main variable is an output that a site reports: the site is the first of the variable's.
 fn is_reported(plan: &Plan, site: u8, v: usize) -> bool
     ensures { result ≡ true → is_output_of plan.now.flat v ≡ true }
 {
@@ -107,7 +107,7 @@ fn is_reported(plan: &Plan, site: u8, v: usize) -> bool
     }
 }
 
-/// The outputs that a site tells, in order of declaration: those of whose sites it is the first.
+/// The outputs that a site reports, in order of declaration: those of whose sites it is the first.
 ///
 /// # Errors
 ///

@@ -167,7 +167,7 @@ impl RowStation {
         Went::Moved
     }
 
-    /// What the site tells; none where it hasn't ended. The ends are left.
+    /// What the site reports; none where it hasn't ended. The ends are left.
     pub fn report(self) -> Option<RowReport>
         ensures { IfSome result (λ r. (r.job ≡ self.job) × (r.site ≡ self.site)) }
     {

@@ -185,8 +185,7 @@ abbrev pub count_shown : ℕ → Option ℕ → Option ℕ → ℕ
 count_shown instants from to = min instants (option_map_or (λ t. t + 1) to instants) - first_shown from
 
 -- Columns of these types at the instants from one to another, both of which are shown; without one from the
--- first instant, and without the other to
--- the last.
+-- first instant, and without the other to the last.
 abbrev pub chart_text : List Enum → List Kind → List OutputColumn → Option ℕ → Option ℕ → List ℕ
 chart_text types kinds columns from to =
     chart (signals_of types kinds columns) (first_shown from) (count_shown (instants_of columns) from to)

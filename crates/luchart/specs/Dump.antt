@@ -15,8 +15,7 @@
 --   #13
 --
 -- Each flow has a code, `v` and its number. An instant is a time; those at which no flow changes are left
--- out, and the last time is that behind the
--- last instant.
+-- out, and the last time is that behind the last instant.
 use Rattle.std.specs.Prelude.{ℕ, zero, suc, Bool, true, false, not, List, [], ◌∷◌, ◌++◌, length, codes}
 use Rattle.std.specs.Prelude.{flat_map, nat_eq, ℤ, Option, Some, None, slice_get, if◌then◌else◌}
 use Rattle.std.specs.Int.{w64, cast_unsigned}

@@ -25,8 +25,8 @@ use Rattle.lucore.specs.declared.error.CoreError.{CoreError}
 use Rattle.lucore.specs.declared.error.CoreError.TheVariants.{TooLarge, Cycle, OutOfMemory}
 
 -- where a flow of the flat program is at fault in its solution, an operator of the source is in each of its
--- solutions: at the
--- same instant, by the same kind, in the equation of the flow's owner or in an instance of a call there
+-- solutions: at the same instant, by the same kind, in the equation of the flow's owner or in an instance of
+-- a call there
 abbrev pub HasSourceFaults : ProgramTree → List ℕ → FlatView → Type 0
 HasSourceFaults program main flat =
     (inputs : InputsView) (σ : SourceStreams) (τ : Streams) → IsSourceSolution program main inputs σ
@@ -44,12 +44,9 @@ HasAllFaults program main flat =
     → (i : ℕ) × IsFault flat inputs τ i t kind
 
 -- The flat program of a source that keeps all rules and has no cycle: its list is the one of the layout, it
--- is sound and in order of
--- rank, and at every table that has the inputs' columns it has the same solutions as the source, which has
--- one and no other as to
--- the variables of all its instances; its faults are faults of the source, and there are no others. A table
--- that fits the flat program has these
--- columns.
+-- is sound and in order of rank, and at every table that has the inputs' columns it has the same solutions as
+-- the source, which has one and no other as to the variables of all its instances; its faults are faults of
+-- the source, and there are no others. A table that fits the flat program has these columns.
 pub record IsFlatOf (program : ProgramTree) (main : List ℕ) (flat : FlatView) : Type 0 where
   pub accepted : IsAccepted program main
   pub causal : ¬ HasCycle program main
@@ -68,9 +65,8 @@ pub record IsTooLarge (program : ProgramTree) (main : List ℕ) : Type 0 where
   pub large : most_flows < flows_of flat
 
 -- The list of the source isn't too large, and the least flow of it that reads itself through a chain of reads
--- stands in the
--- equation of the variable of this name. So does an occurrence of the source that reads itself through a
--- chain.
+-- stands in the equation of the variable of this name. So does an occurrence of the source that reads itself
+-- through a chain.
 pub record ReadsItself (program : ProgramTree) (main : List ℕ) (name : List ℕ) : Type 0 where
   pub flat : FlatView
   pub laid_out : IsLaidOut program main flat

@@ -14,8 +14,8 @@ use Rattle.lucore_laws.specs.Layout.{IsLaidOut}
 use Rattle.lucore_laws.specs.ListLaws.{DefineSomething}
 
 -- Where a flow of the list is at fault, an operator of the source is, at the same instant and by a fault of
--- the same kind: in
--- the main node's equation with the flow's owner as its first variable, there or in an instance of a call.
+-- the same kind: in the main node's equation with the flow's owner as its first variable, there or in an
+-- instance of a call.
 abbrev pub FaultsLaw : Type 0
 FaultsLaw =
     (p : ProgramTree) (main : List ℕ) (inputs : InputsView) (flat : FlatView)

@@ -1,10 +1,9 @@
 -- Which flows stand at which places when all calls of a program are inlined.
 --
 -- Each node has one open list: its base clock is open, and so are its inputs. First come its variables, then
--- for each of its
--- equations, in order of text, the inner flows of the right side. A call puts the whole list of the called
--- node there: moved,
--- on the clock of the call in place of its base clock, and its inputs made copies of the arguments.
+-- for each of its equations, in order of text, the inner flows of the right side. A call puts the whole list
+-- of the called node there: moved, on the clock of the call in place of its base clock, and its inputs made
+-- copies of the arguments.
 use Rattle.std.specs.Prelude.{◌≡◌, ℕ, suc, ◌+◌, if◌then◌else◌, List, [], ◌∷◌, ◌++◌, length, map, replicate}
 use Rattle.std.specs.Prelude.{Option, Some, None, unwrap_or, pos, slice_get, slice_index}
 use Rattle.std.specs.List.{list_any}
@@ -37,8 +36,7 @@ use Rattle.lustat_rules.specs.Typing.{type_of}
 -- A WALK
 
 -- What stands at the root of an expression: a flow of its own, or a flow that stands at a place already. The
--- further outputs of
--- a call stand behind the first.
+-- further outputs of a call stand behind the first.
 pub data Root : Type 0 where
   own : Flow → Root
   at : ℕ → Root
@@ -204,8 +202,7 @@ module _ (p : ProgramTree) (lists : List (List Flow)) (node : NodeTree) where
     walk_all (tree.more a all) k rest = after (walk a k) (λ x. walk_all all k (λ xs. rest (x ∷ xs)))
 
     -- the branches of a merge, each on the clock of its variable with the branch's pattern, and behind them
-    -- the rest, which is
-    -- given their places
+    -- the rest, which is given their places
     pub walk_branches : List ℕ → List Pattern → Trees → (List ℕ → Walking) → Walking
     walk_branches c ps tree.none rest = rest []
     walk_branches c ps (tree.more a all) rest =
@@ -238,8 +235,7 @@ module _ (p : ProgramTree) (lists : List (List Flow)) (node : NodeTree) where
   inner_flows (q ∷ qs) s = (walk_right q s).inner ++ inner_flows qs (s + length (walk_right q s).inner)
 
   -- The flow of a variable: that of the first of these equations which has it on its left side. (Every
-  -- variable of an accepted
-  -- program that is no input has an equation; any other has the constant nil here.)
+  -- variable of an accepted program that is no input has an equation; any other has the constant nil here.)
   abbrev pub variable_flow : List EquationTree → ℕ → List ℕ → Flow
   variable_flow [] s x = record { form = Constant Nil; clock = Base; kind = Ints }
   variable_flow (q ∷ qs) s x =

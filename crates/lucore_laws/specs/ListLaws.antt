@@ -24,9 +24,8 @@ HasColumns p main inputs = (node : NodeTree) → node_called p main ≡ Some nod
     → length node.inputs ≤ length inputs.columns
 
 -- The flat list of an accepted program has the same solutions as its source, wherever its flows have an order
--- of rank. (Where
--- two variables are copies of each other, the source leaves open whether they are there at all, and the flat
--- program doesn't.)
+-- of rank. (Where two variables are copies of each other, the source leaves open whether they are there at
+-- all, and the flat program doesn't.)
 abbrev pub AgreesLaw : Type 0
 AgreesLaw =
     (p : ProgramTree) (main : List ℕ) (inputs : InputsView) (flat : FlatView)
@@ -64,8 +63,8 @@ FlatListLaw = (p : ProgramTree) (main : List ℕ) → IsAccepted p main
     → (flat : FlatView) × IsLaidOut p main flat
 
 -- What a flow names is a flow, each flow has a main variable as its owner, and the main variables are the
--- first flows, on clocks
--- that name main variables. The inputs among them are the flows that read the table, column by column.
+-- first flows, on clocks that name main variables. The inputs among them are the flows that read the table,
+-- column by column.
 pub record IsClosed (flat : FlatView) : Type 0 where
   pub places_in : (i : ℕ) (flow : Flow) → flow_at flat i ≡ Some flow → All (λ r. r < flows_of flat)
       (places flow.form)

@@ -246,8 +246,7 @@ turning_flat =
     }
 
 -- The flat programs of these sources. Those of the first three are the ones whose solutions are worked out
--- for flat programs;
--- the first source is the one that is worked out as accepted.
+-- for flat programs; the first source is the one that is worked out as accepted.
 pub record VectorsLaw : Type 0 where
   pub sums : IsLaidOut (program_of (sampler ∷ [])) (codes "main") flat.sampled_sum
   pub divisions : IsLaidOut (program_of (division ∷ [])) (codes "main") flat.division

@@ -34,8 +34,7 @@ loop_flat =
     }
 
 -- The source asks only that both are the same stream, even one that is absent where the base clock is true.
--- The flat program
--- has no such solution.
+-- The flat program has no such solution.
 pub record LoopLaw : Type 0 where
   pub laid_out : IsLaidOut (program_of (loop ∷ [])) (codes "main") loop_flat
   pub differ : ¬ Agrees (program_of (loop ∷ [])) (codes "main") flat.three loop_flat

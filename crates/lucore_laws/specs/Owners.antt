@@ -23,8 +23,7 @@ first_left node None = 0
 first_left node (Some q) = place_of (variables_of node) (name_at q.left 0)
 
 -- The number of the main variable that owns an occurrence: the first on the left side of the equation that
--- defines it, or in
--- which it stands; an input owns itself.
+-- defines it, or in which it stands; an input owns itself.
 abbrev pub owner : NodeTree → Occurrence → ℕ
 owner node (variable [] x) = owner_of node node.equations x
 owner node (variable (t ∷ path) x) = first_left node (slice_get node.equations (outermost t path))

@@ -11,8 +11,7 @@ use Rattle.lustat_rules.specs.Scope.{node_called}
 use Rattle.lusource.specs.Source.{condition, first_pattern, next_patterns}
 
 -- Where an expression stands in the text of a node: the number of the equation, and the numbers of the
--- operands on the way to
--- it from the right side's root, the last one first.
+-- operands on the way to it from the right side's root, the last one first.
 pub record Position : Type 0 where
   pub equation : ℕ
   pub operands : List ℕ
@@ -28,8 +27,8 @@ pub data Occurrence : Type 0 where
   operator : Path → Position → Occurrence
 
 -- An instance of a node: which one it is, the node's name, the variable whose truth its base clock is, and
--- its arguments. The main
--- node's instance has neither, since its base clock is always true and its inputs come from outside.
+-- its arguments. The main node's instance has neither, since its base clock is always true and its inputs
+-- come from outside.
 pub record Instance : Type 0 where
   pub path : Path
   pub node : List ℕ
@@ -74,9 +73,8 @@ module _ (program : ProgramTree) (here : Instance) (node : NodeTree) where
 
   abbrev mutual
     -- What stands in an expression on a clock that its place demands. All read the variable of their clock.
-    -- Beside it `pre`
-    -- reads nothing, `current` its variable, and every other operator its operands; `a fby b` is `a -> pre
-    -- b`.
+    -- Beside it `pre` reads nothing, `current` its variable, and every other operator its operands; `a fby b`
+    -- is `a -> pre b`.
     pub items : Tree → Option Condition → Position → List Item
     items (tree.number n) k at = reading (operator here.path at) (clocked k) ∷ []
     items (tree.truth b) k at = reading (operator here.path at) (clocked k) ∷ []

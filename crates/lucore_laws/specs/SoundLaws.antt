@@ -16,15 +16,14 @@ use Rattle.lucore_laws.specs.Layout.{IsLaidOut}
 use Rattle.lucore_laws.specs.ListLaws.{DefineSomething}
 
 -- The operands' clocks and types fit, an assignment of classes meets all needs and gives the outputs class 0,
--- and `current` is
--- defined at once.
+-- and `current` is defined at once.
 abbrev pub SoundLaw : Type 0
 SoundLaw = (p : ProgramTree) (main : List ℕ) (flat : FlatView) → IsAccepted p main → DefineSomething p
     → IsLaidOut p main flat → IsSound flat
 
 -- What a flow names is a main variable or stands in the flow's own equation, and the flows that read the
--- table are the inputs
--- among the main variables, which come first, each at the number of its column and of its type.
+-- table are the inputs among the main variables, which come first, each at the number of its column and of
+-- its type.
 pub record IsInside (flat : FlatView) : Type 0 where
   pub inner : (i : ℕ) (flow : Flow) → flow_at flat i ≡ Some flow → All (IsWithin flat i)
       (places flow.form ++ clock_reads flow.clock)

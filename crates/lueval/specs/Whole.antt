@@ -78,8 +78,7 @@ IsAnswer flat inputs (Fault variable instant kind) = (σ : Streams) → IsSoluti
 IsAnswer flat inputs OutOfMemory = Unit {0}
 
 -- in the solution each flow that is not broken is present exactly where its clock is true, with data of its
--- type, and
--- outputs and clock variables are never nil
+-- type, and outputs and clock variables are never nil
 abbrev pub KeepsAllTypes : FlatView → InputsView → Type 0
 KeepsAllTypes flat inputs = (σ : Streams) → IsSolution flat inputs σ → (i t : ℕ) (flow : Flow)
     → flow_at flat i ≡ Some flow → t < inputs.instants → KeepsTypes flat inputs σ i t flow

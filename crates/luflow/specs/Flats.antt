@@ -26,8 +26,8 @@ IsTypeAmong types (kinds.Enum place size) = (t : Enum) × (slice_get types place
     × (length t.names ≡ size)
 
 -- It is in order of rank and sound, small enough, and its main variables come first, and of these the inputs;
--- the inputs are the flows that read the
--- table, column by column. A main variable's flow has its type, and each type is one of the program's.
+-- the inputs are the flows that read the table, column by column. A main variable's flow has its type, and
+-- each type is one of the program's.
 pub record IsFlat (flat : FlatView) : Type 0 where
   pub ordered : IsOrdered flat
   pub ranked : IsRankOrder (reads_of flat) flat.order

@@ -1,9 +1,8 @@
 -- The data operators: what each takes and gives, in whole numbers, and where it is a fault.
 --
 -- One table for each kind of operator: its types (`single_sort`; `asks`, `makes`), and what it gives at data
--- that are not nil
--- (`at_int`, `at_truth`; `at_ints`, `at_truths`, `at_names`). All else here goes by what an operator gives,
--- and names none.
+-- that are not nil (`at_int`, `at_truth`; `at_ints`, `at_truths`, `at_names`). All else here goes by what an
+-- operator gives, and names none.
 use Rattle.std.specs.Prelude.{◌≢◌, zero, suc, Bool, true, false, not, ◌&&◌, ◌||◌, if◌then◌else◌, Option, Some}
 use Rattle.std.specs.Prelude.{None, List, codes, ℕ, nat_eq, ℤ, pos, negsuc, ◌+ℤ◌, ◌-ℤ◌, ◌*ℤ◌, neg_ℤ, int_le}
 use Rattle.std.specs.Prelude.{int_lt, int_div, FitsSigned}
@@ -71,8 +70,7 @@ takes op s = allows (asks op) s
 -- VALUES
 
 -- What an operator gives at data that are not nil, in whole numbers: a whole number; a whole number by a
--- division, with its
--- divisor; a truth value; or nothing, where the operator takes no such data.
+-- division, with its divisor; a truth value; or nothing, where the operator takes no such data.
 pub data Exact : Type 0 where
   whole : ℤ → Exact
   divided : ℤ → ℤ → Exact
@@ -207,8 +205,7 @@ choice_of c x y = if is_nil c || (is_nil x || is_nil y) then Gives Nil else pick
 -- FAULTS
 
 -- in the words of the language, a fault at what an operator gives: a divisor that is zero, or a whole number,
--- by a division
--- with another divisor or by none, that 64 bits do not hold
+-- by a division with another divisor or by none, that 64 bits do not hold
 pub data IsFaultAt : Exact → FaultKind → Type 0 where
   ZeroDivisor : (z : ℤ) → IsFaultAt (divided (pos 0) z) DivZero
   OverDivided : (y z : ℤ) → y ≢ pos 0 → ¬ FitsSigned w64 z → IsFaultAt (divided y z) Overflow

@@ -12,8 +12,7 @@ use Rattle.luflow.specs.declared.variable.Variable.{Variable}
 use Rattle.luflow.specs.declared.variable.Enum.{Enum}
 
 -- The types of the source; the flows by place, the main variables first; all places in order of rank; for
--- each flow the main variable in whose
--- equation it stands; and the main variables.
+-- each flow the main variable in whose equation it stands; and the main variables.
 pub record FlatView : Type 0 where
   pub types : List Enum
   pub flows : List Flow

@@ -14,8 +14,7 @@ use Rattle.luflow.specs.Operators.{single_of, double_of, choice_of}
 use Rattle.luflow.specs.Streams.{Mark, Known, Broken, Streams, datum_of, clock_at, ticked, before}
 
 -- What a value may look at: an input's datum, a flow's datum now, its last datum up to now and before now,
--- and whether
--- the flow's own clock was true before.
+-- and whether the flow's own clock was true before.
 pub record View : Type 0 where
   pub given : ℕ → Option Datum
   pub now : ℕ → Option Datum

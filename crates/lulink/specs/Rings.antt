@@ -52,10 +52,9 @@ abbrev pub IsEnd : Role → ℕ → List Msg → EndState → Type 0
 IsEnd role room list v = (v.role ≡ role) × (v.room ≡ room) × (v.list ≡ list)
 
 -- The words are the two counts. Message k of the list lies in slot k mod room, from the head's count to the
--- tail's, but for the first ones, whose
--- slots the consumer has. The other slots are at home too, and free, but for the next ones, which the
--- producer has. What was put is a prefix of the
--- list, and what was taken one of what was put.
+-- tail's, but for the first ones, whose slots the consumer has. The other slots are at home too, and free,
+-- but for the next ones, which the producer has. What was put is a prefix of the list, and what was taken one
+-- of what was put.
 pub record Running (room : ℕ) (list : List Msg) (s : State (Option Msg) EndState) : Type 0 where
   pub p : EndState
   pub c : EndState

@@ -1,6 +1,5 @@
 -- What each call of an end of a ring learns by the other end's word. A call that finds the ring full, or
--- empty, or that asks whether the other end
--- has left, goes by a word that was loaded in that call.
+-- empty, or that asks whether the other end has left, goes by a word that was loaded in that call.
 use Rattle.std.specs.Prelude.{◌≡◌, ℕ, ◌+◌, ◌<◌, ◌≤◌, List, [], ◌∷◌, ◌++◌, true, length, Option, Some, None}
 use Rattle.luflow.specs.declared.message.Msg.{Msg}
 use Rattle.lulink.specs.declared.sender.Offer.{Offer}

@@ -9,8 +9,8 @@ use Rattle.lulink.specs.declared.sender.Offer.TheVariants.{Done, Full}
 use Rattle.lulink.specs.Lists.{list_of, IsNextOf}
 
 -- The run, the link, the capacity, what was put, and the words by which its calls went, one for each try and
--- each look. Each of them is a word of the
--- receiver's that a load of this end gave: at that call, or where it showed room already, at an earlier one.
+-- each look. Each of them is a word of the receiver's that a load of this end gave: at that call, or where it
+-- showed room already, at an earlier one.
 pub record SenderView : Type 0 where
   pub job : JobView
   pub link : ℕ
@@ -19,9 +19,8 @@ pub record SenderView : Type 0 where
   pub seen : List ℕ
 
 -- The run, the link, the capacity, what was taken, and the words by which its calls went, one for each try
--- and each look. Each of them is a word of
--- the sender's that a load of this end gave: at that call, or where it showed a message already, at an
--- earlier one.
+-- and each look. Each of them is a word of the sender's that a load of this end gave: at that call, or where
+-- it showed a message already, at an earlier one.
 pub record ReceiverView : Type 0 where
   pub job : JobView
   pub link : ℕ

@@ -28,8 +28,7 @@ abbrev pub WasWord : ℕ → ℕ → Bool → Type 0
 WasWord u count left = (number u ≤ count) × (has_left u ≡ true → u ≡ word count left)
 
 -- Where the two words stand in a table of words: as far apart as two lines of memory are, so that an end that
--- stores its own word takes no line from
--- the other end.
+-- stores its own word takes no line from the other end.
 abbrev pub tail_at : ℕ
 tail_at = 0
 

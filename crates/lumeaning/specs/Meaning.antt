@@ -11,8 +11,7 @@ use Rattle.lusource.specs.Source.{SourceStreams, IsSourceSolution}
 use Rattle.lusource.specs.Agreement.{Agrees}
 
 -- A synchronous solution of a run's source: of a program as it is written, with which the run's flat program
--- agrees at the
--- run's inputs.
+-- agrees at the run's inputs.
 pub record IsMeant (job : JobView) (σ : SourceStreams) : Type 0 where
   pub program : ProgramTree
   pub main : List ℕ
@@ -24,8 +23,7 @@ abbrev pub source_stream : JobView → SourceStreams → ℕ → Stream
 source_stream job σ v = σ [] (variable_name job.plan.flat v)
 
 -- the list of a link in the source's words: the present values of its variable before the first broken one,
--- each numbered,
--- and the close where nothing is broken
+-- each numbered, and the close where nothing is broken
 abbrev pub source_list : JobView → SourceStreams → ℕ → List Msg
 source_list job σ l = messages 0 (marks (source_stream job σ (carried job.plan l)) job.inputs.instants)
 

@@ -18,8 +18,7 @@ use Rattle.lusource.specs.Source.{SourceStreams, IsSourceSolution}
 use Rattle.lusource.specs.Faults.{IsSourceFault}
 
 -- of a link: its variable and the names of that variable's type, by which its data are spelled, the sites
--- that send and receive,
--- what was taken from it, and how many messages wait in it
+-- that send and receive, what was taken from it, and how many messages wait in it
 pub record LinkLine : Type 0 where
   pub variable : List ℕ
   pub names : List (List ℕ)
@@ -58,8 +57,7 @@ abbrev pub main_marks : InputsView → SourceStreams → List ℕ → List Mark
 main_marks inputs σ x = marks (σ [] x) inputs.instants
 
 -- What was taken from a link is a prefix of its variable's present values, each once and in order, with the
--- close behind
--- them; and there are no more messages than those.
+-- close behind them; and there are no more messages than those.
 pub record IsLinkTrue (inputs : InputsView) (σ : SourceStreams) (link : LinkLine) : Type 0 where
   pub taken : IsPrefixOf link.taken (carried_bodies (main_marks inputs σ link.variable))
   pub waiting : length link.taken + link.waiting ≤ length (carried_bodies (main_marks inputs σ link.variable))
@@ -76,8 +74,7 @@ abbrev pub IsOutputWhole : InputsView → SourceStreams → OutputLine → Type 
 IsOutputWhole inputs σ output = map Known output.statuses ≡ main_marks inputs σ output.name
 
 -- a fault that is reported is one of the source: an operator in the equation of this variable, or in an
--- instance of a call there, has
--- no result at this instant
+-- instance of a call there, has no result at this instant
 abbrev pub IsEndingTrue : ProgramTree → List ℕ → InputsView → SourceStreams → Ending → Type 0
 IsEndingTrue program main inputs σ ended = Unit {0}
 IsEndingTrue program main inputs σ open_yet = Unit {0}
@@ -101,10 +98,8 @@ names_reported program main x = names_of program.types (option_and_then (λ (n :
     (node_called program main))
 
 -- What is reported is true of the source program at the table: for each of its synchronous solutions, of each
--- link, of each site's
--- fault and of each output. Where every site has ended, links and outputs are whole. Data are spelled by the
--- names that the program
--- declares.
+-- link, of each site's fault and of each output. Where every site has ended, links and outputs are whole.
+-- Data are spelled by the names that the program declares.
 pub record IsTrueOf (program : ProgramTree) (main : List ℕ) (inputs : InputsView)
     (reported : RunReport) : Type 0 where
   pub links : (σ : SourceStreams) → IsSourceSolution program main inputs σ

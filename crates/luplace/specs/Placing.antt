@@ -55,8 +55,7 @@ refusal flat place =
     else None))
 
 -- The plan of a program and the sites of its main variables: the needs of each site are in order of place.
--- What a site needs
--- and the links follow, since it is a plan.
+-- What a site needs and the links follow, since it is a plan.
 pub record IsPlanAt (flat : FlatView) (place : PlaceView) (placed : List (List ℕ))
     (plan : PlanView) : Type 0 where
   pub flat_is : plan.flat ≡ flat

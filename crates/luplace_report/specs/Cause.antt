@@ -1,6 +1,5 @@
 -- Why a link is there: the least flow of the receiving site that names its variable; where there is none, the
--- least flow that
--- the site needs and whose clock is on it.
+-- least flow that the site needs and whose clock is on it.
 use Rattle.std.specs.Prelude.{◌≡◌, ◌⊎◌, ℕ, ◌<◌, Bool, true, false, ◌&&◌, ◌||◌, find, length, Option, Some}
 use Rattle.std.specs.Prelude.{None, Contains}
 use Rattle.std.specs.List.{range_with_len}

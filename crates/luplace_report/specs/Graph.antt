@@ -1,8 +1,7 @@
 -- A plan as a graph in the language of Graphviz: a box for each site, with a node for each variable that
--- stands there and a
--- point for the site itself; an edge for each link, from its variable in the sending site's box to the
--- variable that reads it in
--- the receiving site's box, or to that site's point where none does.
+-- stands there and a point for the site itself; an edge for each link, from its variable in the sending
+-- site's box to the variable that reads it in the receiving site's box, or to that site's point where none
+-- does.
 --
 --   digraph plan {
 --     subgraph cluster_0 {

@@ -10,10 +10,8 @@ use Rattle.lurun_reports.specs.Reports.{AreComplete, AreIncomplete, AreOutputsOf
 use Rattle.lurun_threads.specs.Stations.{StationView, sites_at}
 
 -- Why a run has no outputs: a fault at which one of its sites stopped, or a site that was left before its
--- end, and there is a
--- station of each site; or memory, or a thread, was refused. Or a station is missing, or stands twice, or is
--- of no site; or no
--- flow breaks, and the main node has no output.
+-- end, and there is a station of each site; or memory, or a thread, was refused. Or a station is missing, or
+-- stands twice, or is of no site; or no flow breaks, and the main node has no output.
 abbrev pub IsStop : JobView → List StationView → RunError → Type 0
 IsStop job stations (Fault variable instant kind) = AreComplete job (sites_at stations)
     × ((site : ℕ) × IsFaultAt job site (record { variable = variable; instant = instant; kind = kind }))

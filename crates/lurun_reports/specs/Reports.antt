@@ -112,8 +112,8 @@ pub record IsFilled (columns : List OutputColumn) (k : ℕ) (xs : List Status)
   pub others : (j : ℕ) → j ≢ k → slice_get columns' j ≡ slice_get columns j
 
 -- The whole outputs of a run: those of the main node by name, in order of declaration, each with all its
--- statuses in the one
--- solution of the run's program on its inputs; and in each solution of its source. No flow breaks.
+-- statuses in the one solution of the run's program on its inputs; and in each solution of its source. No
+-- flow breaks.
 pub record AreOutputsOf (job : JobView) (outputs : List OutputColumn) : Type 0 where
   pub named : map (λ (c : OutputColumn). c.name) outputs ≡ map (λ (x : Variable). x.name)
       (outputs_of job.plan.flat.variables)
@@ -150,7 +150,6 @@ IsRefusalOf job reports OutOfMemory = Unit {0}
 IsRefusalOf job reports NoThread = ⊥
 
 -- What is collected from reports: of the refusals the first that has a reason, else the whole outputs, of a
--- run without a
--- fault. Out of memory may come in place of any answer.
+-- run without a fault. Out of memory may come in place of any answer.
 abbrev pub IsCollected : JobView → List SiteView → Result (List OutputColumn) RunError → Type 0
 IsCollected job reports result = MatchResult result (AreCollected job reports) (IsRefusalOf job reports)

@@ -74,10 +74,9 @@ pub record IsPlanOfText (text : List ℕ) (plan : PlanView) : Type 0 where
   pub plan_is : IsPlanOf plan.flat place plan
 
 -- The job of three texts: the plan of the program that the first spells and the placement that the second
--- says, with the
--- table that the third says, which isn't too long. It is a run, whose plan has all needs and links that its
--- flows and sites make; the program has one
--- meaning at the table, and what is said of the job in its source's words is said of the program's solutions.
+-- says, with the table that the third says, which isn't too long. It is a run, whose plan has all needs and
+-- links that its flows and sites make; the program has one meaning at the table, and what is said of the job
+-- in its source's words is said of the program's solutions.
 pub record IsJobOf (program place table main : List ℕ) (job : JobView) : Type 0 where
   pub flat : HasFlat program main job.plan.flat
   pub plan : IsPlanOfText place job.plan
@@ -135,9 +134,8 @@ pub record IsPrinted (job : JobView) (turns : List ℕ) (finish : Bool) (text : 
   pub text_is : IsWorldText world text
 
 -- The text of a replay of what a request asks for: that of the world of its job after its turns. What the
--- text reports of links,
--- sites and outputs is true of the program that the file spells, at the table that the file says: for each of
--- its solutions.
+-- text reports of links, sites and outputs is true of the program that the file spells, at the table that the
+-- file says: for each of its solutions.
 pub record IsReplayed (gives : FileFacts) (request : ReplayRequest) (text : List ℕ) : Type 0 where
   pub job : JobView
   pub turns : List ℕ
@@ -149,9 +147,8 @@ pub record IsReplayed (gives : FileFacts) (request : ReplayRequest) (text : List
   pub is_true : IsTrueOf asked_for.job_for.job_is.flat.tree request.main.now job.inputs reported
 
 -- The text of a run of what a request asks for: the table of the outputs of the program at the input table.
--- Each is what every
--- solution of the program that the file spells gives that variable at all instants, and no operator is a
--- fault.
+-- Each is what every solution of the program that the file spells gives that variable at all instants, and no
+-- operator is a fault.
 pub record IsRan (gives : FileFacts) (request : RunRequest) (text : List ℕ) : Type 0 where
   pub job : JobView
   pub asked_for : IsJobFor gives request.program.now request.place.now request.table.now request.main.now job
@@ -160,8 +157,8 @@ pub record IsRan (gives : FileFacts) (request : RunRequest) (text : List ℕ) : 
   pub text_is : text ≡ output_text job.plan.flat outputs
 
 -- the text of a check of what a request asks for: the program that the file's bytes spell keeps all rules and
--- has a flat program,
--- and the text is its canonical one, which spells that program too if it isn't longer than a text may be
+-- has a flat program, and the text is its canonical one, which spells that program too if it isn't longer
+-- than a text may be
 pub record IsChecked (gives : FileFacts) (request : CheckRequest) (text : List ℕ) : Type 0 where
   pub program : List ℕ
   pub tree : ProgramTree
@@ -173,8 +170,7 @@ pub record IsChecked (gives : FileFacts) (request : CheckRequest) (text : List �
   pub again : IsReadBack text tree
 
 -- The plan of the program and the placement that the files of two paths gave. Its needs and links are all
--- that its flows and
--- sites make, and no others.
+-- that its flows and sites make, and no others.
 pub record IsPlanFor (gives : FileFacts) (path place_path main : List ℕ) (plan : PlanView) : Type 0 where
   pub program : List ℕ
   pub place : List ℕ

@@ -42,9 +42,8 @@ pub record IsPosed (text main table : List ℕ) (tree : ProgramTree) (flat : Fla
   pub one_meaning : HasOneMeaning tree main inputs
 
 -- These variables of the main node by name, in this order, each with what every solution of the program gives
--- that
--- variable at all instants of the table; and no operator is a fault, neither of the flat program nor of the
--- source.
+-- that variable at all instants of the table; and no operator is a fault, neither of the flat program nor of
+-- the source.
 pub record AreVariablesOf (tree : ProgramTree) (main : List ℕ) (flat : FlatView) (inputs : InputsView)
     (variables : List Variable) (columns : List OutputColumn) : Type 0 where
   pub named : map (λ (c : OutputColumn). c.name) columns ≡ map (λ (x : Variable). x.name) variables
@@ -82,8 +81,7 @@ pub record AreEvaluated (flat : FlatView) (inputs : InputsView) (variables : Lis
   pub each : (k : ℕ) (c : OutputColumn) → slice_get columns k ≡ Some c → IsColumnOf flat inputs n c
 
 -- The variables that a request asks for, in the form that it asks for: as a table with a line for each
--- instant, or as a chart of the instants from
--- one to another.
+-- instant, or as a chart of the instants from one to another.
 abbrev pub shown_text : EvalRequest → FlatView → List OutputColumn → List ℕ
 shown_text request flat columns =
     if request.chronogram
@@ -141,8 +139,7 @@ pub record IsPosedBy (gives : FileFacts) (request : EvalRequest) (flat : FlatVie
   pub posed : IsPosed program request.main.now table tree flat inputs
 
 -- The text of an evaluation: the outputs of the program that the files of a request gave, or all variables of
--- its main node, in order of declaration,
--- at the table that they gave; as a table or as a chart.
+-- its main node, in order of declaration, at the table that they gave; as a table or as a chart.
 pub record IsEvaluated (gives : FileFacts) (request : EvalRequest) (text : List ℕ) : Type 0 where
   pub meant : mistake_in request ≡ None
   pub flat : FlatView
@@ -195,8 +192,7 @@ IsNoFault stop = ((name : List ℕ) (instant : ℕ) (kind : FaultKind) → stop 
     × ((path : List ℕ) → stop ≡ CannotWrite path → ⊥)
 
 -- The dump of an evaluation: the variables that the request asks for, of the program and at the table that
--- its files gave, in the file that is asked
--- for.
+-- its files gave, in the file that is asked for.
 pub record IsDumped (gives : FileFacts) (takes : FileFacts) (request : EvalRequest) : Type 0 where
   pub flat : FlatView
   pub inputs : InputsView
@@ -218,8 +214,7 @@ pub record IsDumpedBefore (gives : FileFacts) (takes : FileFacts) (request : Eva
   pub filed : takes path (Some (wave_text request flat columns))
 
 -- An evaluation that stops at a fault has dumped all instants before it, where a dump is asked for; and one
--- that stops since its dump can't be
--- written has tried a write, which failed.
+-- that stops since its dump can't be written has tried a write, which failed.
 abbrev pub IsDumpedTo : FileFacts → FileFacts → EvalRequest → CallError → Type 0
 IsDumpedTo gives takes request stop =
     ((name : List ℕ) (instant : ℕ) (kind : FaultKind) → stop ≡ Fault name instant kind → (path : List ℕ)
@@ -227,9 +222,8 @@ IsDumpedTo gives takes request stop =
     × IsUnwritten takes stop
 
 -- The first fault of the program and the table that the files of a request gave. It is a fault of the source:
--- in each solution of the
--- program an operator in the equation of that variable, or in an instance of a call there, has no result at
--- that instant.
+-- in each solution of the program an operator in the equation of that variable, or in an instance of a call
+-- there, has no result at that instant.
 pub record IsFaultOf (gives : FileFacts) (request : EvalRequest) (name : List ℕ) (instant : ℕ)
     (kind : FaultKind) : Type 0 where
   pub flat : FlatView

@@ -23,8 +23,7 @@ HasOneText gives = (path : List ℕ) (one other : Option (List ℕ)) → gives p
     → one ≡ other
 
 -- a stop that says nothing of the files that are read: memory ran out, a dump couldn't be written, or a run
--- was cut short, since a thread was refused
--- or a site was left
+-- was cut short, since a thread was refused or a site was left
 abbrev pub SaysNothing : CallError → Type 0
 SaysNothing (Syntax syn.OutOfMemory) = Unit {0}
 SaysNothing (Rules rules.OutOfMemory) = Unit {0}
@@ -39,8 +38,7 @@ SaysNothing OutOfMemory = Unit {0}
 SaysNothing _ = ⊥
 
 -- Where each file has one text or none, what has an answer isn't refused, unless by a stop that says nothing
--- of them; and what is refused has no
--- answer.
+-- of them; and what is refused has no answer.
 abbrev pub HasOneOutcome : FileFacts → Type 0
 HasOneOutcome gives =
     HasOneText gives → (request : Request) (text : List ℕ) (stop : CallError)
@@ -60,8 +58,7 @@ IsFaultOfRun (AsksRun request) (Fault name instant kind) = Unit {0}
 IsFaultOfRun request stop = ⊥
 
 -- Two refusals of one request are the same, where each file has one text or none, neither says nothing of
--- them, and they are no faults of a run on
--- threads.
+-- them, and they are no faults of a run on threads.
 abbrev pub HasOneRefusal : FileFacts → Type 0
 HasOneRefusal gives =
     HasOneText gives → (request : Request) (one other : CallError)

@@ -30,8 +30,7 @@ pub record Streams (W V : Type 0) : Type 0 where
   pub held_err : V → Option (List ℕ)
 
 -- the output has these bytes more, and the error stream has these notes more, unless a write of them failed;
--- without notes it is as
--- it was
+-- without notes it is as it was
 pub record HasOutput {W V : Type 0} (streams : Streams W V) (bytes notes : List ℕ) : Type 0 where
   pub output : Appends (streams.held_out streams.out.writer) (streams.held_out streams.out_after.writer) bytes
   pub noted : HasPut streams.held_err streams.err streams.err_after notes
@@ -55,8 +54,7 @@ pub record HasNoOutput {W V : Type 0} (streams : Streams W V) : Type 0 where
   pub error : HasLine streams.held_err streams.err streams.err_after (codes "F02 CannotWrite")
 
 -- where a dump is asked for, it is in its file: of an evaluation that of the whole table, of a run that of
--- the whole outputs, of a replay that of its
--- end
+-- the whole outputs, of a replay that of its end
 abbrev pub AreFiled : FileFacts → FileFacts → Request → Type 0
 AreFiled gives takes (Eval request) = IsDumped gives takes request
 AreFiled gives takes (Replay request) = IsReplayDumped gives takes request
@@ -72,9 +70,8 @@ AreFiledTo gives takes (AsksRun request) stop = IsUnwritten takes stop
 AreFiledTo gives takes _ stop = Unit {0}
 
 -- What is asked for ends with this status: with 0 where the answer is printed, with its notes on the error
--- stream, with that of a refusal, whose line
--- is reported, and its reason where that is asked for, or with 3 where the answer couldn't be written, of
--- which the output has a prefix.
+-- stream, with that of a refusal, whose line is reported, and its reason where that is asked for, or with 3
+-- where the answer couldn't be written, of which the output has a prefix.
 pub data IsEnded {W V : Type 0} (gives : FileFacts) (takes : FileFacts) (request : Request) (status : ℕ)
     (streams : Streams W V) : Type 0 where
   answered : (text notes : List ℕ) → status ≡ 0 → IsAnswer gives request text → AreNotes gives request notes
@@ -92,8 +89,8 @@ abbrev pub IsHelp : ErrorKind → Type 0
 IsHelp kind = (kind ≡ DisplayHelp) ⊎ (kind ≡ DisplayVersion)
 
 -- A call with these words ends with this status: as what they ask for does; with 0 for help, which goes to
--- the output; with 2 for a
--- mistake in the words; and with 3 where memory ran out before they were read, or help couldn't be written.
+-- the output; with 2 for a mistake in the words; and with 3 where memory ran out before they were read, or
+-- help couldn't be written.
 pub data IsCallEnded {W V : Type 0} (gives : FileFacts) (takes : FileFacts) (words : List (List ℕ))
     (status : ℕ) (streams : Streams W V) : Type 0 where
   asked : (request : Request) → IsAskedBy words request → IsEnded gives takes request status streams

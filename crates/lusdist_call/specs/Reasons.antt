@@ -1,6 +1,5 @@
 -- What is reported of a refusal behind its line, where the words ask for it: the place in the text that is
--- refused, what is wrong there, and how to
--- mend it.
+-- refused, what is wrong there, and how to mend it.
 use Rattle.std.specs.Prelude.{◌≡◌, ◌⊎◌, ℕ, true, Bool, false, List, [], ◌∷◌, ◌++◌, codes, Option, Some}
 use Rattle.luexplain.specs.Place.{place}
 use Rattle.luexplain.specs.Explanations.{place_of_rule, whole}
@@ -63,8 +62,7 @@ blamed_path request _ = program_path request
 -- PLACES
 
 -- Where a stop stands in the text of this path: of a refused program and of a refused schedule exactly at the
--- byte that the line reports; else at
--- some byte, or in the whole.
+-- byte that the line reports; else at some byte, or in the whole.
 abbrev pub StandsAt : List ℕ → List ℕ → CallError → List ℕ → Type 0
 StandsAt path text NotAscii at = at ≡ place_of_syntax path text texts.NotAscii
 StandsAt path text (Syntax e) at = at ≡ place_of_syntax path text e
@@ -87,8 +85,7 @@ pub record IsReason (gives : FileFacts) (path : List ℕ) (stop : CallError) (re
   pub is : reported ≡ reason_text at what mend
 
 -- What is reported behind the line of a stop: where that is asked for, its reason; or nothing, as where no
--- text is to blame, where its file can't be
--- read again, or where memory runs out.
+-- text is to blame, where its file can't be read again, or where memory runs out.
 pub data IsReportedBehind (gives : FileFacts) (request : Request) (stop : CallError)
     (reported : List ℕ) : Type 0 where
   nothing : reported ≡ [] → IsReportedBehind gives request stop reported

@@ -25,10 +25,8 @@ use Rattle.lusdist_call.specs.declared.call_error.CallError.TheVariants.{NotAsci
 use Rattle.lusdist_call.specs.declared.call_error.CallError.TheVariants.{Place as PlaceStop, Table}
 
 -- A rule that the program breaks, where all rules of the stages before it are kept: of its own stage the
--- fault of the least byte, at equal bytes of
--- the least number, each at its place, as a program in memory with this tree and these places has them. Or,
--- of a program that keeps all rules, why it
--- has no flat program.
+-- fault of the least byte, at equal bytes of the least number, each at its place, as a program in memory with
+-- this tree and these places has them. Or, of a program that keeps all rules, why it has no flat program.
 pub data IsReportedOf (tree : ProgramTree) (places : ProgramPlaces) (main : List ℕ)
     (stop : CallError) : Type 0 where
   rule : (refusal : StatError) (read : Program) → stop ≡ Rules refusal → ReportsRule 3 tree main refusal
@@ -50,8 +48,7 @@ IsTableRefused types inputs bytes (Table e) = ((e ≡ table.BadHeader) × (¬ Is
 IsTableRefused types inputs bytes _ = ⊥
 
 -- the bytes of a placement's file are no text, which is reported as no TOML, or a text that is refused so, or
--- one whose placement is refused so for
--- the program
+-- one whose placement is refused so for the program
 abbrev pub IsPlaceRefused : FlatView → List ℕ → CallError → Type 0
 IsPlaceRefused program bytes (PlaceStop e) =
     ((e ≡ placing.NotToml) × (¬ IsUtf8 bytes))

@@ -13,8 +13,7 @@ use Rattle.lusdist_call.specs.declared.call_error.CallError.TheVariants.{Fault, 
 use Rattle.lusdist_call.specs.declared.call_error.CallError.TheVariants.{OutOfMemory, Mistaken}
 
 -- 3 where an evaluation or a run is a fault, a dump can't be written, a run was cut short or memory ran out,
--- 2 where a file can't be read or the
--- words are wrong, and 1 where a text is refused
+-- 2 where a file can't be read or the words are wrong, and 1 where a text is refused
 abbrev pub status_of : CallError → ℕ
 status_of (CannotRead path) = 2
 status_of (Mistaken mistake) = 2

@@ -84,8 +84,8 @@ pub data IsCheckStopped (gives : FileFacts) (request : CheckRequest) (stop : Cal
   check_memory : stop ≡ OutOfMemory → IsCheckStopped gives request stop
 
 -- An evaluation of what a request asks for stops so: at its program; where that has a flat program, at its
--- table; at the
--- first fault; or, where both are as they should be, at the file of its dump, which can't be written.
+-- table; at the first fault; or, where both are as they should be, at the file of its dump, which can't be
+-- written.
 pub data IsEvalStopped (gives : FileFacts) (request : EvalRequest) (stop : CallError) : Type 0 where
   eval_program : StopsAtProgram gives request.program.now request.main.now stop
       → IsEvalStopped gives request stop
@@ -128,8 +128,7 @@ pub data StopsAtJob (gives : FileFacts) (path place_path table_path main : List 
       → StopsAtJob gives path place_path table_path main stop
 
 -- A replay of what a request asks for stops so: at its job; where there is one, at its schedule; or, where
--- all are as they should be, at the file of
--- its dump, which can't be written.
+-- all are as they should be, at the file of its dump, which can't be written.
 pub data IsReplayStopped (gives : FileFacts) (request : ReplayRequest) (stop : CallError) : Type 0 where
   replay_job : StopsAtJob gives request.program.now request.place.now request.table.now request.main.now stop
       → IsReplayStopped gives request stop
@@ -145,8 +144,7 @@ pub data IsReplayStopped (gives : FileFacts) (request : ReplayRequest) (stop : C
   replay_memory : stop ≡ OutOfMemory → IsReplayStopped gives request stop
 
 -- A fault of the run that a request asks for, reported by the name of the main variable in whose equation it
--- stands: it is the one at which a
--- site of the run stopped, and a fault of the source.
+-- stands: it is the one at which a site of the run stopped, and a fault of the source.
 pub record IsRunFault (gives : FileFacts) (request : RunRequest) (name : List ℕ) (instant : ℕ)
     (kind : FaultKind) : Type 0 where
   pub job : JobView
@@ -159,8 +157,7 @@ pub record IsRunFault (gives : FileFacts) (request : RunRequest) (name : List �
       → IsSourceFault asked_for.job_is.flat.tree request.main.now job.inputs σ name instant kind
 
 -- A run of what a request asks for stops so: at its job; or, where there is one, at a fault, because a site
--- was left by another or a
--- thread was refused, or at the file of its dump, which can't be written.
+-- was left by another or a thread was refused, or at the file of its dump, which can't be written.
 pub data IsRunStopped (gives : FileFacts) (request : RunRequest) (stop : CallError) : Type 0 where
   run_job : StopsAtJob gives request.program.now request.place.now request.table.now request.main.now stop
       → IsRunStopped gives request stop

@@ -40,8 +40,7 @@ AreRunWaves takes request job =
     × takes path (Some (run_dump request.main.now job.plan outputs))
 
 -- The dump of a run in the file of this path. Each output is what every solution of the program that the file
--- spells gives it at all instants, and no
--- operator is a fault.
+-- spells gives it at all instants, and no operator is a fault.
 pub record IsRunFiled (gives : FileFacts) (takes : FileFacts) (request : RunRequest)
     (path : List ℕ) : Type 0 where
   pub job : JobView
@@ -86,8 +85,7 @@ AreSignalsTrue tree main inputs signals =
     → IsPrefixOf (map Known signal.statuses) (main_marks inputs σ signal.name)
 
 -- The dump of a replay in the file of this path: that of the world of its job after its turns. What it says
--- of an output is a prefix of what
--- every solution of the program that the file spells gives it.
+-- of an output is a prefix of what every solution of the program that the file spells gives it.
 pub record IsReplayFiled (gives : FileFacts) (takes : FileFacts) (request : ReplayRequest)
     (path : List ℕ) : Type 0 where
   pub job : JobView

@@ -40,8 +40,7 @@ turns_in matches = if is_given matches (codes "chart") then Chart else (if is_gi
     then Lines else Nothing)
 
 -- The number of workers that the text for them spells, in decimal; there is none where there is no text. The
--- command line takes
--- no other text than that of a number from 1 to 16.
+-- command line takes no other text than that of a number from 1 to 16.
 abbrev pub AreWorkersIn : Option Text → Option ℕ → Type 0
 AreWorkersIn None workers = workers ≡ None
 AreWorkersIn (Some text) workers = IsUnsignedIn fewest_workers most_workers text
@@ -52,8 +51,7 @@ abbrev pub AreFew : Option ℕ → Type 0
 AreFew workers = IfSome workers (λ n. (fewest_workers ≤ n) × (n ≤ most_workers))
 
 -- The instant that the text for it spells, in decimal; there is none where there is no text. The command line
--- takes no other text than that of an
--- instant that a table may have.
+-- takes no other text than that of an instant that a table may have.
 abbrev pub IsInstantIn : Option Text → Option ℕ → Type 0
 IsInstantIn None instant = instant ≡ None
 IsInstantIn (Some text) instant = IsUnsignedIn 0 last_instant text

@@ -94,9 +94,8 @@ pub record IsStoppedAt (job : JobView) (s n j : ℕ) : Type 0 where
   pub computed : j ≡ 1
 
 -- A site that has done n items of its script stands at instant t: behind all its items of the instants
--- before, and the next one is of
--- this instant, or of the closes, where t is the number of instants; or the computation that stopped it is of
--- this instant.
+-- before, and the next one is of this instant, or of the closes, where t is the number of instants; or the
+-- computation that stopped it is of this instant.
 pub record IsAtInstant (job : JobView) (s n t : ℕ) : Type 0 where
   pub place : ℕ
   pub step : ℕ
@@ -172,8 +171,7 @@ rest_of a = (a.inputs.job.inputs.instants - a.instant) * (length a.program.plan.
     (length a.program.plan.flat.order - a.place)
 
 -- how many items a flow has, as the machine works it out: by whether its clock is open, whether it is the
--- site's own, whether
--- the instant is one of the table, the number of links out, and whether there is one in
+-- site's own, whether the instant is one of the table, the number of links out, and whether there is one in
 abbrev pub in_cell : Bool → Bool → Bool → ℕ → Bool → ℕ
 in_cell true true true outs into = outs + 1
 in_cell true true false outs into = outs
@@ -238,8 +236,8 @@ abbrev pub offered : SiteState → Next
 offered a = if is_faulted a then Faulted else offered_at a (slice_get a.program.plan.flat.order a.place)
 
 -- Item n of the script is what the machine offers; a put's message is the one of the list whose number is the
--- count of puts
--- before it; at the end nothing stopped the script, or a computation of a broken flow was its last item.
+-- count of puts before it; at the end nothing stopped the script, or a computation of a broken flow was its
+-- last item.
 abbrev pub IsNext : JobView → ℕ → ℕ → Next → Type 0
 IsNext job s n Local = (i : ℕ) × (t : ℕ) × (slice_get (script job (streams_of job) s) n ≡ Some (Compute i t))
 IsNext job s n (Take l) = (slice_get (script job (streams_of job) s) n ≡ Some (Takes l))

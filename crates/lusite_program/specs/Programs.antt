@@ -61,9 +61,8 @@ abbrev pub AreNumbers : PlanView → ℕ → List ℕ → Type 0
 AreNumbers plan s numbers = (k i : ℕ) → slice_get (places_of plan s) k ≡ Some i → slice_get numbers i ≡ Some k
 
 -- What the machine of a site has of the flow of rank p: its line, with the numbers of the site's flows in
--- place of their places, and
--- the site's part in it. Its branches, where it is a merge, are among these, and so are the links by which
--- the site sends it.
+-- place of their places, and the site's part in it. Its branches, where it is a merge, are among these, and
+-- so are the links by which the site sends it.
 pub record IsSiteFlow (plan : PlanView) (s : ℕ) (branches links : List ℕ) (p : ℕ)
     (site_flow : SiteFlow) : Type 0 where
   pub numbers : List ℕ

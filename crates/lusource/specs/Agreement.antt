@@ -14,8 +14,7 @@ abbrev pub SameOnVariables : FlatView → Streams → SourceStreams → Type 0
 SameOnVariables flat τ σ = (v : ℕ) (x : Variable) → slice_get flat.variables v ≡ Some x → τ v ≡ σ [] x.name
 
 -- At a table, each solution of the source is one of the flat program, and each solution of the flat program
--- is one of the
--- source, with the same streams for the main variables.
+-- is one of the source, with the same streams for the main variables.
 pub record Agrees (program : ProgramTree) (main : List ℕ) (inputs : InputsView)
     (flat : FlatView) : Type 0 where
   pub to_flat : (σ : SourceStreams) → IsSourceSolution program main inputs σ

@@ -18,8 +18,7 @@ CallStands (q ∷ qs) i v n =
     ((name_at q.left 0 ≡ v) × (i ≤ n) × (n < i + calls q.right)) ⊎ CallStands qs (i + calls q.right) v n
 
 -- the equation of the main node with v as its first variable has the operator in it, which stands in the
--- equation of w of its
--- node, or the first call on the path to the operator
+-- equation of w of its node, or the first call on the path to the operator
 abbrev pub StandsIn : ProgramTree → List ℕ → List ℕ → List ℕ → Path → Type 0
 StandsIn program main v w [] = v ≡ w
 StandsIn program main v w (n ∷ path) =

@@ -37,8 +37,7 @@ pub record TwoFail (op : BinaryOperator) (k : Ticks) (a b : Stream) (t : ℕ) (k
   pub fault : IsFaultOf op x y kind
 
 -- In an instance of a node: its streams as for `value`, and which of its calls fail, by the called node, the
--- clock and the
--- number of the call.
+-- clock and the number of the call.
 module _ (program : ProgramTree) (node : NodeTree) (base : Ticks) (var : Named) (inner : ℕ → Named) (t : ℕ)
     (kind : FaultKind) (CallFails : List ℕ → Ticks → ℕ → Type 0) where
   -- the stream of an expression
@@ -47,8 +46,7 @@ module _ (program : ProgramTree) (node : NodeTree) (base : Ticks) (var : Named) 
 
   abbrev mutual
     -- An operator in an expression is at fault, or one in the instance of a call in it. As for `value`, the
-    -- expression is on a
-    -- clock that its place demands, and i calls stand before it.
+    -- expression is on a clock that its place demands, and i calls stand before it.
     pub Fails : Tree → Option Condition → ℕ → Type 0
     Fails (tree.number n) k i = ⊥
     Fails (tree.truth b) k i = ⊥
@@ -93,8 +91,8 @@ There None P = ⊥
 There (Some x) P = P x
 
 -- In an instance of the node called f, which has these streams, the equation with v as its first variable
--- fails: by an operator
--- of its own, or by one in the instance of a call in it, and so on, through fewer than this many calls.
+-- fails: by an operator of its own, or by one in the instance of a call in it, and so on, through fewer than
+-- this many calls.
 abbrev pub FailsWithin : ProgramTree → ℕ → FaultKind → ℕ → List ℕ → Ticks → SourceStreams → List ℕ → Type 0
 FailsWithin program t kind zero f base σ v = ⊥
 FailsWithin program t kind (suc depth) f base σ v =

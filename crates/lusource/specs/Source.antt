@@ -1,6 +1,6 @@
 -- The synchronous meaning of a program: which streams its equations allow. A program is a system of equations
--- between
--- flows, and a call stands for the equations of the called node, which run where the call's clock is true.
+-- between flows, and a call stands for the equations of the called node, which run where the call's clock is
+-- true.
 use Rattle.std.specs.Prelude.{◌≡◌, ℕ, suc, ◌+◌, true, List, [], ◌∷◌, ◌++◌, map, Option, Some, None, pos}
 use Rattle.std.specs.Prelude.{slice_get}
 use Rattle.lutree.specs.declared.expr.Prefix.TheVariants.{Data as Data1, Pre}
@@ -81,8 +81,7 @@ ticks base var (Some c) = λ t. truth_in (pattern_value c.pattern) (var c.variab
 module _ (program : ProgramTree) (node : NodeTree) (base : Ticks) (var : Named) (inner : ℕ → Named) where
   abbrev mutual
     -- The stream of an expression on a clock that its place demands, where i calls stand before it. A
-    -- variable stands for
-    -- its stream, and a call for the first output of its instance.
+    -- variable stands for its stream, and a call for the first output of its instance.
     pub value : Tree → Option Condition → ℕ → Stream
     value (tree.number n) k i = constant_stream (Int (pos n)) (ticks base var k)
     value (tree.truth b) k i = constant_stream (Truth b) (ticks base var k)
@@ -192,8 +191,7 @@ sites_of program None base var inner = []
 sites_of program (Some node) base var inner = all_sites program node base var inner node.equations 0
 
 -- The instance at a path, from an instance of the node called f on, holds, if there is one. A call's clock is
--- the base
--- clock of its instance, and its arguments are the inputs there.
+-- the base clock of its instance, and its arguments are the inputs there.
 abbrev pub HoldsAt : ProgramTree → List ℕ → Ticks → List Stream → SourceStreams → Path → Type 0
 HoldsAt program f base given σ [] =
     If (node_called program f) (λ node. InstanceHolds program node base given (σ []) (λ i. σ (i ∷ [])))
@@ -207,8 +205,7 @@ given_streams inputs =
     map (λ column. λ t. under (base_clock inputs t) (gives (slice_get column.values t))) inputs.columns
 
 -- The synchronous solutions of a program at a table: every instance holds, the main node's on the base clock
--- that is true
--- at each instant of the table.
+-- that is true at each instant of the table.
 abbrev pub IsSourceSolution : ProgramTree → List ℕ → InputsView → SourceStreams → Type 0
 IsSourceSolution program main inputs σ = (path : Path) → HoldsAt program main (base_clock inputs)
     (given_streams inputs) σ path

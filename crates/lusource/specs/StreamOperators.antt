@@ -1,6 +1,5 @@
 -- The operators of Lustre on whole streams. Each result is absent where the clock is false, and broken where
--- the clock or
--- a stream that it looks at is.
+-- the clock or a stream that it looks at is.
 use Rattle.std.specs.Prelude.{suc, List, map}
 use Rattle.lutree.specs.declared.expr.UnaryOperator.{UnaryOperator}
 use Rattle.lutree.specs.declared.expr.BinaryOperator.{BinaryOperator}

@@ -37,8 +37,7 @@ pub record IsFree (n : NodeTree) (x : List ℕ) : Type 0 where
   pub clock : ¬ Contains (clock_variables n) x
 
 -- An equation keeps the rules of classes: what its right side needs is there, and where it is of class 1 it
--- defines no input,
--- no output and no variable that a clock names.
+-- defines no input, no output and no variable that a clock names.
 pub record KeepsClasses (a : Classes) (n : NodeTree) (q : EquationTree) : Type 0 where
   pub needs : NeedsMet a q.right
   pub held : IsTrue (is_one a q.right) → All (IsFree n) q.left

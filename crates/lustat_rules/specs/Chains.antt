@@ -105,8 +105,7 @@ turned first =
     }
 
 -- node main(b: bool; x: int) returns (c: bool when b; v: int when c; w: bool when l; y: int); var l: bool
--- when w;
--- let c = (x < 2) when b; v = (x when b) when c; tel
+-- when w; let c = (x < 2) when b; v = (x when b) when c; tel
 abbrev pub chained : NodeTree
 chained =
     record {

@@ -1,6 +1,5 @@
 -- The rules of initialisation: what of class 0 is never nil; what is of class 1 is nil at most at the first
--- instant
--- of its clock.
+-- instant of its clock.
 use Rattle.std.specs.Prelude.{◌≡◌, ℕ, Bool, true, false, ◌||◌, List, [], ◌∷◌, ◌++◌, Some, IsTrue, IsFalse}
 use Rattle.std.specs.Prelude.{IfSome, All, Contains}
 use Rattle.lutree.specs.declared.expr.Pattern.{Pattern}
@@ -39,8 +38,7 @@ abbrev pub IsZero : Classes → Tree → Type 0
 IsZero a e = IsFalse (is_one a e)
 
 -- what an expression needs in class 0 is there: what stands after `pre`, on the right of `fby` and in a
--- branch of `merge`,
--- the variable after `current`, and the arguments of calls
+-- branch of `merge`, the variable after `current`, and the arguments of calls
 abbrev mutual
   pub NeedsMet : Classes → Tree → Type 0
   NeedsMet a (tree.number n) = Unit {0}

@@ -29,8 +29,8 @@ abbrev pub HasClock : NodeTree → List ℕ → Clock → Type 0
 HasClock n x k = clock_of n x ≡ Some k
 
 -- An expression fits a clock by these cases, and by no other. A clock variable has the one clock of its
--- declaration, so two
--- clocks are the same chain of variables and patterns where their first variables and patterns are the same.
+-- declaration, so two clocks are the same chain of variables and patterns where their first variables and
+-- patterns are the same.
 mutual
   pub data FitsClock (n : NodeTree) : Tree → Clock → Type 0 where
     number : (a : ℕ) (k : Clock) → FitsClock n (tree.number a) k

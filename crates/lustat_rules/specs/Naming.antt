@@ -146,8 +146,8 @@ abbrev pub CallsKnown : ProgramTree → EquationTree → Type 0
 CallsKnown p q = All (λ c. IsNode p c.node) (calls_in q.right)
 
 -- E14: each call has as many arguments as its node has inputs, each call inside an expression is of a node
--- with one output,
--- and an equation has as many variables on its left side as there are values on its right, and one at least
+-- with one output, and an equation has as many variables on its left side as there are values on its right,
+-- and one at least
 pub record AritiesRight (p : ProgramTree) (q : EquationTree) : Type 0 where
   pub arguments : All (λ c. IfSome (node_called p c.node) (λ n. c.arguments ≡ length n.inputs))
       (calls_in q.right)

@@ -7,8 +7,7 @@ use Rattle.lutree.specs.Tree.{Tree, Trees, list_of}
 use Rattle.lutree.specs.Tree as tree
 
 -- a name of an enumeration as a constant, a clock after `when`, or a merge: its variable, the patterns of its
--- branches, and how many
--- branches it has
+-- branches, and how many branches it has
 pub data Part : Type 0 where
   label : Label → Part
   clock : Condition → Part

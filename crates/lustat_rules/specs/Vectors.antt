@@ -282,8 +282,7 @@ pub record InitialisedNodes : Type 0 where
 -- DECLARATIONS AND NODES
 
 -- node main(x: int; x: int; k: int when b) returns (y: int when x; z: int when l); var l: bool; a: int when
--- b; b: bool when b;
--- let tel
+-- b; b: bool when b; let tel
 abbrev pub faulty : NodeTree
 faulty =
     record {

@@ -15,8 +15,8 @@ OnePlacesLaw = (text : List ℕ) (one other : ProgramPlaces) → ArePlacesOf tex
     → one ≡ other
 
 -- A text of a type and of two nodes, with a comment and with clocks of all three kinds, and its places. A `;`
--- behind a clock or in a comment begins
--- nothing, and what a type, a clock or an expression names is declared elsewhere.
+-- behind a clock or in a comment begins nothing, and what a type, a clock or an expression names is declared
+-- elsewhere.
 abbrev pub two_nodes : List ℕ
 two_nodes = codes
     "type t = enum { Up, Down };\nnode f(x, y: bool; m: t) returns (z: int when not y; w: t when Up(m));\n"

@@ -11,8 +11,7 @@ use Rattle.lusyn.specs.declared.error.SynError.TheVariants as e
 use Rattle.lusyn.specs.Texts.{HasProgram, IsLarge}
 
 -- The text has tokens, and they are wrong from this byte on: it is the first byte of the first token with
--- which no program
--- goes on, or the text's length where it ends too early.
+-- which no program goes on, or the text's length where it ends too early.
 abbrev pub HasWrongTokens : List ℕ → ℕ → Type 0
 HasWrongTokens text byte = (ts : List Placed) × IsLexed text ts × IsWrongFrom ts (length text) byte
 
@@ -21,9 +20,8 @@ abbrev pub HasLargeProgram : List ℕ → Type 0
 HasLargeProgram text = (written : ProgramTree) × HasProgram text written × IsLarge written
 
 -- This refusal is true of the text, and none of those before it in order: the length, a byte above 127, a
--- byte that begins no
--- token or a number too large, a long run, the grammar, the numbers of nodes, types and names. Want of memory
--- is none of a text.
+-- byte that begins no token or a number too large, a long run, the grammar, the numbers of nodes, types and
+-- names. Want of memory is none of a text.
 abbrev pub IsRefused : List ℕ → SynError → Type 0
 IsRefused text e.TooLong = lexing.IsRefused text l.TooLong ⊎ HasLargeProgram text
 IsRefused text e.NotAscii = lexing.IsRefused text l.NotAscii

@@ -25,12 +25,10 @@
 --   call     = ident "(" [ expr { "," expr } ] ")"
 --
 -- The rules from `expr` to `atom` are the levels 0 to 10 of `Tokens.antt`: what a rule spells has its level
--- or one above, and
--- a place asks for a rule by its level.
+-- or one above, and a place asks for a rule by its level.
 --
 -- What a name stands for is none of the grammar's: a name in an expression is a variable, and of a name in a
--- clock or a branch nothing is known but
--- the name.
+-- clock or a branch nothing is known but the name.
 use Rattle.std.specs.Prelude.{◌≡◌, ◌≤◌, ◌⊎◌, ℕ, Bool, true, false, List, [], ◌∷◌, map, Option, Some, None}
 use Rattle.std.specs.List.{flat_map}
 use Rattle.lutree.specs.declared.expr.Prefix.{Prefix}

@@ -35,8 +35,7 @@ is_digits [] = false
 is_digits (b ∷ w) = list_all is_ascii_digit (b ∷ w)
 
 -- These bytes are one piece: this token, or none where they are white space or a comment. A keyword or a sign
--- is `spelled`
--- as it is, a name is a word that none of these has, and a number has any size here. 45 is `-`.
+-- is `spelled` as it is, a name is a word that none of these has, and a number has any size here. 45 is `-`.
 pub data IsPiece (w : List ℕ) (t : Option Tok) : Type 0 where
   blank : (b : ℕ) → is_blank b ≡ true → w ≡ b ∷ [] → t ≡ None → IsPiece w t
   comment : (line : List ℕ) → list_all is_line line ≡ true → w ≡ 45 ∷ 45 ∷ line → t ≡ None → IsPiece w t

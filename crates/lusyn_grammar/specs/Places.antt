@@ -1,6 +1,5 @@
 -- The places of a program's parts, as its tokens give them: where the names of its types and of their
--- enumerations, the names of its nodes, its
--- declared names and its equations begin.
+-- enumerations, the names of its nodes, its declared names and its equations begin.
 use Rattle.std.specs.Prelude.{ℕ, Bool, true, false, not, ◌||◌, List, [], ◌∷◌, if◌then◌else◌}
 use Rattle.lutree.specs.Places.{TypePlaces, NodePlaces, ProgramPlaces}
 use Rattle.lusyn_grammar.specs.declared.token.Fixed.{Fixed}
@@ -58,8 +57,7 @@ begun here (x ∷ xs) =
     if is f.Tel x.1 then [] else if here then x.0 ∷ others else others
 
 -- The places of a node, of the tokens behind `node`: its name comes first, inputs are declared behind `(`,
--- outputs behind the
--- `(` behind `returns`, locals behind `var`, and equations begin behind `let`.
+-- outputs behind the `(` behind `returns`, locals behind `var`, and equations begin behind `let`.
 abbrev pub node_places_in : List Placed → NodePlaces
 node_places_in xs = record {
   name = first xs;

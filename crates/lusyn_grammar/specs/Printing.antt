@@ -1,7 +1,6 @@
 -- The canonical form of a tree: parentheses exactly where they are needed, and one name a declaration. The
--- semicolons that may
--- be left out stand after a heading, and not after a node's end. A name of an enumeration is given by its
--- name alone.
+-- semicolons that may be left out stand after a heading, and not after a node's end. A name of an enumeration
+-- is given by its name alone.
 use Rattle.std.specs.Prelude.{◌≡◌, ◌⊎◌, ℕ, true, false, nat_le, List, [], ◌∷◌, map, Option, Some, None}
 use Rattle.std.specs.Prelude.{if◌then◌else◌}
 use Rattle.lutree.specs.declared.expr.Pattern.{Pattern}
@@ -84,8 +83,7 @@ abbrev pub written_program : ProgramTree → WrittenProgram
 written_program p = record { types = p.types; nodes = map written_node p.nodes }
 
 -- The tree without what its names of enumerations stand for: each is a variable in an expression, and
--- elsewhere a name of which nothing else is
--- known.
+-- elsewhere a name of which nothing else is known.
 
 abbrev mutual
   pub bare_tree : Tree → Tree

@@ -1,8 +1,6 @@
 -- Reading from left to right, by the levels of the operators. Where the tokens don't begin so, the answer is
--- the rest of the
--- tokens from the refused one on, which is the first that isn't what has to stand there; it is empty where
--- tokens are missing.
--- What is found of several pieces is put behind what was found before.
+-- the rest of the tokens from the refused one on, which is the first that isn't what has to stand there; it
+-- is empty where tokens are missing. What is found of several pieces is put behind what was found before.
 use Rattle.std.specs.Prelude.{ℕ, zero, suc, Bool, true, false, ◌&&◌, ◌||◌, nat_le, List, [], ◌∷◌, ◌++◌, map}
 use Rattle.std.specs.Prelude.{length, Option, Some, None, Result, Ok, Err, if◌then◌else◌}
 use Rattle.std.specs.Result.{is_ok}

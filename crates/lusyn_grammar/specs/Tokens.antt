@@ -96,8 +96,7 @@ located = map (λ l. (l.place, tok l.token))
 -- OPERATORS
 
 -- How tightly each form binds, and how tightly the forms at its places have to. A greater level binds more
--- tightly. A rule of
--- the grammar has the forms of its level and of all above.
+-- tightly. A rule of the grammar has the forms of its level and of all above.
 --
 --   level  rule   form                            its operands
 --   0      expr   if then else                    0, 0, 0

@@ -20,14 +20,13 @@ pub record SpellsNames (F : List Placed → List ℕ) : Type 0 where
   pub comma : (p : ℕ) (xs : List Placed) → F ((p, fixed f.Comma) ∷ xs) ≡ F xs
 
 -- From one token to another, what was found has grown by the names there: as each such function says,
--- together with what stands from the second
--- token on it is what was found before together with what stands from the first token on.
+-- together with what stands from the second token on it is what was found before together with what stands
+-- from the first token on.
 pub record Lists (ls : List Lexeme) (at next : ℕ) (old new : List ℕ) : Type 0 where
   pub same : (F : List Placed → List ℕ) → SpellsNames F → new ++ F (from ls next) ≡ old ++ F (from ls at)
 
 -- From one token to another, what was found has grown by the names that are declared there: together with
--- those from the second token on it is what
--- was found before together with those from the first token on.
+-- those from the second token on it is what was found before together with those from the first token on.
 pub record Declares (ls : List Lexeme) (at next : ℕ) (old new : List ℕ) : Type 0 where
   pub same : new ++ declared false (from ls next) ≡ old ++ declared false (from ls at)
 

@@ -24,8 +24,7 @@ NoneGoesOn before (refused ∷ rest) = (others : List Tok) (found : ProgramTree)
     → Spells (before ++ refused ∷ others) found → ⊥
 
 -- Tokens of a text that ends at `end` are wrong from this byte on: those before it begin a program, and no
--- program goes on
--- with the one at it, or ends there if there is none.
+-- program goes on with the one at it, or ends there if there is none.
 pub record IsWrongFrom (ts : List Placed) (end byte : ℕ) : Type 0 where
   pub before : List Placed
   pub rest : List Placed

@@ -1,8 +1,7 @@
 -- What the names of a program stand for: each name of an enumeration is a label, which knows its type and its
--- number there, and each type that is
--- given by a name is the enumeration of that name. Types and their names count from 0, in order of text; of
--- two that have one name the first counts.
--- What no type has stays as it is.
+-- number there, and each type that is given by a name is the enumeration of that name. Types and their names
+-- count from 0, in order of text; of two that have one name the first counts. What no type has stays as it
+-- is.
 use Rattle.std.specs.Prelude.{ℕ, ◌+◌, List, [], ◌∷◌, ◌++◌, length, map, Option, Some, None, if◌then◌else◌}
 use Rattle.std.specs.Str.{bytes_eq}
 use Rattle.lutree.specs.declared.expr.Label.{Label}

@@ -10,8 +10,7 @@
 --   tel
 --
 -- Each line ends with a line feed, and a node follows what stands before it without a blank line. Parentheses
--- stand where
--- `written` puts them, which is where they are needed.
+-- stand where `written` puts them, which is where they are needed.
 use Rattle.std.specs.Prelude.{ℕ, Bool, true, false, List, [], ◌∷◌, ◌++◌, codes, Option, Some, None}
 use Rattle.std.specs.List.{flat_map}
 use Rattle.std.specs.Fmt.{decimal}

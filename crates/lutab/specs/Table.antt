@@ -52,8 +52,7 @@ AreWords (s ∷ sorts) [] = Unit {0}
 AreWords (s ∷ sorts) (c ∷ columns) = All (IsWord s.names) c.values × AreWords sorts columns
 
 -- The text is the spelling of this table of these inputs in a program with these enumerations: numbers have
--- 64 bits, and names are
--- found by what is spelled.
+-- 64 bits, and names are found by what is spelled.
 pub record IsTextOf (types : List Enum) (inputs : List Variable) (table : InputsView)
     (text : List ℕ) : Type 0 where
   pub columns : AreColumnsOf inputs table.columns

@@ -54,8 +54,7 @@ abbrev pub is_end : ℕ → Bool
 is_end byte = nat_eq byte 44 || nat_eq byte 10
 
 -- A name that a field spells: it has neither a comma nor a line feed, and none before it is spelled so. All
--- names of a program that was
--- read are such.
+-- names of a program that was read are such.
 pub record IsFieldName (names : List (List ℕ)) (k : ℕ) : Type 0 where
   pub name : List ℕ
   pub there : slice_get names k ≡ Some name

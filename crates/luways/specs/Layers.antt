@@ -1,7 +1,6 @@
 -- A graph in which a vertex reaches itself exactly where a flow is on a parted cycle: the flows twice, with a
--- step from the first layer to the second
--- where a flow reads one that stands at other sites, and for each flow a third vertex that leads from the
--- second layer back to the first.
+-- step from the first layer to the second where a flow reads one that stands at other sites, and for each
+-- flow a third vertex that leads from the second layer back to the first.
 use Rattle.std.specs.Prelude.{◌≡◌, ◌<◌, ◌+◌, ℕ, Bool, not, List, [], ◌∷◌, ◌++◌, length, map}
 use Rattle.std.specs.List.{filter}
 use Rattle.std.specs.Str.{bytes_eq}

@@ -31,16 +31,14 @@ pub record IsWithin (job : JobView) (dones : List ℕ) (σ : SourceStreams) (l :
   pub ended : AllEnded job dones → taken_count (system_of job) dones l ≡ length (source_list job σ l)
 
 -- What was taken from link l is a prefix of its list in a solution of the source, each message once and in
--- order; and all of it
--- where all sites have ended.
+-- order; and all of it where all sites have ended.
 pub record IsTakenOf (job : JobView) (dones : List ℕ) (σ : SourceStreams) (l : ℕ) : Type 0 where
   pub begun : IsPrefixOf (taken_of (record { job = job; dones = dones }) l) (source_list job σ l)
   pub ended : AllEnded job dones → taken_of (record { job = job; dones = dones }) l ≡ source_list job σ l
 
 -- In each solution of the source every link is within its list, what was taken from it is a prefix of the
--- list, and what is
--- collected of an output is a prefix of its statuses; where all sites have ended both are whole, and no main
--- variable breaks.
+-- list, and what is collected of an output is a prefix of its statuses; where all sites have ended both are
+-- whole, and no main variable breaks.
 pub record IsFaithful (job : JobView) (dones : List ℕ) : Type 0 where
   pub links : (σ : SourceStreams) (l : ℕ) → IsMeant job σ → l < length job.plan.links → IsWithin job dones σ l
   pub taken : (σ : SourceStreams) (l : ℕ) → IsMeant job σ → l < length job.plan.links

@@ -44,15 +44,13 @@ abbrev pub crosses : ℕ → ℕ → ℕ → Bool
 crosses s t k = (nat_le s k && nat_lt k t) || (nat_le t k && nat_lt k s)
 
 -- what stands in column k, where it isn't that of site s itself: the head of the arrow to site t, a part of
--- it, or the line of a site that does
--- nothing
+-- it, or the line of a site that does nothing
 abbrev pub mark : ℕ → ℕ → ℕ → List ℕ
 mark s t k = if nat_eq k t then (if nat_lt s t then codes ">" else codes "<")
     else (if crosses s t k then codes "-" else codes "|")
 
 -- The cell of column k in a row of site s, which does what a word says, and whose message goes to site t.
--- Where a column follows, the cell is filled,
--- by the arrow where that goes on.
+-- Where a column follows, the cell is filled, by the arrow where that goes on.
 abbrev pub word_in : ℕ → ℕ → List ℕ → ℕ → List ℕ
 word_in s t word k = if nat_eq k s then word else mark s t k
 

@@ -10,8 +10,7 @@ use Rattle.luflow.specs.Rank.{row}
 use Rattle.luworld.specs.declared.link.Link.{Link}
 
 -- A flat program, the names of the sites, for each main variable the sites at which it stands, in order, what
--- each site needs,
--- in order of place, the links in order of number, and the capacity of every link.
+-- each site needs, in order of place, the links in order of number, and the capacity of every link.
 pub record PlanView : Type 0 where
   pub flat : FlatView
   pub names : List (List ℕ)
@@ -39,8 +38,7 @@ abbrev pub home : PlanView → ℕ → ℕ
 home plan i = slice_index (flow_sites plan i) 0
 
 -- The needs of a site: the least set that holds what its flows name, operands of `pre` included, and, with
--- each of its flows
--- and each flow of the set, the variable of its clock.
+-- each of its flows and each flow of the set, the variable of its clock.
 pub data IsNeeded (plan : PlanView) (s : ℕ) : ℕ → Type 0 where
   read_there : (i r : ℕ) (flow : Flow) → stands plan i s ≡ true → flow_at plan.flat i ≡ Some flow
       → Contains (places flow.form) r → IsNeeded plan s r
@@ -58,8 +56,7 @@ links_of_variable plan v = map (λ s. record { flow = v; from = home plan v; to 
     (filter (is_linked plan v) (range_with_len 0 (sites_of plan)))
 
 -- One link for each main variable and each site that needs it and at which it doesn't stand, numbered by the
--- variable's place
--- and then by the receiving site.
+-- variable's place and then by the receiving site.
 abbrev pub all_links : PlanView → List Link
 all_links plan = flat_map (links_of_variable plan) (range_with_len 0 (length plan.flat.variables))
 

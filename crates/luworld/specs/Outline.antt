@@ -6,8 +6,8 @@ use Rattle.std.specs.List.{range_with_len, list_any}
 use Rattle.luworld.specs.Systems.{Item, Compute, Puts, Takes, takes, System, ItemCounts, done, total_below}
 
 -- What a run is about, without values: `stands` says at which sites a flow is computed, `home` is the one of
--- them that sends it;
--- `present` and `broken` are a flow's clock and whether a fault has reached it, at an instant.
+-- them that sends it; `present` and `broken` are a flow's clock and whether a fault has reached it, at an
+-- instant.
 pub record Outline : Type 0 where
   pub sites : ℕ
   pub capacity : ℕ

@@ -4,10 +4,8 @@ use Rattle.luworld.specs.Systems.{Compute, Puts, Takes, System, ItemCounts, done
 use Rattle.luworld.specs.Systems.{puts_before, takes_before}
 
 -- The least set of places of scripts that holds a place where it holds all places before it in that script
--- and,
--- for a take of a message, the put of that message;
--- for a put of a message whose number isn't less than the capacity, the take of the message that is the
--- capacity earlier.
+-- and, for a take of a message, the put of that message; for a put of a message whose number isn't less than
+-- the capacity, the take of the message that is the capacity earlier.
 pub data IsReachable (sys : System) : ℕ → ℕ → Type 0 where
   reach_compute : {site place : ℕ} (flow instant : ℕ)
       → slice_get (sys.script site) place ≡ Some (Compute flow instant)

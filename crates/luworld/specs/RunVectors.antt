@@ -206,8 +206,7 @@ by_turns sites zero = []
 by_turns sites (suc n) = sites ++ by_turns sites n
 
 -- In each record `is_run` says among the rest that the flows' order is that of their ranks, and that the
--- needs and the links
--- listed above are exactly those that are defined.
+-- needs and the links listed above are exactly those that are defined.
 
 -- Each site does 23 items, and both links carry 0, 1, 2 and the close. Alone, site A gets no further than its
 -- first take.
@@ -273,8 +272,7 @@ pub record SpreadRun : Type 0 where
   pub end : reached (system_of spread_run) (by_turns (0 ∷ 1 ∷ 2 ∷ []) 34) ≡ 29 ∷ 31 ∷ 15 ∷ []
 
 -- Site A faults at its tenth item, and site B then waits for the close of p, which never comes; at capacity
--- 1, site A alone
--- gets no further than the second put of p.
+-- 1, site A alone gets no further than the second put of p.
 pub record DivisionRun : Type 0 where
   pub is_run : (capacity : ℕ) → 1 ≤ capacity → capacity ≤ 1024 → IsJobView (division_run capacity)
   pub outputs : outputs_of divided.plan ≡ 1 ∷ []

@@ -1,7 +1,6 @@
 -- One program's run as an example: node main(x: int; c: bool) returns (y: int; z: int when c), with s = x
--- when c, z = 2 * s
--- at site 1 and all else at site 0; c is true, false, true, true. Flows are x 0, c 1, y 2, z 3, s 4, 2 at 5,
--- pre y at 6, pre y + x at 7.
+-- when c, z = 2 * s at site 1 and all else at site 0; c is true, false, true, true. Flows are x 0, c 1, y 2,
+-- z 3, s 4, 2 at 5, pre y at 6, pre y + x at 7.
 use Rattle.std.specs.Prelude.{◌≡◌, ◌≤◌, ℕ, Bool, true, false, cond, List, [], ◌∷◌, ◌&&◌, ◌||◌, not, nat_eq}
 use Rattle.std.specs.Prelude.{length, slice_get, Some, None, replicate, ◌++◌}
 use Rattle.luworld.specs.Systems.{Puts, reached, moved_turns, item_count, enabled_below}

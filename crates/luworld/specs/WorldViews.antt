@@ -55,8 +55,7 @@ lead job p t = cond (is_open (clock_of_flow job.inputs (streams_of job)
     (flow_at job.plan.flat (slice_index job.plan.flat.order p)) t)) 1 0
 
 -- With n items done, site s has passed the flow of rank p at instant t: where it is present once its
--- computation is done, where
--- it is absent once every item before it is, and nothing behind a stop.
+-- computation is done, where it is absent once every item before it is, and nothing behind a stop.
 pub record IsPassed (job : JobView) (s n p t : ℕ) : Type 0 where
   pub done : items_before job (streams_of job) s t p (lead job p t) ≤ n
   pub free : IsFree job (take (items_before job (streams_of job) s t p (lead job p t))
@@ -68,8 +67,7 @@ AreAllPassed job s n i xs = (p t : ℕ) → slice_get job.plan.flat.order p ≡ 
     → (t < length xs) ↔ IsPassed job s n p t
 
 -- output k: a prefix of its statuses before its first broken one, as many as its home has passed, and all of
--- them where
--- all sites have ended
+-- them where all sites have ended
 abbrev pub IsCollected : JobView → List ℕ → ℕ → List Status → Type 0
 IsCollected job dones k xs = (i : ℕ) → slice_get (outputs_of job.plan) k ≡ Some i → IsBegun job i xs
     × AreAllPassed job (home job.plan i) (done dones (home job.plan i)) i xs × (AllEnded job dones
