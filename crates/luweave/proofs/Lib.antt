@@ -1,6 +1,6 @@
 mod Worlds
 mod Moving
-mod Endings
+pub mod Endings
 mod Headlines
 mod Finishing
 pub mod NewSites
