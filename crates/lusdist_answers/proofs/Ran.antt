@@ -30,6 +30,10 @@ use Rattle.lurun_threads.specs.Stations.{StationView, sites_at}
 use Rattle.lusdist_shell.specs.declared.request.RunRequest.{RunRequest}
 use Rattle.lusdist_call.specs.declared.call_error.CallError.{CallError}
 use Rattle.lusdist_call.specs.declared.call_error.CallError.TheVariants.{CannotRead, CannotWrite, NotAscii, Syntax, Rules, Flat, Place, Table, Schedule, Fault, LinkLost, NoThread, OutOfMemory, Mistaken}
+use Rattle.lutree.specs.Tree.{ProgramTree}
+use Rattle.lusource.specs.Source.{SourceStreams, IsSourceSolution}
+use Rattle.lucore.specs.Result.{IsFlatOf}
+use Rattle.lusdist_call.specs.Headline.{HasNoFaultIn}
 use Rattle.lusdist_call.specs.Asked.{IsJobFor, IsRan}
 use Rattle.lusdist_call.specs.Evaluated.{AreOutputsOf}
 use Rattle.lusdist_call.specs.Ran.{IsRunError, IsStopOfRun, IsRunTable}
@@ -77,7 +81,7 @@ owner_inside job site variable instant kind is at =
     subst (λ v. v < length job.plan.flat.variables) owner.is owner.inside
 
 -- where no flow breaks, no operator is a fault
-no_fault_of : (job : JobView) → IsFlat job.plan.flat → IsFit job.plan.flat job.inputs → NoFault job → HasNoFault job.plan.flat job.inputs
+pub no_fault_of : (job : JobView) → IsFlat job.plan.flat → IsFit job.plan.flat job.inputs → NoFault job → HasNoFault job.plan.flat job.inputs
 no_fault_of job is fit none σ solves i t kind early fault =
     let own = IsSolution-solution job.plan.flat job.inputs is.ordered in
     let same = fault_same job.plan.flat job.inputs σ is fit solves (streams_of job) own i t kind fault in
@@ -85,6 +89,13 @@ no_fault_of job is fit none σ solves i t kind early fault =
     let whole = none i t (slice_get_within job.plan.flat.flows i fault.flow fault.there) early in
     let bad : is_broken Broken ≡ false = ap is_broken (sym broken) ∙ whole in
     absurd cc
+
+-- nor one of the source
+pub no_source_fault_of : (tree : ProgramTree) (main : List ℕ) (job : JobView) → IsFlatOf tree main job.plan.flat → HasNoFault job.plan.flat job.inputs → (σ : SourceStreams) → IsSourceSolution tree main job.inputs σ → HasNoFaultIn tree main job.inputs σ
+no_source_fault_of tree main job source fine σ solves name t kind early fault =
+    let own = IsSolution-solution job.plan.flat job.inputs source.is_flat.ordered in
+    let found = source.all_faults job.inputs σ (solution job.plan.flat job.inputs) solves own name t kind fault in
+    fine (solution job.plan.flat job.inputs) own found.0 t kind early found.1
 
 module _ (gives : FileFacts) (request : RunRequest) (job : JobView) (asked : IsJobFor gives request.program.now request.place.now request.table.now request.main.now job) where
   pub outputs_are : (outputs : List OutputColumn) → AreRunOutputs job outputs → AreOutputsOf asked.job_is.flat.tree request.main.now job.plan.flat job.inputs outputs
@@ -95,10 +106,7 @@ module _ (gives : FileFacts) (request : RunRequest) (job : JobView) (asked : IsJ
         named = are.named;
         streams = λ σ solves. are.source σ (asked.job_is.is_meant σ solves);
         no_fault = fine;
-        no_source_fault = λ σ solves name t kind early fault.
-            let own = IsSolution-solution job.plan.flat job.inputs source.is_flat.ordered in
-            let found = source.all_faults job.inputs σ (solution job.plan.flat job.inputs) solves own name t kind fault in
-            fine (solution job.plan.flat job.inputs) own found.0 t kind early found.1;
+        no_source_fault = no_source_fault_of asked.job_is.flat.tree request.main.now job source fine;
       }
 
   pub is_ran : (text : List ℕ) → IsRunTable job text → IsRan gives request text

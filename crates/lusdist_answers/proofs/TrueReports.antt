@@ -197,7 +197,7 @@ module _ (w : WorldView) where
   has_ended s Cut stands e = cc
   has_ended s (Faulted fault) stands e = cc
 
-  all_ended : (reported : RunReport) → IsReportedBy w reported → HasEndedSites reported → AllEnded w.job w.dones
+  pub all_ended : (reported : RunReport) → IsReportedBy w reported → HasEndedSites reported → AllEnded w.job w.dones
   all_ended reported by all s lt =
       let x = some_at reported.sites s (subst (λ n. s < n) (sym by.sites_len) lt) in
       let site = by.sites s x.0 x.1 in

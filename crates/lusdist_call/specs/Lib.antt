@@ -13,3 +13,4 @@ pub mod Statuses
 pub mod Mistakes
 pub mod Lines
 pub mod Files
+pub mod Headline
