@@ -7,8 +7,8 @@ ghost use Rattle.lublock_kernels.specs.Machine.{AllClose, ClosesAt, IsClosed, ro
 use lublock_kernels::span::Span;
 use luflow::{Flat, Form};
 
-/// The row of a flow.
-fn row_at(rows: &[Vec<i64>], r: usize) -> &[i64]
+/// The row of a flow; empty where there is none of that place.
+pub fn row_at(rows: &[Vec<i64>], r: usize) -> &[i64]
     ensures { result.now ≡ row_of rows.now r }
 {
     match rows.get(r) {

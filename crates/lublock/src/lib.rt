@@ -1,6 +1,7 @@
 //! Evaluation in blocks of instants: a flow is a row of words, one for each tick of its clock in the block.
 //!
 //! - [`block_outputs`]: the outputs of a whole program at a table, or its first fault, as `lueval::whole_outputs` reports them.
+//! - [`row_at`]: the row of a flow.
 //! - [`show_part`], [`clear_others`], [`empty_columns`]: the columns of main variables, which a block of a part puts out.
 //! - [`Board`]: the rows of a block, of a whole program or of a part of one.
 //!
@@ -20,6 +21,7 @@ mod show;
 mod stage;
 
 pub use board::Board;
+pub use closing::row_at;
 pub use lueval_lines::empty_columns;
 pub use reported::{clear_others, show_part};
 pub use run::block_outputs;

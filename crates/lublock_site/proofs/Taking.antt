@@ -33,9 +33,9 @@ kind_of : (flat : FlatView) (i : ℕ) (flow : Flow) (kind : Kind) → Some kind 
 kind_of flat i flow kind is there = same_Some kind flow.kind (is ∙ ap (option_map (λ (f : Flow). f.kind)) there)
 
 rest_of : (a b : ℕ) → a ≤ b → (k : ℕ) × (a + k ≡ b)
-rest_of zero b l = (b, refl)
+rest_of zero b l = (b, omega arith)
 rest_of (suc a) zero l = absurd (omega (arith, l))
-rest_of (suc a) (suc b) l = let r = rest_of a b (omega (arith, l)) in (r.0, ap suc r.1)
+rest_of (suc a) (suc b) l = let r = rest_of a b (omega (arith, l)) in let e = r.1 in (r.0, omega (arith, e))
 
 module _ (flat : FlatView) (i : ℕ) (msgs : List Msg) (old new : Board) (v : Vec ℤ Global) (span : Span) (kind : Kind) (inside : i < length old.rows.items) (in_spans : i < length old.spans.items) (there : slice_get old.spans.items i ≡ Some span) (kind_is : Some kind ≡ kind_at flat i) (keeps : Keeps span.upto (row_of old.rows.items i) v.items) (words : AreWordsOf kind msgs span.upto v.items (length msgs)) (rows_are : new.rows.items ≡ set old.rows.items i v) (spans_are : new.spans.items ≡ set old.spans.items i (with_words span (length msgs))) where
   upto_is : upto_of old.spans.items i ≡ span.upto
@@ -73,17 +73,16 @@ module _ (flat : FlatView) (i : ℕ) (msgs : List Msg) (old new : Board) (v : Ve
     flows = ap length spans_are ∙ len_set old.spans.items i (with_words span (length msgs));
   }
 
-pub is_message : (flat : FlatView) (rows : List (Vec ℤ Global)) (spans : List Span) (i n : ℕ) (kind : Kind) (d : Datum) (row : Vec ℤ Global) → n < ticks_of spans i → Some kind ≡ kind_at flat i → slice_get rows i ≡ Some row → d ≡ datum_at kind (word_in row.items (suc n)) → IsMessageOf flat rows spans i n d
-is_message flat rows spans i n kind d row few kind_is there is inputs σ t len flow here goes why =
-    let row_is : row_of rows i ≡ row.items = ap row_there there in
+pub is_message : (flat : FlatView) (rows : List (Vec ℤ Global)) (spans : List Span) (i n : ℕ) (kind : Kind) (d : Datum) (row : List ℤ) → n < ticks_of spans i → Some kind ≡ kind_at flat i → row ≡ row_of rows i → d ≡ datum_at kind (word_in row (suc n)) → IsMessageOf flat rows spans i n d
+is_message flat rows spans i n kind d row few kind_is row_is is inputs σ t len flow here goes why =
     goes.exact n few why
     ∙ ap (λ (k : Kind). Some (datum_at k (word_in (row_of rows i) (suc n)))) (sym (kind_of flat i flow kind kind_is here))
-    ∙ ap (λ (r : List ℤ). Some (datum_at kind (word_in r (suc n)))) row_is
+    ∙ ap (λ (r : List ℤ). Some (datum_at kind (word_in r (suc n)))) (sym row_is)
     ∙ ap (λ (x : Datum). Some x) (sym is)
 
 -- a run of a row's messages is that of the end's next ticks
-pub are_messages : (flat : FlatView) (rows : List (Vec ℤ Global)) (spans : List Span) (x : Outlet) (msgs : List Msg) (kind : Kind) (row : Vec ℤ Global) → x.sent + length msgs ≤ ticks_of spans x.flow → Some kind ≡ kind_at flat x.flow → slice_get rows x.flow ≡ Some row → AreMessagesOf kind row.items x.sent x.number msgs → AreMessagesOut flat rows spans x msgs
-are_messages flat rows spans x msgs kind row within kind_is there are k m m_is =
+pub are_messages : (flat : FlatView) (rows : List (Vec ℤ Global)) (spans : List Span) (x : Outlet) (msgs : List Msg) (kind : Kind) (row : List ℤ) → x.sent + length msgs ≤ ticks_of spans x.flow → Some kind ≡ kind_at flat x.flow → row ≡ row_of rows x.flow → AreMessagesOf kind row x.sent x.number msgs → AreMessagesOut flat rows spans x msgs
+are_messages flat rows spans x msgs kind row within kind_is row_is are k m m_is =
     let few = slice_get_within msgs k m m_is in
-    let d = datum_at kind (word_in row.items (suc (x.sent + k))) in
-    (d, are k m m_is, is_message flat rows spans x.flow (x.sent + k) kind d row (omega (arith, few, within)) kind_is there refl)
+    let d = datum_at kind (word_in row (suc (x.sent + k))) in
+    (d, are k m m_is, is_message flat rows spans x.flow (x.sent + k) kind d row (omega (arith, few, within)) kind_is row_is refl)

@@ -1,5 +1,5 @@
 -- Words of a row, one after another, and messages of a run.
-use Rattle.std.proofs.Common.{◌≡◌, ℕ, zero, suc, ◌+◌, ◌<◌, ◌≤◌, true, false, inl, inr, List, [], ◌∷◌, ◌++◌, length, Some, ℤ, refl, sym, subst, ◌∙◌, ap, arith, length-append}
+use Rattle.std.proofs.Common.{◌≡◌, ◌≢◌, ℕ, zero, suc, ◌+◌, ◌<◌, ◌≤◌, true, false, inl, inr, List, [], ◌∷◌, ◌++◌, length, Some, ℤ, refl, sym, subst, ◌∙◌, ap, arith, length-append}
 use Rattle.std.specs.Prelude.{slice_get}
 use Rattle.std.proofs.lemmas.Bool.{cases_lt}
 use Rattle.std.proofs.lemmas.Option.{same_Some, slice_get_within}
@@ -9,7 +9,7 @@ use Rattle.luflow.specs.declared.data.Datum.{Datum}
 use Rattle.luflow.specs.declared.message.Msg.{Msg}
 use Rattle.luflow.specs.declared.message.Body.TheVariants.{Value}
 use Rattle.lublock_kernels.specs.Blocks.{Holds}
-use Rattle.lublock_kernels.specs.Rows.{Keeps, IsPut, word_in}
+use Rattle.lublock_kernels.specs.Rows.{Keeps, word_in}
 use Rattle.lublock_site.specs.Steps.{HasWordOf, AreWordsOf, HasMessage, AreMessagesOf}
 
 pub has_word : (kind : Kind) (msgs : List Msg) (k : ℕ) (msg : Msg) (datum : Datum) (z : ℤ) → slice_get msgs k ≡ Some msg → msg.body ≡ Value datum → Holds kind z datum → HasWordOf kind msgs k z
@@ -19,17 +19,17 @@ has_word kind msgs k msg datum z there body holds m is = (datum, ap (λ (y : Msg
 pub written_none : (kind : Kind) (msgs : List Msg) (from : ℕ) (row : List ℤ) → AreWordsOf kind msgs from row 0
 written_none kind msgs from row k less = absurd (omega (arith, less))
 
-pub written_more : (kind : Kind) (msgs : List Msg) (from k : ℕ) (old new : List ℤ) (z : ℤ) → IsPut old (from + k) z new → HasWordOf kind msgs k z → AreWordsOf kind msgs from old k → AreWordsOf kind msgs from new (k + 1)
-written_more kind msgs from k old new z put has are j less =
+pub written_more : (kind : Kind) (msgs : List Msg) (from k : ℕ) (old new : List ℤ) (z : ℤ) → word_in new (suc (from + k)) ≡ z → ((n : ℕ) → n ≢ suc (from + k) → word_in new n ≡ word_in old n) → HasWordOf kind msgs k z → AreWordsOf kind msgs from old k → AreWordsOf kind msgs from new (k + 1)
+written_more kind msgs from k old new z here others has are j less =
     elim (cases_lt j k) [
-      | inl l ↦ subst (HasWordOf kind msgs j) (sym (put.others (suc (from + j)) (λ e. omega (arith, e, l)))) (are j l)
+      | inl l ↦ subst (HasWordOf kind msgs j) (sym (others (suc (from + j)) (λ e. omega (arith, e, l)))) (are j l)
       | inr l ↦
           let at : k ≡ j = omega (arith, l, less) in
-          subst (λ (p : ℕ). HasWordOf kind msgs p (word_in new (suc (from + p)))) at (subst (HasWordOf kind msgs k) (sym put.word) has)
+          subst (λ (p : ℕ). HasWordOf kind msgs p (word_in new (suc (from + p)))) at (subst (HasWordOf kind msgs k) (sym here) has)
     ]
 
-pub kept_more : (from k : ℕ) (first old new : List ℤ) (z : ℤ) → IsPut old (from + k) z new → Keeps from first old → Keeps from first new
-kept_more from k first old new z put kept n l = put.others n (λ e. omega (arith, e, l)) ∙ kept n l
+pub kept_more : (from k : ℕ) (first old new : List ℤ) → ((n : ℕ) → n ≢ suc (from + k) → word_in new n ≡ word_in old n) → Keeps from first old → Keeps from first new
+kept_more from k first old new others kept n l = others n (λ e. omega (arith, e, l)) ∙ kept n l
 
 -- the messages of no tick, and of one more
 pub filled_none : (kind : Kind) (row : List ℤ) (tick number : ℕ) (msgs : List Msg) → msgs ≡ [] → AreMessagesOf kind row tick number msgs

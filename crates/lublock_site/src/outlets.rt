@@ -7,6 +7,7 @@ ghost use Rattle.lublock_site.specs.Stations.{AreMessagesOut, HasSent, MayClose,
 
 use crate::steps::{fill_run, number_after};
 use crate::tried::{Tried, done_if};
+use lublock::row_at;
 use lublock_kernels::forms::kind_at;
 use lublock_kernels::span::Span;
 use luflow::{Body, Flat, Msg};
@@ -41,20 +42,11 @@ fn fill(
     let Some(kind) = kind_at(flat, outlet.flow) else {
         return false;
     };
-    let Some(row) = rows.get(outlet.flow) else {
-        return false;
-    };
+    let row = row_at(rows, outlet.flow);
     if row.len() <= to {
         return false;
     }
-    fill_run(
-        kind,
-        row.as_slice(),
-        outlet.sent,
-        outlet.number,
-        run,
-        to - outlet.sent,
-    )
+    fill_run(kind, row, outlet.sent, outlet.number, run, to - outlet.sent)
 }
 
 /// Puts the messages of the end's next ticks, as many as there is room for and no more than one run. It is over where a message has no
