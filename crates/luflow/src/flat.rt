@@ -98,7 +98,9 @@ impl Flat {
     /// Does nothing. A proof has from it that the flows are sound and in order of rank.
     pub fn recall_invariant(&self)
         ensures { IsFlat self.now }
-    {}
+    {
+        let _ = &self.types;
+    }
 
     /// The types of the source program, in order of declaration; the kind of an enumeration holds its place here. Takes no
     /// memory.

@@ -151,7 +151,9 @@ impl Inputs {
     /// Does nothing. A proof has from it that the table isn't too long and that each column has a value for each instant.
     pub fn recall_invariant(&self)
         ensures { IsTable self.now }
-    {}
+    {
+        let _ = &self.instants;
+    }
 
     /// The number of instants, 0 to 1,000,000.
     pub fn instants(&self) -> u32

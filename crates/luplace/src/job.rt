@@ -90,7 +90,9 @@ impl Job {
     /// Does nothing. A proof has from it that the plan is one and the inputs are those of its program.
     pub fn recall_invariant(&self)
         ensures { IsJobView self.now }
-    {}
+    {
+        let _ = &self.plan;
+    }
 
     /// The plan. Takes no memory.
     pub fn plan(&self) -> &Plan
@@ -128,7 +130,9 @@ impl SiteInputs {
     /// Does nothing. A proof has from it that the job's plan is one and its inputs are those of its program.
     pub fn recall_invariant(&self)
         ensures { IsJobView self.now.job }
-    {}
+    {
+        let _ = &self.site;
+    }
 
     /// The site.
     pub fn site(&self) -> u8

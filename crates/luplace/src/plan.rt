@@ -173,7 +173,9 @@ impl Plan {
     /// Does nothing. A proof has from it that the needs and the links are those of the placed program.
     pub fn recall_invariant(&self)
         ensures { IsPlan self.now }
-    {}
+    {
+        let _ = &self.flat;
+    }
 
     /// The flat program. Takes no memory.
     pub fn flat(&self) -> &Flat
