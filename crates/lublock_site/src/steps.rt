@@ -1,6 +1,6 @@
 //! From messages into rows, and from rows into messages.
 
-ghost use Rattle.std.specs.Prelude.{◌≡◌, ◌≤◌, ◌<◌, ◌+◌, suc, length, true, IfSome};
+ghost use Rattle.std.specs.Prelude.{◌≡◌, ◌≤◌, ◌<◌, ◌+◌, suc, length, true, slice_get, IfSome};
 ghost use Rattle.lublock_kernels.specs.Rows.{Keeps};
 ghost use Rattle.lublock_kernels.specs.Words.{datum_at};
 ghost use Rattle.lublock_kernels.specs.Blocks.{Holds};
@@ -28,12 +28,21 @@ fn held_word(kind: Kind, datum: Datum) -> Option<i64>
     }
 }
 
+#[inline(always)]
+fn message_at(msgs: &[Msg], k: usize) -> Option<Msg>
+    ensures { result ≡ slice_get msgs.now k }
+{
+    msgs.get(k).copied()
+}
+
 /// A word that holds the datum of message k; none where that is of another type, or is the close.
 #[inline(always)]
 fn word_of_message(kind: Kind, msgs: &[Msg], k: usize) -> Option<i64>
     ensures { IfSome result (HasWordOf kind msgs.now k) }
 {
-    let msg = msgs.get(k).copied()?;
+    let Some(msg) = message_at(msgs, k) else {
+        return None;
+    };
     match msg.body {
         Body::Close => None,
         Body::Value(datum) => {
