@@ -8,6 +8,6 @@ mod Closed
 mod Moving
 mod Behind
 mod Reporting
-mod Reported
+mod EndReports
 mod Starting
 pub mod Crosses

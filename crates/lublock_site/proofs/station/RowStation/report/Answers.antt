@@ -2,7 +2,7 @@ use Rattle.std.proofs.Common.{rules, ◌≡◌, ℕ, List, subst, sym, ◌∙◌
 use Rattle.luflow.specs.Program.{FlatView}
 use Rattle.lublock.specs.Shown.{Column}
 use Rattle.lublock_site.specs.Reporting.{AreReportedColumns}
-use Rattle.lublock_site.proofs.Reported.{is_reported}
+use Rattle.lublock_site.proofs.EndReports.{is_reported}
 use Rattle.lublock_site.proofs.station.RowStation.report.Goals as goal
 
 pub new-requires : goal.new-requires

@@ -3,7 +3,7 @@ use Rattle.luworld.specs.Needs.{sites_of}
 use Rattle.luworld.specs.Jobs.{JobView}
 use Rattle.lublock_site.specs.Going.{IsGoing}
 use Rattle.lublock_site.proofs.Moving.{goes_on}
-use Rattle.lublock_site.proofs.Reported.{same_row}
+use Rattle.lublock_site.proofs.EndReports.{same_row}
 use Rattle.lublock_site.proofs.station.RowStation.step.Goals as goal
 
 pub invariant_of-self : goal.invariant_of-self
