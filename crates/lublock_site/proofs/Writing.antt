@@ -1,6 +1,6 @@
 -- Words of a row, one after another, and messages of a run.
-use Rattle.std.proofs.Common.{◌≡◌, ◌≢◌, ℕ, zero, suc, ◌+◌, ◌<◌, ◌≤◌, true, false, inl, inr, List, [], ◌∷◌, ◌++◌, length, Some, ℤ, refl, sym, subst, ◌∙◌, ap, arith, length-append}
-use Rattle.std.specs.Prelude.{slice_get}
+use Rattle.std.proofs.Common.{◌≡◌, ◌≢◌, ℕ, zero, suc, ◌+◌, ◌<◌, ◌≤◌, true, false, inl, inr, List, [], ◌∷◌, ◌++◌, length, Option, Some, None, ℤ, refl, sym, subst, ◌∙◌, ap, arith, length-append}
+use Rattle.std.specs.Prelude.{slice_get, IfSome}
 use Rattle.std.proofs.lemmas.Bool.{cases_lt}
 use Rattle.std.proofs.lemmas.Option.{same_Some, slice_get_within}
 use Rattle.luworld.proofs.Cursor.{slice_get-append_left, slice_get-append_right}
@@ -14,6 +14,10 @@ use Rattle.lublock_site.specs.Steps.{HasWordOf, AreWordsOf, HasMessage, AreMessa
 
 pub has_word : (kind : Kind) (msgs : List Msg) (k : ℕ) (msg : Msg) (datum : Datum) (z : ℤ) → slice_get msgs k ≡ Some msg → msg.body ≡ Value datum → Holds kind z datum → HasWordOf kind msgs k z
 has_word kind msgs k msg datum z there body holds m is = (datum, ap (λ (y : Msg). y.body) (same_Some m msg (sym is ∙ there)) ∙ body, holds)
+
+pub has_word_if : (kind : Kind) (msgs : List Msg) (k : ℕ) (msg : Msg) (datum : Datum) → slice_get msgs k ≡ Some msg → msg.body ≡ Value datum → (found : Option ℤ) → IfSome found (λ z. Holds kind z datum) → IfSome found (HasWordOf kind msgs k)
+has_word_if kind msgs k msg datum there body (Some z) holds = has_word kind msgs k msg datum z there body holds
+has_word_if kind msgs k msg datum there body None holds = tt
 
 -- the words of no message, and of one more
 pub written_none : (kind : Kind) (msgs : List Msg) (from : ℕ) (row : List ℤ) → AreWordsOf kind msgs from row 0

@@ -45,10 +45,7 @@ fn word_of_message(kind: Kind, msgs: &[Msg], k: usize) -> Option<i64>
     };
     match msg.body {
         Body::Close => None,
-        Body::Value(datum) => {
-            let word = held_word(kind, datum)?;
-            Some(word)
-        }
+        Body::Value(datum) => held_word(kind, datum),
     }
 }
 
