@@ -15,6 +15,7 @@
 #![tactic(auto)]
 
 pub mod answering;
+mod call;
 pub mod evaluating;
 pub mod explaining;
 mod filing;
@@ -25,9 +26,8 @@ mod reasons;
 mod refusals;
 pub mod replaying;
 pub mod running;
-mod serve;
 pub mod sources;
 
+pub use call::serve;
 pub use lusdist_call::{CallError, Mistake};
 pub use replaying::replayed;
-pub use serve::serve;

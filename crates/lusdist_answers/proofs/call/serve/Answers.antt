@@ -3,7 +3,7 @@ use Rattle.std.specs.Prelude.{string_bytes}
 use Rattle.clap.specs.Words.{kind_of}
 use Rattle.lusdist_call.specs.Left.IsCallEnded.{asked, helped, mistaken, no_memory, no_help}
 use Rattle.lusdist_answers.proofs.Ends.{done, quiet, kept, reported, which, memory, help, mistake}
-use Rattle.lusdist_answers.proofs.serve.serve.Goals as goal
+use Rattle.lusdist_answers.proofs.call.serve.Goals as goal
 
 pub returns-in-Ok-clause-ended : goal.returns-in-Ok-clause-ended
 returns-in-Ok-clause-ended g c = asked c.in-Ok.request c.in-Ok.ensures.asked c.perform.ensures

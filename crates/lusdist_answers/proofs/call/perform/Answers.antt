@@ -1,7 +1,7 @@
 use Rattle.std.proofs.Common.{refl, inl, inr}
 use Rattle.std.specs.Prelude.{string_bytes}
 use Rattle.lusdist_call.specs.Left.IsEnded.{answered, refused, unwritten}
-use Rattle.lusdist_answers.proofs.serve.perform.Goals as goal
+use Rattle.lusdist_answers.proofs.call.perform.Goals as goal
 
 pub returns-in-Ok : goal.returns-in-Ok
 returns-in-Ok g c =
