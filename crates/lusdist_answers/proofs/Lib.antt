@@ -11,4 +11,3 @@ mod Ran
 mod OneRefusal
 mod Dumps
 mod Ends
-mod Headlines
