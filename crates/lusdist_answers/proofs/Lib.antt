@@ -11,3 +11,4 @@ mod Ran
 mod OneRefusal
 mod Dumps
 mod Ends
+mod Headlines

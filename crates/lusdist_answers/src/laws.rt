@@ -1,6 +1,7 @@
 //! What holds of the definitions, as contracts of functions that do nothing.
 
 ghost use Rattle.lusdist_call.specs.Exact.{HasOneOutcome, HasOneStatus, HasOneRefusal};
+ghost use Rattle.lusdist_call.specs.Headline.{Headline};
 
 use lusdist_shell::Files;
 
@@ -23,6 +24,14 @@ pub fn one_status_law<F: Files>(files: &F)
 /// no faults of a run on threads.
 pub fn one_refusal_law<F: Files>(files: &F)
     ensures { HasOneRefusal (F.gives files.now) }
+{
+    let _ = files;
+}
+
+/// The main theorem: where each file has one text, what a replay or a run printed when it was done is true of the program that the
+/// program's text spells, at the inputs that the table's text says. `serve` says by its clause `done` what it printed.
+pub fn headline_law<F: Files>(files: &F)
+    ensures { Headline (F.gives files.now) }
 {
     let _ = files;
 }
