@@ -24,14 +24,17 @@ use Rattle.lusdist_answers.proofs.TrueReports.{all_ended}
 
 -- a command has one name and one list of matches
 module _ (command : Option (Text × List Row)) (a b : Text) (m n : List Row) (one : command ≡ Some (a, m)) (other : command ≡ Some (b, n)) where
-  same_pair : (a, m) ≡ (b, n)
-  same_pair = same_Some (a, m) (b, n) (sym one ∙ other)
-
   same_name : a ≡ b
-  same_name = ap (λ (p : Text × List Row). p.0) same_pair
+  same_name =
+      let x : Text × List Row = (a, m) in
+      let y : Text × List Row = (b, n) in
+      ap (λ (p : Text × List Row). p.0) (same_Some x y (sym one ∙ other))
 
   same_matches : m ≡ n
-  same_matches = ap (λ (p : Text × List Row). p.1) same_pair
+  same_matches =
+      let x : Text × List Row = (a, m) in
+      let y : Text × List Row = (b, n) in
+      ap (λ (p : Text × List Row). p.1) (same_Some x y (sym one ∙ other))
 
 -- names whose first letters differ, or whose second do
 other_first : (a b : Text) → a ≡ b → get_or a 0 0 ≡ get_or b 0 0
@@ -60,7 +63,7 @@ module _ (gives : FileFacts) (settled : HasOneText gives) (path place_path table
 
 -- a replay, by the request that was answered
 module _ (gives : FileFacts) (r : ReplayRequest) (text : List ℕ) (answer : IsReplayed gives r text) where
-  for_job : IsJobFor gives r.program.now r.place.now r.table.now r.main.now answer.job
+  abbrev for_job : IsJobFor gives r.program.now r.place.now r.table.now r.main.now answer.job
   for_job = answer.asked_for.job_for
 
   no_break : HasEndedSites answer.reported → NoFault answer.job
