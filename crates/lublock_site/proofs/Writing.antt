@@ -20,8 +20,8 @@ has_word_if kind msgs k msg datum there body (Some z) holds = has_word kind msgs
 has_word_if kind msgs k msg datum there body None holds = tt
 
 -- the words of no message, and of one more
-pub written_none : (kind : Kind) (msgs : List Msg) (from : ℕ) (row : List ℤ) → AreWordsOf kind msgs from row 0
-written_none kind msgs from row k less = absurd (omega (arith, less))
+pub written_none : (kind : Kind) (msgs : List Msg) (from : ℕ) (words : List ℤ) → AreWordsOf kind msgs from words 0
+written_none kind msgs from words k less = absurd (omega (arith, less))
 
 pub written_more : (kind : Kind) (msgs : List Msg) (from k : ℕ) (old new : List ℤ) (z : ℤ) → word_in new (suc (from + k)) ≡ z → ((n : ℕ) → n ≢ suc (from + k) → word_in new n ≡ word_in old n) → HasWordOf kind msgs k z → AreWordsOf kind msgs from old k → AreWordsOf kind msgs from new (k + 1)
 written_more kind msgs from k old new z here others has are j less =
