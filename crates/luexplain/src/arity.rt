@@ -1,11 +1,10 @@
 //! The rules of numbers: `E14`, and `E19`.
 
 use crate::find::{Spot, called, type_at_place};
-use crate::said::{Said, mended_by, say};
-use crate::usual::usual;
+use crate::said::{Said, say};
+use crate::sentences;
 use crate::words::Part;
 use lubase::Name;
-use lustat_rules::{Catalog, Scope};
 use lutree::{DeclaredName, Expr, Kind, Pattern};
 use std::alloc::{AllocError, Global};
 
@@ -58,29 +57,29 @@ fn wrong_in<'a>(spot: &Spot<'_, 'a>) -> Option<Number<'a>> {
 /// `E14`
 pub(crate) fn wrong_arity(alloc: Global, spot: &Spot) -> Result<Said, AllocError> {
     match wrong_in(spot) {
-        Some(Number::Arguments(f, given, wanted)) => mended_by(
+        Some(Number::Arguments(f, given, wanted)) => say(
             alloc,
-            "The call of @ has @, and the node has @.",
+            sentences::ARGUMENTS,
             &[
                 Part::Name(f),
-                Part::Count(given, "argument"),
-                Part::Count(wanted, "input"),
+                Part::Count(given, sentences::ARGUMENT),
+                Part::Count(wanted, sentences::INPUT),
             ],
-            "Give each call as many arguments as its node has inputs.",
         ),
-        Some(Number::Inside(f, values)) => mended_by(
+        Some(Number::Inside(f, values)) => say(
             alloc,
-            "The call of @ stands inside an expression and gives @.",
-            &[Part::Name(f), Part::Count(values, "value")],
-            "Give its values to variables in an equation of their own, and use these.",
+            sentences::INNER_VALUES,
+            &[Part::Name(f), Part::Count(values, sentences::VALUE)],
         ),
-        Some(Number::Sides(left, right)) => mended_by(
+        Some(Number::Sides(left, right)) => say(
             alloc,
-            "@ on the left, and @ on the right.",
-            &[Part::Count(left, "variable"), Part::Count(right, "value")],
-            "Write as many variables on the left as the right side has values.",
+            sentences::SIDES,
+            &[
+                Part::Count(left, sentences::VARIABLE),
+                Part::Count(right, sentences::VALUE),
+            ],
         ),
-        None => usual(alloc, spot.error),
+        None => say(alloc, sentences::WRONG_ARITY, &[]),
     }
 }
 
@@ -121,57 +120,38 @@ fn missing<'a>(patterns: &[Pattern], names: &'a [DeclaredName]) -> Option<&'a st
     None
 }
 
-/// A merge on an enumeration whose branches aren't its names: its variable, its patterns, and these names.
-#[derive(Clone, Copy)]
-struct Merged<'a> {
+/// How a merge on an enumeration is reported whose branches aren't the names of its type.
+fn said_of_merge<'a>(
+    alloc: Global,
     variable: &'a str,
-    patterns: &'a [Pattern],
+    patterns: &[Pattern],
     names: &'a [DeclaredName],
+) -> Result<Said, AllocError> {
+    let variable = Part::Name(variable);
+    let labels = Part::Labels(names);
+    match missing(patterns, names) {
+        Some(name) => say(
+            alloc,
+            sentences::MISSING_BRANCH,
+            &[variable, Part::Name(name), labels],
+        ),
+        None => say(alloc, sentences::OTHER_BRANCHES, &[variable, labels]),
+    }
 }
 
-/// The first merge of an equation whose branches aren't the names of the enumeration that its variable is of.
-fn bad_merge_in<'a>(spot: &Spot<'_, 'a>) -> Option<Merged<'a>> {
+/// `E19`: the first merge of an equation whose branches aren't the names of the enumeration that its variable is of.
+pub(crate) fn bad_merge(alloc: Global, spot: &Spot) -> Result<Said, AllocError> {
     for e in spot.parts {
         if let Expr::Merge(x, patterns, _) = *e {
             if let Some(Kind::Enum(place, _)) = spot.scope.kind(x.as_str()) {
                 if let Some(declared) = type_at_place(spot.catalog.program(), place) {
-                    let (variable, patterns) = (x.as_str(), patterns.as_slice());
                     let names = declared.names.as_slice();
-                    if !are_names(patterns, names) {
-                        return Some(Merged {
-                            variable,
-                            patterns,
-                            names,
-                        });
+                    if !are_names(patterns.as_slice(), names) {
+                        return said_of_merge(alloc, x.as_str(), patterns.as_slice(), names);
                     }
                 }
             }
         }
     }
-    None
-}
-
-/// `E19`
-pub(crate) fn bad_merge(alloc: Global, spot: &Spot) -> Result<Said, AllocError> {
-    let Some(merged) = bad_merge_in(spot) else {
-        return usual(alloc, spot.error);
-    };
-    let mend = "Write a branch for each name of the type, in this order: @.";
-    let names = [Part::Labels(merged.names)];
-    match missing(merged.patterns, merged.names) {
-        Some(name) => say(
-            alloc,
-            "The merge on @ has no branch for @.",
-            &[Part::Name(merged.variable), Part::Name(name)],
-            mend,
-            &names,
-        ),
-        None => say(
-            alloc,
-            "The branches of the merge on @ aren't the names of its type, each once and in order.",
-            &[Part::Name(merged.variable)],
-            mend,
-            &names,
-        ),
-    }
+    say(alloc, sentences::BAD_MERGE, &[])
 }

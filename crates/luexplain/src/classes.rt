@@ -1,8 +1,8 @@
 //! The rules of initialisation: `E30` and `E31`.
 
 use crate::find::Spot;
-use crate::said::{Said, mended_by, say};
-use crate::usual::{mend_of, usual};
+use crate::said::{Said, say};
+use crate::sentences;
 use crate::words::{ClockWording, Part};
 use lubase::Name;
 use lustat_init::{is_one, least_classes, lefts_are_known, needs_met};
@@ -140,13 +140,13 @@ fn root_of<'a>(scope: &Scope<'a>, marks: &[bool], e: &'a Expr) -> &'a Expr {
 /// How what needs a value is reported in a sentence.
 fn need_part(need: Need<'_>) -> Part<'_> {
     match need {
-        Need::Output(y) => Part::Around("the output ", y, ""),
-        Need::Clock(c) => Part::Around("", c, ", which is named as a clock,"),
-        Need::Before => Part::Words("what stands behind a `pre`"),
-        Need::FollowedBy => Part::Words("what stands on the right of a `fby`"),
-        Need::Argument(f) => Part::Around("an argument of ", f, ""),
-        Need::Branch(c) => Part::Around("a branch of the merge on ", c, ""),
-        Need::Held(v) => Part::Around("", v, ", which a `current` holds,"),
+        Need::Output(y) => Part::Phrase(sentences::NEEDED_OUTPUT, y, ""),
+        Need::Clock(c) => Part::Phrase(sentences::NAMED_AS_CLOCK, c, ""),
+        Need::Before => Part::Words(sentences::BEHIND_PRE),
+        Need::FollowedBy => Part::Words(sentences::BEHIND_FBY),
+        Need::Argument(f) => Part::Phrase(sentences::ARGUMENT_OF, f, ""),
+        Need::Branch(c) => Part::Phrase(sentences::BRANCH_OF, c, ""),
+        Need::Held(v) => Part::Phrase(sentences::HELD_BY_CURRENT, v, ""),
     }
 }
 
@@ -163,26 +163,25 @@ fn said_of_gap<'a>(
         _ => gap.part,
     };
     let cause = cause_of(scope, marks, part).unwrap_or(gap.part);
-    mended_by(
+    say(
         alloc,
-        "@ has no value at the first instant, and @ needs one there.",
+        sentences::NEEDED_VALUE,
         &[
             Part::Value(root_of(scope, marks, cause)),
             need_part(gap.need),
         ],
-        mend_of(spot.error),
     )
 }
 
 /// `E30`
 pub(crate) fn maybe_nil(alloc: Global, spot: &Spot) -> Result<Said, AllocError> {
     if !lefts_are_known(spot.scope) {
-        return usual(alloc, spot.error);
+        return say(alloc, sentences::MAYBE_NIL, &[]);
     }
     let marks = least_classes(alloc, spot.scope)?;
     match gap_in(spot, &marks) {
         Some(gap) => said_of_gap(alloc, spot, &marks, &gap),
-        None => usual(alloc, spot.error),
+        None => say(alloc, sentences::MAYBE_NIL, &[]),
     }
 }
 
@@ -207,52 +206,42 @@ fn is_begun(scope: &Scope, clock: &str, pattern: PatternRef) -> bool {
     }
 }
 
-/// A variable that a `current` holds, the variable of its clock, and the pattern.
-#[derive(Clone, Copy)]
-struct Held<'a> {
+/// How a `current` of a variable is reported whose clock may be false at first.
+fn said_of_held<'a>(
+    alloc: Global,
+    scope: &Scope,
     variable: &'a str,
     clock: &'a str,
     pattern: PatternRef<'a>,
+) -> Result<Said, AllocError> {
+    let held = Part::Name(variable);
+    let name = Part::Name(clock);
+    let on = Part::Clock(ClockRef::On(clock, pattern), ClockWording::Clock);
+    let sign = Part::Clock(ClockRef::On(clock, pattern), ClockWording::Sign);
+    if scope.is_input(clock) {
+        return say(
+            alloc,
+            sentences::CLOCK_OF_INPUT,
+            &[held, on, name, held, sign],
+        );
+    }
+    say(
+        alloc,
+        sentences::CLOCK_WITHOUT_START,
+        &[held, on, name, sign, held, sign],
+    )
 }
 
-/// The first variable of a `current` in an equation whose clock may be false at first.
-fn held_in<'a>(spot: &Spot<'_, 'a>) -> Option<Held<'a>> {
+/// `E31`: the first variable of a `current` in an equation whose clock may be false at first.
+pub(crate) fn current_nil(alloc: Global, spot: &Spot) -> Result<Said, AllocError> {
     for e in spot.parts {
         if let Expr::Current(x) = *e {
-            let variable = x.as_str();
-            if let Some(ClockRef::On(clock, pattern)) = spot.scope.clock(variable) {
+            if let Some(ClockRef::On(clock, pattern)) = spot.scope.clock(x.as_str()) {
                 if !is_begun(spot.scope, clock, pattern) {
-                    return Some(Held {
-                        variable,
-                        clock,
-                        pattern,
-                    });
+                    return said_of_held(alloc, spot.scope, x.as_str(), clock, pattern);
                 }
             }
         }
     }
-    None
-}
-
-/// `E31`
-pub(crate) fn current_nil(alloc: Global, spot: &Spot) -> Result<Said, AllocError> {
-    let Some(held) = held_in(spot) else {
-        return usual(alloc, spot.error);
-    };
-    let variable = Part::Name(held.variable);
-    let on = ClockRef::On(held.clock, held.pattern);
-    let clock = Part::Clock(on, ClockWording::Clock);
-    let sign = Part::Clock(on, ClockWording::Sign);
-    let what = if spot.scope.is_input(held.clock) {
-        "@ is on @, which may be false at first: @ is an input."
-    } else {
-        "@ is on @, which may be false at first: the equation of @ doesn't begin with `@ ->`."
-    };
-    say(
-        alloc,
-        what,
-        &[variable, clock, Part::Name(held.clock), sign],
-        "Put @ on a clock whose equation begins so, as `k = @ -> ..`.",
-        &[variable, sign],
-    )
+    say(alloc, sentences::CURRENT_MAY_BE_NIL, &[])
 }

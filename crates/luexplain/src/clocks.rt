@@ -1,10 +1,10 @@
 //! The rules of clocks: `E20` to `E23`.
 
 use crate::find::{Spot, role_at};
-use crate::said::{Said, mended_by, say};
-use crate::usual::{mend_of, usual};
+use crate::said::{Said, say};
+use crate::sentences;
 use crate::words::{ClockWording, Part};
-use lustat_rules::{ClockRef, PatternRef, Scope, StatError};
+use lustat_rules::{ClockRef, PatternRef, Scope};
 use lutree::{Declaration, Expr, Kind, Node, Pattern, Program};
 use std::alloc::{AllocError, Global};
 use std::slice;
@@ -35,7 +35,7 @@ fn side_part<'a>(side: Side<'a>, clock: ClockRef<'a>) -> Part<'a> {
         Side::Value(e) => Part::Value(e),
         Side::Variable(x) => Part::Name(x),
         Side::Branch => Part::Clock(clock, ClockWording::Branch),
-        Side::Right => Part::Words("the right side"),
+        Side::Right => Part::Words(sentences::RIGHT_SIDE),
     }
 }
 
@@ -205,26 +205,20 @@ fn held_in<'a>(spot: &Spot<'_, 'a>) -> Option<&'a str> {
 /// `E20`
 pub(crate) fn mismatch(alloc: Global, spot: &Spot) -> Result<Said, AllocError> {
     if let Some(x) = held_in(spot) {
-        return mended_by(
-            alloc,
-            "`current` holds a variable that is on a clock, and @ is on the base clock.",
-            &[Part::Name(x)],
-            "Leave out the `current`.",
-        );
+        return say(alloc, sentences::NOTHING_HELD, &[Part::Name(x)]);
     }
     match apart_in(spot) {
-        Some(found) => mended_by(
+        Some(found) => say(
             alloc,
-            "Two clocks are joined: @ is on @, @ is on @.",
+            sentences::TWO_CLOCKS,
             &[
                 side_part(found.first, found.on),
                 Part::Clock(found.on, ClockWording::Clock),
                 side_part(found.second, found.other),
                 Part::Clock(found.other, ClockWording::Clock),
             ],
-            mend_of(spot.error),
         ),
-        None => usual(alloc, spot.error),
+        None => say(alloc, sentences::CLOCK_MISMATCH, &[]),
     }
 }
 
@@ -278,15 +272,14 @@ fn said_of_no_clock<'a>(
     program: &'a Program,
     found: &NoClock<'a>,
 ) -> Result<Said, AllocError> {
-    mended_by(
+    say(
         alloc,
-        "@ stands here as a clock of type @, and is of type @.",
+        sentences::OTHER_TYPE,
         &[
             Part::Name(found.variable),
             Part::Type(program, found.wanted),
             Part::Type(program, found.found),
         ],
-        "Name a `bool`, or name a variable of an enumeration with one of its names, as `A(x)`.",
     )
 }
 
@@ -317,12 +310,7 @@ fn chain_of<'a>(
 
 /// How a chain of clocks without an end is reported.
 fn said_of_chain<'a>(alloc: Global, names: &'a [&'a str]) -> Result<Said, AllocError> {
-    mended_by(
-        alloc,
-        "Whoever goes from variable to clock never comes to the base clock: @ ..",
-        &[Part::Names(names)],
-        "Declare one of them without a clock.",
-    )
+    say(alloc, sentences::ENDLESS_CLOCKS, &[Part::Names(names)])
 }
 
 /// `E21` of a declared clock that isn't one.
@@ -346,7 +334,7 @@ pub(crate) fn not_a_clock<'a>(
 pub(crate) fn no_clock_inside(alloc: Global, spot: &Spot) -> Result<Said, AllocError> {
     match no_clock_in(spot) {
         Some(found) => said_of_no_clock(alloc, spot.catalog.program(), &found),
-        None => usual(alloc, spot.error),
+        None => say(alloc, sentences::NOT_A_CLOCK, &[]),
     }
 }
 
@@ -361,19 +349,17 @@ fn declared_clock(declared: &Declaration) -> ClockRef<'_> {
 /// How a call of a main node with this clocked output is reported.
 fn said_of_call<'a>(
     alloc: Global,
-    error: &StatError,
     main: &'a str,
     output: &'a Declaration,
 ) -> Result<Said, AllocError> {
-    mended_by(
+    say(
         alloc,
-        "The main node @ is called here, and its output @ is on @.",
+        sentences::CLOCKED_MAIN,
         &[
             Part::Name(main),
             Part::Name(output.name.as_str()),
             Part::Clock(declared_clock(output), ClockWording::Clock),
         ],
-        mend_of(error),
     )
 }
 
@@ -382,11 +368,11 @@ pub(crate) fn clocked_call(alloc: Global, spot: &Spot, main: &str) -> Result<Sai
     if let Some(scope) = spot.catalog.find(main) {
         for output in scope.node().outputs.as_slice() {
             if output.clock.is_some() {
-                return said_of_call(alloc, spot.error, main, output);
+                return said_of_call(alloc, main, output);
             }
         }
     }
-    usual(alloc, spot.error)
+    say(alloc, sentences::CLOCKED_PARAMETER, &[])
 }
 
 /// `E22` of a declaration.
@@ -395,38 +381,32 @@ pub(crate) fn clocked_parameter<'a>(
     node: &'a Node,
     declared: &'a Declaration,
 ) -> Result<Said, AllocError> {
-    mended_by(
+    say(
         alloc,
-        "The @ @ of node @ is on @; inputs, and outputs of all but the main node, are on the base clock.",
+        sentences::CLOCKED_DECLARATION,
         &[
             Part::Words(role_at(node, declared.byte)),
             Part::Name(declared.name.as_str()),
             Part::Name(node.name.as_str()),
             Part::Clock(declared_clock(declared), ClockWording::Clock),
         ],
-        "Declare it without a clock, and sample it inside by `when`; a node that is given samples lives on their clock as a whole.",
     )
 }
 
 /// `E23`
-pub(crate) fn hidden(
-    alloc: Global,
-    error: &StatError,
-    declared: &Declaration,
-) -> Result<Said, AllocError> {
+pub(crate) fn hidden(alloc: Global, declared: &Declaration) -> Result<Said, AllocError> {
     let Some(clock) = &declared.clock else {
-        return usual(alloc, error);
+        return say(alloc, sentences::HIDDEN_CLOCK, &[]);
     };
-    let variable = clock.variable.as_str();
+    let variable = Part::Name(clock.variable.as_str());
     say(
         alloc,
-        "The output @ is on the clock `@`, and @ is a local, which nobody outside sees.",
+        sentences::LOCAL_CLOCK,
         &[
             Part::Name(declared.name.as_str()),
             Part::Clock(ClockRef::of(clock), ClockWording::Short),
-            Part::Name(variable),
+            variable,
+            variable,
         ],
-        "Make @ an output too.",
-        &[Part::Name(variable)],
     )
 }

@@ -1,14 +1,14 @@
 //! What stands at a byte of a program, and the parts of an expression.
 
+use crate::sentences;
 use lubase::Name;
-use lustat_rules::{Catalog, Scope, StatError};
+use lustat_rules::{Catalog, Scope};
 use lutree::{Declaration, DeclaredName, Equation, Expr, Node, Program, TypeDeclaration};
 use std::alloc::AllocError;
 
-/// A refused equation, with why it is refused, the program, its node, and the parts of its right side.
+/// A refused equation, with the program, its node, and the parts of its right side.
 #[derive(Clone, Copy)]
 pub(crate) struct Spot<'s, 'a> {
-    pub(crate) error: &'s StatError,
     pub(crate) catalog: &'s Catalog<'a>,
     pub(crate) scope: &'s Scope<'a>,
     pub(crate) equation: &'a Equation,
@@ -89,15 +89,15 @@ pub(crate) fn label_named<'a>(
 pub(crate) fn role_at(node: &Node, byte: usize) -> &'static str {
     for declared in node.inputs.as_slice() {
         if declared.byte == byte {
-            return "input";
+            return sentences::INPUT;
         }
     }
     for declared in node.outputs.as_slice() {
         if declared.byte == byte {
-            return "output";
+            return sentences::OUTPUT;
         }
     }
-    "local"
+    sentences::LOCAL
 }
 
 /// The parts of an expression, itself among them, behind those before: as they begin in the text, but for what is sampled, which stands

@@ -7,11 +7,12 @@ ghost use Rattle.luexplain.specs.Explanations.{IsExplanation, whole};
 use crate::circle::circle;
 use crate::find::node_named;
 use crate::place::where_in;
-use crate::said::{Said, in_words, mended_by, reported, whole};
+use crate::said::{Said, reported, say, whole};
+use crate::sentences;
 use crate::words::Part;
 use luflow::FaultKind;
 use lustat_rules::Scope;
-use lutree::{Equation, Expr, Infix, Node, Prefix, Program};
+use lutree::{Equation, Expr, Infix, Prefix, Program};
 use std::alloc::{AllocError, Global};
 
 /// The place of a variable, behind those before.
@@ -138,32 +139,17 @@ fn circle_of<'a>(
 
 /// How a circle of these variables is reported; none where no equation shows it.
 fn said_of_names<'a>(alloc: Global, names: &'a [&'a str]) -> Result<Said, AllocError> {
-    let mend = "Put a `pre` into the circle, with a value for the first instant, as `0 -> pre x`.";
     if names.is_empty() {
-        return in_words(
-            alloc,
-            "The value that this equation defines depends on itself at the same instant, by way of a call.",
-            mend,
-        );
+        return say(alloc, sentences::CIRCLE_BY_CALLS, &[]);
     }
-    mended_by(
-        alloc,
-        "A value can't depend on itself at one instant: @.",
-        &[Part::Circle(names, "reads")],
-        mend,
-    )
+    let circle = Part::Circle(names, sentences::READS);
+    say(alloc, sentences::CIRCLE_OF_READS, &[circle])
 }
 
 /// What is said of a circle in a node with this scope.
 fn said_in(alloc: Global, scope: &Scope, variable: &str) -> Result<Said, AllocError> {
     let names = circle_of(alloc, scope, variable)?;
     said_of_names(alloc, names.as_slice())
-}
-
-/// What is said of a circle in a node.
-fn said_of_node(alloc: Global, node: &Node, variable: &str) -> Result<Said, AllocError> {
-    let scope = Scope::new(alloc, node)?;
-    said_in(alloc, &scope, variable)
 }
 
 /// What is said of a circle in the main node.
@@ -173,10 +159,11 @@ fn said_of_cycle(
     main: &str,
     variable: &str,
 ) -> Result<Said, AllocError> {
-    match node_named(program, main) {
-        Some(node) => said_of_node(alloc, node, variable),
-        None => said_of_names(alloc, &[]),
-    }
+    let Some(node) = node_named(program, main) else {
+        return say(alloc, sentences::CIRCLE_BY_CALLS, &[]);
+    };
+    let scope = Scope::new(alloc, node)?;
+    said_in(alloc, &scope, variable)
 }
 
 /// Where the equation of a variable of the main node begins; 0 where there is none.
@@ -192,19 +179,6 @@ fn byte_of(program: &Program, main: &str, variable: &str) -> usize {
         }
     }
     0
-}
-
-/// What is said, behind the place of a byte.
-fn reported_at(
-    alloc: Global,
-    path: &str,
-    text: &[u8],
-    byte: usize,
-    said: &Said,
-) -> Result<String, AllocError>
-    ensures { IfOk result (IsExplainedSomewhere path.now text.now) }
-{
-    reported(where_in(alloc, path, text, byte)?, said)
 }
 
 /// What a user reads where a main variable depends on itself: its place, what is wrong, and how to mend it. `text` is the text of the file
@@ -225,7 +199,7 @@ pub fn of_cycle(
 {
     let byte = byte_of(program, main, variable);
     let said = said_of_cycle(alloc, program, main, variable)?;
-    reported_at(alloc, path, text, byte, &said)
+    reported(where_in(alloc, path, text, byte)?, &said)
 }
 
 /// What a user reads about a program with too many flows: the path of its file, what is wrong, and how to mend it.
@@ -236,11 +210,7 @@ pub fn of_cycle(
 pub fn of_size(alloc: Global, path: &str) -> Result<String, AllocError>
     ensures { IfOk result (IsExplanation (whole path.now)) }
 {
-    let said = in_words(
-        alloc,
-        "With all calls put in place, the main node has more than 4,096 flows.",
-        "Call less often, or give a result to a local in place of a second call.",
-    )?;
+    let said = say(alloc, sentences::MANY_FLOWS, &[])?;
     reported(whole(alloc, path)?, &said)
 }
 
@@ -252,26 +222,18 @@ fn said_of_fault(
     kind: FaultKind,
 ) -> Result<Said, AllocError> {
     let instant = instant as usize;
-    let (fault, mend) = match kind {
-        FaultKind::Overflow => (
-            " of the table: a result doesn't fit into 64 bits.",
-            "Bound the operands before the operator.",
-        ),
-        FaultKind::DivZero => (
-            " of the table: a divisor is 0.",
-            "Divide by `if x = 0 then 1 else x`, or keep the division away by a clock; an `if` computes both branches.",
-        ),
+    let wording = match kind {
+        FaultKind::Overflow => sentences::OVERFLOW,
+        FaultKind::DivZero => sentences::DIV_ZERO,
     };
-    mended_by(
+    say(
         alloc,
-        "The equation of @ has no value at instant @, which is line @@",
+        wording,
         &[
             Part::Name(variable),
             Part::Number(instant),
             Part::Number(instant + 2),
-            Part::Words(fault),
         ],
-        mend,
     )
 }
 
@@ -295,5 +257,5 @@ pub fn of_fault(
 {
     let byte = byte_of(program, main, variable);
     let said = said_of_fault(alloc, variable, instant, kind)?;
-    reported_at(alloc, path, text, byte, &said)
+    reported(where_in(alloc, path, text, byte)?, &said)
 }

@@ -5,11 +5,11 @@
 //!   flat program; [`of_place`], [`of_table`], [`of_schedule`]: of the other texts; [`of_fault`]: of an operator without a value.
 //! - [`laws`]: worked places.
 //!
-//! The parts: `place` (places), `said` (what is reported, in lines), `words` and `spelling` (the parts of a sentence: names, expressions, types,
-//! clocks), `usual` (what is said of a rule alone), `find` (what stands at a byte, and the parts of an expression), `near` (names that differ by one
-//! letter), `bytes` (parts of a text), `circle` (the way from a vertex back to itself); `naming`, `typing`, `arity`, `clocks`, `classes` (broken
-//! rules, which `rule` chooses among), `syntax`, `flat`, `table`, `schedule`, `placement` (what of one is refused, `blame`, and where it stands in
-//! the text, `sought`).
+//! The parts: `sentences` (what is said of each refusal, by its code), `place` (places), `said` (what is reported, in lines), `words` and `spelling`
+//! (the parts of a sentence: names, expressions, types, clocks), `find` (what stands at a byte, and the parts of an expression), `near` (names
+//! that differ by one letter), `bytes` (parts of a text), `circle` (the way from a vertex back to itself); `naming`, `typing`, `arity`, `clocks`,
+//! `classes` (broken rules, which `rule` chooses among), `syntax`, `flat`, `table`, `schedule`, `placement` (what of one is refused, `blame`, and
+//! where it stands in the text, `sought`).
 #![tactic(auto)]
 
 mod arity;
@@ -28,12 +28,12 @@ mod placement;
 mod rule;
 mod said;
 mod schedule;
+mod sentences;
 mod sought;
 mod spelling;
 mod syntax;
 mod table;
 mod typing;
-mod usual;
 mod words;
 
 pub use flat::{of_cycle, of_fault, of_size};

@@ -1,11 +1,11 @@
 //! The rules of names: `E10` to `E12`, `E15` to `E18`.
 
 use crate::circle::circle;
-use crate::find::{Spot, label_named, role_at};
+use crate::find::{Spot, label_named, node_named, role_at};
 use crate::near::is_near;
 use crate::place::line_of;
-use crate::said::{Said, mended_by, say};
-use crate::usual::{mend_of, usual};
+use crate::said::{Said, say};
+use crate::sentences;
 use crate::words::Part;
 use lubase::{Name, Places};
 use lustat_rules::{Catalog, Scope, StatError};
@@ -14,96 +14,63 @@ use lutype::graph_of;
 use std::alloc::{AllocError, Global};
 use std::slice;
 
-/// A name that is declared twice: what bears it, and where it stands first.
-#[derive(Clone, Copy)]
-struct Twice<'a> {
-    of: &'static str,
-    name: &'a str,
-    first: usize,
-}
-
-/// What is declared outside of nodes and bears the name at a byte, with the first of its kind that is named so.
-fn twice_at(program: &Program, byte: usize) -> Option<Twice<'_>> {
-    let nodes = program.nodes.as_slice();
-    let types = program.types.as_slice();
-    for node in nodes {
-        if node.byte == byte {
-            let name = node.name.as_str();
-            for other in nodes {
-                if other.name.is(name) {
-                    return Some(Twice {
-                        of: "node",
-                        name,
-                        first: other.byte,
-                    });
-                }
-            }
-        }
-    }
-    for declared in types {
-        for label in declared.names.as_slice() {
-            if label.byte == byte {
-                let name = label.name.as_str();
-                let first = label_named(types, name)?.byte;
-                return Some(Twice {
-                    of: "name of an enumeration",
-                    name,
-                    first,
-                });
-            }
-        }
-        if declared.byte == byte {
-            let name = declared.name.as_str();
-            for other in types {
-                if other.name.is(name) {
-                    return Some(Twice {
-                        of: "type",
-                        name,
-                        first: other.byte,
-                    });
-                }
-            }
-        }
-    }
-    None
-}
-
-/// How a name is reported that is declared twice.
+/// How a name is reported that is declared twice, by what bears it, and where it stands first.
 fn said_of_twice(
     alloc: Global,
-    error: &StatError,
     text: &[u8],
-    twice: Twice,
+    of: &'static str,
+    name: &Name,
+    first: usize,
 ) -> Result<Said, AllocError> {
-    mended_by(
+    say(
         alloc,
-        "The name of the @ @ is taken: line @ declares it too.",
+        sentences::NAME_TAKEN,
         &[
-            Part::Words(twice.of),
-            Part::Name(twice.name),
-            Part::Number(line_of(text, twice.first)),
+            Part::Words(of),
+            Part::Name(name.as_str()),
+            Part::Number(line_of(text, first)),
         ],
-        mend_of(error),
     )
 }
 
-/// `E10` of a type, of a name of an enumeration or of a node.
+/// `E10` of a type, of a name of an enumeration or of a node, by the first of its kind that is named so.
 pub(crate) fn duplicate(
     alloc: Global,
     error: &StatError,
     text: &[u8],
     program: &Program,
 ) -> Result<Said, AllocError> {
-    match twice_at(program, error.byte()) {
-        Some(twice) => said_of_twice(alloc, error, text, twice),
-        None => usual(alloc, error),
+    let nodes = program.nodes.as_slice();
+    let types = program.types.as_slice();
+    for node in nodes {
+        if node.byte == error.byte() {
+            if let Some(other) = node_named(program, node.name.as_str()) {
+                return said_of_twice(alloc, text, sentences::NODE, &node.name, other.byte);
+            }
+        }
     }
+    for declared in types {
+        for label in declared.names.as_slice() {
+            if label.byte == error.byte() {
+                if let Some(other) = label_named(types, label.name.as_str()) {
+                    return said_of_twice(alloc, text, sentences::LABEL, &label.name, other.byte);
+                }
+            }
+        }
+        if declared.byte == error.byte() {
+            for other in types {
+                if other.name.is(declared.name.as_str()) {
+                    return said_of_twice(alloc, text, sentences::TYPE, &declared.name, other.byte);
+                }
+            }
+        }
+    }
+    say(alloc, sentences::of_rule_alone(error), &[])
 }
 
 /// `E10` of a variable: its name stands before at another one of its node, or else as a name of an enumeration.
 pub(crate) fn duplicate_variable(
     alloc: Global,
-    error: &StatError,
     text: &[u8],
     program: &Program,
     scope: &Scope,
@@ -117,31 +84,7 @@ pub(crate) fn duplicate_variable(
             None => 0,
         },
     };
-    said_of_twice(
-        alloc,
-        error,
-        text,
-        Twice {
-            of: "variable",
-            name,
-            first,
-        },
-    )
-}
-
-/// What a name would have to be.
-#[derive(Clone, Copy)]
-enum Wanted {
-    Variable,
-    Label,
-    Type,
-}
-
-/// A name that isn't known, and what it would have to be.
-#[derive(Clone, Copy)]
-struct Unknown<'a> {
-    name: &'a str,
-    wanted: Wanted,
+    said_of_twice(alloc, text, sentences::VARIABLE, &declared.name, first)
 }
 
 /// The first name of an enumeration among some patterns that isn't known.
@@ -181,52 +124,6 @@ fn unknown_label_at<'a>(catalog: &Catalog, e: &'a Expr) -> Option<&'a str> {
         Expr::Label(label) if !catalog.has_label(label.name.as_str()) => Some(label.name.as_str()),
         _ => unknown_label(catalog, patterns_of(e)),
     }
-}
-
-/// The first name of an equation that isn't known.
-fn unknown_in<'a>(spot: &Spot<'_, 'a>) -> Option<Unknown<'a>> {
-    for x in spot.equation.left.as_slice() {
-        if spot.scope.place(x.as_str()).is_none() {
-            let (name, wanted) = (x.as_str(), Wanted::Variable);
-            return Some(Unknown { name, wanted });
-        }
-    }
-    for e in spot.parts {
-        if let Some(name) = variable_of(*e) {
-            if spot.scope.place(name).is_none() {
-                let wanted = Wanted::Variable;
-                return Some(Unknown { name, wanted });
-            }
-        }
-        if let Some(name) = unknown_label_at(spot.catalog, *e) {
-            let wanted = Wanted::Label;
-            return Some(Unknown { name, wanted });
-        }
-    }
-    None
-}
-
-/// The first name of a declaration that isn't known.
-fn unknown_declared_in<'a>(
-    catalog: &Catalog,
-    scope: &Scope,
-    declared: &'a Declaration,
-) -> Option<Unknown<'a>> {
-    if let Some(name) = &declared.type_name {
-        if catalog.type_place(name.as_str()).is_none() {
-            let (name, wanted) = (name.as_str(), Wanted::Type);
-            return Some(Unknown { name, wanted });
-        }
-    }
-    let clock = declared.clock.as_ref()?;
-    let name = clock.variable.as_str();
-    if scope.place(name).is_none() {
-        let wanted = Wanted::Variable;
-        return Some(Unknown { name, wanted });
-    }
-    let name = unknown_label(catalog, slice::from_ref(&clock.pattern))?;
-    let wanted = Wanted::Label;
-    Some(Unknown { name, wanted })
 }
 
 /// A variable of a node that is spelled nearly so.
@@ -271,94 +168,83 @@ fn near_node<'a>(program: &'a Program, name: &str) -> Option<&'a str> {
     None
 }
 
-/// How to mend a name that isn't known, where there may be one that is spelled nearly so.
-pub(crate) fn mend_name<'a>(
-    alloc: Global,
-    what: &str,
-    parts: &[Part],
-    near: Option<&'a str>,
-    mend: &'a str,
-) -> Result<Said, AllocError> {
-    match near {
-        Some(name) => say(
-            alloc,
-            what,
-            parts,
-            "Did you mean @? @",
-            &[Part::Name(name), Part::Words(mend)],
-        ),
-        None => mended_by(alloc, what, parts, mend),
-    }
-}
-
-/// A name that is spelled nearly as one that isn't known, and that may stand for it.
-fn near_unknown<'a>(
-    program: &'a Program,
-    scope: &Scope<'a>,
-    unknown: Unknown<'a>,
-) -> Option<&'a str> {
-    match unknown.wanted {
-        Wanted::Variable => match near_variable(scope, unknown.name) {
-            None => near_label(program, unknown.name),
-            found => found,
-        },
-        Wanted::Label => near_label(program, unknown.name),
-        Wanted::Type => near_type(program, unknown.name),
-    }
-}
-
-/// How a name is reported that isn't known; of a variable its node too.
-fn said_of_unknown<'a>(
+/// How a name is reported that is no variable of its node, and no name of an enumeration.
+fn said_of_variable<'a>(
     alloc: Global,
     program: &'a Program,
     scope: &Scope<'a>,
-    unknown: Unknown<'a>,
+    name: &'a str,
 ) -> Result<Said, AllocError> {
-    let (what, mend) = match unknown.wanted {
-        Wanted::Variable => (
-            "@ is no variable of node @, and no name of an enumeration.",
-            "Spell the name as it is declared, or declare it; what another node knows has to come as an argument.",
-        ),
-        Wanted::Label => (
-            "@ is no name of an enumeration.",
-            "Spell it as in its type, or declare it there.",
-        ),
-        Wanted::Type => (
-            "@ is no type of the program.",
-            "The types are `int`, `bool` and those that the program declares.",
-        ),
-    };
     let node = scope.node().name.as_str();
-    let near = near_unknown(program, scope, unknown);
-    mend_name(
+    let near = match near_variable(scope, name) {
+        None => near_label(program, name),
+        found => found,
+    };
+    say(
         alloc,
-        what,
-        &[Part::Name(unknown.name), Part::Name(node)],
-        near,
-        mend,
+        sentences::NO_VARIABLE,
+        &[Part::Name(name), Part::Name(node), Part::Near(near)],
     )
 }
 
-/// `E11` of an equation.
-pub(crate) fn unknown_name(alloc: Global, spot: &Spot) -> Result<Said, AllocError> {
-    match unknown_in(spot) {
-        Some(unknown) => said_of_unknown(alloc, spot.catalog.program(), spot.scope, unknown),
-        None => usual(alloc, spot.error),
-    }
+/// How a name is reported that is no name of an enumeration.
+fn said_of_label<'a>(
+    alloc: Global,
+    program: &'a Program,
+    name: &'a str,
+) -> Result<Said, AllocError> {
+    let near = Part::Near(near_label(program, name));
+    say(alloc, sentences::NO_LABEL, &[Part::Name(name), near])
 }
 
-/// `E11` of a declaration.
+/// `E11` of an equation: its first name that isn't known.
+pub(crate) fn unknown_name(alloc: Global, spot: &Spot) -> Result<Said, AllocError> {
+    let program = spot.catalog.program();
+    for x in spot.equation.left.as_slice() {
+        if spot.scope.place(x.as_str()).is_none() {
+            return said_of_variable(alloc, program, spot.scope, x.as_str());
+        }
+    }
+    for e in spot.parts {
+        if let Some(name) = variable_of(*e) {
+            if spot.scope.place(name).is_none() {
+                return said_of_variable(alloc, program, spot.scope, name);
+            }
+        }
+        if let Some(name) = unknown_label_at(spot.catalog, *e) {
+            return said_of_label(alloc, program, name);
+        }
+    }
+    say(alloc, sentences::UNKNOWN_NAME, &[])
+}
+
+/// `E11` of a declaration: its first name that isn't known.
 pub(crate) fn unknown_declared<'a>(
     alloc: Global,
-    error: &StatError,
     catalog: &Catalog<'a>,
     scope: &Scope<'a>,
     declared: &'a Declaration,
 ) -> Result<Said, AllocError> {
-    match unknown_declared_in(catalog, scope, declared) {
-        Some(unknown) => said_of_unknown(alloc, catalog.program(), scope, unknown),
-        None => usual(alloc, error),
+    let program = catalog.program();
+    if let Some(name) = &declared.type_name {
+        if catalog.type_place(name.as_str()).is_none() {
+            let near = Part::Near(near_type(program, name.as_str()));
+            return say(
+                alloc,
+                sentences::NO_TYPE,
+                &[Part::Name(name.as_str()), near],
+            );
+        }
     }
+    if let Some(clock) = &declared.clock {
+        if scope.place(clock.variable.as_str()).is_none() {
+            return said_of_variable(alloc, program, scope, clock.variable.as_str());
+        }
+        if let Some(name) = unknown_label(catalog, slice::from_ref(&clock.pattern)) {
+            return said_of_label(alloc, program, name);
+        }
+    }
+    say(alloc, sentences::UNKNOWN_NAME, &[])
 }
 
 /// `E12`
@@ -366,17 +252,16 @@ pub(crate) fn unknown_node(alloc: Global, spot: &Spot) -> Result<Said, AllocErro
     for e in spot.parts {
         if let Expr::Call(f, _) = *e {
             if spot.catalog.find(f.as_str()).is_none() {
-                return mend_name(
+                let near = near_node(spot.catalog.program(), f.as_str());
+                return say(
                     alloc,
-                    "@ is no node of the program.",
-                    &[Part::Name(f.as_str())],
-                    near_node(spot.catalog.program(), f.as_str()),
-                    mend_of(spot.error),
+                    sentences::NO_NODE,
+                    &[Part::Name(f.as_str()), Part::Near(near)],
                 );
             }
         }
     }
-    usual(alloc, spot.error)
+    say(alloc, sentences::UNKNOWN_NODE, &[])
 }
 
 /// `E15`
@@ -385,27 +270,15 @@ pub(crate) fn undefined<'a>(
     node: &'a Node,
     declared: &'a Declaration,
 ) -> Result<Said, AllocError> {
-    mended_by(
+    say(
         alloc,
-        "The @ @ of node @ has no equation.",
+        sentences::NO_EQUATION,
         &[
             Part::Words(role_at(node, declared.byte)),
             Part::Name(declared.name.as_str()),
             Part::Name(node.name.as_str()),
         ],
-        "Write the equation, or take back the declaration; what comes from outside is an input.",
     )
-}
-
-/// A variable that an equation may not define, and why.
-#[derive(Clone, Copy)]
-enum Defined<'a> {
-    /// It is an input.
-    Input(&'a str),
-    /// It stands twice on the left.
-    Here(&'a str),
-    /// The equation at this byte defines it.
-    Before(&'a str, usize),
 }
 
 /// The names on the left of an equation, by their places.
@@ -417,58 +290,38 @@ fn places_of<'a>(alloc: Global, left: &'a [Name]) -> Result<Places<'a>, AllocErr
     Places::new(alloc, names)
 }
 
-/// The first variable that an equation may not define: by itself, or because one before it does. `places` are those of the names that it defines.
-fn defined_in<'a>(spot: &Spot<'_, 'a>, places: &Places) -> Option<Defined<'a>> {
-    for (i, x) in spot.equation.left.as_slice().iter().enumerate() {
-        if spot.scope.is_input(x.as_str()) {
-            return Some(Defined::Input(x.as_str()));
-        }
-        if places.find(x.as_str()) != Some(i) {
-            return Some(Defined::Here(x.as_str()));
-        }
-    }
-    for other in spot.scope.node().equations.as_slice() {
-        if other.byte == spot.equation.byte {
-            return None;
-        }
-        for x in other.left.as_slice() {
-            if places.has(x.as_str()) {
-                return Some(Defined::Before(x.as_str(), other.byte));
-            }
-        }
-    }
-    None
-}
-
-/// `E16`, by the places of the names that the equation defines.
+/// `E16`, by the places of the names that the equation defines: the first variable that it may not define, by itself, or because an equation before
+/// it does.
 fn said_of_defined(
     alloc: Global,
     text: &[u8],
     spot: &Spot,
     places: &Places,
 ) -> Result<Said, AllocError> {
-    let node = spot.scope.node().name.as_str();
-    match defined_in(spot, places) {
-        Some(Defined::Input(name)) => mended_by(
-            alloc,
-            "@ is an input of node @, and an input has no equation.",
-            &[Part::Name(name), Part::Name(node)],
-            "Take the equation back, or give its value another name.",
-        ),
-        Some(Defined::Here(name)) => mended_by(
-            alloc,
-            "@ stands twice on the left side.",
-            &[Part::Name(name)],
-            "Give each value a variable of its own.",
-        ),
-        Some(Defined::Before(name, byte)) => mended_by(
-            alloc,
-            "@ has an equation already, in line @.",
-            &[Part::Name(name), Part::Number(line_of(text, byte))],
-            "Say it all in one equation: it holds at every instant, and is no step that is done.",
-        ),
-        None => usual(alloc, spot.error),
+    let node = spot.scope.node();
+    for (i, x) in spot.equation.left.as_slice().iter().enumerate() {
+        let name = Part::Name(x.as_str());
+        if spot.scope.is_input(x.as_str()) {
+            let node = Part::Name(node.name.as_str());
+            return say(alloc, sentences::INPUT_DEFINED, &[name, node]);
+        }
+        if places.find(x.as_str()) != Some(i) {
+            return say(alloc, sentences::TWICE_ON_LEFT, &[name]);
+        }
     }
+    for other in node.equations.as_slice() {
+        if other.byte == spot.equation.byte {
+            break;
+        }
+        for x in other.left.as_slice() {
+            if places.has(x.as_str()) {
+                let line = Part::Number(line_of(text, other.byte));
+                let name = Part::Name(x.as_str());
+                return say(alloc, sentences::DEFINED_BEFORE, &[name, line]);
+            }
+        }
+    }
+    say(alloc, sentences::DEFINED_TWICE, &[])
 }
 
 /// `E16`
@@ -494,17 +347,9 @@ fn way_of<'a>(
 }
 
 /// How a circle of calls is reported.
-fn said_of_calls<'a>(
-    alloc: Global,
-    error: &StatError,
-    names: &'a [&'a str],
-) -> Result<Said, AllocError> {
-    mended_by(
-        alloc,
-        "A node can't call itself: @.",
-        &[Part::Circle(names, "calls")],
-        mend_of(error),
-    )
+fn said_of_calls<'a>(alloc: Global, names: &'a [&'a str]) -> Result<Said, AllocError> {
+    let circle = Part::Circle(names, sentences::CALLS);
+    say(alloc, sentences::CIRCLE_OF_CALLS, &[circle])
 }
 
 /// `E17`
@@ -516,10 +361,10 @@ pub(crate) fn recursive(
     for (place, node) in catalog.program().nodes.as_slice().iter().enumerate() {
         if node.byte == error.byte() {
             let names = way_of(alloc, catalog, place)?;
-            return said_of_calls(alloc, error, names.as_slice());
+            return said_of_calls(alloc, names.as_slice());
         }
     }
-    usual(alloc, error)
+    say(alloc, sentences::RECURSIVE_NODE, &[])
 }
 
 /// `E18`
@@ -529,18 +374,10 @@ pub(crate) fn no_main<'a>(
     main: &'a str,
 ) -> Result<Said, AllocError> {
     let nodes = program.nodes.as_slice();
-    let near = near_node(program, main);
-    let mend = "Name the main node with `--main`, or call it so.";
-    let what = if nodes.is_empty() {
-        "No node is called @: there is none."
-    } else {
-        "No node is called @; there are @."
-    };
-    mend_name(
-        alloc,
-        what,
-        &[Part::Name(main), Part::Nodes(nodes)],
-        near,
-        mend,
-    )
+    let name = Part::Name(main);
+    if nodes.is_empty() {
+        return say(alloc, sentences::NO_NODES, &[name]);
+    }
+    let near = Part::Near(near_node(program, main));
+    say(alloc, sentences::NO_MAIN, &[name, Part::Nodes(nodes), near])
 }

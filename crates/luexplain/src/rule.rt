@@ -12,16 +12,21 @@ use crate::naming::{
     unknown_name, unknown_node,
 };
 use crate::place::where_in;
-use crate::said::{Said, reported, whole};
-use crate::usual::usual;
-use crate::{clocks, typing};
+use crate::said::{Said, reported, say, whole};
+use crate::{clocks, sentences, typing};
 use lustat_rules::{Catalog, Scope, StatError};
 use lutree::{Declaration, Equation, Program};
 use std::alloc::{AllocError, Global};
 
 /// What is said of a rule that an equation breaks, by its parts too.
-fn said_of_spot(alloc: Global, text: &[u8], main: &str, spot: &Spot) -> Result<Said, AllocError> {
-    match spot.error {
+fn said_of_spot(
+    alloc: Global,
+    text: &[u8],
+    main: &str,
+    error: &StatError,
+    spot: &Spot,
+) -> Result<Said, AllocError> {
+    match error {
         StatError::UnknownName { .. } => unknown_name(alloc, spot),
         StatError::UnknownNode { .. } => unknown_node(alloc, spot),
         StatError::TypeMismatch { .. } => typing::mismatch(alloc, spot),
@@ -33,7 +38,7 @@ fn said_of_spot(alloc: Global, text: &[u8], main: &str, spot: &Spot) -> Result<S
         StatError::ClockedParameter { .. } => clocked_call(alloc, spot, main),
         StatError::MaybeNil { .. } => maybe_nil(alloc, spot),
         StatError::CurrentMayBeNil { .. } => current_nil(alloc, spot),
-        _ => usual(alloc, spot.error),
+        _ => say(alloc, sentences::of_rule_alone(error), &[]),
     }
 }
 
@@ -50,13 +55,12 @@ fn said_of_equation<'a>(
     let mut parts = Vec::new(alloc);
     push_parts(&equation.right, &mut parts)?;
     let spot = Spot {
-        error,
         catalog,
         scope,
         equation,
         parts: parts.as_slice(),
     };
-    said_of_spot(alloc, text, main, &spot)
+    said_of_spot(alloc, text, main, error, &spot)
 }
 
 /// What is said of a rule that a declaration breaks.
@@ -71,14 +75,14 @@ fn said_of_declaration<'a>(
     let program = catalog.program();
     match error {
         StatError::DuplicateName { .. } => {
-            duplicate_variable(alloc, error, text, program, scope, declared)
+            duplicate_variable(alloc, text, program, scope, declared)
         }
-        StatError::UnknownName { .. } => unknown_declared(alloc, error, catalog, scope, declared),
+        StatError::UnknownName { .. } => unknown_declared(alloc, catalog, scope, declared),
         StatError::Undefined { .. } => undefined(alloc, scope.node(), declared),
         StatError::NotAClock { .. } => not_a_clock(alloc, program, scope, declared),
         StatError::ClockedParameter { .. } => clocked_parameter(alloc, scope.node(), declared),
-        StatError::HiddenClock { .. } => hidden(alloc, error, declared),
-        _ => usual(alloc, error),
+        StatError::HiddenClock { .. } => hidden(alloc, declared),
+        _ => say(alloc, sentences::of_rule_alone(error), &[]),
     }
 }
 
@@ -93,7 +97,7 @@ fn said_of_rule(
     let byte = error.byte();
     match error {
         StatError::NoMain => return no_main(alloc, catalog.program(), main),
-        StatError::OutOfMemory => return usual(alloc, error),
+        StatError::OutOfMemory => return say(alloc, sentences::OUT_OF_MEMORY, &[]),
         StatError::RecursiveNode { .. } => return recursive(alloc, error, catalog),
         _ => {}
     }
@@ -134,19 +138,6 @@ fn said_in(
     said_of_rule(alloc, text, &catalog, main, error)
 }
 
-/// What is said, behind the place of a rule that is broken.
-fn reported_at(
-    alloc: Global,
-    path: &str,
-    text: &[u8],
-    error: &StatError,
-    said: &Said,
-) -> Result<String, AllocError>
-    ensures { IfOk result (IsExplanation (place_of_rule path.now text.now error.now)) }
-{
-    reported(place_of_rule(alloc, path, text, error)?, said)
-}
-
 /// What a user reads where the static checks refuse a program: its place, what is wrong, and how to mend it. `text` is the text of the file
 /// of this path, `program` is what it spells, and `main` the name of the main node.
 ///
@@ -164,5 +155,5 @@ pub fn of_rule(
     ensures { IfOk result (IsExplanation (place_of_rule path.now text.now error.now)) }
 {
     let said = said_in(alloc, text, program, main, error)?;
-    reported_at(alloc, path, text, error, &said)
+    reported(place_of_rule(alloc, path, text, error)?, &said)
 }

@@ -5,14 +5,15 @@ ghost use Rattle.luexplain.specs.Texts.{IsExplainedSomewhere};
 ghost use Rattle.luexplain.specs.Explanations.{IsExplanation};
 
 use crate::place::where_in;
-use crate::words::{Part, sentence};
+use crate::sentences::Wording;
+use crate::words::{Part, put_part};
 use std::alloc::{AllocError, Global};
 
 /// What is wrong, in a sentence, and how to mend it, in another.
 #[derive(Drop)]
 pub(crate) struct Said {
-    pub(crate) what: String,
-    pub(crate) mend: String,
+    what: String,
+    mend: String,
 }
 
 /// What is said, and the byte at which it stands; none where it is of the whole.
@@ -22,32 +23,47 @@ pub(crate) struct Found {
     pub(crate) said: Said,
 }
 
-/// A sentence on what is wrong and one on how to mend it, each by its words, which have an `@` for each of its parts.
-pub(crate) fn say(
+/// Adds a sentence with parts in its holes, from this one on. Answers which part is the next.
+fn put_sentence(
+    text: &mut String,
     alloc: Global,
-    what: &str,
+    sentence: &str,
     parts: &[Part],
-    mend: &str,
-    mend_parts: &[Part],
-) -> Result<Said, AllocError> {
-    let what = sentence(alloc, what, parts)?;
-    let mend = sentence(alloc, mend, mend_parts)?;
-    Ok(Said { what, mend })
+    first: usize,
+) -> Result<usize, AllocError> {
+    let mut next = first;
+    for byte in sentence.as_bytes() {
+        if *byte != b'@' {
+            text.push(*byte as char)?;
+        } else if let Some(part) = parts.get(next) {
+            put_part(text, alloc, *part)?;
+            next = next.saturating_add(1);
+        }
+    }
+    Ok(next)
 }
 
-/// What is wrong, by the words of the sentence and its parts, and these words on how to mend it.
-pub(crate) fn mended_by(
-    alloc: Global,
-    what: &str,
-    parts: &[Part],
-    mend: &str,
-) -> Result<Said, AllocError> {
-    say(alloc, what, parts, mend, &[])
+/// A wording with parts in its holes.
+pub(crate) fn say(alloc: Global, wording: Wording, parts: &[Part]) -> Result<Said, AllocError> {
+    let mut said = Said {
+        what: String::new(alloc),
+        mend: String::new(alloc),
+    };
+    let next = put_sentence(&mut said.what, alloc, wording.what, parts, 0)?;
+    put_sentence(&mut said.mend, alloc, wording.mend, parts, next)?;
+    Ok(said)
 }
 
-/// These words on what is wrong, and on how to mend it.
-pub(crate) fn in_words(alloc: Global, what: &str, mend: &str) -> Result<Said, AllocError> {
-    mended_by(alloc, what, &[], mend)
+/// A wording with parts in its holes, of what stands at a byte.
+pub(crate) fn say_at(
+    alloc: Global,
+    byte: usize,
+    wording: Wording,
+    parts: &[Part],
+) -> Result<Found, AllocError> {
+    let said = say(alloc, wording, parts)?;
+    let byte = Some(byte);
+    Ok(Found { byte, said })
 }
 
 /// The line of a file's path, which stands for the whole of it.

@@ -6,12 +6,11 @@ ghost use Rattle.luexplain.specs.Texts as spec;
 
 use crate::bytes::from_byte;
 use crate::place::where_in;
-use crate::said::{Said, mended_by, reported, whole};
-use crate::usual::usual;
+use crate::said::{Said, reported, say, whole};
+use crate::sentences;
 use crate::words::Part;
 use lulimits::limits::LONGEST_SCHEDULE;
 use lusdist_shell::ScheduleError;
-use lustat_rules::StatError;
 use std::alloc::{AllocError, Global};
 use std::slice;
 
@@ -23,20 +22,14 @@ fn said_of_schedule(alloc: Global, text: &[u8], error: &ScheduleError) -> Result
                 [first, ..] => slice::from_ref(first),
                 [] => b"?",
             };
-            mended_by(
-                alloc,
-                "@ is no turn, no blank and no line feed.",
-                &[Part::Bytes(found)],
-                "Write a letter for each turn, `0` to `9` and `a` to `f` for the sites 0 to 15, and between them blanks and line feeds alone.",
-            )
+            say(alloc, sentences::NO_TURN, &[Part::Bytes(found)])
         }
-        ScheduleError::LongSchedule => mended_by(
+        ScheduleError::LongSchedule => say(
             alloc,
-            "The schedule has @ bytes, and may have @.",
+            sentences::LONG_SCHEDULE,
             &[Part::Number(text.len()), Part::Number(LONGEST_SCHEDULE)],
-            "Write the turns that matter, and let `--finish` take the others.",
         ),
-        ScheduleError::OutOfMemory => usual(alloc, &StatError::OutOfMemory),
+        ScheduleError::OutOfMemory => say(alloc, sentences::OUT_OF_MEMORY, &[]),
     }
 }
 

@@ -7,11 +7,10 @@ ghost use Rattle.luexplain.specs.Syntax as spec;
 
 use crate::bytes::from_byte;
 use crate::place::where_in;
-use crate::said::{Said, in_words, mended_by, reported, whole};
-use crate::usual::usual;
+use crate::said::{Said, reported, say, whole};
+use crate::sentences;
 use crate::words::Part;
 use lulimits::limits::LONGEST_PROGRAM;
-use lustat_rules::StatError;
 use lusyn::SynError;
 use std::alloc::{AllocError, Global};
 
@@ -64,23 +63,11 @@ fn token_of(text: &[u8]) -> &[u8] {
 fn said_of_token(alloc: Global, rest: &[u8]) -> Result<Said, AllocError> {
     let token = Part::Bytes(token_of(rest));
     match rest {
-        [] => in_words(
-            alloc,
-            "The text ends here, before the program does.",
-            "Each node ends with `tel`, and each equation and declaration with `;`.",
-        ),
-        [first, ..] if is_word(*first) || is_sign(*first) => mended_by(
-            alloc,
-            "@ can't stand here.",
-            &[token],
-            "What is missing often belongs before it, as the `;` of an equation; a keyword is no name.",
-        ),
-        _ => mended_by(
-            alloc,
-            "@ begins no name, number or sign.",
-            &[token],
-            "Leave it out; a comment begins with `--`.",
-        ),
+        [] => say(alloc, sentences::TEXT_ENDS, &[]),
+        [first, ..] if is_word(*first) || is_sign(*first) => {
+            say(alloc, sentences::MISPLACED, &[token])
+        }
+        _ => say(alloc, sentences::NO_TOKEN, &[token]),
     }
 }
 
@@ -88,34 +75,19 @@ fn said_of_token(alloc: Global, rest: &[u8]) -> Result<Said, AllocError> {
 fn said_of_syntax(alloc: Global, text: &[u8], error: &SynError) -> Result<Said, AllocError> {
     match error {
         SynError::Syntax { byte } => said_of_token(alloc, from_byte(text, *byte)),
-        SynError::NumberTooLarge { byte } => mended_by(
+        SynError::NumberTooLarge { byte } => {
+            let token = token_of(from_byte(text, *byte));
+            say(alloc, sentences::LARGE_NUMBER, &[Part::Bytes(token)])
+        }
+        SynError::NotAscii => say(alloc, sentences::WIDE_BYTE, &[]),
+        SynError::TooLong if text.len() > LONGEST_PROGRAM => say(
             alloc,
-            "The number @ is above 9223372036854775807, the greatest `int`.",
-            &[Part::Bytes(token_of(from_byte(text, *byte)))],
-            "Choose a coarser unit, here and in the table.",
-        ),
-        SynError::NotAscii => in_words(
-            alloc,
-            "The byte here is above 127, and a program has none, in comments too.",
-            "Write it in other letters.",
-        ),
-        SynError::TooLong if text.len() > LONGEST_PROGRAM => mended_by(
-            alloc,
-            "The text has @ bytes, and a program has at most @.",
+            sentences::LONG_PROGRAM,
             &[Part::Number(text.len()), Part::Number(LONGEST_PROGRAM)],
-            "Leave out what says nothing, and nodes that nothing calls.",
         ),
-        SynError::TooLong => in_words(
-            alloc,
-            "The program has more than 256 nodes, more than 64 types, or a type of more than 64 names.",
-            "Leave out nodes that nothing calls, and split large types.",
-        ),
-        SynError::LongRun { .. } => in_words(
-            alloc,
-            "1,000 names, numbers and signs stand before this one without a `;`.",
-            "Cut the expression, and give its parts to locals.",
-        ),
-        SynError::OutOfMemory => usual(alloc, &StatError::OutOfMemory),
+        SynError::TooLong => say(alloc, sentences::MANY_ITEMS, &[]),
+        SynError::LongRun { .. } => say(alloc, sentences::LONG_RUN, &[]),
+        SynError::OutOfMemory => say(alloc, sentences::OUT_OF_MEMORY, &[]),
     }
 }
 

@@ -6,11 +6,10 @@ ghost use Rattle.luexplain.specs.Texts.{IsExplainedSomewhere};
 use crate::bytes::{from_byte, length_before};
 use crate::find::{node_named, type_at_place};
 use crate::near::shared_front;
-use crate::said::{Found, Said, in_words, mended_by, reported_of, say};
-use crate::usual::usual;
+use crate::said::{Found, Said, reported_of, say, say_at};
+use crate::sentences;
 use crate::words::Part;
 use lulimits::limits::LONGEST_TABLE;
-use lustat_rules::StatError;
 use lutab::TabError;
 use lutree::{Declaration, DeclaredName, Kind, Program};
 use std::alloc::{AllocError, Global};
@@ -63,29 +62,12 @@ fn header_of(alloc: Global, inputs: &[Declaration]) -> Result<String, AllocError
 /// `T01`
 fn bad_header(alloc: Global, text: &[u8], inputs: &[Declaration]) -> Result<Found, AllocError> {
     if let Err(e) = str::from_utf8(text) {
-        let said = in_words(
-            alloc,
-            "The table isn't UTF-8: this byte can't stand here.",
-            "Write the table in ASCII.",
-        )?;
-        let byte = e.valid_up_to();
-        return Ok(Found {
-            byte: Some(byte),
-            said,
-        });
+        return say_at(alloc, e.valid_up_to(), sentences::NOT_UTF8, &[]);
     }
     let header = header_of(alloc, inputs)?;
     let byte = shared_front(text, header.as_bytes());
-    let said = mended_by(
-        alloc,
-        "The first line isn't the header @ with a line feed at its end; it differs from here on.",
-        &[Part::Name(header.as_str())],
-        "Write the names of the inputs in order of declaration, with `,` between them and no blanks.",
-    )?;
-    Ok(Found {
-        byte: Some(byte),
-        said,
-    })
+    let header = Part::Name(header.as_str());
+    say_at(alloc, byte, sentences::OTHER_HEADER, &[header])
 }
 
 /// `T02`
@@ -99,32 +81,20 @@ fn bad_row(
     let rest = from_byte(text, start);
     let row = front_of(rest, b'\n');
     if row.len() == rest.len() {
-        let said = in_words(
-            alloc,
-            "The last line has no line feed at its end.",
-            "End each line with a line feed, the last one too.",
-        )?;
-        let byte = text.len();
-        return Ok(Found {
-            byte: Some(byte),
-            said,
-        });
+        return say_at(alloc, text.len(), sentences::UNENDED_LINE, &[]);
     }
-    let said = mended_by(
+    let byte = start.saturating_add(behind(row, b',', inputs.len()));
+    let fields = count_of(row, b',').saturating_add(1);
+    say_at(
         alloc,
-        "The line has @, and the table has @: @.",
+        byte,
+        sentences::FIELD_COUNT,
         &[
-            Part::Count(count_of(row, b',').saturating_add(1), "field"),
-            Part::Count(inputs.len(), "column"),
+            Part::Count(fields, sentences::FIELD),
+            Part::Count(inputs.len(), sentences::COLUMN),
             Part::Variables(inputs),
         ],
-        "Write a value for each input at every instant.",
-    )?;
-    let byte = start.saturating_add(behind(row, b',', inputs.len()));
-    Ok(Found {
-        byte: Some(byte),
-        said,
-    })
+    )
 }
 
 /// Whether a field is an `int`: digits with no zero before them, and perhaps a `-`.
@@ -206,39 +176,25 @@ fn wrong_field<'a>(
     None
 }
 
-/// How a field of a type is written: words, the names of an enumeration, and words behind them.
+/// How a field that is no value of its type is reported, at its byte.
 fn said_of_value<'a>(
     alloc: Global,
     program: &'a Program,
+    byte: usize,
     wrong: &Wrong<'a>,
-) -> Result<Said, AllocError> {
+) -> Result<Found, AllocError> {
     let kind = wrong.input.kind;
-    let what = "@ in the column @ is no value of type @.";
-    let parts = [
-        Part::Bytes(wrong.field),
-        Part::Name(wrong.input.name.as_str()),
-        Part::Type(program, kind),
-    ];
+    let field = Part::Bytes(wrong.field);
+    let name = Part::Name(wrong.input.name.as_str());
+    let wanted = Part::Type(program, kind);
     match kind {
-        Kind::Int => mended_by(
-            alloc,
-            what,
-            &parts,
-            "Write a whole number from -9223372036854775808 to 9223372036854775807, without blanks, `+` or zeros before it.",
-        ),
-        Kind::Bool => mended_by(
-            alloc,
-            what,
-            &parts,
-            "Write `true` or `false`, without blanks.",
-        ),
-        Kind::Enum(place, _) => say(
-            alloc,
-            what,
-            &parts,
-            "Write one of @, without blanks.",
-            &[Part::Labels(labels_at(program, place))],
-        ),
+        Kind::Int => say_at(alloc, byte, sentences::NO_INT, &[field, name, wanted]),
+        Kind::Bool => say_at(alloc, byte, sentences::NO_BOOL, &[field, name, wanted]),
+        Kind::Enum(place, _) => {
+            let labels = Part::Labels(labels_at(program, place));
+            let parts = [field, name, wanted, labels];
+            say_at(alloc, byte, sentences::NO_LABEL_OF_TYPE, &parts)
+        }
     }
 }
 
@@ -252,36 +208,25 @@ fn bad_value(
 ) -> Result<Found, AllocError> {
     let byte = behind(text, b'\n', line.saturating_sub(1));
     let row = front_of(from_byte(text, byte), b'\n');
-    let Some(wrong) = wrong_field(program, inputs, row) else {
-        let said = in_words(
-            alloc,
-            "A field of this line is no value of its type.",
-            "Write a value of the type of its input.",
-        )?;
-        return Ok(Found {
-            byte: Some(byte),
-            said,
-        });
-    };
-    let said = said_of_value(alloc, program, &wrong)?;
-    let byte = byte.saturating_add(wrong.offset);
-    Ok(Found {
-        byte: Some(byte),
-        said,
-    })
+    match wrong_field(program, inputs, row) {
+        Some(wrong) => {
+            let byte = byte.saturating_add(wrong.offset);
+            said_of_value(alloc, program, byte, &wrong)
+        }
+        None => say_at(alloc, byte, sentences::BAD_VALUE, &[]),
+    }
 }
 
 /// `T04`
 fn too_long(alloc: Global, text: &[u8]) -> Result<Said, AllocError> {
-    mended_by(
+    say(
         alloc,
-        "The table has @ bytes and @; it may have @ bytes, and a header and 1000000 lines.",
+        sentences::LONG_TABLE,
         &[
             Part::Number(text.len()),
-            Part::Count(count_of(text, b'\n'), "line"),
+            Part::Count(count_of(text, b'\n'), sentences::LINE),
             Part::Number(LONGEST_TABLE),
         ],
-        "Try the program at a part of the table.",
     )
 }
 
@@ -298,7 +243,7 @@ fn found_in(
         TabError::BadRow { line } => return bad_row(alloc, text, inputs, *line),
         TabError::BadValue { line } => return bad_value(alloc, text, program, inputs, *line),
         TabError::TooLong => too_long(alloc, text)?,
-        TabError::OutOfMemory => usual(alloc, &StatError::OutOfMemory)?,
+        TabError::OutOfMemory => say(alloc, sentences::OUT_OF_MEMORY, &[])?,
     };
     Ok(Found { byte: None, said })
 }

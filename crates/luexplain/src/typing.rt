@@ -1,8 +1,8 @@
 //! The rule of types, `E13`.
 
 use crate::find::{Spot, called};
-use crate::said::{Said, mended_by};
-use crate::usual::usual;
+use crate::said::{Said, say};
+use crate::sentences;
 use crate::words::Part;
 use lubase::Name;
 use lusyn_grammar::{infix_token, prefix_token};
@@ -40,12 +40,16 @@ enum Side<'a> {
 fn side_part(side: Side<'_>) -> Part<'_> {
     match side {
         Side::Value(e) => Part::Value(e),
-        Side::Operand(sign) => Part::Around("what ", sign, " takes"),
-        Side::Condition => Part::Words("the condition of an `if`"),
-        Side::Input(input, f) => Part::Of("the input ", &input.name, f),
-        Side::Output(output, f) => Part::Of("the output ", &output.name, f),
+        Side::Operand(sign) => Part::Phrase(sentences::OPERAND, sign, ""),
+        Side::Condition => Part::Words(sentences::CONDITION),
+        Side::Input(input, f) => {
+            Part::Phrase(sentences::INPUT_OF, input.name.as_str(), f.as_str())
+        }
+        Side::Output(output, f) => {
+            Part::Phrase(sentences::OUTPUT_OF, output.name.as_str(), f.as_str())
+        }
         Side::Variable(x) => Part::Name(x.as_str()),
-        Side::Right => Part::Words("the right side"),
+        Side::Right => Part::Words(sentences::RIGHT_SIDE),
     }
 }
 
@@ -203,25 +207,22 @@ fn clash_in<'a>(spot: &Spot<'_, 'a>) -> Option<Clash<'a>> {
 /// `E13`
 pub(crate) fn mismatch(alloc: Global, spot: &Spot) -> Result<Said, AllocError> {
     let Some(clash) = clash_in(spot) else {
-        return usual(alloc, spot.error);
+        return say(alloc, sentences::TYPE_MISMATCH, &[]);
     };
-    let mend = match (clash.wanted, clash.found) {
-        (Kind::Int, Kind::Bool) => {
-            "Give both one type; `if c then 1 else 0` makes an `int` of a `bool`."
-        }
-        (Kind::Bool, Kind::Int) => "Give both one type; `x <> 0` makes a `bool` of an `int`.",
-        _ => "Give both one type.",
+    let wording = match (clash.wanted, clash.found) {
+        (Kind::Int, Kind::Bool) => sentences::BOOL_FOR_INT,
+        (Kind::Bool, Kind::Int) => sentences::INT_FOR_BOOL,
+        _ => sentences::TWO_TYPES,
     };
     let program = spot.catalog.program();
-    mended_by(
+    say(
         alloc,
-        "The types don't agree: @ is of type @, @ is of type @.",
+        wording,
         &[
             side_part(clash.first),
             Part::Type(program, clash.wanted),
             side_part(clash.second),
             Part::Type(program, clash.found),
         ],
-        mend,
     )
 }

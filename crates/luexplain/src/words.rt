@@ -1,9 +1,9 @@
-//! What sentences are made of, and how each part of one is written.
+//! The parts of a sentence, and how each of them is written.
 
 use crate::find::type_at_place;
 use crate::place::put_shown;
+use crate::sentences;
 use crate::spelling::{put_on, put_sign};
-use lubase::Name;
 use lustat_rules::{ClockRef, PatternRef};
 use lusyn_printer::put_expr;
 use lutree::{Declaration, DeclaredName, Expr, Kind, Node, Program};
@@ -35,10 +35,10 @@ pub(crate) enum Part<'a> {
     Words(&'a str),
     /// A quoted name.
     Name(&'a str),
-    /// A quoted name, with words before it and behind it.
-    Around(&'a str, &'a str, &'a str),
-    /// Words, a quoted name, and the quoted name of its node.
-    Of(&'a str, &'a Name, &'a Name),
+    /// Words with holes for two quoted names.
+    Phrase(&'a str, &'a str, &'a str),
+    /// That a name that is spelled nearly so may be meant; nothing where there is none.
+    Near(Option<&'a str>),
     /// Quoted bytes.
     Bytes(&'a [u8]),
     /// A quoted expression in its canonical form.
@@ -86,11 +86,24 @@ fn put_quoted(text: &mut String, bytes: &[u8]) -> Result<(), AllocError> {
     text.push('`')
 }
 
-/// A name between backticks, with words before it and behind it.
-fn put_around(text: &mut String, before: &str, name: &str, behind: &str) -> Result<(), AllocError> {
-    text.push_str(before)?;
-    put_quoted(text, name.as_bytes())?;
-    text.push_str(behind)
+/// Words with quoted names in their holes: the first, and in all others the second.
+fn put_phrase<'n>(
+    text: &mut String,
+    words: &str,
+    first: &'n str,
+    second: &'n str,
+) -> Result<(), AllocError> {
+    let mut is_first = true;
+    for byte in words.as_bytes() {
+        if *byte == b'@' {
+            let name = if is_first { first } else { second };
+            put_quoted(text, name.as_bytes())?;
+            is_first = false;
+        } else {
+            text.push(*byte as char)?;
+        }
+    }
+    Ok(())
 }
 
 /// The name at this place among others; nothing where enough are reported.
@@ -218,7 +231,8 @@ fn put_on_clock(
 fn put_branch(text: &mut String, variable: &str, sign: PatternRef) -> Result<(), AllocError> {
     text.push_str("the branch `")?;
     put_sign(text, sign)?;
-    put_around(text, "` of the merge on ", variable, "")
+    text.push_str("` of the merge on ")?;
+    put_quoted(text, variable.as_bytes())
 }
 
 /// An expression in its canonical form.
@@ -233,11 +247,9 @@ fn put_one(text: &mut String, alloc: Global, part: Part) -> Result<(), AllocErro
     match part {
         Part::Words(words) => text.push_str(words),
         Part::Name(name) => put_quoted(text, name.as_bytes()),
-        Part::Around(before, name, behind) => put_around(text, before, name, behind),
-        Part::Of(before, name, node) => {
-            put_around(text, before, name.as_str(), " of node ")?;
-            put_quoted(text, node.as_str().as_bytes())
-        }
+        Part::Phrase(words, first, second) => put_phrase(text, words, first, second),
+        Part::Near(None) => Ok(()),
+        Part::Near(Some(name)) => put_phrase(text, sentences::NEAR, name, ""),
         Part::Bytes(bytes) => put_quoted(text, bytes),
         Part::Value(e) => put_value(text, alloc, e),
         Part::Type(program, kind) => put_type(text, program, kind),
@@ -248,7 +260,7 @@ fn put_one(text: &mut String, alloc: Global, part: Part) -> Result<(), AllocErro
 }
 
 /// Adds a part of a sentence.
-fn put_part(text: &mut String, alloc: Global, part: Part) -> Result<(), AllocError> {
+pub(crate) fn put_part(text: &mut String, alloc: Global, part: Part) -> Result<(), AllocError> {
     match part {
         Part::Number(number) => write!(text, "{number}"),
         Part::Count(count, thing) => put_count(text, count, thing),
@@ -259,19 +271,4 @@ fn put_part(text: &mut String, alloc: Global, part: Part) -> Result<(), AllocErr
         Part::Circle(names, does) => put_circle(text, names, does),
         part => put_one(text, alloc, part),
     }
-}
-
-/// A sentence of these words, with the parts in turn in the places of `@`.
-pub(crate) fn sentence(alloc: Global, words: &str, parts: &[Part]) -> Result<String, AllocError> {
-    let mut text = String::new(alloc);
-    let mut next = 0_usize;
-    for byte in words.as_bytes() {
-        if *byte != b'@' {
-            text.push(*byte as char)?;
-        } else if let Some(part) = parts.get(next) {
-            put_part(&mut text, alloc, *part)?;
-            next = next.saturating_add(1);
-        }
-    }
-    Ok(text)
 }

@@ -1,0 +1,707 @@
+//! What is said of each refusal and of each fault, by its code: what is wrong, in a sentence, and how to mend it, in another. Each `@` is a hole for
+//! a part; the parts fill the holes in turn, first those of `what`, then those of `mend`, and a hole without a part stays empty.
+//!
+//! A wording with the name of an error is what is said by the rule alone, where nothing more is known.
+
+use luplace_file::PlaceError;
+use lustat_rules::StatError;
+
+/// The two sentences on a case.
+#[derive(Clone, Copy)]
+pub(crate) struct Wording {
+    pub(crate) what: &'static str,
+    pub(crate) mend: &'static str,
+}
+
+// E01 Syntax
+pub(crate) const TEXT_ENDS: Wording = Wording {
+    what: "The text ends here, before the program does.",
+    mend: "Each node ends with `tel`, and each equation and declaration with `;`.",
+};
+
+pub(crate) const MISPLACED: Wording = Wording {
+    what: "@ can't stand here.",
+    mend: "What is missing often belongs before it, as the `;` of an equation; a keyword is no name.",
+};
+
+pub(crate) const NO_TOKEN: Wording = Wording {
+    what: "@ begins no name, number or sign.",
+    mend: "Leave it out; a comment begins with `--`.",
+};
+
+// E02 NumberTooLarge
+pub(crate) const LARGE_NUMBER: Wording = Wording {
+    what: "The number @ is above 9223372036854775807, the greatest `int`.",
+    mend: "Choose a coarser unit, here and in the table.",
+};
+
+// E03 NotAscii
+pub(crate) const WIDE_BYTE: Wording = Wording {
+    what: "The byte here is above 127, and a program has none, in comments too.",
+    mend: "Write it in other letters.",
+};
+
+// E04 TooLong
+pub(crate) const LONG_PROGRAM: Wording = Wording {
+    what: "The text has @ bytes, and a program has at most @.",
+    mend: "Leave out what says nothing, and nodes that nothing calls.",
+};
+
+pub(crate) const MANY_ITEMS: Wording = Wording {
+    what: "The program has more than 256 nodes, more than 64 types, or a type of more than 64 names.",
+    mend: "Leave out nodes that nothing calls, and split large types.",
+};
+
+// E05 LongRun
+pub(crate) const LONG_RUN: Wording = Wording {
+    what: "1,000 names, numbers and signs stand before this one without a `;`.",
+    mend: "Cut the expression, and give its parts to locals.",
+};
+
+// E10 DuplicateName
+const OWN_NAMES: &str = "Give each its own name.";
+
+pub(crate) const DUPLICATE_NAME: Wording = Wording {
+    what: "One name is declared twice.",
+    mend: OWN_NAMES,
+};
+
+pub(crate) const NAME_TAKEN: Wording = Wording {
+    what: "The name of the @ @ is taken: line @ declares it too.",
+    mend: OWN_NAMES,
+};
+
+// E11 UnknownName
+pub(crate) const UNKNOWN_NAME: Wording = Wording {
+    what: "A name here isn't known.",
+    mend: "Spell it as it is declared, or declare it.",
+};
+
+pub(crate) const NO_VARIABLE: Wording = Wording {
+    what: "@ is no variable of node @, and no name of an enumeration.",
+    mend: "@Spell the name as it is declared, or declare it; what another node knows has to come as an argument.",
+};
+
+pub(crate) const NO_LABEL: Wording = Wording {
+    what: "@ is no name of an enumeration.",
+    mend: "@Spell it as in its type, or declare it there.",
+};
+
+pub(crate) const NO_TYPE: Wording = Wording {
+    what: "@ is no type of the program.",
+    mend: "@The types are `int`, `bool` and those that the program declares.",
+};
+
+// E12 UnknownNode
+const CALL_A_NODE: &str =
+    "@Call a node of the program by its name, or write the node; none is built in.";
+
+pub(crate) const UNKNOWN_NODE: Wording = Wording {
+    what: "A call here is of no node of the program.",
+    mend: CALL_A_NODE,
+};
+
+pub(crate) const NO_NODE: Wording = Wording {
+    what: "@ is no node of the program.",
+    mend: CALL_A_NODE,
+};
+
+// E13 TypeMismatch
+pub(crate) const TYPE_MISMATCH: Wording = Wording {
+    what: "The types don't agree.",
+    mend: "Give both sides one type.",
+};
+
+const TYPES_DIFFER: &str = "The types don't agree: @ is of type @, @ is of type @.";
+
+pub(crate) const TWO_TYPES: Wording = Wording {
+    what: TYPES_DIFFER,
+    mend: "Give both one type.",
+};
+
+pub(crate) const BOOL_FOR_INT: Wording = Wording {
+    what: TYPES_DIFFER,
+    mend: "Give both one type; `if c then 1 else 0` makes an `int` of a `bool`.",
+};
+
+pub(crate) const INT_FOR_BOOL: Wording = Wording {
+    what: TYPES_DIFFER,
+    mend: "Give both one type; `x <> 0` makes a `bool` of an `int`.",
+};
+
+// E14 WrongArity
+pub(crate) const WRONG_ARITY: Wording = Wording {
+    what: "There are too many or too few.",
+    mend: "Give each call as many arguments as its node has inputs, and each value a variable.",
+};
+
+pub(crate) const ARGUMENTS: Wording = Wording {
+    what: "The call of @ has @, and the node has @.",
+    mend: "Give each call as many arguments as its node has inputs.",
+};
+
+pub(crate) const INNER_VALUES: Wording = Wording {
+    what: "The call of @ stands inside an expression and gives @.",
+    mend: "Give its values to variables in an equation of their own, and use these.",
+};
+
+pub(crate) const SIDES: Wording = Wording {
+    what: "@ on the left, and @ on the right.",
+    mend: "Write as many variables on the left as the right side has values.",
+};
+
+// E15 Undefined
+pub(crate) const UNDEFINED: Wording = Wording {
+    what: "A variable has no equation.",
+    mend: "Write its equation.",
+};
+
+pub(crate) const NO_EQUATION: Wording = Wording {
+    what: "The @ @ of node @ has no equation.",
+    mend: "Write the equation, or take back the declaration; what comes from outside is an input.",
+};
+
+// E16 DefinedTwice
+pub(crate) const DEFINED_TWICE: Wording = Wording {
+    what: "A variable has a second equation, or an input has one.",
+    mend: "Say it all in one equation.",
+};
+
+pub(crate) const INPUT_DEFINED: Wording = Wording {
+    what: "@ is an input of node @, and an input has no equation.",
+    mend: "Take the equation back, or give its value another name.",
+};
+
+pub(crate) const TWICE_ON_LEFT: Wording = Wording {
+    what: "@ stands twice on the left side.",
+    mend: "Give each value a variable of its own.",
+};
+
+pub(crate) const DEFINED_BEFORE: Wording = Wording {
+    what: "@ has an equation already, in line @.",
+    mend: "Say it all in one equation: it holds at every instant, and is no step that is done.",
+};
+
+// E17 RecursiveNode
+const STEP_BY_STEP: &str =
+    "Go on from instant to instant with `pre`, or write a node for each step of the way.";
+
+pub(crate) const RECURSIVE_NODE: Wording = Wording {
+    what: "A node calls itself.",
+    mend: STEP_BY_STEP,
+};
+
+pub(crate) const CIRCLE_OF_CALLS: Wording = Wording {
+    what: "A node can't call itself: @.",
+    mend: STEP_BY_STEP,
+};
+
+// E18 NoMain
+const NAME_THE_MAIN: &str = "@Name the main node with `--main`, or call it so.";
+
+pub(crate) const NO_MAIN: Wording = Wording {
+    what: "No node is called @; there are @.",
+    mend: NAME_THE_MAIN,
+};
+
+pub(crate) const NO_NODES: Wording = Wording {
+    what: "No node is called @: there is none.",
+    mend: NAME_THE_MAIN,
+};
+
+// E19 BadMerge
+pub(crate) const BAD_MERGE: Wording = Wording {
+    what: "The branches of a merge on a `bool` are `true` and `false`, in this order.",
+    mend: "Write a branch for each of the two.",
+};
+
+const BRANCH_FOR_EACH: &str = "Write a branch for each name of the type, in this order: @.";
+
+pub(crate) const MISSING_BRANCH: Wording = Wording {
+    what: "The merge on @ has no branch for @.",
+    mend: BRANCH_FOR_EACH,
+};
+
+pub(crate) const OTHER_BRANCHES: Wording = Wording {
+    what: "The branches of the merge on @ aren't the names of its type, each once and in order.",
+    mend: BRANCH_FOR_EACH,
+};
+
+// E20 ClockMismatch
+const ONE_CLOCK: &str =
+    "Bring both to one clock: sample the faster by `when`, hold the slower by `current`, or join them by `merge`.";
+
+pub(crate) const CLOCK_MISMATCH: Wording = Wording {
+    what: "Values of two clocks are joined.",
+    mend: ONE_CLOCK,
+};
+
+pub(crate) const TWO_CLOCKS: Wording = Wording {
+    what: "Two clocks are joined: @ is on @, @ is on @.",
+    mend: ONE_CLOCK,
+};
+
+pub(crate) const NOTHING_HELD: Wording = Wording {
+    what: "`current` holds a variable that is on a clock, and @ is on the base clock.",
+    mend: "Leave out the `current`.",
+};
+
+// E21 NotAClock
+pub(crate) const NOT_A_CLOCK: Wording = Wording {
+    what: "A variable stands as a clock, and is none.",
+    mend: "Name a `bool`, or a variable of an enumeration with one of its names.",
+};
+
+pub(crate) const OTHER_TYPE: Wording = Wording {
+    what: "@ stands here as a clock of type @, and is of type @.",
+    mend: "Name a `bool`, or name a variable of an enumeration with one of its names, as `A(x)`.",
+};
+
+pub(crate) const ENDLESS_CLOCKS: Wording = Wording {
+    what: "Whoever goes from variable to clock never comes to the base clock: @ ..",
+    mend: "Declare one of them without a clock.",
+};
+
+// E22 ClockedParameter
+const CALL_ON_BASE: &str = "Call a node whose outputs are all on the base clock.";
+
+pub(crate) const CLOCKED_PARAMETER: Wording = Wording {
+    what: "A main node with a clocked output isn't called.",
+    mend: CALL_ON_BASE,
+};
+
+pub(crate) const CLOCKED_MAIN: Wording = Wording {
+    what: "The main node @ is called here, and its output @ is on @.",
+    mend: CALL_ON_BASE,
+};
+
+pub(crate) const CLOCKED_DECLARATION: Wording = Wording {
+    what: "The @ @ of node @ is on @; inputs, and outputs of all but the main node, are on the base clock.",
+    mend: "Declare it without a clock, and sample it inside by `when`; a node that is given samples lives on their clock as a whole.",
+};
+
+// E23 HiddenClock
+pub(crate) const HIDDEN_CLOCK: Wording = Wording {
+    what: "An output is on a clock that a local names.",
+    mend: "Make the local an output too.",
+};
+
+pub(crate) const LOCAL_CLOCK: Wording = Wording {
+    what: "The output @ is on the clock `@`, and @ is a local, which nobody outside sees.",
+    mend: "Make @ an output too.",
+};
+
+// E30 MaybeNil
+const FIRST_VALUE: &str = "Say what holds at the first instant: `0 -> pre x`, or `0 fby x`.";
+
+pub(crate) const MAYBE_NIL: Wording = Wording {
+    what: "A value may be missing at the first instant, where it is needed.",
+    mend: FIRST_VALUE,
+};
+
+pub(crate) const NEEDED_VALUE: Wording = Wording {
+    what: "@ has no value at the first instant, and @ needs one there.",
+    mend: FIRST_VALUE,
+};
+
+// E31 CurrentMayBeNil
+pub(crate) const CURRENT_MAY_BE_NIL: Wording = Wording {
+    what: "A `current` holds a variable whose clock may be false at first.",
+    mend: "Put it on a clock whose equation begins with `true ->`.",
+};
+
+const CLOCK_THAT_BEGINS: &str = "Put @ on a clock whose equation begins so, as `k = @ -> ..`.";
+
+pub(crate) const CLOCK_OF_INPUT: Wording = Wording {
+    what: "@ is on @, which may be false at first: @ is an input.",
+    mend: CLOCK_THAT_BEGINS,
+};
+
+pub(crate) const CLOCK_WITHOUT_START: Wording = Wording {
+    what: "@ is on @, which may be false at first: the equation of @ doesn't begin with `@ ->`.",
+    mend: CLOCK_THAT_BEGINS,
+};
+
+// E40 Cycle
+const BREAK_THE_CIRCLE: &str =
+    "Put a `pre` into the circle, with a value for the first instant, as `0 -> pre x`.";
+
+pub(crate) const CIRCLE_OF_READS: Wording = Wording {
+    what: "A value can't depend on itself at one instant: @.",
+    mend: BREAK_THE_CIRCLE,
+};
+
+pub(crate) const CIRCLE_BY_CALLS: Wording = Wording {
+    what: "The value that this equation defines depends on itself at the same instant, by way of a call.",
+    mend: BREAK_THE_CIRCLE,
+};
+
+// E50 TooLarge
+pub(crate) const MANY_FLOWS: Wording = Wording {
+    what: "With all calls put in place, the main node has more than 4,096 flows.",
+    mend: "Call less often, or give a result to a local in place of a second call.",
+};
+
+// P01 NotToml
+const FORM_OF_TOML: &str =
+    "Names and texts stand in quotes, arrays in brackets, and each key has a line of its own and stands once.";
+
+pub(crate) const NOT_TOML: Wording = Wording {
+    what: "The placement is no TOML text.",
+    mend: FORM_OF_TOML,
+};
+
+pub(crate) const NOT_TOML_FROM_HERE: Wording = Wording {
+    what: "The placement is no TOML text from here on: @.",
+    mend: FORM_OF_TOML,
+};
+
+// P02 BadKey
+pub(crate) const BAD_KEY: Wording = Wording {
+    what: "A key isn't one of a placement, `sites` is missing, or a value is of the wrong kind.",
+    mend: "The keys are `version`, `sites`, `capacity`, `default` and the table `place`; a name of a site has letters, digits and `_`, and is in quotes.",
+};
+
+pub(crate) const NO_KEY: Wording = Wording {
+    what: "@ is no key of a placement.",
+    mend: "@The keys are `version`, `sites`, `capacity`, `default` and the table `place`, in which the variables have their entries.",
+};
+
+pub(crate) const NO_SITES: Wording = Wording {
+    what: "The placement has no key `sites`.",
+    mend: "Name the sites, as `sites = [\"tank\", \"panel\"]`.",
+};
+
+pub(crate) const BAD_SITES: Wording = Wording {
+    what: "The value of @ is no array of names.",
+    mend: "Write the names of the sites in quotes, with commas between them, in brackets.",
+};
+
+const NAME_IN_QUOTES: &str = "Write a name in quotes; several in brackets need `version = 2`.";
+
+pub(crate) const BAD_DEFAULT: Wording = Wording {
+    what: "The value of @ is no name in quotes; in version 2 it may be an array of such names.",
+    mend: NAME_IN_QUOTES,
+};
+
+pub(crate) const BAD_ENTRY: Wording = Wording {
+    what: "The entry of @ is no name in quotes; in version 2 it may be an array of such names.",
+    mend: NAME_IN_QUOTES,
+};
+
+pub(crate) const BAD_PLACE: Wording = Wording {
+    what: "The value of @ is no table.",
+    mend: "Write `[place]` in a line of its own, and below it an entry for each variable.",
+};
+
+const NO_WHOLE_NUMBER: &str = "The value of @ is no whole number.";
+
+const ONE_OR_TWO: &str = "Write `version = 1` or `version = 2`.";
+
+pub(crate) const BAD_VERSION: Wording = Wording {
+    what: NO_WHOLE_NUMBER,
+    mend: ONE_OR_TWO,
+};
+
+pub(crate) const BAD_CAPACITY: Wording = Wording {
+    what: NO_WHOLE_NUMBER,
+    mend: "Write how many messages each link holds, as `capacity = 8`.",
+};
+
+pub(crate) const BAD_SITE_NAME: Wording = Wording {
+    what: "@ is no name of a site.",
+    mend: "A name of a site has letters, digits and `_`, at most 32 in all, and doesn't begin with a digit.",
+};
+
+// P03 UnknownSite
+const AS_IN_SITES: &str = "@Spell it as in `sites`, or add it there.";
+
+pub(crate) const UNKNOWN_SITE: Wording = Wording {
+    what: "A name in `default` or in `place` isn't one of `sites`.",
+    mend: AS_IN_SITES,
+};
+
+pub(crate) const NO_SITE: Wording = Wording {
+    what: "@ isn't one of `sites`.",
+    mend: AS_IN_SITES,
+};
+
+// P04 UnknownVariable
+const NAME_A_VARIABLE: &str = "@Name a variable of the main node.";
+
+pub(crate) const UNKNOWN_VARIABLE: Wording = Wording {
+    what: "A key in `place` is no input, output or local of the main node.",
+    mend: NAME_A_VARIABLE,
+};
+
+pub(crate) const NO_VARIABLE_OF_MAIN: Wording = Wording {
+    what: "@ is no input, output or local of the main node @.",
+    mend: NAME_A_VARIABLE,
+};
+
+// P05 Unplaced
+const ENTRY_OR_DEFAULT: &str = "Add an entry to `place`, or a `default`.";
+
+pub(crate) const UNPLACED: Wording = Wording {
+    what: "A variable of the main node has no entry in `place`, and there is no `default`.",
+    mend: ENTRY_OR_DEFAULT,
+};
+
+pub(crate) const NO_ENTRY: Wording = Wording {
+    what: "@, a variable of the main node, has no entry in `place`, and there is no `default`.",
+    mend: ENTRY_OR_DEFAULT,
+};
+
+// P06 DuplicateSite
+const EACH_ONCE: &str = "Name each site once.";
+
+pub(crate) const DUPLICATE_SITE: Wording = Wording {
+    what: "A name stands twice in `sites`, or in one array.",
+    mend: EACH_ONCE,
+};
+
+pub(crate) const TWICE_IN_KEY: Wording = Wording {
+    what: "@ stands twice in @.",
+    mend: EACH_ONCE,
+};
+
+pub(crate) const TWICE_IN_ENTRY: Wording = Wording {
+    what: "@ stands twice in the entry of @.",
+    mend: EACH_ONCE,
+};
+
+// P07 OutOfRange
+const IN_RANGE: &str = "Write a number in its range.";
+
+pub(crate) const OUT_OF_RANGE: Wording = Wording {
+    what: "The capacity isn't from 1 to 1,024, the version isn't 1 or 2, there aren't from 1 to 16 sites, or the text is too long.",
+    mend: IN_RANGE,
+};
+
+pub(crate) const NO_VERSION: Wording = Wording {
+    what: "The version is neither 1 nor 2.",
+    mend: ONE_OR_TWO,
+};
+
+pub(crate) const CAPACITY_OUT_OF_RANGE: Wording = Wording {
+    what: "The capacity isn't from 1 to 1,024.",
+    mend: IN_RANGE,
+};
+
+pub(crate) const SITE_COUNT: Wording = Wording {
+    what: "The placement has @, and there may be from 1 to @.",
+    mend: "Name each site that variables stand at, and no others.",
+};
+
+pub(crate) const LONG_PLACEMENT: Wording = Wording {
+    what: "The text has @ bytes, and a placement has at most @.",
+    mend: "Leave out comments, and entries that say what `default` says.",
+};
+
+// P08 SplitCall
+const PLACE_TOGETHER: &str =
+    "Place them together; a further variable with an equation `c = b` can stand elsewhere.";
+
+pub(crate) const SPLIT_CALL: Wording = Wording {
+    what: "The variables of one equation, which one call computes, stand at different sites.",
+    mend: PLACE_TOGETHER,
+};
+
+pub(crate) const APART: Wording = Wording {
+    what: "@ and @ come of one call, and stand at different sites.",
+    mend: PLACE_TOGETHER,
+};
+
+// T01 BadHeader
+pub(crate) const NOT_UTF8: Wording = Wording {
+    what: "The table isn't UTF-8: this byte can't stand here.",
+    mend: "Write the table in ASCII.",
+};
+
+pub(crate) const OTHER_HEADER: Wording = Wording {
+    what: "The first line isn't the header @ with a line feed at its end; it differs from here on.",
+    mend: "Write the names of the inputs in order of declaration, with `,` between them and no blanks.",
+};
+
+// T02 BadRow
+pub(crate) const UNENDED_LINE: Wording = Wording {
+    what: "The last line has no line feed at its end.",
+    mend: "End each line with a line feed, the last one too.",
+};
+
+pub(crate) const FIELD_COUNT: Wording = Wording {
+    what: "The line has @, and the table has @: @.",
+    mend: "Write a value for each input at every instant.",
+};
+
+// T03 BadValue
+pub(crate) const BAD_VALUE: Wording = Wording {
+    what: "A field of this line is no value of its type.",
+    mend: "Write a value of the type of its input.",
+};
+
+const NO_VALUE_OF_TYPE: &str = "@ in the column @ is no value of type @.";
+
+pub(crate) const NO_INT: Wording = Wording {
+    what: NO_VALUE_OF_TYPE,
+    mend: "Write a whole number from -9223372036854775808 to 9223372036854775807, without blanks, `+` or zeros before it.",
+};
+
+pub(crate) const NO_BOOL: Wording = Wording {
+    what: NO_VALUE_OF_TYPE,
+    mend: "Write `true` or `false`, without blanks.",
+};
+
+pub(crate) const NO_LABEL_OF_TYPE: Wording = Wording {
+    what: NO_VALUE_OF_TYPE,
+    mend: "Write one of @, without blanks.",
+};
+
+// T04 TooLong
+pub(crate) const LONG_TABLE: Wording = Wording {
+    what: "The table has @ bytes and @; it may have @ bytes, and a header and 1000000 lines.",
+    mend: "Try the program at a part of the table.",
+};
+
+// S01 BadSchedule
+pub(crate) const NO_TURN: Wording = Wording {
+    what: "@ is no turn, no blank and no line feed.",
+    mend: "Write a letter for each turn, `0` to `9` and `a` to `f` for the sites 0 to 15, and between them blanks and line feeds alone.",
+};
+
+// S02 LongSchedule
+pub(crate) const LONG_SCHEDULE: Wording = Wording {
+    what: "The schedule has @ bytes, and may have @.",
+    mend: "Write the turns that matter, and let `--finish` take the others.",
+};
+
+// R1 Fault
+pub(crate) const OVERFLOW: Wording = Wording {
+    what: "The equation of @ has no value at instant @, which is line @ of the table: a result doesn't fit into 64 bits.",
+    mend: "Bound the operands before the operator.",
+};
+
+pub(crate) const DIV_ZERO: Wording = Wording {
+    what: "The equation of @ has no value at instant @, which is line @ of the table: a divisor is 0.",
+    mend: "Divide by `if x = 0 then 1 else x`, or keep the division away by a clock; an `if` computes both branches.",
+};
+
+// R2 OutOfMemory
+pub(crate) const OUT_OF_MEMORY: Wording = Wording {
+    what: "Memory ran out, which says nothing of the text.",
+    mend: "Take a machine with more memory, or a shorter text.",
+};
+
+// WORDS FOR HOLES
+
+// What bears a name.
+pub(crate) const NODE: &str = "node";
+
+pub(crate) const TYPE: &str = "type";
+
+pub(crate) const LABEL: &str = "name of an enumeration";
+
+pub(crate) const VARIABLE: &str = "variable";
+
+pub(crate) const INPUT: &str = "input";
+
+pub(crate) const OUTPUT: &str = "output";
+
+pub(crate) const LOCAL: &str = "local";
+
+// What is counted, besides variables and inputs.
+pub(crate) const ARGUMENT: &str = "argument";
+
+pub(crate) const VALUE: &str = "value";
+
+pub(crate) const FIELD: &str = "field";
+
+pub(crate) const COLUMN: &str = "column";
+
+pub(crate) const LINE: &str = "line";
+
+pub(crate) const SITE: &str = "site";
+
+// What one does to the next in a circle.
+pub(crate) const CALLS: &str = "calls";
+
+pub(crate) const READS: &str = "reads";
+
+// What is of a type, or on a clock.
+pub(crate) const OPERAND: &str = "what @ takes";
+
+pub(crate) const CONDITION: &str = "the condition of an `if`";
+
+pub(crate) const INPUT_OF: &str = "the input @ of node @";
+
+pub(crate) const OUTPUT_OF: &str = "the output @ of node @";
+
+pub(crate) const RIGHT_SIDE: &str = "the right side";
+
+// What needs a value at the first instant.
+pub(crate) const NEEDED_OUTPUT: &str = "the output @";
+
+pub(crate) const NAMED_AS_CLOCK: &str = "@, which is named as a clock,";
+
+pub(crate) const BEHIND_PRE: &str = "what stands behind a `pre`";
+
+pub(crate) const BEHIND_FBY: &str = "what stands on the right of a `fby`";
+
+pub(crate) const ARGUMENT_OF: &str = "an argument of @";
+
+pub(crate) const BRANCH_OF: &str = "a branch of the merge on @";
+
+pub(crate) const HELD_BY_CURRENT: &str = "@, which a `current` holds,";
+
+// A name that is spelled nearly so, before what else mends it.
+pub(crate) const NEAR: &str = "Did you mean @? ";
+
+// THE RULES ALONE
+
+/// What is said of a broken rule by the rule alone.
+pub(crate) fn of_rule_alone(error: &StatError) -> Wording {
+    match error {
+        StatError::DuplicateName { .. } => DUPLICATE_NAME,
+        StatError::UnknownName { .. } => UNKNOWN_NAME,
+        StatError::UnknownNode { .. } => UNKNOWN_NODE,
+        StatError::TypeMismatch { .. } => TYPE_MISMATCH,
+        StatError::WrongArity { .. } => WRONG_ARITY,
+        StatError::Undefined { .. } => UNDEFINED,
+        StatError::DefinedTwice { .. } => DEFINED_TWICE,
+        StatError::RecursiveNode { .. } => RECURSIVE_NODE,
+        StatError::BadMerge { .. } => BAD_MERGE,
+        StatError::ClockMismatch { .. } => CLOCK_MISMATCH,
+        StatError::NotAClock { .. } => NOT_A_CLOCK,
+        StatError::ClockedParameter { .. } => CLOCKED_PARAMETER,
+        StatError::HiddenClock { .. } => HIDDEN_CLOCK,
+        StatError::MaybeNil { .. } => MAYBE_NIL,
+        StatError::CurrentMayBeNil { .. } => CURRENT_MAY_BE_NIL,
+        _ => OUT_OF_MEMORY,
+    }
+}
+
+/// What is said of a placement that is refused by the rule alone.
+pub(crate) fn of_place_alone(error: &PlaceError) -> Wording {
+    match error {
+        PlaceError::NotToml => NOT_TOML,
+        PlaceError::BadKey => BAD_KEY,
+        PlaceError::UnknownSite => UNKNOWN_SITE,
+        PlaceError::UnknownVariable => UNKNOWN_VARIABLE,
+        PlaceError::Unplaced => UNPLACED,
+        PlaceError::DuplicateSite => DUPLICATE_SITE,
+        PlaceError::OutOfRange => OUT_OF_RANGE,
+        PlaceError::SplitCall => SPLIT_CALL,
+        PlaceError::OutOfMemory => OUT_OF_MEMORY,
+    }
+}
+
+/// What is said of the value of a key of a placement that is of the wrong kind.
+pub(crate) fn of_value(key: &str) -> Wording {
+    match key {
+        "sites" => BAD_SITES,
+        "default" => BAD_DEFAULT,
+        "place" => BAD_PLACE,
+        "version" => BAD_VERSION,
+        _ => BAD_CAPACITY,
+    }
+}
