@@ -12,6 +12,7 @@ use Rattle.lueval_lines.specs.Frames.{later}
 use Rattle.luflow.specs.Program.{flow_at, flows_of}
 use Rattle.lusite_program.specs.Programs.{part_of, part_at}
 use Rattle.lusite.specs.Machine.{is_faulted, Stands, StandsAt, IsSet, IsReadyAt, Ready, cell_size, cell_size_of, done_of, shown_of, pasts_of}
+use Rattle.lusite.specs.States.{IsGoing}
 use Rattle.lusite.proofs.Machine.{there, stands_pass, stands_tick, size_here}
 use Rattle.lusite_program.proofs.SiteFlows.{part_there}
 
@@ -24,6 +25,9 @@ pub record Going (a : SiteState) : Type 0 where
 pub going : (a : SiteState) → IsSet a → StandsAt a → (is_faulted a) ≡ false → Going a
 going a set st go =
     record { set = set; stands = subst (λ (b : Bool). Stands a.inputs.job a.inputs.site (shown_of a) (pasts_of a) a.instant a.place a.step b) go st; goes = go }
+
+pub going_state : (a : SiteState) → IsGoing a → Going a
+going_state a h = going a h.in_order.set h.in_order.stands h.going
 
 pub part_here : (a : SiteState) (i : ℕ) → IsSet a → i < flows_of a.inputs.job.plan.flat → part_at a.program i ≡ part_of a.inputs.job.plan a.inputs.site i
 part_here a i set li =

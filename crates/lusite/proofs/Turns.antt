@@ -34,10 +34,11 @@ use Rattle.luworld.proofs.Cursor.{before_step, before_end}
 use Rattle.luworld.proofs.Messages.{message_at, no_message_at}
 use Rattle.lusite.specs.declared.next.Fault.{Fault}
 use Rattle.lusite.specs.declared.state.SiteState.{SiteState}
-use Rattle.lusite.specs.Machine.{is_faulted, IsFaultAt, Stands, IsSet, StandsAt, IsReadyAt, Ready, Over, Computes, done_of, IsLocalNext, IsPutNext, IsTakeNext, with_body, shown_of, pasts_of}
+use Rattle.lusite.specs.Machine.{is_faulted, IsFaultAt, Stands, IsReadyAt, Ready, Over, Computes, done_of, IsLocalNext, IsPutNext, IsTakeNext, with_body, shown_of, pasts_of}
+use Rattle.lusite.specs.States.{IsGoing}
 use Rattle.lusite.proofs.Machine.{stops_at, script_take, there, equation, stands_step, stands_stop}
 use Rattle.lusite_program.proofs.Written.{slice_get-set_same, slice_get-set_other}
-use Rattle.lusite.proofs.SiteStates.{Going, going, here_in, flow_same}
+use Rattle.lusite.proofs.SiteStates.{Going, going_state, here_in, flow_same}
 use Rattle.lusite.proofs.Reported.{lt-false}
 use Rattle.lusite.proofs.Offers.{AtHand, ComputeAt, PutEarly, PutLate, TakeEarly, TakeLate, at_hand, Here, WorksOut, hand_next, computed_is, link_is, known_of_link, into_is, take_no, own_early, own_late, taken_late}
 use Rattle.std.proofs.lemmas.List.FromFn.{length-range_with_len}
@@ -246,16 +247,16 @@ put_here a h l e (PutLate own end item within) =
 put_here a h l e (TakeEarly other lt z open' into item) = let n = sym item ∙ sym (hand_next a h) ∙ e in absurd cc
 put_here a h l e (TakeLate other end into item) = let n = sym item ∙ sym (hand_next a h) ∙ e in absurd cc
 
-pub sent_next : (a : SiteState) → IsSet a → StandsAt a → (is_faulted a) ≡ false → IsReadyAt a → IsPutNext a.inputs.job a.inputs.site (done_of a) → (a.step < 65538) × Stands a.inputs.job a.inputs.site (shown_of a) (pasts_of a) a.instant a.place (a.step + 1) (is_faulted a) × (items_before a.inputs.job (streams_of a.inputs.job) a.inputs.site a.instant a.place (a.step + 1) ≡ done_of a + 1)
-sent_next a is st go ready next =
+pub sent_next : (a : SiteState) → IsGoing a → IsReadyAt a → IsPutNext a.inputs.job a.inputs.site (done_of a) → (a.step < 65538) × Stands a.inputs.job a.inputs.site (shown_of a) (pasts_of a) a.instant a.place (a.step + 1) (is_faulted a) × (items_before a.inputs.job (streams_of a.inputs.job) a.inputs.site a.instant a.place (a.step + 1) ≡ done_of a + 1)
+sent_next a on ready next =
     let job = a.inputs.job in
     let σ = streams_of job in
     let i = slice_index job.plan.flat.order a.place in
-    let g = going a is st go in
+    let g = going_state a on in
     let h = here_from a (Puts next.0) g ready next.1 in
     let w = put_here a h next.0 next.1 (hand_of a h) in
-    let r = stands_step job a.inputs.site is.is_job (shown_of a) (shown_of a) (pasts_of a) a.instant a.place a.step (Puts next.0) g.stands h.place_lt (sym (hand_next a h) ∙ next.1) refl refl (λ r ne. refl) (λ lt. g.stands.here lt (w.0 lt) refl) in
-    (w.1, subst (λ (b : Bool). Stands job a.inputs.site (shown_of a) (pasts_of a) a.instant a.place (a.step + 1) b) (sym go) r, before_step job σ a.inputs.site a.instant a.place a.step)
+    let r = stands_step job a.inputs.site g.set.is_job (shown_of a) (shown_of a) (pasts_of a) a.instant a.place a.step (Puts next.0) g.stands h.place_lt (sym (hand_next a h) ∙ next.1) refl refl (λ r ne. refl) (λ lt. g.stands.here lt (w.0 lt) refl) in
+    (w.1, subst (λ (b : Bool). Stands job a.inputs.site (shown_of a) (pasts_of a) a.instant a.place (a.step + 1) b) (sym g.goes) r, before_step job σ a.inputs.site a.instant a.place a.step)
 
 -- what a taken message says of its flow
 taken_mark : (s : ℕ → Mark) (n t : ℕ) (d : Datum) (v : Outcome) (m : Msg) → t < n → before s t ≡ Some d → s t ≡ mark_of v → slice_get (messages 0 (marks s n)) (presents s t) ≡ Some m → (x : Datum) × (s t ≡ Known (Present x)) × (m.body ≡ Value x)
@@ -302,33 +303,33 @@ take_goes a g l m at =
     let n = list_long job g.set.is_job l (link_there job l (takes_before (system_of job) l a.inputs.site (done_of a)) m at) in
     lt-leb (messages_from (outline job σ) (carried job.plan l) 0 job.inputs.instants) (count_by (takes l) (take (done_of a) (endless job σ a.inputs.site))) (omega (arith, lt, e, n))
 
-pub given_next : (a : SiteState) (m : Msg) → IsSet a → StandsAt a → (is_faulted a) ≡ false → IsReadyAt a → IsTakeNext a.inputs.job a.inputs.site (done_of a) m → Stands a.inputs.job a.inputs.site (with_body (shown_of a) (slice_index a.program.plan.flat.order a.place) m.body) (pasts_of a) a.instant a.place 1 (is_faulted a) × (items_before a.inputs.job (streams_of a.inputs.job) a.inputs.site a.instant a.place 1 ≡ done_of a + 1)
-given_next a m is st go ready next =
+pub given_next : (a : SiteState) (m : Msg) → IsGoing a → IsReadyAt a → IsTakeNext a.inputs.job a.inputs.site (done_of a) m → Stands a.inputs.job a.inputs.site (with_body (shown_of a) (slice_index a.program.plan.flat.order a.place) m.body) (pasts_of a) a.instant a.place 1 (is_faulted a) × (items_before a.inputs.job (streams_of a.inputs.job) a.inputs.site a.instant a.place 1 ≡ done_of a + 1)
+given_next a m on ready next =
     let job = a.inputs.job in
     let σ = streams_of job in
     let i = slice_index job.plan.flat.order a.place in
-    let g = going a is st go in
+    let g = going_state a on in
     let h = here_from a (Takes next.0) g ready next.1 in
-    let ei : slice_index a.program.plan.flat.order a.place ≡ i = flow_same a is in
+    let ei : slice_index a.program.plan.flat.order a.place ≡ i = flow_same a g.set in
     let w = take_here a h next.0 m next.1 next.2 (hand_of a h) in
-    let f = there job a.inputs.site is.is_job a.place h.place_lt in
+    let f = there job a.inputs.site g.set.is_job a.place h.place_lt in
     let li : i < length (shown_of a) = omega (arith, g.stands.now_len, f.2) in
-    let r = stands_step job a.inputs.site is.is_job (shown_of a) (with_body (shown_of a) i m.body) (pasts_of a) a.instant a.place a.step (Takes next.0) g.stands h.place_lt (sym (hand_next a h) ∙ next.1) (take_goes a g next.0 m next.2) (body_len (shown_of a) i m.body) (λ r ne. body_other (shown_of a) i r m.body ne) (λ lt. let v = w.2 lt in record { status = Present v.0; there = ap (λ b. slice_get (with_body (shown_of a) i b) i) v.2 ∙ slice_get-set_same (shown_of a) i (Present v.0) li; is = v.1 }) in
+    let r = stands_step job a.inputs.site g.set.is_job (shown_of a) (with_body (shown_of a) i m.body) (pasts_of a) a.instant a.place a.step (Takes next.0) g.stands h.place_lt (sym (hand_next a h) ∙ next.1) (take_goes a g next.0 m next.2) (body_len (shown_of a) i m.body) (λ r ne. body_other (shown_of a) i r m.body ne) (λ lt. let v = w.2 lt in record { status = Present v.0; there = ap (λ b. slice_get (with_body (shown_of a) i b) i) v.2 ∙ slice_get-set_same (shown_of a) i (Present v.0) li; is = v.1 }) in
     let one : a.step + 1 ≡ 1 = omega (arith, w.0) in
-    (subst (λ (b : Bool). Stands job a.inputs.site (with_body (shown_of a) (slice_index a.program.plan.flat.order a.place) m.body) (pasts_of a) a.instant a.place 1 b) (sym go) (subst (λ (k : ℕ). Stands job a.inputs.site (with_body (shown_of a) k m.body) (pasts_of a) a.instant a.place 1 false) (sym ei) (subst (λ (j : ℕ). Stands job a.inputs.site (with_body (shown_of a) i m.body) (pasts_of a) a.instant a.place j false) one r)), ap (items_before job σ a.inputs.site a.instant a.place) (sym one) ∙ before_step job σ a.inputs.site a.instant a.place a.step)
+    (subst (λ (b : Bool). Stands job a.inputs.site (with_body (shown_of a) (slice_index a.program.plan.flat.order a.place) m.body) (pasts_of a) a.instant a.place 1 b) (sym g.goes) (subst (λ (k : ℕ). Stands job a.inputs.site (with_body (shown_of a) k m.body) (pasts_of a) a.instant a.place 1 false) (sym ei) (subst (λ (j : ℕ). Stands job a.inputs.site (with_body (shown_of a) i m.body) (pasts_of a) a.instant a.place j false) one r)), ap (items_before job σ a.inputs.site a.instant a.place) (sym one) ∙ before_step job σ a.inputs.site a.instant a.place a.step)
 
 -- where the next item is a put, the flow was computed, or the closes are on
-pub sent_at : (a : SiteState) → IsSet a → StandsAt a → (is_faulted a) ≡ false → IsReadyAt a → IsPutNext a.inputs.job a.inputs.site (done_of a) → (0 < a.step) ⊎ (a.inputs.job.inputs.instants ≤ a.instant)
-sent_at a is st go ready next =
-    let g = going a is st go in
+pub sent_at : (a : SiteState) → IsGoing a → IsReadyAt a → IsPutNext a.inputs.job a.inputs.site (done_of a) → (0 < a.step) ⊎ (a.inputs.job.inputs.instants ≤ a.instant)
+sent_at a on ready next =
+    let g = going_state a on in
     let h = here_from a (Puts next.0) g ready next.1 in
     let w = put_here a h next.0 next.1 (hand_of a h) in
     elim (cases_lt a.instant a.inputs.job.inputs.instants) [ inl lt ↦ inl (w.0 lt) | inr ge ↦ inr ge ]
 
 -- where the next item is a take, the flow is none of the site's own
-pub given_at : (a : SiteState) (m : Msg) → IsSet a → StandsAt a → (is_faulted a) ≡ false → IsReadyAt a → IsTakeNext a.inputs.job a.inputs.site (done_of a) m → (a.step ≡ 0) × (a.place < length a.inputs.job.plan.flat.order) × (stands a.inputs.job.plan (slice_index a.inputs.job.plan.flat.order a.place) a.inputs.site ≡ false)
-given_at a m is st go ready next =
-    let g = going a is st go in
+pub given_at : (a : SiteState) (m : Msg) → IsGoing a → IsReadyAt a → IsTakeNext a.inputs.job a.inputs.site (done_of a) m → (a.step ≡ 0) × (a.place < length a.inputs.job.plan.flat.order) × (stands a.inputs.job.plan (slice_index a.inputs.job.plan.flat.order a.place) a.inputs.site ≡ false)
+given_at a m on ready next =
+    let g = going_state a on in
     let h = here_from a (Takes next.0) g ready next.1 in
     let w = take_here a h next.0 m next.1 next.2 (hand_of a h) in
     (w.0, h.place_lt, w.1)

@@ -2,3 +2,4 @@ pub mod Machine
 pub mod Logs
 pub mod Sites
 pub mod Widths
+pub mod States

@@ -2,8 +2,8 @@
 use Rattle.std.specs.Prelude.{◌≡◌, ℕ, false}
 use Rattle.luworld.specs.Jobs.{JobView}
 use Rattle.lusite.specs.declared.state.SiteState.{SiteState}
-use Rattle.lusite.specs.Logs.{IsLoggedAt}
-use Rattle.lusite.specs.Machine.{IsSet, StandsAt, IsReadyAt, ReportsFault, is_faulted, done_of}
+use Rattle.lusite.specs.Machine.{IsReadyAt, ReportsFault, is_faulted, done_of}
+use Rattle.lusite.specs.States.{IsInOrder}
 
 -- the job, the site, and how many items of the site's script are done
 pub record SiteView : Type 0 where
@@ -15,8 +15,6 @@ abbrev pub site_at : SiteState → SiteView
 site_at a = record { job = a.inputs.job; site = a.inputs.site; done = done_of a }
 
 pub record IsSite (a : SiteState) : Type 0 where
-  pub set : IsSet a
-  pub stands : StandsAt a
-  pub logged : IsLoggedAt a
+  pub in_order : IsInOrder a
   pub tells : ReportsFault a
   pub ready : is_faulted a ≡ false → IsReadyAt a

@@ -11,8 +11,9 @@ ghost use Rattle.lueval_lines.specs.Cells.{status_of, statuses, held, newest, ou
 ghost use Rattle.lueval_lines.specs.Frames.{clock_in};
 ghost use Rattle.lueval_lines.specs.Operations.{form_of};
 ghost use Rattle.lusite_program.specs.Programs.{part_at, places_of, IsSiteFlow};
-ghost use Rattle.lusite.specs.Logs.{IsLoggedAt, is_noted, log_at, reported_at};
-ghost use Rattle.lusite.specs.Machine.{IsSet, StandsAt, IsSameRun, IsReadyAt, ReportsFault, Computes, done_of, rest_of, cell_size, in_cell, shown_of, more_of, offered_own, offered, with_body, is_faulted, IsLocalNext, IsPutNext, IsTakeNext};
+ghost use Rattle.lusite.specs.Logs.{is_noted, log_at, reported_at};
+ghost use Rattle.lusite.specs.Machine.{IsSet, IsSameRun, IsReadyAt, ReportsFault, Computes, done_of, rest_of, cell_size, in_cell, more_of, offered_own, offered, with_body, IsLocalNext, IsPutNext, IsTakeNext};
+ghost use Rattle.lusite.specs.States.{IsGoing, IsInOrder, GoesOn};
 
 use crate::next::{Fault, Next};
 use lueval_lines::{
@@ -313,20 +314,13 @@ impl SiteState {
     /// From a flow whose items are all done to the next one.
     #[inline(always)]
     fn pass(&mut self)
-        requires set { IsSet self.old }
-        requires stands { StandsAt self.old }
-        requires logged { IsLoggedAt self.old }
-        requires going { is_faulted self.old ≡ false }
+        requires going { IsGoing self.old }
         requires row { self.old.row < length (places_of self.old.program.plan
             self.old.program.site) }
         requires within { self.old.place < length self.old.program.plan.flat.order }
         requires all { self.old.step ≡ cell_size self.old (slice_index
             self.old.program.plan.flat.order self.old.place) }
-        ensures same { IsSameRun self.old self.new }
-        ensures set { IsSet self.new }
-        ensures stands { StandsAt self.new }
-        ensures logged { IsLoggedAt self.new }
-        ensures fault { self.new.fault ≡ self.old.fault }
+        ensures goes_on { GoesOn self.old self.new }
         ensures done { done_of self.new ≡ done_of self.old }
         ensures less { rest_of self.new < rest_of self.old }
     {
@@ -340,17 +334,10 @@ impl SiteState {
 
     /// From the last flow of an instant to the next instant.
     fn tick(&mut self)
-        requires set { IsSet self.old }
-        requires stands { StandsAt self.old }
-        requires logged { IsLoggedAt self.old }
-        requires going { is_faulted self.old ≡ false }
+        requires going { IsGoing self.old }
         requires last { self.old.place ≡ length self.old.program.plan.flat.order }
         requires early { self.old.instant < self.old.inputs.job.inputs.instants }
-        ensures same { IsSameRun self.old self.new }
-        ensures set { IsSet self.new }
-        ensures stands { StandsAt self.new }
-        ensures logged { IsLoggedAt self.new }
-        ensures fault { self.new.fault ≡ self.old.fault }
+        ensures goes_on { GoesOn self.old self.new }
         ensures done { done_of self.new ≡ done_of self.old }
         ensures less { rest_of self.new < rest_of self.old }
     {
@@ -364,15 +351,8 @@ impl SiteState {
     /// One move over what does nothing. False where an item is at hand or the script is over.
     #[inline(always)]
     fn advance(&mut self) -> bool
-        requires set { IsSet self.old }
-        requires stands { StandsAt self.old }
-        requires logged { IsLoggedAt self.old }
-        requires going { is_faulted self.old ≡ false }
-        ensures same { IsSameRun self.old self.new }
-        ensures set { IsSet self.new }
-        ensures stands { StandsAt self.new }
-        ensures logged { IsLoggedAt self.new }
-        ensures fault { self.new.fault ≡ self.old.fault }
+        requires { IsGoing self.old }
+        ensures goes_on { GoesOn self.old self.new }
         ensures done { done_of self.new ≡ done_of self.old }
         ensures ready { result ≡ false → IsReadyAt self.new }
         ensures less { result ≡ true → rest_of self.new < rest_of self.old }
@@ -393,15 +373,8 @@ impl SiteState {
 
     /// On to the next item, or to the end.
     pub fn settle(&mut self)
-        requires set { IsSet self.old }
-        requires stands { StandsAt self.old }
-        requires logged { IsLoggedAt self.old }
-        requires going { is_faulted self.old ≡ false }
-        ensures same { IsSameRun self.old self.new }
-        ensures set { IsSet self.new }
-        ensures stands { StandsAt self.new }
-        ensures logged { IsLoggedAt self.new }
-        ensures fault { self.new.fault ≡ self.old.fault }
+        requires { IsGoing self.old }
+        ensures goes_on { GoesOn self.old self.new }
         ensures done { done_of self.new ≡ done_of self.old }
         ensures ready { IsReadyAt self.new }
     {
@@ -530,16 +503,11 @@ impl SiteState {
 
     /// Computes the flow at hand.
     pub fn work(&mut self)
-        requires set { IsSet self.old }
-        requires stands { StandsAt self.old }
-        requires logged { IsLoggedAt self.old }
-        requires going { is_faulted self.old ≡ false }
+        requires going { IsGoing self.old }
         requires ready { IsReadyAt self.old }
         requires next { IsLocalNext self.old.inputs.job self.old.inputs.site (done_of self.old) }
         ensures same { IsSameRun self.old self.new }
-        ensures set { IsSet self.new }
-        ensures stands { StandsAt self.new }
-        ensures logged { IsLoggedAt self.new }
+        ensures in_order { IsInOrder self.new }
         ensures tells { ReportsFault self.new }
         ensures done { done_of self.new ≡ done_of self.old + 1 }
     {
@@ -565,17 +533,10 @@ impl SiteState {
 
     /// Goes on behind the put at hand, which is done.
     pub fn sent(&mut self)
-        requires set { IsSet self.old }
-        requires stands { StandsAt self.old }
-        requires logged { IsLoggedAt self.old }
-        requires going { is_faulted self.old ≡ false }
+        requires going { IsGoing self.old }
         requires ready { IsReadyAt self.old }
         requires next { IsPutNext self.old.inputs.job self.old.inputs.site (done_of self.old) }
-        ensures same { IsSameRun self.old self.new }
-        ensures set { IsSet self.new }
-        ensures stands { StandsAt self.new }
-        ensures logged { IsLoggedAt self.new }
-        ensures fault { self.new.fault ≡ self.old.fault }
+        ensures goes_on { GoesOn self.old self.new }
         ensures done { done_of self.new ≡ done_of self.old + 1 }
     {
         self.step += 1;
@@ -583,17 +544,10 @@ impl SiteState {
 
     /// The take at hand gave this message.
     pub fn given_message(&mut self, msg: Msg)
-        requires set { IsSet self.old }
-        requires stands { StandsAt self.old }
-        requires logged { IsLoggedAt self.old }
-        requires going { is_faulted self.old ≡ false }
+        requires going { IsGoing self.old }
         requires ready { IsReadyAt self.old }
         requires next { IsTakeNext self.old.inputs.job self.old.inputs.site (done_of self.old) msg }
-        ensures same { IsSameRun self.old self.new }
-        ensures set { IsSet self.new }
-        ensures stands { StandsAt self.new }
-        ensures logged { IsLoggedAt self.new }
-        ensures fault { self.new.fault ≡ self.old.fault }
+        ensures goes_on { GoesOn self.old self.new }
         ensures done { done_of self.new ≡ done_of self.old + 1 }
     {
         show_body(&mut self.shown, self.row, msg.body);

@@ -4,10 +4,11 @@ use Rattle.std.specs.Prelude.{slice_get, Some}
 use Rattle.std.proofs.lemmas.Bool.{cases_lt}
 use Rattle.std.proofs.lemmas.List.{length-map}
 use Rattle.luworld.specs.declared.turn.Turn.TheVariants.{Moved}
-use Rattle.luworld.specs.Systems.{Item, System, ItemCounts, new_world, turn, step, run, reached, total_below}
+use Rattle.luworld.specs.Systems.{Item, System, ItemCounts, new_world, turn, step, run, reached, total_below, IsAllDone}
+use Rattle.luworld.specs.Reach.{IsGood}
 use Rattle.luworld.specs.Outline.{left_at, left_after}
 use Rattle.luworld.specs.Needs.{sites_of}
-use Rattle.luworld.specs.Jobs.{JobView, IsJobView, streams_of, outline, script, system_of, NoFault}
+use Rattle.luworld.specs.Jobs.{JobView, IsJobView, IsJob, streams_of, outline, script, system_of, NoFault}
 use Rattle.luworld.specs.WorldViews.{AllEnded}
 use Rattle.luworld.proofs.Outlines.{is_wired, is_outline, no_break}
 use Rattle.luworld.proofs.Ended.{done_ends}
@@ -16,6 +17,16 @@ use Rattle.lusite.specs.Sites.{SiteView}
 use Rattle.luweave.specs.declared.link_queue.LinkQueue.{LinkQueue}
 use Rattle.luweave.specs.Worlds.{IsWorld, IsLater, dones_of, undone, left_of}
 use Rattle.luweave.proofs.Worlds.{done_at}
+
+-- where all sites have ended all scripts are done
+pub ended_done : (job : JobView) → IsJob job → (dones : ItemCounts) → IsGood (system_of job) dones → AllEnded job dones → IsAllDone (system_of job) dones
+ended_done job ok dones good ended s = elim (cases_lt s (sites_of job.plan)) [
+  | inl lt ↦ (ended s lt).whole
+  | inr ge ↦
+      let n : length (script job (streams_of job) s) ≡ 0 = ap (length {A = Item}) ((is_wired job ok).no_more_sites s ge) in
+      let inside = good.inside s in
+      omega (arith, n, inside)
+]
 
 module _ (job : JobView) (sites : List SiteView) (link_queues : List LinkQueue) (capacity : ℕ) (w : IsWorld job sites link_queues capacity) where
   -- a turn that moves leaves fewer items
@@ -38,13 +49,7 @@ module _ (job : JobView) (sites : List SiteView) (link_queues : List LinkQueue) 
       from : AllEnded job (dones_of sites) → left_of job (dones_of sites) ≡ 0
       from ended =
           let plan = outline job (streams_of job) in
-          (left_zero plan (is_outline job w.is_job) (dones_of sites) w.good (no_break job w.is_job fine)).1 (λ s. elim (cases_lt s (sites_of job.plan)) [
-            | inl lt ↦ (ended s lt).whole
-            | inr ge ↦
-                let n : length (script job (streams_of job) s) ≡ 0 = ap (length {A = Item}) ((is_wired job w.is_job).no_more_sites s ge) in
-                let inside = w.good.inside s in
-                omega (arith, n, inside)
-          ])
+          (left_zero plan (is_outline job w.is_job) (dones_of sites) w.good (no_break job w.is_job fine)).1 (ended_done job w.is_job (dones_of sites) w.good ended)
 
   -- one site more
   pub left_more : (s : ℕ) (v : SiteView) (n : ℕ) → slice_get sites s ≡ Some v → n ≡ left_after (outline v.job (streams_of v.job)) v.site v.done → total_below (left_at (outline job (streams_of job)) (dones_of sites)) (s + 1) ≡ total_below (left_at (outline job (streams_of job)) (dones_of sites)) s + n

@@ -3,4 +3,5 @@ mod Moving
 pub mod Endings
 mod Headlines
 mod Finishing
+mod Schedules
 pub mod NewSites

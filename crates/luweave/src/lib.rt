@@ -6,6 +6,7 @@
 
 mod enabled;
 mod finish;
+mod laws;
 mod left;
 mod link_queue;
 mod next;

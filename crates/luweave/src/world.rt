@@ -7,12 +7,13 @@ ghost use Rattle.lusite.specs.Machine.{IsLocalNext, IsPutNext, IsTakeNext};
 ghost use Rattle.lusite.specs.Sites.{SiteView};
 ghost use Rattle.luweave.specs.declared.link_queue.LinkQueue.{LinkQueue};
 ghost use Rattle.luworld.specs.Jobs.{link_list, streams_of};
-ghost use Rattle.luworld.specs.Systems.{done, turn, step, reached, put_count, taken_count, new_world};
+ghost use Rattle.luworld.specs.Systems.{done, turn, step, reached, moved_turns, put_count, taken_count, new_world};
 ghost use Rattle.luworld.specs.Jobs.{system_of, IsJob};
 ghost use Rattle.luweave.specs.Worlds.{more, IsPutInto, IsTakeFrom, IsNewWorld, IsNewLinkQueue, IsUnstuck, IsOnlyEnd, IsDone, IsReportedAtSome};
 ghost use Rattle.luworld.specs.WorldViews.{IsCollected, IsPrefixOf, AllEnded, list_of_link, taken_of, queued_of};
 ghost use Rattle.lusource.specs.Source.{SourceStreams};
 ghost use Rattle.lumeaning.specs.Meaning.{IsMeant, NoneBreaks, source_list};
+ghost use Rattle.luweave.specs.Schedules.{IsWithinReach, AreWholeScripts, IsMoveCount};
 ghost use Rattle.luweave.specs.Headline.{InEachSource, WaitsNext, IsCollectedOf, IsFaithful};
 ghost use Rattle.lusite.specs.Logs.{IsOutput};
 ghost use Rattle.luworld.specs.Jobs.{NoFault, outputs_of};
@@ -368,6 +369,10 @@ pub fn replay(
     ensures unstuck { IfOk result (λ x. IsUnstuck x.job x.dones) }
     ensures same_end { IfOk result (λ x. IsOnlyEnd x.job x.dones) }
     ensures faithful { IfOk result (λ x. IsFaithful x.job x.dones) }
+    ensures reach { IfOk result (λ x. IsWithinReach x.job x.dones) }
+    ensures whole { IfOk result (λ x. NoFault x.job → AreWholeScripts x.job) }
+    ensures moves { IfOk result (λ x. IsMoveCount x.job x.dones (moved_turns (system_of x.job)
+        schedule.now)) }
 {
     let mut world = World::new(alloc, plan, sites)?;
     for site in schedule {
@@ -376,5 +381,8 @@ pub fn replay(
     world.never_stuck();
     world.same_end();
     world.faithful();
+    world.within_reach();
+    world.whole_scripts();
+    world.move_count();
     Ok(world)
 }

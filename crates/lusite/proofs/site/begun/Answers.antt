@@ -1,4 +1,4 @@
-use Rattle.std.proofs.Common.{◌≡◌, ℕ, ◌<◌, true, false, length, replicate, Some, sym, ap, ap₂, ◌∙◌, subst, arith}
+use Rattle.std.proofs.Common.{◌≡◌, ℕ, ◌<◌, true, false, length, replicate, Some, refl, sym, ap, ap₂, ◌∙◌, subst, arith}
 use Rattle.std.proofs.lemmas.Option.{slice_get-get_or, slice_get-map}
 use Rattle.std.proofs.lemmas.List.{length-replicate}
 use Rattle.lueval_lines.specs.declared.cell.Cell.TheVariants.{Absent}
@@ -26,47 +26,59 @@ use Rattle.lusite.proofs.Reported.{logged_new, none_yet, wanted_known}
 use Rattle.lusite.proofs.Machine.{there}
 use Rattle.lusite.proofs.site.begun.Goals as goal
 
-pub settle-requires-clause-set : goal.settle-requires-clause-set
-settle-requires-clause-set c =
-    let m = length (places_of c.args.program.plan c.args.program.site) in
-    let held = c.args.held in
-    let es : held.shown.items ≡ replicate m Absent = c.requires.shown in
-    let el : held.lasts.items ≡ replicate m Absent = c.requires.lasts in
-    let en : held.counts.items ≡ replicate m 0 = c.requires.counts in
-    record {
-      is_job = c.requires.job;
-      plan_is = c.requires.plan_is;
-      site_is = c.requires.site_is;
-      rank_is = c.rank-place.ensures;
-      shown_fit = ap length es ∙ length-replicate m Absent;
-      lasts_fit = ap length el ∙ length-replicate m Absent;
-      pasts_fit = ap length el ∙ length-replicate m Absent ∙ sym (ap length en ∙ length-replicate m 0);
-      logs_fit = c.requires.len;
-      row_in = omega arith;
-    }
-
-pub settle-requires-clause-stands : goal.settle-requires-clause-stands
-settle-requires-clause-stands c =
+pub settle-requires : goal.settle-requires
+settle-requires c =
     let job = c.args.inputs.job in
-    let program = c.args.program in
-    let n : flows_of program.plan.flat ≡ flows_of job.plan.flat = ap (λ (q : PlanView). flows_of q.flat) c.requires.plan_is in
-    let places = places_of program.plan program.site in
+    let s = c.args.inputs.site in
+    let p = c.args.program in
+    let e = c.requires in
+    let n : flows_of p.plan.flat ≡ flows_of job.plan.flat = ap (λ (q : PlanView). flows_of q.flat) e.plan_is in
+    let places = places_of p.plan p.site in
     let m = length places in
     let held = c.args.held in
-    let es : held.shown.items ≡ replicate m Absent = c.requires.shown in
-    let el : held.lasts.items ≡ replicate m Absent = c.requires.lasts in
-    let en : held.counts.items ≡ replicate m 0 = c.requires.counts in
-    let s = c.args.inputs.site in
-    let shown = shown_in program held.shown.items in
-    let pasts = kept_in program held.lasts.items held.counts.items in
+    let es : held.shown.items ≡ replicate m Absent = e.shown in
+    let el : held.lasts.items ≡ replicate m Absent = e.lasts in
+    let en : held.counts.items ≡ replicate m 0 = e.counts in
+    let shown = shown_in p held.shown.items in
+    let pasts = kept_in p held.lasts.items held.counts.items in
     let none = past_of Absent 0 in
     let st = stands_start job s shown pasts
-    (ap (λ xs. put_at (replicate (flows_of program.plan.flat) status.Absent) places xs) (ap statuses es ∙ new_statuses m) ∙ put_none (flows_of program.plan.flat) status.Absent places m ∙ ap (λ k. replicate k status.Absent) n)
-    (ap (λ xs. put_at (replicate (flows_of program.plan.flat) none) places xs) (ap₂ pasts_in el en ∙ new_pasts m) ∙ put_none (flows_of program.plan.flat) none places m ∙ ap (λ k. replicate k none) n) in
-    let at = start_next program job s c.requires.plan_is c.requires.site_is in
-    let ok = c.requires.job in
-    subst (λ (p : ℕ). Stands job s shown pasts 0 p 0 false) (sym c.rank-place.ensures)
-    (stands_skip job s ok shown pasts 0 0 (rank_at program 0) st (omega arith) at.0 at.1)
+    (ap (λ xs. put_at (replicate (flows_of p.plan.flat) status.Absent) places xs) (ap statuses es ∙ new_statuses m) ∙ put_none (flows_of p.plan.flat) status.Absent places m ∙ ap (λ k. replicate k status.Absent) n)
+    (ap (λ xs. put_at (replicate (flows_of p.plan.flat) none) places xs) (ap₂ pasts_in el en ∙ new_pasts m) ∙ put_none (flows_of p.plan.flat) none places m ∙ ap (λ k. replicate k none) n) in
+    let at = start_next p job s e.plan_is e.site_is in
+    let ok = e.job in
+    let logs = held.logs.items in
+    let ordered = subst (λ (q : PlanView). IsOrdered q.flat) (sym e.plan_is) ok.is_plan.ordered in
+    record {
+      in_order = record {
+        set = record {
+          is_job = ok;
+          plan_is = e.plan_is;
+          site_is = e.site_is;
+          rank_is = c.rank-place.ensures;
+          shown_fit = ap length es ∙ length-replicate m Absent;
+          lasts_fit = ap length el ∙ length-replicate m Absent;
+          pasts_fit = ap length el ∙ length-replicate m Absent ∙ sym (ap length en ∙ length-replicate m 0);
+          logs_fit = e.len;
+          row_in = omega arith;
+        };
+        stands = subst (λ (r : ℕ). Stands job s shown pasts 0 r 0 false) (sym c.rank-place.ensures)
+            (stands_skip job s ok shown pasts 0 0 (rank_at p 0) st (omega arith) at.0 at.1);
+        logged = none_yet job s (logs_in p logs) 0 c.rank-place.result true
+            (subst (λ (r : ℕ). IsLogged job s (logs_in p logs) 0 r) (sym c.rank-place.ensures)
+            (logged_skip job s ok (logs_in p logs) 0 0 (rank_at p 0) (omega arith) at.1
+            (logged_new job s (logs_in p logs) (λ q lq. (there job s ok q lq).2)
+            (λ i li wanted.
+            let known : knows p.plan p.site i ≡ true = ap₂ (λ q k. knows q k i) e.plan_is e.site_is ∙ ap (λ b. b || is_some (link_into job.plan s i)) (wanted_known job s i ok li wanted) in
+            let w = places_has p ordered i (subst (λ (q : PlanView). i < flows_of q.flat) (sym e.plan_is) li) known in
+            let here : slice_get places w.0 ≡ Some i = slice_get-get_or places w.0 0 w.1 ∙ ap Some w.2 in
+            let y = some_at logs w.0 (let k = e.len in let l = w.1 in omega (arith, l, k)) in
+            let reported = ap₂ (λ q k. (part_of q k i).reported) e.plan_is e.site_is ∙ wanted in
+            let new = e.each w.0 i here y.0 y.1 in
+            (log_view y.0, logs_row p logs ordered e.len w.0 i here ∙ slice_get-map log_view logs w.0 ∙ ap (option_map log_view) y.1, new.empty, let room = new.room reported in room)))));
+      };
+      going = refl;
+    }
 
 pub returns-clause-done : goal.returns-clause-done
 returns-clause-done c =
@@ -78,26 +90,3 @@ returns-clause-done c =
     ∙ ap (λ p. items_before job (streams_of job) s 0 p 0) c.rank-place.ensures
     ∙ before_skip job s ok 0 0 (rank_at c.args.program 0) (omega arith) at.0 at.1
     ∙ before_start job (streams_of job) s
-
-pub settle-requires-clause-logged : goal.settle-requires-clause-logged
-settle-requires-clause-logged c =
-    let job = c.args.inputs.job in
-    let s = c.args.inputs.site in
-    let p = c.args.program in
-    let logs = c.args.held.logs.items in
-    let e = c.requires in
-    let at = start_next p job s c.requires.plan_is c.requires.site_is in
-    let ok = c.requires.job in
-    let ordered = subst (λ (q : PlanView). IsOrdered q.flat) (sym c.requires.plan_is) ok.is_plan.ordered in
-    none_yet job s (logs_in p logs) 0 c.rank-place.result true
-    (subst (λ (r : ℕ). IsLogged job s (logs_in p logs) 0 r) (sym c.rank-place.ensures)
-    (logged_skip job s ok (logs_in p logs) 0 0 (rank_at p 0) (omega arith) at.1
-    (logged_new job s (logs_in p logs) (λ q lq. (there job s ok q lq).2)
-    (λ i li wanted.
-    let known : knows p.plan p.site i ≡ true = ap₂ (λ q k. knows q k i) c.requires.plan_is c.requires.site_is ∙ ap (λ b. b || is_some (link_into job.plan s i)) (wanted_known job s i ok li wanted) in
-    let w = places_has p ordered i (subst (λ (q : PlanView). i < flows_of q.flat) (sym c.requires.plan_is) li) known in
-    let here : slice_get (places_of p.plan p.site) w.0 ≡ Some i = slice_get-get_or (places_of p.plan p.site) w.0 0 w.1 ∙ ap Some w.2 in
-    let y = some_at logs w.0 (let n = e.len in let l = w.1 in omega (arith, l, n)) in
-    let reported = ap₂ (λ q k. (part_of q k i).reported) c.requires.plan_is c.requires.site_is ∙ wanted in
-    let new = e.each w.0 i here y.0 y.1 in
-    (log_view y.0, logs_row p logs ordered e.len w.0 i here ∙ slice_get-map log_view logs w.0 ∙ ap (option_map log_view) y.1, new.empty, let room = new.room reported in room)))))

@@ -10,4 +10,4 @@ returns-clause-when c =
     let a = c.self.inside.state in
     let i = c.self.invariant in
     let P : SiteView → Type 0 = λ v. IsSome a.fault ↔ ((v.done ≡ length (script v.job (streams_of v.job) v.site)) × (HasNoStop v.job v.site → ⊥)) in
-    subst P c.self.view_is (reported_stopped a i.stands, stopped_reported a i.set i.stands i.ready)
+    subst P c.self.view_is (reported_stopped a i.in_order.stands, stopped_reported a i.in_order.set i.in_order.stands i.ready)

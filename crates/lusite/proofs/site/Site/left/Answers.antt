@@ -10,7 +10,7 @@ returns-then-is_some-clause-left c =
     let a = c.self.inside.state in
     let i = c.self.invariant in
     let P : SiteView → Type 0 = λ v. 0 ≡ left_after (outline v.job (streams_of v.job)) v.site v.done in
-    subst P c.self.view_is (sym (state_faulted a c.recall_invariant.ensures i.set i.stands i.tells (sym c.is_some.ensures ∙ c.if-is_some.true)))
+    subst P c.self.view_is (sym (state_faulted a c.recall_invariant.ensures i.in_order.set i.in_order.stands i.tells (sym c.is_some.ensures ∙ c.if-is_some.true)))
 
 pub returns-then-is_some-clause-run : goal.returns-then-is_some-clause-run
 returns-then-is_some-clause-run c = subst (λ (v : SiteView). IsJobView v.job) c.self.view_is c.recall_invariant.ensures
@@ -19,7 +19,7 @@ pub left-requires : goal.left-requires
 left-requires c =
     let i = c.self.invariant in
     let goes = sym c.is_some.ensures ∙ c.if-is_some.false in
-    record { run = c.recall_invariant.ensures; set = i.set; stands = i.stands; going = goes; ready = i.ready goes }
+    record { run = c.recall_invariant.ensures; set = i.in_order.set; stands = i.in_order.stands; going = goes; ready = i.ready goes }
 
 pub returns-clause-left : goal.returns-clause-left
 returns-clause-left c =

@@ -7,5 +7,5 @@ use Rattle.lusite.proofs.site.Site.next.Goals as goal
 pub returns : goal.returns
 returns c =
     let a = c.self.inside.state in
-    let h = offer_is a c.self.invariant.set c.self.invariant.stands c.self.invariant.ready in
+    let h = offer_is a c.self.invariant.in_order.set c.self.invariant.in_order.stands c.self.invariant.ready in
     subst (λ (v : SiteView). IsNext v.job v.site v.done c.offer.result) c.self.view_is (subst (IsNext a.inputs.job a.inputs.site (done_of a)) (sym c.offer.ensures) h)

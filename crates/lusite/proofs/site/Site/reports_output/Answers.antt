@@ -8,4 +8,4 @@ pub returns : goal.returns
 returns c =
     let a = c.self.inside.state in
     let r = c.reports_output.result in
-    subst (λ (v : SiteView). r ≡ reports_output v.job.plan v.site c.args.k) c.self.view_is (c.reports_output.ensures ∙ reports_is a c.self.invariant.set c.args.k)
+    subst (λ (v : SiteView). r ≡ reports_output v.job.plan v.site c.args.k) c.self.view_is (c.reports_output.ensures ∙ reports_is a c.self.invariant.in_order.set c.args.k)

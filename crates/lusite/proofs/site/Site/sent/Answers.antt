@@ -12,32 +12,26 @@ sent-requires-clause-next c = subst (λ (v : SiteView). IsPutNext v.job v.site v
 pub sent-requires-clause-going : goal.sent-requires-clause-going
 sent-requires-clause-going c =
     let next = subst (λ (v : SiteView). IsPutNext v.job v.site v.done) (sym c.self.view_is) c.requires in
-    not_stopped c.self.inside.state _ c.self.invariant.stands next.1
+    record { in_order = c.self.invariant.in_order; going = not_stopped c.self.inside.state _ c.self.invariant.in_order.stands next.1 }
 
 pub sent-requires-clause-ready : goal.sent-requires-clause-ready
 sent-requires-clause-ready c =
     let next = subst (λ (v : SiteView). IsPutNext v.job v.site v.done) (sym c.self.view_is) c.requires in
-    c.self.invariant.ready (not_stopped c.self.inside.state _ c.self.invariant.stands next.1)
+    c.self.invariant.ready (not_stopped c.self.inside.state _ c.self.invariant.in_order.stands next.1)
 
 pub settle-requires : goal.settle-requires
 settle-requires c =
     let next = subst (λ (v : SiteView). IsPutNext v.job v.site v.done) (sym c.self.view_is) c.requires in
-    record {
-      set = c.sent.ensures.set;
-      stands = c.sent.ensures.stands;
-      logged = c.sent.ensures.logged;
-      going = ap is_some c.sent.ensures.fault ∙ not_stopped c.self.inside.state _ c.self.invariant.stands next.1;
-    }
+    let goes = not_stopped c.self.inside.state _ c.self.invariant.in_order.stands next.1 in
+    record { in_order = c.sent.ensures.goes_on.in_order; going = ap is_some c.sent.ensures.goes_on.fault ∙ goes }
 
 pub invariant_of-self : goal.invariant_of-self
 invariant_of-self c =
     let next = subst (λ (v : SiteView). IsPutNext v.job v.site v.done) (sym c.self.view_is) c.requires in
-    let goes = not_stopped c.self.inside.state _ c.self.invariant.stands next.1 in
+    let goes = not_stopped c.self.inside.state _ c.self.invariant.in_order.stands next.1 in
     record {
-      set = c.settle.ensures.set;
-      stands = c.settle.ensures.stands;
-      logged = c.settle.ensures.logged;
-      tells = λ fault e. absurd (false≢true (sym goes ∙ ap is_some (sym (c.settle.ensures.fault ∙ c.sent.ensures.fault) ∙ e)));
+      in_order = c.settle.ensures.goes_on.in_order;
+      tells = λ fault e. absurd (false≢true (sym goes ∙ ap is_some (sym (c.settle.ensures.goes_on.fault ∙ c.sent.ensures.goes_on.fault) ∙ e)));
       ready = λ _. c.settle.ensures.ready;
     }
 
@@ -47,8 +41,8 @@ returns c =
     let b = c.sent.new.self in
     let d = c.settle.new.self in
     let v = c.args.self.now in
-    let one = c.sent.ensures.same in
-    let two = c.settle.ensures.same in
+    let one = c.sent.ensures.goes_on.same in
+    let two = c.settle.ensures.goes_on.same in
     record {
       job = same_job a b d v c.self.view_is one two;
       site = same_site a b d v c.self.view_is one two;

@@ -12,22 +12,20 @@ work-requires-clause-next c = subst (λ (v : SiteView). IsLocalNext v.job v.site
 pub work-requires-clause-going : goal.work-requires-clause-going
 work-requires-clause-going c =
     let next = subst (λ (v : SiteView). IsLocalNext v.job v.site v.done) (sym c.self.view_is) c.requires in
-    not_stopped c.self.inside.state _ c.self.invariant.stands next.2
+    record { in_order = c.self.invariant.in_order; going = not_stopped c.self.inside.state _ c.self.invariant.in_order.stands next.2 }
 
 pub work-requires-clause-ready : goal.work-requires-clause-ready
 work-requires-clause-ready c =
     let next = subst (λ (v : SiteView). IsLocalNext v.job v.site v.done) (sym c.self.view_is) c.requires in
-    c.self.invariant.ready (not_stopped c.self.inside.state _ c.self.invariant.stands next.2)
+    c.self.invariant.ready (not_stopped c.self.inside.state _ c.self.invariant.in_order.stands next.2)
 
 pub settle-requires : goal.settle-requires
-settle-requires c = record { set = c.work.ensures.set; stands = c.work.ensures.stands; logged = c.work.ensures.logged; going = c.if-is_none.ensures }
+settle-requires c = record { in_order = c.work.ensures.in_order; going = c.if-is_none.ensures }
 
 pub invariant_of-self : goal.invariant_of-self
 invariant_of-self c = record {
-  set = c.settle.ensures.set;
-  stands = c.settle.ensures.stands;
-  logged = c.settle.ensures.logged;
-  tells = λ fault e. absurd (false≢true (sym c.if-is_none.ensures ∙ ap is_some (sym c.settle.ensures.fault ∙ e)));
+  in_order = c.settle.ensures.goes_on.in_order;
+  tells = λ fault e. absurd (false≢true (sym c.if-is_none.ensures ∙ ap is_some (sym c.settle.ensures.goes_on.fault ∙ e)));
   ready = λ _. c.settle.ensures.ready;
 }
 
@@ -38,7 +36,7 @@ returns-then-is_none c =
     let d = c.settle.new.self in
     let v = c.args.self.now in
     let one = c.work.ensures.same in
-    let two = c.settle.ensures.same in
+    let two = c.settle.ensures.goes_on.same in
     record {
       job = same_job a b d v c.self.view_is one two;
       site = same_site a b d v c.self.view_is one two;

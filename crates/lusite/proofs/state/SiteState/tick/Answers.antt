@@ -1,4 +1,4 @@
-use Rattle.std.proofs.Common.{◌≡◌, ℕ, ◌+◌, ◌<◌, List, length, Some, ap, sym, subst, ◌∙◌, slice_get, arith}
+use Rattle.std.proofs.Common.{◌≡◌, ℕ, ◌+◌, ◌<◌, List, length, Some, refl, ap, sym, subst, ◌∙◌, slice_get, arith}
 use Rattle.std.specs.Prelude.{not, slice_index}
 use Rattle.std.proofs.lemmas.Option.{slice_get-get_or}
 use Rattle.luflow.specs.declared.data.Status.{Status}
@@ -9,7 +9,7 @@ use Rattle.lusite.specs.Machine.{Stands, is_faulted, shown_of, pasts_of, kept_in
 use Rattle.lusite.specs.Logs.{logs_of}
 use Rattle.lusite_program.specs.Logs.{IsLogged}
 use Rattle.lusite_program.specs.Programs.{places_of}
-use Rattle.lusite.proofs.SiteStates.{going}
+use Rattle.lusite.proofs.SiteStates.{going_state}
 use Rattle.lusite.proofs.Held.{aged_pasts}
 use Rattle.lusite.proofs.Moves.{tick_next, tick_done, logged_first}
 use Rattle.lusite.proofs.Rows.{shown_row, past_row, later_row, later_len, few_rows, all_few}
@@ -18,37 +18,28 @@ use Rattle.lusite.proofs.state.SiteState.tick.Goals as goal
 
 pub age-requires-clause-lasts_len : goal.age-requires-clause-lasts_len
 age-requires-clause-lasts_len c =
-    let r = c.requires.set in
+    let r = c.requires.going.in_order.set in
     ap (λ (xs : List Cell). length xs) c.deref.ensures.value ∙ r.shown_fit ∙ sym r.lasts_fit
 
 pub age-requires-clause-counts_len : goal.age-requires-clause-counts_len
 age-requires-clause-counts_len c =
-    let r = c.requires.set in
+    let r = c.requires.going.in_order.set in
     ap (λ (xs : List Cell). length xs) c.deref.ensures.value ∙ r.shown_fit ∙ sym r.lasts_fit ∙ r.pasts_fit
 
 pub age-requires-clause-counts : goal.age-requires-clause-counts
-age-requires-clause-counts c = few_rows c.args.self.now c.requires.set c.args.self.now.instant c.requires.stands.counts
+age-requires-clause-counts c = few_rows c.args.self.now c.requires.going.in_order.set c.args.self.now.instant c.requires.going.in_order.stands.counts
 
-pub returns-clause-set : goal.returns-clause-set
-returns-clause-set c =
-    let r = c.requires.set in
-    record {
-      is_job = r.is_job;
-      plan_is = r.plan_is;
-      site_is = r.site_is;
-      rank_is = c.rank-self.ensures;
-      shown_fit = r.shown_fit;
-      lasts_fit = c.age.ensures.lasts_len ∙ r.lasts_fit;
-      pasts_fit = c.age.ensures.lasts_len ∙ r.pasts_fit ∙ sym c.age.ensures.counts_len;
-      logs_fit = r.logs_fit;
-      row_in = omega arith;
-    }
-
-pub returns-clause-stands : goal.returns-clause-stands
-returns-clause-stands c =
+pub returns-clause-done : goal.returns-clause-done
+returns-clause-done c =
     let a = c.args.self.now in
-    let set = c.requires.set in
-    let g = going a set c.requires.stands c.requires.going in
+    let g = going_state a c.requires.going in
+    ap (λ p. items_before a.inputs.job (streams_of a.inputs.job) a.inputs.site (a.instant + 1) p 0) c.rank-self.ensures ∙ tick_done a g c.requires.last c.requires.early
+
+pub returns-clause-goes_on : goal.returns-clause-goes_on
+returns-clause-goes_on c =
+    let a = c.args.self.now in
+    let set = c.requires.going.in_order.set in
+    let g = going_state a c.requires.going in
     let lasts = c.age.new.lasts.items in
     let counts = c.age.new.counts.items in
     let places = places_of a.program.plan a.program.site in
@@ -61,19 +52,24 @@ returns-clause-stands c =
     (λ u n eu en. c.age.ensures.counted k u n (ap (λ (xs : List Cell). slice_get xs k) c.deref.ensures.value ∙ eu) en)
     (sym (shown_row a set k (slice_index places k) here) ∙ ex) (sym (past_row a set k (slice_index places k) here) ∙ ey)) in
     let r = tick_next a g c.requires.last c.requires.early pasts (later_len a set lasts counts) each (all_few a set (a.instant + 1) lasts counts c.age.ensures.counts) in
-    subst (λ (p : ℕ). Stands a.inputs.job a.inputs.site (shown_of a) pasts (a.instant + 1) p 0 (is_faulted a)) (sym c.rank-self.ensures) r.0
-
-pub returns-clause-done : goal.returns-clause-done
-returns-clause-done c =
-    let a = c.args.self.now in
-    let set = c.requires.set in
-    let g = going a set c.requires.stands c.requires.going in
-    ap (λ p. items_before a.inputs.job (streams_of a.inputs.job) a.inputs.site (a.instant + 1) p 0) c.rank-self.ensures ∙ tick_done a g c.requires.last c.requires.early
-
-pub returns-clause-logged : goal.returns-clause-logged
-returns-clause-logged c =
-    let a = c.args.self.now in
-    let g = going a c.requires.set c.requires.stands c.requires.going in
-    let n = note_tick a g c.requires.last c.requires.early c.requires.logged in
-    none_yet a.inputs.job a.inputs.site (logs_of a) (a.instant + 1) c.rank-self.result (not (is_faulted a))
-    (subst (λ (p : ℕ). IsLogged a.inputs.job a.inputs.site (logs_of a) (a.instant + 1) p) (sym c.rank-self.ensures) (logged_first a g c.requires.last c.requires.early (logs_of a) n))
+    let n = note_tick a g c.requires.last c.requires.early c.requires.going.in_order.logged in
+    record {
+      same = record { program_is = refl; inputs_is = refl };
+      in_order = record {
+        set = record {
+          is_job = set.is_job;
+          plan_is = set.plan_is;
+          site_is = set.site_is;
+          rank_is = c.rank-self.ensures;
+          shown_fit = set.shown_fit;
+          lasts_fit = c.age.ensures.lasts_len ∙ set.lasts_fit;
+          pasts_fit = c.age.ensures.lasts_len ∙ set.pasts_fit ∙ sym c.age.ensures.counts_len;
+          logs_fit = set.logs_fit;
+          row_in = omega arith;
+        };
+        stands = subst (λ (p : ℕ). Stands a.inputs.job a.inputs.site (shown_of a) pasts (a.instant + 1) p 0 (is_faulted a)) (sym c.rank-self.ensures) r.0;
+        logged = none_yet a.inputs.job a.inputs.site (logs_of a) (a.instant + 1) c.rank-self.result (not (is_faulted a))
+            (subst (λ (p : ℕ). IsLogged a.inputs.job a.inputs.site (logs_of a) (a.instant + 1) p) (sym c.rank-self.ensures) (logged_first a g c.requires.last c.requires.early (logs_of a) n));
+      };
+      fault = refl;
+    }

@@ -1,4 +1,4 @@
-use Rattle.std.proofs.Common.{◌≡◌, List, map, set, refl, sym, ap, ◌∙◌, subst}
+use Rattle.std.proofs.Common.{◌≡◌, List, map, set, refl, sym, ap, ◌∙◌, subst, rules}
 use Rattle.std.specs.Prelude.{slice_index}
 use Rattle.std.proofs.lemmas.Option.{same_Some}
 use Rattle.luflow.specs.declared.data.Status.{Status}
@@ -12,7 +12,7 @@ use Rattle.lusite.specs.declared.next.Fault.{Fault}
 use Rattle.lueval_lines.specs.Cells.{statuses}
 use Rattle.lusite.specs.Machine.{Stands, Computes, IsFaultAt, is_faulted, pasts_of}
 use Rattle.lusite_program.specs.Logs.{log_view, logs_in, IsNoted}
-use Rattle.lusite.proofs.SiteStates.{going}
+use Rattle.lusite.proofs.SiteStates.{going_state}
 use Rattle.lusite.proofs.Held.{gives_datum}
 use Rattle.lusite.proofs.SiteFlows.{row_within}
 use Rattle.lusite.proofs.Rows.{shown_set, log_within, log_room, log_noted}
@@ -24,89 +24,94 @@ pub compute-answer-requires-clause-within : goal.compute-answer-requires-clause-
 compute-answer-requires-clause-within c =
     let a = c.args.self.now in
     let r = c.requires in
-    let g = going a r.set r.stands r.going in
-    row_within a r.set (here_from a (Compute r.next.0 r.next.1) g r.ready r.next.2).place_lt
+    let g = going_state a r.going in
+    row_within a r.going.in_order.set (here_from a (Compute r.next.0 r.next.1) g r.ready r.next.2).place_lt
 
 pub compute-answer-requires-clause-own : goal.compute-answer-requires-clause-own
 compute-answer-requires-clause-own c =
     let r = c.requires in
-    work_own c.args.self.now (going c.args.self.now r.set r.stands r.going) r.ready r.next
+    work_own c.args.self.now (going_state c.args.self.now r.going) r.ready r.next
 
 pub site_flow-requires-clause-within : goal.site_flow-requires-clause-within
 site_flow-requires-clause-within c =
     let a = c.args.self.now in
     let r = c.requires in
-    let g = going a r.set r.stands r.going in
-    row_within a r.set (here_from a (Compute r.next.0 r.next.1) g r.ready r.next.2).place_lt
+    let g = going_state a r.going in
+    row_within a r.going.in_order.set (here_from a (Compute r.next.0 r.next.1) g r.ready r.next.2).place_lt
 
 pub noted-wanted-requires-clause-within : goal.noted-wanted-requires-clause-within
 noted-wanted-requires-clause-within c =
     let a = c.args.self.now in
     let r = c.requires in
-    let g = going a r.set r.stands r.going in
-    row_within a r.set (here_from a (Compute r.next.0 r.next.1) g r.ready r.next.2).place_lt
+    let g = going_state a r.going in
+    row_within a r.going.in_order.set (here_from a (Compute r.next.0 r.next.1) g r.ready r.next.2).place_lt
 
 pub note-requires-clause-within : goal.note-requires-clause-within
 note-requires-clause-within c _ =
     let a = c.args.self.now in
     let r = c.requires in
-    log_within a r.set (row_within a r.set (here_from a (Compute r.next.0 r.next.1) (going a r.set r.stands r.going) r.ready r.next.2).place_lt)
+    log_within a r.going.in_order.set (row_within a r.going.in_order.set (here_from a (Compute r.next.0 r.next.1) (going_state a r.going) r.ready r.next.2).place_lt)
 
 pub note-requires-clause-room : goal.note-requires-clause-room
 note-requires-clause-room c on =
     let a = c.args.self.now in
     let r = c.requires in
-    let g = going a r.set r.stands r.going in
+    let g = going_state a r.going in
     let i = slice_index a.program.plan.flat.order a.place in
     let is : Outcome → Type 0 = Computes a i (flow_at a.program.plan.flat i) in
     let go = gives_datum c.in-Gives.cell (λ e. work_stuck a g r.ready r.next (subst is e c.in-Gives.ensures)) in
     let d = go.0 in
     let computes : is (Gives d) = subst is (ap gives go.1) c.in-Gives.ensures in
     let w = work_at a (Gives d) g r.ready r.next computes in
-    log_room a r.set (row_within a r.set w.0) (note_room a g (place_in_plan a g w.0) r.logged w.1.first (sym c.noted-wanted.ensures ∙ on)).1
+    log_room a r.going.in_order.set (row_within a r.going.in_order.set w.0) (note_room a g (place_in_plan a g w.0) r.going.in_order.logged w.1.first (sym c.noted-wanted.ensures ∙ on)).1
 
 pub unreachable-requires : goal.unreachable-requires
 unreachable-requires c =
     let a = c.args.self.now in
     let r = c.requires in
-    work_stuck a (going a r.set r.stands r.going) r.ready r.next c.in-Stuck.ensures
+    work_stuck a (going_state a r.going) r.ready r.next c.in-Stuck.ensures
 
-pub returns-in-Gives-clause-set : goal.returns-in-Gives-clause-set
-returns-in-Gives-clause-set c =
-    let a = c.args.self.now in
-    let r = c.requires.set in
-    record {
-      is_job = r.is_job;
-      plan_is = r.plan_is;
-      site_is = r.site_is;
-      rank_is = r.rank_is;
-      shown_fit = c.show.ensures.len ∙ r.shown_fit;
-      lasts_fit = r.lasts_fit;
-      pasts_fit = r.pasts_fit;
-      logs_fit = c.note.ensures.len ∙ r.logs_fit;
-      row_in = r.row_in;
-    }
-
-pub returns-in-Gives-clause-stands : goal.returns-in-Gives-clause-stands
-returns-in-Gives-clause-stands c =
+pub returns-in-Gives-clause-in_order : goal.returns-in-Gives-clause-in_order
+returns-in-Gives-clause-in_order c =
     let a = c.args.self.now in
     let r = c.requires in
-    let g = going a r.set r.stands r.going in
+    let g = going_state a r.going in
+    let fits = r.going.in_order.set in
     let i = slice_index a.program.plan.flat.order a.place in
     let is : Outcome → Type 0 = Computes a i (flow_at a.program.plan.flat i) in
     let go = gives_datum c.in-Gives.cell (λ e. work_stuck a g r.ready r.next (subst is e c.in-Gives.ensures)) in
     let d = go.0 in
     let computes : is (Gives d) = subst is (ap gives go.1) c.in-Gives.ensures in
-    let l = row_within a r.set (here_from a (Compute r.next.0 r.next.1) g r.ready r.next.2).place_lt in
-    let e = shown_set a r.set l c.show.new.shown.items (Present d) (c.show.ensures.shown ∙ ap (λ (s : Status). set (statuses a.shown.items) a.row s) go.2) in
-    subst (λ (xs : List Status). Stands a.inputs.job a.inputs.site xs (pasts_of a) a.instant a.place 1 (is_faulted a)) (sym e)
-    (work_gives a d g r.ready r.next computes).0
+    let w = work_at a (Gives d) g r.ready r.next computes in
+    let l = row_within a fits w.0 in
+    let shows = shown_set a fits l c.show.new.shown.items (Present d) (c.show.ensures.shown ∙ ap (λ (s : Status). set (statuses a.shown.items) a.row s) go.2) in
+    let e = c.noted-wanted.ensures in
+    let reported : c.status.result ≡ Present d = c.status.ensures ∙ go.2 in
+    let logs = c.note.new.logs.items in
+    record {
+      set = record {
+        is_job = fits.is_job;
+        plan_is = fits.plan_is;
+        site_is = fits.site_is;
+        rank_is = fits.rank_is;
+        shown_fit = c.show.ensures.len ∙ fits.shown_fit;
+        lasts_fit = fits.lasts_fit;
+        pasts_fit = fits.pasts_fit;
+        logs_fit = c.note.ensures.len ∙ fits.logs_fit;
+        row_in = fits.row_in;
+      };
+      stands = subst (λ (xs : List Status). Stands a.inputs.job a.inputs.site xs (pasts_of a) a.instant a.place 1 (is_faulted a)) (sym shows)
+          (work_gives a d g r.ready r.next computes).0;
+      logged = noted_step a (logs_in a.program logs) g
+          (note_here a g (place_in_plan a g w.0) r.going.in_order.logged (Present d) (logs_in a.program logs) w.1.first (λ off. ap (logs_in a.program) (c.note.ensures.left (e ∙ off))) (λ _. w.1.works.mark)
+          (λ on. log_noted a fits l logs (Present d) (λ x ex. subst (λ (s : Status). IsNoted (map log_view a.logs.items) a.row (log_view x) s (map log_view logs)) reported (c.note.ensures.noted (e ∙ on) x ex))));
+    }
 
 pub returns-in-Gives-clause-done : goal.returns-in-Gives-clause-done
 returns-in-Gives-clause-done c =
     let a = c.args.self.now in
     let r = c.requires in
-    let g = going a r.set r.stands r.going in
+    let g = going_state a r.going in
     let i = slice_index a.program.plan.flat.order a.place in
     let is : Outcome → Type 0 = Computes a i (flow_at a.program.plan.flat i) in
     let go = gives_datum c.in-Gives.cell (λ e. work_stuck a g r.ready r.next (subst is e c.in-Gives.ensures)) in
@@ -114,45 +119,25 @@ returns-in-Gives-clause-done c =
     let computes : is (Gives d) = subst is (ap gives go.1) c.in-Gives.ensures in
     (work_gives a d g r.ready r.next computes).1
 
-pub returns-in-Gives-clause-logged : goal.returns-in-Gives-clause-logged
-returns-in-Gives-clause-logged c =
+pub returns-in-Faults-clause-in_order : goal.returns-in-Faults-clause-in_order
+returns-in-Faults-clause-in_order c =
     let a = c.args.self.now in
     let r = c.requires in
-    let g = going a r.set r.stands r.going in
-    let i = slice_index a.program.plan.flat.order a.place in
-    let is : Outcome → Type 0 = Computes a i (flow_at a.program.plan.flat i) in
-    let go = gives_datum c.in-Gives.cell (λ e. work_stuck a g r.ready r.next (subst is e c.in-Gives.ensures)) in
-    let d = go.0 in
-    let computes : is (Gives d) = subst is (ap gives go.1) c.in-Gives.ensures in
-    let w = work_at a (Gives d) g r.ready r.next computes in
-    let e = c.noted-wanted.ensures in
-    let reported : c.status.result ≡ Present d = c.status.ensures ∙ go.2 in
-    let logs = c.note.new.logs.items in
-    noted_step a (logs_in a.program logs) g
-    (note_here a g (place_in_plan a g w.0) r.logged (Present d) (logs_in a.program logs) w.1.first (λ off. ap (logs_in a.program) (c.note.ensures.left (e ∙ off))) (λ _. w.1.works.mark)
-    (λ on. log_noted a r.set (row_within a r.set w.0) logs (Present d) (λ x ex. subst (λ (s : Status). IsNoted (map log_view a.logs.items) a.row (log_view x) s (map log_view logs)) reported (c.note.ensures.noted (e ∙ on) x ex))))
-
-pub returns-in-Faults-clause-stands : goal.returns-in-Faults-clause-stands
-returns-in-Faults-clause-stands c =
-    let a = c.args.self.now in
-    let r = c.requires in
+    let g = going_state a r.going in
     let k = c.in-Faults.kind in
-    (work_faults a k (going a r.set r.stands r.going) r.ready r.next c.in-Faults.ensures).0
+    let w = work_at a (Faults k) g r.ready r.next c.in-Faults.ensures in
+    record {
+      set = search rules;
+      stands = (work_faults a k g r.ready r.next c.in-Faults.ensures).0;
+      logged = note_fault a r.going.in_order.logged w.1.first;
+    }
 
 pub returns-in-Faults-clause-done : goal.returns-in-Faults-clause-done
 returns-in-Faults-clause-done c =
     let a = c.args.self.now in
     let r = c.requires in
     let k = c.in-Faults.kind in
-    (work_faults a k (going a r.set r.stands r.going) r.ready r.next c.in-Faults.ensures).1
-
-pub returns-in-Faults-clause-logged : goal.returns-in-Faults-clause-logged
-returns-in-Faults-clause-logged c =
-    let a = c.args.self.now in
-    let r = c.requires in
-    let k = c.in-Faults.kind in
-    let w = work_at a (Faults k) (going a r.set r.stands r.going) r.ready r.next c.in-Faults.ensures in
-    note_fault a r.logged w.1.first
+    (work_faults a k (going_state a r.going) r.ready r.next c.in-Faults.ensures).1
 
 pub returns-in-Faults-clause-tells : goal.returns-in-Faults-clause-tells
 returns-in-Faults-clause-tells c fault e =
@@ -161,4 +146,4 @@ returns-in-Faults-clause-tells c fault e =
     let k = c.in-Faults.kind in
     let reported : Fault = record { variable = c.site_flow.result.now.owner; instant = a.instant; kind = k } in
     subst (λ (f : Fault). IsFaultAt a.inputs.job a.inputs.site f) (same_Some reported fault e)
-    (work_fault a reported (going a r.set r.stands r.going) r.ready r.next c.in-Faults.ensures c.site_flow.ensures.2.owner refl)
+    (work_fault a reported (going_state a r.going) r.ready r.next c.in-Faults.ensures c.site_flow.ensures.2.owner refl)
