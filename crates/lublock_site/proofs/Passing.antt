@@ -55,7 +55,7 @@ brought_none flat i board x x' flow closed got has = record {
 }
 
 pub brought_same : (flat : FlatView) (i : ℕ) (board : Board) (x : Source) → HasBrought flat i board x board x
-brought_same flat i board x = brought_none flat i board x x refl refl refl (refl, refl, refl)
+brought_same flat i board x = brought_none flat i board x x refl refl refl (refl, refl, refl, refl)
 
 pub brought_more : (flat : FlatView) (i : ℕ) (a : Board) (x : Source) (b : Board) (y : Source) (c : Board) (z : Source) → HasBrought flat i a x b y → HasBrought flat i b y c z → HasBrought flat i a x c z
 brought_more flat i a x b y c z f g = record {
@@ -121,7 +121,7 @@ sends_still job t i n s s' has sends = record {
 }
 
 pub put_nothing : (s s' s'' : SenderView) → HasPutNothing s s' → HasPutNothing s' s'' → HasPutNothing s s''
-put_nothing s s' s'' f g = (g.0 ∙ f.0, g.1 ∙ f.1, g.2 ∙ f.2)
+put_nothing s s' s'' f g = (g.0 ∙ f.0, g.1 ∙ f.1, g.2 ∙ f.2, g.3 ∙ f.3)
 
 pub sent_none : (flat : FlatView) (x x' : Outlet) → x'.flow ≡ x.flow → x'.sent ≡ x.sent → x'.number ≡ x.number → x'.closed ≡ x.closed → HasPutNothing x.tx x'.tx → HasSent flat x x'
 sent_none flat x x' flow sent number closed has = record {

@@ -6,7 +6,6 @@ use Rattle.std.proofs.lemmas.Option.{slice_get_within}
 use Rattle.std.proofs.lemmas.List.{length-take-le, take_all}
 use Rattle.atomic_table.specs.Table.{Me}
 use Rattle.atomic_table.specs.Seated.{TableId}
-use Rattle.atomic_table.specs.declared.shared.Seat.{Seat as TableSeat}
 use Rattle.luflow.specs.declared.message.Msg.{Msg}
 use Rattle.lulink.specs.declared.put_side.PutSide.{PutSide}
 use Rattle.lulink.specs.declared.take_side.TakeSide.{TakeSide}
@@ -15,17 +14,14 @@ use Rattle.lulink.specs.declared.receiver.Rx.TheInside as rx
 use Rattle.lulink.specs.declared.rule.EndState.{EndState}
 use Rattle.lulink.specs.declared.rule.Terms.{Terms}
 use Rattle.lulink.specs.declared.rule.Role.TheVariants.{Producer, Consumer}
-use Rattle.lulink.specs.Words.{number, IsFinal}
-use Rattle.lulink.specs.Rings.{full_slots, free_slots, fresh, seated, MovedTail, MovedHead, Looked}
+use Rattle.lulink.specs.Words.{number, IsFinal, IsLastSeen, HasSeen, RestsOn}
+use Rattle.lulink.specs.Rings.{full_slots, free_slots, readied, IsLater, MovedTail, MovedHead, Looked}
 use Rattle.lulink.specs.Views.{SenderView, IsNextToPut, AreNextToPut, HasPutAll, IsRunTaken, IsWholeAtClose}
-use Rattle.lulink.specs.Seen.{put_one, took_one, OfferedRun, PolledRun}
-use Rattle.lulink.specs.Insides.{given_list, sender_view, receiver_view, IsSender, IsReceiver, IsRing, IsPutSide, IsTakeSide}
+use Rattle.lulink.specs.Seen.{PutOne, TookOne, OfferedRun, PolledRun}
+use Rattle.lulink.specs.Insides.{RingSeat, given_list, sender_view, receiver_view, IsSender, IsReceiver, IsRing, IsNewSeat, IsPutSide, IsTakeSide}
 use Rattle.lulink.proofs.Closing.{close_long}
 use Rattle.lulink.proofs.Parts.{take_next, element, take_run, at_drop, at_take}
 use Rattle.lulink.proofs.Steps.{final_again}
-
-abbrev pub SeatOfRing : Type 0
-SeatOfRing = TableSeat (Option Msg) EndState
 
 abbrev pub Holding : Type 0
 Holding = Me (Option Msg) EndState
@@ -57,30 +53,35 @@ module _ (at : TableId) (k : Terms) (s : PutSide) (is : IsPutSide at k s) where
   pub put_slots : s.seat.me.1 ≡ free_slots s.seat.me.0.room s.seat.me.0.count s.seat.me.0.held
   put_slots = is.slots ∙ (λ i. free_slots (sym is.ends.1 i) (sym is.count i) (sym is.held i))
 
+  -- after a load
+  pub put_side_loaded : (seat : RingSeat) → seat.table_id ≡ s.seat.table_id → (n held : ℕ) → seat.me ≡ (readied s.seat.me.0 n held, free_slots k.capacity s.count held) → IsFinal s.seat.me.0.seen n → s.count + held ≤ number n + k.capacity
+      → IsPutSide at k record { seat = seat; count = s.count; slot = s.slot; word = n; held = held }
+  put_side_loaded seat table n held me final room = record {
+    ring = is.ring;
+    table = table ∙ is.table;
+    ends = (ap (λ (m : Holding). m.0.role) me ∙ is.ends.0, ap (λ (m : Holding). m.0.room) me ∙ is.ends.1, ap (λ (m : Holding). m.0.list) me ∙ is.ends.2);
+    here = ap (λ (m : Holding). m.0.left) me ∙ is.here;
+    count = ap (λ (m : Holding). m.0.count) me ∙ is.count;
+    slot = is.slot;
+    word = ap (λ (m : Holding). m.0.last) me;
+    last = λ any. (s.seat.me.0.seen, ap (λ (m : Holding). m.0.seen) me);
+    final = final_with s.seat.me.0.seen seat.me.0.seen n (ap (λ (m : Holding). m.0.seen) me) final;
+    begins = is.begins;
+    held = ap (λ (m : Holding). m.0.held) me;
+    slots = ap (λ (m : Holding). m.1) me;
+    room = room;
+  }
+
   -- after a look that took no slot
-  pub put_side_looked : (seat : SeatOfRing) → seat.table_id ≡ s.seat.table_id → (n : ℕ) → Looked s.seat.me n seat.me → IsFinal s.seat.me.0.seen n → IsPutSide at k record { seat = seat; count = s.count; slot = s.slot; word = n; held = s.held }
+  pub put_side_looked : (seat : RingSeat) → seat.table_id ≡ s.seat.table_id → (n : ℕ) → Looked s.seat.me n seat.me → IsFinal s.seat.me.0.seen n → IsPutSide at k record { seat = seat; count = s.count; slot = s.slot; word = n; held = s.held }
   put_side_looked seat table n look final =
-      let me = look.0 in
       let later = look.1.0 in
       let word = ap number is.word in
       let room = is.room in
-      record {
-        ring = is.ring;
-        table = table ∙ is.table;
-        ends = (ap (λ (m : Holding). m.0.role) me ∙ is.ends.0, ap (λ (m : Holding). m.0.room) me ∙ is.ends.1, ap (λ (m : Holding). m.0.list) me ∙ is.ends.2);
-        here = ap (λ (m : Holding). m.0.left) me ∙ is.here;
-        count = ap (λ (m : Holding). m.0.count) me ∙ is.count;
-        slot = is.slot;
-        word = ap (λ (m : Holding). m.0.last) me;
-        final = final_with s.seat.me.0.seen seat.me.0.seen n (ap (λ (m : Holding). m.0.seen) me) final;
-        begins = is.begins;
-        held = ap (λ (m : Holding). m.0.held) me ∙ is.held;
-        slots = ap (λ (m : Holding). m.1) me ∙ is.slots;
-        room = omega arith;
-      }
+      put_side_loaded seat table n s.held (look.0 ∙ (λ i. (readied s.seat.me.0 n (is.held i), is.slots i))) final (omega arith)
 
   -- after some messages were passed
-  pub put_side_moved : (seat : SeatOfRing) → seat.table_id ≡ s.seat.table_id → (n slot : ℕ) → n ≤ s.held → s.count + n ≤ length (given_list k) → slot ≡ (s.count + n) % k.capacity → MovedTail s.seat.me.0 n seat.me
+  pub put_side_moved : (seat : RingSeat) → seat.table_id ≡ s.seat.table_id → (n slot : ℕ) → n ≤ s.held → s.count + n ≤ length (given_list k) → slot ≡ (s.count + n) % k.capacity → MovedTail s.seat.me.0 n seat.me
       → IsPutSide at k record { seat = seat; count = s.count + n; slot = slot; word = s.word; held = s.held - n }
   put_side_moved seat table n slot few within place me =
       let room = is.room in
@@ -92,7 +93,8 @@ module _ (at : TableId) (k : Terms) (s : PutSide) (is : IsPutSide at k s) where
         count = ap (λ (m : Holding). m.0.count) me ∙ ap (λ m. m + n) is.count;
         slot = place;
         word = ap (λ (m : Holding). m.0.last) me ∙ is.word;
-        final = final_with s.seat.me.0.seen seat.me.0.seen s.word (ap (λ (m : Holding). m.0.seen) me ∙ (λ i. s.seat.me.0.seen ++ is.word i ∷ [])) is.final;
+        last = λ any. subst (λ l. IsLastSeen l s.word) (sym (ap (λ (m : Holding). m.0.seen) me)) (is.last (omega arith));
+        final = subst (λ l. IsFinal l s.word) (sym (ap (λ (m : Holding). m.0.seen) me)) is.final;
         begins = within;
         held = ap (λ (m : Holding). m.0.held) me ∙ ap (λ m. m - n) is.held;
         slots = ap (λ (m : Holding). m.1) me ∙ (λ i. free_slots (is.ends.1 i) (is.count i + n) (is.held i - n));
@@ -104,14 +106,11 @@ module _ (at : TableId) (k : Terms) (s : TakeSide) (is : IsTakeSide at k s) wher
   pub take_slots : s.seat.me.1 ≡ full_slots s.seat.me.0.list s.seat.me.0.room s.seat.me.0.count s.seat.me.0.held
   take_slots = is.slots ∙ (λ i. full_slots (sym is.ends.2 i) (sym is.ends.1 i) (sym is.count i) (sym is.held i))
 
-  -- after a look that took no slot
-  pub take_side_looked : (seat : SeatOfRing) → seat.table_id ≡ s.seat.table_id → (n : ℕ) → Looked s.seat.me n seat.me → IsFinal s.seat.me.0.seen n → IsTakeSide at k record { seat = seat; count = s.count; slot = s.slot; word = n; held = s.held }
-  take_side_looked seat table n look final =
-      let me = look.0 in
-      let later = look.1.0 in
-      let most = look.1.1 in
-      let word = ap number is.word in
-      let put = is.put in
+  -- after a load
+  pub take_side_loaded : (seat : RingSeat) → seat.table_id ≡ s.seat.table_id → (n held : ℕ) → seat.me ≡ (readied s.seat.me.0 n held, full_slots (given_list k) k.capacity s.count held) → IsLater s.seat.me.0 n → IsFinal s.seat.me.0.seen n → s.count + held ≤ number n
+      → IsTakeSide at k record { seat = seat; count = s.count; slot = s.slot; word = n; held = held }
+  take_side_loaded seat table n held me later final put =
+      let most = later.1 in
       let lists = ap length is.ends.2 in
       record {
         ring = is.ring;
@@ -121,16 +120,25 @@ module _ (at : TableId) (k : Terms) (s : TakeSide) (is : IsTakeSide at k s) wher
         count = ap (λ (m : Holding). m.0.count) me ∙ is.count;
         slot = is.slot;
         word = ap (λ (m : Holding). m.0.last) me;
+        last = λ any. (s.seat.me.0.seen, ap (λ (m : Holding). m.0.seen) me);
         final = final_with s.seat.me.0.seen seat.me.0.seen n (ap (λ (m : Holding). m.0.seen) me) final;
         begins = is.begins;
-        held = ap (λ (m : Holding). m.0.held) me ∙ is.held;
-        slots = ap (λ (m : Holding). m.1) me ∙ is.slots;
-        put = omega arith;
+        held = ap (λ (m : Holding). m.0.held) me;
+        slots = ap (λ (m : Holding). m.1) me;
+        put = put;
         listed = omega arith;
       }
 
+  -- after a look that took no slot
+  pub take_side_looked : (seat : RingSeat) → seat.table_id ≡ s.seat.table_id → (n : ℕ) → Looked s.seat.me n seat.me → IsFinal s.seat.me.0.seen n → IsTakeSide at k record { seat = seat; count = s.count; slot = s.slot; word = n; held = s.held }
+  take_side_looked seat table n look final =
+      let later = look.1.0 in
+      let word = ap number is.word in
+      let put = is.put in
+      take_side_loaded seat table n s.held (look.0 ∙ (λ i. (readied s.seat.me.0 n (is.held i), is.slots i))) look.1 final (omega arith)
+
   -- after some messages were passed
-  pub take_side_moved : (seat : SeatOfRing) → seat.table_id ≡ s.seat.table_id → (n slot : ℕ) → n ≤ s.held → slot ≡ (s.count + n) % k.capacity → MovedHead s.seat.me.0 n seat.me
+  pub take_side_moved : (seat : RingSeat) → seat.table_id ≡ s.seat.table_id → (n slot : ℕ) → n ≤ s.held → slot ≡ (s.count + n) % k.capacity → MovedHead s.seat.me.0 n seat.me
       → IsTakeSide at k record { seat = seat; count = s.count + n; slot = slot; word = s.word; held = s.held - n }
   take_side_moved seat table n slot few place me =
       let put = is.put in
@@ -143,7 +151,8 @@ module _ (at : TableId) (k : Terms) (s : TakeSide) (is : IsTakeSide at k s) wher
         count = ap (λ (m : Holding). m.0.count) me ∙ ap (λ m. m + n) is.count;
         slot = place;
         word = ap (λ (m : Holding). m.0.last) me ∙ is.word;
-        final = final_with s.seat.me.0.seen seat.me.0.seen s.word (ap (λ (m : Holding). m.0.seen) me ∙ (λ i. s.seat.me.0.seen ++ is.word i ∷ [])) is.final;
+        last = λ any. subst (λ l. IsLastSeen l s.word) (sym (ap (λ (m : Holding). m.0.seen) me)) (is.last (omega arith));
+        final = subst (λ l. IsFinal l s.word) (sym (ap (λ (m : Holding). m.0.seen) me)) is.final;
         begins = omega arith;
         held = ap (λ (m : Holding). m.0.held) me ∙ ap (λ m. m - n) is.held;
         slots = ap (λ (m : Holding). m.1) me ∙ (λ i. full_slots (is.ends.2 i) (is.ends.1 i) (is.count i + n) (is.held i - n));
@@ -151,18 +160,18 @@ module _ (at : TableId) (k : Terms) (s : TakeSide) (is : IsTakeSide at k s) wher
         listed = is.listed;
       }
 
-pub sender_moved : (t : tx.Inside) (side : PutSide) (w : ℕ) (x : Msg) → side.count ≡ t.side.count + 1 → side.seat.me.0.seen ≡ t.side.seat.me.0.seen ++ w ∷ [] → slice_get (given_list (arc_value t.ring).shared.key) t.side.count ≡ Some x
-    → sender_view record { ring = t.ring; side = side; link = t.link } ≡ put_one (sender_view t) w x
-sender_moved t side w x more seen next = let k = (arc_value t.ring).shared.key in (λ i. record { job = k.job.value; link = k.link; capacity = k.capacity; put = (ap (λ n. take n (given_list k)) more ∙ take_next (given_list k) t.side.count x next) i; seen = seen i })
+pub sender_moved : (t : tx.Inside) (side : PutSide) (w : ℕ) (x : Msg) → side.count ≡ t.side.count + 1 → RestsOn t.side.seat.me.0.seen w side.seat.me.0.seen → slice_get (given_list (arc_value t.ring).shared.key) t.side.count ≡ Some x
+    → PutOne x (sender_view t) w (sender_view record { ring = t.ring; side = side; link = t.link })
+sender_moved t side w x more rests next = let list = given_list (arc_value t.ring).shared.key in ((refl, refl, ap (λ n. take n list) more ∙ take_next list t.side.count x next, refl), refl, rests)
 
-pub receiver_moved : (t : rx.Inside) (side : TakeSide) (w : ℕ) (x : Msg) → side.count ≡ t.side.count + 1 → side.seat.me.0.seen ≡ t.side.seat.me.0.seen ++ w ∷ [] → slice_get (given_list (arc_value t.ring).shared.key) t.side.count ≡ Some x
-    → receiver_view record { ring = t.ring; side = side; link = t.link } ≡ took_one (receiver_view t) w x
-receiver_moved t side w x more seen next = let k = (arc_value t.ring).shared.key in (λ i. record { job = k.job.value; link = k.link; capacity = k.capacity; taken = (ap (λ n. take n (given_list k)) more ∙ take_next (given_list k) t.side.count x next) i; seen = seen i })
+pub receiver_moved : (t : rx.Inside) (side : TakeSide) (w : ℕ) (x : Msg) → side.count ≡ t.side.count + 1 → RestsOn t.side.seat.me.0.seen w side.seat.me.0.seen → slice_get (given_list (arc_value t.ring).shared.key) t.side.count ≡ Some x
+    → TookOne x (receiver_view t) w (receiver_view record { ring = t.ring; side = side; link = t.link })
+receiver_moved t side w x more rests next = let list = given_list (arc_value t.ring).shared.key in ((refl, refl, ap (λ n. take n list) more ∙ take_next list t.side.count x next, refl), refl, rests)
 
 -- after a run
 pub sender_ran : (t : tx.Inside) (side : PutSide) (n : ℕ) (xs : List Msg) → side.count ≡ t.side.count + n → n ≤ length xs → ((k : ℕ) (x : Msg) → slice_get xs k ≡ Some x → slice_get (given_list (arc_value t.ring).shared.key) (t.side.count + k) ≡ Some x)
     → HasPutAll (take n xs) (sender_view t) (sender_view record { ring = t.ring; side = side; link = t.link })
-sender_ran t side n xs more few next = let list = given_list (arc_value t.ring).shared.key in (refl, refl, ap (λ m. take m list) more ∙ take_run t.side.count n list xs few next)
+sender_ran t side n xs more few next = let list = given_list (arc_value t.ring).shared.key in (refl, refl, ap (λ m. take m list) more ∙ take_run t.side.count n list xs few next, refl)
 
 -- how many messages contracts see
 pub put_length : (t : tx.Inside) → IsSender t → length (sender_view t).put ≡ t.side.count
@@ -172,57 +181,75 @@ pub taken_length : (t : rx.Inside) → IsReceiver t → length (receiver_view t)
 taken_length t is = length-take-le t.side.count (given_list (arc_value t.ring).shared.key) is.side.begins
 
 -- the sides of a new ring
-pub new_put_side : (at : TableId) (key k : Terms) (s : PutSide) → key ≡ k → IsRing at k → s.seat.table_id ≡ at → s.seat.me ≡ (seated Producer (fresh k.capacity (given_list k)), []) → s.count ≡ 0 → s.slot ≡ 0 → s.word ≡ 0 → s.held ≡ 0 → IsPutSide at key s
-new_put_side at key k s same ring table me none first word idle =
+pub new_put_side : (at : TableId) (k : Terms) (seat : RingSeat) → IsRing at k → IsNewSeat Producer at k seat → IsPutSide at k record { seat = seat; count = 0; slot = 0; word = 0; held = 0 }
+new_put_side at k seat ring new =
+    let me = new.1 in
     let room = ring.room in
-    subst (λ (x : Terms). IsPutSide at x s) (sym same) record {
+    record {
       ring = ring;
-      table = table;
+      table = new.0;
       ends = (ap (λ (m : Holding). m.0.role) me, ap (λ (m : Holding). m.0.room) me, ap (λ (m : Holding). m.0.list) me);
       here = ap (λ (m : Holding). m.0.left) me;
-      count = ap (λ (m : Holding). m.0.count) me ∙ sym none;
-      slot = first ∙ sym (mod-eq_of_lt room) ∙ ap (λ n. n % k.capacity) (sym none);
-      word = ap (λ (m : Holding). m.0.last) me ∙ sym word;
-      final = subst (λ l. IsFinal l s.word) (sym (ap (λ (m : Holding). m.0.seen) me)) (λ n d h on. absurd (omega arith));
+      count = ap (λ (m : Holding). m.0.count) me;
+      slot = sym (mod-eq_of_lt room);
+      word = ap (λ (m : Holding). m.0.last) me;
+      last = λ any. absurd (omega arith);
+      final = subst (λ l. IsFinal l 0) (sym (ap (λ (m : Holding). m.0.seen) me)) (λ n d h on. absurd (omega arith));
       begins = omega arith;
-      held = ap (λ (m : Holding). m.0.held) me ∙ sym idle;
-      slots = ap (λ (m : Holding). m.1) me ∙ ap (λ n. free_slots k.capacity s.count n) (sym idle);
+      held = ap (λ (m : Holding). m.0.held) me;
+      slots = ap (λ (m : Holding). m.1) me;
       room = omega arith;
     }
 
-pub new_take_side : (at : TableId) (key k : Terms) (s : TakeSide) → key ≡ k → IsRing at k → s.seat.table_id ≡ at → s.seat.me ≡ (seated Consumer (fresh k.capacity (given_list k)), []) → s.count ≡ 0 → s.slot ≡ 0 → s.word ≡ 0 → s.held ≡ 0 → IsTakeSide at key s
-new_take_side at key k s same ring table me none first word idle =
+pub new_take_side : (at : TableId) (k : Terms) (seat : RingSeat) → IsRing at k → IsNewSeat Consumer at k seat → IsTakeSide at k record { seat = seat; count = 0; slot = 0; word = 0; held = 0 }
+new_take_side at k seat ring new =
+    let me = new.1 in
     let room = ring.room in
-    subst (λ (x : Terms). IsTakeSide at x s) (sym same) record {
+    record {
       ring = ring;
-      table = table;
+      table = new.0;
       ends = (ap (λ (m : Holding). m.0.role) me, ap (λ (m : Holding). m.0.room) me, ap (λ (m : Holding). m.0.list) me);
       here = ap (λ (m : Holding). m.0.left) me;
-      count = ap (λ (m : Holding). m.0.count) me ∙ sym none;
-      slot = first ∙ sym (mod-eq_of_lt room) ∙ ap (λ n. n % k.capacity) (sym none);
-      word = ap (λ (m : Holding). m.0.last) me ∙ sym word;
-      final = subst (λ l. IsFinal l s.word) (sym (ap (λ (m : Holding). m.0.seen) me)) (λ n d h on. absurd (omega arith));
+      count = ap (λ (m : Holding). m.0.count) me;
+      slot = sym (mod-eq_of_lt room);
+      word = ap (λ (m : Holding). m.0.last) me;
+      last = λ any. absurd (omega arith);
+      final = subst (λ l. IsFinal l 0) (sym (ap (λ (m : Holding). m.0.seen) me)) (λ n d h on. absurd (omega arith));
       begins = omega arith;
-      held = ap (λ (m : Holding). m.0.held) me ∙ sym idle;
-      slots = ap (λ (m : Holding). m.1) me ∙ ap (λ n. full_slots (given_list k) k.capacity s.count n) (sym idle);
+      held = ap (λ (m : Holding). m.0.held) me;
+      slots = ap (λ (m : Holding). m.1) me;
       put = omega arith;
-      listed = let none : number s.word ≡ 0 = ap number word in omega arith;
+      listed = omega arith;
     }
 
 -- what a run learns by the word
-pub sender_learned : (t : tx.Inside) (side : PutSide) (all n : ℕ) → IsSender t → IsPutSide (arc_value t.ring).shared.table_id (arc_value t.ring).shared.key side → side.count ≡ t.side.count + n → side.seat.me.0.seen ≡ t.side.seat.me.0.seen ++ side.word ∷ []
-    → (n < all → side.count ≡ number side.word + (arc_value t.ring).shared.key.capacity) → OfferedRun all n (sender_view t) side.word (sender_view record { ring = t.ring; side = side; link = t.link })
-sender_learned t side all n is now more seen full =
+pub sender_learned : (t : tx.Inside) (side : PutSide) (all n : ℕ) → IsSender t → IsPutSide (arc_value t.ring).shared.table_id (arc_value t.ring).shared.key side → side.count ≡ t.side.count + n → RestsOn t.side.seat.me.0.seen side.word side.seat.me.0.seen
+    → (n < all → HasSeen t.side.seat.me.0.seen side.word side.seat.me.0.seen × (side.count ≡ number side.word + (arc_value t.ring).shared.key.capacity)) → (all ≡ 0 → HasSeen t.side.seat.me.0.seen side.word side.seat.me.0.seen)
+    → OfferedRun all n (sender_view t) side.word (sender_view record { ring = t.ring; side = side; link = t.link })
+sender_learned t side all n is now more rests full look =
     let before = put_length t is in
     let room = now.room in
-    (refl, seen, omega arith, λ lt. length-take-le side.count (given_list (arc_value t.ring).shared.key) now.begins ∙ full lt)
+    record {
+      capacity = refl;
+      rests = rests;
+      room = omega arith;
+      full = λ lt. let f = full lt in (f.0, length-take-le side.count (given_list (arc_value t.ring).shared.key) now.begins ∙ f.1);
+      look = look;
+    }
 
-pub receiver_learned : (t : rx.Inside) (side : TakeSide) (most n : ℕ) → IsReceiver t → IsTakeSide (arc_value t.ring).shared.table_id (arc_value t.ring).shared.key side → side.count ≡ t.side.count + n → side.seat.me.0.seen ≡ t.side.seat.me.0.seen ++ side.word ∷ []
-    → (n < most → side.count ≡ number side.word) → PolledRun most n (receiver_view t) side.word (receiver_view record { ring = t.ring; side = side; link = t.link })
-receiver_learned t side most n is now more seen empty =
+pub receiver_learned : (t : rx.Inside) (side : TakeSide) (most n : ℕ) → IsReceiver t → IsTakeSide (arc_value t.ring).shared.table_id (arc_value t.ring).shared.key side → side.count ≡ t.side.count + n → RestsOn t.side.seat.me.0.seen side.word side.seat.me.0.seen
+    → (n < most → HasSeen t.side.seat.me.0.seen side.word side.seat.me.0.seen × (side.count ≡ number side.word)) → (most ≡ 0 → HasSeen t.side.seat.me.0.seen side.word side.seat.me.0.seen)
+    → PolledRun most n (receiver_view t) side.word (receiver_view record { ring = t.ring; side = side; link = t.link })
+receiver_learned t side most n is now more rests empty look =
     let before = taken_length t is in
     let put = now.put in
-    (refl, seen, omega arith, λ lt. length-take-le side.count (given_list (arc_value t.ring).shared.key) now.begins ∙ empty lt)
+    record {
+      capacity = refl;
+      rests = rests;
+      there = omega arith;
+      empty = λ lt. let e = empty lt in (e.0, length-take-le side.count (given_list (arc_value t.ring).shared.key) now.begins ∙ e.1);
+      look = look;
+    }
 
 -- what a run takes
 pub receiver_ran : (t : rx.Inside) (side : TakeSide) (n : ℕ) (before after : List Msg) → IsReceiver t → IsTakeSide (arc_value t.ring).shared.table_id (arc_value t.ring).shared.key side → side.count ≡ t.side.count + n
@@ -234,7 +261,7 @@ receiver_ran t side n before after is now more into =
       take n (drop t.side.count list),
       length-take-le n (drop t.side.count list) (omega arith),
       into,
-      (refl, refl, ap (λ m. take m list) more ∙ take-add t.side.count n list),
+      (refl, refl, ap (λ m. take m list) more ∙ take-add t.side.count n list, refl),
       λ k x at. ap (λ m. slice_get list (m + k)) (taken_length t is) ∙ sym (at_drop t.side.count list k) ∙ at_take n (drop t.side.count list) k x at,
     )
 

@@ -4,5 +4,6 @@ mod Slots
 mod Steps
 mod Ends
 mod Runs
+mod Standing
 mod Waits
 pub mod Closing

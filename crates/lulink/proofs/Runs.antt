@@ -12,10 +12,10 @@ use Rattle.lulink.specs.declared.rule.EndState.{EndState}
 use Rattle.lulink.specs.declared.rule.Terms.{Terms}
 use Rattle.lulink.specs.Words.{tail_at, head_at}
 use Rattle.lulink.specs.Rings.{Linked, MovedTail, MovedHead, full_slots, free_slots}
-use Rattle.lulink.specs.Insides.{given_list, IsPutSide, IsTakeSide, HasFilled, HasEmptied}
+use Rattle.lulink.specs.Insides.{RingSeat, given_list, IsPutSide, IsTakeSide, HasFilled, HasEmptied}
 use Rattle.lulink.proofs.Slots.{Slots, next_of_run, run_more}
 use Rattle.lulink.proofs.Steps.{moves_tail, moves_head}
-use Rattle.lulink.proofs.Ends.{Holding, SeatOfRing, put_side_moved, take_side_moved}
+use Rattle.lulink.proofs.Ends.{Holding, put_side_moved, take_side_moved}
 
 abbrev lies : Terms → ℕ → Option Msg
 lies k i = slice_get (given_list k) i
@@ -73,7 +73,7 @@ module _ (at : TableId) (k : Terms) (s : PutSide) (is : IsPutSide at k s) where
         further : s.count + n + 1 ≡ s.count + (n + 1)
         further = omega arith
 
-  pub filled_one : (seat : SeatOfRing) (x : Msg) → 0 < s.held → slice_get (given_list k) s.count ≡ Some x → seat.table_id ≡ s.seat.table_id → seat.me ≡ (s.seat.me.0, rest s.seat.me.1 ++ (s.slot, Some x) ∷ [])
+  pub filled_one : (seat : RingSeat) (x : Msg) → 0 < s.held → slice_get (given_list k) s.count ≡ Some x → seat.table_id ≡ s.seat.table_id → seat.me ≡ (s.seat.me.0, rest s.seat.me.1 ++ (s.slot, Some x) ∷ [])
       → HasFilled k s 1 record { seat = seat; count = s.count; slot = (s.slot + 1) % k.capacity; word = s.word; held = s.held }
   filled_one seat x any next table me =
       let first : s.count + 0 ≡ s.count = omega arith in
@@ -91,7 +91,7 @@ module _ (at : TableId) (k : Terms) (s : PutSide) (is : IsPutSide at k s) where
 
   -- and they were
   pub stored_tail : (n new : ℕ) (t u : PutSide) → HasFilled k s n t → new ≡ s.count + n → n ≤ s.held → s.count + n ≤ length (given_list k) → u.seat.table_id ≡ t.seat.table_id → MovedTail t.seat.me.0 (new - t.seat.me.0.count) u.seat.me
-      → u.count ≡ s.count + n → u.slot ≡ (s.count + n) % k.capacity → u.word ≡ s.word → u.held ≡ s.held - n → IsPutSide at k u × (u.seat.me.0.seen ≡ s.seat.me.0.seen ++ s.word ∷ [])
+      → u.count ≡ s.count + n → u.slot ≡ (s.count + n) % k.capacity → u.word ≡ s.word → u.held ≡ s.held - n → IsPutSide at k u × (u.seat.me.0.seen ≡ s.seat.me.0.seen)
   stored_tail n new t u has up few within table stored count_is place word_is held_is =
       let me : t.seat.me.0 ≡ s.seat.me.0 = ap (λ (m : Holding). m.0) has.2 in
       let count : t.seat.me.0.count ≡ s.count = ap (λ v. v.count) me ∙ is.count in
@@ -99,7 +99,7 @@ module _ (at : TableId) (k : Terms) (s : PutSide) (is : IsPutSide at k s) where
       let moves : MovedTail s.seat.me.0 n u.seat.me = subst (λ (y : EndState × ℕ). MovedTail y.0 y.1 u.seat.me) (λ i. (me i, passed i)) stored in (
         subst (λ (y : ℕ × (ℕ × ℕ)). IsPutSide at k record { seat = u.seat; count = y.0; slot = u.slot; word = y.1.0; held = y.1.1 }) (λ i. (sym count_is i, (sym word_is i, sym held_is i)))
             (put_side_moved at k s is u.seat (table ∙ has.0) n u.slot few within place moves),
-        ap (λ (m : Holding). m.0.seen) moves ∙ (λ i. s.seat.me.0.seen ++ is.word i ∷ []),
+        ap (λ (m : Holding). m.0.seen) moves,
       )
 
 module _ (at : TableId) (k : Terms) (s : TakeSide) (is : IsTakeSide at k s) where
@@ -139,7 +139,7 @@ module _ (at : TableId) (k : Terms) (s : TakeSide) (is : IsTakeSide at k s) wher
         further : s.count + n + 1 ≡ s.count + (n + 1)
         further = omega arith
 
-  pub emptied_one : (seat : SeatOfRing) → 0 < s.held → seat.table_id ≡ s.seat.table_id → seat.me ≡ (s.seat.me.0, rest s.seat.me.1 ++ (s.slot, None) ∷ [])
+  pub emptied_one : (seat : RingSeat) → 0 < s.held → seat.table_id ≡ s.seat.table_id → seat.me ≡ (s.seat.me.0, rest s.seat.me.1 ++ (s.slot, None) ∷ [])
       → HasEmptied k s 1 record { seat = seat; count = s.count; slot = (s.slot + 1) % k.capacity; word = s.word; held = s.held }
   emptied_one seat any table me = emptied_more 0 s emptied_none any record { seat = seat; count = s.count; slot = (s.slot + 1) % k.capacity; word = s.word; held = s.held } table me refl refl refl refl
 
@@ -155,7 +155,7 @@ module _ (at : TableId) (k : Terms) (s : TakeSide) (is : IsTakeSide at k s) wher
 
   -- and they were
   pub stored_head : (n new : ℕ) (t u : TakeSide) → HasEmptied k s n t → new ≡ s.count + n → n ≤ s.held → u.seat.table_id ≡ t.seat.table_id → MovedHead t.seat.me.0 (new - t.seat.me.0.count) u.seat.me
-      → u.count ≡ s.count + n → u.slot ≡ (s.count + n) % k.capacity → u.word ≡ s.word → u.held ≡ s.held - n → IsTakeSide at k u × (u.seat.me.0.seen ≡ s.seat.me.0.seen ++ s.word ∷ [])
+      → u.count ≡ s.count + n → u.slot ≡ (s.count + n) % k.capacity → u.word ≡ s.word → u.held ≡ s.held - n → IsTakeSide at k u × (u.seat.me.0.seen ≡ s.seat.me.0.seen)
   stored_head n new t u has up few table stored count_is place word_is held_is =
       let me : t.seat.me.0 ≡ s.seat.me.0 = ap (λ (m : Holding). m.0) has.2 in
       let count : t.seat.me.0.count ≡ s.count = ap (λ v. v.count) me ∙ is.count in
@@ -163,5 +163,5 @@ module _ (at : TableId) (k : Terms) (s : TakeSide) (is : IsTakeSide at k s) wher
       let moves : MovedHead s.seat.me.0 n u.seat.me = subst (λ (y : EndState × ℕ). MovedHead y.0 y.1 u.seat.me) (λ i. (me i, passed i)) stored in (
         subst (λ (y : ℕ × (ℕ × ℕ)). IsTakeSide at k record { seat = u.seat; count = y.0; slot = u.slot; word = y.1.0; held = y.1.1 }) (λ i. (sym count_is i, (sym word_is i, sym held_is i)))
             (take_side_moved at k s is u.seat (table ∙ has.0) n u.slot few place moves),
-        ap (λ (m : Holding). m.0.seen) moves ∙ (λ i. s.seat.me.0.seen ++ is.word i ∷ []),
+        ap (λ (m : Holding). m.0.seen) moves,
       )

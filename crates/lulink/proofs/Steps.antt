@@ -1,6 +1,6 @@
 -- Each step keeps the rule of a ring.
 use Rattle.std.proofs.Common.{◌≡◌, ◌<◌, ◌≤◌, ◌⊎◌, ◌+◌, ◌-◌, ◌%◌, ◌^◌, ℕ, zero, suc, Bool, true, false, true≢false, [], ◌∷◌, ◌++◌, List, map, length, Option, None, sym, refl, ap, ◌∙◌, subst, ⊎_elim, inl, inr, arith}
-use Rattle.std.specs.Prelude.{slice_get, slice_set, slice_index, replicate}
+use Rattle.std.specs.Prelude.{slice_get, slice_set, slice_index, slice_index_or, replicate}
 use Rattle.std.proofs.Math.Nat.{mod-lt, add-mod_right}
 use Rattle.std.proofs.lemmas.Bool.Decides.{nat_tests}
 use mathlib.Core.Option.{some, some-injective, some-ne-none}
@@ -11,7 +11,7 @@ use Rattle.std.proofs.lemmas.List.Elements.{All-push}
 use Rattle.luflow.specs.declared.message.Msg.{Msg}
 use Rattle.lulink.specs.declared.rule.EndState.{EndState}
 use Rattle.lulink.specs.declared.rule.Role.TheVariants.{Opener, Producer, Consumer}
-use Rattle.lulink.specs.Words.{top, word, number, has_left, IsFinal, WasWord, tail_at, head_at, words_of}
+use Rattle.lulink.specs.Words.{top, word, number, has_left, IsFinal, WasWord, WereWords, tail_at, head_at, words_of}
 use Rattle.lulink.specs.Rings.{full_slots, free_slots, fresh, seated, Running, Unused, Linked, looked, readied, moved, departed, IsLater, SawHead, SawTail, MovedTail, MovedHead, Looked, Left}
 use Rattle.lulink.proofs.Slots.{Slots, passing, may_pass, passed_slots, passed_homes, with_back, with_back_append, with_back_length, later_slot, earlier_slot, back_else, back_here, taken_else, are_home, either_way}
 
@@ -33,10 +33,6 @@ has_left_word n true h = grind (arith, nat_tests)
 pub final_again : (seen : List ℕ) (w u : ℕ) → (has_left u ≡ true → u ≡ w) → IsFinal seen w → IsFinal (seen ++ u ∷ []) w
 final_again seen w u same f = All-push (λ x. has_left x ≡ true → x ≡ w) seen u f same
 
--- a word that doesn't say that the end has left may change
-still_here : (seen : List ℕ) (w v : ℕ) → has_left w ≡ false → IsFinal seen w → IsFinal seen v
-still_here seen w v here f = λ k d h on. absurd (true≢false (sym on ∙ ap has_left (f k d h on) ∙ here))
-
 -- the word of an end as it is now, after some messages more, and after the end has left
 was_now : (u n : ℕ) (b : Bool) → n < 2 ^ 63 → u ≡ word n b → WasWord u n b
 was_now u n b h e = let same : number u ≡ n = ap number e ∙ number_word n b h in (omega arith, λ _. e)
@@ -46,6 +42,19 @@ was_moved u n k b h here w = let most = w.0 in (omega arith, λ on. absurd (true
 
 was_left : (u n : ℕ) (b : Bool) → n < 2 ^ 63 → b ≡ false → WasWord u n b → WasWord u n true
 was_left u n b h here w = (w.0, λ on. absurd (true≢false (sym on ∙ ap has_left (w.1 on) ∙ has_left_word n b h ∙ here)))
+
+-- the same of all words that were seen
+saw_again : (seen : List ℕ) (u n : ℕ) (b : Bool) → n < 2 ^ 63 → u ≡ word n b → WereWords seen n b → WereWords (seen ++ u ∷ []) n b
+saw_again seen u n b h e f = All-push (λ x. WasWord x n b) seen u f (was_now u n b h e)
+
+saw_moved : (seen : List ℕ) (n k : ℕ) (b : Bool) → n < 2 ^ 63 → b ≡ false → WereWords seen n b → WereWords seen (n + k) b
+saw_moved seen n k b h here f i d lt = was_moved (slice_index_or seen i d) n k b h here (f i d lt)
+
+saw_left : (seen : List ℕ) (n : ℕ) (b : Bool) → n < 2 ^ 63 → b ≡ false → WereWords seen n b → WereWords seen n true
+saw_left seen n b h here f i d lt = was_left (slice_index_or seen i d) n b h here (f i d lt)
+
+saw_final : (seen : List ℕ) (w n : ℕ) (b : Bool) → w ≡ word n b → WereWords seen n b → IsFinal seen w
+saw_final seen w n b e f i d lt on = (f i d lt).1 on ∙ sym e
 
 only : (a v : EndState) (k : ℕ) → get_elem? (a ∷ []) k ≡ some v → (k ≡ 0) × (a ≡ v)
 only a v zero e = (refl, some-injective a v e)
@@ -106,8 +115,8 @@ module _ (room : ℕ) (list : List Msg) (some_room : 0 < room) (small : length l
           emptying = r.emptying;
           filling = r.filling;
           begins = r.begins;
-          p_final = final_again r.p.seen (word r.c.count r.c.left) n (λ _. reported) r.p_final;
-          c_final = r.c_final;
+          p_saw = saw_again r.p.seen n r.c.count r.c.left (omega arith) reported r.p_saw;
+          c_saw = r.c_saw;
           p_last = was_now n r.c.count r.c.left (omega arith) reported;
           c_last = r.c_last;
           stored = r.stored;
@@ -126,11 +135,11 @@ module _ (room : ℕ) (list : List Msg) (some_room : 0 < room) (small : length l
       (omega arith, omega arith)
 
   head_looks : (n : ℕ) (cs : Slots) (r : Running room list s) → n ≡ slice_index s.words head_at → n ≡ word r.c.count r.c.left → Goes room list s (r.p, cs) head_at n (λ m. Looked (r.p, cs) n m × IsFinal r.p.seen n) 0
-  head_looks n cs r at reported = (looked r.p n, keeps, tt, head_seen n cs r at reported, ((refl, head_later n r reported), subst (λ u. IsFinal r.p.seen u) (sym reported) r.p_final))
+  head_looks n cs r at reported = (looked r.p n, keeps, tt, head_seen n cs r at reported, ((refl, head_later n r reported), saw_final r.p.seen n r.c.count r.c.left reported r.p_saw))
 
   -- the producer found the ring full
   head_full : (n : ℕ) (cs : Slots) (r : Running room list s) → n ≡ slice_index s.words head_at → n ≡ word r.c.count r.c.left → r.p.count ≡ number n + r.p.room → Goes room list s (r.p, cs) head_at n (λ m. SawHead (r.p, cs) n m × IsFinal r.p.seen n) 0
-  head_full n cs r at reported full = (looked r.p n, keeps, tt, head_seen n cs r at reported, ((head_later n r reported, inl (full, refl)), subst (λ u. IsFinal r.p.seen u) (sym reported) r.p_final))
+  head_full n cs r at reported full = (looked r.p n, keeps, tt, head_seen n cs r at reported, ((head_later n r reported, inl (full, refl)), saw_final r.p.seen n r.c.count r.c.left reported r.p_saw))
 
   -- the slots of all messages for which there is room, where the producer's own came back
   all_free : (r : Running room list s) → length s.homes ≡ room → (k : ℕ) → r.p.count ≤ k → k < r.c.count + room → get_elem? (with_back s.homes (free_slots room r.p.count r.p.held)) (k % room) ≡ some (some None)
@@ -174,8 +183,8 @@ module _ (room : ℕ) (list : List Msg) (some_room : 0 < room) (small : length l
             emptying = r.emptying;
             filling = omega arith;
             begins = r.begins;
-            p_final = r.p_final;
-            c_final = r.c_final;
+            p_saw = saw_again r.p.seen n r.c.count r.c.left (omega arith) reported r.p_saw;
+            c_saw = r.c_saw;
             p_last = was_now n r.c.count r.c.left (omega arith) reported;
             c_last = r.c_last;
             stored = λ k lo hi.
@@ -186,7 +195,7 @@ module _ (room : ℕ) (list : List Msg) (some_room : 0 < room) (small : length l
             free = λ k lo hi. absurd (omega arith);
           },
         ),
-        ((head_later n r reported, inr (ne, λ i. (w, (passed_slots xs ys ∙ ap (λ m. free_slots m r.p.count more) (sym room_is)) i))), subst (λ u. IsFinal r.p.seen u) (sym reported) r.p_final),
+        ((head_later n r reported, inr (ne, λ i. (w, (passed_slots xs ys ∙ ap (λ m. free_slots m r.p.count more) (sym room_is)) i))), saw_final r.p.seen n r.c.count r.c.left reported r.p_saw),
       )
 
   -- the slots after the producer gave back its own, k of them with messages
@@ -256,8 +265,8 @@ module _ (room : ℕ) (list : List Msg) (some_room : 0 < room) (small : length l
             emptying = omega arith;
             filling = omega arith;
             begins = within;
-            p_final = final_again r.p.seen (word r.c.count r.c.left) r.p.last r.p_last.1 r.p_final;
-            c_final = still_here r.c.seen (word r.p.count r.p.left) (word (r.p.count + k) r.p.left) (has_left_word r.p.count r.p.left (omega arith) ∙ here_yet) r.c_final;
+            p_saw = r.p_saw;
+            c_saw = saw_moved r.c.seen r.p.count k r.p.left (omega arith) here_yet r.c_saw;
             p_last = r.p_last;
             c_last = was_moved r.c.last r.p.count k r.p.left (omega arith) here_yet r.c_last;
             stored = λ j lo hi.
@@ -289,8 +298,8 @@ module _ (room : ℕ) (list : List Msg) (some_room : 0 < room) (small : length l
           emptying = r.emptying;
           filling = r.filling;
           begins = r.begins;
-          p_final = r.p_final;
-          c_final = final_again r.c.seen (word r.p.count r.p.left) n (λ _. reported) r.c_final;
+          p_saw = r.p_saw;
+          c_saw = saw_again r.c.seen n r.p.count r.p.left (omega arith) reported r.c_saw;
           p_last = r.p_last;
           c_last = was_now n r.p.count r.p.left (omega arith) reported;
           stored = r.stored;
@@ -308,11 +317,11 @@ module _ (room : ℕ) (list : List Msg) (some_room : 0 < room) (small : length l
       (omega arith, omega arith)
 
   tail_looks : (n : ℕ) (cs : Slots) (r : Running room list s) → n ≡ slice_index s.words tail_at → n ≡ word r.p.count r.p.left → Goes room list s (r.c, cs) tail_at n (λ m. Looked (r.c, cs) n m × IsFinal r.c.seen n) 1
-  tail_looks n cs r at reported = (looked r.c n, keeps, tt, tail_seen n cs r at reported, ((refl, tail_later n r reported), subst (λ u. IsFinal r.c.seen u) (sym reported) r.c_final))
+  tail_looks n cs r at reported = (looked r.c n, keeps, tt, tail_seen n cs r at reported, ((refl, tail_later n r reported), saw_final r.c.seen n r.p.count r.p.left reported r.c_saw))
 
   -- the consumer found the ring empty
   tail_empty : (n : ℕ) (cs : Slots) (r : Running room list s) → n ≡ slice_index s.words tail_at → n ≡ word r.p.count r.p.left → r.c.count ≡ number n → Goes room list s (r.c, cs) tail_at n (λ m. SawTail (r.c, cs) n m × IsFinal r.c.seen n) 1
-  tail_empty n cs r at reported none = (looked r.c n, keeps, tt, tail_seen n cs r at reported, ((tail_later n r reported, inl (none, refl)), subst (λ u. IsFinal r.c.seen u) (sym reported) r.c_final))
+  tail_empty n cs r at reported none = (looked r.c n, keeps, tt, tail_seen n cs r at reported, ((tail_later n r reported, inl (none, refl)), saw_final r.c.seen n r.p.count r.p.left reported r.c_saw))
 
   -- the slots of all messages that were put, where the consumer's own came back
   all_stored : (r : Running room list s) → length s.homes ≡ room → (k : ℕ) → r.c.count ≤ k → k < r.p.count → get_elem? (with_back s.homes (full_slots list room r.c.count r.c.held)) (k % room) ≡ some (some (slice_get list k))
@@ -355,8 +364,8 @@ module _ (room : ℕ) (list : List Msg) (some_room : 0 < room) (small : length l
             emptying = omega arith;
             filling = r.filling;
             begins = r.begins;
-            p_final = r.p_final;
-            c_final = r.c_final;
+            p_saw = r.p_saw;
+            c_saw = saw_again r.c.seen n r.p.count r.p.left (omega arith) reported r.c_saw;
             p_last = r.p_last;
             c_last = was_now n r.p.count r.p.left (omega arith) reported;
             stored = λ k lo hi. absurd (omega arith);
@@ -367,7 +376,7 @@ module _ (room : ℕ) (list : List Msg) (some_room : 0 < room) (small : length l
                 ∙ r.free k lo hi;
           },
         ),
-        ((tail_later n r reported, inr (ne, λ i. (w, (passed_slots xs ys ∙ (λ j. full_slots (sym r.consumer.2 j) (sym r.consumer.1 j) r.c.count more)) i))), subst (λ u. IsFinal r.c.seen u) (sym reported) r.c_final),
+        ((tail_later n r reported, inr (ne, λ i. (w, (passed_slots xs ys ∙ (λ j. full_slots (sym r.consumer.2 j) (sym r.consumer.1 j) r.c.count more)) i))), saw_final r.c.seen n r.p.count r.p.left reported r.c_saw),
       )
 
   -- the slots after the consumer gave back its own, k of them free
@@ -441,8 +450,8 @@ module _ (room : ℕ) (list : List Msg) (some_room : 0 < room) (small : length l
             emptying = omega arith;
             filling = omega arith;
             begins = r.begins;
-            p_final = still_here r.p.seen (word r.c.count r.c.left) (word (r.c.count + k) r.c.left) (has_left_word r.c.count r.c.left (omega arith) ∙ here_yet) r.p_final;
-            c_final = final_again r.c.seen (word r.p.count r.p.left) r.c.last r.c_last.1 r.c_final;
+            p_saw = saw_moved r.p.seen r.c.count k r.c.left (omega arith) here_yet r.p_saw;
+            c_saw = r.c_saw;
             p_last = was_moved r.p.last r.c.count k r.c.left (omega arith) here_yet r.p_last;
             c_last = r.c_last;
             stored = λ j lo hi.
@@ -478,8 +487,8 @@ module _ (room : ℕ) (list : List Msg) (some_room : 0 < room) (small : length l
             emptying = r.emptying;
             filling = r.filling;
             begins = r.begins;
-            p_final = r.p_final;
-            c_final = still_here r.c.seen (word r.p.count r.p.left) (word r.p.count true) (has_left_word r.p.count r.p.left (omega arith) ∙ here_yet) r.c_final;
+            p_saw = r.p_saw;
+            c_saw = saw_left r.c.seen r.p.count r.p.left (omega arith) here_yet r.c_saw;
             p_last = r.p_last;
             c_last = was_left r.c.last r.p.count r.p.left (omega arith) here_yet r.c_last;
             stored = r.stored;
@@ -510,8 +519,8 @@ module _ (room : ℕ) (list : List Msg) (some_room : 0 < room) (small : length l
             emptying = r.emptying;
             filling = r.filling;
             begins = r.begins;
-            p_final = still_here r.p.seen (word r.c.count r.c.left) (word r.c.count true) (has_left_word r.c.count r.c.left (omega arith) ∙ here_yet) r.p_final;
-            c_final = r.c_final;
+            p_saw = saw_left r.p.seen r.c.count r.c.left (omega arith) here_yet r.p_saw;
+            c_saw = r.c_saw;
             p_last = was_left r.p.last r.c.count r.c.left (omega arith) here_yet r.p_last;
             c_last = r.c_last;
             stored = r.stored;
@@ -635,8 +644,8 @@ parts room list id v is s h at = (
         emptying = omega arith;
         filling = omega arith;
         begins = omega arith;
-        p_final = λ k d h on. absurd (omega arith);
-        c_final = λ k d h on. absurd (omega arith);
+        p_saw = λ k d h. absurd (omega arith);
+        c_saw = λ k d h. absurd (omega arith);
         p_last = was_now 0 0 false (omega arith) refl;
         c_last = was_now 0 0 false (omega arith) refl;
         stored = λ k lo hi. absurd (omega arith);

@@ -1,20 +1,21 @@
 -- Looks that find nothing, and what comes after them.
-use Rattle.std.proofs.Common.{◌≡◌, ◌+◌, ◌<◌, ℕ, true, List, [], ◌∷◌, ◌++◌, length, Option, Some, None, refl, ap, ◌∙◌, subst, append_assoc, arith}
+use Rattle.std.proofs.Common.{◌≡◌, ◌+◌, ◌<◌, ◌⊎◌, ℕ, true, List, [], ◌∷◌, ◌++◌, inl, inr, length, Option, Some, None, refl, ap, ◌∙◌, subst, append_assoc, arith}
 use Rattle.std.proofs.lemmas.List.Elements.{All-tail}
 use Rattle.luflow.specs.declared.message.Msg.{Msg}
 use Rattle.luworld.specs.Jobs.{JobView}
-use Rattle.lulink.specs.Words.{number, has_left, IsFinal}
+use Rattle.lulink.specs.Words.{number, has_left, IsFinal, HasSeen}
 use Rattle.lulink.specs.Lists.{list_of, IsNextOf}
 use Rattle.lulink.specs.declared.sender.Offer.{Offer}
 use Rattle.lulink.specs.declared.sender.Offer.TheVariants.{Done, Full}
 use Rattle.lulink.specs.Views.{SenderView, ReceiverView, IsNextToTake, HasPut, HasPutNothing, HasTaken, HasTakenNothing, PutOrBack, TakenOrNot}
-use Rattle.lulink.specs.Seen.{put_none, put_one, took_none, HadRoom, WasFull, Offered, Polled, FoundRoom, FoundFullAndGone, FoundOne, FoundNothingLeft}
+use Rattle.lulink.specs.Seen.{put_none, took_none, PutOne, HadRoom, WasFull, Offered, Polled, FoundRoom, FoundFullAndGone, FoundOne, FoundNothingLeft}
 
 -- nothing was put, and some words were seen
 pub record Waited (s t : SenderView) : Type 0 where
   pub job : t.job ≡ s.job
   pub link : t.link ≡ s.link
   pub capacity : t.capacity ≡ s.capacity
+  pub ring : t.ring ≡ s.ring
   pub put : t.put ≡ s.put
   pub words : List ℕ
   pub seen : t.seen ≡ s.seen ++ words
@@ -24,6 +25,7 @@ pub record Listened (g h : ReceiverView) : Type 0 where
   pub job : h.job ≡ g.job
   pub link : h.link ≡ g.link
   pub capacity : h.capacity ≡ g.capacity
+  pub ring : h.ring ≡ g.ring
   pub taken : h.taken ≡ g.taken
   pub words : List ℕ
   pub seen : h.seen ≡ g.seen ++ words
@@ -33,16 +35,17 @@ nothing_more [] = refl
 nothing_more (x ∷ xs) = ap (λ l. x ∷ l) (nothing_more xs)
 
 pub waited_not : (s : SenderView) → Waited s s
-waited_not s = record { job = refl; link = refl; capacity = refl; put = refl; words = []; seen = nothing_more s.seen }
+waited_not s = record { job = refl; link = refl; capacity = refl; ring = refl; put = refl; words = []; seen = nothing_more s.seen }
 
 pub listened_not : (g : ReceiverView) → Listened g g
-listened_not g = record { job = refl; link = refl; capacity = refl; taken = refl; words = []; seen = nothing_more g.seen }
+listened_not g = record { job = refl; link = refl; capacity = refl; ring = refl; taken = refl; words = []; seen = nothing_more g.seen }
 
 pub waited_again : (s t u : SenderView) (w : ℕ) → Waited s t → u ≡ put_none t w → Waited s u
 waited_again s t u w l e = record {
   job = ap (λ (x : SenderView). x.job) e ∙ l.job;
   link = ap (λ (x : SenderView). x.link) e ∙ l.link;
   capacity = ap (λ (x : SenderView). x.capacity) e ∙ l.capacity;
+  ring = ap (λ (x : SenderView). x.ring) e ∙ l.ring;
   put = ap (λ (x : SenderView). x.put) e ∙ l.put;
   words = l.words ++ w ∷ [];
   seen = ap (λ (x : SenderView). x.seen) e ∙ ap (λ xs. xs ++ w ∷ []) l.seen ∙ append_assoc s.seen l.words (w ∷ []);
@@ -53,29 +56,30 @@ listened_again g h i w l e = record {
   job = ap (λ (x : ReceiverView). x.job) e ∙ l.job;
   link = ap (λ (x : ReceiverView). x.link) e ∙ l.link;
   capacity = ap (λ (x : ReceiverView). x.capacity) e ∙ l.capacity;
+  ring = ap (λ (x : ReceiverView). x.ring) e ∙ l.ring;
   taken = ap (λ (x : ReceiverView). x.taken) e ∙ l.taken;
   words = l.words ++ w ∷ [];
   seen = ap (λ (x : ReceiverView). x.seen) e ∙ ap (λ xs. xs ++ w ∷ []) l.seen ∙ append_assoc g.seen l.words (w ∷ []);
 }
 
+-- what was loaded while waiting, and in the call after it
+seen_more : (a b c : List ℕ) (w : ℕ) (words : List ℕ) → b ≡ a ++ words → (c ≡ b) ⊎ HasSeen b w c → (ws : List ℕ) × (c ≡ a ++ ws)
+seen_more a b c w words waited (inl still) = (words, still ∙ waited)
+seen_more a b c w words waited (inr more) = (words ++ w ∷ [], more ∙ ap (λ xs. xs ++ w ∷ []) waited ∙ append_assoc a words (w ∷ []))
+
 -- after some waiting there was room
-pub put_done : (s t u : SenderView) (m : Msg) (w : ℕ) → Waited s t → u ≡ put_one t w m → HadRoom t w → HasPut m s u × FoundRoom s u
-put_done s t u m w l e room = (
-  (ap (λ (x : SenderView). x.job) e ∙ l.job, ap (λ (x : SenderView). x.link) e ∙ l.link, ap (λ (x : SenderView). x.put) e ∙ ap (λ xs. xs ++ m ∷ []) l.put),
-  (
-    l.words,
-    w,
-    ap (λ (x : SenderView). x.capacity) e ∙ l.capacity,
-    ap (λ (x : SenderView). x.seen) e ∙ ap (λ xs. xs ++ w ∷ []) l.seen,
-    subst (λ (y : List Msg × ℕ). length y.0 < number w + y.1) (λ i. (l.put i, l.capacity i)) room,
-  ),
-)
+pub put_done : (s t u : SenderView) (m : Msg) (w : ℕ) → Waited s t → PutOne m t w u → HadRoom t w → HasPut m s u × FoundRoom s u
+put_done s t u m w l p room =
+    let more = seen_more s.seen t.seen u.seen w l.words l.seen p.2.1 in (
+      (p.0.0 ∙ l.job, p.0.1 ∙ l.link, p.0.2 ∙ ap (λ xs. xs ++ m ∷ []) l.put, p.0.3 ∙ l.ring),
+      (more.0, w, p.1 ∙ l.capacity, more.1, p.2.0, subst (λ (y : List Msg × ℕ). length y.0 < number w + y.1) (λ i. (l.put i, l.capacity i)) room),
+    )
 
 -- after some waiting the ring was full, and then the receiver had left
 pub put_gone : (s t u v : SenderView) (full gone : ℕ) → Waited s t → u ≡ put_none t full → WasFull t full → v ≡ put_none u gone → has_left gone ≡ true → HasPutNothing s v × FoundFullAndGone s v
 put_gone s t u v full gone l e is_full g left =
     let w = waited_again s u v gone (waited_again s t u full l e) g in (
-      (w.job, w.link, w.put),
+      (w.job, w.link, w.put, w.ring),
       (
         l.words,
         full,
@@ -89,19 +93,15 @@ put_gone s t u v full gone l e is_full g left =
 
 -- after some waiting there was a message
 pub take_done : (g h i : ReceiverView) (m : Msg) (w : ℕ) → Listened g h → Polled (Some m) h w i → (HasTaken m g i × IsNextToTake g m) × FoundOne g i
-take_done g h i m w l p = (
-  (
-    (ap (λ (x : ReceiverView). x.job) p.0 ∙ l.job, ap (λ (x : ReceiverView). x.link) p.0 ∙ l.link, ap (λ (x : ReceiverView). x.taken) p.0 ∙ ap (λ xs. xs ++ m ∷ []) l.taken),
-    subst (λ (y : JobView × (ℕ × List Msg)). IsNextOf (list_of y.0 y.1.0) (length y.1.1) m) (λ k. (l.job k, (l.link k, l.taken k))) p.1,
-  ),
-  (
-    l.words,
-    w,
-    ap (λ (x : ReceiverView). x.capacity) p.0 ∙ l.capacity,
-    ap (λ (x : ReceiverView). x.seen) p.0 ∙ ap (λ xs. xs ++ w ∷ []) l.seen,
-    subst (λ (xs : List Msg). length xs < number w) l.taken p.2,
-  ),
-)
+take_done g h i m w l p =
+    let took = p.0 in
+    let more = seen_more g.seen h.seen i.seen w l.words l.seen took.2.1 in (
+      (
+        (took.0.0 ∙ l.job, took.0.1 ∙ l.link, took.0.2 ∙ ap (λ xs. xs ++ m ∷ []) l.taken, took.0.3 ∙ l.ring),
+        subst (λ (y : JobView × (ℕ × List Msg)). IsNextOf (list_of y.0 y.1.0) (length y.1.1) m) (λ k. (l.job k, (l.link k, l.taken k))) p.1,
+      ),
+      (more.0, w, took.1 ∙ l.capacity, more.1, took.2.0, subst (λ (xs : List Msg). length xs < number w) l.taken p.2),
+    )
 
 -- a word that says that the end has left is the last that was seen
 pub final_last : (seen : List ℕ) (w v : ℕ) → IsFinal (seen ++ w ∷ []) v → has_left w ≡ true → w ≡ v
@@ -114,7 +114,7 @@ take_gone g h i j gone w l e left p f =
     let m = listened_again g h i gone l e in
     let n = listened_again g i j w m p.0 in
     let same : gone ≡ w = final_last h.seen gone w (subst (λ xs. IsFinal xs w) (ap (λ (x : ReceiverView). x.seen) e) f) left in (
-      (n.job, n.link, n.taken),
+      (n.job, n.link, n.taken, n.ring),
       (
         m.words,
         w,
@@ -132,10 +132,10 @@ polled_none None g w h never p = p.0
 
 -- an offer without the word by which it went
 pub offered_put : (o : Offer) (m : Msg) (s : SenderView) (w : ℕ) (t : SenderView) → Offered o m s w t → PutOrBack o m s t
-offered_put Done m s w t h = (ap (λ (x : SenderView). x.job) h.0, ap (λ (x : SenderView). x.link) h.0, ap (λ (x : SenderView). x.put) h.0)
-offered_put (Full back) m s w t h = (h.1, (ap (λ (x : SenderView). x.job) h.0, ap (λ (x : SenderView). x.link) h.0, ap (λ (x : SenderView). x.put) h.0))
+offered_put Done m s w t h = h.0.0
+offered_put (Full back) m s w t h = (h.1, (ap (λ (x : SenderView). x.job) h.0, ap (λ (x : SenderView). x.link) h.0, ap (λ (x : SenderView). x.put) h.0, ap (λ (x : SenderView). x.ring) h.0))
 
 -- a poll without the word by which it went
 pub polled_taken : (o : Option Msg) (r : ReceiverView) (w : ℕ) (q : ReceiverView) → Polled o r w q → TakenOrNot o r q
-polled_taken (Some m) r w q h = ((ap (λ (x : ReceiverView). x.job) h.0, ap (λ (x : ReceiverView). x.link) h.0, ap (λ (x : ReceiverView). x.taken) h.0), h.1)
-polled_taken None r w q h = (ap (λ (x : ReceiverView). x.job) h.0, ap (λ (x : ReceiverView). x.link) h.0, ap (λ (x : ReceiverView). x.taken) h.0)
+polled_taken (Some m) r w q h = (h.0.0, h.1)
+polled_taken None r w q h = (ap (λ (x : ReceiverView). x.job) h.0, ap (λ (x : ReceiverView). x.link) h.0, ap (λ (x : ReceiverView). x.taken) h.0, ap (λ (x : ReceiverView). x.ring) h.0)

@@ -1,19 +1,26 @@
 -- What the ends of a ring hold, and what contracts see of it.
-use Rattle.std.specs.Prelude.{◌≡◌, ℕ, ◌+◌, ◌-◌, ◌%◌, ◌<◌, ◌≤◌, ◌^◌, Bool, true, false, List, [], ◌∷◌, ◌++◌}
-use Rattle.std.specs.Prelude.{take, length, Some, slice_get}
+use Rattle.std.specs.Prelude.{◌≡◌, ℕ, ◌+◌, ◌-◌, ◌%◌, ◌<◌, ◌≤◌, ◌^◌, Bool, true, false, List, [], ◌++◌}
+use Rattle.std.specs.Prelude.{take, length, Option, Some, slice_get}
 use Rattle.std.specs.Arc.{arc_value}
 use Rattle.atomic_table.specs.Seated.{TableId}
+use Rattle.atomic_table.specs.declared.shared.Seat.{Seat}
 use Rattle.luflow.specs.declared.message.Msg.{Msg}
 use Rattle.lulink.specs.declared.put_side.PutSide.{PutSide}
 use Rattle.lulink.specs.declared.take_side.TakeSide.{TakeSide}
 use Rattle.lulink.specs.declared.sender.Tx.TheInside as tx
 use Rattle.lulink.specs.declared.receiver.Rx.TheInside as rx
 use Rattle.lulink.specs.declared.rule.Terms.{Terms}
+use Rattle.lulink.specs.declared.rule.EndState.{EndState}
+use Rattle.lulink.specs.declared.rule.Role.{Role}
 use Rattle.lulink.specs.declared.rule.Role.TheVariants.{Producer, Consumer}
 use Rattle.lulink.specs.Lists.{list_of}
-use Rattle.lulink.specs.Words.{number, IsFinal, words_of}
-use Rattle.lulink.specs.Rings.{IsEnd, full_slots, free_slots}
+use Rattle.lulink.specs.Words.{number, IsFinal, IsLastSeen, HasSeen, RestsOn, words_of}
+use Rattle.lulink.specs.Rings.{IsEnd, full_slots, free_slots, fresh, seated}
 use Rattle.lulink.specs.Views.{SenderView, ReceiverView}
+
+-- a seat at a ring
+abbrev pub RingSeat : Type 0
+RingSeat = Seat (Option Msg) EndState
 
 abbrev pub given_list : Terms → List Msg
 given_list k = list_of k.job.value k.link
@@ -31,6 +38,11 @@ pub record IsRing (at : TableId) (k : Terms) : Type 0 where
   pub below : k.capacity < 2 ^ 16
   pub small : length (given_list k) < 2 ^ 62
 
+-- a seat of the ring, before its first step
+abbrev pub IsNewSeat : Role → TableId → Terms → RingSeat → Type 0
+IsNewSeat role at k seat = (seat.table_id ≡ at)
+    × (seat.me ≡ (seated role (fresh k.capacity (given_list k)), []))
+
 -- the slots of the next messages are held, as many as are counted, and the word that was loaded last shows
 -- room for them
 pub record IsPutSide (at : TableId) (k : Terms) (t : PutSide) : Type 0 where
@@ -41,6 +53,7 @@ pub record IsPutSide (at : TableId) (k : Terms) (t : PutSide) : Type 0 where
   pub count : t.seat.me.0.count ≡ t.count
   pub slot : t.slot ≡ t.count % k.capacity
   pub word : t.seat.me.0.last ≡ t.word
+  pub last : 0 < t.held → IsLastSeen t.seat.me.0.seen t.word
   pub final : IsFinal t.seat.me.0.seen t.word
   pub begins : t.count ≤ length (given_list k)
   pub held : t.seat.me.0.held ≡ t.held
@@ -57,6 +70,7 @@ pub record IsTakeSide (at : TableId) (k : Terms) (t : TakeSide) : Type 0 where
   pub count : t.seat.me.0.count ≡ t.count
   pub slot : t.slot ≡ t.count % k.capacity
   pub word : t.seat.me.0.last ≡ t.word
+  pub last : 0 < t.held → IsLastSeen t.seat.me.0.seen t.word
   pub final : IsFinal t.seat.me.0.seen t.word
   pub begins : t.count ≤ length (given_list k)
   pub held : t.seat.me.0.held ≡ t.held
@@ -66,14 +80,16 @@ pub record IsTakeSide (at : TableId) (k : Terms) (t : TakeSide) : Type 0 where
 
 -- the slot of the next message is held, or the word that was loaded now says that the ring is full
 abbrev pub SoughtRoom : Terms → PutSide → Bool → PutSide → Type 0
-SoughtRoom k s true t = (t.count ≡ s.count) × (t.seat.me.0.seen ≡ s.seat.me.0.seen) × (0 < t.held)
-SoughtRoom k s false t = (t.count ≡ s.count) × (t.seat.me.0.seen ≡ s.seat.me.0.seen ++ t.word ∷ [])
+SoughtRoom k s true t = (t.count ≡ s.count) × RestsOn s.seat.me.0.seen t.word t.seat.me.0.seen
+    × (0 < t.held) × IsFinal s.seat.me.0.seen t.word
+SoughtRoom k s false t = (t.count ≡ s.count) × HasSeen s.seat.me.0.seen t.word t.seat.me.0.seen
     × (s.count ≡ number t.word + k.capacity) × IsFinal s.seat.me.0.seen t.word
 
 -- the slot of the next message is held, or the word that was loaded now says that the ring is empty
 abbrev pub SoughtMessage : TakeSide → Bool → TakeSide → Type 0
-SoughtMessage s true t = (t.count ≡ s.count) × (t.seat.me.0.seen ≡ s.seat.me.0.seen) × (0 < t.held)
-SoughtMessage s false t = (t.count ≡ s.count) × (t.seat.me.0.seen ≡ s.seat.me.0.seen ++ t.word ∷ [])
+SoughtMessage s true t = (t.count ≡ s.count) × RestsOn s.seat.me.0.seen t.word t.seat.me.0.seen
+    × (0 < t.held) × IsFinal s.seat.me.0.seen t.word
+SoughtMessage s false t = (t.count ≡ s.count) × HasSeen s.seat.me.0.seen t.word t.seat.me.0.seen
     × (s.count ≡ number t.word) × IsFinal s.seat.me.0.seen t.word
 
 -- the first so many slots that are held have what they are given back with, and stand behind the others
@@ -100,6 +116,7 @@ sender_view t = let k = (arc_value t.ring).shared.key in record {
   job = k.job.value;
   link = k.link;
   capacity = k.capacity;
+  ring = (arc_value t.ring).shared.table_id;
   put = take t.side.count (given_list k);
   seen = t.side.seat.me.0.seen;
 }
@@ -109,6 +126,7 @@ receiver_view t = let k = (arc_value t.ring).shared.key in record {
   job = k.job.value;
   link = k.link;
   capacity = k.capacity;
+  ring = (arc_value t.ring).shared.table_id;
   taken = take t.side.count (given_list k);
   seen = t.side.seat.me.0.seen;
 }

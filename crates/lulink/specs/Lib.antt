@@ -4,3 +4,4 @@ pub mod Rings
 pub mod Views
 pub mod Seen
 pub mod Insides
+pub mod RingLaw

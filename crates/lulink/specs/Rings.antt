@@ -8,7 +8,7 @@ use Rattle.luflow.specs.declared.message.Msg.{Msg}
 use Rattle.lulink.specs.declared.rule.EndState.{EndState}
 use Rattle.lulink.specs.declared.rule.Role.{Role}
 use Rattle.lulink.specs.declared.rule.Role.TheVariants.{Opener, Producer, Consumer}
-use Rattle.lulink.specs.Words.{word, number, IsFinal, WasWord, words_of}
+use Rattle.lulink.specs.Words.{word, number, WasWord, WereWords, words_of}
 
 -- the slots of n messages from the k-th on, each with what lies in it
 abbrev pub slots_of : (ℕ → Option Msg) → ℕ → ℕ → ℕ → List (ℕ × Option Msg)
@@ -65,8 +65,8 @@ pub record Running (room : ℕ) (list : List Msg) (s : State (Option Msg) EndSta
   pub emptying : c.count + c.held ≤ p.count
   pub filling : p.count + p.held ≤ c.count + room
   pub begins : p.count ≤ length list
-  pub p_final : IsFinal p.seen (word c.count c.left)
-  pub c_final : IsFinal c.seen (word p.count p.left)
+  pub p_saw : WereWords p.seen c.count c.left
+  pub c_saw : WereWords c.seen p.count p.left
   pub p_last : WasWord p.last c.count c.left
   pub c_last : WasWord c.last p.count p.left
   pub stored : (k : ℕ) → c.count + c.held ≤ k → k < p.count
@@ -83,19 +83,6 @@ pub record Unused (room : ℕ) (list : List Msg) (s : State (Option Msg) EndStat
 abbrev pub Linked : ℕ → List Msg → State (Option Msg) EndState → Type 0
 Linked room list s = (0 < room) × (length list < 2 ^ 62) × (Unused room list s ⊎ Running room list s)
 
--- a load that found the word n and took no slot: the word is among those seen
-abbrev pub looked : EndState → ℕ → EndState
-looked v n = record {
-  role = v.role;
-  room = v.room;
-  list = v.list;
-  count = v.count;
-  seen = v.seen ++ n ∷ [];
-  last = n;
-  held = v.held;
-  left = v.left;
-}
-
 -- a load that found the word n, after which the end has the slots of the next messages, as many as this
 abbrev pub readied : EndState → ℕ → ℕ → EndState
 readied v n held = record {
@@ -103,21 +90,24 @@ readied v n held = record {
   room = v.room;
   list = v.list;
   count = v.count;
-  seen = v.seen;
+  seen = v.seen ++ n ∷ [];
   last = n;
   held = held;
   left = v.left;
 }
 
--- The next k messages were passed, by the word that was loaded last, which is among those seen now. The end
--- has the slots behind theirs still.
+-- a load that found the word n and took no slot
+abbrev pub looked : EndState → ℕ → EndState
+looked v n = readied v n v.held
+
+-- the next k messages were passed, and the end has the slots behind theirs still
 abbrev pub moved : EndState → ℕ → EndState
 moved v k = record {
   role = v.role;
   room = v.room;
   list = v.list;
   count = v.count + k;
-  seen = v.seen ++ v.last ∷ [];
+  seen = v.seen;
   last = v.last;
   held = v.held - k;
   left = v.left;

@@ -1,6 +1,7 @@
 -- What contracts see of an end of a link, and what each call changes of what was put or taken. Nothing here
--- knows what a link is made of.
+-- knows what a link is made of, but that its two ends go by the words of one table.
 use Rattle.std.specs.Prelude.{◌≡◌, ℕ, ◌+◌, List, [], ◌∷◌, ◌++◌, length, Option, Some, None, slice_get}
+use Rattle.atomic_table.specs.Seated.{TableId}
 use Rattle.luflow.specs.declared.message.Msg.{Msg}
 use Rattle.luflow.specs.declared.message.Body.TheVariants.{Close}
 use Rattle.luworld.specs.Jobs.{JobView}
@@ -8,25 +9,29 @@ use Rattle.lulink.specs.declared.sender.Offer.{Offer}
 use Rattle.lulink.specs.declared.sender.Offer.TheVariants.{Done, Full}
 use Rattle.lulink.specs.Lists.{list_of, IsNextOf}
 
--- The run, the link, the capacity, what was put, and the words by which its calls went, one for each try and
--- each look. Each of them is a word of the receiver's that a load of this end gave: at that call, or where it
--- showed room already, at an earlier one.
+-- The run, the link, the capacity, which ring the end is of, what was put, and the words of the receiver's
+-- that the loads of this end gave, one for each load.
 pub record SenderView : Type 0 where
   pub job : JobView
   pub link : ℕ
   pub capacity : ℕ
+  pub ring : TableId
   pub put : List Msg
   pub seen : List ℕ
 
--- The run, the link, the capacity, what was taken, and the words by which its calls went, one for each try
--- and each look. Each of them is a word of the sender's that a load of this end gave: at that call, or where
--- it showed a message already, at an earlier one.
+-- The run, the link, the capacity, which ring the end is of, what was taken, and the words of the sender's
+-- that the loads of this end gave, one for each load.
 pub record ReceiverView : Type 0 where
   pub job : JobView
   pub link : ℕ
   pub capacity : ℕ
+  pub ring : TableId
   pub taken : List Msg
   pub seen : List ℕ
+
+-- the two ends of one ring
+abbrev pub AreOfOneRing : SenderView → ReceiverView → Type 0
+AreOfOneRing s r = (s.ring ≡ r.ring) × (s.job ≡ r.job) × (s.link ≡ r.link) × (s.capacity ≡ r.capacity)
 
 -- the message is the next to be put
 abbrev pub IsNextToPut : SenderView → Msg → Type 0
@@ -48,25 +53,25 @@ AreNextToTake r ms = (k : ℕ) (m : Msg) → slice_get ms k ≡ Some m → IsNex
 
 -- just this message was put
 abbrev pub HasPut : Msg → SenderView → SenderView → Type 0
-HasPut m s t = (t.job ≡ s.job) × (t.link ≡ s.link) × (t.put ≡ s.put ++ m ∷ [])
+HasPut m s t = (t.job ≡ s.job) × (t.link ≡ s.link) × (t.put ≡ s.put ++ m ∷ []) × (t.ring ≡ s.ring)
 
 abbrev pub HasPutNothing : SenderView → SenderView → Type 0
-HasPutNothing s t = (t.job ≡ s.job) × (t.link ≡ s.link) × (t.put ≡ s.put)
+HasPutNothing s t = (t.job ≡ s.job) × (t.link ≡ s.link) × (t.put ≡ s.put) × (t.ring ≡ s.ring)
 
 -- just these messages were put
 abbrev pub HasPutAll : List Msg → SenderView → SenderView → Type 0
-HasPutAll ms s t = (t.job ≡ s.job) × (t.link ≡ s.link) × (t.put ≡ s.put ++ ms)
+HasPutAll ms s t = (t.job ≡ s.job) × (t.link ≡ s.link) × (t.put ≡ s.put ++ ms) × (t.ring ≡ s.ring)
 
 -- just this message was taken
 abbrev pub HasTaken : Msg → ReceiverView → ReceiverView → Type 0
-HasTaken m r q = (q.job ≡ r.job) × (q.link ≡ r.link) × (q.taken ≡ r.taken ++ m ∷ [])
+HasTaken m r q = (q.job ≡ r.job) × (q.link ≡ r.link) × (q.taken ≡ r.taken ++ m ∷ []) × (q.ring ≡ r.ring)
 
 abbrev pub HasTakenNothing : ReceiverView → ReceiverView → Type 0
-HasTakenNothing r q = (q.job ≡ r.job) × (q.link ≡ r.link) × (q.taken ≡ r.taken)
+HasTakenNothing r q = (q.job ≡ r.job) × (q.link ≡ r.link) × (q.taken ≡ r.taken) × (q.ring ≡ r.ring)
 
 -- just these messages were taken
 abbrev pub HasTakenAll : List Msg → ReceiverView → ReceiverView → Type 0
-HasTakenAll ms r q = (q.job ≡ r.job) × (q.link ≡ r.link) × (q.taken ≡ r.taken ++ ms)
+HasTakenAll ms r q = (q.job ≡ r.job) × (q.link ≡ r.link) × (q.taken ≡ r.taken ++ ms) × (q.ring ≡ r.ring)
 
 -- just the message was put, or nothing was and it comes back
 abbrev pub PutOrBack : Offer → Msg → SenderView → SenderView → Type 0

@@ -5,8 +5,10 @@
 //! - [`open_link`], [`LinkError`]: both ends of a link.
 //! - [`Tx`], [`Offer`], [`PutError`]: the sender's end.
 //! - [`Rx`], [`TakeError`]: the receiver's end.
+//! - [`laws`]: what the rule of a link's ring says.
 #![tactic(auto)]
 
+pub mod laws;
 mod opening;
 mod put_side;
 mod receiver;

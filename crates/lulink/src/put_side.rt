@@ -3,7 +3,7 @@
 
 ghost use Rattle.std.specs.Prelude.{◌≡◌, ◌+◌, ◌<◌, ◌≤◌, ◌%◌, [], ◌∷◌, ◌++◌, length, Option, Some, slice_get};
 ghost use Rattle.atomic_table.specs.Table.{rest};
-ghost use Rattle.lulink.specs.Words.{number, has_left, IsFinal};
+ghost use Rattle.lulink.specs.Words.{number, has_left, IsFinal, HasSeen, RestsOn};
 ghost use Rattle.lulink.specs.Insides.{given_list, AreGivenMessages, IsPutSide, SoughtRoom, HasFilled};
 
 use crate::rule::{Leave, LoadHead, Look, Ring, RingSeat, StoreTail};
@@ -41,6 +41,8 @@ impl PutSide {
         ensures sought { SoughtRoom ring.now.shared.key self.old result self.new }
         ensures all { self.new.held < wanted
             → self.new.count + self.new.held ≡ number self.new.word + ring.now.shared.key.capacity }
+        ensures loaded { self.new.held < wanted
+            → HasSeen self.old.seat.me.0.seen self.new.word self.new.seat.me.0.seen }
     {
         if self.held >= wanted {
             return true;
@@ -62,7 +64,7 @@ impl PutSide {
         requires next { slice_get (given_list ring.now.shared.key) self.old.count ≡ Some msg }
         ensures side { IsPutSide ring.now.shared.table_id ring.now.shared.key self.new }
         ensures count { self.new.count ≡ self.old.count + 1 }
-        ensures seen { self.new.seat.me.0.seen ≡ self.old.seat.me.0.seen ++ self.old.word ∷ [] }
+        ensures seen { self.new.seat.me.0.seen ≡ self.old.seat.me.0.seen }
     {
         let room = ring.slot_count();
         ring.shared.exchange(&mut self.seat, self.slot, Some(msg));
@@ -81,9 +83,13 @@ impl PutSide {
         ensures side { IsPutSide ring.now.shared.table_id ring.now.shared.key self.new }
         ensures within { result ≤ length msgs.now }
         ensures count { self.new.count ≡ self.old.count + result }
-        ensures seen { self.new.seat.me.0.seen ≡ self.old.seat.me.0.seen ++ self.new.word ∷ [] }
+        ensures rests { RestsOn self.old.seat.me.0.seen self.new.word self.new.seat.me.0.seen }
         ensures full { result < length msgs.now
             → self.new.count ≡ number self.new.word + ring.now.shared.key.capacity }
+        ensures loaded { result < length msgs.now
+            → HasSeen self.old.seat.me.0.seen self.new.word self.new.seat.me.0.seen }
+        ensures look { length msgs.now ≡ 0
+            → HasSeen self.old.seat.me.0.seen self.new.word self.new.seat.me.0.seen }
         ensures last { IsFinal self.old.seat.me.0.seen self.new.word }
     {
         if msgs.is_empty() {
@@ -111,7 +117,7 @@ impl PutSide {
         ensures count { self.new.count ≡ self.old.count + length msgs.now }
         ensures word { self.new.word ≡ self.old.word }
         ensures held { self.new.held + length msgs.now ≡ self.old.held }
-        ensures seen { self.new.seat.me.0.seen ≡ self.old.seat.me.0.seen ++ self.old.word ∷ [] }
+        ensures seen { self.new.seat.me.0.seen ≡ self.old.seat.me.0.seen }
     {
         let passed = msgs.len() as u64;
         self.fill(ring, msgs);
@@ -162,7 +168,7 @@ impl PutSide {
         requires { IsPutSide ring.now.shared.table_id ring.now.shared.key self.old }
         ensures side { IsPutSide ring.now.shared.table_id ring.now.shared.key self.new }
         ensures count { self.new.count ≡ self.old.count }
-        ensures seen { self.new.seat.me.0.seen ≡ self.old.seat.me.0.seen ++ self.new.word ∷ [] }
+        ensures seen { HasSeen self.old.seat.me.0.seen self.new.word self.new.seat.me.0.seen }
         ensures gone { (result ≡ has_left self.new.word)
             × IsFinal self.old.seat.me.0.seen self.new.word }
     {

@@ -1,14 +1,17 @@
 //! The receiver's end.
 
-ghost use Rattle.std.specs.Prelude.{◌≡◌, ◌+◌, ◌≤◌, ℕ, length, vec_capacity, IfOk, IfErr, IfSome};
+ghost use Rattle.std.specs.Prelude.{◌≡◌, ◌+◌, ◌≤◌, ℕ, [], length, vec_capacity, IfOk, IfErr, IfSome};
+ghost use Rattle.std.specs.Arc.{arc_value};
 ghost use Rattle.luworld.specs.WorldViews.{IsPrefixOf};
 ghost use Rattle.lulink.specs.Lists.{list_of};
 ghost use Rattle.lulink.specs.Words.{has_left, IsFinal};
 ghost use Rattle.lulink.specs.Views.{IsNextToTake, IsWholeAt, IsWholeAtClose, IsRunTaken, HasTaken, HasTakenNothing, TakenOrNot};
+ghost use Rattle.lulink.specs.declared.rule.Role.TheVariants.{Consumer};
+ghost use Rattle.lulink.specs.Insides.{IsRing, IsNewSeat};
 ghost use Rattle.lulink.specs.Seen.{took_none, Polled, PolledRun, FoundOne, FoundNothingLeft};
 
 use crate::opening::LinkNo;
-use crate::rule::Ring;
+use crate::rule::{Ring, RingSeat};
 use crate::take_side::TakeSide;
 use crate::word::pause;
 use luflow::Msg;
@@ -22,8 +25,8 @@ pub enum TakeError {
     Gone,
 }
 
-/// The receiver's end. A contract sees its job and link, the capacity, what was taken, and the sender's words by which its
-/// calls went. An end that is dropped leaves.
+/// The receiver's end. A contract sees its job and link, the capacity, which ring it is of, what was taken, and the sender's
+/// words that its loads gave. An end that is dropped leaves.
 pub struct Rx {
     pub(crate) ring: Arc<Ring>,
     pub(crate) side: TakeSide,
@@ -43,6 +46,32 @@ impl Model for Rx {
 }
 
 impl Rx {
+    /// The end of the link's ring that has this seat, before its first step.
+    pub(crate) fn new(ring: Arc<Ring>, seat: RingSeat, link: LinkNo) -> Rx
+        requires number { link ≡ (arc_value ring).shared.key.link }
+        requires ring { IsRing (arc_value ring).shared.table_id (arc_value ring).shared.key }
+        requires seat { IsNewSeat Consumer (arc_value ring).shared.table_id
+            (arc_value ring).shared.key seat }
+        ensures job { result.job ≡ (arc_value ring).shared.key.job.value }
+        ensures link { result.link ≡ link }
+        ensures capacity { result.capacity ≡ (arc_value ring).shared.key.capacity }
+        ensures ring { result.ring ≡ (arc_value ring).shared.table_id }
+        ensures taken { result.taken ≡ [] }
+        ensures seen { result.seen ≡ [] }
+    {
+        Rx {
+            ring,
+            side: TakeSide {
+                seat,
+                count: 0,
+                slot: 0,
+                word: 0,
+                held: 0,
+            },
+            link,
+        }
+    }
+
     /// The number of the link. Takes no memory.
     pub fn link(&self) -> LinkNo
         ensures { result ≡ self.now.link }

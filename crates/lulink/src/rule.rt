@@ -22,8 +22,8 @@ pub enum Role {
     Consumer,
 }
 
-/// What a seat knows: its role, the ring's number of slots and list, how many messages its end has passed, the words by which
-/// its calls went, the word that it loaded last, how many slots of its next messages it has, and whether its end has left.
+/// What a seat knows: its role, the ring's number of slots and list, how many messages its end has passed, the words that its
+/// loads gave, the last of them (0 before the first), how many slots of its next messages it has, and whether its end has left.
 /// No value of it is made.
 pub struct EndState {
     pub role: Role,

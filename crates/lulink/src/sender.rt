@@ -1,15 +1,18 @@
 //! The sender's end.
 
-ghost use Rattle.std.specs.Prelude.{◌≡◌, ◌≤◌, ℕ, length, take, IfOk, IfErr};
+ghost use Rattle.std.specs.Prelude.{◌≡◌, ◌≤◌, ℕ, [], length, take, IfOk, IfErr};
+ghost use Rattle.std.specs.Arc.{arc_value};
 ghost use Rattle.luworld.specs.WorldViews.{IsPrefixOf};
 ghost use Rattle.lulink.specs.Lists.{list_of};
 ghost use Rattle.lulink.specs.Words.{has_left, IsFinal};
 ghost use Rattle.lulink.specs.Views.{IsNextToPut, AreNextToPut, HasPut, HasPutAll, HasPutNothing, PutOrBack};
+ghost use Rattle.lulink.specs.declared.rule.Role.TheVariants.{Producer};
+ghost use Rattle.lulink.specs.Insides.{IsRing, IsNewSeat};
 ghost use Rattle.lulink.specs.Seen.{put_none, Offered, OfferedRun, FoundRoom, FoundFullAndGone};
 
 use crate::opening::LinkNo;
 use crate::put_side::PutSide;
-use crate::rule::Ring;
+use crate::rule::{Ring, RingSeat};
 use crate::word::pause;
 use luflow::Msg;
 use std::marker::Model;
@@ -29,8 +32,8 @@ pub enum PutError {
     Gone(Msg),
 }
 
-/// The sender's end. A contract sees its job and link, the capacity, what was put, and the receiver's words by which its calls
-/// went. An end that is dropped leaves.
+/// The sender's end. A contract sees its job and link, the capacity, which ring it is of, what was put, and the receiver's
+/// words that its loads gave. An end that is dropped leaves.
 pub struct Tx {
     pub(crate) ring: Arc<Ring>,
     pub(crate) side: PutSide,
@@ -50,6 +53,32 @@ impl Model for Tx {
 }
 
 impl Tx {
+    /// The end of the link's ring that has this seat, before its first step.
+    pub(crate) fn new(ring: Arc<Ring>, seat: RingSeat, link: LinkNo) -> Tx
+        requires number { link ≡ (arc_value ring).shared.key.link }
+        requires ring { IsRing (arc_value ring).shared.table_id (arc_value ring).shared.key }
+        requires seat { IsNewSeat Producer (arc_value ring).shared.table_id
+            (arc_value ring).shared.key seat }
+        ensures job { result.job ≡ (arc_value ring).shared.key.job.value }
+        ensures link { result.link ≡ link }
+        ensures capacity { result.capacity ≡ (arc_value ring).shared.key.capacity }
+        ensures ring { result.ring ≡ (arc_value ring).shared.table_id }
+        ensures put { result.put ≡ [] }
+        ensures seen { result.seen ≡ [] }
+    {
+        Tx {
+            ring,
+            side: PutSide {
+                seat,
+                count: 0,
+                slot: 0,
+                word: 0,
+                held: 0,
+            },
+            link,
+        }
+    }
+
     /// The number of the link. Takes no memory.
     pub fn link(&self) -> LinkNo
         ensures { result ≡ self.now.link }

@@ -3,7 +3,7 @@
 
 ghost use Rattle.std.specs.Prelude.{◌≡◌, ℕ, ◌+◌, ◌<◌, ◌≤◌, ◌%◌, [], ◌∷◌, ◌++◌, length, take, drop, Option, Some, None, slice_get, vec_capacity};
 ghost use Rattle.atomic_table.specs.Table.{rest};
-ghost use Rattle.lulink.specs.Words.{number, has_left, IsFinal};
+ghost use Rattle.lulink.specs.Words.{number, has_left, IsFinal, HasSeen, RestsOn};
 ghost use Rattle.lulink.specs.Insides.{given_list, IsTakeSide, SoughtMessage, HasEmptied};
 
 use crate::rule::{Leave, LoadTail, Look, Ring, RingSeat, StoreHead};
@@ -41,6 +41,8 @@ impl TakeSide {
         ensures sought { SoughtMessage self.old result self.new }
         ensures all { self.new.held < wanted
             → self.new.count + self.new.held ≡ number self.new.word }
+        ensures loaded { self.new.held < wanted
+            → HasSeen self.old.seat.me.0.seen self.new.word self.new.seat.me.0.seen }
     {
         if self.held >= wanted {
             return true;
@@ -61,7 +63,7 @@ impl TakeSide {
         ensures side { IsTakeSide ring.now.shared.table_id ring.now.shared.key self.new }
         ensures count { self.new.count ≡ self.old.count + 1 }
         ensures next { result ≡ slice_get (given_list ring.now.shared.key) self.old.count }
-        ensures seen { self.new.seat.me.0.seen ≡ self.old.seat.me.0.seen ++ self.old.word ∷ [] }
+        ensures seen { self.new.seat.me.0.seen ≡ self.old.seat.me.0.seen }
     {
         let room = ring.slot_count();
         let found = ring.shared.exchange(&mut self.seat, self.slot, None);
@@ -84,8 +86,12 @@ impl TakeSide {
         ensures into { into.new.items ≡ into.old.items
             ++ take result (drop self.old.count (given_list ring.now.shared.key)) }
         ensures capacity { vec_capacity into.new ≡ vec_capacity into.old }
-        ensures seen { self.new.seat.me.0.seen ≡ self.old.seat.me.0.seen ++ self.new.word ∷ [] }
+        ensures rests { RestsOn self.old.seat.me.0.seen self.new.word self.new.seat.me.0.seen }
         ensures empty { result < most → self.new.count ≡ number self.new.word }
+        ensures loaded { result < most
+            → HasSeen self.old.seat.me.0.seen self.new.word self.new.seat.me.0.seen }
+        ensures look { most ≡ 0
+            → HasSeen self.old.seat.me.0.seen self.new.word self.new.seat.me.0.seen }
         ensures last { IsFinal self.old.seat.me.0.seen self.new.word }
     {
         if most == 0 {
@@ -116,7 +122,7 @@ impl TakeSide {
         ensures into { into.new.items ≡ into.old.items
             ++ take there (drop self.old.count (given_list ring.now.shared.key)) }
         ensures capacity { vec_capacity into.new ≡ vec_capacity into.old }
-        ensures seen { self.new.seat.me.0.seen ≡ self.old.seat.me.0.seen ++ self.old.word ∷ [] }
+        ensures seen { self.new.seat.me.0.seen ≡ self.old.seat.me.0.seen }
     {
         let passed = there as u64;
         self.empty(ring, there, into);
@@ -174,7 +180,7 @@ impl TakeSide {
         requires { IsTakeSide ring.now.shared.table_id ring.now.shared.key self.old }
         ensures side { IsTakeSide ring.now.shared.table_id ring.now.shared.key self.new }
         ensures count { self.new.count ≡ self.old.count }
-        ensures seen { self.new.seat.me.0.seen ≡ self.old.seat.me.0.seen ++ self.new.word ∷ [] }
+        ensures seen { HasSeen self.old.seat.me.0.seen self.new.word self.new.seat.me.0.seen }
         ensures gone { (result ≡ has_left self.new.word)
             × IsFinal self.old.seat.me.0.seen self.new.word }
     {

@@ -14,6 +14,7 @@ sender_view t = record {
   job = t.job.value;
   link = t.link;
   capacity = ruled_capacity (sends_on t.end);
+  ring = (sends_on t.end).stamps.shared.table_id;
   put = (known t.link_pass).done;
   seen = [];
 }
@@ -23,6 +24,7 @@ receiver_view t = record {
   job = t.job.value;
   link = t.link;
   capacity = ruled_capacity (receives_on t.end);
+  ring = (receives_on t.end).stamps.shared.table_id;
   taken = (known t.link_pass).done;
   seen = [];
 }

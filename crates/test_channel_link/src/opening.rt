@@ -1,6 +1,7 @@
 //! Opening a link.
 
 ghost use Rattle.std.specs.Prelude.{◌≡◌, ◌<◌, [], IfOk};
+ghost use Rattle.lulink.specs.Views.{AreOfOneRing};
 
 use crate::doors::Doors;
 use crate::receiver::Rx;
@@ -14,8 +15,8 @@ use std::marker::Brand;
 use std::snapshot::Snapshot;
 use std::sync::Arc;
 
-/// Opens a link of this job, with room for this many messages (at least one). Both ends know which link of which job they
-/// are of, and may go to two threads. A number that is no link's has an empty list: nothing can be put.
+/// Opens a link of this job, with room for this many messages (at least one). Both ends are of one channel, know which link
+/// of which job they are of, and may go to two threads. A number that is no link's has an empty list: nothing can be put.
 ///
 /// All memory that the two ends ever use is taken here. `OutOfMemory`: nothing was made.
 pub fn open_link(
@@ -32,6 +33,7 @@ pub fn open_link(
     ensures room { IfOk result
         (λ ends. (ends.0.capacity ≡ capacity) × (ends.1.capacity ≡ capacity)) }
     ensures unseen { IfOk result (λ ends. (ends.0.seen ≡ []) × (ends.1.seen ≡ [])) }
+    ensures ring { IfOk result (λ ends. AreOfOneRing ends.0 ends.1) }
 {
     let room = usize::from(capacity);
     let doors = Arc::new(alloc, Doors::new())?;

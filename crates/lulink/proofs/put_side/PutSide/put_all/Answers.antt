@@ -1,4 +1,4 @@
-use Rattle.std.proofs.Common.{◌≡◌, ◌+◌, ◌-◌, [], ◌∷◌, ◌++◌, length, ap, ◌∙◌, arith}
+use Rattle.std.proofs.Common.{◌≡◌, ◌+◌, ◌-◌, length, ap, ◌∙◌, arith}
 use Rattle.lulink.specs.declared.put_side.PutSide.{PutSide}
 use Rattle.lulink.specs.Insides.{IsPutSide}
 use Rattle.lulink.proofs.Runs.{all_within, stores_tail, stored_tail}
@@ -17,7 +17,7 @@ store-requires c =
 abbrev after : After-store → PutSide
 after c = record { seat = c.store.new.seat; count = c.fill.new.self.count + length c.args.msgs.now; slot = c.fill.new.self.slot; word = c.fill.new.self.word; held = c.fill.new.self.held - length c.args.msgs.now }
 
-stored : (c : After-store) → IsPutSide c.args.ring.now.shared.table_id c.args.ring.now.shared.key (after c) × (c.store.new.seat.me.0.seen ≡ c.args.self.now.seat.me.0.seen ++ c.args.self.now.word ∷ [])
+stored : (c : After-store) → IsPutSide c.args.ring.now.shared.table_id c.args.ring.now.shared.key (after c) × (c.store.new.seat.me.0.seen ≡ c.args.self.now.seat.me.0.seen)
 stored c =
     let i = c.requires.side in
     let held = c.requires.held in

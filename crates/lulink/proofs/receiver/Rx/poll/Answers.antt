@@ -1,9 +1,9 @@
-use Rattle.std.proofs.Common.{◌+◌, ◌<◌, take, Option, IfSome, [], ◌∷◌, ◌++◌, sym, ap, ◌∙◌, subst}
+use Rattle.std.proofs.Common.{◌+◌, ◌<◌, take, Option, IfSome, sym, ap, ◌∙◌, subst}
 use Rattle.std.specs.Prelude.{slice_get}
 use Rattle.luflow.specs.declared.message.Msg.{Msg}
-use Rattle.lulink.specs.Words.{number, IsFinal}
+use Rattle.lulink.specs.Words.{number, IsFinal, RestsOn}
 use Rattle.lulink.specs.Views.{ReceiverView, IsNextToTake, IsWholeAt}
-use Rattle.lulink.specs.Seen.{took_one, Polled, HadOne}
+use Rattle.lulink.specs.Seen.{TookOne, Polled, HadOne}
 use Rattle.lulink.specs.Insides.{given_list, receiver_view}
 use Rattle.lulink.proofs.Closing.{close_ends}
 use Rattle.lulink.proofs.Waits.{polled_taken}
@@ -19,14 +19,16 @@ returns-clause-seen c =
     let there = next_there side sought.2 in
     let x = there.1.0 in
     let next = (λ i. slice_get (given_list (sym d i).shared.key) (sym sought.0 i)) ∙ there.1.1 in
-    let length_is = taken_length c.self.inside c.self.invariant in (
+    let length_is = taken_length c.self.inside c.self.invariant in
+    let rests = subst (λ l. RestsOn c.self.inside.side.seat.me.0.seen w l) (sym c.take.ensures.seen) sought.1 in (
       w,
       subst (λ (o : Option Msg). Polled o c.args.self.now w (receiver_view record { ring = c.self.inside.ring; side = c.take.new.self; link = c.self.inside.link })) (sym (c.take.ensures.next ∙ there.1.1)) (
-        receiver_moved c.self.inside c.take.new.self w x (c.take.ensures.count ∙ ap (λ n. n + 1) sought.0) (c.take.ensures.seen ∙ ap (λ l. l ++ w ∷ []) sought.1) next ∙ ap (λ (r : ReceiverView). took_one r w x) c.self.view_is,
+        subst (λ (r : ReceiverView). TookOne x r w (receiver_view record { ring = c.self.inside.ring; side = c.take.new.self; link = c.self.inside.link })) c.self.view_is
+            (receiver_moved c.self.inside c.take.new.self w x (c.take.ensures.count ∙ ap (λ n. n + 1) sought.0) rests next),
         subst (λ (r : ReceiverView). IsNextToTake r x) c.self.view_is (ap (λ n. slice_get (given_list c.self.inside.ring.value.shared.key) n) length_is ∙ next),
         subst (λ (r : ReceiverView). HadOne r w) c.self.view_is (subst (λ n. n < number w) (sought.0 ∙ sym length_is) there.0),
       ),
-      subst (λ (r : ReceiverView). IsFinal r.seen w) c.self.view_is (subst (λ l. IsFinal l w) sought.1 side.final),
+      subst (λ (r : ReceiverView). IsFinal r.seen w) c.self.view_is sought.3,
     )
 
 pub returns-clause-taken : goal.returns-clause-taken

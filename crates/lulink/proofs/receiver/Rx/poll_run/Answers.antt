@@ -28,6 +28,6 @@ returns-clause-seen c =
     let e = c.take_run.ensures in (
       c.take_run.new.self.word,
       subst (λ (r : ReceiverView). PolledRun c.args.most c.take_run.result r c.take_run.new.self.word (receiver_view record { ring = c.self.inside.ring; side = c.take_run.new.self; link = c.self.inside.link })) c.self.view_is
-          (receiver_learned c.self.inside c.take_run.new.self c.args.most c.take_run.result c.self.invariant (side (goal.at.returns-clause-seen c).After-take_run) e.count e.seen e.empty),
+          (receiver_learned c.self.inside c.take_run.new.self c.args.most c.take_run.result c.self.invariant (side (goal.at.returns-clause-seen c).After-take_run) e.count e.rests (λ lt. (e.loaded lt, e.empty lt)) e.look),
       subst (λ (r : ReceiverView). IsFinal r.seen c.take_run.new.self.word) c.self.view_is e.last,
     )

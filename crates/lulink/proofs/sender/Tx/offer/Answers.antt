@@ -1,8 +1,8 @@
-use Rattle.std.proofs.Common.{◌+◌, ◌<◌, ℕ, [], ◌∷◌, ◌++◌, sym, ap, ◌∙◌, subst, arith}
+use Rattle.std.proofs.Common.{◌+◌, ◌<◌, ℕ, sym, ap, ◌∙◌, subst, arith}
 use Rattle.lulink.specs.declared.sender.Offer.TheVariants.{Done}
-use Rattle.lulink.specs.Words.{number, IsFinal}
+use Rattle.lulink.specs.Words.{number, IsFinal, RestsOn}
 use Rattle.lulink.specs.Views.{SenderView}
-use Rattle.lulink.specs.Seen.{put_one, HadRoom}
+use Rattle.lulink.specs.Seen.{PutOne, HadRoom}
 use Rattle.lulink.specs.Insides.{sender_view}
 use Rattle.lulink.proofs.Waits.{offered_put}
 use Rattle.lulink.proofs.Ends.{next_at, put_length, sender_moved}
@@ -17,13 +17,15 @@ returns-clause-seen c =
     let next = next_at c.self.inside _ _ c.self.invariant c.self.view_is c.requires in
     let any = sought.2 in
     let held = side.room in
-    let free : c.has_room.new.self.count < number w + c.deref-ring.result.now.shared.key.capacity = omega arith in (
+    let free : c.has_room.new.self.count < number w + c.deref-ring.result.now.shared.key.capacity = omega arith in
+    let rests = subst (λ l. RestsOn c.self.inside.side.seat.me.0.seen w l) (sym c.put.ensures.seen) sought.1 in (
       w,
       (
-        sender_moved c.self.inside c.put.new.self w c.args.msg (c.put.ensures.count ∙ ap (λ n. n + 1) sought.0) (c.put.ensures.seen ∙ ap (λ l. l ++ w ∷ []) sought.1) next ∙ ap (λ (s : SenderView). put_one s w c.args.msg) c.self.view_is,
+        subst (λ (s : SenderView). PutOne c.args.msg s w (sender_view record { ring = c.self.inside.ring; side = c.put.new.self; link = c.self.inside.link })) c.self.view_is
+            (sender_moved c.self.inside c.put.new.self w c.args.msg (c.put.ensures.count ∙ ap (λ n. n + 1) sought.0) rests next),
         subst (λ (s : SenderView). HadRoom s w) c.self.view_is (subst (λ (y : ℕ × ℕ). y.0 < number w + y.1) (λ i. ((sought.0 ∙ sym (put_length c.self.inside c.self.invariant)) i, (d i).shared.key.capacity)) free),
       ),
-      subst (λ (s : SenderView). IsFinal s.seen w) c.self.view_is (subst (λ l. IsFinal l w) sought.1 side.final),
+      subst (λ (s : SenderView). IsFinal s.seen w) c.self.view_is sought.3,
     )
 
 pub returns-clause-put : goal.returns-clause-put

@@ -2,7 +2,7 @@ use Rattle.std.proofs.Common.{◌≡◌, ◌<◌, ◌+◌, length, take, ◌∙�
 use Rattle.std.specs.Prelude.{slice_get}
 use Rattle.atomic_table.specs.Seated.{TableId}
 use Rattle.lulink.specs.declared.rule.Terms.{Terms}
-use Rattle.lulink.specs.Words.{number, IsFinal}
+use Rattle.lulink.specs.Words.{number, IsFinal, HasSeen}
 use Rattle.lulink.specs.Views.{SenderView, HasPutAll}
 use Rattle.lulink.specs.Seen.{OfferedRun}
 use Rattle.lulink.specs.Insides.{given_list, sender_view, IsPutSide}
@@ -24,9 +24,9 @@ returns-clause-seen c =
     let d = c.deref-ring.ensures in
     let e = c.put_run.ensures in
     let side = subst (λ (y : TableId × Terms). IsPutSide y.0 y.1 c.put_run.new.self) (λ i. ((d i).shared.table_id, (d i).shared.key)) e.side in
-    let full : c.put_run.result < length c.args.msgs.now → c.put_run.new.self.count ≡ number c.put_run.new.self.word + c.self.inside.ring.value.shared.key.capacity = λ lt. e.full lt ∙ (λ i. number c.put_run.new.self.word + (d i).shared.key.capacity) in (
+    let full : c.put_run.result < length c.args.msgs.now → HasSeen c.self.inside.side.seat.me.0.seen c.put_run.new.self.word c.put_run.new.self.seat.me.0.seen × (c.put_run.new.self.count ≡ number c.put_run.new.self.word + c.self.inside.ring.value.shared.key.capacity) = λ lt. (e.loaded lt, e.full lt ∙ (λ i. number c.put_run.new.self.word + (d i).shared.key.capacity)) in (
       c.put_run.new.self.word,
       subst (λ (s : SenderView). OfferedRun (length c.args.msgs.now) c.put_run.result s c.put_run.new.self.word (sender_view record { ring = c.self.inside.ring; side = c.put_run.new.self; link = c.self.inside.link })) c.self.view_is
-          (sender_learned c.self.inside c.put_run.new.self (length c.args.msgs.now) c.put_run.result c.self.invariant side e.count e.seen full),
+          (sender_learned c.self.inside c.put_run.new.self (length c.args.msgs.now) c.put_run.result c.self.invariant side e.count e.rests full e.look),
       subst (λ (s : SenderView). IsFinal s.seen c.put_run.new.self.word) c.self.view_is e.last,
     )

@@ -1,4 +1,4 @@
-use Rattle.std.proofs.Common.{◌≡◌, ◌+◌, ◌-◌, [], ◌∷◌, ◌++◌, ap, ◌∙◌, arith}
+use Rattle.std.proofs.Common.{◌≡◌, ◌+◌, ◌-◌, ap, ◌∙◌, arith}
 use Rattle.lulink.specs.declared.take_side.TakeSide.{TakeSide}
 use Rattle.lulink.specs.Insides.{IsTakeSide}
 use Rattle.lulink.proofs.Runs.{stores_head, stored_head}
@@ -16,7 +16,7 @@ store-requires c =
 abbrev after : After-store → TakeSide
 after c = record { seat = c.store.new.seat; count = c.empty.new.self.count + c.args.there; slot = c.empty.new.self.slot; word = c.empty.new.self.word; held = c.empty.new.self.held - c.args.there }
 
-stored : (c : After-store) → IsTakeSide c.args.ring.now.shared.table_id c.args.ring.now.shared.key (after c) × (c.store.new.seat.me.0.seen ≡ c.args.self.now.seat.me.0.seen ++ c.args.self.now.word ∷ [])
+stored : (c : After-store) → IsTakeSide c.args.ring.now.shared.table_id c.args.ring.now.shared.key (after c) × (c.store.new.seat.me.0.seen ≡ c.args.self.now.seat.me.0.seen)
 stored c =
     let has = c.empty.ensures.side in
     let count : c.empty.new.self.count ≡ c.args.self.now.count = has.3 in
