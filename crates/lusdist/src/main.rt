@@ -3,7 +3,7 @@
 #![tactic(auto)]
 
 use lusdist_answers::serve;
-use lusdist_shell::{Meter, RealFiles, Sink, put_unread};
+use lusdist_shell::{Meter, RealDumps, RealFiles, Sink, put_unread};
 use std::process::ExitCode;
 use std::{env, io};
 
@@ -18,8 +18,18 @@ fn main(rt: HostRuntime) -> ExitCode {
     let status = match words_of(&rt) {
         Ok(words) => {
             let files = RealFiles::new(&rt);
+            let mut dumps = RealDumps::new(&rt);
             let meter = Meter::new(&rt);
-            serve(&rt, rt.alloc(), &words, &files, &meter, &mut out, &mut err)
+            serve(
+                &rt,
+                rt.alloc(),
+                &words,
+                &files,
+                &mut dumps,
+                &meter,
+                &mut out,
+                &mut err,
+            )
         }
         Err(e) => put_unread(&mut err, e.kind()),
     };

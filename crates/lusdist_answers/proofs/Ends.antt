@@ -17,11 +17,15 @@ use Rattle.lusdist_shell.specs.declared.request.TurnsForm.TheVariants.{Nothing}
 use Rattle.lusdist_shell.specs.Request.{IsAskedBy}
 use Rattle.lusdist_call.specs.declared.call_error.CallError.{CallError}
 use Rattle.lusdist_call.specs.declared.call_error.CallError.TheVariants.{CannotRead, CannotWrite, NotAscii, Syntax, Rules, Flat, Place, Table, Schedule, Fault, LinkLost, NoThread, OutOfMemory, Mistaken}
-use Rattle.lusdist_call.specs.Asked.{IsDone, AreNotes, AreNotesOf, AskForNoTrace}
+use Rattle.std.specs.Prelude.{Option}
+use Rattle.lusdist_shell.specs.Dumps.{Written}
+use Rattle.lusdist_call.specs.Answers.{IsAnswer, IsDone, AskForNoTrace}
+use Rattle.lusdist_call.specs.Asked.{AreNotesOf}
+use Rattle.lusdist_call.specs.Files.{IsUnfiled}
 use Rattle.lusdist_call.specs.Statuses.{status_of}
 use Rattle.lusdist_call.specs.Stopped.{IsRefusal}
 use Rattle.lusdist_call.specs.Left.{Streams, IsEnded, IsHelp}
-use Rattle.lusdist_call.specs.Left.IsEnded.{answered, refused, unwritten}
+use Rattle.lusdist_call.specs.Left.IsEnded.{answered, refused, undumped, unwritten}
 use Rattle.lusdist_shell.specs.Files.{FileFacts}
 
 -- which kind of error the parser of the command line reports
@@ -50,13 +54,13 @@ which clap.Format = mistake (λ h. cc) (λ h. cc) (λ h. cc)
 which clap.OutOfMemory = memory refl
 
 -- where no turns are to be reported there are no notes
-no_notes : (gives : FileFacts) (request : Request) (notes : List ℕ) → ((replay : ReplayRequest) → request ≡ Replay replay → replay.turns ≡ Nothing) → AreNotes gives request notes → notes ≡ []
-no_notes gives (Check request) notes quiet are = are
-no_notes gives (Eval request) notes quiet are = are
-no_notes gives (Plan request) notes quiet are = are
-no_notes gives (Run request) notes quiet are = are
-no_notes gives (Explain request) notes quiet are = are
-no_notes gives (Replay request) notes quiet are = subst (λ (form : TurnsForm). AreNotesOf are.job are.turns request.finish form are.dones notes) (quiet request refl) are.notes_are
+no_notes : (gives : FileFacts) (request : Request) (text notes : List ℕ) (dump : Option (List ℕ)) → ((replay : ReplayRequest) → request ≡ Replay replay → replay.turns ≡ Nothing) → IsAnswer gives request text notes dump → notes ≡ []
+no_notes gives (Check request) text notes dump quiet is = is.1.0
+no_notes gives (Eval request) text notes dump quiet is = is.1
+no_notes gives (Plan request) text notes dump quiet is = is.1.0
+no_notes gives (Run request) text notes dump quiet is = is.1
+no_notes gives (Explain request) text notes dump quiet is = is.1.0
+no_notes gives (Replay request) text notes dump quiet is = subst (λ (form : TurnsForm). AreNotesOf is.job is.turns request.finish form is.printed.world.dones notes) (quiet request refl) is.printed.notes_are
 
 -- a refusal has one of three statuses
 pub status_some : (stop : CallError) → (status_of stop ≡ 1) ⊎ ((status_of stop ≡ 2) ⊎ (status_of stop ≡ 3))
@@ -118,28 +122,49 @@ never_done stop e = elim (status_some stop) [
   | inr more ↦ elim more [ inl two ↦ absurd (omega (arith, e, two)) | inr three ↦ absurd (omega (arith, e, three)) ]
 ]
 
-module _ {W V : Type 0} (gives : FileFacts) (takes : FileFacts) (words : List (List ℕ)) (request : Request) (asked : IsAskedBy words request) (status : ℕ) (streams : Streams W V) where
+module _ {W V : Type 0} (gives : FileFacts) (words : List (List ℕ)) (request : Request) (asked : IsAskedBy words request) (status : ℕ) (wrote : List Written) (streams : Streams W V) where
   -- where what is asked for is done, the answer is on the output
-  pub done : IsEnded gives takes request status streams → status ≡ 0 → (text : List ℕ) × IsDone gives words text × Appends (streams.held_out streams.out.writer) (streams.held_out streams.out_after.writer) text
-  done (answered text notes e answer noted filed out) zero = (text, record { request = request; asked = asked; answer = answer }, out.output)
-  done (refused stop e stops filed err) zero = absurd (never_done stop (sym e ∙ zero))
-  done (unwritten text e answer filed none begun) zero = absurd (omega (arith, e, zero))
+  pub done : IsEnded gives request status wrote streams → status ≡ 0 → (text : List ℕ) × IsDone gives words text × Appends (streams.held_out streams.out.writer) (streams.held_out streams.out_after.writer) text
+  done (answered text notes dump e answer are out) zero = (text, record { request = request; asked = asked; notes = notes; dump = dump; answer = answer }, out.output)
+  done (refused stop dump e stops leaves are err) zero = absurd (never_done stop (sym e ∙ zero))
+  done (undumped stop dump e is unfiled err) zero = absurd (omega (arith, e, zero))
+  done (unwritten text notes dump e answer are none begun) zero = absurd (omega (arith, e, zero))
 
   -- where it is done and no turns are to be reported, nothing goes to the error stream
-  pub quiet : AskForNoTrace words → IsEnded gives takes request status streams → status ≡ 0 → streams.err_after ≡ streams.err
-  quiet none (answered text notes e answer noted filed out) zero =
-      out.silent (no_notes gives request notes (λ replay is. none replay (subst (IsAskedBy words) is asked)) noted)
-  quiet none (refused stop e stops filed err) zero = absurd (never_done stop (sym e ∙ zero))
-  quiet none (unwritten text e answer filed out begun) zero = absurd (omega (arith, e, zero))
+  pub quiet : AskForNoTrace words → IsEnded gives request status wrote streams → status ≡ 0 → streams.err_after ≡ streams.err
+  quiet none (answered text notes dump e answer are out) zero =
+      out.silent (no_notes gives request text notes dump (λ replay is. none replay (subst (IsAskedBy words) is asked)) answer)
+  quiet none (refused stop dump e stops leaves are err) zero = absurd (never_done stop (sym e ∙ zero))
+  quiet none (undumped stop dump e is unfiled err) zero = absurd (omega (arith, e, zero))
+  quiet none (unwritten text notes dump e answer are out begun) zero = absurd (omega (arith, e, zero))
 
   -- where it ends with status 1 or 2, it is refused
-  pub reported : (n : ℕ) → (n ≡ 1) ⊎ (n ≡ 2) → IsEnded gives takes request status streams → status ≡ n → IsRefusal gives words n
-  reported n small (answered text notes e answer noted filed out) is = elim small [ inl one ↦ absurd (omega (arith, e, is, one)) | inr two ↦ absurd (omega (arith, e, is, two)) ]
-  reported n small (refused stop e stops filed err) is = record { request = request; asked = asked; stop = stop; stops = stops; status_is = sym is ∙ e }
-  reported n small (unwritten text e answer filed none begun) is = elim small [ inl one ↦ absurd (omega (arith, e, is, one)) | inr two ↦ absurd (omega (arith, e, is, two)) ]
+  pub reported : (n : ℕ) → (n ≡ 1) ⊎ (n ≡ 2) → IsEnded gives request status wrote streams → status ≡ n → IsRefusal gives words n
+  reported n small (answered text notes dump e answer are out) is = elim small [ inl one ↦ absurd (omega (arith, e, is, one)) | inr two ↦ absurd (omega (arith, e, is, two)) ]
+  reported n small (refused stop dump e stops leaves are err) is = record { request = request; asked = asked; stop = stop; stops = stops; status_is = sym is ∙ e }
+  reported n small (undumped stop dump e made unfiled err) is = elim small [ inl one ↦ absurd (omega (arith, e, is, one)) | inr two ↦ absurd (omega (arith, e, is, two)) ]
+  reported n small (unwritten text notes dump e answer are none begun) is = elim small [ inl one ↦ absurd (omega (arith, e, is, one)) | inr two ↦ absurd (omega (arith, e, is, two)) ]
 
   -- where it ends with status 1 or 2, nothing goes to the output
-  pub kept : (status ≡ 1) ⊎ (status ≡ 2) → IsEnded gives takes request status streams → streams.out_after ≡ streams.out
-  kept small (answered text notes e answer noted filed out) = elim small [ inl one ↦ absurd (omega (arith, e, one)) | inr two ↦ absurd (omega (arith, e, two)) ]
-  kept small (refused stop e stops filed err) = err.kept
-  kept small (unwritten text e answer filed none begun) = elim small [ inl one ↦ absurd (omega (arith, e, one)) | inr two ↦ absurd (omega (arith, e, two)) ]
+  pub kept : (status ≡ 1) ⊎ (status ≡ 2) → IsEnded gives request status wrote streams → streams.out_after ≡ streams.out
+  kept small (answered text notes dump e answer are out) = elim small [ inl one ↦ absurd (omega (arith, e, one)) | inr two ↦ absurd (omega (arith, e, two)) ]
+  kept small (refused stop dump e stops leaves are err) = err.kept
+  kept small (undumped stop dump e is unfiled err) = err.kept
+  kept small (unwritten text notes dump e answer are none begun) = elim small [ inl one ↦ absurd (omega (arith, e, one)) | inr two ↦ absurd (omega (arith, e, two)) ]
+
+-- a dump that isn't written ends a call with status 3
+pub unfiled_status : (path dump : Option (List ℕ)) (stop : CallError) (wrote : List Written) → IsUnfiled path dump stop wrote → status_of stop ≡ 3
+unfiled_status path dump (CannotRead name) wrote h = absurd h
+unfiled_status path dump (CannotWrite name) wrote h = refl
+unfiled_status path dump NotAscii wrote h = absurd h
+unfiled_status path dump (Syntax e) wrote h = absurd h
+unfiled_status path dump (Rules e) wrote h = absurd h
+unfiled_status path dump (Flat e) wrote h = absurd h
+unfiled_status path dump (Place e) wrote h = absurd h
+unfiled_status path dump (Table e) wrote h = absurd h
+unfiled_status path dump (Schedule e) wrote h = absurd h
+unfiled_status path dump (Fault name instant kind) wrote h = absurd h
+unfiled_status path dump LinkLost wrote h = absurd h
+unfiled_status path dump NoThread wrote h = absurd h
+unfiled_status path dump (Mistaken reported) wrote h = absurd h
+unfiled_status path dump OutOfMemory wrote h = refl

@@ -51,7 +51,8 @@ use Rattle.lusdist_shell.specs.declared.request.RunRequest.{RunRequest}
 use Rattle.lusdist_shell.specs.declared.request.Request.TheVariants.{Check, Eval, Plan, Replay, Run as AsksRun, Explain}
 use Rattle.lusdist_call.specs.declared.call_error.CallError.{CallError}
 use Rattle.lusdist_call.specs.declared.call_error.CallError.TheVariants.{CannotRead, CannotWrite, NotAscii, Syntax, Rules, Flat, Place as BadPlace, Table as BadTable, Schedule, Fault, LinkLost, NoThread, OutOfMemory, Mistaken}
-use Rattle.lusdist_call.specs.Asked.{HasFlat, IsPlanOfText, IsJobFor, IsChecked, IsPlanned, IsReplayed, IsRan, IsAnswer}
+use Rattle.lusdist_call.specs.Answers.{IsChecked, IsPlanned, IsReplayed, IsRan, IsAnswer}
+use Rattle.lusdist_call.specs.Asked.{HasFlat, IsPlanOfText, IsJobFor}
 use Rattle.lusdist_call.specs.Evaluated.{IsPosedBy, IsEvaluated, IsFaultOf, IsFaultReported}
 use Rattle.lusdist_call.specs.Refused.{IsReportedOf, IsProgramRefused, IsTableRefused, IsPlaceRefused}
 use Rattle.lusdist_call.specs.Refused.IsReportedOf.{rule, flat}
@@ -65,11 +66,11 @@ use Rattle.lusdist_call.specs.Stopped.StopsAtPlan.{no_program, place_unread, pla
 use Rattle.lusdist_call.specs.Stopped.IsCheckStopped.{check_program, check_memory}
 use Rattle.lusdist_call.specs.Mistakes.{mistake_in}
 use Rattle.lusdist_call.specs.Stopped.IsEvalRefused.{eval_mistaken, eval_stopped}
-use Rattle.lusdist_call.specs.Stopped.IsEvalStopped.{eval_program, eval_unread, eval_table, eval_fault, eval_unwritten, eval_memory}
+use Rattle.lusdist_call.specs.Stopped.IsEvalStopped.{eval_program, eval_unread, eval_table, eval_fault, eval_memory}
 use Rattle.lusdist_call.specs.Stopped.IsPlanStopped.{plan_files, plan_memory}
 use Rattle.lusdist_call.specs.Stopped.StopsAtJob.{no_plan, table_unread, table_refused}
-use Rattle.lusdist_call.specs.Stopped.IsReplayStopped.{replay_job, replay_unread, replay_schedule, replay_unwritten, replay_memory}
-use Rattle.lusdist_call.specs.Stopped.IsRunStopped.{run_job, run_fault, run_lost, run_thread, run_unwritten, run_memory}
+use Rattle.lusdist_call.specs.Stopped.IsReplayStopped.{replay_job, replay_unread, replay_schedule, replay_memory}
+use Rattle.lusdist_call.specs.Stopped.IsRunStopped.{run_job, run_fault, run_lost, run_thread, run_memory}
 use Rattle.lusdist_call.specs.Exact.{HasOneText, SaysNothing}
 use Rattle.std.proofs.lemmas.Option.{same_Some}
 use Rattle.lusdist_shell.specs.Files.{FileFacts}
@@ -292,8 +293,8 @@ module _ (gives : FileFacts) (settled : HasOneText gives) where
       program_memory request.program.now request.main.now is.program is.flat stop is.program_given (record { tree = is.tree; spelled = is.spelled; flat_is = is.flat_is }) at
   check_outcome request text stop is (check_memory e) = memory_is stop OutOfMemory e tt
 
-  fault_never : (request : EvalRequest) (text : List ℕ) → IsEvaluated gives request text → (name : List ℕ) (instant : ℕ) (kind : FaultKind) → IsFaultOf gives request name instant kind → ⊥
-  fault_never request text is name instant kind fault =
+  fault_never : (request : EvalRequest) (text : List ℕ) (dump : Option (List ℕ)) → IsEvaluated gives request text dump → (name : List ℕ) (instant : ℕ) (kind : FaultKind) → IsFaultOf gives request name instant kind → ⊥
+  fault_never request text dump is name instant kind fault =
       let asked = is.asked in
       let other = fault.asked in
       let program_same = one_of request.program.now other.program asked.program other.program_given asked.program_given in
@@ -311,21 +312,20 @@ module _ (gives : FileFacts) (settled : HasOneText gives) where
   pub posed_flat : (request : EvalRequest) (own : FlatView) (inputs : InputsView) (asked : IsPosedBy gives request own inputs) → HasFlat asked.program request.main.now own
   posed_flat request own inputs asked = record { tree = asked.tree; spelled = asked.posed.spelled; flat_is = asked.posed.flat_is }
 
-  eval_outcome : (request : EvalRequest) (text : List ℕ) (stop : CallError) → IsEvaluated gives request text → IsEvalStopped gives request stop → SaysNothing stop
-  eval_outcome request text stop is (eval_program at) =
+  eval_outcome : (request : EvalRequest) (text : List ℕ) (dump : Option (List ℕ)) (stop : CallError) → IsEvaluated gives request text dump → IsEvalStopped gives request stop → SaysNothing stop
+  eval_outcome request text dump stop is (eval_program at) =
       program_memory request.program.now request.main.now is.asked.program is.flat stop is.asked.program_given (posed_flat request is.flat is.inputs is.asked) at
-  eval_outcome request text stop is (eval_unread bytes own given has unread) = unread_memory request.table.now is.asked.table stop is.asked.table_given unread
-  eval_outcome request text stop is (eval_table bytes table own given table_given has refused) =
+  eval_outcome request text dump stop is (eval_unread bytes own given has unread) = unread_memory request.table.now is.asked.table stop is.asked.table_given unread
+  eval_outcome request text dump stop is (eval_table bytes table own given table_given has refused) =
       let asked = is.asked in
       refused_memory request.program.now request.table.now request.main.now asked.program asked.table bytes table is.flat own is.inputs stop asked.program_given given (posed_flat request is.flat is.inputs asked) has
       asked.table_given table_given asked.posed.table_is asked.posed.short asked.posed.utf8 refused
-  eval_outcome request text stop is (eval_fault name instant kind e fault) = absurd (fault_never request text is name instant kind fault)
-  eval_outcome request text stop is (eval_unwritten path asks its_flat its_inputs posed e) = memory_is stop (CannotWrite path) e tt
-  eval_outcome request text stop is (eval_memory e) = memory_is stop OutOfMemory e tt
+  eval_outcome request text dump stop is (eval_fault name instant kind e fault) = absurd (fault_never request text dump is name instant kind fault)
+  eval_outcome request text dump stop is (eval_memory e) = memory_is stop OutOfMemory e tt
 
-  refused_outcome : (request : EvalRequest) (text : List ℕ) (stop : CallError) → IsEvaluated gives request text → IsEvalRefused gives request stop → SaysNothing stop
-  refused_outcome request text stop is (eval_mistaken mistake found e) = absurd (none_some (mistake_in request) mistake is.meant found)
-  refused_outcome request text stop is (eval_stopped meant at) = eval_outcome request text stop is at
+  refused_outcome : (request : EvalRequest) (text : List ℕ) (dump : Option (List ℕ)) (stop : CallError) → IsEvaluated gives request text dump → IsEvalRefused gives request stop → SaysNothing stop
+  refused_outcome request text dump stop is (eval_mistaken mistake found e) = absurd (none_some (mistake_in request) mistake is.meant found)
+  refused_outcome request text dump stop is (eval_stopped meant at) = eval_outcome request text dump stop is at
 
   plan_outcome : (request : PlanRequest) (text : List ℕ) (stop : CallError) → IsPlanned gives request text → IsPlanStopped gives request stop → SaysNothing stop
   plan_outcome request text stop is (plan_files at) =
@@ -350,7 +350,7 @@ module _ (gives : FileFacts) (settled : HasOneText gives) where
       let columns = subst (λ t. IsTextOf b.plan.flat.types (inputs_of b.plan.flat.variables) b.inputs t) table_same y.job_is.inputs in
       (flat_eq, one_table a.plan.flat.types (inputs_of a.plan.flat.variables) x.table b.inputs a.inputs (subst (λ (f : FlatView). IsTextOf f.types (inputs_of f.variables) b.inputs x.table) flat_eq columns) x.job_is.inputs)
 
-  module _ (request : ReplayRequest) (text : List ℕ) (stop : CallError) (is : IsReplayed gives request text) where
+  module _ (request : ReplayRequest) (text notes : List ℕ) (dump : Option (List ℕ)) (stop : CallError) (is : IsReplayed gives request text notes dump) where
     replay_outcome : IsReplayStopped gives request stop → SaysNothing stop
     replay_outcome (replay_job at) = job_memory_of request.program.now request.place.now request.table.now request.main.now is.job stop is.asked_for.job_for at
     replay_outcome (replay_unread job job_is unread) = unread_memory request.schedule.now is.asked_for.schedule_is.schedule stop is.asked_for.schedule_is.given unread
@@ -358,10 +358,9 @@ module _ (gives : FileFacts) (settled : HasOneText gives) where
         let asked = is.asked_for.schedule_is in
         let same = one_of request.schedule.now turns asked.schedule schedule_given asked.given in
         schedule_memory asked.schedule is.turns stop asked.turns_are (subst (λ b. IsScheduleRefused b stop) same refused)
-    replay_outcome (replay_unwritten path asks job turns asked e) = memory_is stop (CannotWrite path) e tt
     replay_outcome (replay_memory e) = memory_is stop OutOfMemory e tt
 
-  module _ (request : RunRequest) (text : List ℕ) (stop : CallError) (is : IsRan gives request text) where
+  module _ (request : RunRequest) (text : List ℕ) (dump : Option (List ℕ)) (stop : CallError) (is : IsRan gives request text dump) where
     -- a run that has outputs has no fault
     run_never : (name : List ℕ) (instant : ℕ) (kind : FaultKind) → IsRunFault gives request name instant kind → ⊥
     run_never name instant kind fault =
@@ -377,20 +376,19 @@ module _ (gives : FileFacts) (settled : HasOneText gives) where
     run_outcome (run_fault name instant kind e fault) = absurd (run_never name instant kind fault)
     run_outcome (run_lost job job_is e) = memory_is stop LinkLost e tt
     run_outcome (run_thread job job_is e) = memory_is stop NoThread e tt
-    run_outcome (run_unwritten path asks job asked e) = memory_is stop (CannotWrite path) e tt
     run_outcome (run_memory e) = memory_is stop OutOfMemory e tt
 
   explain_outcome : (code : Option (List ℕ)) (text : List ℕ) (stop : CallError) → explanation code ≡ Some text → IsExplainStopped code stop → SaysNothing stop
   explain_outcome code text stop answer (explain_memory e) = memory_is stop OutOfMemory e tt
   explain_outcome code text stop answer (explain_unknown name is none e) = absurd (none_some (explanation code) text none answer)
 
-  pub one_outcome_of : (request : Request) (text : List ℕ) (stop : CallError) → IsAnswer gives request text → IsRequestStopped gives request stop → SaysNothing stop
-  one_outcome_of (Check request) text stop answer stopped = check_outcome request text stop answer stopped
-  one_outcome_of (Eval request) text stop answer stopped = refused_outcome request text stop answer stopped
-  one_outcome_of (Plan request) text stop answer stopped = plan_outcome request text stop answer stopped
-  one_outcome_of (Replay request) text stop answer stopped = replay_outcome request text stop answer stopped
-  one_outcome_of (AsksRun request) text stop answer stopped = run_outcome request text stop answer stopped
-  one_outcome_of (Explain request) text stop answer stopped = explain_outcome (code_in request) text stop answer stopped
+  pub one_outcome_of : (request : Request) (text notes : List ℕ) (dump : Option (List ℕ)) (stop : CallError) → IsAnswer gives request text notes dump → IsRequestStopped gives request stop → SaysNothing stop
+  one_outcome_of (Check request) text notes dump stop answer stopped = check_outcome request text stop answer.0 stopped
+  one_outcome_of (Eval request) text notes dump stop answer stopped = refused_outcome request text dump stop answer.0 stopped
+  one_outcome_of (Plan request) text notes dump stop answer stopped = plan_outcome request text stop answer.0 stopped
+  one_outcome_of (Replay request) text notes dump stop answer stopped = replay_outcome request text notes dump stop answer stopped
+  one_outcome_of (AsksRun request) text notes dump stop answer stopped = run_outcome request text dump stop answer.0 stopped
+  one_outcome_of (Explain request) text notes dump stop answer stopped = explain_outcome (code_in request) text stop answer.0 stopped
 
-pub one_outcome : (gives : FileFacts) → HasOneText gives → (request : Request) (text : List ℕ) (stop : CallError) → IsAnswer gives request text → IsRequestStopped gives request stop → SaysNothing stop
-one_outcome gives settled request text stop answer stopped = one_outcome_of gives settled request text stop answer stopped
+pub one_outcome : (gives : FileFacts) → HasOneText gives → (request : Request) (text notes : List ℕ) (dump : Option (List ℕ)) (stop : CallError) → IsAnswer gives request text notes dump → IsRequestStopped gives request stop → SaysNothing stop
+one_outcome gives settled request text notes dump stop answer stopped = one_outcome_of gives settled request text notes dump stop answer stopped

@@ -16,7 +16,8 @@ use Rattle.lusdist_shell.specs.declared.request.ReplayRequest.{ReplayRequest}
 use Rattle.lusdist_shell.specs.declared.request.RunRequest.{RunRequest}
 use Rattle.lusdist_shell.specs.declared.request.Request.{Request}
 use Rattle.lusdist_shell.specs.declared.request.Request.TheVariants.{Check, Eval, Plan, Replay, Run, Explain}
-use Rattle.lusdist_call.specs.Asked.{IsJobFor, IsAnswer, IsReplayed, IsRan}
+use Rattle.lusdist_call.specs.Answers.{IsAnswer, IsReplayed, IsRan}
+use Rattle.lusdist_call.specs.Asked.{IsJobFor}
 use Rattle.lusdist_call.specs.Exact.{HasOneText}
 use Rattle.lusdist_call.specs.Headline.{IsDesign, HasNoFaultIn, IsTrueReplay, IsTrueRun, Headline}
 use Rattle.lusdist_answers.proofs.Ran.{no_fault_of, no_source_fault_of}
@@ -62,7 +63,7 @@ module _ (gives : FileFacts) (settled : HasOneText gives) (path place_path table
   }
 
 -- a replay, by the request that was answered
-module _ (gives : FileFacts) (r : ReplayRequest) (text : List ℕ) (answer : IsReplayed gives r text) where
+module _ (gives : FileFacts) (r : ReplayRequest) (text notes : List ℕ) (dump : Option (List ℕ)) (answer : IsReplayed gives r text notes dump) where
   abbrev for_job : IsJobFor gives r.program.now r.place.now r.table.now r.main.now answer.job
   for_job = answer.asked_for.job_for
 
@@ -96,8 +97,8 @@ module _ (gives : FileFacts) (r : ReplayRequest) (text : List ℕ) (answer : IsR
   }
 
 -- a run, by the request that was answered
-run_true : (gives : FileFacts) (settled : HasOneText gives) (r : RunRequest) (text : List ℕ) (answer : IsRan gives r text) → IsTrueRun answer.asked_for.program answer.asked_for.table r.main.now text
-run_true gives settled r text answer = record {
+run_true : (gives : FileFacts) (settled : HasOneText gives) (r : RunRequest) (text : List ℕ) (dump : Option (List ℕ)) (answer : IsRan gives r text dump) → IsTrueRun answer.asked_for.program answer.asked_for.table r.main.now text
+run_true gives settled r text dump answer = record {
   tree = answer.asked_for.job_is.flat.tree;
   flat = answer.job.plan.flat;
   inputs = answer.job.inputs;
@@ -107,10 +108,10 @@ run_true gives settled r text answer = record {
   are_outputs = answer.are_outputs;
 }
 
-module _ (gives : FileFacts) (settled : HasOneText gives) (command : Option (Text × List Row)) (program table text : List ℕ) where
+module _ (gives : FileFacts) (settled : HasOneText gives) (command : Option (Text × List Row)) (program table text notes : List ℕ) (dump : Option (List ℕ)) where
   -- what is answered to words that ask for a replay is a replay of the same files
   module _ (request : ReplayRequest) (asked : IsReplayIn command request) (program_given : gives request.program.now (Some program)) (table_given : gives request.table.now (Some table)) where
-    replay_of : (other : Request) → IsFoundIn command other → IsAnswer gives other text → IsTrueReplay program table request.main.now text
+    replay_of : (other : Request) → IsFoundIn command other → IsAnswer gives other text notes dump → IsTrueReplay program table request.main.now text
     replay_of (Check r) found answer = absurd (let e : 114 ≡ 99 = other_first (codes "replay") (codes "check") (same_name command (codes "replay") (codes "check") asked.matches found.matches asked.named found.named) in omega (arith, e))
     replay_of (Eval r) found answer = absurd (let e : 114 ≡ 101 = other_first (codes "replay") (codes "eval") (same_name command (codes "replay") (codes "eval") asked.matches found.matches asked.named found.named) in omega (arith, e))
     replay_of (Plan r) found answer = absurd (let e : 114 ≡ 112 = other_first (codes "replay") (codes "plan") (same_name command (codes "replay") (codes "plan") asked.matches found.matches asked.named found.named) in omega (arith, e))
@@ -127,11 +128,11 @@ module _ (gives : FileFacts) (settled : HasOneText gives) (command : Option (Tex
         let table_same = table_is gives settled r.program.now r.place.now r.table.now r.main.now answer.job files table (subst (λ (x : List ℕ). gives x (Some table)) (sym t) table_given) in
         subst (λ (x : List ℕ). IsTrueReplay program table x text) n
         (subst (λ (x : List ℕ). IsTrueReplay program x r.main.now text) table_same
-        (subst (λ (x : List ℕ). IsTrueReplay x files.table r.main.now text) program_same (replay_true gives r text answer settled)))
+        (subst (λ (x : List ℕ). IsTrueReplay x files.table r.main.now text) program_same (replay_true gives r text notes dump answer settled)))
 
   -- and what is answered to words that ask for a run is a run of them
   module _ (request : RunRequest) (asked : IsRunIn command request) (program_given : gives request.program.now (Some program)) (table_given : gives request.table.now (Some table)) where
-    run_of : (other : Request) → IsFoundIn command other → IsAnswer gives other text → IsTrueRun program table request.main.now text
+    run_of : (other : Request) → IsFoundIn command other → IsAnswer gives other text notes dump → IsTrueRun program table request.main.now text
     run_of (Check r) found answer = absurd (let e : 114 ≡ 99 = other_first (codes "run") (codes "check") (same_name command (codes "run") (codes "check") asked.matches found.matches asked.named found.named) in omega (arith, e))
     run_of (Eval r) found answer = absurd (let e : 114 ≡ 101 = other_first (codes "run") (codes "eval") (same_name command (codes "run") (codes "eval") asked.matches found.matches asked.named found.named) in omega (arith, e))
     run_of (Plan r) found answer = absurd (let e : 114 ≡ 112 = other_first (codes "run") (codes "plan") (same_name command (codes "run") (codes "plan") asked.matches found.matches asked.named found.named) in omega (arith, e))
@@ -143,17 +144,18 @@ module _ (gives : FileFacts) (settled : HasOneText gives) (command : Option (Tex
         let p : r.program.now ≡ request.program.now = found.program ∙ text_at (codes "PROGRAM") ∙ sym asked.program in
         let t : r.table.now ≡ request.table.now = found.table ∙ text_at (codes "TABLE") ∙ sym asked.table in
         let n : r.main.now ≡ request.main.now = found.main ∙ text_at (codes "main") ∙ sym asked.main in
-        let files = answer.asked_for in
-        let program_same = program_is gives settled r.program.now r.place.now r.table.now r.main.now answer.job files program (subst (λ (x : List ℕ). gives x (Some program)) (sym p) program_given) in
-        let table_same = table_is gives settled r.program.now r.place.now r.table.now r.main.now answer.job files table (subst (λ (x : List ℕ). gives x (Some table)) (sym t) table_given) in
+        let ran = answer.0 in
+        let files = ran.asked_for in
+        let program_same = program_is gives settled r.program.now r.place.now r.table.now r.main.now ran.job files program (subst (λ (x : List ℕ). gives x (Some program)) (sym p) program_given) in
+        let table_same = table_is gives settled r.program.now r.place.now r.table.now r.main.now ran.job files table (subst (λ (x : List ℕ). gives x (Some table)) (sym t) table_given) in
         subst (λ (x : List ℕ). IsTrueRun program table x text) n
         (subst (λ (x : List ℕ). IsTrueRun program x r.main.now text) table_same
-        (subst (λ (x : List ℕ). IsTrueRun x files.table r.main.now text) program_same (run_true gives settled r text answer)))
+        (subst (λ (x : List ℕ). IsTrueRun x files.table r.main.now text) program_same (run_true gives settled r text dump ran)))
 
 pub headline : (gives : FileFacts) → Headline gives
 headline gives = record {
   replay = λ settled words request program table text asked done program_given table_given.
-      replay_of gives settled (subcommand_of lusdist words) program table text request asked program_given table_given done.request done.asked done.answer;
+      replay_of gives settled (subcommand_of lusdist words) program table text done.notes done.dump request asked program_given table_given done.request done.asked done.answer;
   run = λ settled words request program table text asked done program_given table_given.
-      run_of gives settled (subcommand_of lusdist words) program table text request asked program_given table_given done.request done.asked done.answer;
+      run_of gives settled (subcommand_of lusdist words) program table text done.notes done.dump request asked program_given table_given done.request done.asked done.answer;
 }

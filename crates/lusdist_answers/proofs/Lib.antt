@@ -9,6 +9,6 @@ mod Exclusive
 mod OneStatus
 mod Ran
 mod OneRefusal
-mod Dumps
+mod Stops
 mod Ends
 mod Headlines

@@ -31,11 +31,11 @@ use Rattle.lusdist_call.specs.Stopped.StopsAtPlan.{no_program, place_unread, pla
 use Rattle.lusdist_call.specs.Stopped.IsCheckStopped.{check_program, check_memory}
 use Rattle.lusdist_call.specs.Mistakes.{mistake_in}
 use Rattle.lusdist_call.specs.Stopped.IsEvalRefused.{eval_mistaken, eval_stopped}
-use Rattle.lusdist_call.specs.Stopped.IsEvalStopped.{eval_program, eval_unread, eval_table, eval_fault, eval_unwritten, eval_memory}
+use Rattle.lusdist_call.specs.Stopped.IsEvalStopped.{eval_program, eval_unread, eval_table, eval_fault, eval_memory}
 use Rattle.lusdist_call.specs.Stopped.IsPlanStopped.{plan_files, plan_memory}
 use Rattle.lusdist_call.specs.Stopped.StopsAtJob.{no_plan, table_unread, table_refused}
-use Rattle.lusdist_call.specs.Stopped.IsReplayStopped.{replay_job, replay_unread, replay_schedule, replay_unwritten, replay_memory}
-use Rattle.lusdist_call.specs.Stopped.IsRunStopped.{run_job, run_fault, run_lost, run_thread, run_unwritten, run_memory}
+use Rattle.lusdist_call.specs.Stopped.IsReplayStopped.{replay_job, replay_unread, replay_schedule, replay_memory}
+use Rattle.lusdist_call.specs.Stopped.IsRunStopped.{run_job, run_fault, run_lost, run_thread, run_memory}
 use Rattle.lusdist_call.specs.Exact.{HasOneText, SaysNothing}
 use Rattle.lusdist_call.specs.Explained.{code_in, IsExplainStopped}
 use Rattle.lusdist_call.specs.Explained.IsExplainStopped.{explain_unknown, explain_memory}
@@ -250,11 +250,6 @@ module _ (gives : FileFacts) (settled : HasOneText gives) where
 
     eval_status : (a b : CallError) → IsEvalStopped gives request a → IsEvalStopped gives request b → (¬ SaysNothing a) → (¬ SaysNothing b) → status_of a ≡ status_of b
     eval_status a b (eval_memory e) y na nb = absurd (na (memory_is a OutOfMemory e tt))
-    eval_status a b (eval_unwritten path asks its_flat its_inputs posed e) y na nb = absurd (na (memory_is a (CannotWrite path) e tt))
-    eval_status a b (eval_program x) (eval_unwritten path asks its_flat its_inputs posed d) na nb = absurd (nb (memory_is b (CannotWrite path) d tt))
-    eval_status a b (eval_unread program own given has x) (eval_unwritten path asks its_flat its_inputs posed d) na nb = absurd (nb (memory_is b (CannotWrite path) d tt))
-    eval_status a b (eval_table program table own given table_given has x) (eval_unwritten path asks its_flat its_inputs posed d) na nb = absurd (nb (memory_is b (CannotWrite path) d tt))
-    eval_status a b (eval_fault name instant kind e fault) (eval_unwritten path asks its_flat its_inputs posed d) na nb = absurd (nb (memory_is b (CannotWrite path) d tt))
     eval_status a b (eval_program x) (eval_memory e) na nb = absurd (nb (memory_is b OutOfMemory e tt))
     eval_status a b (eval_program x) (eval_program y) na nb = program_status request.program.now request.main.now a b x y na nb
     eval_status a b (eval_program x) (eval_unread program own given has y) na nb = past_program request.program.now request.main.now program own a given has x na
@@ -304,10 +299,6 @@ module _ (gives : FileFacts) (settled : HasOneText gives) where
 
     replay_status : (a b : CallError) → IsReplayStopped gives request a → IsReplayStopped gives request b → (¬ SaysNothing a) → (¬ SaysNothing b) → status_of a ≡ status_of b
     replay_status a b (replay_memory e) y na nb = absurd (na (memory_is a OutOfMemory e tt))
-    replay_status a b (replay_unwritten path asks job turns asked e) y na nb = absurd (na (memory_is a (CannotWrite path) e tt))
-    replay_status a b (replay_job x) (replay_unwritten path asks job turns asked e) na nb = absurd (nb (memory_is b (CannotWrite path) e tt))
-    replay_status a b (replay_unread job is x) (replay_unwritten path asks other turns asked e) na nb = absurd (nb (memory_is b (CannotWrite path) e tt))
-    replay_status a b (replay_schedule job turns is given x) (replay_unwritten path asks other others asked e) na nb = absurd (nb (memory_is b (CannotWrite path) e tt))
     replay_status a b (replay_job x) (replay_memory e) na nb = absurd (nb (memory_is b OutOfMemory e tt))
     replay_status a b (replay_job x) (replay_job y) na nb = job_status request.program.now request.place.now request.table.now request.main.now a b x y na nb
     replay_status a b (replay_job x) (replay_unread job is y) na nb = replay_past job a is x na
@@ -332,9 +323,6 @@ module _ (gives : FileFacts) (settled : HasOneText gives) where
     run_status : (a b : CallError) → IsRunStopped gives request a → IsRunStopped gives request b → (¬ SaysNothing a) → (¬ SaysNothing b) → status_of a ≡ status_of b
     run_status a b (run_memory e) y na nb = absurd (na (memory_is a OutOfMemory e tt))
     run_status a b (run_lost job is e) y na nb = absurd (na (memory_is a LinkLost e tt))
-    run_status a b (run_unwritten path asks job asked e) y na nb = absurd (na (memory_is a (CannotWrite path) e tt))
-    run_status a b (run_job x) (run_unwritten path asks job asked e) na nb = absurd (nb (memory_is b (CannotWrite path) e tt))
-    run_status a b (run_fault name t k e fault) (run_unwritten path asks job asked m) na nb = absurd (nb (memory_is b (CannotWrite path) m tt))
     run_status a b (run_thread job is e) y na nb = absurd (na (memory_is a NoThread e tt))
     run_status a b (run_job x) (run_memory e) na nb = absurd (nb (memory_is b OutOfMemory e tt))
     run_status a b (run_job x) (run_lost job is e) na nb = absurd (nb (memory_is b LinkLost e tt))

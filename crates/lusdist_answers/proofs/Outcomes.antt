@@ -1,6 +1,6 @@
 -- What an evaluation gives, in the words of the source.
 use Rattle.std.proofs.Common.{◌≡◌, ◌<◌, ◌≤◌, ◌+◌, ℕ, zero, suc, Bool, true, false, cond, List, [], ◌∷◌, length, filter, map, refl, sym, ap, ap₂, ◌∙◌, subst, inl, arith}
-use Rattle.std.specs.Prelude.{Result, Ok, Err, Some, IfOk, OnOk, slice_get, string_bytes, IsUtf8}
+use Rattle.std.specs.Prelude.{Result, Ok, Err, Option, Some, None, IfOk, IfErr, OnOk, option_map, slice_get, string_bytes, IsUtf8}
 use Rattle.lutree.specs.Tree.{ProgramTree}
 use Rattle.luflow.specs.declared.data.Status.{Status}
 use Rattle.luflow.specs.Program.{FlatView, InputsView}
@@ -16,8 +16,6 @@ use Rattle.lusource.specs.Agreement.{Agrees}
 use Rattle.luchart.specs.Cut.{cut}
 use Rattle.luchart.proofs.CutLaws.{same_before, fault_there}
 use Rattle.std.specs.List.{range_with_len}
-use Rattle.std.specs.declared.string.String.{String}
-use Rattle.std.specs.declared.alloc.Global.{Global}
 use Rattle.std.proofs.lemmas.Option.{slice_get_within}
 use Rattle.luflow.specs.Tables.{OutputColumn, FitsProgram}
 use Rattle.luflow.specs.declared.variable.Variable.{Variable}
@@ -33,15 +31,21 @@ use Rattle.lutab.specs.Table.{IsTextOf, is_too_long}
 use Rattle.lusdist_shell.specs.declared.request.EvalRequest.{EvalRequest}
 use Rattle.lusdist_call.specs.declared.call_error.CallError.{CallError}
 use Rattle.lusdist_call.specs.declared.call_error.CallError.TheVariants.{CannotRead, CannotWrite, NotAscii, Syntax, Rules, Flat, Place, Table as BadTable, Schedule, Fault, LinkLost, NoThread, OutOfMemory, Mistaken}
-use Rattle.lusdist_call.specs.Evaluated.{AreEvaluated, AreVariablesAt, AreVariablesOf, HasNoFaultBefore, IsColumnOf, IsDumped, IsDumpedBefore, IsDumpedTo, IsFiled, IsNoFault, IsShown, AreShownBefore, IsStopFor, shown_text, wave_text, IsPosed, IsPosedBy, IsShownTo, IsStopped, IsFaultReported, IsUnfiled, wave_path}
+use Rattle.lusdist_call.specs.Evaluated.{AreEvaluated, AreVariablesAt, AreVariablesOf, HasNoFaultBefore, IsColumnOf, IsDumpedTo, IsEvaluated, IsNoFault, IsPartDump, IsPosed, IsPosedBy, IsShown, IsShownBefore, IsShownTo, IsStopped, IsFaultReported}
 use Rattle.lutree.specs.Places.{ProgramPlaces}
 use Rattle.luflow.specs.declared.variable.Enum.{Enum}
 use Rattle.lutab.specs.Outputs.{shown_of}
 use Rattle.lusdist_call.specs.Refused.{IsReportedOf, IsProgramRefused, IsTableRefused}
 use Rattle.lusdist_call.specs.Refused.IsReportedOf.{rule, flat as reported_flat}
-use Rattle.lusdist_call.specs.Files.{IsUnread}
-use Rattle.lusdist_call.specs.Stopped.{IsEvalStopped}
-use Rattle.lusdist_call.specs.Stopped.IsEvalStopped.{eval_fault, eval_unwritten, eval_memory}
+use Rattle.lusdist_call.specs.Files.{IsUnread, wave_path}
+use Rattle.lusdist_call.specs.Mistakes.{mistake_in}
+use Rattle.lusdist_call.specs.Answers.{IsReplyTo}
+use Rattle.lusdist_call.specs.declared.reply.Reply.{Reply}
+use Rattle.lusdist_call.specs.declared.refusal.Refusal.{Refusal}
+use Rattle.lusdist_shell.specs.declared.request.Request.TheVariants.{Eval}
+use Rattle.lusdist_call.specs.Stopped.{IsEvalStopped, IsRefusalOf}
+use Rattle.lusdist_call.specs.Stopped.IsEvalStopped.{eval_fault, eval_memory}
+use Rattle.lusdist_call.specs.Stopped.IsEvalRefused.{eval_stopped}
 use Rattle.lusdist_shell.specs.Files.{FileFacts}
 
 -- the outputs among the streams of the main variables
@@ -170,9 +174,9 @@ source_fault gives request flat inputs asked name instant kind reported σ solve
     (is.faults inputs σ (solution flat inputs) solves solution_is first.place reported.variable instant kind reported.is first.fault first.owner reported.there)
 
 -- where an evaluation of them stops, what was asked for stops so
-pub eval_stop : (gives : FileFacts) (request : EvalRequest) (flat : FlatView) (inputs : InputsView) → IsPosedBy gives request flat inputs → (stop : CallError) → IsStopped request flat inputs stop → IsEvalStopped gives request stop
+pub eval_stop : (gives : FileFacts) (request : EvalRequest) (flat : FlatView) (inputs : InputsView) → IsPosedBy gives request flat inputs → (stop : CallError) → IsStopped flat inputs stop → IsEvalStopped gives request stop
 eval_stop gives request flat inputs asked (CannotRead path) reported = absurd reported
-eval_stop gives request flat inputs asked (CannotWrite path) reported = eval_unwritten path reported flat inputs asked refl
+eval_stop gives request flat inputs asked (CannotWrite path) reported = absurd reported
 eval_stop gives request flat inputs asked NotAscii reported = absurd reported
 eval_stop gives request flat inputs asked (Syntax e) reported = absurd reported
 eval_stop gives request flat inputs asked (Rules e) reported = absurd reported
@@ -189,107 +193,91 @@ eval_stop gives request flat inputs asked OutOfMemory reported = eval_memory ref
 -- STOPS THAT TELL NO FAULT
 
 pub unread_none : (gives : FileFacts) (path : List ℕ) (stop : CallError) → IsUnread gives path stop → IsNoFault stop
-unread_none gives path stop h = (λ name instant kind e. subst (IsUnread gives path) e h, λ there e. subst (IsUnread gives path) e h)
+unread_none gives path stop h = λ name instant kind e. subst (IsUnread gives path) e h
 
 pub program_none : (bytes : List ℕ) (stop : CallError) → IsProgramRefused bytes stop → IsNoFault stop
-program_none bytes stop h = (λ name instant kind e. subst (IsProgramRefused bytes) e h, λ there e. subst (IsProgramRefused bytes) e h)
+program_none bytes stop h = λ name instant kind e. subst (IsProgramRefused bytes) e h
 
 pub table_none : (types : List Enum) (inputs : List Variable) (bytes : List ℕ) (stop : CallError) → IsTableRefused types inputs bytes stop → IsNoFault stop
-table_none types inputs bytes stop h = (λ name instant kind e. subst (IsTableRefused types inputs bytes) e h, λ there e. subst (IsTableRefused types inputs bytes) e h)
+table_none types inputs bytes stop h = λ name instant kind e. subst (IsTableRefused types inputs bytes) e h
 
 pub reported_none : (tree : ProgramTree) (places : ProgramPlaces) (main : List ℕ) (stop : CallError) → IsReportedOf tree places main stop → IsNoFault stop
 reported_none tree places main stop (rule refusal read is tells same there first) =
-    (λ name instant kind e. let clash : Rules refusal ≡ Fault name instant kind = sym is ∙ e in cc, λ path e. let clash : Rules refusal ≡ CannotWrite path = sym is ∙ e in cc)
+    λ name instant kind e. let clash : Rules refusal ≡ Fault name instant kind = sym is ∙ e in cc
 reported_none tree places main stop (reported_flat refusal is accepted refuses) =
-    (λ name instant kind e. let clash : Flat refusal ≡ Fault name instant kind = sym is ∙ e in cc, λ path e. let clash : Flat refusal ≡ CannotWrite path = sym is ∙ e in cc)
+    λ name instant kind e. let clash : Flat refusal ≡ Fault name instant kind = sym is ∙ e in cc
 
--- a stop that reports no fault needs no dump
-pub none_dumped : (gives : FileFacts) (takes : FileFacts) (request : EvalRequest) (stop : CallError) → IsNoFault stop → IsDumpedTo gives takes request stop
-none_dumped gives takes request stop none = (λ name instant kind e. absurd (none.0 name instant kind e), λ path e. absurd (none.1 path e))
-
--- where a dump can't be made, the evaluation stops so
-pub unfiled_stop : (takes : FileFacts) (request : EvalRequest) (flat : FlatView) (inputs : InputsView) (stop : CallError) → IsUnfiled takes request stop → IsStopped request flat inputs stop
-unfiled_stop takes request flat inputs (CannotRead path) h = absurd h
-unfiled_stop takes request flat inputs (CannotWrite path) h = h.0
-unfiled_stop takes request flat inputs NotAscii h = absurd h
-unfiled_stop takes request flat inputs (Syntax e) h = absurd h
-unfiled_stop takes request flat inputs (Rules e) h = absurd h
-unfiled_stop takes request flat inputs (Flat e) h = absurd h
-unfiled_stop takes request flat inputs (Place e) h = absurd h
-unfiled_stop takes request flat inputs (BadTable e) h = absurd h
-unfiled_stop takes request flat inputs (Schedule e) h = absurd h
-unfiled_stop takes request flat inputs (Fault name instant kind) h = absurd h
-unfiled_stop takes request flat inputs LinkLost h = absurd h
-unfiled_stop takes request flat inputs NoThread h = absurd h
-unfiled_stop takes request flat inputs (Mistaken mistake) h = absurd h
-unfiled_stop takes request flat inputs OutOfMemory h = tt
-
-pub unfiled_shown : (takes : FileFacts) (request : EvalRequest) (flat : FlatView) (inputs : InputsView) (stop : CallError) → IsUnfiled takes request stop → IsShownTo takes request flat inputs stop
-unfiled_shown takes request flat inputs stop h =
-    (λ name instant kind e. absurd (subst (IsUnfiled takes request) e h), λ path e. let there : IsUnfiled takes request (CannotWrite path) = subst (IsUnfiled takes request) e h in there.1)
+-- a stop that reports no fault leaves no dump
+pub none_dumped : (gives : FileFacts) (request : EvalRequest) (stop : CallError) → IsNoFault stop → IsDumpedTo gives request stop None
+none_dumped gives request (CannotRead path) none = refl
+none_dumped gives request (CannotWrite path) none = refl
+none_dumped gives request NotAscii none = refl
+none_dumped gives request (Syntax e) none = refl
+none_dumped gives request (Rules e) none = refl
+none_dumped gives request (Flat e) none = refl
+none_dumped gives request (Place e) none = refl
+none_dumped gives request (BadTable e) none = refl
+none_dumped gives request (Schedule e) none = refl
+none_dumped gives request (Fault name instant kind) none = absurd (none name instant kind refl)
+none_dumped gives request LinkLost none = refl
+none_dumped gives request NoThread none = refl
+none_dumped gives request (Mistaken mistake) none = refl
+none_dumped gives request OutOfMemory none = refl
 
 -- what was shown before a fault is a dump of the program's variables
-pub dumped_to : (gives : FileFacts) (takes : FileFacts) (request : EvalRequest) (flat : FlatView) (inputs : InputsView) → IsPosedBy gives request flat inputs → (stop : CallError) → IsShownTo takes request flat inputs stop → IsDumpedTo gives takes request stop
-dumped_to gives takes request flat inputs asked stop shown =
-    let before = λ (name : List ℕ) (instant : ℕ) (kind : FaultKind) (e : stop ≡ Fault name instant kind) (path : List ℕ) (wanted : wave_path request ≡ Some path).
-    let h = shown.0 name instant kind e path wanted in
-    let dumped : IsDumpedBefore gives takes request instant path =
-    record {
+part_dumped : (gives : FileFacts) (request : EvalRequest) (flat : FlatView) (inputs : InputsView) → IsPosedBy gives request flat inputs → (name : List ℕ) (instant : ℕ) (kind : FaultKind) → IsFaultReported flat inputs name instant kind → (path dump : Option (List ℕ))
+    → IsShownBefore request flat inputs instant path dump → IsPartDump gives request name instant kind path dump
+part_dumped gives request flat inputs asked name instant kind reported None dump h = h
+part_dumped gives request flat inputs asked name instant kind reported (Some path) dump (columns, are, is) = record {
+  flat = flat;
+  inputs = inputs;
+  asked = asked;
+  reported = reported;
+  columns = columns;
+  are_columns = at_source asked.program request.main.now asked.table asked.tree flat inputs (shown_of request.all flat.variables) instant columns asked.posed are;
+  dump_is = is;
+}
+
+pub dumped_to : (gives : FileFacts) (request : EvalRequest) (flat : FlatView) (inputs : InputsView) → IsPosedBy gives request flat inputs → (stop : CallError) (dump : Option (List ℕ)) → IsStopped flat inputs stop → IsShownTo request flat inputs stop dump → IsDumpedTo gives request stop dump
+dumped_to gives request flat inputs asked (CannotRead path) dump is h = h
+dumped_to gives request flat inputs asked (CannotWrite path) dump is h = h
+dumped_to gives request flat inputs asked NotAscii dump is h = h
+dumped_to gives request flat inputs asked (Syntax e) dump is h = h
+dumped_to gives request flat inputs asked (Rules e) dump is h = h
+dumped_to gives request flat inputs asked (Flat e) dump is h = h
+dumped_to gives request flat inputs asked (Place e) dump is h = h
+dumped_to gives request flat inputs asked (BadTable e) dump is h = h
+dumped_to gives request flat inputs asked (Schedule e) dump is h = h
+dumped_to gives request flat inputs asked (Fault name instant kind) dump is h = part_dumped gives request flat inputs asked name instant kind is (wave_path request) dump h
+dumped_to gives request flat inputs asked LinkLost dump is h = h
+dumped_to gives request flat inputs asked NoThread dump is h = h
+dumped_to gives request flat inputs asked (Mistaken mistake) dump is h = h
+dumped_to gives request flat inputs asked OutOfMemory dump is h = h
+
+-- what an evaluation shows is what was asked for
+pub evaluated_reply : (gives : FileFacts) (request : EvalRequest) (flat : FlatView) (inputs : InputsView) → mistake_in request ≡ None → IsPosedBy gives request flat inputs → (r : Result Reply Refusal)
+    → IfOk r (λ reply. IsShown request flat inputs (string_bytes reply.text) (option_map string_bytes reply.dump)) → IfOk r (λ reply. string_bytes reply.notes ≡ []) → IfOk r (IsReplyTo gives (Eval request))
+evaluated_reply gives request flat inputs meant asked (Ok reply) h none =
+    let is : IsEvaluated gives request (string_bytes reply.text) (option_map string_bytes reply.dump) = record {
+      meant = meant;
       flat = flat;
       inputs = inputs;
       asked = asked;
       columns = h.columns;
-      are_columns = at_source asked.program request.main.now asked.table asked.tree flat inputs (shown_of request.all flat.variables) instant h.columns asked.posed h.are_columns;
-      filed = h.filed;
+      are_columns = of_source asked.program request.main.now asked.table asked.tree flat inputs (shown_of request.all flat.variables) h.columns asked.posed h.are_columns h.no_fault;
+      text_is = h.text_is;
+      dump_is = h.dump_is;
     } in
-    dumped in
-    (before, shown.1)
+    (is, none)
+evaluated_reply gives request flat inputs meant asked (Err refusal) h none = tt
 
--- and what was shown is one
-pub dumped_of : (gives : FileFacts) (takes : FileFacts) (request : EvalRequest) (flat : FlatView) (inputs : InputsView) → IsPosedBy gives request flat inputs → (r : Result (String Global) CallError) → IfOk r (λ text. IsShown takes request flat inputs (string_bytes text)) → OnOk r (IsDumped gives takes request)
-dumped_of gives takes request flat inputs asked (Ok text) h = record {
-  flat = flat;
-  inputs = inputs;
-  asked = asked;
-  columns = h.columns;
-  are_columns = of_source asked.program request.main.now asked.table asked.tree flat inputs (shown_of request.all flat.variables) h.columns asked.posed h.are_columns h.no_fault;
-  filed = h.filed;
-}
-dumped_of gives takes request flat inputs asked (Err stop) h = tt
+pub evaluated_before : (gives : FileFacts) (request : EvalRequest) (flat : FlatView) (inputs : InputsView) → IsPosedBy gives request flat inputs → (r : Result Reply Refusal)
+    → IfErr r (λ x. IsStopped flat inputs x.error) → IfErr r (λ x. IsShownTo request flat inputs x.error (option_map string_bytes x.dump)) → IfErr r (λ x. IsDumpedTo gives request x.error (option_map string_bytes x.dump))
+evaluated_before gives request flat inputs asked (Ok reply) is h = tt
+evaluated_before gives request flat inputs asked (Err x) is h = dumped_to gives request flat inputs asked x.error (option_map string_bytes x.dump) is h
 
--- columns that were shown and dumped
-pub shown_whole : (takes : FileFacts) (request : EvalRequest) (flat : FlatView) (inputs : InputsView) (columns : List OutputColumn) → AreEvaluated flat inputs (shown_of request.all flat.variables) inputs.instants columns → HasNoFault flat inputs → (r : Result (String Global) CallError)
-    → IfOk r (λ text. string_bytes text ≡ shown_text request flat columns) → OnOk r (IsFiled takes request (wave_text request flat columns)) → IfOk r (λ text. IsShown takes request flat inputs (string_bytes text))
-shown_whole takes request flat inputs columns are fine (Ok text) is filed = record { columns = columns; are_columns = are; no_fault = fine; text_is = is; filed = filed }
-shown_whole takes request flat inputs columns are fine (Err stop) is filed = tt
-
--- columns of the first instants that were dumped
-pub shown_before : {X : Type 0} (takes : FileFacts) (request : EvalRequest) (flat : FlatView) (inputs : InputsView) (n : ℕ) (columns : List OutputColumn) → AreEvaluated flat inputs (shown_of request.all flat.variables) n columns → (r : Result X CallError)
-    → OnOk r (IsFiled takes request (wave_text request flat columns)) → OnOk r (AreShownBefore takes request flat inputs n)
-shown_before takes request flat inputs n columns are (Ok x) filed = λ path wanted. record { columns = columns; are_columns = are; filed = filed path wanted }
-shown_before takes request flat inputs n columns are (Err stop) filed = tt
-
--- a stop for the first fault
-pub reported_stop : (request : EvalRequest) (flat : FlatView) (inputs : InputsView) (variable instant : ℕ) (kind : FaultKind) → ((σ : Streams) → IsSolution flat inputs σ → IsFirstFault flat inputs σ variable instant kind) → (stop : CallError) → IsStopFor flat variable instant kind stop → IsStopped request flat inputs stop
-reported_stop request flat inputs variable instant kind reported (CannotRead path) h = absurd h
-reported_stop request flat inputs variable instant kind reported (CannotWrite path) h = absurd h
-reported_stop request flat inputs variable instant kind reported NotAscii h = absurd h
-reported_stop request flat inputs variable instant kind reported (Syntax e) h = absurd h
-reported_stop request flat inputs variable instant kind reported (Rules e) h = absurd h
-reported_stop request flat inputs variable instant kind reported (Flat e) h = absurd h
-reported_stop request flat inputs variable instant kind reported (Place e) h = absurd h
-reported_stop request flat inputs variable instant kind reported (BadTable e) h = absurd h
-reported_stop request flat inputs variable instant kind reported (Schedule e) h = absurd h
-reported_stop request flat inputs variable instant kind reported (Fault name t k) h =
-    record { variable = variable; is = h.0; there = h.1; named = h.2; first = λ σ solves. subst (λ u. IsFirstFault flat inputs σ variable u k) (sym h.3) (subst (λ l. IsFirstFault flat inputs σ variable instant l) (sym h.4) (reported σ solves)) }
-reported_stop request flat inputs variable instant kind reported LinkLost h = absurd h
-reported_stop request flat inputs variable instant kind reported NoThread h = absurd h
-reported_stop request flat inputs variable instant kind reported (Mistaken mistake) h = absurd h
-reported_stop request flat inputs variable instant kind reported OutOfMemory h = tt
-
-pub reported_shown : (takes : FileFacts) (request : EvalRequest) (flat : FlatView) (inputs : InputsView) (variable instant : ℕ) (kind : FaultKind) → AreShownBefore takes request flat inputs instant → (stop : CallError) → IsStopFor flat variable instant kind stop → IsShownTo takes request flat inputs stop
-reported_shown takes request flat inputs variable instant kind before stop h =
-    let shown = λ (name : List ℕ) (t : ℕ) (k : FaultKind) (e : stop ≡ Fault name t k).
-    let there : IsStopFor flat variable instant kind (Fault name t k) = subst (IsStopFor flat variable instant kind) e h in
-    subst (λ u. AreShownBefore takes request flat inputs u) (sym there.3) before in
-    (shown, λ path e. absurd (subst (IsStopFor flat variable instant kind) e h))
+-- an evaluation that stops is refused
+pub eval_refusal : (gives : FileFacts) (request : EvalRequest) → mistake_in request ≡ None → (r : Result Reply Refusal)
+    → IfErr r (λ x. IsEvalStopped gives request x.error) → IfErr r (λ x. IsDumpedTo gives request x.error (option_map string_bytes x.dump)) → IfErr r (IsRefusalOf gives (Eval request))
+eval_refusal gives request meant (Ok reply) stops leaves = tt
+eval_refusal gives request meant (Err x) stops leaves = record { stops = eval_stopped meant stops; leaves = leaves }

@@ -1,6 +1,6 @@
 -- What a run of a job gives, in the words of the program that was asked for.
 use Rattle.std.proofs.Common.{◌≡◌, ℕ, ◌<◌, List, length, false, Some, Result, Ok, Err, IfOk, IfErr, ◌⊎◌, MatchResult, refl, sym, ap, ◌∙◌, subst, inl, inr}
-use Rattle.std.specs.Prelude.{IsUtf8}
+use Rattle.std.specs.Prelude.{IsUtf8, option_map, string_bytes}
 use Rattle.luflow.specs.Tables.{FitsProgram}
 use Rattle.luflow.specs.Variables.{inputs_of}
 use Rattle.luflow.specs.Sound.{IsFit}
@@ -34,9 +34,12 @@ use Rattle.lutree.specs.Tree.{ProgramTree}
 use Rattle.lusource.specs.Source.{SourceStreams, IsSourceSolution}
 use Rattle.lucore.specs.Result.{IsFlatOf}
 use Rattle.lusdist_call.specs.Headline.{HasNoFaultIn}
-use Rattle.lusdist_call.specs.Asked.{IsJobFor, IsRan}
+use Rattle.lusdist_shell.specs.declared.request.Request.TheVariants.{Run as AsksRun}
+use Rattle.lusdist_call.specs.declared.reply.Reply.{Reply}
+use Rattle.lusdist_call.specs.Answers.{IsRan, IsReplyTo}
+use Rattle.lusdist_call.specs.Asked.{IsJobFor}
 use Rattle.lusdist_call.specs.Evaluated.{AreOutputsOf}
-use Rattle.lusdist_call.specs.Ran.{IsRunError, IsStopOfRun, IsRunTable}
+use Rattle.lusdist_call.specs.Ran.{IsRunError, IsStopOfRun, IsRunReply}
 use Rattle.lusdist_call.specs.Stopped.{IsRunFault, IsRunStopped}
 use Rattle.lusdist_call.specs.Stopped.IsRunStopped.{run_fault, run_lost, run_thread, run_memory}
 use Rattle.lusdist_answers.proofs.TrueReports.{owner_of}
@@ -109,8 +112,17 @@ module _ (gives : FileFacts) (request : RunRequest) (job : JobView) (asked : IsJ
         no_source_fault = no_source_fault_of asked.job_is.flat.tree request.main.now job source fine;
       }
 
-  pub is_ran : (text : List ℕ) → IsRunTable job text → IsRan gives request text
-  is_ran text table = record { job = job; asked_for = asked; outputs = table.outputs; are_outputs = outputs_are table.outputs table.are_outputs; text_is = table.text_is }
+  pub is_ran : (reply : Reply) → IsRunReply job request reply → IsReplyTo gives (AsksRun request) reply
+  is_ran reply found =
+      let ran : IsRan gives request (string_bytes reply.text) (option_map string_bytes reply.dump) = record {
+        job = job;
+        asked_for = asked;
+        outputs = found.outputs;
+        are_outputs = outputs_are found.outputs found.are_outputs;
+        text_is = found.text_is;
+        dump_is = found.dump_is;
+      } in
+      (ran, found.no_notes)
 
   fault_is : (name : List ℕ) (instant : ℕ) (kind : FaultKind) → IsStopOfRun job (Fault name instant kind) → IsRunFault gives request name instant kind
   fault_is name instant kind (variable, site, named, at) =

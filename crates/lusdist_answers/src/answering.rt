@@ -1,14 +1,13 @@
-//! What a check, an evaluation, a plan and a run print, of the files that they ask for.
+//! What a check, an evaluation, a plan and a run give, of the files that they ask for.
 
-ghost use Rattle.std.specs.Prelude.{◌≡◌, ◌<◌, length, IfOk, IfErr, None, OnOk, string_bytes};
+ghost use Rattle.std.specs.Prelude.{◌≡◌, ◌<◌, length, IfOk, IfErr, None, string_bytes, option_map};
 ghost use Rattle.lusdist_shell.specs.Request.{AreFew};
-ghost use Rattle.lusdist_call.specs.Asked.{IsRan, IsChecked, IsPlanned};
+ghost use Rattle.lusdist_shell.specs.declared.request.Request.{Request};
+ghost use Rattle.lusdist_call.specs.Answers.{IsChecked, IsPlanned, IsReplyTo};
 ghost use Rattle.luflow.specs.Sound.{IsFit};
 ghost use Rattle.luflow.specs.Variables.{outputs_of};
-ghost use Rattle.lusdist_call.specs.Evaluated.{IsDumped, IsDumpedTo, IsEvaluated, IsNoFault, IsPosedBy};
-ghost use Rattle.lusdist_call.specs.Files.{IsUnwritten};
-ghost use Rattle.lusdist_call.specs.Waved.{IsRunDumped};
-ghost use Rattle.lusdist_call.specs.Stopped.{IsCheckStopped, IsEvalRefused, IsEvalStopped, IsPlanStopped, IsRunStopped};
+ghost use Rattle.lusdist_call.specs.Evaluated.{IsDumpedTo, IsNoFault, IsPosedBy};
+ghost use Rattle.lusdist_call.specs.Stopped.{IsCheckStopped, IsEvalStopped, IsPlanStopped, IsRefusalOf, IsRunStopped};
 ghost use Rattle.lusdist_call.specs.Mistakes.{mistake_in};
 ghost use Rattle.lusdist_call.specs.declared.call_error.CallError.{CallError};
 
@@ -18,7 +17,7 @@ use crate::planning::{plan_text, planned};
 use crate::running::run_table;
 use crate::sources::{flat_at, flattened, inputs_at, program_of};
 use luflow::{Flat, Inputs};
-use lusdist_call::{CallError, mistake_in, read};
+use lusdist_call::{CallError, Refusal, Reply, mistake_in, read};
 use lusdist_shell::{CheckRequest, EvalRequest, Files, PlanRequest, Progress, RunRequest};
 use lusyn::print_program;
 use std::alloc::Global;
@@ -62,40 +61,35 @@ fn posed<F: Files>(
     Ok((flat, inputs))
 }
 
-/// What the program and the table of an evaluation give: its outputs, or all its main variables, as a table or as a chart.
-fn evaluated_text<F: Files>(
-    alloc: Global,
-    request: EvalRequest<'_>,
-    files: &F,
-) -> Result<String, CallError>
+/// What the program and the table of an evaluation give: its outputs, or all its main variables, as a table or as a chart, and their
+/// dump.
+fn evaluated<F: Files>(alloc: Global, request: EvalRequest<'_>, files: &F) -> Result<Reply, Refusal>
     requires { mistake_in request ≡ None }
-    ensures text { IfOk result (λ text. IsEvaluated (F.gives files.now) request.entry
-        (string_bytes text)) }
-    ensures filed { OnOk result (IsDumped (F.gives files.now) (F.takes files.now) request.entry) }
-    ensures stopped { IfErr result (IsEvalStopped (F.gives files.now) request.entry) }
-    ensures before { IfErr result (IsDumpedTo (F.gives files.now) (F.takes files.now)
-        request.entry) }
+    ensures reply { IfOk result (IsReplyTo (F.gives files.now) (Request.Eval request.entry)) }
+    ensures stopped { IfErr result (λ refusal. IsEvalStopped (F.gives files.now) request.entry
+        refusal.error) }
+    ensures before { IfErr result (λ refusal. IsDumpedTo (F.gives files.now) request.entry
+        refusal.error (option_map string_bytes refusal.dump)) }
 {
     let (flat, inputs) = posed(alloc, request, files)?;
-    evaluation(alloc, request, files, &flat, &inputs)
+    evaluation(alloc, request, &flat, &inputs)
 }
 
-/// What an evaluation prints, where what it is asked for can be meant.
-pub fn eval_text<F: Files>(
+/// What an evaluation gives, where what it is asked for can be meant.
+pub fn eval_answer<F: Files>(
     alloc: Global,
     request: EvalRequest<'_>,
     files: &F,
-) -> Result<String, CallError>
-    ensures text { IfOk result (λ text. IsEvaluated (F.gives files.now) request.entry
-        (string_bytes text)) }
-    ensures filed { OnOk result (IsDumped (F.gives files.now) (F.takes files.now) request.entry) }
-    ensures stopped { IfErr result (IsEvalRefused (F.gives files.now) request.entry) }
-    ensures before { IfErr result (IsDumpedTo (F.gives files.now) (F.takes files.now)
-        request.entry) }
+) -> Result<Reply, Refusal>
+    ensures reply { IfOk result (IsReplyTo (F.gives files.now) (Request.Eval request.entry)) }
+    ensures refusal { IfErr result (IsRefusalOf (F.gives files.now) (Request.Eval request.entry)) }
 {
     match mistake_in(request) {
-        Some(mistake) => Err(CallError::Mistaken(mistake)),
-        None => evaluated_text(alloc, request, files),
+        Some(mistake) => Err(Refusal {
+            error: CallError::Mistaken(mistake),
+            dump: None,
+        }),
+        None => evaluated(alloc, request, files),
     }
 }
 
@@ -113,21 +107,17 @@ pub fn plan_answer<F: Files>(
     plan_text(alloc, &plan, request.form)
 }
 
-/// What a run prints: the table of the outputs of the program, which its sites gave together.
-pub fn run_text<R: Threads + Wait + Clock + Sync, F: Files, P: Progress>(
+/// What a run gives: the table of the outputs of the program, which its sites gave together, and their dump.
+pub fn run_answer<R: Threads + Wait + Clock + Sync, F: Files, P: Progress>(
     rt: &R,
     alloc: Global,
     request: RunRequest<'_>,
     files: &F,
     progress: &P,
-) -> Result<String, CallError>
+) -> Result<Reply, CallError>
     requires { AreFew request.workers }
-    ensures text { IfOk result (λ text. IsRan (F.gives files.now) request.entry
-        (string_bytes text)) }
-    ensures filed { OnOk result (IsRunDumped (F.gives files.now) (F.takes files.now)
-        request.entry) }
+    ensures reply { IfOk result (IsReplyTo (F.gives files.now) (Request.Run request.entry)) }
     ensures stopped { IfErr result (IsRunStopped (F.gives files.now) request.entry) }
-    ensures before { IfErr result (IsUnwritten (F.takes files.now)) }
 {
     let job = job_for(
         alloc,
@@ -137,5 +127,5 @@ pub fn run_text<R: Threads + Wait + Clock + Sync, F: Files, P: Progress>(
         request.table,
         request.main,
     )?;
-    run_table(rt, alloc, request, files, progress, &job)
+    run_table(rt, alloc, request, progress, &job)
 }

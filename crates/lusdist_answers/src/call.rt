@@ -1,84 +1,146 @@
 //! A call of the program, over files of any kind.
 
-ghost use Rattle.std.specs.Prelude.{◌≡◌, ◌⊎◌, ℕ, true, List, map, IfOk, IfErr, OnOk, string_bytes};
+ghost use Rattle.std.specs.Prelude.{◌≡◌, ◌⊎◌, ◌++◌, ℕ, true, List, map, Option, option_map, IfOk, IfErr, string_bytes};
 ghost use Rattle.std.specs.Io.KnownBytes.{Appends};
 ghost use Rattle.clap.specs.Words.{takes};
 ghost use Rattle.lusdist_shell.specs.CommandLine.{lusdist};
 ghost use Rattle.lusdist_shell.specs.Request.{HasFewWorkers};
-ghost use Rattle.lusdist_call.specs.Asked.{IsAnswer, AreNotes, AskForNoTrace, IsDone};
-ghost use Rattle.lusdist_call.specs.Stopped.{IsRequestStopped, IsRefusal};
-ghost use Rattle.lusdist_call.specs.Left.{AreFiled, AreFiledTo, IsEnded, IsCallEnded};
+ghost use Rattle.lusdist_shell.specs.Dumps.{Written};
+ghost use Rattle.lusdist_call.specs.Answers.{IsReplyTo, AskForNoTrace, IsDone};
+ghost use Rattle.lusdist_call.specs.Files.{dump_path};
+ghost use Rattle.lusdist_call.specs.Stopped.{IsRefusal, IsRefusalOf};
+ghost use Rattle.lusdist_call.specs.Left.{IsEnded, IsCallEnded};
 
-use crate::answering::{check_text, eval_text, plan_answer, run_text};
+use crate::answering::{check_text, eval_answer, plan_answer, run_answer};
 use crate::explaining::explained;
 use crate::refusals::put_refusal;
 use crate::replaying::replay_answer;
-use lusdist_call::{CallError, Reply, put_reply};
-use lusdist_shell::{Files, Progress, Request, Sink, parse, put_mistake};
+use lusdist_call::{Refusal, Reply, file_dump, put_reply};
+use lusdist_shell::{Dumps, Files, Progress, Request, Sink, parse, put_mistake};
 use std::alloc::Global;
 use std::io::Write;
 use std::rt::Clock;
 use std::sync::Wait;
 use std::thread::Threads;
 
-/// What the command that is asked for prints.
+/// What the command that is asked for gives.
 fn answer<R: Threads + Wait + Clock + Sync, F: Files, P: Progress>(
     rt: &R,
     alloc: Global,
     request: Request<'_>,
     files: &F,
     progress: &P,
-) -> Result<Reply, CallError>
+) -> Result<Reply, Refusal>
     requires { HasFewWorkers request }
-    ensures text { IfOk result (λ a. IsAnswer (F.gives files.now) request.entry
-        (string_bytes a.text)) }
-    ensures notes { IfOk result (λ a. AreNotes (F.gives files.now) request.entry
-        (string_bytes a.notes)) }
-    ensures filed { OnOk result (AreFiled (F.gives files.now) (F.takes files.now) request.entry) }
-    ensures stopped { IfErr result (IsRequestStopped (F.gives files.now) request.entry) }
-    ensures before { IfErr result (AreFiledTo (F.gives files.now) (F.takes files.now)
-        request.entry) }
+    ensures reply { IfOk result (IsReplyTo (F.gives files.now) request.entry) }
+    ensures refusal { IfErr result (IsRefusalOf (F.gives files.now) request.entry) }
 {
     match request {
         Request::Check(request) => Ok(Reply::plain(alloc, check_text(alloc, request, files)?)),
-        Request::Eval(request) => Ok(Reply::plain(alloc, eval_text(alloc, request, files)?)),
+        Request::Eval(request) => eval_answer(alloc, request, files),
         Request::Plan(request) => Ok(Reply::plain(alloc, plan_answer(alloc, request, files)?)),
-        Request::Replay(request) => replay_answer(alloc, request, files),
-        Request::Run(request) => {
-            let text = run_text(rt, alloc, request, files, progress)?;
-            Ok(Reply::plain(alloc, text))
-        }
+        Request::Replay(request) => Ok(replay_answer(alloc, request, files)?),
+        Request::Run(request) => Ok(run_answer(rt, alloc, request, files, progress)?),
         Request::Explain(request) => Ok(Reply::plain(alloc, explained(alloc, request)?)),
     }
 }
 
-/// Does what is asked for, writes what it prints or why it stops, and gives the exit status.
-fn perform<R: Threads + Wait + Clock + Sync, F: Files, P: Progress, W: Write, V: Write>(
+/// The path of the file that a request asks a dump to be written into.
+fn dump_path(request: Request<'_>) -> Option<&str>
+    ensures { option_map (λ s. s.now) result ≡ dump_path request.entry }
+{
+    match request {
+        Request::Eval(asked) => asked.vcd,
+        Request::Replay(asked) => asked.vcd,
+        Request::Run(asked) => asked.vcd,
+        _ => None,
+    }
+}
+
+/// Writes an answer: its dump into the file that is asked for, its text, and its notes. Where the dump can't be written, that is
+/// reported in their place. Gives the exit status.
+fn put_answer<F: Files, D: Dumps, W: Write, V: Write>(
+    alloc: Global,
+    request: Request<'_>,
+    files: &F,
+    reply: Reply,
+    dumps: &mut D,
+    out: &mut Sink<W>,
+    err: &mut Sink<V>,
+) -> u8
+    requires { IsReplyTo (F.gives files.now) request reply }
+    ensures { (wrote : List Written) × (D.written dumps.new ≡ D.written dumps.old ++ wrote)
+        × IsEnded (F.gives files.now) request.entry result wrote (record {
+          out = out.old;
+          out_after = out.new;
+          err = err.old;
+          err_after = err.new;
+          held_out = W.contents;
+          held_err = V.contents;
+        }) }
+{
+    let Reply { text, notes, dump } = reply;
+    match file_dump(alloc, dumps, dump_path(request), dump) {
+        Ok(()) => put_reply(out, err, &text, &notes),
+        Err(stop) => put_refusal(alloc, files, request, stop, err),
+    }
+}
+
+/// Writes a refusal: the dump that it leaves into the file that is asked for, and its line. Where the dump can't be written, that is
+/// reported in place of the refusal. Gives the exit status.
+fn put_stop<F: Files, D: Dumps, W, V: Write>(
+    alloc: Global,
+    request: Request<'_>,
+    files: &F,
+    refusal: Refusal,
+    dumps: &mut D,
+    out: &Sink<W>,
+    err: &mut Sink<V>,
+) -> u8
+    requires { IsRefusalOf (F.gives files.now) request refusal }
+    ensures { (wrote : List Written) × (D.written dumps.new ≡ D.written dumps.old ++ wrote)
+        × ((held : W → Option (List ℕ)) → IsEnded (F.gives files.now) request.entry result wrote
+        (record {
+          out = out.now;
+          out_after = out.now;
+          err = err.old;
+          err_after = err.new;
+          held_out = held;
+          held_err = V.contents;
+        })) }
+{
+    let Refusal { error, dump } = refusal;
+    match file_dump(alloc, dumps, dump_path(request), dump) {
+        Ok(()) => put_refusal(alloc, files, request, error, err),
+        Err(stop) => put_refusal(alloc, files, request, stop, err),
+    }
+}
+
+/// Does what is asked for, writes what it gives or why it stops, and gives the exit status.
+fn perform<R: Threads + Wait + Clock + Sync, F: Files, D: Dumps, P: Progress, W: Write, V: Write>(
     rt: &R,
     alloc: Global,
     request: Request<'_>,
     files: &F,
+    dumps: &mut D,
     progress: &P,
     out: &mut Sink<W>,
     err: &mut Sink<V>,
 ) -> u8
     requires { HasFewWorkers request }
-    ensures { IsEnded (F.gives files.now) (F.takes files.now) request.entry result (record {
-      out = out.old;
-      out_after = out.new;
-      err = err.old;
-      err_after = err.new;
-      held_out = W.contents;
-      held_err = V.contents;
-    }) }
+    ensures { (wrote : List Written) × (D.written dumps.new ≡ D.written dumps.old ++ wrote)
+        × IsEnded (F.gives files.now) request.entry result wrote (record {
+          out = out.old;
+          out_after = out.new;
+          err = err.old;
+          err_after = err.new;
+          held_out = W.contents;
+          held_err = V.contents;
+        }) }
 {
     match answer(rt, alloc, request, files, progress) {
-        Ok(found) => put_reply(out, err, &found),
-        Err(stop) => {
-            let status = stop.status();
-            put_refusal(alloc, files, request, stop, err);
-            status
-        }
+        Ok(reply) => put_answer(alloc, request, files, reply, dumps, out, err),
+        Err(refusal) => put_stop(alloc, request, files, refusal, dumps, out, err),
     }
 }
 
@@ -88,24 +150,26 @@ fn perform<R: Threads + Wait + Clock + Sync, F: Files, P: Progress, W: Write, V:
 /// written. A refusal is one line on the error stream, with its reason behind it where that is asked for; the turns of a replay go there too,
 /// where they are asked for. A run waits for its threads; the other commands wait for nobody.
 ///
-/// Where a dump is asked for, its file is written before the answer: of an evaluation that of the whole table, or, where it stops at a
-/// fault, of all instants before it; of a run that of the whole outputs, and none where it stops; of a replay that of the outputs as far as
-/// they were passed. Where it can't be written, that is reported in place of the answer or the fault.
+/// Where a dump is asked for, its file is written before the answer, by one write: of an evaluation that of the whole table, or, where it
+/// stops at a fault, of all instants before it; of a run that of the whole outputs, and none where it stops; of a replay that of the
+/// outputs as far as they were passed. Where it can't be written, that is reported in place of the answer or the fault. Nothing else is
+/// written.
 ///
 /// Where the progress of a run is asked for, the threads that serve the sites report it. It is handed the number
 /// of a site and an instant and nothing of the values; what it does with them isn't in the contract.
-pub fn serve<R: Threads + Wait + Clock + Sync, F: Files, P: Progress, W: Write, V: Write>(
+pub fn serve<R: Threads + Wait + Clock + Sync, F: Files, D: Dumps, P: Progress, W: Write, V: Write>(
     rt: &R,
     alloc: Global,
     words: &[String],
     files: &F,
+    dumps: &mut D,
     progress: &P,
     out: &mut Sink<W>,
     err: &mut Sink<V>,
 ) -> u8
-    // With which status a call ends, and what it leaves in the two streams.
-    ensures ended { IsCallEnded (F.gives files.now) (F.takes files.now)
-        (map string_bytes words.entry.now) result (record {
+    // With which status a call ends, what it wrote into files, and what it leaves in the two streams.
+    ensures ended { (wrote : List Written) × (D.written dumps.new ≡ D.written dumps.old ++ wrote)
+        × IsCallEnded (F.gives files.now) (map string_bytes words.entry.now) result wrote (record {
           out = out.old;
           out_after = out.new;
           err = err.old;
@@ -133,7 +197,7 @@ pub fn serve<R: Threads + Wait + Clock + Sync, F: Files, P: Progress, W: Write, 
         → err.new ≡ err.old }
 {
     match parse(alloc, words) {
-        Ok(request) => perform(rt, alloc, request, files, progress, out, err),
+        Ok(request) => perform(rt, alloc, request, files, dumps, progress, out, err),
         Err(mistake) => put_mistake(out, err, &mistake),
     }
 }

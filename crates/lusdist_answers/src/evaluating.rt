@@ -1,21 +1,34 @@
 //! The main variables of a program at a table, as a text.
 
-ghost use Rattle.std.specs.Prelude.{◌≡◌, ◌<◌, ◌≤◌, ◌⊎◌, IfOk, IfErr, OnOk, length, string_bytes};
+ghost use Rattle.std.specs.Prelude.{◌≡◌, ◌<◌, ◌≤◌, List, [], Some, IfOk, IfErr, OnOk, length, slice_get, string_bytes, option_map};
+ghost use Rattle.luflow.specs.declared.variable.Variable.{Variable};
+ghost use Rattle.luflow.specs.Tables.{OutputColumn};
 ghost use Rattle.luflow.specs.Sound.{IsFit};
 ghost use Rattle.luflow.specs.Variables.{outputs_of};
 ghost use Rattle.lueval.specs.Whole.{HasNoFault, IsAnswer};
 ghost use Rattle.lutab.specs.Outputs.{shown_of};
-ghost use Rattle.lusdist_call.specs.Evaluated.{AreEvaluated, HasNoFaultBefore, IsFiled, IsShown, AreShownBefore, IsShownTo, IsStopped, IsStopFor, IsUnfiled, shown_text, wave_text};
+ghost use Rattle.lusdist_call.specs.Files.{dump_for, wave_path};
+ghost use Rattle.lusdist_call.specs.Evaluated.{AreEvaluated, HasNoFaultBefore, IsShown, IsShownBefore, IsShownTo, IsStopped, IsStopFor, shown_text, wave_text};
 ghost use Rattle.lueval_lines.specs.declared.error.EvalError.TheVariants.{Fault};
 
+use lubase::Name;
 use lublock::block_outputs;
 use luchart::{chronogram, cut, dump};
 use lueval::{EvalError, whole_columns};
 use luflow::{FaultKind, Flat, Inputs, Outputs};
-use lusdist_call::{CallError, file_text};
-use lusdist_shell::{EvalRequest, Files};
+use lusdist_call::{CallError, Refusal, Reply};
+use lusdist_shell::EvalRequest;
 use lutab::{shown_kinds, write_columns};
 use std::alloc::{AllocError, Global};
+
+/// The name of the main variable in whose equation a fault stands.
+fn fault_name(alloc: Global, flat: &Flat, variable: usize) -> Result<Name, AllocError>
+    requires { variable < length flat.now.variables }
+    ensures { IfOk result (λ name. (x : Variable)
+        × (slice_get flat.now.variables variable ≡ Some x) × (name ≡ x.name)) }
+{
+    flat.variables()[variable].name.copied(alloc)
+}
 
 /// The stop for a fault in the equation of this main variable.
 pub(crate) fn fault_stop(
@@ -28,7 +41,7 @@ pub(crate) fn fault_stop(
     requires { variable < length flat.now.variables }
     ensures { IsStopFor flat.now variable instant kind result }
 {
-    match flat.variables()[variable].name.copied(alloc) {
+    match fault_name(alloc, flat, variable) {
         Ok(name) => CallError::Fault {
             variable: name,
             instant,
@@ -146,132 +159,142 @@ fn wave_text(
     dump(alloc, request.main, flat.types(), &kinds, columns)
 }
 
-/// Writes the dump of the variables that a request asks for into its file; nothing where it asks for none.
-fn file_wave<F: Files>(
+/// The dump of the variables that a request asks for, where it asks for one.
+fn wave(
     alloc: Global,
     request: EvalRequest<'_>,
-    files: &F,
     flat: &Flat,
     columns: &Outputs,
-) -> Result<(), CallError>
-    ensures filed { OnOk result (IsFiled (F.takes files.now) request.entry
+) -> Result<Option<String>, AllocError>
+    ensures { IfOk result (λ dump. option_map string_bytes dump ≡ dump_for (wave_path request.entry)
         (wave_text request.entry flat.now columns.now)) }
-    ensures stopped { IfErr result (IsUnfiled (F.takes files.now) request.entry) }
-{
-    let Some(path) = request.vcd else {
-        return Ok(());
-    };
-    let text = wave_text(alloc, request, flat, columns)?;
-    file_text(alloc, files, path, &text)
-}
-
-/// Writes the dump of the instants before a fault into its file.
-fn file_part<F: Files>(
-    alloc: Global,
-    request: EvalRequest<'_>,
-    files: &F,
-    flat: &Flat,
-    inputs: &Inputs,
-    instant: u32,
-) -> Result<(), CallError>
-    requires some { 0 < length (outputs_of flat.now.variables) }
-    requires fit { IsFit flat.now inputs.now }
-    requires early { instant ≤ inputs.now.instants }
-    requires no_fault { HasNoFaultBefore flat.now inputs.now instant }
-    ensures filed { OnOk result (AreShownBefore (F.takes files.now) request.entry flat.now
-        inputs.now instant) }
-    ensures stopped { IfErr result (IsUnfiled (F.takes files.now) request.entry) }
-{
-    let columns = columns_before(alloc, flat, inputs, instant, request.all)?;
-    file_wave(alloc, request, files, flat, &columns)
-}
-
-/// Writes the dump of the instants before a fault into its file, where one is asked for; else nothing is evaluated.
-fn file_before<F: Files>(
-    alloc: Global,
-    request: EvalRequest<'_>,
-    files: &F,
-    flat: &Flat,
-    inputs: &Inputs,
-    instant: u32,
-) -> Result<(), CallError>
-    requires some { 0 < length (outputs_of flat.now.variables) }
-    requires fit { IsFit flat.now inputs.now }
-    requires early { instant ≤ inputs.now.instants }
-    requires no_fault { HasNoFaultBefore flat.now inputs.now instant }
-    ensures filed { OnOk result (AreShownBefore (F.takes files.now) request.entry flat.now
-        inputs.now instant) }
-    ensures stopped { IfErr result (IsUnfiled (F.takes files.now) request.entry) }
 {
     match request.vcd {
-        Some(_) => file_part(alloc, request, files, flat, inputs, instant),
-        None => Ok(()),
+        Some(_) => {
+            let text = wave_text(alloc, request, flat, columns)?;
+            Ok(Some(text))
+        }
+        None => Ok(None),
     }
 }
 
-/// What a request asks for of columns, as a text. The file of their dump is written first.
-fn shown<F: Files>(
+/// The dump of the instants before a fault.
+fn wave_part(
     alloc: Global,
     request: EvalRequest<'_>,
-    files: &F,
     flat: &Flat,
-    columns: &Outputs,
-) -> Result<String, CallError>
-    ensures text { IfOk result (λ text. string_bytes text
-        ≡ shown_text request.entry flat.now columns.now) }
-    ensures filed { OnOk result (IsFiled (F.takes files.now) request.entry
-        (wave_text request.entry flat.now columns.now)) }
-    ensures stopped { IfErr result (IsUnfiled (F.takes files.now) request.entry) }
+    inputs: &Inputs,
+    instant: u32,
+) -> Result<String, AllocError>
+    requires some { 0 < length (outputs_of flat.now.variables) }
+    requires fit { IsFit flat.now inputs.now }
+    requires early { instant ≤ inputs.now.instants }
+    requires no_fault { HasNoFaultBefore flat.now inputs.now instant }
+    ensures { IfOk result (λ text. (columns : List OutputColumn)
+        × AreEvaluated flat.now inputs.now (shown_of request.entry.all flat.now.variables) instant
+        columns × (string_bytes text ≡ wave_text request.entry flat.now columns)) }
 {
-    let text = shown_text(alloc, request, flat, columns)?;
-    file_wave(alloc, request, files, flat, columns)?;
-    Ok(text)
+    let columns = columns_before(alloc, flat, inputs, instant, request.all)?;
+    wave_text(alloc, request, flat, &columns)
 }
 
-/// The stop for the first fault, of this main variable at this instant. The file of the dump of the instants before it is written
-/// first.
-fn faulted<F: Files>(
+/// The dump of the instants before a fault, where one is asked for; else nothing is evaluated.
+fn wave_before(
     alloc: Global,
     request: EvalRequest<'_>,
-    files: &F,
+    flat: &Flat,
+    inputs: &Inputs,
+    instant: u32,
+) -> Result<Option<String>, AllocError>
+    requires some { 0 < length (outputs_of flat.now.variables) }
+    requires fit { IsFit flat.now inputs.now }
+    requires early { instant ≤ inputs.now.instants }
+    requires no_fault { HasNoFaultBefore flat.now inputs.now instant }
+    ensures { IfOk result (λ dump. IsShownBefore request.entry flat.now inputs.now instant
+        (wave_path request.entry) (option_map string_bytes dump)) }
+{
+    match request.vcd {
+        Some(_) => {
+            let text = wave_part(alloc, request, flat, inputs, instant)?;
+            Ok(Some(text))
+        }
+        None => Ok(None),
+    }
+}
+
+/// What a request asks for of columns: a text, and their dump.
+fn shown(
+    alloc: Global,
+    request: EvalRequest<'_>,
+    flat: &Flat,
+    columns: &Outputs,
+) -> Result<Reply, AllocError>
+    ensures text { IfOk result (λ reply. string_bytes reply.text
+        ≡ shown_text request.entry flat.now columns.now) }
+    ensures dump { IfOk result (λ reply. option_map string_bytes reply.dump
+        ≡ dump_for (wave_path request.entry) (wave_text request.entry flat.now columns.now)) }
+    ensures notes { IfOk result (λ reply. string_bytes reply.notes ≡ []) }
+{
+    let text = shown_text(alloc, request, flat, columns)?;
+    let dump = wave(alloc, request, flat, columns)?;
+    Ok(Reply::new(alloc, text, dump))
+}
+
+/// The stop for the first fault, of this main variable at this instant, with the dump of the instants before it.
+fn faulted(
+    alloc: Global,
+    request: EvalRequest<'_>,
     flat: &Flat,
     inputs: &Inputs,
     fault: (usize, u32, FaultKind),
-) -> CallError
+) -> Result<Refusal, AllocError>
     requires some { 0 < length (outputs_of flat.now.variables) }
     requires fit { IsFit flat.now inputs.now }
     requires reported { IsAnswer flat.now inputs.now (Fault fault.0 fault.1 fault.2) }
-    ensures stopped { IsStopped request.entry flat.now inputs.now result }
-    ensures before { IsShownTo (F.takes files.now) request.entry flat.now inputs.now result }
+    ensures stopped { IfOk result (λ refusal. IsStopped flat.now inputs.now refusal.error) }
+    ensures before { IfOk result (λ refusal. IsShownTo request.entry flat.now inputs.now
+        refusal.error (option_map string_bytes refusal.dump)) }
 {
     flat.recall_invariant();
     let (variable, instant, kind) = fault;
-    match file_before(alloc, request, files, flat, inputs, instant) {
-        Ok(()) => fault_stop(alloc, flat, variable, instant, kind),
-        Err(stop) => stop,
-    }
+    let dump = wave_before(alloc, request, flat, inputs, instant)?;
+    let name = fault_name(alloc, flat, variable)?;
+    Ok(Refusal {
+        error: CallError::Fault {
+            variable: name,
+            instant,
+            kind,
+        },
+        dump,
+    })
 }
 
-/// What a request asks for of a flat program and a table that fits it, as a text, or the first fault. The file of its dump is written
-/// first.
-pub fn evaluation<F: Files>(
+/// What a request asks for of a flat program and a table that fits it, as a text and a dump; or the first fault, with the dump of
+/// the instants before it.
+pub fn evaluation(
     alloc: Global,
     request: EvalRequest<'_>,
-    files: &F,
     flat: &Flat,
     inputs: &Inputs,
-) -> Result<String, CallError>
+) -> Result<Reply, Refusal>
     requires fit { IsFit flat.now inputs.now }
     requires some { 0 < length (outputs_of flat.now.variables) }
-    ensures text { IfOk result (λ text. IsShown (F.takes files.now) request.entry flat.now
-        inputs.now (string_bytes text)) }
-    ensures stopped { IfErr result (IsStopped request.entry flat.now inputs.now) }
-    ensures before { IfErr result (IsShownTo (F.takes files.now) request.entry flat.now
-        inputs.now) }
+    ensures shown { IfOk result (λ reply. IsShown request.entry flat.now inputs.now
+        (string_bytes reply.text) (option_map string_bytes reply.dump)) }
+    ensures notes { IfOk result (λ reply. string_bytes reply.notes ≡ []) }
+    ensures stopped { IfErr result (λ refusal. IsStopped flat.now inputs.now refusal.error) }
+    ensures before { IfErr result (λ refusal. IsShownTo request.entry flat.now inputs.now
+        refusal.error (option_map string_bytes refusal.dump)) }
 {
     match columns_of(alloc, flat, inputs, request.all) {
-        Ok(columns) => shown(alloc, request, files, flat, &columns),
-        Err(EvalError::OutOfMemory) => Err(CallError::OutOfMemory),
+        Ok(columns) => {
+            let reply = shown(alloc, request, flat, &columns)?;
+            Ok(reply)
+        }
+        Err(EvalError::OutOfMemory) => Err(Refusal {
+            error: CallError::OutOfMemory,
+            dump: None,
+        }),
         Err(
             EvalError::Fault {
                 variable,
@@ -280,7 +303,8 @@ pub fn evaluation<F: Files>(
             },
         ) => {
             let fault = (variable, instant, kind);
-            Err(faulted(alloc, request, files, flat, inputs, fault))
+            let refusal = faulted(alloc, request, flat, inputs, fault)?;
+            Err(refusal)
         }
     }
 }

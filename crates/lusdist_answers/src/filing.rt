@@ -1,16 +1,15 @@
-//! Dumps, each into the file that a request names.
+//! The dumps of a run and of a replay.
 
-ghost use Rattle.std.specs.Prelude.{◌≡◌, IfOk, IfErr, OnOk, Some, string_bytes, option_map, List, ℕ};
+ghost use Rattle.std.specs.Prelude.{◌≡◌, IfOk, string_bytes, option_map, List};
 ghost use Rattle.luchart.specs.Signals.{Signal};
 ghost use Rattle.luweave_text.specs.Waves.{site_dump, AreOutputSignals};
-ghost use Rattle.lusdist_call.specs.Files.{IsFiledAt, IsUnfiledAt};
-ghost use Rattle.lusdist_call.specs.Waved.{IsWorldDumped, IsWorldFiled, replay_path, run_dump, run_path};
+ghost use Rattle.lusdist_call.specs.Files.{dump_for, replay_path, run_path};
+ghost use Rattle.lusdist_call.specs.Waved.{IsWorldDump, run_dump};
 
 use luchart::signal::signals_of;
 use luflow::Outputs;
 use luplace::Plan;
-use lusdist_call::{CallError, file_text};
-use lusdist_shell::{Files, ReplayRequest, RunRequest};
+use lusdist_shell::{ReplayRequest, RunRequest};
 use lutab::shown_kinds;
 use luweave::World;
 use luweave_text::{dump_by_site, output_signals};
@@ -26,23 +25,23 @@ fn run_dump(alloc: Global, main: &str, plan: &Plan, outputs: &Outputs) -> Result
     dump_by_site(alloc, main, plan, &signals)
 }
 
-/// Writes the dump of a run's outputs into the file that is asked for; nothing where none is.
-pub(crate) fn file_run<F: Files>(
+/// The dump of a run's outputs, where one is asked for.
+pub(crate) fn dump_of_run(
     alloc: Global,
     request: RunRequest<'_>,
-    files: &F,
     plan: &Plan,
     outputs: &Outputs,
-) -> Result<(), CallError>
-    ensures filed { OnOk result (IsFiledAt (F.takes files.now) (run_path request.entry)
+) -> Result<Option<String>, AllocError>
+    ensures { IfOk result (λ dump. option_map string_bytes dump ≡ dump_for (run_path request.entry)
         (run_dump request.entry.main.now plan.now outputs.now)) }
-    ensures stopped { IfErr result (IsUnfiledAt (F.takes files.now) (run_path request.entry)) }
 {
-    let Some(path) = request.vcd else {
-        return Ok(());
-    };
-    let text = run_dump(alloc, request.main, plan, outputs)?;
-    file_text(alloc, files, path, &text)
+    match request.vcd {
+        Some(_) => {
+            let text = run_dump(alloc, request.main, plan, outputs)?;
+            Ok(Some(text))
+        }
+        None => Ok(None),
+    }
 }
 
 /// The dump of the outputs of a world, each as far as it was passed.
@@ -55,37 +54,22 @@ fn world_dump(alloc: Global, main: &str, plan: &Plan, world: &World) -> Result<S
     dump_by_site(alloc, main, plan, &signals)
 }
 
-/// Writes the dump of a world into the file of this path.
-fn file_world_at<F: Files>(
-    alloc: Global,
-    main: &str,
-    files: &F,
-    plan: &Plan,
-    world: &World,
-    path: &str,
-) -> Result<(), CallError>
-    requires { world.now.job.plan ≡ plan.now }
-    ensures filed { OnOk result (IsWorldFiled (F.takes files.now) main.now world.now path.now) }
-    ensures stopped { IfErr result (IsUnfiledAt (F.takes files.now) (Some path.now)) }
-{
-    let text = world_dump(alloc, main, plan, world)?;
-    file_text(alloc, files, path, &text)
-}
-
-/// Writes the dump of a world into the file that is asked for; nothing where none is.
-pub(crate) fn file_world<F: Files>(
+/// The dump of a world, where one is asked for.
+pub(crate) fn dump_of_world(
     alloc: Global,
     request: ReplayRequest<'_>,
-    files: &F,
     plan: &Plan,
     world: &World,
-) -> Result<(), CallError>
+) -> Result<Option<String>, AllocError>
     requires { world.now.job.plan ≡ plan.now }
-    ensures filed { OnOk result (IsWorldDumped (F.takes files.now) request.entry world.now) }
-    ensures stopped { IfErr result (IsUnfiledAt (F.takes files.now) (replay_path request.entry)) }
+    ensures { IfOk result (λ dump. IsWorldDump request.entry.main.now world.now
+        (replay_path request.entry) (option_map string_bytes dump)) }
 {
     match request.vcd {
-        Some(path) => file_world_at(alloc, request.main, files, plan, world, path),
-        None => Ok(()),
+        Some(_) => {
+            let text = world_dump(alloc, request.main, plan, world)?;
+            Ok(Some(text))
+        }
+        None => Ok(None),
     }
 }

@@ -2,7 +2,8 @@
 
 ghost use Rattle.std.specs.Prelude.{◌≡◌, [], ◌∷◌, ◌++◌, IfOk, IfErr, string_bytes};
 ghost use Rattle.luplace_report.specs.Report.{report_text};
-ghost use Rattle.lusdist_call.specs.Asked.{IsPlanFor, IsPlanText};
+ghost use Rattle.lusdist_call.specs.Answers.{IsPlanText};
+ghost use Rattle.lusdist_call.specs.Asked.{IsPlanFor};
 ghost use Rattle.lusdist_call.specs.Stopped.{StopsAtPlan};
 ghost use Rattle.lusdist_call.specs.declared.call_error.CallError.TheVariants.{OutOfMemory};
 

@@ -2,6 +2,7 @@
 
 ghost use Rattle.std.specs.Prelude.{◌≡◌, string_bytes};
 ghost use Rattle.lusdist_call.specs.Reasons.{asks_why, IsReportedBehind, HasRefusal};
+ghost use Rattle.lusdist_call.specs.Statuses.{status_of};
 
 use crate::reasons::reason;
 use lusdist_call::CallError;
@@ -42,23 +43,27 @@ fn reported_behind<F: Files>(
     }
 }
 
-/// Writes a refusal to the error stream: its line, and its reason behind it. Where memory runs out for that, the line alone.
+/// Writes a refusal to the error stream: its line, and its reason behind it. Where memory runs out for that, the line alone. Answers the
+/// status.
 pub fn put_refusal<F: Files, V: Write>(
     alloc: Global,
     files: &F,
     request: Request<'_>,
     stop: CallError,
     err: &mut Sink<V>,
-)
-    ensures { HasRefusal (F.gives files.now) request.entry stop V.contents err.old err.new }
+) -> u8
+    ensures put { HasRefusal (F.gives files.now) request.entry stop V.contents err.old err.new }
+    ensures status { result ≡ status_of stop }
 {
+    let status = stop.status();
     let reported = reported_behind(alloc, files, request, &stop);
     if reported.is_empty() {
         err.put_line(stop);
-        return;
+        return status;
     }
     match format!(in alloc; "{stop}\n{reported}") {
         Ok(text) => err.put(text.as_bytes()),
         Err(_) => err.put_line(stop),
     }
+    status
 }

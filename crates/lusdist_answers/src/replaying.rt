@@ -1,17 +1,16 @@
 //! What a replay prints, of the files that it asks for.
 
-ghost use Rattle.std.specs.Prelude.{◌≡◌, ◌<◌, ℕ, List, IfOk, IfErr, OnOk, string_bytes};
+ghost use Rattle.std.specs.Prelude.{◌≡◌, ◌<◌, ℕ, List, IfOk, IfErr, string_bytes, option_map};
 ghost use Rattle.luweave.specs.Headline.{IsFaithful};
 ghost use Rattle.luweave_text.specs.Traced.{IsTraced};
-ghost use Rattle.lusdist_call.specs.Asked.{IsAskedFor, IsWorldOf, AreNotesOf, IsPrinted, IsReplayed, IsNotedReplay};
-ghost use Rattle.lusdist_call.specs.Evaluated.{IsNoFault};
-ghost use Rattle.lusdist_call.specs.Files.{IsUnfiledAt, IsUnwritten};
-ghost use Rattle.lusdist_call.specs.Waved.{AreWaved, IsReplayDumped, replay_path};
+ghost use Rattle.lusdist_shell.specs.declared.request.Request.{Request};
+ghost use Rattle.lusdist_call.specs.Asked.{IsAskedFor, IsWorldOf, AreNotesOf};
+ghost use Rattle.lusdist_call.specs.Answers.{IsPrinted, IsReplyTo};
 ghost use Rattle.lusdist_call.specs.Stopped.{IsReplayStopped};
 ghost use Rattle.lusdist_call.specs.declared.call_error.CallError.{CallError};
 ghost use Rattle.lusdist_call.specs.declared.call_error.CallError.TheVariants.{OutOfMemory};
 
-use crate::filing::file_world;
+use crate::filing::dump_of_world;
 use crate::jobs::job_for;
 use crate::sources::turns_at;
 use luplace::Job;
@@ -30,7 +29,6 @@ fn job_and_turns<F: Files>(
     ensures asked { IfOk result (λ found. IsAskedFor (F.gives files.now) request.entry found.0
         found.1.items) }
     ensures stopped { IfErr result (IsReplayStopped (F.gives files.now) request.entry) }
-    ensures no_write { IfErr result IsNoFault }
 {
     let job = job_for(
         alloc,
@@ -102,42 +100,33 @@ fn noted(
     }
 }
 
-/// What a replay of a job prints. The file of its dump is written first, where the request asks for one.
-fn printed<F: Files>(
+/// What a replay of a job gives: the text of its world, the notes of its turns, and a dump, where the request asks for one.
+fn printed(
     alloc: Global,
     request: ReplayRequest<'_>,
-    files: &F,
     job: &Job,
     turns: &[u8],
 ) -> Result<Reply, CallError>
-    ensures text { IfOk result (λ a. IsPrinted job.now turns.now request.entry.finish
-        (string_bytes a.text)) }
-    ensures notes { IfOk result (λ a. (dones : List ℕ) × AreNotesOf job.now turns.now
-        request.entry.finish request.entry.turns dones (string_bytes a.notes)) }
-    ensures filed { OnOk result (AreWaved (F.takes files.now) request.entry job.now turns.now) }
-    ensures stopped { IfErr result (IsUnfiledAt (F.takes files.now) (replay_path request.entry)) }
+    ensures printed { IfOk result (λ reply. IsPrinted request.entry job.now turns.now
+        (string_bytes reply.text) (string_bytes reply.notes)
+        (option_map string_bytes reply.dump)) }
+    ensures memory { IfErr result (λ stop. stop ≡ OutOfMemory) }
 {
     let (world, notes) = noted(alloc, job, turns, request.finish, request.turns)?;
     let text = text_of_world(alloc, job.plan(), &world)?;
-    file_world(alloc, request, files, job.plan(), &world)?;
-    Ok(Reply { text, notes })
+    let dump = dump_of_world(alloc, request, job.plan(), &world)?;
+    Ok(Reply { text, notes, dump })
 }
 
-/// What a replay prints.
+/// What a replay gives.
 pub fn replay_answer<F: Files>(
     alloc: Global,
     request: ReplayRequest<'_>,
     files: &F,
 ) -> Result<Reply, CallError>
-    ensures text { IfOk result (λ a. IsReplayed (F.gives files.now) request.entry
-        (string_bytes a.text)) }
-    ensures notes { IfOk result (λ a. IsNotedReplay (F.gives files.now) request.entry
-        (string_bytes a.notes)) }
-    ensures filed { OnOk result (IsReplayDumped (F.gives files.now) (F.takes files.now)
-        request.entry) }
+    ensures reply { IfOk result (IsReplyTo (F.gives files.now) (Request.Replay request.entry)) }
     ensures stopped { IfErr result (IsReplayStopped (F.gives files.now) request.entry) }
-    ensures before { IfErr result (IsUnwritten (F.takes files.now)) }
 {
     let (job, turns) = job_and_turns(alloc, request, files)?;
-    printed(alloc, request, files, &job, &turns)
+    printed(alloc, request, &job, &turns)
 }

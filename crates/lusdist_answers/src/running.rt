@@ -1,24 +1,24 @@
 //! A run of a job on threads.
 
-ghost use Rattle.std.specs.Prelude.{◌≡◌, ◌<◌, ◌⊎◌, length, IfOk, IfErr, IfSome, OnOk, MatchResult, string_bytes};
+ghost use Rattle.std.specs.Prelude.{◌≡◌, ◌<◌, [], length, IfOk, IfErr, IfSome, MatchResult, string_bytes, option_map};
 ghost use Rattle.luflow.specs.Variables.{outputs_of};
 ghost use Rattle.lurun_reports.specs.Reports.{AreOutputsOf};
 ghost use Rattle.lusdist_shell.specs.Request.{AreFew};
 ghost use Rattle.lutab.specs.Outputs.{output_text};
-ghost use Rattle.lusdist_call.specs.Ran.{IsRunError, IsRunTable, IsStopOfRun};
-ghost use Rattle.lusdist_call.specs.Files.{IsFiledAt, IsUnfiledAt};
-ghost use Rattle.lusdist_call.specs.Waved.{AreRunWaves, run_dump, run_path};
+ghost use Rattle.lusdist_call.specs.Ran.{IsRunError, IsRunReply, IsStopOfRun};
+ghost use Rattle.lusdist_call.specs.Files.{dump_for, run_path};
+ghost use Rattle.lusdist_call.specs.Waved.{run_dump};
 
 use crate::evaluating::fault_stop;
-use crate::filing::file_run;
+use crate::filing::dump_of_run;
 use luflow::Outputs;
 use luplace::{Job, Plan};
 use lurun::{Gate, RunError, run_crew, run_threads, stations};
 use lurun_rows::{row_stations, run_rows};
-use lusdist_call::CallError;
-use lusdist_shell::{Files, Progress, RunRequest};
+use lusdist_call::{CallError, Reply};
+use lusdist_shell::{Progress, RunRequest};
 use lutab::write_outputs;
-use std::alloc::Global;
+use std::alloc::{AllocError, Global};
 use std::rt::Clock;
 use std::sync::Wait;
 use std::thread::Threads;
@@ -159,43 +159,41 @@ fn run_outputs<R: Threads + Wait + Clock + Sync, P: Progress>(
     }
 }
 
-/// The table of a run's outputs. The file of their dump is written first, where the request asks for one.
-fn reported_outputs<F: Files>(
+/// The table of a run's outputs, and their dump, where the request asks for one.
+fn reported_outputs(
     alloc: Global,
     request: RunRequest<'_>,
-    files: &F,
     plan: &Plan,
     outputs: &Outputs,
-) -> Result<String, CallError>
-    ensures text { IfOk result (λ text. string_bytes text
+) -> Result<Reply, AllocError>
+    ensures text { IfOk result (λ reply. string_bytes reply.text
         ≡ output_text plan.now.flat outputs.now) }
-    ensures filed { OnOk result (IsFiledAt (F.takes files.now) (run_path request.entry)
-        (run_dump request.entry.main.now plan.now outputs.now)) }
-    ensures stopped { IfErr result (IsUnfiledAt (F.takes files.now) (run_path request.entry)) }
+    ensures dump { IfOk result (λ reply. option_map string_bytes reply.dump
+        ≡ dump_for (run_path request.entry) (run_dump request.entry.main.now plan.now
+        outputs.now)) }
+    ensures notes { IfOk result (λ reply. string_bytes reply.notes ≡ []) }
 {
     let text = write_outputs(alloc, plan.flat(), outputs)?;
-    file_run(alloc, request, files, plan, outputs)?;
-    Ok(text)
+    let dump = dump_of_run(alloc, request, plan, outputs)?;
+    Ok(Reply::new(alloc, text, dump))
 }
 
-/// The table of the outputs of a job that is run as a request asks for, or why there is none. The file of their dump is written first, where
-/// the request asks for one. All threads of the run have ended when it returns.
-pub fn run_table<R: Threads + Wait + Clock + Sync, F: Files, P: Progress>(
+/// The table of the outputs of a job that is run as a request asks for, and their dump, where the request asks for one; or why there is
+/// none. All threads of the run have ended when it returns.
+pub fn run_table<R: Threads + Wait + Clock + Sync, P: Progress>(
     rt: &R,
     alloc: Global,
     request: RunRequest<'_>,
-    files: &F,
     progress: &P,
     job: &Job,
-) -> Result<String, CallError>
+) -> Result<Reply, CallError>
     requires few { AreFew request.workers }
     requires some { 0 < length (outputs_of job.now.plan.flat.variables) }
-    ensures text { IfOk result (λ text. IsRunTable job.now (string_bytes text)) }
-    ensures filed { OnOk result (AreRunWaves (F.takes files.now) request.entry job.now) }
-    ensures stopped { IfErr result (λ stop. IsStopOfRun job.now stop
-        ⊎ IsUnfiledAt (F.takes files.now) (run_path request.entry) stop) }
+    ensures reply { IfOk result (IsRunReply job.now request.entry) }
+    ensures stopped { IfErr result (IsStopOfRun job.now) }
 {
     let asked = request.progress.then_some(progress);
     let outputs = run_outputs(rt, alloc, job, request.workers, request.items, asked)?;
-    reported_outputs(alloc, request, files, job.plan(), &outputs)
+    let reply = reported_outputs(alloc, request, job.plan(), &outputs)?;
+    Ok(reply)
 }

@@ -1,5 +1,5 @@
 -- What an evaluation prints and dumps, and what it says of a fault.
-use Rattle.std.specs.Prelude.{◌≡◌, ◌<◌, ℕ, false, List, [], map, Option, Some, None, slice_get, option_map}
+use Rattle.std.specs.Prelude.{◌≡◌, ◌<◌, ℕ, false, List, [], map, Option, Some, None, slice_get}
 use Rattle.std.specs.Prelude.{IsUtf8, if◌then◌else◌}
 use Rattle.lutree.specs.Tree.{ProgramTree}
 use Rattle.luflow.specs.declared.form.FaultKind.{FaultKind}
@@ -22,10 +22,10 @@ use Rattle.luchart.specs.Chronogram.{chart_text}
 use Rattle.luchart.specs.Dump.{dump_text}
 use Rattle.luflow.specs.Faults.{IsFault}
 use Rattle.lusdist_shell.specs.declared.request.EvalRequest.{EvalRequest}
-use Rattle.lusdist_call.specs.Files.{IsFiledAt, IsUnfiledAt, IsUnwritten}
+use Rattle.lusdist_call.specs.Files.{dump_for, wave_path}
 use Rattle.lusdist_call.specs.Mistakes.{mistake_in}
 use Rattle.lusdist_call.specs.declared.call_error.CallError.{CallError}
-use Rattle.lusdist_call.specs.declared.call_error.CallError.TheVariants.{CannotWrite, Fault, OutOfMemory}
+use Rattle.lusdist_call.specs.declared.call_error.CallError.TheVariants.{Fault, OutOfMemory}
 use Rattle.lusdist_shell.specs.Files.{FileFacts}
 
 -- The program that a text spells, with its flat program and the table that another text says, which fits it
@@ -89,39 +89,26 @@ shown_text request flat columns =
     request.to
     else column_text flat.types (kinds_of (shown_of request.all flat.variables)) columns
 
--- the path of the file that a request asks a dump to be written into
-abbrev pub wave_path : EvalRequest → Option (List ℕ)
-wave_path request = option_map (λ s. s.now) request.vcd
-
 -- the dump of the variables that a request asks for
 abbrev pub wave_text : EvalRequest → FlatView → List OutputColumn → List ℕ
 wave_text request flat columns =
     dump_text request.main.now flat.types (kinds_of (shown_of request.all flat.variables)) columns
 
--- where a dump is asked for, this one was written into its file
-abbrev pub IsFiled : FileFacts → EvalRequest → List ℕ → Type 0
-IsFiled takes request text = IsFiledAt takes (wave_path request) text
-
--- what a request asks for of a flat program and a table, as a text, and a dump of it in its file
-pub record IsShown (takes : FileFacts) (request : EvalRequest) (flat : FlatView) (inputs : InputsView)
-    (text : List ℕ) : Type 0 where
+-- what a request asks for of a flat program and a table, as a text, and the dump of it where one is asked for
+pub record IsShown (request : EvalRequest) (flat : FlatView) (inputs : InputsView) (text : List ℕ)
+    (dump : Option (List ℕ)) : Type 0 where
   pub columns : List OutputColumn
   pub are_columns : AreEvaluated flat inputs (shown_of request.all flat.variables) inputs.instants columns
   pub no_fault : HasNoFault flat inputs
   pub text_is : text ≡ shown_text request flat columns
-  pub filed : IsFiled takes request (wave_text request flat columns)
+  pub dump_is : dump ≡ dump_for (wave_path request) (wave_text request flat columns)
 
--- the dump of what a request asks for of the first n instants, in the file of this path
-pub record IsShownBefore (takes : FileFacts) (request : EvalRequest) (flat : FlatView) (inputs : InputsView)
-    (n : ℕ) (path : List ℕ) : Type 0 where
-  pub columns : List OutputColumn
-  pub are_columns : AreEvaluated flat inputs (shown_of request.all flat.variables) n columns
-  pub filed : takes path (Some (wave_text request flat columns))
-
--- where a dump is asked for, that of the first n instants is in its file
-abbrev pub AreShownBefore : FileFacts → EvalRequest → FlatView → InputsView → ℕ → Type 0
-AreShownBefore takes request flat inputs n = (path : List ℕ) → wave_path request ≡ Some path
-    → IsShownBefore takes request flat inputs n path
+-- where a dump is asked for, that of what a request asks for of the first n instants
+abbrev pub IsShownBefore : EvalRequest → FlatView → InputsView → ℕ → Option (List ℕ) → Option (List ℕ) → Type 0
+IsShownBefore request flat inputs n None dump = dump ≡ None
+IsShownBefore request flat inputs n (Some path) dump = (columns : List OutputColumn)
+    × AreEvaluated flat inputs (shown_of request.all flat.variables) n columns
+    × (dump ≡ Some (wave_text request flat columns))
 
 -- no operator is a fault before an instant
 abbrev pub HasNoFaultBefore : FlatView → InputsView → ℕ → Type 0
@@ -139,8 +126,10 @@ pub record IsPosedBy (gives : FileFacts) (request : EvalRequest) (flat : FlatVie
   pub posed : IsPosed program request.main.now table tree flat inputs
 
 -- The text of an evaluation: the outputs of the program that the files of a request gave, or all variables of
--- its main node, in order of declaration, at the table that they gave; as a table or as a chart.
-pub record IsEvaluated (gives : FileFacts) (request : EvalRequest) (text : List ℕ) : Type 0 where
+-- its main node, in order of declaration, at the table that they gave; as a table or as a chart. The dump, where
+-- one is asked for, is that of the same variables.
+pub record IsEvaluated (gives : FileFacts) (request : EvalRequest) (text : List ℕ)
+    (dump : Option (List ℕ)) : Type 0 where
   pub meant : mistake_in request ≡ None
   pub flat : FlatView
   pub inputs : InputsView
@@ -149,6 +138,7 @@ pub record IsEvaluated (gives : FileFacts) (request : EvalRequest) (text : List 
   pub are_columns : AreVariablesOf asked.tree request.main.now flat inputs
       (shown_of request.all flat.variables) columns
   pub text_is : text ≡ shown_text request flat columns
+  pub dump_is : dump ≡ dump_for (wave_path request) (wave_text request flat columns)
 
 -- the fault of the least instant, and there of the least rank, by the name of the main variable in whose
 -- equation it stands
@@ -167,59 +157,45 @@ IsStopFor flat variable instant kind (Fault name t k) = (x : Variable)
 IsStopFor flat variable instant kind OutOfMemory = Unit {0}
 IsStopFor flat variable instant kind _ = ⊥
 
--- an evaluation of a flat program stops at its first fault, where the file of its dump can't be written, or
--- where memory ran out
-abbrev pub IsStopped : EvalRequest → FlatView → InputsView → CallError → Type 0
-IsStopped request flat inputs (Fault name instant kind) = IsFaultReported flat inputs name instant kind
-IsStopped request flat inputs (CannotWrite path) = wave_path request ≡ Some path
-IsStopped request flat inputs OutOfMemory = Unit {0}
-IsStopped request flat inputs _ = ⊥
+-- an evaluation of a flat program stops at its first fault, or where memory ran out
+abbrev pub IsStopped : FlatView → InputsView → CallError → Type 0
+IsStopped flat inputs (Fault name instant kind) = IsFaultReported flat inputs name instant kind
+IsStopped flat inputs OutOfMemory = Unit {0}
+IsStopped flat inputs _ = ⊥
 
--- where it stops at a fault, the dump has all instants before it; and where the dump can't be written, a
--- write failed
-abbrev pub IsShownTo : FileFacts → EvalRequest → FlatView → InputsView → CallError → Type 0
-IsShownTo takes request flat inputs stop =
-    ((name : List ℕ) (instant : ℕ) (kind : FaultKind) → stop ≡ Fault name instant kind
-    → AreShownBefore takes request flat inputs instant) × IsUnwritten takes stop
+-- where it stops at a fault, the dump has all instants before it; else there is none
+abbrev pub IsShownTo : EvalRequest → FlatView → InputsView → CallError → Option (List ℕ) → Type 0
+IsShownTo request flat inputs (Fault name instant kind) dump =
+    IsShownBefore request flat inputs instant (wave_path request) dump
+IsShownTo request flat inputs _ dump = dump ≡ None
 
--- a dump can't be made, or not be written into its file, to which a write failed
-abbrev pub IsUnfiled : FileFacts → EvalRequest → CallError → Type 0
-IsUnfiled takes request stop = IsUnfiledAt takes (wave_path request) stop
-
--- a stop that reports no fault of an evaluation, and no file that can't be written
+-- a stop that reports no fault of an evaluation
 abbrev pub IsNoFault : CallError → Type 0
-IsNoFault stop = ((name : List ℕ) (instant : ℕ) (kind : FaultKind) → stop ≡ Fault name instant kind → ⊥)
-    × ((path : List ℕ) → stop ≡ CannotWrite path → ⊥)
+IsNoFault stop = (name : List ℕ) (instant : ℕ) (kind : FaultKind) → stop ≡ Fault name instant kind → ⊥
 
--- The dump of an evaluation: the variables that the request asks for, of the program and at the table that
--- its files gave, in the file that is asked for.
-pub record IsDumped (gives : FileFacts) (takes : FileFacts) (request : EvalRequest) : Type 0 where
+-- The dump of an evaluation that stops at a fault: the variables that the request asks for, of the program and at
+-- the table that its files gave and that have this fault, at all instants before it.
+pub record IsDumpedBefore (gives : FileFacts) (request : EvalRequest) (name : List ℕ) (instant : ℕ)
+    (kind : FaultKind) (dump : Option (List ℕ)) : Type 0 where
   pub flat : FlatView
   pub inputs : InputsView
   pub asked : IsPosedBy gives request flat inputs
-  pub columns : List OutputColumn
-  pub are_columns : AreVariablesOf asked.tree request.main.now flat inputs
-      (shown_of request.all flat.variables) columns
-  pub filed : IsFiled takes request (wave_text request flat columns)
-
--- the same of the instants before one, in the file of this path
-pub record IsDumpedBefore (gives : FileFacts) (takes : FileFacts) (request : EvalRequest) (instant : ℕ)
-    (path : List ℕ) : Type 0 where
-  pub flat : FlatView
-  pub inputs : InputsView
-  pub asked : IsPosedBy gives request flat inputs
+  pub reported : IsFaultReported flat inputs name instant kind
   pub columns : List OutputColumn
   pub are_columns : AreVariablesAt asked.tree request.main.now inputs (shown_of request.all flat.variables)
       instant columns
-  pub filed : takes path (Some (wave_text request flat columns))
+  pub dump_is : dump ≡ Some (wave_text request flat columns)
 
--- An evaluation that stops at a fault has dumped all instants before it, where a dump is asked for; and one
--- that stops since its dump can't be written has tried a write, which failed.
-abbrev pub IsDumpedTo : FileFacts → FileFacts → EvalRequest → CallError → Type 0
-IsDumpedTo gives takes request stop =
-    ((name : List ℕ) (instant : ℕ) (kind : FaultKind) → stop ≡ Fault name instant kind → (path : List ℕ)
-    → wave_path request ≡ Some path → IsDumpedBefore gives takes request instant path)
-    × IsUnwritten takes stop
+abbrev pub IsPartDump : FileFacts → EvalRequest → List ℕ → ℕ → FaultKind → Option (List ℕ) → Option (List ℕ) → Type 0
+IsPartDump gives request name instant kind None dump = dump ≡ None
+IsPartDump gives request name instant kind (Some path) dump =
+    IsDumpedBefore gives request name instant kind dump
+
+-- the dump of an evaluation that stops: that of the instants before a fault, where one is asked for; else none
+abbrev pub IsDumpedTo : FileFacts → EvalRequest → CallError → Option (List ℕ) → Type 0
+IsDumpedTo gives request (Fault name instant kind) dump =
+    IsPartDump gives request name instant kind (wave_path request) dump
+IsDumpedTo gives request _ dump = dump ≡ None
 
 -- The first fault of the program and the table that the files of a request gave. It is a fault of the source:
 -- in each solution of the program an operator in the equation of that variable, or in an instance of a call

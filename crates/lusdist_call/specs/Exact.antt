@@ -9,10 +9,10 @@ use Rattle.lusdist_shell.specs.declared.schedule.ScheduleError.TheVariants as sc
 use Rattle.lusdist_shell.specs.declared.request.Request.{Request}
 use Rattle.lusdist_shell.specs.declared.request.Request.TheVariants.{Run as AsksRun}
 use Rattle.lusdist_call.specs.declared.call_error.CallError.{CallError}
-use Rattle.lusdist_call.specs.declared.call_error.CallError.TheVariants.{CannotWrite, Syntax, Rules, Flat}
+use Rattle.lusdist_call.specs.declared.call_error.CallError.TheVariants.{Syntax, Rules, Flat}
 use Rattle.lusdist_call.specs.declared.call_error.CallError.TheVariants.{Place, Table, Schedule, Fault}
 use Rattle.lusdist_call.specs.declared.call_error.CallError.TheVariants.{LinkLost, NoThread, OutOfMemory}
-use Rattle.lusdist_call.specs.Asked.{IsAnswer}
+use Rattle.lusdist_call.specs.Answers.{IsAnswer}
 use Rattle.lusdist_call.specs.Stopped.{IsRequestStopped}
 use Rattle.lusdist_call.specs.Statuses.{status_of}
 use Rattle.lusdist_shell.specs.Files.{FileFacts}
@@ -22,8 +22,8 @@ abbrev pub HasOneText : FileFacts → Type 0
 HasOneText gives = (path : List ℕ) (one other : Option (List ℕ)) → gives path one → gives path other
     → one ≡ other
 
--- a stop that says nothing of the files that are read: memory ran out, a dump couldn't be written, or a run
--- was cut short, since a thread was refused or a site was left
+-- a stop that says nothing of the files that are read: memory ran out, or a run was cut short, since a thread
+-- was refused or a site was left
 abbrev pub SaysNothing : CallError → Type 0
 SaysNothing (Syntax syn.OutOfMemory) = Unit {0}
 SaysNothing (Rules rules.OutOfMemory) = Unit {0}
@@ -31,7 +31,6 @@ SaysNothing (Flat core.OutOfMemory) = Unit {0}
 SaysNothing (Place place.OutOfMemory) = Unit {0}
 SaysNothing (Table tab.OutOfMemory) = Unit {0}
 SaysNothing (Schedule schedule.OutOfMemory) = Unit {0}
-SaysNothing (CannotWrite path) = Unit {0}
 SaysNothing LinkLost = Unit {0}
 SaysNothing NoThread = Unit {0}
 SaysNothing OutOfMemory = Unit {0}
@@ -41,8 +40,8 @@ SaysNothing _ = ⊥
 -- of them; and what is refused has no answer.
 abbrev pub HasOneOutcome : FileFacts → Type 0
 HasOneOutcome gives =
-    HasOneText gives → (request : Request) (text : List ℕ) (stop : CallError)
-    → IsAnswer gives request text → IsRequestStopped gives request stop → SaysNothing stop
+    HasOneText gives → (request : Request) (text notes : List ℕ) (dump : Option (List ℕ)) (stop : CallError)
+    → IsAnswer gives request text notes dump → IsRequestStopped gives request stop → SaysNothing stop
 
 -- Two refusals of one request have one status, where each file has one text or none and neither says nothing
 -- of them.

@@ -21,7 +21,7 @@ use Rattle.lusdist_shell.specs.Request.{IsAskedBy}
 use Rattle.lusdist_shell.specs.declared.request.ReplayRequest.{ReplayRequest}
 use Rattle.lusdist_shell.specs.declared.request.RunRequest.{RunRequest}
 use Rattle.lusdist_shell.specs.declared.request.Request.TheVariants.{Replay, Run}
-use Rattle.lusdist_call.specs.Asked.{IsDone}
+use Rattle.lusdist_call.specs.Answers.{IsDone}
 use Rattle.lusdist_call.specs.Evaluated.{AreOutputsOf}
 use Rattle.lusdist_call.specs.Exact.{HasOneText}
 use Rattle.lusdist_call.specs.RunReportTexts.{run_report_text}

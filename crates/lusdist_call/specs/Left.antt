@@ -1,21 +1,19 @@
--- What a call leaves in its two streams and in the file of a dump, and with which status it ends.
-use Rattle.std.specs.Prelude.{◌≡◌, ◌⊎◌, ℕ, true, List, [], Option, codes}
+-- What a call leaves in its two streams and in files, and with which status it ends.
+use Rattle.std.specs.Prelude.{◌≡◌, ◌⊎◌, ℕ, true, false, List, [], Option, codes}
 use Rattle.std.specs.Io.KnownBytes.{Appends}
 use Rattle.clap.specs.Words.{fault_of, IsAmong}
 use Rattle.clap.specs.declared.error.kind.ErrorKind.{ErrorKind}
 use Rattle.clap.specs.declared.error.kind.ErrorKind.TheVariants.{DisplayHelp, DisplayVersion}
 use Rattle.lusdist_shell.specs.declared.request.Request.{Request}
-use Rattle.lusdist_shell.specs.declared.request.Request.TheVariants.{Eval, Replay, Run as AsksRun}
-use Rattle.lusdist_call.specs.Evaluated.{IsDumped, IsDumpedTo}
-use Rattle.lusdist_call.specs.Files.{IsUnwritten}
-use Rattle.lusdist_call.specs.Waved.{IsReplayDumped, IsRunDumped}
 use Rattle.lusdist_shell.specs.declared.sink.Sink.{Sink}
 use Rattle.lusdist_shell.specs.Sinks.{HasPut, HasLine, HasBeginning}
 use Rattle.lusdist_shell.specs.CommandLine.{lusdist}
 use Rattle.lusdist_shell.specs.Request.{IsAskedBy}
 use Rattle.lusdist_call.specs.declared.call_error.CallError.{CallError}
-use Rattle.lusdist_call.specs.Asked.{IsAnswer, AreNotes}
-use Rattle.lusdist_call.specs.Stopped.{IsRequestStopped}
+use Rattle.lusdist_shell.specs.Dumps.{Written}
+use Rattle.lusdist_call.specs.Answers.{IsAnswer}
+use Rattle.lusdist_call.specs.Files.{dump_path, writes_of, IsUnfiled}
+use Rattle.lusdist_call.specs.Stopped.{IsRequestStopped, IsStopDump}
 use Rattle.lusdist_call.specs.Statuses.{status_of}
 use Rattle.lusdist_call.specs.Reasons.{HasRefusal}
 use Rattle.lusdist_shell.specs.Files.{FileFacts}
@@ -53,53 +51,51 @@ pub record HasNoOutput {W V : Type 0} (streams : Streams W V) : Type 0 where
   pub failed : streams.out_after.failed ≡ true
   pub error : HasLine streams.held_err streams.err streams.err_after (codes "F02 CannotWrite")
 
--- where a dump is asked for, it is in its file: of an evaluation that of the whole table, of a run that of
--- the whole outputs, of a replay that of its end
-abbrev pub AreFiled : FileFacts → FileFacts → Request → Type 0
-AreFiled gives takes (Eval request) = IsDumped gives takes request
-AreFiled gives takes (Replay request) = IsReplayDumped gives takes request
-AreFiled gives takes (AsksRun request) = IsRunDumped gives takes request
-AreFiled gives takes _ = Unit {0}
+-- The dump of what a request asks for: beside its answer, or that of a stop.
+pub data IsDumpOf (gives : FileFacts) (request : Request) (dump : Option (List ℕ)) : Type 0 where
+  beside : (text notes : List ℕ) → IsAnswer gives request text notes dump → IsDumpOf gives request dump
+  before : (stop : CallError) → IsRequestStopped gives request stop → IsStopDump gives request stop dump
+      → IsDumpOf gives request dump
 
--- where an evaluation stops at a fault, that of all instants before it; and where any stops since its dump
--- can't be written, a write failed
-abbrev pub AreFiledTo : FileFacts → FileFacts → Request → CallError → Type 0
-AreFiledTo gives takes (Eval request) stop = IsDumpedTo gives takes request stop
-AreFiledTo gives takes (Replay request) stop = IsUnwritten takes stop
-AreFiledTo gives takes (AsksRun request) stop = IsUnwritten takes stop
-AreFiledTo gives takes _ stop = Unit {0}
-
--- What is asked for ends with this status: with 0 where the answer is printed, with its notes on the error
--- stream, with that of a refusal, whose line is reported, and its reason where that is asked for, or with 3
--- where the answer couldn't be written, of which the output has a prefix.
-pub data IsEnded {W V : Type 0} (gives : FileFacts) (takes : FileFacts) (request : Request) (status : ℕ)
+-- What is asked for ends with this status, and these writes: with 0 where the answer is printed, with its notes
+-- on the error stream; with that of a refusal, whose line is reported, and its reason where that is asked for;
+-- with 3 where the dump couldn't be written, which is reported in place of the rest; or with 3 where the answer
+-- couldn't be written, of which the output has a prefix. Where there is a dump, all of it was written first.
+pub data IsEnded {W V : Type 0} (gives : FileFacts) (request : Request) (status : ℕ) (wrote : List Written)
     (streams : Streams W V) : Type 0 where
-  answered : (text notes : List ℕ) → status ≡ 0 → IsAnswer gives request text → AreNotes gives request notes
-      → AreFiled gives takes request → HasOutput streams text notes
-      → IsEnded gives takes request status streams
-  refused : (stop : CallError) → status ≡ status_of stop → IsRequestStopped gives request stop
-      → AreFiledTo gives takes request stop → HasStopped gives request stop streams
-      → IsEnded gives takes request status streams
-  unwritten : (text : List ℕ) → status ≡ 3 → IsAnswer gives request text → AreFiled gives takes request
+  answered : (text notes : List ℕ) (dump : Option (List ℕ)) → status ≡ 0
+      → IsAnswer gives request text notes dump → wrote ≡ writes_of (dump_path request) dump true
+      → HasOutput streams text notes → IsEnded gives request status wrote streams
+  refused : (stop : CallError) (dump : Option (List ℕ)) → status ≡ status_of stop
+      → IsRequestStopped gives request stop → IsStopDump gives request stop dump
+      → wrote ≡ writes_of (dump_path request) dump true → HasStopped gives request stop streams
+      → IsEnded gives request status wrote streams
+  undumped : (stop : CallError) (dump : Option (List ℕ)) → status ≡ 3 → IsDumpOf gives request dump
+      → IsUnfiled (dump_path request) dump stop wrote → HasStopped gives request stop streams
+      → IsEnded gives request status wrote streams
+  unwritten : (text notes : List ℕ) (dump : Option (List ℕ)) → status ≡ 3
+      → IsAnswer gives request text notes dump → wrote ≡ writes_of (dump_path request) dump true
       → HasNoOutput streams → HasBeginning streams.held_out streams.out streams.out_after text
-      → IsEnded gives takes request status streams
+      → IsEnded gives request status wrote streams
 
 -- help, or the version
 abbrev pub IsHelp : ErrorKind → Type 0
 IsHelp kind = (kind ≡ DisplayHelp) ⊎ (kind ≡ DisplayVersion)
 
--- A call with these words ends with this status: as what they ask for does; with 0 for help, which goes to
--- the output; with 2 for a mistake in the words; and with 3 where memory ran out before they were read, or
--- help couldn't be written.
-pub data IsCallEnded {W V : Type 0} (gives : FileFacts) (takes : FileFacts) (words : List (List ℕ))
-    (status : ℕ) (streams : Streams W V) : Type 0 where
-  asked : (request : Request) → IsAskedBy words request → IsEnded gives takes request status streams
-      → IsCallEnded gives takes words status streams
-  helped : (kind : ErrorKind) → IsAmong kind (fault_of lusdist words) → IsHelp kind → status ≡ 0
-      → streams.err_after ≡ streams.err → IsCallEnded gives takes words status streams
+-- A call with these words ends with this status, and these writes. Words in which nothing is wrong end as what
+-- they ask for does; where help is asked for, it goes to the output, with 0; other words end with 2, with nothing
+-- on the output. With 3 where memory ran out before the words were read, or help couldn't be written. But for
+-- what is asked for nothing is written.
+pub data IsCallEnded {W V : Type 0} (gives : FileFacts) (words : List (List ℕ)) (status : ℕ)
+    (wrote : List Written) (streams : Streams W V) : Type 0 where
+  asked : (request : Request) → fault_of lusdist words ≡ [] → IsAskedBy words request
+      → IsEnded gives request status wrote streams → IsCallEnded gives words status wrote streams
+  helped : (kind : ErrorKind) → IsAmong kind (fault_of lusdist words) → IsHelp kind → status ≡ 0 → wrote ≡ []
+      → streams.out_after.failed ≡ false → streams.err_after ≡ streams.err
+      → IsCallEnded gives words status wrote streams
   mistaken : (kind : ErrorKind) → IsAmong kind (fault_of lusdist words) → ¬ IsHelp kind → status ≡ 2
-      → streams.out_after ≡ streams.out → IsCallEnded gives takes words status streams
-  no_memory : status ≡ 3 → HasError streams (codes "R2 OutOfMemory")
-      → IsCallEnded gives takes words status streams
-  no_help : (kind : ErrorKind) → IsAmong kind (fault_of lusdist words) → IsHelp kind → status ≡ 3
-      → HasNoOutput streams → IsCallEnded gives takes words status streams
+      → wrote ≡ [] → streams.out_after ≡ streams.out → IsCallEnded gives words status wrote streams
+  no_memory : status ≡ 3 → wrote ≡ [] → HasError streams (codes "R2 OutOfMemory")
+      → IsCallEnded gives words status wrote streams
+  no_help : (kind : ErrorKind) → IsAmong kind (fault_of lusdist words) → IsHelp kind → status ≡ 3 → wrote ≡ []
+      → HasNoOutput streams → IsCallEnded gives words status wrote streams

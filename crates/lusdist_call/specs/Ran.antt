@@ -1,5 +1,5 @@
 -- What a run of a job on threads gives.
-use Rattle.std.specs.Prelude.{◌≡◌, ℕ, List}
+use Rattle.std.specs.Prelude.{◌≡◌, ℕ, List, [], option_map, string_bytes}
 use Rattle.luflow.specs.Tables.{OutputColumn}
 use Rattle.luflow.specs.Variables.{variable_name}
 use Rattle.luworld.specs.Jobs.{JobView}
@@ -8,6 +8,10 @@ use Rattle.lurun_reports.specs.declared.error.RunError.{RunError}
 use Rattle.lurun_reports.specs.declared.error.RunError.TheVariants as run
 use Rattle.lurun_reports.specs.Reports.{AreOutputsOf}
 use Rattle.lutab.specs.Outputs.{output_text}
+use Rattle.lusdist_shell.specs.declared.request.RunRequest.{RunRequest}
+use Rattle.lusdist_call.specs.declared.reply.Reply.{Reply}
+use Rattle.lusdist_call.specs.Files.{dump_for, run_path}
+use Rattle.lusdist_call.specs.Waved.{run_dump}
 use Rattle.lusdist_call.specs.declared.call_error.CallError.{CallError}
 use Rattle.lusdist_call.specs.declared.call_error.CallError.TheVariants.{Fault, LinkLost, NoThread}
 use Rattle.lusdist_call.specs.declared.call_error.CallError.TheVariants.{OutOfMemory}
@@ -35,8 +39,11 @@ IsStopOfRun job NoThread = Unit {0}
 IsStopOfRun job OutOfMemory = Unit {0}
 IsStopOfRun job _ = ⊥
 
--- the table of a run's outputs, as a text
-pub record IsRunTable (job : JobView) (text : List ℕ) : Type 0 where
+-- what a run of a job gives: the table of its outputs, and the dump of the same, where one is asked for
+pub record IsRunReply (job : JobView) (request : RunRequest) (reply : Reply) : Type 0 where
   pub outputs : List OutputColumn
   pub are_outputs : AreOutputsOf job outputs
-  pub text_is : text ≡ output_text job.plan.flat outputs
+  pub text_is : string_bytes reply.text ≡ output_text job.plan.flat outputs
+  pub dump_is : option_map string_bytes reply.dump ≡ dump_for (run_path request)
+      (run_dump request.main.now job.plan outputs)
+  pub no_notes : string_bytes reply.notes ≡ []

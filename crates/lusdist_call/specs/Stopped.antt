@@ -1,8 +1,8 @@
 -- Why a call stops before it prints anything.
-use Rattle.std.specs.Prelude.{◌≡◌, ◌⊎◌, ℕ, List, Some, None, Err}
+use Rattle.std.specs.Prelude.{◌≡◌, ◌⊎◌, ℕ, List, Option, Some, None, Err, option_map, string_bytes}
 use Rattle.lutree.specs.Places.{ProgramPlaces}
 use Rattle.lutree.specs.Tree.{ProgramTree}
-use Rattle.luflow.specs.Program.{FlatView, InputsView}
+use Rattle.luflow.specs.Program.{FlatView}
 use Rattle.luflow.specs.Variables.{inputs_of}
 use Rattle.luflow.specs.declared.form.FaultKind.{FaultKind}
 use Rattle.luworld.specs.Needs.{PlanView}
@@ -21,10 +21,11 @@ use Rattle.lusdist_shell.specs.declared.request.Request.TheVariants.{Check, Eval
 use Rattle.lusdist_shell.specs.declared.request.Request.TheVariants.{Run as AsksRun, Explain}
 use Rattle.lusdist_shell.specs.Request.{IsAskedBy}
 use Rattle.lusdist_call.specs.declared.call_error.CallError.{CallError}
-use Rattle.lusdist_call.specs.declared.call_error.CallError.TheVariants.{CannotRead, CannotWrite, Schedule}
+use Rattle.lusdist_call.specs.declared.call_error.CallError.TheVariants.{CannotRead, Schedule}
 use Rattle.lusdist_call.specs.declared.call_error.CallError.TheVariants.{Fault, LinkLost, NoThread}
 use Rattle.lusdist_call.specs.declared.call_error.CallError.TheVariants.{OutOfMemory, Mistaken}
 use Rattle.lusdist_call.specs.declared.mistake.Mistake.{Mistake}
+use Rattle.lusdist_call.specs.declared.refusal.Refusal.{Refusal}
 use Rattle.lusdist_call.specs.Files.{IsUnread}
 use Rattle.lusdist_call.specs.Mistakes.{mistake_in}
 use Rattle.lusdist_call.specs.Statuses.{status_of}
@@ -33,8 +34,7 @@ use Rattle.lusource.specs.Source.{SourceStreams, IsSourceSolution}
 use Rattle.lusource.specs.Faults.{IsSourceFault}
 use Rattle.lusite.specs.Machine.{IsFaultAt}
 use Rattle.lusdist_call.specs.Asked.{HasFlat, IsPlanFor, IsJobFor, IsAskedFor}
-use Rattle.lusdist_call.specs.Evaluated.{IsFaultOf, IsPosedBy, wave_path}
-use Rattle.lusdist_call.specs.Waved.{replay_path, run_path}
+use Rattle.lusdist_call.specs.Evaluated.{IsFaultOf, IsDumpedTo}
 use Rattle.lusdist_call.specs.Explained.{code_in, IsExplainStopped}
 use Rattle.lusdist_call.specs.Refused.{IsReportedOf, IsProgramRefused, IsPlaceRefused, IsTableRefused}
 use Rattle.lusdist_shell.specs.Files.{FileFacts}
@@ -84,8 +84,7 @@ pub data IsCheckStopped (gives : FileFacts) (request : CheckRequest) (stop : Cal
   check_memory : stop ≡ OutOfMemory → IsCheckStopped gives request stop
 
 -- An evaluation of what a request asks for stops so: at its program; where that has a flat program, at its
--- table; at the first fault; or, where both are as they should be, at the file of its dump, which can't be
--- written.
+-- table; or at the first fault.
 pub data IsEvalStopped (gives : FileFacts) (request : EvalRequest) (stop : CallError) : Type 0 where
   eval_program : StopsAtProgram gives request.program.now request.main.now stop
       → IsEvalStopped gives request stop
@@ -97,8 +96,6 @@ pub data IsEvalStopped (gives : FileFacts) (request : EvalRequest) (stop : CallE
       → IsTableRefused flat.types (inputs_of flat.variables) table stop → IsEvalStopped gives request stop
   eval_fault : (name : List ℕ) (instant : ℕ) (kind : FaultKind) → stop ≡ Fault name instant kind
       → IsFaultOf gives request name instant kind → IsEvalStopped gives request stop
-  eval_unwritten : (path : List ℕ) → wave_path request ≡ Some path → (flat : FlatView) (inputs : InputsView)
-      → IsPosedBy gives request flat inputs → stop ≡ CannotWrite path → IsEvalStopped gives request stop
   eval_memory : stop ≡ OutOfMemory → IsEvalStopped gives request stop
 
 -- What a request asks of an evaluation stops so: at what can't be meant; or, where it can be, at its files
@@ -127,8 +124,7 @@ pub data StopsAtJob (gives : FileFacts) (path place_path table_path main : List 
       → IsTableRefused plan.flat.types (inputs_of plan.flat.variables) table stop
       → StopsAtJob gives path place_path table_path main stop
 
--- A replay of what a request asks for stops so: at its job; where there is one, at its schedule; or, where
--- all are as they should be, at the file of its dump, which can't be written.
+-- A replay of what a request asks for stops so: at its job; or, where there is one, at its schedule.
 pub data IsReplayStopped (gives : FileFacts) (request : ReplayRequest) (stop : CallError) : Type 0 where
   replay_job : StopsAtJob gives request.program.now request.place.now request.table.now request.main.now stop
       → IsReplayStopped gives request stop
@@ -139,8 +135,6 @@ pub data IsReplayStopped (gives : FileFacts) (request : ReplayRequest) (stop : C
       → IsJobFor gives request.program.now request.place.now request.table.now request.main.now job
       → gives request.schedule.now (Some turns) → IsScheduleRefused turns stop
       → IsReplayStopped gives request stop
-  replay_unwritten : (path : List ℕ) → replay_path request ≡ Some path → (job : JobView) (turns : List ℕ)
-      → IsAskedFor gives request job turns → stop ≡ CannotWrite path → IsReplayStopped gives request stop
   replay_memory : stop ≡ OutOfMemory → IsReplayStopped gives request stop
 
 -- A fault of the run that a request asks for, reported by the name of the main variable in whose equation it
@@ -156,8 +150,8 @@ pub record IsRunFault (gives : FileFacts) (request : RunRequest) (name : List �
   pub source : (σ : SourceStreams) → IsSourceSolution asked_for.job_is.flat.tree request.main.now job.inputs σ
       → IsSourceFault asked_for.job_is.flat.tree request.main.now job.inputs σ name instant kind
 
--- A run of what a request asks for stops so: at its job; or, where there is one, at a fault, because a site
--- was left by another or a thread was refused, or at the file of its dump, which can't be written.
+-- A run of what a request asks for stops so: at its job; or, where there is one, at a fault, or because a site
+-- was left by another or a thread was refused.
 pub data IsRunStopped (gives : FileFacts) (request : RunRequest) (stop : CallError) : Type 0 where
   run_job : StopsAtJob gives request.program.now request.place.now request.table.now request.main.now stop
       → IsRunStopped gives request stop
@@ -169,9 +163,6 @@ pub data IsRunStopped (gives : FileFacts) (request : RunRequest) (stop : CallErr
   run_thread : (job : JobView)
       → IsJobFor gives request.program.now request.place.now request.table.now request.main.now job
       → stop ≡ NoThread → IsRunStopped gives request stop
-  run_unwritten : (path : List ℕ) → run_path request ≡ Some path → (job : JobView)
-      → IsJobFor gives request.program.now request.place.now request.table.now request.main.now job
-      → stop ≡ CannotWrite path → IsRunStopped gives request stop
   run_memory : stop ≡ OutOfMemory → IsRunStopped gives request stop
 
 -- what a request asks for stops so
@@ -182,6 +173,16 @@ IsRequestStopped gives (Plan request) stop = IsPlanStopped gives request stop
 IsRequestStopped gives (Replay request) stop = IsReplayStopped gives request stop
 IsRequestStopped gives (AsksRun request) stop = IsRunStopped gives request stop
 IsRequestStopped gives (Explain request) stop = IsExplainStopped (code_in request) stop
+
+-- the dump of a call that stops: of an evaluation at a fault, that of the instants before it; else none
+abbrev pub IsStopDump : FileFacts → Request → CallError → Option (List ℕ) → Type 0
+IsStopDump gives (Eval request) stop dump = IsDumpedTo gives request stop dump
+IsStopDump gives _ stop dump = dump ≡ None
+
+-- a refusal of what a request asks for: why it stops, and the dump that it leaves
+pub record IsRefusalOf (gives : FileFacts) (request : Request) (refusal : Refusal) : Type 0 where
+  pub stops : IsRequestStopped gives request refusal.error
+  pub leaves : IsStopDump gives request refusal.error (option_map string_bytes refusal.dump)
 
 -- what the words ask for stops so, with this status
 pub record IsRefusal (gives : FileFacts) (words : List (List ℕ)) (status : ℕ) : Type 0 where

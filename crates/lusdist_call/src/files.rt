@@ -1,12 +1,13 @@
-//! The files that a call reads and writes.
+//! The files that a call reads, and the one into which it writes a dump.
 
-ghost use Rattle.std.specs.Prelude.{◌≡◌, ◌⊎◌, IfOk, IfErr, OnOk, Some};
-ghost use Rattle.lusdist_call.specs.Files.{IsUnread, IsUnfiledAt};
-ghost use Rattle.lusdist_call.specs.declared.call_error.CallError.TheVariants.{CannotRead, CannotWrite, OutOfMemory};
+ghost use Rattle.std.specs.Prelude.{◌≡◌, ◌⊎◌, ◌++◌, List, true, IfOk, IfErr, OnOk, Some, option_map, string_bytes};
+ghost use Rattle.lusdist_shell.specs.Dumps.{Written};
+ghost use Rattle.lusdist_call.specs.Files.{IsUnread, IsUnfiled, writes_of};
+ghost use Rattle.lusdist_call.specs.declared.call_error.CallError.TheVariants.{CannotRead, OutOfMemory};
 
 use crate::call_error::CallError;
 use lubase::Name;
-use lusdist_shell::{Files, ReadError};
+use lusdist_shell::{Dumps, Files, ReadError, WriteError};
 use std::alloc::Global;
 
 /// The stop for a file that can't be read.
@@ -31,28 +32,48 @@ pub fn read<F: Files>(alloc: Global, files: &F, path: &str) -> Result<Vec<u8>, C
     }
 }
 
-/// The stop for a file that can't be written.
-fn unwritten(alloc: Global, path: &str) -> CallError
-    ensures { (result ≡ OutOfMemory) ⊎ (result ≡ CannotWrite path.now) }
+/// Writes a dump into the file of this path.
+fn write_dump<D: Dumps>(
+    alloc: Global,
+    dumps: &mut D,
+    path: &str,
+    text: String,
+) -> Result<(), CallError>
+    ensures filed { OnOk result (D.written dumps.new ≡ D.written dumps.old
+        ++ writes_of (Some path.now) (Some (string_bytes text)) true) }
+    ensures stopped { IfErr result (λ error. (wrote : List Written)
+        × (D.written dumps.new ≡ D.written dumps.old ++ wrote)
+        × IsUnfiled (Some path.now) (Some (string_bytes text)) error wrote) }
 {
-    match Name::from_text(alloc, path) {
-        Ok(path) => CallError::CannotWrite { path },
-        Err(_) => CallError::OutOfMemory,
+    let Ok(name) = Name::from_text(alloc, path) else {
+        return Err(CallError::OutOfMemory);
+    };
+    match dumps.write(alloc, path, text) {
+        Ok(()) => Ok(()),
+        Err(WriteError::CannotWrite) => Err(CallError::CannotWrite { path: name }),
+        Err(WriteError::OutOfMemory) => Err(CallError::OutOfMemory),
     }
 }
 
-/// Writes a dump into the file of this path.
-pub fn file_text<F: Files>(
+/// Writes a dump into the file of a path, where there are both; else nothing. It is one write.
+pub fn file_dump<D: Dumps>(
     alloc: Global,
-    files: &F,
-    path: &str,
-    text: &str,
+    dumps: &mut D,
+    path: Option<&str>,
+    dump: Option<String>,
 ) -> Result<(), CallError>
-    ensures filed { OnOk result (F.takes files.now path.now (Some text.now)) }
-    ensures stopped { IfErr result (IsUnfiledAt (F.takes files.now) (Some path.now)) }
+    ensures filed { OnOk result (D.written dumps.new ≡ D.written dumps.old
+        ++ writes_of (option_map (λ s. s.now) path.entry) (option_map string_bytes dump) true) }
+    ensures stopped { IfErr result (λ error. (wrote : List Written)
+        × (D.written dumps.new ≡ D.written dumps.old ++ wrote)
+        × IsUnfiled (option_map (λ s. s.now) path.entry) (option_map string_bytes dump) error
+        wrote) }
 {
-    match files.write(path, text.as_bytes()) {
-        Ok(()) => Ok(()),
-        Err(_) => Err(unwritten(alloc, path)),
+    match path {
+        Some(path) => match dump {
+            Some(text) => write_dump(alloc, dumps, path, text),
+            None => Ok(()),
+        },
+        None => Ok(()),
     }
 }

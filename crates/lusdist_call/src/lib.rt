@@ -5,7 +5,8 @@
 //!
 //! What each command answers, by what the files that it names say, and why it stops.
 //!
-//! - `specs/Asked.antt`: what the texts of a check, of a plan, of a replay and of a run say, and what their files gave.
+//! - `specs/Asked.antt`: what the texts of a plan, of a replay and of a run say, and what their files gave.
+//! - `specs/Answers.antt`: what each command answers.
 //! - `specs/Evaluated.antt`: what an evaluation prints and dumps, and what it says of a fault.
 //! - `specs/Exact.antt`: that an answer and a refusal exclude each other, and that there is one refusal.
 //! - `specs/Explained.antt`: what is printed of a code, and of which code nothing is.
@@ -20,16 +21,18 @@
 //!
 //! - [`CallError`]: why a call stops, and with which status; [`Mistake`]: what is wrong with words that the command line
 //!   takes.
-//! - [`Reply`]: what a call prints, and [`put_reply`], which writes it.
-//! - [`read`] and [`file_text`]: a file that is read, and one into which a dump is written.
+//! - [`Reply`]: what a call answers, and [`put_reply`], which writes it; [`Refusal`]: why it stops, and the dump that it leaves.
+//! - [`read`] and [`file_dump`]: a file that is read, and one into which a dump is written.
 #![tactic(auto)]
 
 mod call_error;
 mod files;
 mod mistake;
+mod refusal;
 mod reply;
 
 pub use call_error::CallError;
-pub use files::{file_text, read};
+pub use files::{file_dump, read};
 pub use mistake::{Mistake, mistake_in};
+pub use refusal::Refusal;
 pub use reply::{Reply, put_reply};

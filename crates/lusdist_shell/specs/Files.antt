@@ -1,9 +1,9 @@
--- What files give and take.
+-- What files give.
 use Rattle.std.specs.Prelude.{ℕ, List, Option, None}
 use Rattle.lusdist_shell.specs.declared.files.ReadError.{ReadError}
 use Rattle.lusdist_shell.specs.declared.files.ReadError.TheVariants.{CannotRead, OutOfMemory}
 
--- of a path: that a read may give these bytes, or none; or that these were written there, or a write failed
+-- of a path: that a read may give these bytes, or none
 abbrev pub FileFacts : Type 1
 FileFacts = List ℕ → Option (List ℕ) → Type 0
 

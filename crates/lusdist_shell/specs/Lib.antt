@@ -6,5 +6,7 @@ pub mod Request
 pub mod Sinks
 pub mod Lines
 pub mod Files
+pub mod Dumps
+pub mod Writes
 pub mod Pages
 pub mod Titles

@@ -2,7 +2,7 @@
 //! manual of refusals and faults.
 //!
 //! - [`parse`] reads the command line into a [`Request`], and [`put_mistake`] shows what the parser says instead.
-//! - [`Files`] is where texts come from, and where a dump goes: [`RealFiles`], or files in memory.
+//! - [`Files`] is where texts come from: [`RealFiles`], or files in memory. [`Dumps`] is where a dump goes.
 //! - [`text_of`] sees bytes as text, where they are text.
 //! - [`read_schedule`] reads whose turn it is, turn by turn.
 //! - [`Progress`] is handed how far a run has come: [`Meter`] reports it to a person, [`Silent`] to nobody.
@@ -25,6 +25,7 @@ mod argument;
 mod asked;
 mod clocks;
 mod command;
+mod dumps;
 mod files;
 pub mod laws;
 mod listing;
@@ -45,7 +46,8 @@ mod texts;
 mod words;
 
 pub use asked::{all_codes, page_of};
-pub use files::{Files, ReadError, RealFiles, WriteError};
+pub use dumps::{Dump, Dumps, RealDumps, WriteError};
+pub use files::{Files, ReadError, RealFiles};
 pub use progress::{Meter, Progress, Silent};
 pub use put::{put_mistake, put_notes, put_out, put_unread};
 pub use request::{

@@ -76,7 +76,7 @@ pub fn put_mistake<W: Write, V: Write>(
     ensures memory { kind_of mistake.now ≡ OutOfMemory → (result ≡ 3) × (out.new ≡ out.old)
         × HasLine V.contents err.old err.new (codes "R2 OutOfMemory") }
     ensures help { (kind_of mistake.now ≡ DisplayHelp) ⊎ (kind_of mistake.now ≡ DisplayVersion)
-        → (result ≡ 0) ⊎ ((result ≡ 3) × (out.new.failed ≡ true)
+        → ((result ≡ 0) × (out.new.failed ≡ false)) ⊎ ((result ≡ 3) × (out.new.failed ≡ true)
         × HasLine V.contents err.old err.new (codes "F02 CannotWrite")) }
     ensures other { kind_of mistake.now ≢ OutOfMemory → kind_of mistake.now ≢ DisplayHelp
         → kind_of mistake.now ≢ DisplayVersion → result ≡ 2 }

@@ -6,6 +6,7 @@
 mod blocks;
 mod counters;
 mod driven;
+mod folder;
 mod gates;
 mod jobs;
 mod lines;
@@ -17,14 +18,14 @@ mod runs;
 mod schedules;
 mod tries;
 
+use crate::folder::Folder;
 use crate::lines::put_line;
 use crate::paper::Paper;
 use crate::printing::put_printed;
 use crate::tries::{put_tried, words_of};
 use lusdist_answers::serve;
-use lusdist_shell::{Files, ReadError, RealFiles, Silent, Sink, WriteError, text_of};
+use lusdist_shell::{Dump, Files, ReadError, RealFiles, Silent, Sink};
 use std::alloc::{AllocError, Global};
-use std::cell::Cell;
 use std::io;
 use std::io::Write;
 use std::rt::Clock;
@@ -42,50 +43,16 @@ const NO_MEMORY: &str = "no_memory";
 struct Case<'a> {
     texts: Vec<(String, Vec<u8>)>,
     real: RealFiles<'a, HostRuntime>,
-    alloc: Global,
-    /// What the newest command wrote.
-    written: Cell<Vec<(String, Vec<u8>)>>,
-}
-
-/// A file of this path and text more.
-fn with_file(
-    alloc: Global,
-    mut files: Vec<(String, Vec<u8>)>,
-    path: &str,
-    bytes: &[u8],
-) -> Result<Vec<(String, Vec<u8>)>, AllocError> {
-    let file = (
-        String::from_str(alloc, path)?,
-        Vec::from_slice(alloc, bytes)?,
-    );
-    files.push(file)?;
-    Ok(files)
 }
 
 impl Files for Case<'_> {
     ghost gives = { λ _ _ _. Unit {0} };
-
-    ghost takes = { λ _ _ _. Unit {0} };
 
     fn read(&self, alloc: Global, path: &str) -> Result<Vec<u8>, ReadError> {
         match self.texts.iter().rev().find(|file| file.0.as_str() == path) {
             Some(file) => Vec::from_slice(alloc, &file.1).map_err(|_| ReadError::OutOfMemory),
             None if path == NO_MEMORY => Err(ReadError::OutOfMemory),
             None => self.real.read(alloc, path),
-        }
-    }
-
-    fn write(&self, path: &str, bytes: &[u8]) -> Result<(), WriteError> {
-        if path.contains('/') {
-            return self.real.write(path, bytes);
-        }
-        let files = self.written.replace(Vec::new(self.alloc));
-        match with_file(self.alloc, files, path, bytes) {
-            Ok(files) => {
-                self.written.set(files);
-                Ok(())
-            }
-            Err(_) => Err(WriteError),
         }
     }
 }
@@ -156,30 +123,26 @@ fn put_file(rt: &HostRuntime, path: &str, text: &str) -> io::Result<()> {
     Ok(())
 }
 
-/// Writes files one after the other.
-fn put_files(rt: &HostRuntime, files: &[(String, Vec<u8>)]) -> io::Result<()> {
-    for file in files {
-        put_file(rt, file.0.as_str(), text_of(&file.1).unwrap_or(""))?;
+/// Writes the files that were written in memory, one after the other.
+fn put_written(rt: &HostRuntime, dumps: &[Dump]) -> io::Result<()> {
+    for dump in dumps {
+        if dump.whole && !dump.path.as_str().contains('/') {
+            put_file(rt, dump.path.as_str(), dump.text.as_str())?;
+        }
     }
     Ok(())
-}
-
-/// Writes the files that the newest command wrote.
-fn put_written(rt: &HostRuntime, case: &Case<'_>) -> io::Result<()> {
-    let files = case.written.replace(Vec::new(rt.alloc()));
-    put_files(rt, &files)
 }
 
 /// Writes an output, what was written into files, behind `! ` what went to the error stream, and behind `= ` a status.
 fn put_reported(
     rt: &HostRuntime,
-    case: &Case<'_>,
+    dumps: &[Dump],
     out: &[u8],
     err: &[u8],
     status: u8,
 ) -> io::Result<()> {
     put_output(rt, out)?;
-    put_written(rt, case)?;
+    put_written(rt, dumps)?;
     if !err.is_empty() {
         print!(rt; "! ")?;
         rt.stdout().write_all(err)?;
@@ -199,16 +162,27 @@ fn put_answer<R: Threads + Wait + Clock + Sync>(
     let words = words_of(rt.alloc(), line)?;
     let mut out = Sink::new(Paper::new(rt.alloc(), is_full));
     let mut err = Sink::new(Vec::new(rt.alloc()));
+    let mut folder = Folder {
+        runtime: rt,
+        written: Vec::new(rt.alloc()),
+    };
     let status = serve(
         threads,
         rt.alloc(),
         &words,
         case,
+        &mut folder,
         &Silent,
         &mut out,
         &mut err,
     );
-    put_reported(rt, case, out.writer().bytes(), err.writer(), status)
+    put_reported(
+        rt,
+        &folder.written,
+        out.writer().bytes(),
+        err.writer(),
+        status,
+    )
 }
 
 /// Does what a line says.
@@ -250,8 +224,6 @@ fn main(rt: HostRuntime) -> io::Result<()> {
     let mut case = Case {
         texts: Vec::new(rt.alloc()),
         real: RealFiles::new(&rt),
-        alloc: rt.alloc(),
-        written: Cell::new(Vec::new(rt.alloc())),
     };
     for line in rt.lines(rt.alloc()) {
         answer_line(&rt, &rt, &mut case, line?.as_str())?;

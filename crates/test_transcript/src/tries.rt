@@ -1,7 +1,8 @@
 //! An example by many schedules at several capacities, and by several crews: each has to end as its evaluation does.
 
+use crate::folder::NoFile;
 use lusdist_answers::serve;
-use lusdist_shell::{Files, ReadError, Silent, Sink, WriteError, text_of};
+use lusdist_shell::{Files, ReadError, Silent, Sink, text_of};
 use std::alloc::{AllocError, Global};
 use std::io;
 use std::io::Write;
@@ -35,8 +36,6 @@ struct Tried<'a, F> {
 impl<F: Files> Files for Tried<'_, F> {
     ghost gives = { λ _ _ _. Unit {0} };
 
-    ghost takes = { λ _ _ _. Unit {0} };
-
     fn read(&self, alloc: Global, path: &str) -> Result<Vec<u8>, ReadError> {
         let text = match path {
             "place" => &self.place,
@@ -44,10 +43,6 @@ impl<F: Files> Files for Tried<'_, F> {
             _ => return self.files.read(alloc, path),
         };
         Vec::from_slice(alloc, text.as_bytes()).map_err(|_| ReadError::OutOfMemory)
-    }
-
-    fn write(&self, _path: &str, _bytes: &[u8]) -> Result<(), WriteError> {
-        Err(WriteError)
     }
 }
 
@@ -70,7 +65,17 @@ fn printed<R: Threads + Wait + Clock + Sync, F: Files>(
     let words = words_of(alloc, line)?;
     let mut out = Sink::new(Vec::new(alloc));
     let mut err = Sink::new(Vec::new(alloc));
-    if serve(threads, alloc, &words, files, &Silent, &mut out, &mut err) != 0 {
+    let status = serve(
+        threads,
+        alloc,
+        &words,
+        files,
+        &mut NoFile,
+        &Silent,
+        &mut out,
+        &mut err,
+    );
+    if status != 0 {
         return Ok(String::new(alloc));
     }
     String::from_str(alloc, text_of(out.writer()).unwrap_or(""))

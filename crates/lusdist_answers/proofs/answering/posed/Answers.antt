@@ -1,6 +1,6 @@
 use Rattle.std.proofs.lemmas.Result.{err_from_is_err_and}
 use Rattle.lusdist_answers.proofs.HasOutputs.{some_output}
-use Rattle.lusdist_answers.proofs.Dumps.{at_program_none, at_table_none, stops_at_table}
+use Rattle.lusdist_answers.proofs.Stops.{at_program_none, at_table_none, stops_at_table}
 use Rattle.lusdist_answers.proofs.Outcomes.{posed}
 use Rattle.lusdist_call.specs.Stopped.IsEvalStopped.{eval_program}
 use Rattle.lusdist_answers.proofs.answering.posed.Goals as goal

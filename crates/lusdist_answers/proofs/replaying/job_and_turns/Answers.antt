@@ -1,6 +1,6 @@
 use Rattle.std.proofs.lemmas.Result.{err_from_is_err_and}
 use Rattle.lusdist_call.specs.Stopped.IsReplayStopped.{replay_job}
-use Rattle.lusdist_answers.proofs.Dumps.{at_job_none, at_schedule_none, stops_at_schedule}
+use Rattle.lusdist_answers.proofs.Stops.{stops_at_schedule}
 use Rattle.lusdist_answers.proofs.replaying.job_and_turns.Goals as goal
 
 pub returns-clause-asked : goal.returns-clause-asked
@@ -15,14 +15,3 @@ pub returns-in_err-turns-clause-stopped : goal.returns-in_err-turns-clause-stopp
 returns-in_err-turns-clause-stopped g c =
     let p = err_from_is_err_and c.from_residual-in_err-turns.result c.from_residual-in_err-turns.ensures.1 in
     rw (p.1, p.2) (stops_at_schedule (g.F.Files.gives c.args.files.now) c.args.request c.in_ok-job.job _ c.in_ok-job.ensures.job c.in_err-turns.ensures.stopped)
-
-pub returns-in_err-job-clause-no_write : goal.returns-in_err-job-clause-no_write
-returns-in_err-job-clause-no_write g c =
-    let p = err_from_is_err_and c.from_residual.result c.from_residual.ensures.1 in
-    let request = c.args.request in
-    rw (p.1, p.2) (at_job_none (g.F.Files.gives c.args.files.now) request.program.now request.place.now request.table.now request.main.now _ c.in_err-job.ensures.stopped)
-
-pub returns-in_err-turns-clause-no_write : goal.returns-in_err-turns-clause-no_write
-returns-in_err-turns-clause-no_write g c =
-    let p = err_from_is_err_and c.from_residual-in_err-turns.result c.from_residual-in_err-turns.ensures.1 in
-    rw (p.1, p.2) (at_schedule_none (g.F.Files.gives c.args.files.now) c.args.request.schedule.now _ c.in_err-turns.ensures.stopped)

@@ -1,7 +1,7 @@
 use Rattle.std.proofs.Common.{Some, List, ℕ, sym, subst}
 use Rattle.std.proofs.lemmas.Result.{err_from_is_err_and, IfErr-weaker}
 use Rattle.lusdist_call.specs.Stopped.StopsAtTable.{no_table, bad_table}
-use Rattle.lusdist_answers.proofs.Dumps.{table_found}
+use Rattle.lusdist_answers.proofs.Stops.{table_found}
 use Rattle.lusdist_answers.proofs.sources.inputs_at.Goals as goal
 
 pub returns-clause-table : goal.returns-clause-table

@@ -1,0 +1,135 @@
+-- What each command answers: a text, notes beside it, and a dump, by what the files gave.
+use Rattle.std.specs.Prelude.{◌≡◌, ℕ, List, [], ◌∷◌, ◌++◌, Option, Some, None, string_bytes, option_map}
+use Rattle.lutree.specs.Tree.{ProgramTree}
+use Rattle.luflow.specs.Program.{FlatView}
+use Rattle.luflow.specs.Tables.{OutputColumn}
+use Rattle.luworld.specs.Needs.{PlanView}
+use Rattle.luworld.specs.Jobs.{JobView}
+use Rattle.luworld.specs.WorldViews.{WorldView}
+use Rattle.luweave.specs.Headline.{IsFaithful}
+use Rattle.lumeaning.specs.RunReports.{RunReport, IsTrueOf}
+use Rattle.luweave_text.specs.WorldText.{IsWorldText}
+use Rattle.luweave_text.specs.Waves.{AreOutputSignals}
+use Rattle.luchart.specs.Signals.{Signal}
+use Rattle.lusyn.specs.Texts.{SpellsText, IsReadBack}
+use Rattle.lusyn_printer.specs.Canonical.{canonical}
+use Rattle.lucore.specs.Result.{IsFlatOf}
+use Rattle.luplace_report.specs.Report.{report_text}
+use Rattle.luplace_report.specs.Table.{IsTableOf}
+use Rattle.luplace_report.specs.Graph.{graph_text}
+use Rattle.lutab.specs.Outputs.{output_text}
+use Rattle.lusdist_shell.specs.Files.{FileFacts}
+use Rattle.lusdist_shell.specs.declared.request.CheckRequest.{CheckRequest}
+use Rattle.lusdist_shell.specs.declared.request.PlanForm.{PlanForm}
+use Rattle.lusdist_shell.specs.declared.request.PlanForm.TheVariants.{Report, Table, Graph}
+use Rattle.lusdist_shell.specs.declared.request.PlanRequest.{PlanRequest}
+use Rattle.lusdist_shell.specs.declared.request.ReplayRequest.{ReplayRequest}
+use Rattle.lusdist_shell.specs.declared.request.TurnsForm.TheVariants.{Nothing}
+use Rattle.lusdist_shell.specs.declared.request.RunRequest.{RunRequest}
+use Rattle.lusdist_shell.specs.declared.request.Request.{Request}
+use Rattle.lusdist_shell.specs.declared.request.Request.TheVariants.{Check, Eval, Plan, Replay}
+use Rattle.lusdist_shell.specs.declared.request.Request.TheVariants.{Run as AsksRun, Explain}
+use Rattle.lusdist_shell.specs.Request.{IsAskedBy}
+use Rattle.lusdist_call.specs.declared.reply.Reply.{Reply}
+use Rattle.lusdist_call.specs.Asked.{IsPlanFor, IsJobFor, IsAskedFor, IsWorldOf, AreNotesOf}
+use Rattle.lusdist_call.specs.Evaluated.{AreOutputsOf, IsEvaluated}
+use Rattle.lusdist_call.specs.Explained.{code_in, explanation}
+use Rattle.lusdist_call.specs.Files.{dump_for, replay_path, run_path}
+use Rattle.lusdist_call.specs.RunReportTexts.{run_report_text, IsReportedBy}
+use Rattle.lusdist_call.specs.Waved.{run_dump, IsWorldDump, AreSignalsTrue}
+
+-- the text of a check of what a request asks for: the program that the file's bytes spell keeps all rules and
+-- has a flat program, and the text is its canonical one, which spells that program too if it isn't longer
+-- than a text may be
+pub record IsChecked (gives : FileFacts) (request : CheckRequest) (text : List ℕ) : Type 0 where
+  pub program : List ℕ
+  pub tree : ProgramTree
+  pub program_given : gives request.program.now (Some program)
+  pub spelled : SpellsText program tree
+  pub flat : FlatView
+  pub flat_is : IsFlatOf tree request.main.now flat
+  pub text_is : text ≡ canonical tree
+  pub again : IsReadBack text tree
+
+-- a plan, in the form that is asked for: the report on a line, the tables, which report the way that the
+-- plan's runs go, or the graph
+abbrev pub IsPlanText : PlanForm → PlanView → List ℕ → Type 0
+IsPlanText Report plan text = text ≡ report_text plan ++ 10 ∷ []
+IsPlanText Table plan text = IsTableOf plan text
+IsPlanText Graph plan text = text ≡ graph_text plan
+
+-- the text of the plan that a request asks for
+pub record IsPlanned (gives : FileFacts) (request : PlanRequest) (text : List ℕ) : Type 0 where
+  pub plan : PlanView
+  pub asked_for : IsPlanFor gives request.program.now request.place.now request.main.now plan
+  pub text_is : IsPlanText request.form plan text
+
+-- The world of a job after its turns, which keeps what the source says: its text, the notes of what the turns
+-- did, and its dump.
+pub record IsPrinted (request : ReplayRequest) (job : JobView) (turns text notes : List ℕ)
+    (dump : Option (List ℕ)) : Type 0 where
+  pub world : WorldView
+  pub world_is : IsWorldOf job turns request.finish world
+  pub faithful : IsFaithful world.job world.dones
+  pub text_is : IsWorldText world text
+  pub notes_are : AreNotesOf job turns request.finish request.turns world.dones notes
+  pub dump_is : IsWorldDump request.main.now world (replay_path request) dump
+
+-- What a replay of what a request asks for gives: text, notes and dump of the world of its job after its turns.
+-- What the text reports of links, sites and outputs, and the dump of outputs, is true of the program that the
+-- file spells, at the table that the file says: for each of its solutions.
+pub record IsReplayed (gives : FileFacts) (request : ReplayRequest) (text notes : List ℕ)
+    (dump : Option (List ℕ)) : Type 0 where
+  pub job : JobView
+  pub turns : List ℕ
+  pub asked_for : IsAskedFor gives request job turns
+  pub printed : IsPrinted request job turns text notes dump
+  pub reported : RunReport
+  pub reported_by : IsReportedBy printed.world reported
+  pub spelled : text ≡ run_report_text reported
+  pub is_true : IsTrueOf asked_for.job_for.job_is.flat.tree request.main.now job.inputs reported
+  pub dump_true : (signals : List Signal) → AreOutputSignals printed.world signals
+      → AreSignalsTrue asked_for.job_for.job_is.flat.tree request.main.now job.inputs signals
+
+-- What a run of what a request asks for gives: the table of the outputs of the program at the input table, and
+-- the dump of the same outputs, where one is asked for. Each is what every solution of the program that the
+-- file spells gives that variable at all instants, and no operator is a fault.
+pub record IsRan (gives : FileFacts) (request : RunRequest) (text : List ℕ)
+    (dump : Option (List ℕ)) : Type 0 where
+  pub job : JobView
+  pub asked_for : IsJobFor gives request.program.now request.place.now request.table.now request.main.now job
+  pub outputs : List OutputColumn
+  pub are_outputs : AreOutputsOf asked_for.job_is.flat.tree request.main.now job.plan.flat job.inputs outputs
+  pub text_is : text ≡ output_text job.plan.flat outputs
+  pub dump_is : dump ≡ dump_for (run_path request) (run_dump request.main.now job.plan outputs)
+
+-- neither notes nor a dump
+abbrev pub IsAlone : List ℕ → Option (List ℕ) → Type 0
+IsAlone notes dump = (notes ≡ []) × (dump ≡ None)
+
+-- the text of what a request asks for, the notes that go to the error stream, and the dump
+abbrev pub IsAnswer : FileFacts → Request → List ℕ → List ℕ → Option (List ℕ) → Type 0
+IsAnswer gives (Check request) text notes dump = IsChecked gives request text × IsAlone notes dump
+IsAnswer gives (Eval request) text notes dump = IsEvaluated gives request text dump × (notes ≡ [])
+IsAnswer gives (Plan request) text notes dump = IsPlanned gives request text × IsAlone notes dump
+IsAnswer gives (Replay request) text notes dump = IsReplayed gives request text notes dump
+IsAnswer gives (AsksRun request) text notes dump = IsRan gives request text dump × (notes ≡ [])
+IsAnswer gives (Explain request) text notes dump =
+    (explanation (code_in request) ≡ Some text) × IsAlone notes dump
+
+-- a reply has the text, the notes and the dump of what a request asks for
+abbrev pub IsReplyTo : FileFacts → Request → Reply → Type 0
+IsReplyTo gives request reply =
+    IsAnswer gives request (string_bytes reply.text) (string_bytes reply.notes) (option_map string_bytes reply.dump)
+
+-- the words ask for no turns to be reported
+abbrev pub AskForNoTrace : List (List ℕ) → Type 0
+AskForNoTrace words = (request : ReplayRequest) → IsAskedBy words (Replay request) → request.turns ≡ Nothing
+
+-- the text of what the words ask for
+pub record IsDone (gives : FileFacts) (words : List (List ℕ)) (text : List ℕ) : Type 0 where
+  pub request : Request
+  pub asked : IsAskedBy words request
+  pub notes : List ℕ
+  pub dump : Option (List ℕ)
+  pub answer : IsAnswer gives request text notes dump
