@@ -1,0 +1,21 @@
+use Rattle.std.proofs.Common.{refl}
+use Rattle.clap.specs.Walk.{walked}
+use Rattle.clap.specs.Takes.{walk_passes}
+use Rattle.clap.specs.Faults.{walk_fault, defaults_fault}
+use Rattle.example_embed.proofs.replaying.asked.Goals as goal
+
+pub returns-clause-asked : goal.returns-clause-asked
+unfolding walked walk_passes walk_fault defaults_fault
+returns-clause-asked c = record {
+  matches = _;
+  named = refl;
+  main = refl;
+  explain = refl;
+  program = refl;
+  place = refl;
+  table = refl;
+  schedule = refl;
+  finish = refl;
+  turns = refl;
+  vcd = refl;
+}
