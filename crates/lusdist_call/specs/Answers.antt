@@ -75,9 +75,9 @@ pub record IsPrinted (request : ReplayRequest) (job : JobView) (turns text notes
   pub notes_are : AreNotesOf job turns request.finish request.turns world.dones notes
   pub dump_is : IsWorldDump request.main.now world (replay_path request) dump
 
--- What a replay of what a request asks for gives: text, notes and dump of the world of its job after its turns.
--- What the text reports of links, sites and outputs, and the dump of outputs, is true of the program that the
--- file spells, at the table that the file says: for each of its solutions.
+-- What a replay of what a request asks for gives: text, notes and dump of the world of its job after its
+-- turns. What the text reports of links, sites and outputs, and the dump of outputs, is true of the
+-- program that the file spells, at the table that the file says: for each of its solutions.
 pub record IsReplayed (gives : FileFacts) (request : ReplayRequest) (text notes : List ℕ)
     (dump : Option (List ℕ)) : Type 0 where
   pub job : JobView
@@ -91,9 +91,9 @@ pub record IsReplayed (gives : FileFacts) (request : ReplayRequest) (text notes 
   pub dump_true : (signals : List Signal) → AreOutputSignals printed.world signals
       → AreSignalsTrue asked_for.job_for.job_is.flat.tree request.main.now job.inputs signals
 
--- What a run of what a request asks for gives: the table of the outputs of the program at the input table, and
--- the dump of the same outputs, where one is asked for. Each is what every solution of the program that the
--- file spells gives that variable at all instants, and no operator is a fault.
+-- What a run of what a request asks for gives: the table of the outputs of the program at the input table,
+-- and the dump of the same outputs, where one is asked for. Each is what every solution of the program
+-- that the file spells gives that variable at all instants, and no operator is a fault.
 pub record IsRan (gives : FileFacts) (request : RunRequest) (text : List ℕ)
     (dump : Option (List ℕ)) : Type 0 where
   pub job : JobView
@@ -120,7 +120,8 @@ IsAnswer gives (Explain request) text notes dump =
 -- a reply has the text, the notes and the dump of what a request asks for
 abbrev pub IsReplyTo : FileFacts → Request → Reply → Type 0
 IsReplyTo gives request reply =
-    IsAnswer gives request (string_bytes reply.text) (string_bytes reply.notes) (option_map string_bytes reply.dump)
+    IsAnswer gives request (string_bytes reply.text) (string_bytes reply.notes)
+        (option_map string_bytes reply.dump)
 
 -- the words ask for no turns to be reported
 abbrev pub AskForNoTrace : List (List ℕ) → Type 0

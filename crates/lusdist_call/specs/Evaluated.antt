@@ -104,7 +104,8 @@ pub record IsShown (request : EvalRequest) (flat : FlatView) (inputs : InputsVie
   pub dump_is : dump ≡ dump_for (wave_path request) (wave_text request flat columns)
 
 -- where a dump is asked for, that of what a request asks for of the first n instants
-abbrev pub IsShownBefore : EvalRequest → FlatView → InputsView → ℕ → Option (List ℕ) → Option (List ℕ) → Type 0
+abbrev pub IsShownBefore : EvalRequest → FlatView → InputsView → ℕ → Option (List ℕ) → Option (List ℕ)
+    → Type 0
 IsShownBefore request flat inputs n None dump = dump ≡ None
 IsShownBefore request flat inputs n (Some path) dump = (columns : List OutputColumn)
     × AreEvaluated flat inputs (shown_of request.all flat.variables) n columns
@@ -125,9 +126,9 @@ pub record IsPosedBy (gives : FileFacts) (request : EvalRequest) (flat : FlatVie
   pub tree : ProgramTree
   pub posed : IsPosed program request.main.now table tree flat inputs
 
--- The text of an evaluation: the outputs of the program that the files of a request gave, or all variables of
--- its main node, in order of declaration, at the table that they gave; as a table or as a chart. The dump, where
--- one is asked for, is that of the same variables.
+-- The text of an evaluation: the outputs of the program that the files of a request gave, or all variables
+-- of its main node, in order of declaration, at the table that they gave; as a table or as a chart. The
+-- dump, where one is asked for, is that of the same variables.
 pub record IsEvaluated (gives : FileFacts) (request : EvalRequest) (text : List ℕ)
     (dump : Option (List ℕ)) : Type 0 where
   pub meant : mistake_in request ≡ None
@@ -173,8 +174,8 @@ IsShownTo request flat inputs _ dump = dump ≡ None
 abbrev pub IsNoFault : CallError → Type 0
 IsNoFault stop = (name : List ℕ) (instant : ℕ) (kind : FaultKind) → stop ≡ Fault name instant kind → ⊥
 
--- The dump of an evaluation that stops at a fault: the variables that the request asks for, of the program and at
--- the table that its files gave and that have this fault, at all instants before it.
+-- The dump of an evaluation that stops at a fault: the variables that the request asks for, of the program
+-- and at the table that its files gave and that have this fault, at all instants before it.
 pub record IsDumpedBefore (gives : FileFacts) (request : EvalRequest) (name : List ℕ) (instant : ℕ)
     (kind : FaultKind) (dump : Option (List ℕ)) : Type 0 where
   pub flat : FlatView
@@ -186,12 +187,14 @@ pub record IsDumpedBefore (gives : FileFacts) (request : EvalRequest) (name : Li
       instant columns
   pub dump_is : dump ≡ Some (wave_text request flat columns)
 
-abbrev pub IsPartDump : FileFacts → EvalRequest → List ℕ → ℕ → FaultKind → Option (List ℕ) → Option (List ℕ) → Type 0
+abbrev pub IsPartDump : FileFacts → EvalRequest → List ℕ → ℕ → FaultKind → Option (List ℕ)
+    → Option (List ℕ) → Type 0
 IsPartDump gives request name instant kind None dump = dump ≡ None
 IsPartDump gives request name instant kind (Some path) dump =
     IsDumpedBefore gives request name instant kind dump
 
--- the dump of an evaluation that stops: that of the instants before a fault, where one is asked for; else none
+-- the dump of an evaluation that stops: that of the instants before a fault, where one is asked for; else
+-- none
 abbrev pub IsDumpedTo : FileFacts → EvalRequest → CallError → Option (List ℕ) → Type 0
 IsDumpedTo gives request (Fault name instant kind) dump =
     IsPartDump gives request name instant kind (wave_path request) dump

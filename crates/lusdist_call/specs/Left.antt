@@ -57,10 +57,11 @@ pub data IsDumpOf (gives : FileFacts) (request : Request) (dump : Option (List �
   before : (stop : CallError) → IsRequestStopped gives request stop → IsStopDump gives request stop dump
       → IsDumpOf gives request dump
 
--- What is asked for ends with this status, and these writes: with 0 where the answer is printed, with its notes
--- on the error stream; with that of a refusal, whose line is reported, and its reason where that is asked for;
--- with 3 where the dump couldn't be written, which is reported in place of the rest; or with 3 where the answer
--- couldn't be written, of which the output has a prefix. Where there is a dump, all of it was written first.
+-- What is asked for ends with this status, and these writes: with 0 where the answer is printed, with its
+-- notes on the error stream; with that of a refusal, whose line is reported, and its reason where that is
+-- asked for; with 3 where the dump couldn't be written, which is reported in place of the rest; or with 3
+-- where the answer couldn't be written, of which the output has a prefix. Where there is a dump, all of it
+-- was written first.
 pub data IsEnded {W V : Type 0} (gives : FileFacts) (request : Request) (status : ℕ) (wrote : List Written)
     (streams : Streams W V) : Type 0 where
   answered : (text notes : List ℕ) (dump : Option (List ℕ)) → status ≡ 0
@@ -82,10 +83,10 @@ pub data IsEnded {W V : Type 0} (gives : FileFacts) (request : Request) (status 
 abbrev pub IsHelp : ErrorKind → Type 0
 IsHelp kind = (kind ≡ DisplayHelp) ⊎ (kind ≡ DisplayVersion)
 
--- A call with these words ends with this status, and these writes. Words in which nothing is wrong end as what
--- they ask for does; where help is asked for, it goes to the output, with 0; other words end with 2, with nothing
--- on the output. With 3 where memory ran out before the words were read, or help couldn't be written. But for
--- what is asked for nothing is written.
+-- A call with these words ends with this status, and these writes. Words in which nothing is wrong end as
+-- what they ask for does; where help is asked for, it goes to the output, with 0; other words end with 2,
+-- with nothing on the output. With 3 where memory ran out before the words were read, or help couldn't be
+-- written. But for what is asked for nothing is written.
 pub data IsCallEnded {W V : Type 0} (gives : FileFacts) (words : List (List ℕ)) (status : ℕ)
     (wrote : List Written) (streams : Streams W V) : Type 0 where
   asked : (request : Request) → fault_of lusdist words ≡ [] → IsAskedBy words request

@@ -150,8 +150,8 @@ pub record IsRunFault (gives : FileFacts) (request : RunRequest) (name : List �
   pub source : (σ : SourceStreams) → IsSourceSolution asked_for.job_is.flat.tree request.main.now job.inputs σ
       → IsSourceFault asked_for.job_is.flat.tree request.main.now job.inputs σ name instant kind
 
--- A run of what a request asks for stops so: at its job; or, where there is one, at a fault, or because a site
--- was left by another or a thread was refused.
+-- A run of what a request asks for stops so: at its job; or, where there is one, at a fault, or because a
+-- site was left by another or a thread was refused.
 pub data IsRunStopped (gives : FileFacts) (request : RunRequest) (stop : CallError) : Type 0 where
   run_job : StopsAtJob gives request.program.now request.place.now request.table.now request.main.now stop
       → IsRunStopped gives request stop

@@ -15,5 +15,6 @@ written_whole old path bytes = old ++ record { path = path; bytes = bytes; whole
 
 -- one write more, which failed; or none, where memory ran out
 abbrev pub HasFailed : List Written → List Written → List ℕ → List ℕ → WriteError → Type 0
-HasFailed old new path bytes CannotWrite = new ≡ old ++ record { path = path; bytes = bytes; whole = false } ∷ []
+HasFailed old new path bytes CannotWrite =
+    new ≡ old ++ record { path = path; bytes = bytes; whole = false } ∷ []
 HasFailed old new path bytes OutOfMemory = new ≡ old

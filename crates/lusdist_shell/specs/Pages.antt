@@ -130,7 +130,8 @@ text_in (part ∷ others) code = first_text (text_among part code) (text_in othe
 abbrev pub page_of : List ℕ → Option (List ℕ)
 page_of = text_in parts
 
--- the line of a page: its code and its name, which is the first line of its text too, or a prefix of that line
+-- the line of a page: its code and its name, which is the first line of its text too, or a prefix of that
+-- line
 abbrev pub title_of : Page → List ℕ
 title_of page = page.code ++ (codes " " ++ page.name)
 
