@@ -121,7 +121,7 @@ IsAnswer gives (Explain request) text notes dump =
 abbrev pub IsReplyTo : FileFacts → Request → Reply → Type 0
 IsReplyTo gives request reply =
     IsAnswer gives request (string_bytes reply.text) (string_bytes reply.notes)
-        (option_map string_bytes reply.dump)
+    (option_map string_bytes reply.dump)
 
 -- the words ask for no turns to be reported
 abbrev pub AskForNoTrace : List (List ℕ) → Type 0
