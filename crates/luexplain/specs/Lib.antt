@@ -1,3 +1,4 @@
+pub mod Near
 pub mod Place
 pub mod Syntax
 pub mod Text

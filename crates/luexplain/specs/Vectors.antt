@@ -1,6 +1,7 @@
--- Worked places.
+-- Worked places, and worked names.
 use Rattle.std.specs.Prelude.{◌≡◌, ℕ, List, ◌++◌, ◌∷◌, [], codes}
 use Rattle.luexplain.specs.Place.{place}
+use Rattle.luexplain.specs.Near.{apart}
 
 -- a text of three lines, of which the second begins with a tab
 abbrev pub tabbed : List ℕ
@@ -41,3 +42,16 @@ pub record PlaceVectors : Type 0 where
       ++ blanks ++ codes "^\n"
   pub cut_left : place (codes "p") long 92 ≡ codes "p:2:91\n  | .." ++ fifty ++ fifty ++ codes "\n  |   "
       ++ blanks ++ codes "          ^\n"
+
+-- how many letters names are apart
+pub record NearVectors : Type 0 where
+  pub inserted : apart (codes "abs") (codes "abss") ≡ 1
+  pub deleted : apart (codes "abss") (codes "abs") ≡ 1
+  pub replaced : apart (codes "Tank") (codes "tank") ≡ 1
+  -- two letters that change places are two edits
+  pub swapped : apart (codes "levle") (codes "level") ≡ 2
+  pub apart_by_both : apart (codes "tempratura") (codes "temperature") ≡ 2
+  pub far : apart (codes "tank") (codes "panel") ≡ 3
+  -- a name has more letters than it is apart
+  pub of_one : apart (codes "x") (codes "y") ≡ 3
+  pub of_two : apart (codes "on") (codes "up") ≡ 3

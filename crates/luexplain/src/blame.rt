@@ -2,7 +2,7 @@
 
 use crate::find::node_named;
 use crate::naming::near_variable;
-use crate::near::is_near;
+use crate::near::{FAR, are_apart};
 use lubase::Places;
 use lulimits::limits::{LONGEST_SITE_NAME, MOST_CAPACITY};
 use luplace_file::PlaceError;
@@ -253,12 +253,14 @@ fn foreign_among<'a>(sites: &[Value], values: &'a [Value]) -> Option<&'a str> {
     None
 }
 
-/// One of `sites` that is spelled nearly as a name.
+/// The one of `sites` that is spelled nearly as a name.
 fn near_site<'a>(sites: &'a [Value], name: &str) -> Option<&'a str> {
-    for value in sites {
-        let site = value.as_str().unwrap_or("");
-        if is_near(site, name) {
-            return Some(site);
+    for letters in 1..FAR {
+        for value in sites {
+            let site = value.as_str().unwrap_or("");
+            if are_apart(site, name, letters) {
+                return Some(site);
+            }
         }
     }
     None

@@ -1,13 +1,15 @@
 //! The rules of initialisation: `E30` and `E31`.
 
 use crate::find::Spot;
+use crate::hold::{Hold, put_hold};
 use crate::said::{Said, say};
 use crate::sentences;
+use crate::typing::kind_of;
 use crate::words::{ClockWording, Part};
 use lubase::Name;
 use lustat_init::{is_one, least_classes, lefts_are_known, needs_met};
 use lustat_rules::{ClockRef, PatternRef, Scope};
-use lutree::{Expr, Infix, Prefix};
+use lutree::{Expr, Infix, Kind, Prefix};
 use std::alloc::{AllocError, Global};
 use std::slice;
 
@@ -163,13 +165,13 @@ fn said_of_gap<'a>(
         _ => gap.part,
     };
     let cause = cause_of(scope, marks, part).unwrap_or(gap.part);
+    let root = root_of(scope, marks, cause);
+    let kind = kind_of(spot, root).unwrap_or(Kind::Int);
+    let start = Part::Start(spot.catalog.program(), kind);
     say(
         alloc,
         sentences::NEEDED_VALUE,
-        &[
-            Part::Value(root_of(scope, marks, cause)),
-            need_part(gap.need),
-        ],
+        &[Part::Value(root), need_part(gap.need), start, start],
     )
 }
 
@@ -206,30 +208,74 @@ fn is_begun(scope: &Scope, clock: &str, pattern: PatternRef) -> bool {
     }
 }
 
-/// How a `current` of a variable is reported whose clock may be false at first.
-fn said_of_held<'a>(
-    alloc: Global,
-    scope: &Scope,
-    variable: &'a str,
-    clock: &'a str,
-    pattern: PatternRef<'a>,
-) -> Result<Said, AllocError> {
-    let held = Part::Name(variable);
-    let name = Part::Name(clock);
-    let on = Part::Clock(ClockRef::On(clock, pattern), ClockWording::Clock);
-    let sign = Part::Clock(ClockRef::On(clock, pattern), ClockWording::Sign);
-    if scope.is_input(clock) {
-        return say(
-            alloc,
-            sentences::CLOCK_OF_INPUT,
-            &[held, on, name, held, sign],
-        );
+/// What holds the variable of a `current`: the variable on the left, where the `current` is all of the right side, or else a new one.
+fn target_of<'a>(spot: &Spot<'_, 'a>) -> &'a str {
+    if let (Expr::Current(_), [x]) = (&spot.equation.right, spot.equation.left.as_slice()) {
+        return x.as_str();
     }
-    say(
-        alloc,
-        sentences::CLOCK_WITHOUT_START,
-        &[held, on, name, sign, held, sign],
-    )
+    for name in sentences::HELD {
+        if spot.scope.place(name).is_none() {
+            return name;
+        }
+    }
+    sentences::HELD[0]
+}
+
+/// How a `current` is reported whose clock may be false at first, with what holds its variable.
+fn said_of_hold<'a>(
+    alloc: Global,
+    is_input: bool,
+    is_new: bool,
+    hold: &Hold<'a>,
+    written: &'a str,
+) -> Result<Said, AllocError> {
+    let held = Part::Name(hold.variable);
+    let name = Part::Name(hold.clock);
+    let clock = ClockRef::On(hold.clock, hold.pattern);
+    let on = Part::Clock(clock, ClockWording::Clock);
+    let sign = Part::Clock(clock, ClockWording::Sign);
+    let written = Part::Words(written);
+    let place = match is_new {
+        true => Part::Phrase(sentences::BY_HELD, hold.target, ""),
+        false => Part::Words(""),
+    };
+    let variable = Part::Cut(hold.clock);
+    if is_input {
+        let parts = [held, on, name, written, place, sign, variable];
+        return say(alloc, sentences::CLOCK_OF_INPUT, &parts);
+    }
+    let parts = [held, on, name, sign, written, place, variable, sign];
+    say(alloc, sentences::CLOCK_WITHOUT_START, &parts)
+}
+
+/// How a `current` of a variable is reported whose clock may be false at first.
+fn said_of_held(
+    alloc: Global,
+    spot: &Spot,
+    variable: &str,
+    clock: &str,
+    pattern: PatternRef,
+) -> Result<Said, AllocError> {
+    let (Some(kind), Some(clock_kind)) = (spot.scope.kind(variable), spot.scope.kind(clock)) else {
+        return say(alloc, sentences::CURRENT_MAY_BE_NIL, &[]);
+    };
+    let hold = Hold {
+        program: spot.catalog.program(),
+        variable,
+        kind,
+        clock,
+        clock_kind,
+        pattern,
+        target: target_of(spot),
+    };
+    let mut written = String::new(alloc);
+    put_hold(&mut written, &hold)?;
+    let is_new = match spot.equation.right {
+        Expr::Current(_) => false,
+        _ => true,
+    };
+    let is_input = spot.scope.is_input(clock);
+    said_of_hold(alloc, is_input, is_new, &hold, written.as_str())
 }
 
 /// `E31`: the first variable of a `current` in an equation whose clock may be false at first.
@@ -238,7 +284,7 @@ pub(crate) fn current_nil(alloc: Global, spot: &Spot) -> Result<Said, AllocError
         if let Expr::Current(x) = *e {
             if let Some(ClockRef::On(clock, pattern)) = spot.scope.clock(x.as_str()) {
                 if !is_begun(spot.scope, clock, pattern) {
-                    return said_of_held(alloc, spot.scope, x.as_str(), clock, pattern);
+                    return said_of_held(alloc, spot, x.as_str(), clock, pattern);
                 }
             }
         }

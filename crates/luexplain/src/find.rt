@@ -85,6 +85,21 @@ pub(crate) fn label_named<'a>(
     None
 }
 
+/// The first type with a name that is spelled so.
+pub(crate) fn type_of_label<'a>(
+    types: &'a [TypeDeclaration],
+    name: &str,
+) -> Option<&'a TypeDeclaration> {
+    for declared in types {
+        for label in declared.names.as_slice() {
+            if label.name.is(name) {
+                return Some(declared);
+            }
+        }
+    }
+    None
+}
+
 /// Whether the variable whose name stands at a byte is an input, an output or a local of a node.
 pub(crate) fn role_at(node: &Node, byte: usize) -> &'static str {
     for declared in node.inputs.as_slice() {

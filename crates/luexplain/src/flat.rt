@@ -12,7 +12,7 @@ use crate::sentences;
 use crate::words::Part;
 use luflow::FaultKind;
 use lustat_rules::Scope;
-use lutree::{Equation, Expr, Infix, Prefix, Program};
+use lutree::{Equation, Expr, Infix, Kind, Prefix, Program};
 use std::alloc::{AllocError, Global};
 
 /// The place of a variable, behind those before.
@@ -137,19 +137,31 @@ fn circle_of<'a>(
     Ok(names)
 }
 
-/// How a circle of these variables is reported; none where no equation shows it.
-fn said_of_names<'a>(alloc: Global, names: &'a [&'a str]) -> Result<Said, AllocError> {
+/// How a circle of these variables is reported, with the type of one of them; none where no equation shows it.
+fn said_of_names<'a>(
+    alloc: Global,
+    program: &'a Program,
+    kind: Kind,
+    names: &'a [&'a str],
+) -> Result<Said, AllocError> {
     if names.is_empty() {
         return say(alloc, sentences::CIRCLE_BY_CALLS, &[]);
     }
     let circle = Part::Circle(names, sentences::READS);
-    say(alloc, sentences::CIRCLE_OF_READS, &[circle])
+    let start = Part::Start(program, kind);
+    say(alloc, sentences::CIRCLE_OF_READS, &[circle, start])
 }
 
 /// What is said of a circle in a node with this scope.
-fn said_in(alloc: Global, scope: &Scope, variable: &str) -> Result<Said, AllocError> {
+fn said_in(
+    alloc: Global,
+    program: &Program,
+    scope: &Scope,
+    variable: &str,
+) -> Result<Said, AllocError> {
     let names = circle_of(alloc, scope, variable)?;
-    said_of_names(alloc, names.as_slice())
+    let kind = scope.kind(variable).unwrap_or(Kind::Int);
+    said_of_names(alloc, program, kind, names.as_slice())
 }
 
 /// What is said of a circle in the main node.
@@ -163,7 +175,7 @@ fn said_of_cycle(
         return say(alloc, sentences::CIRCLE_BY_CALLS, &[]);
     };
     let scope = Scope::new(alloc, node)?;
-    said_in(alloc, &scope, variable)
+    said_in(alloc, program, &scope, variable)
 }
 
 /// Where the equation of a variable of the main node begins; 0 where there is none.

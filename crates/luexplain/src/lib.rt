@@ -3,16 +3,18 @@
 //! - [`where_in`]: a place of a text: `PATH:LINE:COLUMN`, the line, and a caret under the place.
 //! - [`of_syntax`]: what is reported of a text that is no program; [`of_rule`]: of a broken rule; [`of_cycle`], [`of_size`]: of a program without a
 //!   flat program; [`of_place`], [`of_table`], [`of_schedule`]: of the other texts; [`of_fault`]: of an operator without a value.
-//! - [`laws`]: worked places.
+//! - [`laws`]: worked places, and worked names.
 //!
-//! The parts: `sentences` (what is said of each refusal, by its code), `place` (places), `said` (what is reported, in lines), `words` and `spelling`
-//! (the parts of a sentence: names, expressions, types, clocks), `find` (what stands at a byte, and the parts of an expression), `near` (names
-//! that differ by one letter), `bytes` (parts of a text), `circle` (the way from a vertex back to itself); `naming`, `typing`, `arity`, `clocks`,
-//! `classes` (broken rules, which `rule` chooses among), `syntax`, `flat`, `table`, `schedule`, `placement` (what of one is refused, `blame`, and
-//! where it stands in the text, `sought`).
+//! The parts: `sentences` (what is said of each refusal, by its code), `habits` (what is said of words and signs of other dialects), `place`
+//! (places), `said` (what is reported, in lines), `words` and `spelling` (the parts of a sentence: names, expressions, types, clocks), `hold` (how a
+//! variable on a clock is held), `find` (what stands at a byte, and the parts of an expression), `near` (names that are one letter or two apart),
+//! `bytes` (parts of a text), `circle` (the way from a vertex back to itself); `naming`, `typing`, `arity`, `clocks`, `classes` (broken rules, which
+//! `rule` chooses among), `syntax` and what stands `around` a refused token, `flat`, `table`, `schedule`, `placement` (what of one is refused,
+//! `blame`, and where it stands in the text, `sought`).
 #![tactic(auto)]
 
 mod arity;
+mod around;
 mod blame;
 mod bytes;
 mod circle;
@@ -20,6 +22,8 @@ mod classes;
 mod clocks;
 mod find;
 mod flat;
+mod habits;
+mod hold;
 pub mod laws;
 mod naming;
 mod near;

@@ -1,11 +1,13 @@
 //! The rules of names: `E10` to `E12`, `E15` to `E18`.
 
+use crate::around::{habit_of_call, habit_of_type, habit_of_value};
 use crate::circle::circle;
-use crate::find::{Spot, label_named, node_named, role_at};
-use crate::near::is_near;
+use crate::find::{Spot, label_named, node_named, role_at, type_of_label};
+use crate::near::{FAR, are_apart};
 use crate::place::line_of;
 use crate::said::{Said, say};
 use crate::sentences;
+use crate::sentences::Wording;
 use crate::words::Part;
 use lubase::{Name, Places};
 use lustat_rules::{Catalog, Scope, StatError};
@@ -26,8 +28,7 @@ fn said_of_twice(
         alloc,
         sentences::NAME_TAKEN,
         &[
-            Part::Words(of),
-            Part::Name(name.as_str()),
+            Part::Phrase(of, name.as_str(), ""),
             Part::Number(line_of(text, first)),
         ],
     )
@@ -45,7 +46,7 @@ pub(crate) fn duplicate(
     for node in nodes {
         if node.byte == error.byte() {
             if let Some(other) = node_named(program, node.name.as_str()) {
-                return said_of_twice(alloc, text, sentences::NODE, &node.name, other.byte);
+                return said_of_twice(alloc, text, sentences::NAME_OF_NODE, &node.name, other.byte);
             }
         }
     }
@@ -53,14 +54,16 @@ pub(crate) fn duplicate(
         for label in declared.names.as_slice() {
             if label.byte == error.byte() {
                 if let Some(other) = label_named(types, label.name.as_str()) {
-                    return said_of_twice(alloc, text, sentences::LABEL, &label.name, other.byte);
+                    let of = sentences::NAME_OF_LABEL;
+                    return said_of_twice(alloc, text, of, &label.name, other.byte);
                 }
             }
         }
         if declared.byte == error.byte() {
             for other in types {
                 if other.name.is(declared.name.as_str()) {
-                    return said_of_twice(alloc, text, sentences::TYPE, &declared.name, other.byte);
+                    let of = sentences::NAME_OF_TYPE;
+                    return said_of_twice(alloc, text, of, &declared.name, other.byte);
                 }
             }
         }
@@ -84,7 +87,8 @@ pub(crate) fn duplicate_variable(
             None => 0,
         },
     };
-    said_of_twice(alloc, text, sentences::VARIABLE, &declared.name, first)
+    let of = sentences::NAME_OF_VARIABLE;
+    said_of_twice(alloc, text, of, &declared.name, first)
 }
 
 /// The first name of an enumeration among some patterns that isn't known.
@@ -126,65 +130,106 @@ fn unknown_label_at<'a>(catalog: &Catalog, e: &'a Expr) -> Option<&'a str> {
     }
 }
 
-/// A variable of a node that is spelled nearly so.
+/// The variable of a node that is spelled nearly so.
 pub(crate) fn near_variable<'a>(scope: &Scope<'a>, name: &str) -> Option<&'a str> {
-    for declared in scope.declarations() {
-        if is_near(declared.name.as_str(), name) {
-            return Some(declared.name.as_str());
-        }
-    }
-    None
-}
-
-/// A name of an enumeration that is spelled nearly so.
-fn near_label<'a>(program: &'a Program, name: &str) -> Option<&'a str> {
-    for declared in program.types.as_slice() {
-        for label in declared.names.as_slice() {
-            if is_near(label.name.as_str(), name) {
-                return Some(label.name.as_str());
+    for letters in 1..FAR {
+        for declared in scope.declarations() {
+            if are_apart(declared.name.as_str(), name, letters) {
+                return Some(declared.name.as_str());
             }
         }
     }
     None
 }
 
-/// A type that is spelled nearly so.
+/// The name of an enumeration that is spelled nearly so.
+fn near_label<'a>(program: &'a Program, name: &str) -> Option<&'a str> {
+    for letters in 1..FAR {
+        for declared in program.types.as_slice() {
+            for label in declared.names.as_slice() {
+                if are_apart(label.name.as_str(), name, letters) {
+                    return Some(label.name.as_str());
+                }
+            }
+        }
+    }
+    None
+}
+
+/// The type that is spelled nearly so.
 fn near_type<'a>(program: &'a Program, name: &str) -> Option<&'a str> {
-    for declared in program.types.as_slice() {
-        if is_near(declared.name.as_str(), name) {
-            return Some(declared.name.as_str());
+    for letters in 1..FAR {
+        for built_in in ["int", "bool"] {
+            if are_apart(built_in, name, letters) {
+                return Some(built_in);
+            }
+        }
+        for declared in program.types.as_slice() {
+            if are_apart(declared.name.as_str(), name, letters) {
+                return Some(declared.name.as_str());
+            }
         }
     }
     None
 }
 
-/// A node that is spelled nearly so.
+/// The node that is spelled nearly so.
 fn near_node<'a>(program: &'a Program, name: &str) -> Option<&'a str> {
-    for node in program.nodes.as_slice() {
-        if is_near(node.name.as_str(), name) {
-            return Some(node.name.as_str());
+    for letters in 1..FAR {
+        for node in program.nodes.as_slice() {
+            if are_apart(node.name.as_str(), name, letters) {
+                return Some(node.name.as_str());
+            }
         }
     }
     None
 }
 
-/// How a name is reported that is no variable of its node, and no name of an enumeration.
+/// How a name is reported that is none of a variable, of an enumeration, of a node or of a type.
+fn said_of_unknown<'a>(
+    alloc: Global,
+    program: &'a Program,
+    scope: &Scope<'a>,
+    name: &'a str,
+) -> Result<Said, AllocError> {
+    let named = Part::Name(name);
+    let inside = Part::Name(scope.node().name.as_str());
+    if let Some(habit) = habit_of_value(name) {
+        let what = sentences::NO_VARIABLE.what;
+        return say(alloc, Wording { what, mend: habit }, &[named, inside]);
+    }
+    let near = match near_variable(scope, name) {
+        None => near_label(program, name),
+        found => found,
+    };
+    let near = Part::Near(near);
+    say(alloc, sentences::NO_VARIABLE, &[named, inside, near])
+}
+
+/// How a name is reported that is no variable of its node, where a variable stands.
 fn said_of_variable<'a>(
     alloc: Global,
     program: &'a Program,
     scope: &Scope<'a>,
     name: &'a str,
 ) -> Result<Said, AllocError> {
-    let node = scope.node().name.as_str();
-    let near = match near_variable(scope, name) {
-        None => near_label(program, name),
-        found => found,
-    };
-    say(
-        alloc,
-        sentences::NO_VARIABLE,
-        &[Part::Name(name), Part::Name(node), Part::Near(near)],
-    )
+    let named = Part::Name(name);
+    let inside = Part::Name(scope.node().name.as_str());
+    let types = program.types.as_slice();
+    if let Some(declared) = type_of_label(types, name) {
+        let of = Part::Name(declared.name.as_str());
+        return say(alloc, sentences::LABEL_NO_VARIABLE, &[named, of, inside]);
+    }
+    if let Some(node) = node_named(program, name) {
+        let count = Part::Count(node.inputs.as_slice().len(), sentences::ARGUMENT);
+        return say(alloc, sentences::NODE_NO_VARIABLE, &[named, inside, count]);
+    }
+    for declared in types {
+        if declared.name.is(name) {
+            return say(alloc, sentences::TYPE_NO_VARIABLE, &[named, inside]);
+        }
+    }
+    said_of_unknown(alloc, program, scope, name)
 }
 
 /// How a name is reported that is no name of an enumeration.
@@ -218,6 +263,20 @@ pub(crate) fn unknown_name(alloc: Global, spot: &Spot) -> Result<Said, AllocErro
     say(alloc, sentences::UNKNOWN_NAME, &[])
 }
 
+/// How a name is reported that is no type.
+fn said_of_type<'a>(
+    alloc: Global,
+    program: &'a Program,
+    name: &'a str,
+) -> Result<Said, AllocError> {
+    if let Some(habit) = habit_of_type(name) {
+        let what = sentences::NO_TYPE.what;
+        return say(alloc, Wording { what, mend: habit }, &[Part::Name(name)]);
+    }
+    let near = Part::Near(near_type(program, name));
+    say(alloc, sentences::NO_TYPE, &[Part::Name(name), near])
+}
+
 /// `E11` of a declaration: its first name that isn't known.
 pub(crate) fn unknown_declared<'a>(
     alloc: Global,
@@ -228,12 +287,7 @@ pub(crate) fn unknown_declared<'a>(
     let program = catalog.program();
     if let Some(name) = &declared.type_name {
         if catalog.type_place(name.as_str()).is_none() {
-            let near = Part::Near(near_type(program, name.as_str()));
-            return say(
-                alloc,
-                sentences::NO_TYPE,
-                &[Part::Name(name.as_str()), near],
-            );
+            return said_of_type(alloc, program, name.as_str());
         }
     }
     if let Some(clock) = &declared.clock {
@@ -247,17 +301,32 @@ pub(crate) fn unknown_declared<'a>(
     say(alloc, sentences::UNKNOWN_NAME, &[])
 }
 
+/// How a name is reported that is called and is no node.
+fn said_of_call<'a>(alloc: Global, spot: &Spot<'_, 'a>, f: &'a str) -> Result<Said, AllocError> {
+    let program = spot.catalog.program();
+    let name = Part::Name(f);
+    if let Some(declared) = type_of_label(program.types.as_slice(), f) {
+        let of = Part::Name(declared.name.as_str());
+        return say(alloc, sentences::LABEL_NO_NODE, &[name, of]);
+    }
+    if spot.scope.place(f).is_some() {
+        let node = Part::Name(spot.scope.node().name.as_str());
+        return say(alloc, sentences::VARIABLE_NO_NODE, &[name, node]);
+    }
+    if let Some(habit) = habit_of_call(f) {
+        let what = sentences::NO_NODE.what;
+        return say(alloc, Wording { what, mend: habit }, &[name]);
+    }
+    let near = Part::Near(near_node(program, f));
+    say(alloc, sentences::NO_NODE, &[name, near])
+}
+
 /// `E12`
 pub(crate) fn unknown_node(alloc: Global, spot: &Spot) -> Result<Said, AllocError> {
     for e in spot.parts {
         if let Expr::Call(f, _) = *e {
             if spot.catalog.find(f.as_str()).is_none() {
-                let near = near_node(spot.catalog.program(), f.as_str());
-                return say(
-                    alloc,
-                    sentences::NO_NODE,
-                    &[Part::Name(f.as_str()), Part::Near(near)],
-                );
+                return said_of_call(alloc, spot, f.as_str());
             }
         }
     }
@@ -379,5 +448,9 @@ pub(crate) fn no_main<'a>(
         return say(alloc, sentences::NO_NODES, &[name]);
     }
     let near = Part::Near(near_node(program, main));
-    say(alloc, sentences::NO_MAIN, &[name, Part::Nodes(nodes), near])
+    let wording = match nodes {
+        [_] => sentences::NO_OTHER_MAIN,
+        _ => sentences::NO_MAIN,
+    };
+    say(alloc, wording, &[name, Part::Nodes(nodes), near])
 }

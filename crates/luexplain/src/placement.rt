@@ -4,7 +4,7 @@ ghost use Rattle.std.specs.Prelude.{IfOk};
 ghost use Rattle.luexplain.specs.Texts.{IsExplainedSomewhere};
 
 use crate::blame::{Blamed, Holder, blamed_in};
-use crate::near::is_near;
+use crate::near::{FAR, are_apart};
 use crate::said::{Found, Said, reported_of, say, say_at};
 use crate::sentences;
 use crate::sought::{entry_in, key_in, text_behind};
@@ -49,11 +49,13 @@ fn byte_of(text: &[u8], blamed: Blamed) -> Option<usize> {
     }
 }
 
-/// A key of a placement that is spelled nearly so.
+/// The key of a placement that is spelled nearly so.
 fn near_key(key: &str) -> Option<&'static str> {
-    for known in ["version", "sites", "capacity", "default", "place"] {
-        if is_near(known, key) {
-            return Some(known);
+    for letters in 1..FAR {
+        for known in ["version", "sites", "capacity", "default", "place"] {
+            if are_apart(known, key, letters) {
+                return Some(known);
+            }
         }
     }
     None

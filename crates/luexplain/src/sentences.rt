@@ -13,7 +13,7 @@ pub(crate) struct Wording {
     pub(crate) mend: &'static str,
 }
 
-// E01 Syntax
+// E01 Syntax; what is said of words and signs of other dialects stands in `habits`
 pub(crate) const TEXT_ENDS: Wording = Wording {
     what: "The text ends here, before the program does.",
     mend: "Each node ends with `tel`, and each equation and declaration with `;`.",
@@ -67,7 +67,7 @@ pub(crate) const DUPLICATE_NAME: Wording = Wording {
 };
 
 pub(crate) const NAME_TAKEN: Wording = Wording {
-    what: "The name of the @ @ is taken: line @ declares it too.",
+    what: "@ is taken: line @ declares it too.",
     mend: OWN_NAMES,
 };
 
@@ -80,6 +80,21 @@ pub(crate) const UNKNOWN_NAME: Wording = Wording {
 pub(crate) const NO_VARIABLE: Wording = Wording {
     what: "@ is no variable of node @, and no name of an enumeration.",
     mend: "@Spell the name as it is declared, or declare it; what another node knows has to come as an argument.",
+};
+
+pub(crate) const LABEL_NO_VARIABLE: Wording = Wording {
+    what: "@ is a name of the enumeration @, and no variable of node @.",
+    mend: "Name a variable of that type; as a clock a name stands with one, as `A(x)`.",
+};
+
+pub(crate) const NODE_NO_VARIABLE: Wording = Wording {
+    what: "@ is a node, and no variable of node @.",
+    mend: "Call it, with @ in parentheses.",
+};
+
+pub(crate) const TYPE_NO_VARIABLE: Wording = Wording {
+    what: "@ is a type, and no variable of node @.",
+    mend: "Name a variable of that type.",
 };
 
 pub(crate) const NO_LABEL: Wording = Wording {
@@ -104,6 +119,16 @@ pub(crate) const UNKNOWN_NODE: Wording = Wording {
 pub(crate) const NO_NODE: Wording = Wording {
     what: "@ is no node of the program.",
     mend: CALL_A_NODE,
+};
+
+pub(crate) const LABEL_NO_NODE: Wording = Wording {
+    what: "@ is a name of the enumeration @, and no node.",
+    mend: "Compare by `x = A`; the clock `A(x)` stands behind a `when`.",
+};
+
+pub(crate) const VARIABLE_NO_NODE: Wording = Wording {
+    what: "@ is a variable of node @, and no node.",
+    mend: "A name with parentheses behind it is a call: leave them out, or put an operator or a `;` before them.",
 };
 
 // E13 TypeMismatch
@@ -131,7 +156,7 @@ pub(crate) const INT_FOR_BOOL: Wording = Wording {
 
 // E14 WrongArity
 pub(crate) const WRONG_ARITY: Wording = Wording {
-    what: "There are too many or too few.",
+    what: "A call has too many or too few arguments, or an equation too many or too few variables.",
     mend: "Give each call as many arguments as its node has inputs, and each value a variable.",
 };
 
@@ -201,6 +226,11 @@ const NAME_THE_MAIN: &str = "@Name the main node with `--main`, or call it so.";
 
 pub(crate) const NO_MAIN: Wording = Wording {
     what: "No node is called @; there are @.",
+    mend: NAME_THE_MAIN,
+};
+
+pub(crate) const NO_OTHER_MAIN: Wording = Wording {
+    what: "No node is called @; the only one is @.",
     mend: NAME_THE_MAIN,
 };
 
@@ -292,11 +322,11 @@ pub(crate) const LOCAL_CLOCK: Wording = Wording {
 };
 
 // E30 MaybeNil
-const FIRST_VALUE: &str = "Say what holds at the first instant: `0 -> pre x`, or `0 fby x`.";
+const FIRST_VALUE: &str = "Say what holds at the first instant: `@ -> pre x`, or `@ fby x`.";
 
 pub(crate) const MAYBE_NIL: Wording = Wording {
     what: "A value may be missing at the first instant, where it is needed.",
-    mend: FIRST_VALUE,
+    mend: "Say what holds at the first instant, as `0 -> pre x`, or `0 fby x`.",
 };
 
 pub(crate) const NEEDED_VALUE: Wording = Wording {
@@ -307,24 +337,22 @@ pub(crate) const NEEDED_VALUE: Wording = Wording {
 // E31 CurrentMayBeNil
 pub(crate) const CURRENT_MAY_BE_NIL: Wording = Wording {
     what: "A `current` holds a variable whose clock may be false at first.",
-    mend: "Put it on a clock whose equation begins with `true ->`.",
+    mend: "Hold it by a merge with a value to start with, or put it on a clock whose equation begins with `true ->`.",
 };
-
-const CLOCK_THAT_BEGINS: &str = "Put @ on a clock whose equation begins so, as `k = @ -> ..`.";
 
 pub(crate) const CLOCK_OF_INPUT: Wording = Wording {
     what: "@ is on @, which may be false at first: @ is an input.",
-    mend: CLOCK_THAT_BEGINS,
+    mend: "Hold it with a value to start with: `@`@. Or, where a first sample is meant, put it on a clock `k = @ -> @`.",
 };
 
 pub(crate) const CLOCK_WITHOUT_START: Wording = Wording {
     what: "@ is on @, which may be false at first: the equation of @ doesn't begin with `@ ->`.",
-    mend: CLOCK_THAT_BEGINS,
+    mend: "Hold it with a value to start with: `@`@. Or, where a first sample is meant, begin the equation of the clock so: `@ = @ -> ..`.",
 };
 
 // E40 Cycle
 const BREAK_THE_CIRCLE: &str =
-    "Put a `pre` into the circle, with a value for the first instant, as `0 -> pre x`.";
+    "Put a `pre` into the circle, with a value for the first instant, as `@ -> pre x`.";
 
 pub(crate) const CIRCLE_OF_READS: Wording = Wording {
     what: "A value can't depend on itself at one instant: @.",
@@ -333,7 +361,7 @@ pub(crate) const CIRCLE_OF_READS: Wording = Wording {
 
 pub(crate) const CIRCLE_BY_CALLS: Wording = Wording {
     what: "The value that this equation defines depends on itself at the same instant, by way of a call.",
-    mend: BREAK_THE_CIRCLE,
+    mend: "Put a `pre` into the circle, with a value for the first instant, as `0 -> pre x`.",
 };
 
 // E50 TooLarge
@@ -520,7 +548,7 @@ pub(crate) const NOT_UTF8: Wording = Wording {
 
 pub(crate) const OTHER_HEADER: Wording = Wording {
     what: "The first line isn't the header @ with a line feed at its end; it differs from here on.",
-    mend: "Write the names of the inputs in order of declaration, with `,` between them and no blanks.",
+    mend: "@Write the names of the inputs in order of declaration, with `,` between them and no blanks.",
 };
 
 // T02 BadRow
@@ -594,13 +622,16 @@ pub(crate) const OUT_OF_MEMORY: Wording = Wording {
 
 // WORDS FOR HOLES
 
-// What bears a name.
-pub(crate) const NODE: &str = "node";
+// A name that is declared, by what bears it.
+pub(crate) const NAME_OF_NODE: &str = "The name of the node @";
 
-pub(crate) const TYPE: &str = "type";
+pub(crate) const NAME_OF_TYPE: &str = "The name of the type @";
 
-pub(crate) const LABEL: &str = "name of an enumeration";
+pub(crate) const NAME_OF_LABEL: &str = "The name @ of an enumeration";
 
+pub(crate) const NAME_OF_VARIABLE: &str = "The name of the variable @";
+
+// What variables are, and what is counted of them.
 pub(crate) const VARIABLE: &str = "variable";
 
 pub(crate) const INPUT: &str = "input";
@@ -637,6 +668,11 @@ pub(crate) const INPUT_OF: &str = "the input @ of node @";
 pub(crate) const OUTPUT_OF: &str = "the output @ of node @";
 
 pub(crate) const RIGHT_SIDE: &str = "the right side";
+
+// What a variable is held by that isn't alone on the left.
+pub(crate) const HELD: [&str; 3] = ["held", "kept", "last"];
+
+pub(crate) const BY_HELD: &str = ", with @ in place of the `current`";
 
 // What needs a value at the first instant.
 pub(crate) const NEEDED_OUTPUT: &str = "the output @";

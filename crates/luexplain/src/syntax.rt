@@ -5,14 +5,18 @@ ghost use Rattle.std.specs.List.{prefix_len};
 ghost use Rattle.luexplain.specs.Explanations.{IsExplanation};
 ghost use Rattle.luexplain.specs.Syntax as spec;
 
+use crate::around::{Around, habit_around, token_of, what_stands};
 use crate::bytes::from_byte;
-use crate::place::where_in;
+use crate::place::{line_of, where_in};
 use crate::said::{Said, reported, say, whole};
 use crate::sentences;
+use crate::sentences::Wording;
 use crate::words::Part;
 use lulimits::limits::LONGEST_PROGRAM;
 use lusyn::SynError;
+use lusyn_grammar::{LexError, Lexeme, lex};
 use std::alloc::{AllocError, Global};
+use std::str;
 
 fn is_ascii(byte: u8) -> bool
     ensures { result ≡ spec.is_ascii byte }
@@ -27,54 +31,66 @@ fn first_wide(text: &[u8]) -> usize
     text.iter().take_while(|byte| is_ascii(**byte)).count()
 }
 
-fn is_word(byte: u8) -> bool {
-    byte.is_ascii_alphanumeric() || byte == b'_'
-}
-
-/// Whether a byte begins a sign.
+/// Whether a byte begins a name, a number or a sign.
 fn is_sign(byte: u8) -> bool {
     match byte {
         b'(' | b')' | b'{' | b'}' | b',' | b';' | b':' => true,
         b'=' | b'<' | b'>' | b'+' | b'-' | b'*' => true,
-        _ => false,
+        _ => byte.is_ascii_alphanumeric() || byte == b'_',
     }
 }
 
-/// The name, the keyword, the number or the sign at the front; the first byte where there is none.
-fn token_of(text: &[u8]) -> &[u8] {
-    let mut length = text.len();
-    for (i, byte) in text.iter().enumerate() {
-        if !is_word(*byte) {
-            length = i;
-            break;
-        }
+/// The tokens before a byte.
+fn tokens_before(alloc: Global, text: &[u8], byte: usize) -> Result<Vec<Lexeme<'_>>, AllocError> {
+    let past = text.get(..byte).unwrap_or(text);
+    let Ok(past) = str::from_utf8(past) else {
+        return Ok(Vec::new(alloc));
+    };
+    match lex(alloc, past) {
+        Ok(tokens) => Ok(tokens),
+        Err(LexError::OutOfMemory) => Err(AllocError),
+        Err(_) => Ok(Vec::new(alloc)),
     }
-    if length == 0 {
-        length = match text {
-            [b'<', b'>', ..] | [b'<', b'=', ..] | [b'>', b'=', ..] => 2,
-            [b'-', b'>', ..] | [b'=', b'>', ..] => 2,
-            _ => 1,
-        };
-    }
-    text.get(..length).unwrap_or(text)
+}
+
+/// What is said of a token with which no program goes on: a habit of another dialect, or else that it can't stand here.
+fn said_of_token(alloc: Global, text: &[u8], around: &Around) -> Result<Said, AllocError> {
+    let usual = match around.token {
+        [first, ..] if is_sign(*first) => sentences::MISPLACED,
+        _ => sentences::NO_TOKEN,
+    };
+    let wording = match habit_around(around) {
+        Some(habit) => Wording {
+            what: usual.what,
+            mend: habit.1,
+        },
+        None => usual,
+    };
+    say(
+        alloc,
+        wording,
+        &[
+            Part::Bytes(around.token),
+            Part::Bytes(around.before),
+            Part::Number(line_of(text, around.before_byte)),
+        ],
+    )
 }
 
 /// What is said of a byte with which no program goes on.
-fn said_of_token(alloc: Global, rest: &[u8]) -> Result<Said, AllocError> {
-    let token = Part::Bytes(token_of(rest));
-    match rest {
-        [] => say(alloc, sentences::TEXT_ENDS, &[]),
-        [first, ..] if is_word(*first) || is_sign(*first) => {
-            say(alloc, sentences::MISPLACED, &[token])
-        }
-        _ => say(alloc, sentences::NO_TOKEN, &[token]),
+fn said_of_byte(alloc: Global, text: &[u8], byte: usize) -> Result<Said, AllocError> {
+    if text.len() <= byte {
+        return say(alloc, sentences::TEXT_ENDS, &[]);
     }
+    let tokens = tokens_before(alloc, text, byte)?;
+    let around = what_stands(text, byte, tokens.as_slice());
+    said_of_token(alloc, text, &around)
 }
 
 /// What is said of a text that is no program.
 fn said_of_syntax(alloc: Global, text: &[u8], error: &SynError) -> Result<Said, AllocError> {
     match error {
-        SynError::Syntax { byte } => said_of_token(alloc, from_byte(text, *byte)),
+        SynError::Syntax { byte } => said_of_byte(alloc, text, *byte),
         SynError::NumberTooLarge { byte } => {
             let token = token_of(from_byte(text, *byte));
             say(alloc, sentences::LARGE_NUMBER, &[Part::Bytes(token)])

@@ -5,7 +5,7 @@ ghost use Rattle.luexplain.specs.Texts.{IsExplainedSomewhere};
 
 use crate::bytes::{from_byte, length_before};
 use crate::find::{node_named, type_at_place};
-use crate::near::shared_front;
+use crate::near::{FAR, are_apart, shared_front};
 use crate::said::{Found, Said, reported_of, say, say_at};
 use crate::sentences;
 use crate::words::Part;
@@ -59,6 +59,42 @@ fn header_of(alloc: Global, inputs: &[Declaration]) -> Result<String, AllocError
     Ok(header)
 }
 
+fn is_input(inputs: &[Declaration], name: &str) -> bool {
+    for input in inputs {
+        if input.name.is(name) {
+            return true;
+        }
+    }
+    false
+}
+
+/// The input that is spelled nearly as a name.
+fn nearest_input<'a>(inputs: &'a [Declaration], name: &str) -> Option<&'a str> {
+    for letters in 1..FAR {
+        for input in inputs {
+            if are_apart(input.name.as_str(), name, letters) {
+                return Some(input.name.as_str());
+            }
+        }
+    }
+    None
+}
+
+/// The input that is spelled nearly as the first name of a header that isn't one.
+fn near_input<'a>(inputs: &'a [Declaration], header: &[u8]) -> Option<&'a str> {
+    let mut rest = header;
+    for _ in 0..inputs.len() {
+        let field = front_of(rest, b',');
+        if let Ok(name) = str::from_utf8(field) {
+            if !is_input(inputs, name) {
+                return nearest_input(inputs, name);
+            }
+        }
+        rest = from_byte(rest, field.len().saturating_add(1));
+    }
+    None
+}
+
 /// `T01`
 fn bad_header(alloc: Global, text: &[u8], inputs: &[Declaration]) -> Result<Found, AllocError> {
     if let Err(e) = str::from_utf8(text) {
@@ -67,7 +103,8 @@ fn bad_header(alloc: Global, text: &[u8], inputs: &[Declaration]) -> Result<Foun
     let header = header_of(alloc, inputs)?;
     let byte = shared_front(text, header.as_bytes());
     let header = Part::Name(header.as_str());
-    say_at(alloc, byte, sentences::OTHER_HEADER, &[header])
+    let near = Part::Near(near_input(inputs, front_of(text, b'\n')));
+    say_at(alloc, byte, sentences::OTHER_HEADER, &[header, near])
 }
 
 /// `T02`

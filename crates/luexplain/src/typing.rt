@@ -54,7 +54,7 @@ fn side_part(side: Side<'_>) -> Part<'_> {
 }
 
 /// The type that an expression has if it has one, by its form.
-fn kind_of(spot: &Spot, e: &Expr) -> Option<Kind> {
+pub(crate) fn kind_of(spot: &Spot, e: &Expr) -> Option<Kind> {
     match e {
         Expr::Number(_) => Some(Kind::Int),
         Expr::Truth(_) => Some(Kind::Bool),

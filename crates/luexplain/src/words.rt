@@ -35,6 +35,8 @@ pub(crate) enum Part<'a> {
     Words(&'a str),
     /// A quoted name.
     Name(&'a str),
+    /// A name, not quoted.
+    Cut(&'a str),
     /// Words with holes for two quoted names.
     Phrase(&'a str, &'a str, &'a str),
     /// That a name that is spelled nearly so may be meant; nothing where there is none.
@@ -49,6 +51,8 @@ pub(crate) enum Part<'a> {
     Count(usize, &'a str),
     /// The name of a type of a program.
     Type(&'a Program, Kind),
+    /// A value that a variable of a type may start with.
+    Start(&'a Program, Kind),
     /// A clock, and what is reported of it.
     Clock(ClockRef<'a>, ClockWording),
     /// Names with commas between them; of many the first alone, and how many more there are.
@@ -209,6 +213,25 @@ fn put_type(text: &mut String, program: &Program, kind: Kind) -> Result<(), Allo
     }
 }
 
+/// A value that a variable of a type may start with: 0, `false`, or the first name of its enumeration.
+pub(crate) fn put_start(
+    text: &mut String,
+    program: &Program,
+    kind: Kind,
+) -> Result<(), AllocError> {
+    match kind {
+        Kind::Int => text.push('0'),
+        Kind::Bool => text.push_str("false"),
+        Kind::Enum(place, _) => match type_at_place(program, place) {
+            Some(declared) => match declared.names.as_slice() {
+                [first, ..] => put_cut(text, first.name.as_str()),
+                [] => text.push('0'),
+            },
+            None => text.push('0'),
+        },
+    }
+}
+
 /// What is reported of the clock with this variable and this pattern.
 fn put_on_clock(
     text: &mut String,
@@ -247,12 +270,14 @@ fn put_one(text: &mut String, alloc: Global, part: Part) -> Result<(), AllocErro
     match part {
         Part::Words(words) => text.push_str(words),
         Part::Name(name) => put_quoted(text, name.as_bytes()),
+        Part::Cut(name) => put_cut(text, name),
         Part::Phrase(words, first, second) => put_phrase(text, words, first, second),
         Part::Near(None) => Ok(()),
         Part::Near(Some(name)) => put_phrase(text, sentences::NEAR, name, ""),
         Part::Bytes(bytes) => put_quoted(text, bytes),
         Part::Value(e) => put_value(text, alloc, e),
         Part::Type(program, kind) => put_type(text, program, kind),
+        Part::Start(program, kind) => put_start(text, program, kind),
         Part::Clock(ClockRef::Base, _) => text.push_str("the base clock"),
         Part::Clock(ClockRef::On(name, sign), reported) => put_on_clock(text, name, sign, reported),
         _ => Ok(()),

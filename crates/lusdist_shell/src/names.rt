@@ -7,10 +7,10 @@ ghost use Rattle.lusdist_shell.specs.Pages.{text_among, names};
 pub const E10: &str = "E10 DuplicateName
 
 No two nodes have one name, and no two variables of a node, be they inputs,
-outputs or locals. No two types have one name, no two names of enumerations are
-equal, also in two types, and no variable has the name of an enumeration's
-name. BYTE is the later one of the two names, and the variable's where that is
-one of them.
+outputs or locals. No two types have one name. No two names of enumerations are
+equal, not in two types either, and no variable is called like one of them.
+BYTE is the later one of the two names; of a variable and a name of an
+enumeration it is the variable.
 
 A file `p.lus`:
 

@@ -50,8 +50,26 @@ A file `p.lus`:
     $ lusdist check p.lus
     E31 CurrentMayBeNil at 82
 
-`c` is an input, which may be false at first. Sample by a local that begins
-with true:
+`c` is an input, which may be false at first. Hold `s` by a merge, with a value
+to start with:
+
+    node main(x: int; c: bool) returns (y: int); var s: int when c; let s = x when c; y = merge c (true -> s) (false -> (0 fby y) when not c); tel
+
+    $ lusdist check p.lus
+    node main(x: int; c: bool) returns (y: int);
+    var s: int when c;
+    let
+      s = x when c;
+      y = merge c (true -> s) (false -> (0 fby y) when not c);
+    tel
+
+So `y` is 0 until `c` is true, and from then on the last value of `s`. The
+parentheses matter: `0 -> pre y when not c` is read as `0 -> pre (y when not
+c)`, which looks back at `y` only where `c` was false. It is accepted too, and
+`y` falls back to 0 there.
+
+Where a sample is meant at the first instant, whatever `c` is, take it by a
+local that begins with true:
 
     node main(x: int; c: bool) returns (y: int); var k: bool; s: int when k; let k = true -> c; s = x when k; y = current s; tel
 

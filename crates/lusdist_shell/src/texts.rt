@@ -32,6 +32,53 @@ stand in it. Put the `;` at the end of the equation:
     let
       pump = level < 20;
     tel
+
+Coming from Lustre V4, V6 or SCADE
+
+A program of another dialect, or of C, is mostly refused at the first sign or
+word that is written in another way here, and `--explain` says how where it
+stands. What is written there, and what is written here:
+
+    there                             here
+    `(* .. *)`, `/* .. */`, `//`      `--` to the end of the line
+    `x / y`, `x % y`                  `x div y`, `x mod y`
+    `a && b`, `a || b`, `!a`          `a and b`, `a or b`, `not a`
+    `x == y`, `x != y`, `x =< y`      `x = y`, `x <> y`, `x <= y`
+    `c ? x : y`                       `if c then x else y`
+    `x := y;`                         `x = y;`
+    `#(a, b)`, `nor(a, b)`            `not (a and b)`, `not (a or b)`
+    `xor(a, b)`                       `a xor b`
+    `a < b < c`                       `a < b and b < c`
+    `True`, `IF`                      `true`, `if`
+    `y, z = f(x);`                    `(y, z) = f(x);`
+    `(y, z) = (a, b);`                an equation for each
+    `.. elsif c then ..`              `.. else if c then ..`
+    `case x of | A : y ..`            `merge x (A -> y) ..`
+    `current(q)`                      `current q`
+    `x when (x > 3)`                  `x when c`, with `c = x > 3;`
+    `x when true(c)`                  `x when c`
+    `merge(c; x; y)`                  `merge c (true -> x) (false -> y)`
+    `last x`, `fby(x; 1; 0)`          `0 -> pre x`, `0 fby x`
+    `f(x: int, y: int)`               `f(x: int; y: int)`
+    `f(int x)`                        `f(x: int)`
+    `tel.`                            `tel`
+    `boolean`, `integer`, `int32`     `bool`, `int`, which has 64 bits
+    `0.5`, `real`, `float`            an `int` in a finer unit, as thousandths
+    `x[0]`, `x^3`, `int^3`            a variable for each element
+    `s.a`, `struct`                   a variable for each field
+    `type t = int;`, `type t;`        `int` itself; a type is an enumeration
+    `const n = 3;`                    the number, or a node without inputs
+    `function f`                      `node f`
+    `f<<3>>(x)`                       a node for each value
+    `assert`, `assume`, `guarantee`   an output that is true where it holds
+    `automaton`                       an enumeration of the states
+    `extern`, `imported`, `unsafe`    an input of the main node
+    `package`, `open`, `include`      all nodes in one file
+
+Each equation and each declaration ends with `;`, and each `if` has an `else`,
+since there is a value at every instant. No node is built in. A type of another
+dialect (`real`) is told by `E11`, and so is `True`, which is read as a
+variable; a call of what is built in there (`nor`) by `E12`.
 ";
 
 /// The page of `E02 NumberTooLarge`.
