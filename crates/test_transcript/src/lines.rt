@@ -7,6 +7,7 @@ use crate::links::put_passed;
 use crate::parties::put_driven;
 use crate::runs::{put_outputs, put_run};
 use crate::schedules::all_agree_in_ring;
+use crate::worlds::put_left;
 use luplace::Job;
 use lurun::collect;
 use lusdist_shell::Files;
@@ -35,6 +36,7 @@ fn put_of_job<R: Threads + Wait + Clock + Sync>(
     match word(line, 0) {
         "collect" => put_outputs(rt, job, collect(rt.alloc(), Vec::new(rt.alloc()))),
         "drive" => put_driven(threads, rt, job, line),
+        "left" => put_left(rt, job, line),
         "rows" => put_rows(threads, rt, job, line),
         _ => put_run(threads, rt, job, line),
     }

@@ -11,20 +11,23 @@ mod gates;
 mod jobs;
 mod lines;
 mod links;
+mod meeting;
 mod paper;
 mod parties;
 mod printing;
 mod runs;
 mod schedules;
 mod tries;
+mod worlds;
 
 use crate::folder::Folder;
 use crate::lines::put_line;
+use crate::meeting::{Meeting, put_meeting};
 use crate::paper::Paper;
 use crate::printing::put_printed;
 use crate::tries::{put_tried, words_of};
 use lusdist_answers::serve;
-use lusdist_shell::{Dump, Files, ReadError, RealFiles, Silent, Sink};
+use lusdist_shell::{Dump, Files, Progress, ReadError, RealFiles, Silent, Sink};
 use std::alloc::{AllocError, Global};
 use std::io;
 use std::io::Write;
@@ -152,12 +155,13 @@ fn put_reported(
 
 /// Writes what a command answers: its output, behind `! ` what went to the error stream, and behind `= ` its status. Where `is_full`
 /// says so, its output takes nothing.
-fn put_answer<R: Threads + Wait + Clock + Sync>(
+fn put_answer<R: Threads + Wait + Clock + Sync, P: Progress>(
     threads: &R,
     rt: &HostRuntime,
     case: &Case<'_>,
     line: &str,
     is_full: bool,
+    progress: &P,
 ) -> io::Result<()> {
     let words = words_of(rt.alloc(), line)?;
     let mut out = Sink::new(Paper::new(rt.alloc(), is_full));
@@ -172,7 +176,7 @@ fn put_answer<R: Threads + Wait + Clock + Sync>(
         &words,
         case,
         &mut folder,
-        &Silent,
+        progress,
         &mut out,
         &mut err,
     );
@@ -183,6 +187,18 @@ fn put_answer<R: Threads + Wait + Clock + Sync>(
         err.writer(),
         status,
     )
+}
+
+/// Writes what a command answers, and whether the threads of two of its sites met in its progress.
+fn put_met<R: Threads + Wait + Clock + Sync>(
+    threads: &R,
+    rt: &HostRuntime,
+    case: &Case<'_>,
+    line: &str,
+) -> io::Result<()> {
+    let meeting = Meeting::new();
+    put_answer(threads, rt, case, line, false, &meeting)?;
+    put_meeting(rt, &meeting)
 }
 
 /// Does what a line says.
@@ -201,7 +217,8 @@ fn take_line<R: Threads + Wait + Sync + Clock + Print>(
         }
         "file" => Ok(add_file(rt.alloc(), case, name, text)?),
         "more" => Ok(add_more(rt.alloc(), case, name.parse().unwrap_or(0), text)?),
-        "$" | "%" => put_answer(threads, rt, case, rest, mark == "%"),
+        "$" | "%" => put_answer(threads, rt, case, rest, mark == "%", &Silent),
+        "^" => put_met(threads, rt, case, rest),
         "@" => put_tried(threads, rt, case, text, name.parse().unwrap_or(0)),
         "~" => put_printed(rt, case, rest),
         "&" => put_line(threads, rt, case, rest),
