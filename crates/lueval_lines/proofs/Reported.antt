@@ -69,9 +69,16 @@ even n (c ∷ cs) long some =
     let first : length c.statuses ≡ n = All-head (λ c. length c.statuses ≡ n) c cs long in
     subst (λ m. All (λ (x : OutputColumn). length x.statuses ≡ m) (c ∷ cs)) (sym first) long
 
+has_columns : (cs : List OutputColumn) → AreOutputs cs → 0 < length cs
+has_columns [] are = absurd are
+has_columns (c ∷ cs) are = omega arith
+
 -- streams of one length are outputs, where there is one
 pub are_outputs : (n : ℕ) (xs : List Variable) (ss : List (List Status)) → Pairs xs ss → All (λ s. length s ≡ n) ss → 0 < length (outputs_of xs) → AreOutputs (outputs_in xs ss)
 are_outputs n xs ss pairs long some = even n (outputs_in xs ss) (long_all n xs ss long) (let c = count xs ss pairs in omega (arith, c, some))
+
+pub has_outputs : (xs : List Variable) (ss : List (List Status)) → Pairs xs ss → AreOutputs (outputs_in xs ss) → 0 < length (outputs_of xs)
+has_outputs xs ss pairs are = let c = count xs ss pairs in let n = has_columns (outputs_in xs ss) are in omega (arith, c, n)
 
 -- lengths of columns are lengths of their lists
 pub lists_long : (n : ℕ) (cs : List Column) → All (λ (x : Column). length x.items ≡ n) cs → All (λ s. length s ≡ n) (lists_of cs)

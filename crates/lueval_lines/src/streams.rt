@@ -1,10 +1,11 @@
 //! The streams of a program's main variables.
 
-ghost use Rattle.std.specs.Prelude.{◌≡◌, ◌<◌, All, IfOk, length, slice_get, slice_index, Some};
-ghost use Rattle.lueval_lines.specs.Outputs.{columns_in};
+ghost use Rattle.std.specs.Prelude.{◌≡◌, ◌<◌, ◌↔◌, All, IfOk, IfSome, IsSome, length, slice_get, slice_index, Some};
+ghost use Rattle.luflow.specs.Variables.{outputs_of};
+ghost use Rattle.lueval_lines.specs.Outputs.{columns_in, outputs_in};
 ghost use Rattle.lueval_lines.specs.Columns.{lists_of};
 
-use crate::outputs::taken_columns;
+use crate::outputs::{taken_columns, taken_outputs};
 use luflow::{Flat, Outputs, Status};
 use std::alloc::{AllocError, Global};
 use std::marker::Model;
@@ -58,11 +59,31 @@ impl Streams {
         self.columns[variable].as_slice()
     }
 
+    /// The main outputs of the program, by name, in order of declaration, each with its stream, of which none is copied. None exactly
+    /// where the program has no output.
+    ///
+    /// # Errors
+    ///
+    /// `AllocError` where memory ran out. The streams are gone then.
+    pub fn outputs(self, alloc: Global, flat: &Flat) -> Result<Option<Outputs>, AllocError>
+        requires { length self ≡ length flat.now.variables }
+        ensures outputs { IfOk result
+            (λ o. IfSome o (λ outputs. outputs ≡ outputs_in flat.now.variables self)) }
+        ensures when { IfOk result (λ o. IsSome o ↔ (0 < length (outputs_of flat.now.variables))) }
+    {
+        let Self {
+            instants: _,
+            columns,
+        } = self;
+        let outputs = taken_outputs(alloc, flat.variables(), columns)?;
+        Ok(Outputs::new(outputs))
+    }
+
     /// All main variables of the program, by name, in order of declaration, each with its stream, of which none is copied.
     ///
     /// # Errors
     ///
-    /// `AllocError` where memory ran out.
+    /// `AllocError` where memory ran out. The streams are gone then.
     pub fn into_columns(self, alloc: Global, flat: &Flat) -> Result<Outputs, AllocError>
         requires count { length self ≡ length flat.now.variables }
         requires some { 0 < length flat.now.variables }

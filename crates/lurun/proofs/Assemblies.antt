@@ -1,5 +1,5 @@
 -- The stations of a job as they are made: one link more.
-use Rattle.std.proofs.Common.{◌≡◌, ◌≢◌, ℕ, zero, suc, ◌+◌, ◌<◌, Bool, cond, nat_eq, List, [], ◌∷◌, ◌++◌, length, map, filter, flat_map, set, Option, Some, inl, inr, refl, sym, ap, ap₂, ◌∙◌, subst, arith, append-nil}
+use Rattle.std.proofs.Common.{◌≡◌, ◌≢◌, ℕ, zero, suc, ◌+◌, ◌<◌, Bool, cond, nat_eq, List, [], ◌∷◌, ◌++◌, length, map, filter, flat_map, set, Option, Some, inl, inr, refl, sym, ap, ap₂, ◌∙◌, subst, arith, append-nil, length-append}
 use Rattle.std.specs.Prelude.{slice_get, slice_set, unwrap_or}
 use Rattle.std.specs.List.{range_with_len}
 use Rattle.std.specs.Option.{option_map}
@@ -12,9 +12,10 @@ use Rattle.luworld.specs.Needs.{PlanView, sites_of, home, IsPlan, links_of_varia
 use Rattle.luworld.specs.Jobs.{JobView, IsCoherent}
 use Rattle.lusite_program.proofs.Written.{slice_get-set_same, slice_get-set_other}
 use Rattle.lusite_program.proofs.Ranges.{filter_more}
-use Rattle.lulink.specs.Views.{SenderView, ReceiverView}
+use Rattle.atomic_table.specs.Seated.{TableId}
+use Rattle.lulink.specs.Views.{SenderView, ReceiverView, AreOfOneRing}
 use Rattle.lurun.specs.declared.making.Assembly.{Assembly}
-use Rattle.lurun_threads.specs.Stations.{sender_at, receiver_at, sent_below, taken_below, sent_links, taken_links, IsUnusedSender, IsUnusedReceiver, IsNewStation}
+use Rattle.lurun_threads.specs.Stations.{sender_at, receiver_at, sent_below, taken_below, sent_links, taken_links, IsUnusedSender, IsUnusedReceiver, IsNewStation, IsLinkedBy, AreEndsOf}
 use Rattle.lurun.specs.Making.{IsAssembly, AreAssemblies, IsSenderAdded, IsReceiverAdded}
 use Rattle.lurun_threads.proofs.Acts.{same_Some}
 
@@ -23,6 +24,25 @@ pushed P [] y here each zero x e = subst P (same_Some y x e) here
 pushed P [] y here each (suc k) x e = absurd cc
 pushed P (z ∷ xs) y here each zero x e = each zero x e
 pushed P (z ∷ xs) y here each (suc k) x e = pushed P xs y here (λ j w h. each (suc j) w h) k x e
+
+behind : {X : Type 0} (xs : List X) (y : X) → slice_get (xs ++ y ∷ []) (length xs) ≡ Some y
+behind [] y = refl
+behind (x ∷ xs) y = behind xs y
+
+ahead : {X : Type 0} (xs : List X) (y : X) (k : ℕ) (x : X) → slice_get xs k ≡ Some x → slice_get (xs ++ y ∷ []) k ≡ Some x
+ahead [] y k x e = absurd cc
+ahead (z ∷ xs) y zero x e = e
+ahead (z ∷ xs) y (suc k) x e = ahead xs y k x e
+
+-- ends by rings are ends by those and one more
+one_more : (rings : List TableId) (ring : TableId) (capacity : ℕ) (txs : List SenderView) (rxs : List ReceiverView) → AreEndsOf rings capacity txs rxs → AreEndsOf (rings ++ ring ∷ []) capacity txs rxs
+one_more rings ring capacity txs rxs are = record {
+  senders = λ k t e. (let x = are.senders k t e in (ahead rings ring t.link t.ring x.0, x.1));
+  receivers = λ k t e. (let x = are.receivers k t e in (ahead rings ring t.link t.ring x.0, x.1));
+}
+
+pub no_ends : (rings : List TableId) (capacity : ℕ) → AreEndsOf rings capacity [] []
+no_ends rings capacity = record { senders = λ k t e. absurd cc; receivers = λ k t e. absurd cc }
 
 -- a numbered fact of each element, where one is another now
 one_set : {A : Type 0} (P Q : ℕ → A → Type 0) (xs : List A) (i : ℕ) (x y : A) → slice_get xs i ≡ Some x → Q i y → ((s : ℕ) (z : A) → s ≢ i → P s z → Q s z) → ((s : ℕ) (z : A) → slice_get xs s ≡ Some z → P s z)
@@ -34,7 +54,10 @@ one_set P Q xs i x y here new other each s z e = elim (cases_eq s i) [
   | inr ne ↦ other s z ne (each s z (sym (slice_get-set_other xs i s y ne) ∙ e))
 ]
 
-module _ (job : JobView) (l : ℕ) where
+module _ (job : JobView) (l : ℕ) (rings : List TableId) (ring : TableId) where
+  abbrev more : List TableId
+  more = rings ++ ring ∷ []
+
   -- site s has the sender's end of link l too, if it is its own
   record Half (s : ℕ) (b : Assembly) : Type 0 where
     pub job_is : b.site.job ≡ job
@@ -44,6 +67,7 @@ module _ (job : JobView) (l : ℕ) where
     pub taken : taken_links b.rxs.items ≡ taken_below job.plan s l
     pub senders : (k : ℕ) (t : SenderView) → slice_get b.txs.items k ≡ Some t → IsUnusedSender job t
     pub receivers : (k : ℕ) (t : ReceiverView) → slice_get b.rxs.items k ≡ Some t → IsUnusedReceiver job t
+    pub linked : AreEndsOf more job.plan.capacity b.txs.items b.rxs.items
 
   sent_here : (s : ℕ) → sender_at job.plan l ≡ s → sent_below job.plan s (l + 1) ≡ sent_below job.plan s l ++ l ∷ []
   sent_here s e = filter_more (λ n. nat_eq (sender_at job.plan n) s) l ∙ ap (λ (b : Bool). sent_below job.plan s l ++ cond b (l ∷ []) []) (eq-eqb (sender_at job.plan l) s e)
@@ -57,25 +81,31 @@ module _ (job : JobView) (l : ℕ) where
   taken_there : (s : ℕ) → s ≢ receiver_at job.plan l → taken_below job.plan s (l + 1) ≡ taken_below job.plan s l
   taken_there s ne = filter_more (λ n. nat_eq (receiver_at job.plan n) s) l ∙ ap (λ (b : Bool). taken_below job.plan s l ++ cond b (l ∷ []) []) (ne_eqb (receiver_at job.plan l) s (λ e. ne (sym e))) ∙ append-nil (taken_below job.plan s l)
 
-  half_other : (s : ℕ) (b : Assembly) → s ≢ sender_at job.plan l → IsAssembly job l s b → Half s b
-  half_other s b ne is = record { job_is = is.job_is; site_is = is.site_is; new = is.new; sent = is.sent ∙ sym (sent_there s ne); taken = is.taken; senders = is.senders; receivers = is.receivers }
+  half_other : (s : ℕ) (b : Assembly) → s ≢ sender_at job.plan l → IsAssembly job rings l s b → Half s b
+  half_other s b ne is = record { job_is = is.job_is; site_is = is.site_is; new = is.new; sent = is.sent ∙ sym (sent_there s ne); taken = is.taken; senders = is.senders; receivers = is.receivers; linked = one_more rings ring job.plan.capacity b.txs.items b.rxs.items is.linked }
 
-  whole_other : (s : ℕ) (b : Assembly) → s ≢ receiver_at job.plan l → Half s b → IsAssembly job (l + 1) s b
-  whole_other s b ne is = record { job_is = is.job_is; site_is = is.site_is; new = is.new; sent = is.sent; taken = is.taken ∙ sym (taken_there s ne); senders = is.senders; receivers = is.receivers }
+  whole_other : (s : ℕ) (b : Assembly) → s ≢ receiver_at job.plan l → Half s b → IsAssembly job more (l + 1) s b
+  whole_other s b ne is = record { job_is = is.job_is; site_is = is.site_is; new = is.new; sent = is.sent; taken = is.taken ∙ sym (taken_there s ne); senders = is.senders; receivers = is.receivers; linked = is.linked }
 
-  module _ (assemblies half whole : List Assembly) (are : AreAssemblies job l assemblies) (tx : SenderView) (rx : ReceiverView) (tx_job : tx.job ≡ job) (tx_link : tx.link ≡ l) (tx_put : tx.put ≡ []) (rx_job : rx.job ≡ job) (rx_link : rx.link ≡ l) (rx_taken : rx.taken ≡ [])
+  module _ (assemblies half whole : List Assembly) (len : length assemblies ≡ sites_of job.plan) (links : length rings ≡ l) (each : (s : ℕ) (b : Assembly) → slice_get assemblies s ≡ Some b → IsAssembly job rings l s b)
+      (tx : SenderView) (rx : ReceiverView) (tx_job : tx.job ≡ job) (tx_link : tx.link ≡ l) (tx_put : tx.put ≡ []) (rx_job : rx.job ≡ job) (rx_link : rx.link ≡ l) (rx_taken : rx.taken ≡ [])
+      (tx_ring : tx.ring ≡ ring) (rx_ring : rx.ring ≡ ring) (tx_capacity : tx.capacity ≡ job.plan.capacity) (rx_capacity : rx.capacity ≡ job.plan.capacity)
       (ls : sender_at job.plan l < length assemblies) (lr : receiver_at job.plan l < length assemblies)
       (first : (b : Assembly) → slice_get assemblies (sender_at job.plan l) ≡ Some b → IsSenderAdded assemblies (sender_at job.plan l) b tx half)
       (second : (b : Assembly) → slice_get half (receiver_at job.plan l) ≡ Some b → IsReceiverAdded half (receiver_at job.plan l) b rx whole) where
     half_len : length half ≡ length assemblies
     half_len = let w = some_at assemblies (sender_at job.plan l) ls in let a = first w.0 w.1 in ap length a.is ∙ length-set assemblies (sender_at job.plan l) a.assembly
 
+    linked_here : (link : ℕ) (of : TableId) (capacity : ℕ) → link ≡ l → of ≡ ring → capacity ≡ job.plan.capacity → IsLinkedBy more job.plan.capacity link of capacity
+    linked_here link of capacity el eo ec = (ap (slice_get more) (el ∙ sym links) ∙ behind rings ring ∙ ap Some (sym eo), ec)
+
     half_each : (s : ℕ) (b : Assembly) → slice_get half s ≡ Some b → Half s b
     half_each s b e =
         let i = sender_at job.plan l in
         let w = some_at assemblies i ls in
         let a = first w.0 w.1 in
-        let old = are.each i w.0 w.1 in
+        let old = each i w.0 w.1 in
+        let wide = one_more rings ring job.plan.capacity w.0.txs.items w.0.rxs.items old.linked in
         let new : Half i a.assembly = record {
           job_is = ap (λ v. v.job) a.site ∙ old.job_is;
           site_is = ap (λ v. v.site) a.site ∙ old.site_is;
@@ -84,8 +114,12 @@ module _ (job : JobView) (l : ℕ) where
           taken = ap (λ v. taken_links v.items) a.rxs ∙ old.taken;
           senders = λ k t h. pushed (IsUnusedSender job) w.0.txs.items tx (record { job_is = tx_job; unused = tx_put }) old.senders k t (ap (λ ts. slice_get ts k) (sym a.txs) ∙ h);
           receivers = λ k t h. old.receivers k t (ap (λ v. slice_get v.items k) (sym a.rxs) ∙ h);
+          linked = record {
+            senders = λ k t h. pushed (λ (u : SenderView). IsLinkedBy more job.plan.capacity u.link u.ring u.capacity) w.0.txs.items tx (linked_here tx.link tx.ring tx.capacity tx_link tx_ring tx_capacity) wide.senders k t (ap (λ ts. slice_get ts k) (sym a.txs) ∙ h);
+            receivers = λ k t h. wide.receivers k t (ap (λ v. slice_get v.items k) (sym a.rxs) ∙ h);
+          };
         } in
-        one_set (IsAssembly job l) Half assemblies i w.0 a.assembly w.1 new half_other are.each s b (ap (λ bs. slice_get bs s) (sym a.is) ∙ e)
+        one_set (IsAssembly job rings l) Half assemblies i w.0 a.assembly w.1 new half_other each s b (ap (λ bs. slice_get bs s) (sym a.is) ∙ e)
 
     lr' : receiver_at job.plan l < length half
     lr' = omega (arith, lr, half_len)
@@ -96,7 +130,7 @@ module _ (job : JobView) (l : ℕ) where
         let w = some_at half i lr' in
         let a = second w.0 w.1 in
         let old = half_each i w.0 w.1 in
-        let new : IsAssembly job (l + 1) i a.assembly = record {
+        let new : IsAssembly job more (l + 1) i a.assembly = record {
           job_is = ap (λ v. v.job) a.site ∙ old.job_is;
           site_is = ap (λ v. v.site) a.site ∙ old.site_is;
           new = ap (λ v. v.done) a.site ∙ old.new;
@@ -104,17 +138,23 @@ module _ (job : JobView) (l : ℕ) where
           taken = ap taken_links a.rxs ∙ map-append (λ (t : ReceiverView). t.link) w.0.rxs.items (rx ∷ []) ∙ ap₂ (λ (xs : List ℕ) (n : ℕ). xs ++ n ∷ []) old.taken rx_link ∙ sym (taken_here i refl);
           senders = λ k t h. old.senders k t (ap (λ v. slice_get v.items k) (sym a.txs) ∙ h);
           receivers = λ k t h. pushed (IsUnusedReceiver job) w.0.rxs.items rx (record { job_is = rx_job; unused = rx_taken }) old.receivers k t (ap (λ ts. slice_get ts k) (sym a.rxs) ∙ h);
+          linked = record {
+            senders = λ k t h. old.linked.senders k t (ap (λ v. slice_get v.items k) (sym a.txs) ∙ h);
+            receivers = λ k t h. pushed (λ (u : ReceiverView). IsLinkedBy more job.plan.capacity u.link u.ring u.capacity) w.0.rxs.items rx (linked_here rx.link rx.ring rx.capacity rx_link rx_ring rx_capacity) old.linked.receivers k t (ap (λ ts. slice_get ts k) (sym a.rxs) ∙ h);
+          };
         } in
         record {
-          len = ap length a.is ∙ length-set half i a.assembly ∙ half_len ∙ are.len;
-          each = λ s b e. one_set Half (IsAssembly job (l + 1)) half i w.0 a.assembly w.1 new whole_other half_each s b (ap (λ bs. slice_get bs s) (sym a.is) ∙ e);
+          len = ap length a.is ∙ length-set half i a.assembly ∙ half_len ∙ len;
+          rings = more;
+          links = (let n = length-append rings (ring ∷ []) in omega (arith, n, links));
+          each = λ s b e. one_set Half (IsAssembly job more (l + 1)) half i w.0 a.assembly w.1 new whole_other half_each s b (ap (λ bs. slice_get bs s) (sym a.is) ∙ e);
         }
 
 pub link_added : (job : JobView) (l i j : ℕ) (assemblies half whole : List Assembly) → AreAssemblies job l assemblies → (tx : SenderView) (rx : ReceiverView) → (tx.job ≡ job) × (tx.link ≡ l) × (tx.put ≡ []) → (rx.job ≡ job) × (rx.link ≡ l) × (rx.taken ≡ [])
-    → i ≡ sender_at job.plan l → j ≡ receiver_at job.plan l → i < sites_of job.plan → j < sites_of job.plan
+    → AreOfOneRing tx rx → (tx.capacity ≡ job.plan.capacity) × (rx.capacity ≡ job.plan.capacity) → i ≡ sender_at job.plan l → j ≡ receiver_at job.plan l → i < sites_of job.plan → j < sites_of job.plan
     → ((b : Assembly) → slice_get assemblies i ≡ Some b → IsSenderAdded assemblies i b tx half) → ((b : Assembly) → slice_get half j ≡ Some b → IsReceiverAdded half j b rx whole) → AreAssemblies job (l + 1) whole
-link_added job l i j assemblies half whole are tx rx t r ei ej li lj first second =
-    whole_are job l assemblies half whole are tx rx t.0 t.1 t.2 r.0 r.1 r.2
+link_added job l i j assemblies half whole are tx rx t r one room ei ej li lj first second =
+    whole_are job l are.rings tx.ring assemblies half whole are.len are.links are.each tx rx t.0 t.1 t.2 r.0 r.1 r.2 refl (sym one.0) room.0 room.1
     (let n = are.len in omega (arith, li, ei, n)) (let n = are.len in omega (arith, lj, ej, n))
     (subst (λ (n : ℕ). (b : Assembly) → slice_get assemblies n ≡ Some b → IsSenderAdded assemblies n b tx half) ei first)
     (subst (λ (n : ℕ). (b : Assembly) → slice_get half n ≡ Some b → IsReceiverAdded half n b rx whole) ej second)
@@ -150,8 +190,8 @@ pub to_inside : (plan : PlanView) → IsCoherent plan → (l : ℕ) (k : Link) �
 to_inside plan fits l k e = subst (λ (o : Option Link). unwrap_or (option_map (λ (x : Link). x.to) o) 0 < sites_of plan) e (fits.receivers l)
 
 -- an assembly with the ends of all links is a new station
-pub new_station : (job : JobView) (s : ℕ) (b : Assembly) → IsAssembly job (length job.plan.links) s b → IsNewStation b.site b.txs.items b.rxs.items
-new_station job s b is = record {
+pub new_station : (job : JobView) (rings : List TableId) (s : ℕ) (b : Assembly) → IsAssembly job rings (length job.plan.links) s b → IsNewStation b.site b.txs.items b.rxs.items
+new_station job rings s b is = record {
   new = is.new;
   sent = is.sent ∙ ap₂ (λ (j : JobView) (n : ℕ). sent_below j.plan n (length j.plan.links)) (sym is.job_is) (sym is.site_is);
   taken = is.taken ∙ ap₂ (λ (j : JobView) (n : ℕ). taken_below j.plan n (length j.plan.links)) (sym is.job_is) (sym is.site_is);

@@ -1,3 +1,4 @@
 mod Rearranged
 mod Answers
 mod Assemblies
+mod Made

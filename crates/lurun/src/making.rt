@@ -1,6 +1,6 @@
 //! The stations of a job.
 
-ghost use Rattle.std.specs.Prelude.{◌≡◌, ◌<◌, ◌≤◌, ◌+◌, IfOk, OnOk, length, slice_get, Some};
+ghost use Rattle.std.specs.Prelude.{◌≡◌, ◌<◌, ◌≤◌, ◌+◌, IfOk, OnOk, [], length, slice_get, Some};
 ghost use Rattle.luworld.specs.Needs.{sites_of};
 ghost use Rattle.lurun.specs.declared.making.Assembly.{Assembly};
 ghost use Rattle.lurun_reports.specs.Reports.{AreComplete};
@@ -24,7 +24,7 @@ pub struct Assembly {
 
 fn new_assembly(alloc: Global, job: &Job, site: u8) -> Result<Assembly, AllocError>
     requires { site < sites_of job.now.plan }
-    ensures { IfOk result (IsAssembly job.now 0 site) }
+    ensures { IfOk result (IsAssembly job.now [] 0 site) }
 {
     let inputs = job.inputs_at(alloc, site)?;
     let program = project(alloc, job.plan(), site)?;

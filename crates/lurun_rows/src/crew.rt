@@ -1,10 +1,10 @@
 //! A few workers for all stations.
 
-ghost use Rattle.std.specs.Prelude.{◌≡◌, ◌≤◌, ◌<◌, ◌+◌, ◌++◌, ◌∷◌, ◌⊎◌, true, IfOk, IfErr, OnOk, All, length, vec_len, vec_capacity};
+ghost use Rattle.std.specs.Prelude.{◌≡◌, ◌≤◌, ◌<◌, ◌+◌, ◌++◌, ◌∷◌, ◌⊎◌, true, IfOk, IfErr, OnOk, All, [], filter, length, map, vec_len, vec_capacity};
 ghost use Rattle.std.specs.List.Sorted.{IsPermutation};
 ghost use Rattle.lurun_reports.specs.declared.error.RunError.TheVariants.{NoThread, OutOfMemory};
 ghost use Rattle.lurun_rows.specs.Rows.{AreReportsOf};
-ghost use Rattle.lurun_rows.specs.Crew.{IsNewRowShare, dealt, held};
+ghost use Rattle.lurun_rows.specs.Crew.{AreDealt, AreShares, IsDealtTo, IsNewRowShare, dealt, has_station, held};
 ghost use Rattle.lurun_rows.specs.RowShares.{promised};
 
 use crate::served::{RowShare, ServedRows, serve, served_of};
@@ -62,6 +62,7 @@ fn deal_to(
     requires { to < vec_len shares.old }
     ensures one { OnOk result
         (IsPermutation (served ∷ dealt shares.old.items) (dealt shares.new.items)) }
+    ensures to { OnOk result (IsDealtTo shares.old.items to served shares.new.items) }
     ensures len { vec_len shares.new ≡ vec_len shares.old }
 {
     let share = &mut shares[to];
@@ -72,6 +73,7 @@ fn deal_to(
 /// So many empty shares.
 fn no_shares(alloc: Global, count: usize) -> Result<Vec<Vec<ServedRows>>, AllocError>
     ensures none { IfOk result (λ shares. length (dealt shares.items) ≡ 0) }
+    ensures empty { IfOk result (λ shares. All (λ s. s.items ≡ []) shares.items) }
     ensures len { IfOk result (λ shares. vec_len shares ≡ count) }
 {
     let mut shares = Vec::with_capacity(alloc, count)?;
@@ -88,7 +90,9 @@ fn deal(
     workers: u8,
 ) -> Result<Vec<Vec<ServedRows>>, AllocError>
     requires { 0 < workers }
-    ensures { IfOk result (λ shares. IsPermutation stations.items (dealt shares.items)) }
+    ensures all { IfOk result (λ shares. IsPermutation stations.items (dealt shares.items)) }
+    ensures each { IfOk result (λ shares. AreDealt workers shares.items) }
+    ensures count { IfOk result (λ shares. length shares.items ≡ workers) }
 {
     let count = usize::from(workers);
     let mut shares = no_shares(alloc, count)?;
@@ -114,6 +118,8 @@ fn row_share_of(alloc: Global, served_rows: Vec<ServedRows>) -> Result<RowShare,
 /// The shares that have a station, with room for its report.
 fn row_shares_of(alloc: Global, shares: Vec<Vec<ServedRows>>) -> Result<Vec<RowShare>, AllocError>
     ensures all { IfOk result (λ row_shares. held row_shares.items ≡ dealt shares.items) }
+    ensures each { IfOk result (λ row_shares. map (λ h. h.served_rows) row_shares.items
+        ≡ filter has_station shares.items) }
     ensures new { IfOk result (λ row_shares. All IsNewRowShare row_shares.items) }
 {
     let mut row_shares = Vec::with_capacity(alloc, shares.len())?;
@@ -134,6 +140,7 @@ fn row_shares_for(
     requires { 0 < workers }
     ensures all { IfOk result (λ row_shares. IsPermutation stations.items (held row_shares.items)) }
     ensures count { IfOk result (λ row_shares. length (held row_shares.items) ≤ vec_len stations) }
+    ensures each { IfOk result (λ row_shares. AreShares workers row_shares.items) }
     ensures new { IfOk result (λ row_shares. All IsNewRowShare row_shares.items) }
 {
     let shares = deal(alloc, stations, workers)?;

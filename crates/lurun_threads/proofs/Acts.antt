@@ -21,14 +21,14 @@ same_Some x y e = cc
 
 -- ---- numbers in order
 
-range_increasing : (n : ℕ) → IsStrictlyIncreasing (range_with_len 0 n)
+pub range_increasing : (n : ℕ) → IsStrictlyIncreasing (range_with_len 0 n)
 range_increasing n k l =
     let len = length-range_with_len 0 n in
     let a : slice_index (range_with_len 0 n) k ≡ 0 + k = get_or-range_with_len 0 n k 0 (omega (arith, l, len)) in
     let b : slice_index (range_with_len 0 n) (k + 1) ≡ 0 + (k + 1) = get_or-range_with_len 0 n (k + 1) 0 (omega (arith, l, len)) in
     omega (arith, a, b)
 
-below : (xs : List ℕ) → IsStrictlyIncreasing xs → (j d : ℕ) → j + suc d < length xs → slice_index xs j < slice_index xs (j + suc d)
+pub below : (xs : List ℕ) → IsStrictlyIncreasing xs → (j d : ℕ) → j + suc d < length xs → slice_index xs j < slice_index xs (j + suc d)
 below xs inc j zero l = let e : j + 1 ≡ j + suc zero = omega arith in subst (λ k. slice_index xs j < slice_index xs k) e (inc j (omega (arith, l)))
 below xs inc j (suc d) l =
     let h = below xs inc j d (omega (arith, l)) in
@@ -38,7 +38,7 @@ below xs inc j (suc d) l =
     omega (arith, h, m)
 
 -- a number stands once among numbers in order
-once : (xs : List ℕ) → IsStrictlyIncreasing xs → (j k x : ℕ) → slice_get xs j ≡ Some x → slice_get xs k ≡ Some x → j ≡ k
+pub once : (xs : List ℕ) → IsStrictlyIncreasing xs → (j k x : ℕ) → slice_get xs j ≡ Some x → slice_get xs k ≡ Some x → j ≡ k
 once xs inc j k x ej ek = elim (cases_lt j k) [
   | inl lt ↦ absurd (apart j k lt ej ek)
   | inr ge ↦ elim (cases_lt k j) [ inl lt ↦ absurd (apart k j lt ek ej) | inr ge' ↦ omega (arith, ge, ge') ]

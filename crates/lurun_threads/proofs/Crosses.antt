@@ -94,9 +94,9 @@ state_field_send =
             (
               search (sendable, crosses) depth 12,
               (
-                search (sendable, crosses, status.the_send) depth 12,
+                search (sendable, crosses) depth 12,
                 (
-                  search sendable,
+                  search (sendable, crosses, status.the_send) depth 12,
                   (
                     search sendable,
                     (
@@ -104,8 +104,11 @@ state_field_send =
                       (
                         search sendable,
                         (
-                          search (sendable, fault.the_send) depth 12,
-                          tt,
+                          search sendable,
+                          (
+                            search (sendable, fault.the_send) depth 12,
+                            tt,
+                          ),
                         ),
                       ),
                     ),
@@ -119,7 +122,7 @@ state_field_send =
     )
 
 inside_site : IsSend site.the_row
-inside_site = recorded_send site.the_field.row _ _ site.the_type.to_one (struct_send (shape site.the_type) (state_field_send, tt))
+inside_site = recorded_send site.the_field.row _ _ site.the_type.to_one (struct_send (shape site.the_type) (state_field_send, (search sendable, tt)))
 
 pub site_send : IsSend Site.the_row
 site_send = search (sendable, inside_site)

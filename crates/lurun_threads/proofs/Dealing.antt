@@ -1,14 +1,16 @@
 -- Stations go to workers, and reports come back: each once.
-use Rattle.std.proofs.Common.{◌≡◌, ℕ, zero, suc, ◌<◌, List, [], ◌∷◌, ◌++◌, length, map, Some, All, get_or, set, sym, ap, ◌∙◌, subst, ap₂, append_assoc, append-nil}
+use Rattle.std.proofs.Common.{◌≡◌, ℕ, zero, suc, ◌<◌, Bool, true, false, cond, filter, inl, inr, List, [], ◌∷◌, ◌++◌, length, map, Some, All, get_or, set, sym, ap, ◌∙◌, subst, ap₂, append_assoc, append-nil}
 use Rattle.std.specs.Prelude.{slice_get, slice_set, flat_map, swap_remove}
 use Rattle.std.specs.List.Sorted.{IsPermutation}
 use Rattle.std.specs.Option.{option_map}
 use Rattle.std.proofs.lemmas.List.{length-map, map-append, map-set, set-get_or}
-use Rattle.std.proofs.lemmas.Option.{get_or_from_slice_get, slice_get-map}
+use Rattle.std.proofs.lemmas.Bool.{cases_eq}
+use Rattle.std.proofs.lemmas.Option.{get_or_from_slice_get, slice_get-map, slice_get_within}
 use Rattle.std.proofs.lemmas.List.Concat.{flat_map-append}
-use Rattle.std.proofs.lemmas.List.Elements.{All-push, All-same, All-head, All-tail}
+use Rattle.std.proofs.lemmas.List.Elements.{All-push, All-same, All-head, All-tail, All-nil, All-get_or}
 use Rattle.std.proofs.lemmas.List.Sorted.{IsPermutation-refl, IsPermutation-sym, IsPermutation-trans, IsPermutation-middle, IsPermutation-append_left, IsPermutation-append_right, IsPermutation-pop_more, IsPermutation-swap_remove, IsPermutation-map, length_permutation}
 use Rattle.luworld.specs.Jobs.{JobView}
+use Rattle.lusite_program.proofs.Written.{slice_get-set_same, slice_get-set_other}
 use Rattle.lusite.specs.Sites.{SiteView}
 use Rattle.lurun_threads.specs.Stations.{StationView, AreReportsOf, IsSameSite, ReportsFor, place_of, places}
 use Rattle.lurun_reports.proofs.Lists.{same_one}
@@ -37,6 +39,33 @@ module _ {A B : Type 0} (f : A → List B) where
       let r = flat_map f xs in
       let s = flat_map f (slice_set xs i y) in
       IsPermutation-trans (b ∷ (f z ++ r)) (f z ++ b ∷ r) (f z ++ s) (IsPermutation-sym (f z ++ b ∷ r) (b ∷ (f z ++ r)) (IsPermutation-middle (f z) b r)) (IsPermutation-append_right (f z) (b ∷ r) s (one_dealt xs i x y b e g))
+
+pub at_all : {A : Type 0} (P : A → Type 0) (xs : List A) (i : ℕ) (x : A) → slice_get xs i ≡ Some x → All P xs → P x
+at_all P xs i x e all = subst P (get_or_from_slice_get xs i x x e) (All-get_or P xs i x (slice_get_within xs i x e) all)
+
+pub all_of_none : {A : Type 0} (P : A → Type 0) (xs : List A) → xs ≡ [] → All P xs
+all_of_none P xs e = All-same P xs [] e (All-nil P)
+
+-- a numbered fact of each share, where one is another now
+pub one_share : {A : Type 0} (P : ℕ → A → Type 0) (xs ys : List A) (to : ℕ) (x y : A) → slice_get xs to ≡ Some x → ys ≡ slice_set xs to y → (P to x → P to y) → ((i : ℕ) (z : A) → slice_get xs i ≡ Some z → P i z) → (i : ℕ) (z : A) → slice_get ys i ≡ Some z → P i z
+one_share P xs ys to x y here is new each i z e = elim (cases_eq i to) [
+  | inl same ↦
+      let at = ap (slice_get (set xs to y)) same ∙ slice_get-set_same xs to y (slice_get_within xs to x here) in
+      let found : y ≡ z = same_one y z (sym at ∙ ap (λ zs. slice_get zs i) (sym is) ∙ e) in
+      subst (P i) found (subst (λ (n : ℕ). P n y) (sym same) (new (each to x here)))
+  | inr ne ↦ each i z (sym (slice_get-set_other xs to i y ne) ∙ ap (λ zs. slice_get zs i) (sym is) ∙ e)
+]
+
+-- a worker has started with the first of the shares that are left, which has a station; or that has none
+pub started_with : {W H : Type 0} (f : W → H) (p : H → Bool) (ws more : List W) (w : W) (left rest : List H) (x : H) (all : List H) → more ≡ ws ++ w ∷ [] → left ≡ x ∷ rest → f w ≡ x → p x ≡ true → map f ws ++ filter p left ≡ all → map f more ++ filter p rest ≡ all
+started_with f p ws more w left rest x all e next same there was =
+    let kept : filter p left ≡ x ∷ filter p rest = ap (filter p) next ∙ ap (λ b. cond b (x ∷ filter p rest) (filter p rest)) there in
+    ap (λ vs. map f vs ++ filter p rest) e ∙ ap (λ bs. bs ++ filter p rest) (map-append f ws (w ∷ [])) ∙ append_assoc (map f ws) (f w ∷ []) (filter p rest) ∙ ap (λ b. map f ws ++ b ∷ filter p rest) same ∙ ap (λ bs. map f ws ++ bs) (sym kept) ∙ was
+
+pub passed_over : {W H : Type 0} (f : W → H) (p : H → Bool) (ws : List W) (left rest : List H) (x : H) (all : List H) → left ≡ x ∷ rest → p x ≡ false → map f ws ++ filter p left ≡ all → map f ws ++ filter p rest ≡ all
+passed_over f p ws left rest x all next none was =
+    let kept : filter p left ≡ filter p rest = ap (filter p) next ∙ ap (λ b. cond b (x ∷ filter p rest) (filter p rest)) none in
+    ap (λ bs. map f ws ++ bs) (sym kept) ∙ was
 
 -- one of those that are left is dealt
 pub dealt_on : {B : Type 0} (all done more left rest : List B) (b : B) → left ≡ b ∷ rest → IsPermutation all (done ++ left) → IsPermutation (b ∷ done) more → IsPermutation all (more ++ rest)

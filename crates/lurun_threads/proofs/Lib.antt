@@ -2,3 +2,4 @@ pub mod Acts
 mod Moves
 pub mod Dealing
 mod Crosses
+mod Places

@@ -1,4 +1,5 @@
 pub mod Stations
+pub mod Cuts
 pub mod Inside
 pub mod Workers
 pub mod Crew

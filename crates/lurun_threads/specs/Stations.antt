@@ -4,6 +4,7 @@ use Rattle.std.specs.Prelude.{Option, Some, None, slice_get, slice_set, unwrap_o
 use Rattle.std.specs.List.{range_with_len}
 use Rattle.std.specs.Option.{option_map}
 use Rattle.std.specs.List.Sorted.{IsPermutation}
+use Rattle.atomic_table.specs.Seated.{TableId}
 use Rattle.luflow.specs.declared.message.Msg.{Msg}
 use Rattle.luworld.specs.declared.link.Link.{Link}
 use Rattle.luworld.specs.Systems.{puts_before, takes_before}
@@ -148,6 +149,25 @@ pub record IsStationOf (job : JobView) (s : ℕ) (x : StationView) : Type 0 wher
   pub site_is : x.at.site ≡ s
   pub new : IsNewStation x.at x.txs x.rxs
 
+-- one of the rings, with this many slots, is the link's
+abbrev pub IsLinkedBy : List TableId → ℕ → ℕ → TableId → ℕ → Type 0
+IsLinkedBy rings capacity link ring slots = (slice_get rings link ≡ Some ring) × (slots ≡ capacity)
+
+-- each end is of the ring of its link
+pub record AreEndsOf (rings : List TableId) (capacity : ℕ) (txs : List SenderView)
+    (rxs : List ReceiverView) : Type 0 where
+  pub senders : (k : ℕ) (t : SenderView) → slice_get txs k ≡ Some t
+      → IsLinkedBy rings capacity t.link t.ring t.capacity
+  pub receivers : (k : ℕ) (t : ReceiverView) → slice_get rxs k ≡ Some t
+      → IsLinkedBy rings capacity t.link t.ring t.capacity
+
+-- each link has one ring, and its ends at both sites are of that
+pub record AreLinked (capacity : ℕ) (stations : List StationView) : Type 0 where
+  pub rings : List TableId
+  pub each : (s : ℕ) (x : StationView) → slice_get stations s ≡ Some x
+      → AreEndsOf rings capacity x.txs x.rxs
+
 pub record AreStations (job : JobView) (stations : List StationView) : Type 0 where
   pub len : length stations ≡ sites_of job.plan
   pub each : (s : ℕ) (x : StationView) → slice_get stations s ≡ Some x → IsStationOf job s x
+  pub linked : AreLinked job.plan.capacity stations

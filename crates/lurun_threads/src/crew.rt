@@ -1,10 +1,12 @@
 //! A few workers for all stations.
 
-ghost use Rattle.std.specs.Prelude.{◌≡◌, ◌≤◌, ◌<◌, ◌+◌, ◌++◌, ◌∷◌, ◌⊎◌, ℕ, true, IfOk, IfErr, OnOk, All, length, vec_len, vec_capacity};
+ghost use Rattle.std.specs.Prelude.{◌≡◌, ◌≤◌, ◌<◌, ◌+◌, ◌++◌, ◌∷◌, ◌⊎◌, ℕ, true, IfOk, IfErr, OnOk, All, [], filter, length, map, vec_len, vec_capacity};
 ghost use Rattle.std.specs.List.Sorted.{IsPermutation};
 ghost use Rattle.lurun_reports.specs.declared.error.RunError.TheVariants.{NoThread, OutOfMemory};
+ghost use Rattle.lurun_threads.specs.declared.tries.Tried.TheVariants.{Over};
+ghost use Rattle.lurun_threads.specs.Cuts.{IsOver};
 ghost use Rattle.lurun_threads.specs.Stations.{AreReportsOf, IsSameSite, Moves, ReportsFor, place_of, places};
-ghost use Rattle.lurun_threads.specs.Crew.{HasRoom, dealt, held, is_done};
+ghost use Rattle.lurun_threads.specs.Crew.{AreDealt, AreShares, HasRoom, IsDealtTo, dealt, has_station, held, is_done};
 ghost use Rattle.lurun_threads.specs.SiteShares.{promised};
 
 use crate::ends::work_one;
@@ -88,6 +90,7 @@ impl ServedSite {
     fn try_item(&mut self) -> Tried
         ensures moved { Moves (is_done result) self.old.at self.new.at }
         ensures site { IsSameSite self.old.at self.new.at }
+        ensures over { result ≡ Over → IsOver self.new.at self.new.txs self.new.rxs }
     {
         match self.site.next() {
             Next::Ended => Tried::Over,
@@ -101,7 +104,9 @@ impl ServedSite {
         }
     }
 
-    fn is_over(&self) -> bool {
+    fn is_over(&self) -> bool
+        ensures { result ≡ true → IsOver self.now.at self.now.txs self.now.rxs }
+    {
         match self.site.next() {
             Next::Ended => true,
             Next::Faulted => true,
@@ -113,7 +118,8 @@ impl ServedSite {
 
     /// Does items until one is blocked. True where the site is over.
     fn go<R: Wait, G: Gate>(&mut self, rt: &R, gate: &G) -> bool
-        ensures { IsSameSite self.old.at self.new.at }
+        ensures site { IsSameSite self.old.at self.new.at }
+        ensures over { result ≡ true → IsOver self.new.at self.new.txs self.new.rxs }
     {
         for _ in rt.forever() {
             if self.is_over() {
@@ -243,6 +249,7 @@ fn deal_to(
     requires { to < vec_len shares.old }
     ensures one { OnOk result
         (IsPermutation (served ∷ dealt shares.old.items) (dealt shares.new.items)) }
+    ensures to { OnOk result (IsDealtTo shares.old.items to served shares.new.items) }
     ensures len { vec_len shares.new ≡ vec_len shares.old }
 {
     let share = &mut shares[to];
@@ -253,6 +260,7 @@ fn deal_to(
 /// So many empty shares.
 fn no_shares(alloc: Global, count: usize) -> Result<Vec<Vec<ServedSite>>, AllocError>
     ensures none { IfOk result (λ shares. length (dealt shares.items) ≡ 0) }
+    ensures empty { IfOk result (λ shares. All (λ s. s.items ≡ []) shares.items) }
     ensures len { IfOk result (λ shares. vec_len shares ≡ count) }
 {
     let mut shares = Vec::with_capacity(alloc, count)?;
@@ -269,7 +277,9 @@ fn deal(
     workers: u8,
 ) -> Result<Vec<Vec<ServedSite>>, AllocError>
     requires { 0 < workers }
-    ensures { IfOk result (λ shares. IsPermutation stations.items (dealt shares.items)) }
+    ensures all { IfOk result (λ shares. IsPermutation stations.items (dealt shares.items)) }
+    ensures each { IfOk result (λ shares. AreDealt workers shares.items) }
+    ensures count { IfOk result (λ shares. length shares.items ≡ workers) }
 {
     let count = usize::from(workers);
     let mut shares = no_shares(alloc, count)?;
@@ -295,6 +305,8 @@ fn site_share_of(alloc: Global, served_sites: Vec<ServedSite>) -> Result<SiteSha
 /// The shares that have a station, with room for its report.
 fn site_shares_of(alloc: Global, shares: Vec<Vec<ServedSite>>) -> Result<Vec<SiteShare>, AllocError>
     ensures all { IfOk result (λ site_shares. held site_shares.items ≡ dealt shares.items) }
+    ensures each { IfOk result (λ site_shares. map (λ h. h.served_sites) site_shares.items
+        ≡ filter has_station shares.items) }
     ensures room { IfOk result (λ site_shares. All HasRoom site_shares.items) }
 {
     let mut site_shares = Vec::with_capacity(alloc, shares.len())?;
@@ -315,6 +327,7 @@ fn site_shares_for(
     requires { 0 < workers }
     ensures all { IfOk result (λ site_shares. IsPermutation stations.items (held site_shares.items)) }
     ensures count { IfOk result (λ site_shares. length (held site_shares.items) ≤ vec_len stations) }
+    ensures each { IfOk result (λ site_shares. AreShares workers site_shares.items) }
     ensures room { IfOk result (λ site_shares. All HasRoom site_shares.items) }
 {
     let shares = deal(alloc, stations, workers)?;

@@ -1,10 +1,13 @@
 //! A site's items over the ends of its links.
 #![tactic(auto, using(std::proofs::lemmas::Grind::elements))]
 
-ghost use Rattle.std.specs.Prelude.{◌≡◌, ◌+◌, ◌<◌, IfSome, length, List, slice_get, Some};
+ghost use Rattle.std.specs.Prelude.{◌≡◌, ℕ, ◌+◌, ◌<◌, false, IfSome, length, List, slice_get, None, Some};
+ghost use Rattle.std.specs.List.Sorted.{IsStrictlyIncreasing};
+ghost use Rattle.std.specs.Option.{ForSome};
 ghost use Rattle.lulink.specs.Views.{SenderView, ReceiverView, IsNextToPut};
 ghost use Rattle.lusite.specs.Machine.{IsNext};
-ghost use Rattle.lurun_threads.specs.Stations.{AreSenders, AreReceivers, IsSameSite, Moves, IsSenderAt, IsReceiverAt, IsPutAt, IsTakenAt};
+ghost use Rattle.lurun_threads.specs.Cuts.{FoundReceiverGone, FoundSenderGone, IsCutAtPut, IsCutAtTake};
+ghost use Rattle.lurun_threads.specs.Stations.{AreSenders, AreReceivers, IsSameSite, Moves, IsSenderAt, IsReceiverAt, IsPutAt, IsTakenAt, sent_links, taken_links};
 
 use luflow::Msg;
 use lulink::{Rx, Tx};
@@ -13,7 +16,9 @@ use std::sync::Wait;
 
 /// The place of the end of a link, among ends in order of their links.
 pub fn sender_place(txs: &Vec<Tx>, link: LinkNo) -> Option<usize>
-    ensures { IfSome result (IsSenderAt txs.now.items link) }
+    ensures at { IfSome result (IsSenderAt txs.now.items link) }
+    ensures found { IsStrictlyIncreasing (sent_links txs.now.items) → (k : ℕ) (t : SenderView)
+        → slice_get txs.now.items k ≡ Some t → t.link ≡ link → result ≡ Some k }
 {
     let mut low = 0;
     let mut high = txs.len();
@@ -34,7 +39,9 @@ pub fn sender_place(txs: &Vec<Tx>, link: LinkNo) -> Option<usize>
 
 /// The place of the end of a link, among ends in order of their links.
 pub fn receiver_place(rxs: &Vec<Rx>, link: LinkNo) -> Option<usize>
-    ensures { IfSome result (IsReceiverAt rxs.now.items link) }
+    ensures at { IfSome result (IsReceiverAt rxs.now.items link) }
+    ensures found { IsStrictlyIncreasing (taken_links rxs.now.items) → (k : ℕ) (t : ReceiverView)
+        → slice_get rxs.now.items k ≡ Some t → t.link ≡ link → result ≡ Some k }
 {
     let mut low = 0;
     let mut high = rxs.len();
@@ -56,7 +63,8 @@ pub fn receiver_place(rxs: &Vec<Rx>, link: LinkNo) -> Option<usize>
 fn put_at<R: Wait>(rt: &R, txs: &mut Vec<Tx>, i: usize, msg: Msg) -> bool
     requires within { i < length txs.old.items }
     requires next { (t : SenderView) → slice_get txs.old.items i ≡ Some t → IsNextToPut t msg }
-    ensures { IsPutAt txs.old.items i result msg txs.new.items }
+    ensures put { IsPutAt txs.old.items i result msg txs.new.items }
+    ensures gone { result ≡ false → ForSome (slice_get txs.new.items i) FoundReceiverGone }
 {
     let tx = &mut txs[i];
     match tx.put(rt, msg) {
@@ -67,7 +75,8 @@ fn put_at<R: Wait>(rt: &R, txs: &mut Vec<Tx>, i: usize, msg: Msg) -> bool
 
 fn take_at<R: Wait>(rt: &R, rxs: &mut Vec<Rx>, i: usize) -> Option<Msg>
     requires { i < length rxs.old.items }
-    ensures { IsTakenAt rxs.old.items i result rxs.new.items }
+    ensures taken { IsTakenAt rxs.old.items i result rxs.new.items }
+    ensures gone { result ≡ None → ForSome (slice_get rxs.new.items i) FoundSenderGone }
 {
     let rx = &mut rxs[i];
     match rx.take(rt) {
@@ -85,7 +94,10 @@ pub fn put_one<R: Wait>(rt: &R, site: &mut Site, txs: &mut Vec<Tx>, link: LinkNo
         → AreReceivers site.new rxs }
     ensures moved { Moves result site.old site.new }
     ensures site { IsSameSite site.old site.new }
+    ensures over { result ≡ false → IsCutAtPut txs.new.items link }
+    ensures next { result ≡ false → site.new ≡ site.old }
 {
+    site.recall_invariant();
     match sender_place(txs, link) {
         Some(i) => {
             if put_at(rt, txs, i, msg) {
@@ -95,7 +107,7 @@ pub fn put_one<R: Wait>(rt: &R, site: &mut Site, txs: &mut Vec<Tx>, link: LinkNo
                 false
             }
         }
-        None => false,
+        None => unreachable!(),
     }
 }
 
@@ -107,7 +119,10 @@ pub fn take_one<R: Wait>(rt: &R, site: &mut Site, rxs: &mut Vec<Rx>, link: LinkN
     ensures senders { (txs : List SenderView) → AreSenders site.old txs → AreSenders site.new txs }
     ensures moved { Moves result site.old site.new }
     ensures site { IsSameSite site.old site.new }
+    ensures over { result ≡ false → IsCutAtTake rxs.new.items link }
+    ensures next { result ≡ false → site.new ≡ site.old }
 {
+    site.recall_invariant();
     match receiver_place(rxs, link) {
         Some(i) => {
             match take_at(rt, rxs, i) {
@@ -118,7 +133,7 @@ pub fn take_one<R: Wait>(rt: &R, site: &mut Site, rxs: &mut Vec<Rx>, link: LinkN
                 None => false,
             }
         }
-        None => false,
+        None => unreachable!(),
     }
 }
 

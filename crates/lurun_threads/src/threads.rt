@@ -1,8 +1,9 @@
 //! One thread a station.
 
-ghost use Rattle.std.specs.Prelude.{◌≡◌, ◌≤◌, ◌⊎◌, ℕ, true, IfOk, IfErr, vec_len, vec_capacity};
+ghost use Rattle.std.specs.Prelude.{◌≡◌, ◌≤◌, ◌⊎◌, ℕ, true, false, IfOk, IfErr, vec_len, vec_capacity};
 ghost use Rattle.lurun_reports.specs.declared.error.RunError.TheVariants.{NoThread, OutOfMemory};
 ghost use Rattle.lurun_threads.specs.Stations.{AreReportsOf, EndsAgree, IsSameSite, Moves, ReportsFor};
+ghost use Rattle.lurun_threads.specs.Cuts.{IsOver};
 ghost use Rattle.lurun_threads.specs.Workers.{promised};
 
 use crate::ends::{put_one, take_one, work_one};
@@ -30,6 +31,7 @@ fn do_item<R: Wait, G: Gate>(
     ensures fits { EndsAgree site.new txs.new.items rxs.new.items }
     ensures moved { Moves result site.old site.new }
     ensures site { IsSameSite site.old site.new }
+    ensures over { result ≡ false → IsOver site.new txs.new.items rxs.new.items }
 {
     match site.next() {
         Next::Ended => false,
@@ -50,6 +52,22 @@ fn do_item<R: Wait, G: Gate>(
     }
 }
 
+/// Does items until the site is over or a link is lost.
+fn go<R: Wait, G: Gate>(rt: &R, gate: &G, site: &mut Site, txs: &mut Vec<Tx>, rxs: &mut Vec<Rx>)
+    requires { EndsAgree site.old txs.old.items rxs.old.items }
+    ensures site { IsSameSite site.old site.new }
+    ensures over { IsOver site.new txs.new.items rxs.new.items }
+{
+    let mut step = 0u64;
+    for _ in rt.forever() {
+        if !do_item(rt, gate, site, txs, rxs, step) {
+            return;
+        }
+        step = step.wrapping_add(1);
+    }
+    unreachable!()
+}
+
 /// Does a station's items until the site is over or a link is lost, and leaves the station's ends.
 fn serve<R: Wait, G: Gate>(rt: &R, station: Station, gate: &G) -> SiteReport
     ensures { ReportsFor station result }
@@ -59,13 +77,7 @@ fn serve<R: Wait, G: Gate>(rt: &R, station: Station, gate: &G) -> SiteReport
         mut txs,
         mut rxs,
     } = station;
-    let mut step = 0u64;
-    for _ in rt.forever() {
-        if !do_item(rt, gate, &mut site, &mut txs, &mut rxs, step) {
-            break;
-        }
-        step = step.wrapping_add(1);
-    }
+    go(rt, gate, &mut site, &mut txs, &mut rxs);
     call_last(gate, &site);
     drop(txs);
     drop(rxs);

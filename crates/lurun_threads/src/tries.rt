@@ -1,10 +1,13 @@
 //! A site's items over the ends of its links, with no wait.
 #![tactic(auto, using(std::proofs::lemmas::Grind::elements))]
 
-ghost use Rattle.std.specs.Prelude.{◌≡◌, ◌<◌, length, List, slice_get, Some};
+ghost use Rattle.std.specs.Prelude.{◌≡◌, ◌<◌, false, length, List, slice_get, None, Some};
+ghost use Rattle.std.specs.Option.{ForSome};
 ghost use Rattle.lulink.specs.Views.{SenderView, ReceiverView, IsNextToPut};
 ghost use Rattle.lusite.specs.Machine.{IsNext};
+ghost use Rattle.lurun_threads.specs.declared.tries.Tried.TheVariants.{Over};
 ghost use Rattle.lurun_threads.specs.Crew.{is_done};
+ghost use Rattle.lurun_threads.specs.Cuts.{FoundReceiverGone, FoundSenderGone, IsCutAtPut, IsCutAtTake};
 ghost use Rattle.lurun_threads.specs.Stations.{AreSenders, AreReceivers, IsSameSite, Moves, IsPutAt, IsTakenAt, PutAs, TakenAs};
 
 use crate::ends::{receiver_place, sender_place};
@@ -26,7 +29,8 @@ pub enum Tried {
 /// Puts the next message of a link, if there is room.
 fn offer_end(tx: &mut Tx, msg: Msg) -> Tried
     requires { IsNextToPut tx.old msg }
-    ensures { PutAs (is_done result) msg tx.old tx.new }
+    ensures put { PutAs (is_done result) msg tx.old tx.new }
+    ensures gone { result ≡ Over → FoundReceiverGone tx.new }
 {
     match tx.offer(msg) {
         Offer::Done => Tried::Done,
@@ -42,7 +46,8 @@ fn offer_end(tx: &mut Tx, msg: Msg) -> Tried
 
 /// Takes the next message of a link, if it is there; and whether one may come yet, where it isn't.
 fn poll_end(rx: &mut Rx) -> (Option<Msg>, bool)
-    ensures { TakenAs result.0 rx.old rx.new }
+    ensures taken { TakenAs result.0 rx.old rx.new }
+    ensures gone { result.0 ≡ None → result.1 ≡ false → FoundSenderGone rx.new }
 {
     match rx.poll() {
         Some(msg) => (Some(msg), true),
@@ -59,7 +64,8 @@ fn poll_end(rx: &mut Rx) -> (Option<Msg>, bool)
 fn offer_at(txs: &mut Vec<Tx>, i: usize, msg: Msg) -> Tried
     requires within { i < length txs.old.items }
     requires next { (t : SenderView) → slice_get txs.old.items i ≡ Some t → IsNextToPut t msg }
-    ensures { IsPutAt txs.old.items i (is_done result) msg txs.new.items }
+    ensures put { IsPutAt txs.old.items i (is_done result) msg txs.new.items }
+    ensures gone { result ≡ Over → ForSome (slice_get txs.new.items i) FoundReceiverGone }
 {
     let tx = &mut txs[i];
     offer_end(tx, msg)
@@ -67,7 +73,9 @@ fn offer_at(txs: &mut Vec<Tx>, i: usize, msg: Msg) -> Tried
 
 fn poll_at(rxs: &mut Vec<Rx>, i: usize) -> (Option<Msg>, bool)
     requires { i < length rxs.old.items }
-    ensures { IsTakenAt rxs.old.items i result.0 rxs.new.items }
+    ensures taken { IsTakenAt rxs.old.items i result.0 rxs.new.items }
+    ensures gone { result.0 ≡ None → result.1 ≡ false
+        → ForSome (slice_get rxs.new.items i) FoundSenderGone }
 {
     let rx = &mut rxs[i];
     poll_end(rx)
@@ -82,7 +90,10 @@ pub fn offer_one(site: &mut Site, txs: &mut Vec<Tx>, link: LinkNo, msg: Msg) -> 
         → AreReceivers site.new rxs }
     ensures moved { Moves (is_done result) site.old site.new }
     ensures site { IsSameSite site.old site.new }
+    ensures over { result ≡ Over → IsCutAtPut txs.new.items link }
+    ensures next { result ≡ Over → site.new ≡ site.old }
 {
+    site.recall_invariant();
     match sender_place(txs, link) {
         Some(i) => {
             match offer_at(txs, i, msg) {
@@ -94,7 +105,7 @@ pub fn offer_one(site: &mut Site, txs: &mut Vec<Tx>, link: LinkNo, msg: Msg) -> 
                 Tried::Over => Tried::Over,
             }
         }
-        None => Tried::Over,
+        None => unreachable!(),
     }
 }
 
@@ -106,7 +117,10 @@ pub fn poll_one(site: &mut Site, rxs: &mut Vec<Rx>, link: LinkNo) -> Tried
     ensures senders { (txs : List SenderView) → AreSenders site.old txs → AreSenders site.new txs }
     ensures moved { Moves (is_done result) site.old site.new }
     ensures site { IsSameSite site.old site.new }
+    ensures over { result ≡ Over → IsCutAtTake rxs.new.items link }
+    ensures next { result ≡ Over → site.new ≡ site.old }
 {
+    site.recall_invariant();
     match receiver_place(rxs, link) {
         Some(i) => {
             let (found, there) = poll_at(rxs, i);
@@ -118,6 +132,6 @@ pub fn poll_one(site: &mut Site, rxs: &mut Vec<Rx>, link: LinkNo) -> Tried
                 None => { if there { Tried::Blocked } else { Tried::Over } }
             }
         }
-        None => Tried::Over,
+        None => unreachable!(),
     }
 }

@@ -16,12 +16,12 @@ free_end : (a : SiteState) → Going a → IsReadyAt a → done_of a ≡ length 
 free_end a g (Ready lp lj) n =
     let job = a.inputs.job in
     let h : Here a = record { going_on = g; place_lt = lp; step_lt = lj } in
-    let x = some_at (cell job (streams_of job) a.inputs.site a.instant (slice_index job.plan.flat.order a.place)) a.step lj in
+    let x = some_at (cell job (streams_of job) a.inputs.site a.instant (slice_index job.plan.flat.order a.place.value)) a.step lj in
     let l = slice_get_within (script job (streams_of job) a.inputs.site) (done_of a) x.0 (hand_next a h ∙ x.1) in
     absurd (omega (arith, l, n))
 free_end a g (Over et ep ej) n =
     let job = a.inputs.job in
-    let st = subst (λ (j : ℕ). Stands job a.inputs.site (shown_of a) (pasts_of a) job.inputs.instants (length job.plan.flat.order) j false) ej (subst (λ (p : ℕ). Stands job a.inputs.site (shown_of a) (pasts_of a) job.inputs.instants p a.step false) ep (subst (λ (t : ℕ). Stands job a.inputs.site (shown_of a) (pasts_of a) t a.place a.step false) et g.stands)) in
+    let st = subst (λ (j : ℕ). Stands job a.inputs.site (shown_of a) (pasts_of a) job.inputs.instants (length job.plan.flat.order) j false) ej (subst (λ (p : ℕ). Stands job a.inputs.site (shown_of a) (pasts_of a) job.inputs.instants p a.step false) ep (subst (λ (t : ℕ). Stands job a.inputs.site (shown_of a) (pasts_of a) t a.place.value a.step false) et g.stands)) in
     (ended job a.inputs.site g.set.is_job (shown_of a) (pasts_of a) st).1
 
 pub reported_stopped : (a : SiteState) → StandsAt a → IsSome a.fault → (done_of a ≡ length (script a.inputs.job (streams_of a.inputs.job) a.inputs.site)) × (HasNoStop a.inputs.job a.inputs.site → ⊥)

@@ -13,7 +13,11 @@ mod Moves
 mod Held
 mod Rows
 mod SiteFlows
+mod Begun
+mod Shut
 mod Counting
+mod Looking
+pub mod KeptFlows
 mod Drawn
 mod Instants
 mod OneMore

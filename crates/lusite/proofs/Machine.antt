@@ -26,7 +26,8 @@ use Rattle.luworld.proofs.Cuts.{cut_at, cut_free, no_stop_more, cut_stops, stop_
 use Rattle.luflow.specs.Messages.{presents, once_if}
 use Rattle.luworld.proofs.Outlines.{cell_is}
 use Rattle.lueval_lines.specs.Frames.{later, IsShown, IsPast}
-use Rattle.lusite.specs.Machine.{Stands, in_cell, clock_there, cell_size_of}
+use Rattle.lusite.specs.KeptFlows.{IsKept}
+use Rattle.lusite.specs.Machine.{Stands, HasPast, in_cell, clock_there, cell_size_of}
 use Rattle.lusite_program.proofs.Written.{slice_get-set_same, slice_get-set_other}
 use Rattle.luflow.proofs.Solutions.{IsSolution-solution, place_of, place_in, flow_there, all_right}
 use Rattle.lueval_lines.proofs.Reading.{clock_read as machine_clock}
@@ -82,7 +83,7 @@ under_present None v d h = cc
 under_present (Some false) v d h = cc
 under_present (Some true) v d h = refl
 
-closed_clock : (early : Bool) (c : Option Bool) (own : Bool) (n : ℕ) (into : Bool) → early ≡ true → (own || into) ≡ true → in_cell (not early || is_open c) own early n into ≡ 0 → is_open c ≡ false
+pub closed_clock : (early : Bool) (c : Option Bool) (own : Bool) (n : ℕ) (into : Bool) → early ≡ true → (own || into) ≡ true → in_cell (not early || is_open c) own early n into ≡ 0 → is_open c ≡ false
 closed_clock false c own n into e k h = absurd (false≢true e)
 closed_clock true None own n into e k h = refl
 closed_clock true (Some false) own n into e k h = refl
@@ -209,6 +210,7 @@ module _ (job : JobView) (s : ℕ) (ij : IsJob job) where
           now_len = elim (cases_lt 0 j) [ inl l ↦ ap length (left l) ∙ st.now_len | inr l ↦ ap length (cleared (omega arith)) ∙ length-set now (slice_index order p) Absent ∙ st.now_len ];
           pasts_len = st.pasts_len;
           counts = st.counts;
+          known = st.known;
           kept = st.kept;
           shown = shown_after_pass now now' pasts t p j st lp all cleared left;
           here = λ lt l. absurd (omega arith);
@@ -219,26 +221,43 @@ module _ (job : JobView) (s : ℕ) (ij : IsJob job) where
         n,
       )
 
-  past_after : (now : List Status) (pasts pasts' : List Past) (t : ℕ) → Stands job s now pasts t (length job.plan.flat.order) 0 false → t < job.inputs.instants → ((i : ℕ) → i < flows_of job.plan.flat → knows job.plan s i ≡ true → (x : Status) (y : Past) → slice_get now i ≡ Some x → slice_get pasts i ≡ Some y → slice_get pasts' i ≡ Some (later x y)) → (i : ℕ) → i < flows_of job.plan.flat → knows job.plan s i ≡ true → IsPast job.plan.flat job.inputs (streams_of job) pasts' (suc t) i
-  past_after now pasts pasts' t st lt each i li known =
+  known_after : (now : List Status) (pasts : List Past) (t : ℕ) → Stands job s now pasts t (length job.plan.flat.order) 0 false → t < job.inputs.instants → (i : ℕ) → i < flows_of job.plan.flat → knows job.plan s i ≡ true → HasPast job.plan.flat job.inputs (streams_of job) (suc t) i
+  known_after now pasts t st lt i li known =
       let order = job.plan.flat.order in
       let w = place_in order i (ij.is_plan.ordered.all_flows i li) in
       let sh = subst (λ (k : ℕ). IsShown (streams_of job) now t k) w.2 (st.shown lt w.0 w.1 (subst (λ (k : ℕ). knows job.plan s k ≡ true) (sym w.2) known)) in
-      let old = st.kept i li known in
+      let old = st.known i li known in
       let f = there w.0 w.1 in
       let is : flow_at job.plan.flat i ≡ Some f.0 = subst (λ (k : ℕ). flow_at job.plan.flat k ≡ Some f.0) w.2 f.1 in
       let e = equation i t f.0 is li lt in
       let clock = ap (λ o. clock_of_flow job.inputs (streams_of job) o t) is in
       record {
         past = later sh.status old.past;
-        there = each i li known sh.status old.past sh.there old.there;
+        last = last_later (streams_of job i t) sh.status (before (streams_of job i) t) old.past sh.is old.last;
+        ticks = tick_later (clock_of_flow job.inputs (streams_of job) (flow_at job.plan.flat i) t) (ticked (clock_of_flow job.inputs (streams_of job) (flow_at job.plan.flat i)) t) (value_at job.inputs (streams_of job) f.0.clock f.0.form t) (streams_of job i t) sh.status old.past sh.is (e ∙ ap (λ c. under c (value_at job.inputs (streams_of job) f.0.clock f.0.form t)) (sym clock)) old.ticks;
+        count = count_later (streams_of job i t) sh.status (presents (streams_of job i) t) old.past sh.is old.count;
+      }
+
+  past_after : (now : List Status) (pasts pasts' : List Past) (t : ℕ) → Stands job s now pasts t (length job.plan.flat.order) 0 false → t < job.inputs.instants → ((i : ℕ) → i < flows_of job.plan.flat → knows job.plan s i ≡ true → IsKept job.plan s i → (x : Status) (y : Past) → slice_get now i ≡ Some x → slice_get pasts i ≡ Some y → slice_get pasts' i ≡ Some (later x y)) → (i : ℕ) → i < flows_of job.plan.flat → knows job.plan s i ≡ true → IsKept job.plan s i → IsPast job.plan.flat job.inputs (streams_of job) pasts' (suc t) i
+  past_after now pasts pasts' t st lt each i li known keeps =
+      let order = job.plan.flat.order in
+      let w = place_in order i (ij.is_plan.ordered.all_flows i li) in
+      let sh = subst (λ (k : ℕ). IsShown (streams_of job) now t k) w.2 (st.shown lt w.0 w.1 (subst (λ (k : ℕ). knows job.plan s k ≡ true) (sym w.2) known)) in
+      let old = st.kept i li known keeps in
+      let f = there w.0 w.1 in
+      let is : flow_at job.plan.flat i ≡ Some f.0 = subst (λ (k : ℕ). flow_at job.plan.flat k ≡ Some f.0) w.2 f.1 in
+      let e = equation i t f.0 is li lt in
+      let clock = ap (λ o. clock_of_flow job.inputs (streams_of job) o t) is in
+      record {
+        past = later sh.status old.past;
+        there = each i li known keeps sh.status old.past sh.there old.there;
         last = last_later (streams_of job i t) sh.status (before (streams_of job i) t) old.past sh.is old.last;
         ticks = tick_later (clock_of_flow job.inputs (streams_of job) (flow_at job.plan.flat i) t) (ticked (clock_of_flow job.inputs (streams_of job) (flow_at job.plan.flat i)) t) (value_at job.inputs (streams_of job) f.0.clock f.0.form t) (streams_of job i t) sh.status old.past sh.is (e ∙ ap (λ c. under c (value_at job.inputs (streams_of job) f.0.clock f.0.form t)) (sym clock)) old.ticks;
         count = count_later (streams_of job i t) sh.status (presents (streams_of job i) t) old.past sh.is old.count;
       }
 
   -- from the last flow of an instant to the next instant
-  pub stands_tick : (now : List Status) (pasts pasts' : List Past) (t : ℕ) → Stands job s now pasts t (length job.plan.flat.order) 0 false → t < job.inputs.instants → length pasts' ≡ length pasts → ((i : ℕ) → i < flows_of job.plan.flat → knows job.plan s i ≡ true → (x : Status) (y : Past) → slice_get now i ≡ Some x → slice_get pasts i ≡ Some y → slice_get pasts' i ≡ Some (later x y)) → All (λ x. x.count ≤ t + 1) pasts' → Stands job s now pasts' (t + 1) 0 0 false × (items_before job (streams_of job) s (t + 1) 0 0 ≡ items_before job (streams_of job) s t (length job.plan.flat.order) 0)
+  pub stands_tick : (now : List Status) (pasts pasts' : List Past) (t : ℕ) → Stands job s now pasts t (length job.plan.flat.order) 0 false → t < job.inputs.instants → length pasts' ≡ length pasts → ((i : ℕ) → i < flows_of job.plan.flat → knows job.plan s i ≡ true → IsKept job.plan s i → (x : Status) (y : Past) → slice_get now i ≡ Some x → slice_get pasts i ≡ Some y → slice_get pasts' i ≡ Some (later x y)) → All (λ x. x.count ≤ t + 1) pasts' → Stands job s now pasts' (t + 1) 0 0 false × (items_before job (streams_of job) s (t + 1) 0 0 ≡ items_before job (streams_of job) s t (length job.plan.flat.order) 0)
   stands_tick now pasts pasts' t st lt len each counts =
       let n = before_next_instant job (streams_of job) s t in (
         record {
@@ -248,7 +267,8 @@ module _ (job : JobView) (s : ℕ) (ij : IsJob job) where
           now_len = st.now_len;
           pasts_len = len ∙ st.pasts_len;
           counts = counts;
-          kept = λ i li known. subst (λ (u : ℕ). IsPast job.plan.flat job.inputs (streams_of job) pasts' u i) (sym (add-one t)) (past_after now pasts pasts' t st lt each i li known);
+          known = λ i li known. subst (λ (u : ℕ). HasPast job.plan.flat job.inputs (streams_of job) u i) (sym (add-one t)) (known_after now pasts t st lt i li known);
+          kept = λ i li known keeps. subst (λ (u : ℕ). IsPast job.plan.flat job.inputs (streams_of job) pasts' u i) (sym (add-one t)) (past_after now pasts pasts' t st lt each i li known keeps);
           shown = λ _ q l. absurd (omega arith);
           here = λ _ l. absurd (omega arith);
           no_stop = λ _. subst (λ (m : ℕ). IsFree job (take m (endless job (streams_of job) s))) (sym n) (st.no_stop refl);
@@ -275,6 +295,7 @@ module _ (job : JobView) (s : ℕ) (ij : IsJob job) where
         now_len = len ∙ st.now_len;
         pasts_len = st.pasts_len;
         counts = st.counts;
+        known = st.known;
         kept = st.kept;
         shown = λ lt q l known.
             let w = st.shown lt q l known in
@@ -305,6 +326,7 @@ module _ (job : JobView) (s : ℕ) (ij : IsJob job) where
         now_len = st.now_len;
         pasts_len = st.pasts_len;
         counts = st.counts;
+        known = st.known;
         kept = st.kept;
         shown = st.shown;
         here = λ _ _ e. absurd (false≢true (sym e));

@@ -18,6 +18,7 @@ use Rattle.lusite.specs.declared.next.Next.{Next}
 use Rattle.lusite.specs.declared.next.Next.TheVariants.{Local, Put, Take, Faulted}
 use Rattle.luflow.specs.declared.data.Datum.{Datum}
 use Rattle.luflow.specs.declared.message.Body.TheVariants.{Value, Close}
+use Rattle.lusite.specs.KeptFlows.{IsKept}
 use Rattle.lusite.specs.Machine.{is_faulted, Stands, IsSet, done_of, cell_size, offered, offered_at, offered_part, offered_own, count_kept, datum_shown, shown_of, pasts_of}
 use Rattle.lusite_program.specs.Logs.{LogView, IsLogged}
 use Rattle.lusite_program.specs.Programs.{SiteProgramView, ranks_of, places_of, rank_at, part_at, parts_of, no_part, knows_in}
@@ -54,24 +55,24 @@ module _ (a : SiteState) (set : IsSet a) where
   program_is Q h = subst (λ (k : ℕ). Q job.plan k) set.site_is (subst (λ (q : PlanView). Q q a.program.site) set.plan_is h)
 
   -- the flow at hand is of the site's own
-  pub rank_here : a.row < length (places_of a.program.plan a.program.site) → slice_get (ranks_of a.program.plan a.program.site) a.row ≡ Some a.place
+  pub rank_here : a.row < length (places_of a.program.plan a.program.site) → slice_get (ranks_of a.program.plan a.program.site) a.row ≡ Some a.place.value
   rank_here l =
       let n = length-map (ranks_of a.program.plan a.program.site) (slice_index a.program.plan.flat.order) in
       let x = some_at (ranks_of a.program.plan a.program.site) a.row (omega (arith, l, n)) in
       x.1 ∙ ap Some (sym (set.rank_is ∙ ap (λ o. unwrap_or o (length a.program.plan.flat.order)) x.1))
 
-  pub place_within : a.row < length (places_of a.program.plan a.program.site) → a.place < length a.program.plan.flat.order
-  place_within l = rank_in a.program a.row a.place (rank_here l)
+  pub place_within : a.row < length (places_of a.program.plan a.program.site) → a.place.value < length a.program.plan.flat.order
+  place_within l = rank_in a.program a.row a.place.value (rank_here l)
 
   -- behind the last of them it is behind all flows
-  pub place_over : length (places_of a.program.plan a.program.site) ≤ a.row → a.place ≡ length a.program.plan.flat.order
+  pub place_over : length (places_of a.program.plan a.program.site) ≤ a.row → a.place.value ≡ length a.program.plan.flat.order
   place_over le =
       let n = length-map (ranks_of a.program.plan a.program.site) (slice_index a.program.plan.flat.order) in
       set.rank_is ∙ ap (λ o. unwrap_or o (length a.program.plan.flat.order)) (slice_get_past (ranks_of a.program.plan a.program.site) a.row (omega (arith, le, n)))
 
   -- what lies between two of them is unknown
-  pub next_unknown : a.row < length (places_of a.program.plan a.program.site) → AreUnknown job.plan s (a.place + 1) (rank_at a.program (a.row + 1))
-  next_unknown l = program_is (λ q k. AreUnknown q k (a.place + 1) (rank_at a.program (a.row + 1))) (unknown_next a.program a.row a.place (rank_here l))
+  pub next_unknown : a.row < length (places_of a.program.plan a.program.site) → AreUnknown job.plan s (a.place.value + 1) (rank_at a.program (a.row + 1))
+  next_unknown l = program_is (λ q k. AreUnknown q k (a.place.value + 1) (rank_at a.program (a.row + 1))) (unknown_next a.program a.row a.place.value (rank_here l))
 
   pub first_unknown : AreUnknown job.plan s 0 (rank_at a.program 0)
   first_unknown = program_is (λ q k. AreUnknown q k 0 (rank_at a.program 0)) (unknown_first a.program)
@@ -79,8 +80,8 @@ module _ (a : SiteState) (set : IsSet a) where
   pub rank_within : (k : ℕ) → rank_at a.program k ≤ length job.plan.flat.order
   rank_within k = program_is (λ q _. rank_at a.program k ≤ length q.flat.order) (rank_le a.program k)
 
-  pub next_above : a.row < length (places_of a.program.plan a.program.site) → a.place < rank_at a.program (a.row + 1)
-  next_above l = rank_next a.program a.row a.place (rank_here l)
+  pub next_above : a.row < length (places_of a.program.plan a.program.site) → a.place.value < rank_at a.program (a.row + 1)
+  next_above l = rank_next a.program a.row a.place.value (rank_here l)
 
   -- it stands behind them
   pub stands_next : (now : List Status) (pasts : List Past) (t p q : ℕ) (b : Bool) → b ≡ false → Stands job s now pasts t p 0 b → p ≤ q → q ≤ length job.plan.flat.order → AreUnknown job.plan s p q → Stands job s now pasts t q 0 b
@@ -92,11 +93,14 @@ module _ (a : SiteState) (set : IsSet a) where
   ordered_here = subst (λ (q : PlanView). IsOrdered q.flat) (sym set.plan_is) set.is_job.is_plan.ordered
 
   -- what is kept of the flows of the site's own is kept of each that it knows
-  pub aged : (pasts' : List Past) → ((k : ℕ) (x : Status) (y : Past) → k < length (places_of a.program.plan a.program.site) → slice_get (shown_of a) (slice_index (places_of a.program.plan a.program.site) k) ≡ Some x → slice_get (pasts_of a) (slice_index (places_of a.program.plan a.program.site) k) ≡ Some y → slice_get pasts' (slice_index (places_of a.program.plan a.program.site) k) ≡ Some (later x y)) → (i : ℕ) → i < flows_of job.plan.flat → knows job.plan s i ≡ true → (x : Status) (y : Past) → slice_get (shown_of a) i ≡ Some x → slice_get (pasts_of a) i ≡ Some y → slice_get pasts' i ≡ Some (later x y)
-  aged pasts' each i li known x y ex ey =
+  pub aged : (pasts' : List Past) → ((j k : ℕ) (x : Status) (y : Past) → slice_get a.kept.items j ≡ Some k → k < length (places_of a.program.plan a.program.site) → slice_get (shown_of a) (slice_index (places_of a.program.plan a.program.site) k) ≡ Some x → slice_get (pasts_of a) (slice_index (places_of a.program.plan a.program.site) k) ≡ Some y → slice_get pasts' (slice_index (places_of a.program.plan a.program.site) k) ≡ Some (later x y)) → (i : ℕ) → i < flows_of job.plan.flat → knows job.plan s i ≡ true → IsKept job.plan s i → (x : Status) (y : Past) → slice_get (shown_of a) i ≡ Some x → slice_get (pasts_of a) i ≡ Some y → slice_get pasts' i ≡ Some (later x y)
+  aged pasts' each i li known keeps x y ex ey =
       let known' : knows a.program.plan a.program.site i ≡ true = ap₂ (λ q k. knows q k i) set.plan_is set.site_is ∙ known in
       let w = places_has a.program ordered_here i (subst (λ (q : PlanView). i < flows_of q.flat) (sym set.plan_is) li) known' in
-      ap (slice_get pasts') (sym w.2) ∙ each w.0 x y w.1 (ap (slice_get (shown_of a)) w.2 ∙ ex) (ap (slice_get (pasts_of a)) w.2 ∙ ey)
+      let here : slice_get (places_of a.program.plan a.program.site) w.0 ≡ Some i = slice_get-get_or (places_of a.program.plan a.program.site) w.0 0 w.1 ∙ ap Some w.2 in
+      let keeps' = subst (λ (k : ℕ). IsKept a.program.plan k i) (sym set.site_is) (subst (λ (q : PlanView). IsKept q s i) (sym set.plan_is) keeps) in
+      let n = set.kept_are.all w.0 i here keeps' in
+      ap (slice_get pasts') (sym w.2) ∙ each n.0 w.0 x y n.1 w.1 (ap (slice_get (shown_of a)) w.2 ∙ ex) (ap (slice_get (pasts_of a)) w.2 ∙ ey)
 
 -- a put, of a value or of the close
 module _ (a : SiteState) (i : ℕ) (outs : List ℕ) where
@@ -113,6 +117,10 @@ module _ (a : SiteState) (i : ℕ) (outs : List ℕ) where
       ∙ ap₂ (λ m x. Put (slice_index outs (a.step - 1)) (record { no = m; body = Value x })) en ed
       ∙ ap₂ (λ (b e : Bool). if b then (if e then Local else value_put) else close_put) (sym early) (sym some)
 
+  pub offered_local : nat_lt a.instant a.inputs.job.inputs.instants ≡ true → (a.step == 0) ≡ true → Local ≡ offered_own a i outs
+  unfolding value_put close_put
+  offered_local early none = ap₂ (λ (b e : Bool). if b then (if e then Local else value_put) else close_put) (sym early) (sym none)
+
   pub offered_close : (l n : ℕ) → nat_lt a.instant a.inputs.job.inputs.instants ≡ false → l ≡ slice_index outs a.step → n ≡ count_kept (pasts_of a) i → Put l (record { no = n; body = Close }) ≡ offered_own a i outs
   unfolding value_put close_put
   offered_close l n late el en =
@@ -120,12 +128,12 @@ module _ (a : SiteState) (i : ℕ) (outs : List ℕ) where
       ∙ ap (λ (b : Bool). if b then (if a.step == 0 then Local else value_put) else close_put) (sym late)
 
 -- what is offered for the flow at hand
-module _ (a : SiteState) (set : IsSet a) (l : a.row < length (places_of a.program.plan a.program.site)) (goes : is_faulted a ≡ false) (i : ℕ) (here : i ≡ slice_index a.program.plan.flat.order a.place) where
+module _ (a : SiteState) (set : IsSet a) (l : a.row < length (places_of a.program.plan a.program.site)) (goes : is_faulted a ≡ false) (i : ℕ) (here : i ≡ slice_index a.program.plan.flat.order a.place.value) where
   offered_here : offered_part a i (part_at a.program i) ≡ offered a
   offered_here =
       ap (λ j. offered_part a j (part_at a.program j)) here
-      ∙ ap (offered_at a) (sym (slice_get-get_or a.program.plan.flat.order a.place 0 (place_within a set l)))
-      ∙ ap (λ (b : Bool). if b then Faulted else offered_at a (slice_get a.program.plan.flat.order a.place)) (sym goes)
+      ∙ ap (offered_at a) (sym (slice_get-get_or a.program.plan.flat.order a.place.value 0 (place_within a set l)))
+      ∙ ap (λ (b : Bool). if b then Faulted else offered_at a (slice_get a.program.plan.flat.order a.place.value)) (sym goes)
 
   pub offered_own_here : (part_at a.program i).own ≡ true → offered_own a i (part_at a.program i).to ≡ offered a
   offered_own_here own = ap (λ (b : Bool). if b then offered_own a i (part_at a.program i).to else Take (unwrap_or (part_at a.program i).from 0)) (sym own) ∙ offered_here
@@ -138,24 +146,24 @@ module _ (a : SiteState) (g : Going a) (l : a.row < length (places_of a.program.
   abbrev next : ℕ
   next = rank_at a.program (a.row + 1)
 
-  pub pass_next : (now' : List Status) → a.step ≡ cell_size a (slice_index a.program.plan.flat.order a.place) → (a.step ≡ 0 → now' ≡ set (shown_of a) (slice_index a.program.plan.flat.order a.place) Absent) → (0 < a.step → now' ≡ (shown_of a)) → Stands a.inputs.job a.inputs.site now' (pasts_of a) a.instant next 0 (is_faulted a) × (items_before a.inputs.job (streams_of a.inputs.job) a.inputs.site a.instant next 0 ≡ done_of a)
+  pub pass_next : (now' : List Status) → a.step ≡ cell_size a (slice_index a.program.plan.flat.order a.place.value) → (a.step ≡ 0 → now' ≡ set (shown_of a) (slice_index a.program.plan.flat.order a.place.value) Absent) → (0 < a.step → now' ≡ (shown_of a)) → Stands a.inputs.job a.inputs.site now' (pasts_of a) a.instant next 0 (is_faulted a) × (items_before a.inputs.job (streams_of a.inputs.job) a.inputs.site a.instant next 0 ≡ done_of a)
   pass_next now' all cleared left =
       let r = pass_state a now' g (place_within a g.set l) all cleared left in
-      let above : a.place + 1 ≤ next = let n = next_above a g.set l in omega (arith, n) in
+      let above : a.place.value + 1 ≤ next = let n = next_above a g.set l in omega (arith, n) in
       let unknown = next_unknown a g.set l in (
-        stands_next a g.set now' (pasts_of a) a.instant (a.place + 1) next (is_faulted a) g.goes r.0 above (rank_within a g.set (a.row + 1)) unknown,
-        before_skip a.inputs.job a.inputs.site g.set.is_job a.instant (a.place + 1) next above (rank_within a g.set (a.row + 1)) unknown ∙ r.1,
+        stands_next a g.set now' (pasts_of a) a.instant (a.place.value + 1) next (is_faulted a) g.goes r.0 above (rank_within a g.set (a.row + 1)) unknown,
+        before_skip a.inputs.job a.inputs.site g.set.is_job a.instant (a.place.value + 1) next above (rank_within a g.set (a.row + 1)) unknown ∙ r.1,
       )
 
-  pub logged_next : (logs : List LogView) → IsLogged a.inputs.job a.inputs.site logs a.instant (a.place + 1) → IsLogged a.inputs.job a.inputs.site logs a.instant next
-  logged_next logs h = logged_skip a.inputs.job a.inputs.site g.set.is_job logs a.instant (a.place + 1) next (let n = next_above a g.set l in omega (arith, n)) (next_unknown a g.set l) h
+  pub logged_next : (logs : List LogView) → IsLogged a.inputs.job a.inputs.site logs a.instant (a.place.value + 1) → IsLogged a.inputs.job a.inputs.site logs a.instant next
+  logged_next logs h = logged_skip a.inputs.job a.inputs.site g.set.is_job logs a.instant (a.place.value + 1) next (let n = next_above a g.set l in omega (arith, n)) (next_unknown a g.set l) h
 
 -- from the last flow of an instant to the first of the next that the site knows
-module _ (a : SiteState) (g : Going a) (last : a.place ≡ length a.program.plan.flat.order) (early : a.instant < a.inputs.job.inputs.instants) where
+module _ (a : SiteState) (g : Going a) (last : a.place.value ≡ length a.program.plan.flat.order) (early : a.instant < a.inputs.job.inputs.instants) where
   abbrev first : ℕ
   first = rank_at a.program 0
 
-  pub tick_next : (pasts' : List Past) → length pasts' ≡ length (pasts_of a) → ((k : ℕ) (x : Status) (y : Past) → k < length (places_of a.program.plan a.program.site) → slice_get (shown_of a) (slice_index (places_of a.program.plan a.program.site) k) ≡ Some x → slice_get (pasts_of a) (slice_index (places_of a.program.plan a.program.site) k) ≡ Some y → slice_get pasts' (slice_index (places_of a.program.plan a.program.site) k) ≡ Some (later x y)) → All (λ x. x.count ≤ a.instant + 1) pasts' → Stands a.inputs.job a.inputs.site (shown_of a) pasts' (a.instant + 1) first 0 (is_faulted a) × (items_before a.inputs.job (streams_of a.inputs.job) a.inputs.site (a.instant + 1) first 0 ≡ done_of a)
+  pub tick_next : (pasts' : List Past) → length pasts' ≡ length (pasts_of a) → ((j k : ℕ) (x : Status) (y : Past) → slice_get a.kept.items j ≡ Some k → k < length (places_of a.program.plan a.program.site) → slice_get (shown_of a) (slice_index (places_of a.program.plan a.program.site) k) ≡ Some x → slice_get (pasts_of a) (slice_index (places_of a.program.plan a.program.site) k) ≡ Some y → slice_get pasts' (slice_index (places_of a.program.plan a.program.site) k) ≡ Some (later x y)) → All (λ x. x.count ≤ a.instant + 1) pasts' → Stands a.inputs.job a.inputs.site (shown_of a) pasts' (a.instant + 1) first 0 (is_faulted a) × (items_before a.inputs.job (streams_of a.inputs.job) a.inputs.site (a.instant + 1) first 0 ≡ done_of a)
   tick_next pasts' len each counts =
       let r = tick_state a pasts' g last early len (aged a g.set pasts' each) counts in
       let low : 0 ≤ first = omega arith in

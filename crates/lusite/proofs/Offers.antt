@@ -34,12 +34,13 @@ use Rattle.luworld.proofs.Cursor.{puts_done, takes_done}
 use Rattle.luworld.proofs.Messages.{newer_back, message_at, close_at}
 use Rattle.lueval_lines.specs.declared.past.Past.{Past}
 use Rattle.lueval_lines.specs.Frames.{datum_there, ticked_in, view_in, IsShown, IsPast}
-use Rattle.lueval_lines.proofs.Reading.{Holds, value_read}
+use Rattle.lusite.specs.KeptFlows.{Looked, Sent}
+use Rattle.lusite.proofs.Looking.{HoldsBack, value_back, looked_all}
 use Rattle.lusite.specs.declared.next.Next.{Next}
 use Rattle.lusite.specs.declared.next.Next.TheVariants.{Local, Take, Put, Ended, Faulted}
 use Rattle.lusite.specs.declared.state.SiteState.{SiteState}
 use Rattle.lusite_program.specs.Programs.{part_of}
-use Rattle.lusite.specs.Machine.{is_faulted, Stands, StandsAt, IsSet, IsReadyAt, Ready, Over, Computes, outcome_of, count_kept, datum_shown, offered_own, offered_part, offered_at, offered, done_of, IsNext, shown_of, pasts_of}
+use Rattle.lusite.specs.Machine.{is_faulted, HasPast, Stands, StandsAt, IsSet, IsReadyAt, Ready, Over, Computes, outcome_of, count_kept, datum_shown, offered_own, offered_part, offered_at, offered, done_of, IsNext, shown_of, pasts_of}
 use Rattle.lusite.proofs.Machine.{there, equation, reads_shown, next_item, ended, script_take}
 use Rattle.lusite.proofs.SiteStates.{Going, going, part_here, here_in}
 use Rattle.lusite.proofs.Reported.{lt-false}
@@ -142,12 +143,12 @@ pub record WorksOut (job : JobView) (i t : ℕ) (o : Outcome) : Type 0 where
   pub mark : streams_of job i t ≡ mark_of o
 
 -- what is computed is what the equation says
-pub computed_is : (a : SiteState) (i : ℕ) (o : Outcome) → Going a → a.place < length a.inputs.job.plan.flat.order → slice_index a.inputs.job.plan.flat.order a.place ≡ i → stands a.inputs.job.plan i a.inputs.site ≡ true → a.instant < a.inputs.job.inputs.instants → clock_of_flow a.inputs.job.inputs (streams_of a.inputs.job) (flow_at a.inputs.job.plan.flat i) a.instant ≡ Some true → Computes a i (flow_at a.program.plan.flat i) o → WorksOut a.inputs.job i a.instant o
+pub computed_is : (a : SiteState) (i : ℕ) (o : Outcome) → Going a → a.place.value < length a.inputs.job.plan.flat.order → slice_index a.inputs.job.plan.flat.order a.place.value ≡ i → stands a.inputs.job.plan i a.inputs.site ≡ true → a.instant < a.inputs.job.inputs.instants → clock_of_flow a.inputs.job.inputs (streams_of a.inputs.job) (flow_at a.inputs.job.plan.flat i) a.instant ≡ Some true → Computes a i (flow_at a.program.plan.flat i) o → WorksOut a.inputs.job i a.instant o
 computed_is a i o g lp ei own lt open' c =
     let job = a.inputs.job in
     let σ = streams_of job in
     let t = a.instant in
-    let f = there job a.inputs.site g.set.is_job a.place lp in
+    let f = there job a.inputs.site g.set.is_job a.place.value lp in
     let plan_ok = g.set.is_job.is_plan in
     let is : flow_at job.plan.flat i ≡ Some f.0 = subst (λ (k : ℕ). flow_at job.plan.flat k ≡ Some f.0) ei f.1 in
     let li : i < flows_of job.plan.flat = subst (λ (k : ℕ). k < flows_of job.plan.flat) ei f.2 in
@@ -155,19 +156,18 @@ computed_is a i o g lp ei own lt open' c =
     let knows_ops = plan_ok.needs_operands a.inputs.site i f.0 is own in
     let known_i = known_of_own job.plan a.inputs.site i own in
     let knows_clock = plan_ok.needs_clock a.inputs.site i f.0 is known_i in
-    let first = all_left (λ r. Contains (take a.place job.plan.flat.order) r) (form_reads f.0.form) (clock_reads f.0.clock) (plan_ok.ordered.reads_first a.place f.0 lp f.1) in
-    let shown = reads_shown job a.inputs.site g.set.is_job (shown_of a) t a.place (form_reads f.0.form) (g.stands.shown lt) (reads_places (λ r. knows job.plan a.inputs.site r ≡ true) f.0.form knows_ops) first in
-    let mine = g.stands.kept i li known_i in
-    let past = λ (r : ℕ) (lr : r < flows_of job.plan.flat) (k : knows job.plan a.inputs.site r ≡ true). g.stands.kept r lr k in
-    let pasts_all : All (IsPast job.plan.flat job.inputs σ (pasts_of a) t) (places f.0.form) = λ k d l. past (get_or (places f.0.form) k d) (plan_ok.ordered.places_in i f.0 is k d l) (knows_ops k d l) in
-    let clock_then : All (IsPast job.plan.flat job.inputs σ (pasts_of a) t) (clock_reads f.0.clock) = λ k d l. past (get_or (clock_reads f.0.clock) k d) (plan_ok.ordered.clocks_in i f.0 is k d l) (knows_clock k d l) in
-    let holds : Holds job.plan.flat job.inputs σ f.0.clock f.0.form i t c.given (shown_of a) (pasts_of a) = record {
+    let first = all_left (λ r. Contains (take a.place.value job.plan.flat.order) r) (form_reads f.0.form) (clock_reads f.0.clock) (plan_ok.ordered.reads_first a.place.value f.0 lp f.1) in
+    let shown = reads_shown job a.inputs.site g.set.is_job (shown_of a) t a.place.value (form_reads f.0.form) (g.stands.shown lt) (reads_places (λ r. knows job.plan a.inputs.site r ≡ true) f.0.form knows_ops) first in
+    let has = λ (r : ℕ) (lr : r < flows_of job.plan.flat) (k : knows job.plan a.inputs.site r ≡ true). g.stands.known r lr k in
+    let pasts_all : All (HasPast job.plan.flat job.inputs σ t) (places f.0.form) = λ k d l. has (get_or (places f.0.form) k d) (plan_ok.ordered.places_in i f.0 is k d l) (knows_ops k d l) in
+    let clock_then : All (HasPast job.plan.flat job.inputs σ t) (clock_reads f.0.clock) = λ k d l. has (get_or (clock_reads f.0.clock) k d) (plan_ok.ordered.clocks_in i f.0 is k d l) (knows_clock k d l) in
+    let holds : HoldsBack job.plan.flat job.inputs σ f.0.clock f.0.form i t c.given (shown_of a) (pasts_of a) = record {
       reads = shown;
-      then = pasts_all;
-      was = ticked_there (slice_get (pasts_of a) i) mine.past (ticked (clock_at job.inputs σ f.0.clock) t) mine.there (sym (ap (λ o. ticked (clock_of_flow job.inputs σ o) t) is) ∙ mine.ticks);
+      back = λ r e. g.stands.kept r (looked_all (λ j. j < flows_of job.plan.flat) i f.0.form r li (plan_ok.ordered.places_in i f.0 is) e) (looked_all (λ j. knows job.plan a.inputs.site j ≡ true) i f.0.form r known_i knows_ops e) (Looked i f.0 own is e);
+      clock = sym (ap (λ o. ticked (clock_of_flow job.inputs σ o) t) is);
       input = λ k e. c.is_given k f.0 same e (subst (λ (n : ℕ). stands job.plan n a.inputs.site ≡ true) (sym (plan_ok.input_there i k f.0 is e)) own);
     } in
-    let v = value_read job.plan.flat job.inputs σ f.0.clock f.0.form i t c.given (shown_of a) (pasts_of a) holds in
+    let v = value_back job.plan.flat job.inputs σ f.0.clock f.0.form i t c.given (shown_of a) (pasts_of a) holds in
     let o_is : o ≡ value_of f.0.form (view_in c.given (shown_of a) (pasts_of a) i) = c.is ∙ ap (outcome_of c.given (shown_of a) (pasts_of a) i) same in
     let k = sym (ap (λ o. clock_of_flow job.inputs σ o t) is) ∙ open' in
     record {
@@ -178,8 +178,8 @@ computed_is a i o g lp ei own lt open' c =
       value = v ∙ sym o_is;
       unbroken = record {
         now = All-weaker (IsShown σ (shown_of a) t) (λ r. σ r t ≢ Broken) (λ r w. known_unbroken (σ r t) w.status w.is) (form_reads f.0.form) shown;
-        then = λ u lu. All-weaker (IsPast job.plan.flat job.inputs σ (pasts_of a) t) (λ r. σ r u ≢ Broken) (λ r w. before_known (σ r) t w.past.last w.last u lu) (places f.0.form) pasts_all;
-        clock_then = λ u lu. All-weaker (IsPast job.plan.flat job.inputs σ (pasts_of a) t) (λ r. σ r u ≢ Broken) (λ r w. before_known (σ r) t w.past.last w.last u lu) (clock_reads f.0.clock) clock_then;
+        then = λ u lu. All-weaker (HasPast job.plan.flat job.inputs σ t) (λ r. σ r u ≢ Broken) (λ r w. before_known (σ r) t w.past.last w.last u lu) (places f.0.form) pasts_all;
+        clock_then = λ u lu. All-weaker (HasPast job.plan.flat job.inputs σ t) (λ r. σ r u ≢ Broken) (λ r w. before_known (σ r) t w.past.last w.last u lu) (clock_reads f.0.clock) clock_then;
       };
       mark = equation job a.inputs.site g.set.is_job i t f.0 is li lt ∙ ap₂ under k (v ∙ sym o_is);
     }
@@ -248,17 +248,17 @@ count_is flat inputs σ pasts t i w = ap (λ o. unwrap_or (option_map (λ (x : P
 -- the facts at the flow at hand
 pub record Here (a : SiteState) : Type 0 where
   pub going_on : Going a
-  pub place_lt : a.place < length a.inputs.job.plan.flat.order
-  pub step_lt : a.step < length (cell a.inputs.job (streams_of a.inputs.job) a.inputs.site a.instant (slice_index a.inputs.job.plan.flat.order a.place))
+  pub place_lt : a.place.value < length a.inputs.job.plan.flat.order
+  pub step_lt : a.step < length (cell a.inputs.job (streams_of a.inputs.job) a.inputs.site a.instant (slice_index a.inputs.job.plan.flat.order a.place.value))
 
 -- the datum of a flow that was computed or taken at this instant
-datum_here : (a : SiteState) → (h : Here a) → a.instant < a.inputs.job.inputs.instants → 0 < a.step → clock_of_flow a.inputs.job.inputs (streams_of a.inputs.job) (flow_at a.inputs.job.plan.flat (slice_index a.inputs.job.plan.flat.order a.place)) a.instant ≡ Some true → streams_of a.inputs.job (slice_index a.inputs.job.plan.flat.order a.place) a.instant ≡ Known (Present (datum_shown (shown_of a) (slice_index a.inputs.job.plan.flat.order a.place)))
+datum_here : (a : SiteState) → (h : Here a) → a.instant < a.inputs.job.inputs.instants → 0 < a.step → clock_of_flow a.inputs.job.inputs (streams_of a.inputs.job) (flow_at a.inputs.job.plan.flat (slice_index a.inputs.job.plan.flat.order a.place.value)) a.instant ≡ Some true → streams_of a.inputs.job (slice_index a.inputs.job.plan.flat.order a.place.value) a.instant ≡ Known (Present (datum_shown (shown_of a) (slice_index a.inputs.job.plan.flat.order a.place.value)))
 datum_here a h lt some open' =
     let job = a.inputs.job in
     let σ = streams_of job in
-    let i = slice_index job.plan.flat.order a.place in
+    let i = slice_index job.plan.flat.order a.place.value in
     let g = h.going_on in
-    let f = there job a.inputs.site g.set.is_job a.place h.place_lt in
+    let f = there job a.inputs.site g.set.is_job a.place.value h.place_lt in
     let w = g.stands.here lt some refl in
     let k = sym (ap (λ o. clock_of_flow job.inputs σ o a.instant) f.1) ∙ open' in
     let v = value_at job.inputs σ f.0.clock f.0.form a.instant in
@@ -268,53 +268,53 @@ datum_here a h lt some open' =
     let same : datum_shown (shown_of a) i ≡ d.0 = ap (λ o. unwrap_or (datum_there o) Nil) there' in
     w.is ∙ ap Known d.1 ∙ ap (λ x. Known (Present x)) (sym same)
 
-pub put_early : (a : SiteState) (h : Here a) (k : ℕ) → stands a.inputs.job.plan (slice_index a.inputs.job.plan.flat.order a.place) a.inputs.site ≡ true → a.instant < a.inputs.job.inputs.instants → a.step ≡ suc k → clock_of_flow a.inputs.job.inputs (streams_of a.inputs.job) (flow_at a.inputs.job.plan.flat (slice_index a.inputs.job.plan.flat.order a.place)) a.instant ≡ Some true → k < length (sends a.inputs.job.plan a.inputs.site (slice_index a.inputs.job.plan.flat.order a.place)) → slice_get (link_list a.inputs.job (streams_of a.inputs.job) (slice_index (sends a.inputs.job.plan a.inputs.site (slice_index a.inputs.job.plan.flat.order a.place)) k)) (presents (streams_of a.inputs.job (slice_index a.inputs.job.plan.flat.order a.place)) a.instant) ≡ Some (record { no = presents (streams_of a.inputs.job (slice_index a.inputs.job.plan.flat.order a.place)) a.instant; body = Value (datum_shown (shown_of a) (slice_index a.inputs.job.plan.flat.order a.place)) })
+pub put_early : (a : SiteState) (h : Here a) (k : ℕ) → stands a.inputs.job.plan (slice_index a.inputs.job.plan.flat.order a.place.value) a.inputs.site ≡ true → a.instant < a.inputs.job.inputs.instants → a.step ≡ suc k → clock_of_flow a.inputs.job.inputs (streams_of a.inputs.job) (flow_at a.inputs.job.plan.flat (slice_index a.inputs.job.plan.flat.order a.place.value)) a.instant ≡ Some true → k < length (sends a.inputs.job.plan a.inputs.site (slice_index a.inputs.job.plan.flat.order a.place.value)) → slice_get (link_list a.inputs.job (streams_of a.inputs.job) (slice_index (sends a.inputs.job.plan a.inputs.site (slice_index a.inputs.job.plan.flat.order a.place.value)) k)) (presents (streams_of a.inputs.job (slice_index a.inputs.job.plan.flat.order a.place.value)) a.instant) ≡ Some (record { no = presents (streams_of a.inputs.job (slice_index a.inputs.job.plan.flat.order a.place.value)) a.instant; body = Value (datum_shown (shown_of a) (slice_index a.inputs.job.plan.flat.order a.place.value)) })
 put_early a h k own lt ek open' within =
     let job = a.inputs.job in
     let σ = streams_of job in
-    let i = slice_index job.plan.flat.order a.place in
+    let i = slice_index job.plan.flat.order a.place.value in
     let l = slice_index (sends job.plan a.inputs.site i) k in
     let g = h.going_on in
-    let f = there job a.inputs.site g.set.is_job a.place h.place_lt in
-    let w = g.stands.kept i f.2 (known_of_own job.plan a.inputs.site i own) in
+    let f = there job a.inputs.site g.set.is_job a.place.value h.place_lt in
+    let w = g.stands.known i f.2 (known_of_own job.plan a.inputs.site i own) in
     ap (λ xs. slice_get xs (presents (σ i) a.instant)) (link_is job l i (let c = carrier_is job.plan a.inputs.site i k within in flow_of_carried job.plan l i c.0 c.1))
     ∙ message_at (σ i) job.inputs.instants a.instant w.past.last (datum_shown (shown_of a) i) lt w.last (datum_here a h lt (omega arith) open')
 
-pub put_late : (a : SiteState) (h : Here a) (k : ℕ) → stands a.inputs.job.plan (slice_index a.inputs.job.plan.flat.order a.place) a.inputs.site ≡ true → a.instant ≡ a.inputs.job.inputs.instants → k < length (sends a.inputs.job.plan a.inputs.site (slice_index a.inputs.job.plan.flat.order a.place)) → slice_get (link_list a.inputs.job (streams_of a.inputs.job) (slice_index (sends a.inputs.job.plan a.inputs.site (slice_index a.inputs.job.plan.flat.order a.place)) k)) (presents (streams_of a.inputs.job (slice_index a.inputs.job.plan.flat.order a.place)) a.instant) ≡ Some (record { no = presents (streams_of a.inputs.job (slice_index a.inputs.job.plan.flat.order a.place)) a.instant; body = Close })
+pub put_late : (a : SiteState) (h : Here a) (k : ℕ) → stands a.inputs.job.plan (slice_index a.inputs.job.plan.flat.order a.place.value) a.inputs.site ≡ true → a.instant ≡ a.inputs.job.inputs.instants → k < length (sends a.inputs.job.plan a.inputs.site (slice_index a.inputs.job.plan.flat.order a.place.value)) → slice_get (link_list a.inputs.job (streams_of a.inputs.job) (slice_index (sends a.inputs.job.plan a.inputs.site (slice_index a.inputs.job.plan.flat.order a.place.value)) k)) (presents (streams_of a.inputs.job (slice_index a.inputs.job.plan.flat.order a.place.value)) a.instant) ≡ Some (record { no = presents (streams_of a.inputs.job (slice_index a.inputs.job.plan.flat.order a.place.value)) a.instant; body = Close })
 put_late a h k own end within =
     let job = a.inputs.job in
     let σ = streams_of job in
-    let i = slice_index job.plan.flat.order a.place in
+    let i = slice_index job.plan.flat.order a.place.value in
     let l = slice_index (sends job.plan a.inputs.site i) k in
     let g = h.going_on in
-    let f = there job a.inputs.site g.set.is_job a.place h.place_lt in
-    let w = g.stands.kept i f.2 (known_of_own job.plan a.inputs.site i own) in
+    let f = there job a.inputs.site g.set.is_job a.place.value h.place_lt in
+    let w = g.stands.known i f.2 (known_of_own job.plan a.inputs.site i own) in
     ap (λ xs. slice_get xs (presents (σ i) a.instant)) (link_is job l i (let c = carrier_is job.plan a.inputs.site i k within in flow_of_carried job.plan l i c.0 c.1))
     ∙ ap (λ t. slice_get (messages 0 (marks (σ i) job.inputs.instants)) (presents (σ i) t)) end
     ∙ close_at (σ i) job.inputs.instants w.past.last (subst (λ (t : ℕ). before (σ i) t ≡ Some w.past.last) end w.last)
     ∙ ap (λ t. Some (record { no = presents (σ i) t; body = Close })) (sym end)
 
-count_here : (a : SiteState) (h : Here a) → stands a.inputs.job.plan (slice_index a.inputs.job.plan.flat.order a.place) a.inputs.site ≡ true → count_kept (pasts_of a) (slice_index a.inputs.job.plan.flat.order a.place) ≡ presents (streams_of a.inputs.job (slice_index a.inputs.job.plan.flat.order a.place)) a.instant
-count_here a h own =
+count_here : (a : SiteState) (h : Here a) (k : ℕ) → stands a.inputs.job.plan (slice_index a.inputs.job.plan.flat.order a.place.value) a.inputs.site ≡ true → k < length (sends a.inputs.job.plan a.inputs.site (slice_index a.inputs.job.plan.flat.order a.place.value)) → count_kept (pasts_of a) (slice_index a.inputs.job.plan.flat.order a.place.value) ≡ presents (streams_of a.inputs.job (slice_index a.inputs.job.plan.flat.order a.place.value)) a.instant
+count_here a h k own within =
     let job = a.inputs.job in
-    let i = slice_index job.plan.flat.order a.place in
-    let f = there job a.inputs.site h.going_on.set.is_job a.place h.place_lt in
-    count_is job.plan.flat job.inputs (streams_of job) (pasts_of a) a.instant i (h.going_on.stands.kept i f.2 (known_of_own job.plan a.inputs.site i own))
+    let i = slice_index job.plan.flat.order a.place.value in
+    let f = there job a.inputs.site h.going_on.set.is_job a.place.value h.place_lt in
+    count_is job.plan.flat job.inputs (streams_of job) (pasts_of a) a.instant i (h.going_on.stands.kept i f.2 (known_of_own job.plan a.inputs.site i own) (Sent (omega (arith, within))))
 
 -- the number of puts before the one at hand
-put_no : (a : SiteState) (h : Here a) (k : ℕ) → stands a.inputs.job.plan (slice_index a.inputs.job.plan.flat.order a.place) a.inputs.site ≡ true → k < length (sends a.inputs.job.plan a.inputs.site (slice_index a.inputs.job.plan.flat.order a.place)) → slice_get (cell a.inputs.job (streams_of a.inputs.job) a.inputs.site a.instant (slice_index a.inputs.job.plan.flat.order a.place)) a.step ≡ Some (Puts (slice_index (sends a.inputs.job.plan a.inputs.site (slice_index a.inputs.job.plan.flat.order a.place)) k)) → puts_before (system_of a.inputs.job) (slice_index (sends a.inputs.job.plan a.inputs.site (slice_index a.inputs.job.plan.flat.order a.place)) k) a.inputs.site (done_of a) ≡ presents (streams_of a.inputs.job (slice_index a.inputs.job.plan.flat.order a.place)) a.instant
+put_no : (a : SiteState) (h : Here a) (k : ℕ) → stands a.inputs.job.plan (slice_index a.inputs.job.plan.flat.order a.place.value) a.inputs.site ≡ true → k < length (sends a.inputs.job.plan a.inputs.site (slice_index a.inputs.job.plan.flat.order a.place.value)) → slice_get (cell a.inputs.job (streams_of a.inputs.job) a.inputs.site a.instant (slice_index a.inputs.job.plan.flat.order a.place.value)) a.step ≡ Some (Puts (slice_index (sends a.inputs.job.plan a.inputs.site (slice_index a.inputs.job.plan.flat.order a.place.value)) k)) → puts_before (system_of a.inputs.job) (slice_index (sends a.inputs.job.plan a.inputs.site (slice_index a.inputs.job.plan.flat.order a.place.value)) k) a.inputs.site (done_of a) ≡ presents (streams_of a.inputs.job (slice_index a.inputs.job.plan.flat.order a.place.value)) a.instant
 put_no a h k own within item =
     let job = a.inputs.job in
     let σ = streams_of job in
-    let i = slice_index job.plan.flat.order a.place in
+    let i = slice_index job.plan.flat.order a.place.value in
     let l = slice_index (sends job.plan a.inputs.site i) k in
     let g = h.going_on in
-    let f = there job a.inputs.site g.set.is_job a.place h.place_lt in
-    let w = g.stands.kept i f.2 (known_of_own job.plan a.inputs.site i own) in
+    let f = there job a.inputs.site g.set.is_job a.place.value h.place_lt in
+    let w = g.stands.known i f.2 (known_of_own job.plan a.inputs.site i own) in
     let c = carrier_is job.plan a.inputs.site i k within in
     let at_home = ap (home job.plan) c.1 ∙ c.2 in
-    ap (count_by (puts l)) (script_take job a.inputs.site g.set.is_job (shown_of a) (pasts_of a) a.instant a.place a.step g.stands)
-    ∙ puts_done job σ (is_outline job g.set.is_job) a.inputs.site a.instant a.place a.step l g.stands.instant_le h.place_lt c.0 at_home item
+    ap (count_by (puts l)) (script_take job a.inputs.site g.set.is_job (shown_of a) (pasts_of a) a.instant a.place.value a.step g.stands)
+    ∙ puts_done job σ (is_outline job g.set.is_job) a.inputs.site a.instant a.place.value a.step l g.stands.instant_le h.place_lt c.0 at_home item
     ∙ ap (λ x. shows (outline job σ) x a.instant) c.1
     ∙ shows_is job g.set.is_job i a.instant w.past.last f.2 g.stands.instant_le w.last
 
@@ -335,27 +335,27 @@ into_is plan s i l e =
     )
 
 -- the number of takes before the one at hand
-pub take_no : (a : SiteState) (h : Here a) (l : ℕ) → link_into a.inputs.job.plan a.inputs.site (slice_index a.inputs.job.plan.flat.order a.place) ≡ Some l → slice_get (cell a.inputs.job (streams_of a.inputs.job) a.inputs.site a.instant (slice_index a.inputs.job.plan.flat.order a.place)) a.step ≡ Some (Takes l) → takes_before (system_of a.inputs.job) l a.inputs.site (done_of a) ≡ presents (streams_of a.inputs.job (slice_index a.inputs.job.plan.flat.order a.place)) a.instant
+pub take_no : (a : SiteState) (h : Here a) (l : ℕ) → link_into a.inputs.job.plan a.inputs.site (slice_index a.inputs.job.plan.flat.order a.place.value) ≡ Some l → slice_get (cell a.inputs.job (streams_of a.inputs.job) a.inputs.site a.instant (slice_index a.inputs.job.plan.flat.order a.place.value)) a.step ≡ Some (Takes l) → takes_before (system_of a.inputs.job) l a.inputs.site (done_of a) ≡ presents (streams_of a.inputs.job (slice_index a.inputs.job.plan.flat.order a.place.value)) a.instant
 take_no a h l into item =
     let job = a.inputs.job in
     let σ = streams_of job in
-    let i = slice_index job.plan.flat.order a.place in
+    let i = slice_index job.plan.flat.order a.place.value in
     let g = h.going_on in
-    let f = there job a.inputs.site g.set.is_job a.place h.place_lt in
-    let w = g.stands.kept i f.2 (known_of_link job.plan a.inputs.site i l into) in
+    let f = there job a.inputs.site g.set.is_job a.place.value h.place_lt in
+    let w = g.stands.known i f.2 (known_of_link job.plan a.inputs.site i l into) in
     let c = into_is job.plan a.inputs.site i l into in
-    ap (count_by (takes l)) (script_take job a.inputs.site g.set.is_job (shown_of a) (pasts_of a) a.instant a.place a.step g.stands)
-    ∙ takes_done job σ (is_outline job g.set.is_job) a.inputs.site a.instant a.place a.step l g.stands.instant_le h.place_lt c.0 c.2 item
+    ap (count_by (takes l)) (script_take job a.inputs.site g.set.is_job (shown_of a) (pasts_of a) a.instant a.place.value a.step g.stands)
+    ∙ takes_done job σ (is_outline job g.set.is_job) a.inputs.site a.instant a.place.value a.step l g.stands.instant_le h.place_lt c.0 c.2 item
     ∙ ap (λ x. shows (outline job σ) x a.instant) c.1
     ∙ shows_is job g.set.is_job i a.instant w.past.last f.2 g.stands.instant_le w.last
 
 -- the answer of `offer`, where a flow is at hand
-offered_here : (a : SiteState) (h : Here a) → offered a ≡ offered_part a (slice_index a.inputs.job.plan.flat.order a.place) (part_of a.inputs.job.plan a.inputs.site (slice_index a.inputs.job.plan.flat.order a.place))
+offered_here : (a : SiteState) (h : Here a) → offered a ≡ offered_part a (slice_index a.inputs.job.plan.flat.order a.place.value) (part_of a.inputs.job.plan a.inputs.site (slice_index a.inputs.job.plan.flat.order a.place.value))
 offered_here a h =
     let job = a.inputs.job in
-    let i = slice_index job.plan.flat.order a.place in
-    let e = ap (λ (q : PlanView). slice_get q.flat.order a.place) h.going_on.set.plan_is ∙ slice_get-get_or job.plan.flat.order a.place 0 h.place_lt in
-    ap (λ b. if b then Faulted else offered_at a (slice_get a.program.plan.flat.order a.place)) h.going_on.goes ∙ ap (offered_at a) e
+    let i = slice_index job.plan.flat.order a.place.value in
+    let e = ap (λ (q : PlanView). slice_get q.flat.order a.place.value) h.going_on.set.plan_is ∙ slice_get-get_or job.plan.flat.order a.place.value 0 h.place_lt in
+    ap (λ b. if b then Faulted else offered_at a (slice_get a.program.plan.flat.order a.place.value)) h.going_on.goes ∙ ap (offered_at a) e
     ∙ ap (offered_part a i) (part_here a i h.going_on.set (here_in a h.going_on.set h.place_lt))
 
 suc_not_zero : (k : ℕ) → (suc k == 0) ≡ false
@@ -391,63 +391,63 @@ part_take : (a : SiteState) (i : ℕ) (plan : PlanView) (s : ℕ) → stands pla
 part_take a i plan s other = ap (λ b. if b then offered_own a i (sends plan s i) else Take (unwrap_or (link_into plan s i) 0)) other
 
 -- the item at hand is the script's
-pub hand_next : (a : SiteState) (h : Here a) → slice_get (script a.inputs.job (streams_of a.inputs.job) a.inputs.site) (done_of a) ≡ slice_get (cell a.inputs.job (streams_of a.inputs.job) a.inputs.site a.instant (slice_index a.inputs.job.plan.flat.order a.place)) a.step
+pub hand_next : (a : SiteState) (h : Here a) → slice_get (script a.inputs.job (streams_of a.inputs.job) a.inputs.site) (done_of a) ≡ slice_get (cell a.inputs.job (streams_of a.inputs.job) a.inputs.site a.instant (slice_index a.inputs.job.plan.flat.order a.place.value)) a.step
 hand_next a h =
-    next_item a.inputs.job a.inputs.site h.going_on.set.is_job (shown_of a) (pasts_of a) a.instant a.place a.step h.going_on.stands h.place_lt h.step_lt
+    next_item a.inputs.job a.inputs.site h.going_on.set.is_job (shown_of a) (pasts_of a) a.instant a.place.value a.step h.going_on.stands h.place_lt h.step_lt
 
-offer_here : (a : SiteState) (h : Here a) → AtHand a (slice_index a.inputs.job.plan.flat.order a.place) → IsNext a.inputs.job a.inputs.site (done_of a) (offered a)
+offer_here : (a : SiteState) (h : Here a) → AtHand a (slice_index a.inputs.job.plan.flat.order a.place.value) → IsNext a.inputs.job a.inputs.site (done_of a) (offered a)
 offer_here a h (ComputeAt own lt z open' item) =
     let job = a.inputs.job in
-    let i = slice_index job.plan.flat.order a.place in
+    let i = slice_index job.plan.flat.order a.place.value in
     let outs = sends job.plan a.inputs.site i in
     let e = offered_here a h ∙ part_own a i job.plan a.inputs.site own ∙ offered_local a i outs (lt-ltb a.instant job.inputs.instants lt) z in
     subst (IsNext job a.inputs.site (done_of a)) (sym e) (i, a.instant, hand_next a h ∙ item)
 offer_here a h (PutEarly own lt k ek open' item within) =
     let job = a.inputs.job in
     let σ = streams_of job in
-    let i = slice_index job.plan.flat.order a.place in
+    let i = slice_index job.plan.flat.order a.place.value in
     let outs = sends job.plan a.inputs.site i in
     let e = offered_here a h ∙ part_own a i job.plan a.inputs.site own ∙ offered_put a i outs k (lt-ltb a.instant job.inputs.instants lt) ek
-    ∙ ap (λ n. Put (slice_index outs k) (record { no = n; body = Value (datum_shown (shown_of a) i) })) (count_here a h own) in
+    ∙ ap (λ n. Put (slice_index outs k) (record { no = n; body = Value (datum_shown (shown_of a) i) })) (count_here a h k own within) in
     subst (IsNext job a.inputs.site (done_of a)) (sym e) (hand_next a h ∙ item, ap (slice_get (link_list job σ (slice_index outs k))) (put_no a h k own within item) ∙ put_early a h k own lt ek open' within)
 offer_here a h (PutLate own end item within) =
     let job = a.inputs.job in
     let σ = streams_of job in
-    let i = slice_index job.plan.flat.order a.place in
+    let i = slice_index job.plan.flat.order a.place.value in
     let outs = sends job.plan a.inputs.site i in
     let e = offered_here a h ∙ part_own a i job.plan a.inputs.site own ∙ offered_close a i outs (lt-false a.instant job.inputs.instants (omega arith))
-    ∙ ap (λ n. Put (slice_index outs a.step) (record { no = n; body = Close })) (count_here a h own) in
+    ∙ ap (λ n. Put (slice_index outs a.step) (record { no = n; body = Close })) (count_here a h a.step own within) in
     subst (IsNext job a.inputs.site (done_of a)) (sym e) (hand_next a h ∙ item, ap (slice_get (link_list job σ (slice_index outs a.step))) (put_no a h a.step own within item) ∙ put_late a h a.step own end within)
 offer_here a h (TakeEarly other lt z open' into item) =
     let job = a.inputs.job in
-    let i = slice_index job.plan.flat.order a.place in
+    let i = slice_index job.plan.flat.order a.place.value in
     let e = offered_here a h ∙ part_take a i job.plan a.inputs.site other in
     subst (IsNext job a.inputs.site (done_of a)) (sym e) (hand_next a h ∙ item, (into_is job.plan a.inputs.site i (unwrap_or (link_into job.plan a.inputs.site i) 0) into).0)
 offer_here a h (TakeLate other end into item) =
     let job = a.inputs.job in
-    let i = slice_index job.plan.flat.order a.place in
+    let i = slice_index job.plan.flat.order a.place.value in
     let e = offered_here a h ∙ part_take a i job.plan a.inputs.site other in
     subst (IsNext job a.inputs.site (done_of a)) (sym e) (hand_next a h ∙ item, (into_is job.plan a.inputs.site i (unwrap_or (link_into job.plan a.inputs.site i) 0) into).0)
 
 offer_going : (a : SiteState) → Going a → IsReadyAt a → IsNext a.inputs.job a.inputs.site (done_of a) (offered a)
 offer_going a g (Ready lp lj) =
     let h : Here a = record { going_on = g; place_lt = lp; step_lt = lj } in
-    offer_here a h (at_hand a (slice_index a.inputs.job.plan.flat.order a.place) g (here_in a g.set lp) lj)
+    offer_here a h (at_hand a (slice_index a.inputs.job.plan.flat.order a.place.value) g (here_in a g.set lp) lj)
 offer_going a g (Over et ep ej) =
     let job = a.inputs.job in
-    let past : slice_get a.program.plan.flat.order a.place ≡ None = ap (λ (q : PlanView). slice_get q.flat.order a.place) g.set.plan_is ∙ slice_get_past job.plan.flat.order a.place (omega arith) in
-    let e : offered a ≡ Ended = ap (λ b. if b then Faulted else offered_at a (slice_get a.program.plan.flat.order a.place)) g.goes ∙ ap (offered_at a) past in
-    let st = subst (λ (j : ℕ). Stands job a.inputs.site (shown_of a) (pasts_of a) job.inputs.instants (length job.plan.flat.order) j false) ej (subst (λ (p : ℕ). Stands job a.inputs.site (shown_of a) (pasts_of a) job.inputs.instants p a.step false) ep (subst (λ (t : ℕ). Stands job a.inputs.site (shown_of a) (pasts_of a) t a.place a.step false) et g.stands)) in
+    let past : slice_get a.program.plan.flat.order a.place.value ≡ None = ap (λ (q : PlanView). slice_get q.flat.order a.place.value) g.set.plan_is ∙ slice_get_past job.plan.flat.order a.place.value (omega arith) in
+    let e : offered a ≡ Ended = ap (λ b. if b then Faulted else offered_at a (slice_get a.program.plan.flat.order a.place.value)) g.goes ∙ ap (offered_at a) past in
+    let st = subst (λ (j : ℕ). Stands job a.inputs.site (shown_of a) (pasts_of a) job.inputs.instants (length job.plan.flat.order) j false) ej (subst (λ (p : ℕ). Stands job a.inputs.site (shown_of a) (pasts_of a) job.inputs.instants p a.step false) ep (subst (λ (t : ℕ). Stands job a.inputs.site (shown_of a) (pasts_of a) t a.place.value a.step false) et g.stands)) in
     let w = ended job a.inputs.site g.set.is_job (shown_of a) (pasts_of a) st in
     let n : done_of a ≡ items_before job (streams_of job) a.inputs.site job.inputs.instants (length job.plan.flat.order) 0 =
-    ap (λ t. items_before job (streams_of job) a.inputs.site t a.place a.step) et ∙ ap₂ (items_before job (streams_of job) a.inputs.site job.inputs.instants) ep ej in
+    ap (λ t. items_before job (streams_of job) a.inputs.site t a.place.value a.step) et ∙ ap₂ (items_before job (streams_of job) a.inputs.site job.inputs.instants) ep ej in
     subst (IsNext job a.inputs.site (done_of a)) (sym e) (n ∙ w.0, w.1)
 
 -- what a site offers is the next item of its script
 pub offer_is : (a : SiteState) → IsSet a → StandsAt a → ((is_faulted a) ≡ false → IsReadyAt a) → IsNext a.inputs.job a.inputs.site (done_of a) (offered a)
 offer_is a set st ready = elim (bool_cases (is_faulted a)) [
   | inl bad ↦
-      let e : offered a ≡ Faulted = ap (λ b. if b then Faulted else offered_at a (slice_get a.program.plan.flat.order a.place)) bad in
+      let e : offered a ≡ Faulted = ap (λ b. if b then Faulted else offered_at a (slice_get a.program.plan.flat.order a.place.value)) bad in
       subst (IsNext a.inputs.job a.inputs.site (done_of a)) (sym e) (st.stopped bad)
   | inr go ↦ offer_going a (going a set st go) (ready go)
 ]

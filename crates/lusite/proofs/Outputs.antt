@@ -30,7 +30,7 @@ at_end a g (Over et ep ej) n = et
 at_end a g (Ready lp lj) n =
     let job = a.inputs.job in
     let h : Here a = record { going_on = g; place_lt = lp; step_lt = lj } in
-    let x = some_at (cell job (streams_of job) a.inputs.site a.instant (slice_index job.plan.flat.order a.place)) a.step lj in
+    let x = some_at (cell job (streams_of job) a.inputs.site a.instant (slice_index job.plan.flat.order a.place.value)) a.step lj in
     let l = slice_get_within (script job (streams_of job) a.inputs.site) (done_of a) x.0 (hand_next a h ∙ x.1) in
     absurd (omega (arith, l, n))
 

@@ -155,9 +155,9 @@ module _ (a : SiteState) (set : IsSet a) (st : StandsAt a) (ready : is_faulted a
     within = let w = own_size job s set.is_job u q lq own lu in omega (arith, steps job s set.is_job u q (lead job q u), steps job s set.is_job u q (size job s set.is_job u q), w.0)
 
     -- what stands before the flow at hand is passed
-    behind : k ≤ at job s set.is_job a.instant a.place 0 → IsPassed job s (done_of a) q u
+    behind : k ≤ at job s set.is_job a.instant a.place.value 0 → IsPassed job s (done_of a) q u
     behind le =
-        let n = steps job s set.is_job a.instant a.place a.step in
+        let n = steps job s set.is_job a.instant a.place.value a.step in
         record {
           done = omega (arith, le, n);
           free = elim (bool_cases (is_faulted a)) [
@@ -167,19 +167,19 @@ module _ (a : SiteState) (set : IsSet a) (st : StandsAt a) (ready : is_faulted a
         }
 
     -- so is the flow at hand, once its computation is done and is no stop
-    at_hand : u ≡ a.instant → q ≡ a.place → 0 < a.step → is_faulted a ≡ false → IsPassed job s (done_of a) q u
+    at_hand : u ≡ a.instant → q ≡ a.place.value → 0 < a.step → is_faulted a ≡ false → IsPassed job s (done_of a) q u
     at_hand eu eq l goes =
-        let n = steps job s set.is_job a.instant a.place a.step in
+        let n = steps job s set.is_job a.instant a.place.value a.step in
         let m = steps job s set.is_job u q (lead job q u) in
         let x = ap (λ (t : ℕ). at job s set.is_job t q 0) eu ∙ ap (λ (r : ℕ). at job s set.is_job a.instant r 0) eq in
         let le : k ≤ done_of a = omega (arith, n, m, x, lead_one job s set.is_job q u, l) in
         record { done = le; free = free_front job s set.is_job (done_of a) k le (st.no_stop goes) }
 
     at_now : u ≡ a.instant → q < passed_to a → IsPassed job s (done_of a) q u
-    at_now eu l = elim (cases_lt q a.place) [
-      | inl lp ↦ behind (let f = flow_then job s set.is_job u q a.place lp st.place_le in let x = ap (λ (t : ℕ). at job s set.is_job t a.place 0) eu in omega (arith, f, within, x))
+    at_now eu l = elim (cases_lt q a.place.value) [
+      | inl lp ↦ behind (let f = flow_then job s set.is_job u q a.place.value lp st.place_le in let x = ap (λ (t : ℕ). at job s set.is_job t a.place.value 0) eu in omega (arith, f, within, x))
       | inr ge ↦
-          let w = less_cases q a.place (nat_lt 0 a.step && not (is_faulted a)) l in
+          let w = less_cases q a.place.value (nat_lt 0 a.step && not (is_faulted a)) l in
           elim w [
             | inl lt ↦ absurd (omega (arith, lt, ge))
             | inr e ↦ let parts = and_parts (nat_lt 0 a.step) (not (is_faulted a)) e.1 in at_hand eu e.0 (ltb-true 0 a.step parts.0) (not_so (is_faulted a) parts.1)
@@ -192,21 +192,21 @@ module _ (a : SiteState) (set : IsSet a) (st : StandsAt a) (ready : is_faulted a
 
     pub reported_passed : u < reported → IsPassed job s (done_of a) q u
     reported_passed l = elim (less_cases u a.instant (nat_lt a.instant job.inputs.instants && nat_lt q (passed_to a)) l) [
-      | inl lt ↦ behind (let f = instant_then job s set.is_job u q a.instant a.place lt lq st.place_le in omega (arith, f, within))
+      | inl lt ↦ behind (let f = instant_then job s set.is_job u q a.instant a.place.value lt lq st.place_le in omega (arith, f, within))
       | inr e ↦ at_now e.0 (let parts = and_parts (nat_lt a.instant job.inputs.instants) (nat_lt q (passed_to a)) e.1 in ltb-true q (passed_to a) parts.1)
     ]
 
     -- what stands at the flow at hand or behind it isn't passed
-    past_instant : a.place < length job.plan.flat.order → a.instant < u → at job s set.is_job a.instant a.place (size job s set.is_job a.instant a.place) ≤ k
-    past_instant lp l = let f = instant_then job s set.is_job a.instant a.place u q l lp (omega (arith, lq)) in omega (arith, f, here)
+    past_instant : a.place.value < length job.plan.flat.order → a.instant < u → at job s set.is_job a.instant a.place.value (size job s set.is_job a.instant a.place.value) ≤ k
+    past_instant lp l = let f = instant_then job s set.is_job a.instant a.place.value u q l lp (omega (arith, lq)) in omega (arith, f, here)
 
-    past_flow : u ≡ a.instant → a.place < q → at job s set.is_job a.instant a.place (size job s set.is_job a.instant a.place) ≤ k
+    past_flow : u ≡ a.instant → a.place.value < q → at job s set.is_job a.instant a.place.value (size job s set.is_job a.instant a.place.value) ≤ k
     past_flow eu l =
-        let f = flow_then job s set.is_job a.instant a.place q l (omega (arith, lq)) in
+        let f = flow_then job s set.is_job a.instant a.place.value q l (omega (arith, lq)) in
         let x = ap (λ (t : ℕ). at job s set.is_job t q 0) eu in
         omega (arith, f, here, x)
 
-    same_flow : u ≡ a.instant → q ≡ a.place → 0 < size job s set.is_job a.instant a.place → k ≡ at job s set.is_job a.instant a.place 0 + 1
+    same_flow : u ≡ a.instant → q ≡ a.place.value → 0 < size job s set.is_job a.instant a.place.value → k ≡ at job s set.is_job a.instant a.place.value 0 + 1
     same_flow eu eq some =
         let z = ap (λ (t : ℕ). size job s set.is_job t q) eu ∙ ap (λ (r : ℕ). size job s set.is_job a.instant r) eq in
         let one = (own_size job s set.is_job u q lq own lu).1 (omega (arith, z, some)) in
@@ -232,15 +232,15 @@ module _ (a : SiteState) (set : IsSet a) (st : StandsAt a) (ready : is_faulted a
     going_not goes (Over et ep ej) (inl lt) le = omega (arith, lt, lu, et)
     going_not goes (Over et ep ej) (inr w) le = let e = w.0 in omega (arith, e, lu, et)
     going_not goes (Ready lp lj) (inl lt) le =
-        omega (arith, past_instant lp lt, steps job s set.is_job a.instant a.place a.step, steps job s set.is_job a.instant a.place (size job s set.is_job a.instant a.place), lj, le)
-    going_not goes (Ready lp lj) (inr w) le = elim (cases_lt a.place q) [
-      | inl lt ↦ omega (arith, past_flow w.0 lt, steps job s set.is_job a.instant a.place a.step, steps job s set.is_job a.instant a.place (size job s set.is_job a.instant a.place), lj, le)
+        omega (arith, past_instant lp lt, steps job s set.is_job a.instant a.place.value a.step, steps job s set.is_job a.instant a.place.value (size job s set.is_job a.instant a.place.value), lj, le)
+    going_not goes (Ready lp lj) (inr w) le = elim (cases_lt a.place.value q) [
+      | inl lt ↦ omega (arith, past_flow w.0 lt, steps job s set.is_job a.instant a.place.value a.step, steps job s set.is_job a.instant a.place.value (size job s set.is_job a.instant a.place.value), lj, le)
       | inr ge ↦
           let g = w.1 in
-          let eq : q ≡ a.place = omega (arith, g, ge) in
-          let none = add_none (nat_lt 0 a.step && not (is_faulted a)) a.place (omega (arith, g, ge)) in
+          let eq : q ≡ a.place.value = omega (arith, g, ge) in
+          let none = add_none (nat_lt 0 a.step && not (is_faulted a)) a.place.value (omega (arith, g, ge)) in
           let z : a.step ≤ 0 = no_step none in
-          omega (arith, same_flow w.0 eq (omega (arith, lj)), steps job s set.is_job a.instant a.place a.step, z, le)
+          omega (arith, same_flow w.0 eq (omega (arith, lj)), steps job s set.is_job a.instant a.place.value a.step, z, le)
     ]
       where
         no_step : (nat_lt 0 a.step && not (is_faulted a)) ≡ false → a.step ≤ 0
@@ -253,16 +253,16 @@ module _ (a : SiteState) (set : IsSet a) (st : StandsAt a) (ready : is_faulted a
     stopped_far bad (inl lt) =
         let one = st.stopped_at bad in
         let w = st.step_le (omega (arith, one)) in
-        omega (arith, past_instant w.0 lt, steps job s set.is_job a.instant a.place a.step, steps job s set.is_job a.instant a.place (size job s set.is_job a.instant a.place), w.1)
+        omega (arith, past_instant w.0 lt, steps job s set.is_job a.instant a.place.value a.step, steps job s set.is_job a.instant a.place.value (size job s set.is_job a.instant a.place.value), w.1)
     stopped_far bad (inr e) =
         let one = st.stopped_at bad in
         let w = st.step_le (omega (arith, one)) in
-        elim (cases_lt a.place q) [
-          | inl lt ↦ omega (arith, past_flow e.0 lt, steps job s set.is_job a.instant a.place a.step, steps job s set.is_job a.instant a.place (size job s set.is_job a.instant a.place), w.1)
+        elim (cases_lt a.place.value q) [
+          | inl lt ↦ omega (arith, past_flow e.0 lt, steps job s set.is_job a.instant a.place.value a.step, steps job s set.is_job a.instant a.place.value (size job s set.is_job a.instant a.place.value), w.1)
           | inr ge ↦
               let g = e.1 in
-              let eq : q ≡ a.place = omega (arith, g, ge) in
-              omega (arith, same_flow e.0 eq (omega (arith, w.1, one)), steps job s set.is_job a.instant a.place a.step, one)
+              let eq : q ≡ a.place.value = omega (arith, g, ge) in
+              omega (arith, same_flow e.0 eq (omega (arith, w.1, one)), steps job s set.is_job a.instant a.place.value a.step, one)
         ]
 
     pub passed_reported : IsPassed job s (done_of a) q u → u < reported

@@ -141,47 +141,47 @@ wanted_known job s i ok li wanted =
     subst (λ (h : ℕ). stands job.plan i h ≡ true) (eqb-true (home job.plan i) s (and_parts (nat_eq (home job.plan i) s) (is_output_of job.plan.flat i) wanted).0) (ok.is_plan.stands_home i li)
 
 -- for the state
-passed_some : (a : SiteState) → Going a → 0 < a.step → passed_to a ≡ a.place + 1
-passed_some a g l = ap₂ (λ x y. a.place + add_if (x && not y)) (lt-ltb 0 a.step l) g.goes
+passed_some : (a : SiteState) → Going a → 0 < a.step → passed_to a ≡ a.place.value + 1
+passed_some a g l = ap₂ (λ x y. a.place.value + add_if (x && not y)) (lt-ltb 0 a.step l) g.goes
 
-passed_none : (a : SiteState) → a.step ≡ 0 → passed_to a ≡ a.place
-passed_none a e = let z = ap (λ j. a.place + add_if (nat_lt 0 j && not (is_faulted a))) e in z ∙ (let w : a.place + 0 ≡ a.place = omega arith in w)
+passed_none : (a : SiteState) → a.step ≡ 0 → passed_to a ≡ a.place.value
+passed_none a e = let z = ap (λ j. a.place.value + add_if (nat_lt 0 j && not (is_faulted a))) e in z ∙ (let w : a.place.value + 0 ≡ a.place.value = omega arith in w)
 
 -- what the machine asks of the flow at hand is whether it is to be reported
-noted_is : (a : SiteState) → Going a → a.place < length a.program.plan.flat.order → is_noted a (slice_index a.program.plan.flat.order a.place) ≡ (nat_lt a.instant a.inputs.job.inputs.instants && is_wanted a.inputs.job a.inputs.site (slice_index a.inputs.job.plan.flat.order a.place))
+noted_is : (a : SiteState) → Going a → a.place.value < length a.program.plan.flat.order → is_noted a (slice_index a.program.plan.flat.order a.place.value) ≡ (nat_lt a.instant a.inputs.job.inputs.instants && is_wanted a.inputs.job a.inputs.site (slice_index a.inputs.job.plan.flat.order a.place.value))
 noted_is a g lp =
-    let i = slice_index a.inputs.job.plan.flat.order a.place in
+    let i = slice_index a.inputs.job.plan.flat.order a.place.value in
     ap (is_noted a) (flow_same a g.set)
     ∙ ap (λ (x : Part). nat_lt a.instant a.inputs.job.inputs.instants && x.reported) (part_here a i g.set (here_in a g.set (place_in_job a g.set lp)))
 
-module _ (a : SiteState) (g : Going a) (lp : a.place < length a.program.plan.flat.order) (logged : IsLoggedAt a) where
+module _ (a : SiteState) (g : Going a) (lp : a.place.value < length a.program.plan.flat.order) (logged : IsLoggedAt a) where
   abbrev i : ℕ
-  i = slice_index a.program.plan.flat.order a.place
+  i = slice_index a.program.plan.flat.order a.place.value
 
-  at_place : a.step ≡ 0 → IsLogged a.inputs.job a.inputs.site (logs_of a) a.instant a.place
+  at_place : a.step ≡ 0 → IsLogged a.inputs.job a.inputs.site (logs_of a) a.instant a.place.value
   at_place z = subst (λ (e : ℕ). IsLogged a.inputs.job a.inputs.site (logs_of a) a.instant e) (passed_none a z) logged
 
-  noted_parts : is_noted a i ≡ true → (a.instant < a.inputs.job.inputs.instants) × (is_wanted a.inputs.job a.inputs.site (slice_index a.inputs.job.plan.flat.order a.place) ≡ true)
+  noted_parts : is_noted a i ≡ true → (a.instant < a.inputs.job.inputs.instants) × (is_wanted a.inputs.job a.inputs.site (slice_index a.inputs.job.plan.flat.order a.place.value) ≡ true)
   noted_parts on =
-      let n = and_parts (nat_lt a.instant a.inputs.job.inputs.instants) (is_wanted a.inputs.job a.inputs.site (slice_index a.inputs.job.plan.flat.order a.place)) (sym (noted_is a g lp) ∙ on) in
+      let n = and_parts (nat_lt a.instant a.inputs.job.inputs.instants) (is_wanted a.inputs.job a.inputs.site (slice_index a.inputs.job.plan.flat.order a.place.value)) (sym (noted_is a g lp) ∙ on) in
       (ltb-true a.instant a.inputs.job.inputs.instants n.0, n.1)
 
   pub note_room : a.step ≡ 0 → is_noted a i ≡ true → (i < length (logs_of a)) × ((x : LogView) → slice_get (logs_of a) i ≡ Some x → length x.items < x.room)
   note_room z on =
       let w = noted_parts on in
       subst (λ (k : ℕ). (k < length (logs_of a)) × ((x : LogView) → slice_get (logs_of a) k ≡ Some x → length x.items < x.room)) (sym (flow_same a g.set))
-      (room_here a.inputs.job a.inputs.site g.set.is_job (logs_of a) (logs_of a) a.instant a.place (place_in_job a g.set lp) (at_place z) w.0 w.1)
+      (room_here a.inputs.job a.inputs.site g.set.is_job (logs_of a) (logs_of a) a.instant a.place.value (place_in_job a g.set lp) (at_place z) w.0 w.1)
 
   -- the flow at hand is passed: its status is noted, or it isn't wanted
-  pub note_here : (status : Status) (logs' : List LogView) → a.step ≡ 0 → (is_noted a i ≡ false → logs' ≡ (logs_of a)) → (is_noted a i ≡ true → streams_of a.inputs.job (slice_index a.inputs.job.plan.flat.order a.place) a.instant ≡ Known status) → (is_noted a i ≡ true → (x : LogView) → slice_get (logs_of a) i ≡ Some x → IsNoted (logs_of a) i x status logs') → IsLogged a.inputs.job a.inputs.site logs' a.instant (a.place + 1)
+  pub note_here : (status : Status) (logs' : List LogView) → a.step ≡ 0 → (is_noted a i ≡ false → logs' ≡ (logs_of a)) → (is_noted a i ≡ true → streams_of a.inputs.job (slice_index a.inputs.job.plan.flat.order a.place.value) a.instant ≡ Known status) → (is_noted a i ≡ true → (x : LogView) → slice_get (logs_of a) i ≡ Some x → IsNoted (logs_of a) i x status logs') → IsLogged a.inputs.job a.inputs.site logs' a.instant (a.place.value + 1)
   note_here status logs' z left is noted =
       let lp' = place_in_job a g.set lp in
       elim (bool_cases (is_noted a i)) [
-        | inr off ↦ logged_left a.inputs.job a.inputs.site g.set.is_job (logs_of a) logs' a.instant a.place lp' (at_place z)
-            (λ lt wanted. false≢true (sym off ∙ noted_is a g lp ∙ both (nat_lt a.instant a.inputs.job.inputs.instants) (is_wanted a.inputs.job a.inputs.site (slice_index a.inputs.job.plan.flat.order a.place)) (lt-ltb a.instant a.inputs.job.inputs.instants lt) wanted)) (left off)
+        | inr off ↦ logged_left a.inputs.job a.inputs.site g.set.is_job (logs_of a) logs' a.instant a.place.value lp' (at_place z)
+            (λ lt wanted. false≢true (sym off ∙ noted_is a g lp ∙ both (nat_lt a.instant a.inputs.job.inputs.instants) (is_wanted a.inputs.job a.inputs.site (slice_index a.inputs.job.plan.flat.order a.place.value)) (lt-ltb a.instant a.inputs.job.inputs.instants lt) wanted)) (left off)
         | inl on ↦
             let w = noted_parts on in
-            logged_noted a.inputs.job a.inputs.site g.set.is_job (logs_of a) logs' a.instant a.place lp' (at_place z) status w.0 w.1 (is on)
+            logged_noted a.inputs.job a.inputs.site g.set.is_job (logs_of a) logs' a.instant a.place.value lp' (at_place z) status w.0 w.1 (is on)
             (subst (λ (k : ℕ). (x : LogView) → slice_get (logs_of a) k ≡ Some x → IsNoted (logs_of a) k x status logs') (flow_same a g.set) (noted on))
       ]
 
@@ -189,20 +189,20 @@ module _ (a : SiteState) (g : Going a) (lp : a.place < length a.program.plan.fla
   same_absent xs k status l e = sym (same_Some Absent status (sym (slice_get-set_same xs k Absent l) ∙ e))
 
   -- from one flow to the next
-  pub note_pass : (now' : List Status) (logs' : List LogView) (faulted : Bool) → Stands a.inputs.job a.inputs.site now' (pasts_of a) a.instant (a.place + 1) 0 faulted → (a.step ≡ 0 → now' ≡ set (shown_of a) i Absent) → (0 < a.step → logs' ≡ (logs_of a)) → (a.step ≡ 0 → is_noted a i ≡ false → logs' ≡ (logs_of a)) → (a.step ≡ 0 → is_noted a i ≡ true → (x : LogView) → slice_get (logs_of a) i ≡ Some x → IsNoted (logs_of a) i x Absent logs') → IsLogged a.inputs.job a.inputs.site logs' a.instant (a.place + 1)
+  pub note_pass : (now' : List Status) (logs' : List LogView) (faulted : Bool) → Stands a.inputs.job a.inputs.site now' (pasts_of a) a.instant (a.place.value + 1) 0 faulted → (a.step ≡ 0 → now' ≡ set (shown_of a) i Absent) → (0 < a.step → logs' ≡ (logs_of a)) → (a.step ≡ 0 → is_noted a i ≡ false → logs' ≡ (logs_of a)) → (a.step ≡ 0 → is_noted a i ≡ true → (x : LogView) → slice_get (logs_of a) i ≡ Some x → IsNoted (logs_of a) i x Absent logs') → IsLogged a.inputs.job a.inputs.site logs' a.instant (a.place.value + 1)
   note_pass now' logs' faulted st cleared kept left noted = elim (cases_lt 0 a.step) [
     | inl some ↦
-        subst (λ (ls : List LogView). IsLogged a.inputs.job a.inputs.site ls a.instant (a.place + 1)) (sym (kept some))
+        subst (λ (ls : List LogView). IsLogged a.inputs.job a.inputs.site ls a.instant (a.place.value + 1)) (sym (kept some))
         (subst (λ (e : ℕ). IsLogged a.inputs.job a.inputs.site (logs_of a) a.instant e) (passed_some a g some) logged)
     | inr none ↦
         let z : a.step ≡ 0 = omega arith in
         let job = a.inputs.job in
         let lp' = place_in_job a g.set lp in
-        let k = slice_index job.plan.flat.order a.place in
+        let k = slice_index job.plan.flat.order a.place.value in
         note_here Absent logs' z (left z) (λ on.
         let w = noted_parts on in
         let own = wanted_known job a.inputs.site k g.set.is_job (here_in a g.set lp') w.1 in
-        let sh = st.shown w.0 a.place (omega arith) (known_of_own job a.inputs.site k own) in
+        let sh = st.shown w.0 a.place.value (omega arith) (known_of_own job a.inputs.site k own) in
         let len = here_in a g.set lp' in
         let e : sh.status ≡ Absent = same_absent (shown_of a) k sh.status (let n = g.stands.now_len in omega (arith, len, n)) (ap (λ xs. slice_get xs k) (sym (cleared z ∙ ap (λ j. set (shown_of a) j Absent) (flow_same a g.set))) ∙ sh.there) in
         sh.is ∙ ap Known e) (noted z)
@@ -211,17 +211,17 @@ module _ (a : SiteState) (g : Going a) (lp : a.place < length a.program.plan.fla
       known_of_own : (job : JobView) (s k : ℕ) → stands job.plan k s ≡ true → knows job.plan s k ≡ true
       known_of_own job s k own = ap (λ b. b || is_some (link_into job.plan s k)) own
 
-pub note_tick : (a : SiteState) → Going a → a.place ≡ length a.program.plan.flat.order → a.instant < a.inputs.job.inputs.instants → IsLoggedAt a → IsLogged a.inputs.job a.inputs.site (logs_of a) (a.instant + 1) 0
+pub note_tick : (a : SiteState) → Going a → a.place.value ≡ length a.program.plan.flat.order → a.instant < a.inputs.job.inputs.instants → IsLoggedAt a → IsLogged a.inputs.job a.inputs.site (logs_of a) (a.instant + 1) 0
 note_tick a g end lt logged =
     let z = no_step a g (end ∙ ap (λ (q : PlanView). length q.flat.order) g.set.plan_is) in
-    logged_tick a.inputs.job a.inputs.site (logs_of a) a.instant a.place (end ∙ ap (λ (q : PlanView). length q.flat.order) g.set.plan_is) lt (subst (λ (e : ℕ). IsLogged a.inputs.job a.inputs.site (logs_of a) a.instant e) (passed_none a z) logged)
+    logged_tick a.inputs.job a.inputs.site (logs_of a) a.instant a.place.value (end ∙ ap (λ (q : PlanView). length q.flat.order) g.set.plan_is) lt (subst (λ (e : ℕ). IsLogged a.inputs.job a.inputs.site (logs_of a) a.instant e) (passed_none a z) logged)
 
 -- a message that is passed changes no log
-pub note_step : (a : SiteState) → Going a → IsLoggedAt a → (0 < a.step) ⊎ (a.inputs.job.inputs.instants ≤ a.instant) → IsLogged a.inputs.job a.inputs.site (logs_of a) a.instant (a.place + add_if (nat_lt 0 (a.step + 1) && not (is_faulted a)))
+pub note_step : (a : SiteState) → Going a → IsLoggedAt a → (0 < a.step) ⊎ (a.inputs.job.inputs.instants ≤ a.instant) → IsLogged a.inputs.job a.inputs.site (logs_of a) a.instant (a.place.value + add_if (nat_lt 0 (a.step + 1) && not (is_faulted a)))
 note_step a g logged (inl some) =
-    let e : passed_to a ≡ a.place + add_if (nat_lt 0 (a.step + 1) && not (is_faulted a)) = ap (λ b. a.place + add_if (b && not (is_faulted a))) (lt-ltb 0 a.step some ∙ sym (lt-ltb 0 (a.step + 1) (omega arith))) in
+    let e : passed_to a ≡ a.place.value + add_if (nat_lt 0 (a.step + 1) && not (is_faulted a)) = ap (λ b. a.place.value + add_if (b && not (is_faulted a))) (lt-ltb 0 a.step some ∙ sym (lt-ltb 0 (a.step + 1) (omega arith))) in
     subst (λ (k : ℕ). IsLogged a.inputs.job a.inputs.site (logs_of a) a.instant k) e logged
-note_step a g logged (inr late) = logged_late a.inputs.job a.inputs.site (logs_of a) a.instant (passed_to a) (a.place + add_if (nat_lt 0 (a.step + 1) && not (is_faulted a))) late logged
+note_step a g logged (inr late) = logged_late a.inputs.job a.inputs.site (logs_of a) a.instant (passed_to a) (a.place.value + add_if (nat_lt 0 (a.step + 1) && not (is_faulted a))) late logged
 
 -- whether an absent status is to be reported
 eq_zero : (n : ℕ) → 0 < n → (n == 0) ≡ false
@@ -241,20 +241,20 @@ pub none_yet : (job : JobView) (s : ℕ) (logs : List LogView) (t p : ℕ) (b : 
 none_yet job s logs t p b h = let e : p ≡ p + 0 = omega arith in subst (λ (k : ℕ). IsLogged job s logs t k) e h
 
 -- how far the outputs are passed after one item of a flow
-step_one : (a : SiteState) → Going a → a.place + 1 ≡ a.place + add_if (nat_lt 0 1 && not (is_faulted a))
-step_one a g = ap (λ b. a.place + add_if (nat_lt 0 1 && not b)) (sym g.goes)
+step_one : (a : SiteState) → Going a → a.place.value + 1 ≡ a.place.value + add_if (nat_lt 0 1 && not (is_faulted a))
+step_one a g = ap (λ b. a.place.value + add_if (nat_lt 0 1 && not b)) (sym g.goes)
 
-pub noted_step : (a : SiteState) (logs : List LogView) → Going a → IsLogged a.inputs.job a.inputs.site logs a.instant (a.place + 1) → IsLogged a.inputs.job a.inputs.site logs a.instant (a.place + add_if (nat_lt 0 1 && not (is_faulted a)))
+pub noted_step : (a : SiteState) (logs : List LogView) → Going a → IsLogged a.inputs.job a.inputs.site logs a.instant (a.place.value + 1) → IsLogged a.inputs.job a.inputs.site logs a.instant (a.place.value + add_if (nat_lt 0 1 && not (is_faulted a)))
 noted_step a logs g h = subst (λ (k : ℕ). IsLogged a.inputs.job a.inputs.site logs a.instant k) (step_one a g) h
 
 -- a flow that was taken is not reported
-pub note_given : (a : SiteState) → Going a → IsLoggedAt a → a.step ≡ 0 → a.place < length a.inputs.job.plan.flat.order → stands a.inputs.job.plan (slice_index a.inputs.job.plan.flat.order a.place) a.inputs.site ≡ false → IsLogged a.inputs.job a.inputs.site (logs_of a) a.instant (a.place + add_if (nat_lt 0 1 && not (is_faulted a)))
+pub note_given : (a : SiteState) → Going a → IsLoggedAt a → a.step ≡ 0 → a.place.value < length a.inputs.job.plan.flat.order → stands a.inputs.job.plan (slice_index a.inputs.job.plan.flat.order a.place.value) a.inputs.site ≡ false → IsLogged a.inputs.job a.inputs.site (logs_of a) a.instant (a.place.value + add_if (nat_lt 0 1 && not (is_faulted a)))
 note_given a g logged z lp other =
     let job = a.inputs.job in
-    let i = slice_index job.plan.flat.order a.place in
+    let i = slice_index job.plan.flat.order a.place.value in
     let h = subst (λ (e : ℕ). IsLogged job a.inputs.site (logs_of a) a.instant e) (passed_none a z) logged in
-    noted_step a (logs_of a) g (logged_left job a.inputs.site g.set.is_job (logs_of a) (logs_of a) a.instant a.place lp h (λ _ wanted. false≢true (sym other ∙ wanted_known job a.inputs.site i g.set.is_job (here_in a g.set lp) wanted)) refl)
+    noted_step a (logs_of a) g (logged_left job a.inputs.site g.set.is_job (logs_of a) (logs_of a) a.instant a.place.value lp h (λ _ wanted. false≢true (sym other ∙ wanted_known job a.inputs.site i g.set.is_job (here_in a g.set lp) wanted)) refl)
 
 -- a computation that faults passes nothing
-pub note_fault : (a : SiteState) → IsLoggedAt a → a.step ≡ 0 → IsLogged a.inputs.job a.inputs.site (logs_of a) a.instant (a.place + add_if (nat_lt 0 1 && not true))
-note_fault a logged z = let e : passed_to a ≡ a.place + add_if (nat_lt 0 1 && not true) = passed_none a z ∙ (let w : a.place ≡ a.place + 0 = omega arith in w) in subst (λ (k : ℕ). IsLogged a.inputs.job a.inputs.site (logs_of a) a.instant k) e logged
+pub note_fault : (a : SiteState) → IsLoggedAt a → a.step ≡ 0 → IsLogged a.inputs.job a.inputs.site (logs_of a) a.instant (a.place.value + add_if (nat_lt 0 1 && not true))
+note_fault a logged z = let e : passed_to a ≡ a.place.value + add_if (nat_lt 0 1 && not true) = passed_none a z ∙ (let w : a.place.value ≡ a.place.value + 0 = omega arith in w) in subst (λ (k : ℕ). IsLogged a.inputs.job a.inputs.site (logs_of a) a.instant k) e logged

@@ -104,10 +104,10 @@ module _ (a : SiteState) (set_up : IsSet a) where
   -- the flow at hand
   module _ (l : a.row < length rows) where
     abbrev i : ℕ
-    i = slice_index a.program.plan.flat.order a.place
+    i = slice_index a.program.plan.flat.order a.place.value
 
     pub row_here : slice_get rows a.row ≡ Some i
-    row_here = slice_get-get_or rows (a.row) 0 l ∙ ap Some (place_here a.program a.row a.place set_up.rank_is)
+    row_here = slice_get-get_or rows (a.row) 0 l ∙ ap Some (place_here a.program a.row a.place.value set_up.rank_is)
 
     pub count_row : count_kept (pasts_of a) i ≡ unwrap_or (slice_get a.counts.items a.row) 0
     count_row =

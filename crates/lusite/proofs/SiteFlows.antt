@@ -37,7 +37,7 @@ begun_size true own early outs into l = refl
 begun_size false own early outs into l = absurd (omega (arith, l))
 
 -- a flow of the site's own is at hand
-pub row_within : (a : SiteState) → IsSet a → a.place < length a.inputs.job.plan.flat.order → a.row < length (places_of a.program.plan a.program.site)
+pub row_within : (a : SiteState) → IsSet a → a.place.value < length a.inputs.job.plan.flat.order → a.row < length (places_of a.program.plan a.program.site)
 row_within a set lp = elim (cases_lt a.row (length (places_of a.program.plan a.program.site))) [
   | inl l ↦ l
   | inr g ↦
@@ -46,14 +46,14 @@ row_within a set lp = elim (cases_lt a.row (length (places_of a.program.plan a.p
       absurd (omega (arith, over, same, lp))
 ]
 
-module _ (a : SiteState) (set_up : IsSet a) (site_flow : SiteFlow) (branches links : List ℕ) (is : IsSiteFlow a.program.plan a.program.site branches links a.place site_flow) (l : a.row < length (places_of a.program.plan a.program.site)) where
+module _ (a : SiteState) (set_up : IsSet a) (site_flow : SiteFlow) (branches links : List ℕ) (is : IsSiteFlow a.program.plan a.program.site branches links a.place.value site_flow) (l : a.row < length (places_of a.program.plan a.program.site)) where
   abbrev i : ℕ
-  i = slice_index a.program.plan.flat.order a.place
+  i = slice_index a.program.plan.flat.order a.place.value
 
   abbrev put : ℕ → ℕ
   put = slice_index is.numbers
 
-  lp : a.place < length a.program.plan.flat.order
+  lp : a.place.value < length a.program.plan.flat.order
   lp = place_within a set_up l
 
   ordered : IsOrdered a.program.plan.flat
@@ -66,7 +66,7 @@ module _ (a : SiteState) (set_up : IsSet a) (site_flow : SiteFlow) (branches lin
   place_is = is.place ∙ number a.row i (row_here a set_up l)
 
   part_here : part_of a.program.plan a.program.site i ≡ part_at a.program i
-  part_here = sym (part_there a.program i (place_below a.program.plan a.place ordered lp))
+  part_here = sym (part_there a.program i (place_below a.program.plan a.place.value ordered lp))
 
   pub own_is : site_flow.own ≡ (part_at a.program i).own
   own_is = is.own ∙ ap (λ (x : Part). x.own) part_here
@@ -88,7 +88,7 @@ module _ (a : SiteState) (set_up : IsSet a) (site_flow : SiteFlow) (branches lin
   Known r = knows a.program.plan a.program.site r ≡ true
 
   known_here : Known i
-  known_here = rank_known a.program a.row a.place (rank_here a set_up l)
+  known_here = rank_known a.program a.row a.place.value (rank_here a set_up l)
 
   row_of : (r : ℕ) → Known r → r < flows_of a.program.plan.flat → slice_get (places_of a.program.plan a.program.site) (put r) ≡ Some r
   row_of r known lr =
@@ -142,7 +142,7 @@ module _ (a : SiteState) (set_up : IsSet a) (site_flow : SiteFlow) (branches lin
         record { now = now; upto = ap₂ latest now last; last = last }
 
     was : part.was ≡ whole.was
-    was = ap ticked_in (past_known i known_here (place_below a.program.plan a.place ordered lp))
+    was = ap ticked_in (past_known i known_here (place_below a.program.plan a.place.value ordered lp))
 
     operands : stands a.inputs.job.plan i a.inputs.site ≡ true → All (IsSeen put part whole) (places is.flow.form)
     operands own =

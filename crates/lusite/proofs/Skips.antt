@@ -60,6 +60,7 @@ module _ (job : JobView) (s : ℕ) (ij : IsJob job) where
     now_len = st.now_len;
     pasts_len = st.pasts_len;
     counts = st.counts;
+    known = st.known;
     kept = st.kept;
     shown = λ lt r lr known. elim (cases_lt r p) [
       | inl l ↦ st.shown lt r l known

@@ -26,7 +26,8 @@ stands_start job s now pasts en ep =
       now_len = ap length en ∙ length-replicate n Absent;
       pasts_len = len;
       counts = subst (λ (xs : List Past). All (λ x. x.count ≤ 0) xs) (sym ep) (All-replicate (λ (x : Past). x.count ≤ 0) n none (omega arith));
-      kept = λ i l _. record { past = none; there = ap (λ xs. slice_get xs i) ep ∙ slice_get-get_or (replicate n none) i none (let e = length-replicate n none in omega (arith, e)) ∙ ap Some (get_or-replicate n i none none l); last = refl; ticks = refl; count = refl };
+      known = λ i l _. record { past = none; last = refl; ticks = refl; count = refl };
+      kept = λ i l _ _. record { past = none; there = ap (λ xs. slice_get xs i) ep ∙ slice_get-get_or (replicate n none) i none (let e = length-replicate n none in omega (arith, e)) ∙ ap Some (get_or-replicate n i none none l); last = refl; ticks = refl; count = refl };
       shown = λ _ q l. absurd (omega arith);
       here = λ _ l. absurd (omega arith);
       no_stop = λ _. subst (λ (m : ℕ). IsFree job (take m (endless job (streams_of job) s))) (sym (before_start job (streams_of job) s)) tt;

@@ -244,7 +244,7 @@ module _ (a : SiteState) (g : Going a) where
   not_faulted (Ready lp lj) =
       let job = a.inputs.job in
       let h : Here a = record { going_on = g; place_lt = lp; step_lt = lj } in
-      let x = some_at (cell job (streams_of job) a.inputs.site a.instant (slice_index job.plan.flat.order a.place)) a.step lj in
+      let x = some_at (cell job (streams_of job) a.inputs.site a.instant (slice_index job.plan.flat.order a.place.value)) a.step lj in
       let l = slice_get_within (script job (streams_of job) a.inputs.site) (done_of a) x.0 (hand_next a h ∙ x.1) in
       ap (λ (b : Bool). b && list_any (is_break site_plan) (script job (streams_of job) a.inputs.site)) (ne_eqb (done_of a) (length (script job (streams_of job) a.inputs.site)) (λ e. omega (arith, e, l)))
   not_faulted (Over et ep ej) =
@@ -253,10 +253,10 @@ module _ (a : SiteState) (g : Going a) where
       let e = no_break site_plan [] (script job (streams_of job) a.inputs.site) free in
       ap (λ (b : Bool). nat_eq (done_of a) (length (script job (streams_of job) a.inputs.site)) && b) e ∙ both (nat_eq (done_of a) (length (script job (streams_of job) a.inputs.site)))
     where
-      ended_here : a.instant ≡ a.inputs.job.inputs.instants → a.place ≡ length a.inputs.job.plan.flat.order → a.step ≡ 0 → (items_before a.inputs.job (streams_of a.inputs.job) a.inputs.site a.inputs.job.inputs.instants (length a.inputs.job.plan.flat.order) 0 ≡ length (script a.inputs.job (streams_of a.inputs.job) a.inputs.site)) × HasNoStop a.inputs.job a.inputs.site
+      ended_here : a.instant ≡ a.inputs.job.inputs.instants → a.place.value ≡ length a.inputs.job.plan.flat.order → a.step ≡ 0 → (items_before a.inputs.job (streams_of a.inputs.job) a.inputs.site a.inputs.job.inputs.instants (length a.inputs.job.plan.flat.order) 0 ≡ length (script a.inputs.job (streams_of a.inputs.job) a.inputs.site)) × HasNoStop a.inputs.job a.inputs.site
       ended_here et ep ej =
           let job = a.inputs.job in
-          let st = subst (λ (j : ℕ). Stands job a.inputs.site (shown_of a) (pasts_of a) job.inputs.instants (length job.plan.flat.order) j false) ej (subst (λ (p : ℕ). Stands job a.inputs.site (shown_of a) (pasts_of a) job.inputs.instants p a.step false) ep (subst (λ (t : ℕ). Stands job a.inputs.site (shown_of a) (pasts_of a) t a.place a.step false) et g.stands)) in
+          let st = subst (λ (j : ℕ). Stands job a.inputs.site (shown_of a) (pasts_of a) job.inputs.instants (length job.plan.flat.order) j false) ej (subst (λ (p : ℕ). Stands job a.inputs.site (shown_of a) (pasts_of a) job.inputs.instants p a.step false) ep (subst (λ (t : ℕ). Stands job a.inputs.site (shown_of a) (pasts_of a) t a.place.value a.step false) et g.stands)) in
           ended job a.inputs.site g.set.is_job (shown_of a) (pasts_of a) st
 
       both : (b : Bool) → (b && false) ≡ false
@@ -266,27 +266,27 @@ module _ (a : SiteState) (g : Going a) where
   left_cells : IsReadyAt a → left_after site_plan a.inputs.site (done_of a) ≡ left_in (cells site_plan a.inputs.site) (done_of a)
   left_cells ready = ap (λ (b : Bool). cond b 0 (left_in (cells site_plan a.inputs.site) (done_of a))) (not_faulted ready)
 
-  pub state_early : IsReadyAt a → a.instant < a.inputs.job.inputs.instants → (left_after site_plan a.inputs.site (done_of a) ≡ (widths a.program true (drop a.place a.program.plan.flat.order) - a.step) + (((a.inputs.job.inputs.instants - a.instant) - 1) * widths a.program true (drop 0 a.program.plan.flat.order) + widths a.program false (drop 0 a.program.plan.flat.order))) × (a.step ≤ widths a.program true (drop a.place a.program.plan.flat.order))
+  pub state_early : IsReadyAt a → a.instant < a.inputs.job.inputs.instants → (left_after site_plan a.inputs.site (done_of a) ≡ (widths a.program true (drop a.place.value a.program.plan.flat.order) - a.step) + (((a.inputs.job.inputs.instants - a.instant) - 1) * widths a.program true (drop 0 a.program.plan.flat.order) + widths a.program false (drop 0 a.program.plan.flat.order))) × (a.step ≤ widths a.program true (drop a.place.value a.program.plan.flat.order))
   state_early (Ready lp lj) lt =
-      let h = left_early a.inputs.job g.set.is_job a.inputs.site a.instant a.place a.step lt lp lj in
+      let h = left_early a.inputs.job g.set.is_job a.inputs.site a.instant a.place.value a.step lt lp lj in
       let n = (a.inputs.job.inputs.instants - a.instant) - 1 in
-      let e = ap (λ k. k - a.step) (sym (widths_are true a.place)) in
+      let e = ap (λ k. k - a.step) (sym (widths_are true a.place.value)) in
       let f = ap₂ (λ k m. n * k + m) (sym (widths_are true 0)) (sym (widths_are false 0)) in
-      (left_cells (Ready lp lj) ∙ h.0 ∙ ap₂ (λ k m. k + m) e f, let w = widths_are true a.place in let le = h.1 in omega (arith, w, le))
+      (left_cells (Ready lp lj) ∙ h.0 ∙ ap₂ (λ k m. k + m) e f, let w = widths_are true a.place.value in let le = h.1 in omega (arith, w, le))
   state_early (Over et ep ej) lt = absurd (omega (arith, et, lt))
 
-  pub state_late : IsReadyAt a → a.inputs.job.inputs.instants ≤ a.instant → (left_after site_plan a.inputs.site (done_of a) ≡ widths a.program false (drop a.place a.program.plan.flat.order) - a.step) × (a.step ≤ widths a.program false (drop a.place a.program.plan.flat.order))
+  pub state_late : IsReadyAt a → a.inputs.job.inputs.instants ≤ a.instant → (left_after site_plan a.inputs.site (done_of a) ≡ widths a.program false (drop a.place.value a.program.plan.flat.order) - a.step) × (a.step ≤ widths a.program false (drop a.place.value a.program.plan.flat.order))
   state_late (Ready lp lj) ge =
       let le = g.stands.instant_le in
-      let h = left_late a.inputs.job g.set.is_job a.inputs.site a.instant a.place a.step (omega (arith, ge, le)) lp lj in
-      (left_cells (Ready lp lj) ∙ h.0 ∙ ap (λ k. k - a.step) (sym (widths_are false a.place)), let w = widths_are false a.place in let le = h.1 in omega (arith, w, le))
+      let h = left_late a.inputs.job g.set.is_job a.inputs.site a.instant a.place.value a.step (omega (arith, ge, le)) lp lj in
+      (left_cells (Ready lp lj) ∙ h.0 ∙ ap (λ k. k - a.step) (sym (widths_are false a.place.value)), let w = widths_are false a.place.value in let le = h.1 in omega (arith, w, le))
   state_late (Over et ep ej) ge =
       let job = a.inputs.job in
       let n : done_of a ≡ items_before job (streams_of job) a.inputs.site job.inputs.instants (length job.plan.flat.order) 0 =
-      ap (λ (t : ℕ). items_before job (streams_of job) a.inputs.site t a.place a.step) et ∙ ap₂ (items_before job (streams_of job) a.inputs.site job.inputs.instants) ep ej in
+      ap (λ (t : ℕ). items_before job (streams_of job) a.inputs.site t a.place.value a.step) et ∙ ap₂ (items_before job (streams_of job) a.inputs.site job.inputs.instants) ep ej in
       let z = left_cells (Over et ep ej) ∙ ap (left_in (cells site_plan a.inputs.site)) n ∙ left_end job g.set.is_job a.inputs.site in
       let k = ap (λ (q : PlanView). length q.flat.order) g.set.plan_is in
-      let w = widths_end a.program false a.program.plan.flat.order a.place (omega (arith, k, ep)) in
+      let w = widths_end a.program false a.program.plan.flat.order a.place.value (omega (arith, k, ep)) in
       (z ∙ omega (arith, w), omega (arith, ej))
 
 -- a state that reports a fault has faulted

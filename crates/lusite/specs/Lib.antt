@@ -1,3 +1,4 @@
+pub mod KeptFlows
 pub mod Machine
 pub mod Logs
 pub mod Sites

@@ -31,7 +31,7 @@ pub record IsOutput (job : JobView) (s n k : ℕ) (xs : List Status) : Type 0 wh
 -- the rank up to which a machine has passed the outputs: a present one is passed with its computation, an
 -- absent one with its flow
 abbrev pub passed_to : SiteState → ℕ
-passed_to a = a.place + add_if (nat_lt 0 a.step && not (is_faulted a))
+passed_to a = a.place.value + add_if (nat_lt 0 a.step && not (is_faulted a))
 
 abbrev pub IsLoggedAt : SiteState → Type 0
 IsLoggedAt a = IsLogged a.inputs.job a.inputs.site (logs_of a) a.instant (passed_to a)

@@ -26,6 +26,11 @@ use Rattle.lueval_lines.specs.declared.cell.Cell.{Cell}
 use Rattle.lueval_lines.specs.declared.cell.Cell.TheVariants as cells
 use Rattle.lueval_lines.specs.Cells.{statuses, last_of, ticks_of, is_absent}
 use Rattle.lueval_lines.specs.Frames.{clock_in, datum_in, view_in, IsShown, IsPast}
+use Rattle.luflow.specs.Program.{FlatView, InputsView}
+use Rattle.luflow.specs.Streams.{Streams, before, ticked}
+use Rattle.luflow.specs.Messages.{presents}
+use Rattle.luflow.specs.Solution.{clock_of_flow}
+use Rattle.lusite.specs.KeptFlows.{IsKept, AreKept}
 use Rattle.lusite.specs.declared.next.Next.{Next}
 use Rattle.lusite.specs.declared.next.Next.TheVariants.{Local, Take, Put, Ended, Faulted}
 use Rattle.lusite.specs.declared.next.Fault.{Fault}
@@ -34,7 +39,7 @@ use Rattle.lusite.specs.declared.report.Standing.TheVariants.{Ended as StandsEnd
 use Rattle.lusite.specs.declared.report.Standing.TheVariants.{Cut}
 use Rattle.lusite_program.specs.declared.program.Part.{Part}
 use Rattle.lusite.specs.declared.state.SiteState.{SiteState}
-use Rattle.lusite_program.specs.Programs.{SiteProgramView, part_at, places_of, rank_at}
+use Rattle.lusite_program.specs.Programs.{SiteProgramView, part_at, places_of, rank_at, ranks_of}
 use Rattle.lusite_program.specs.Spread.{spread}
 
 abbrev pub is_faulted : SiteState → Bool
@@ -52,6 +57,13 @@ pub record IsFaultAt (job : JobView) (s : ℕ) (fault : Fault) : Type 0 where
   pub last : slice_get (script job (streams_of job) s) (length (script job (streams_of job) s) - 1) ≡ Some
       (Compute place fault.instant)
 
+-- flow r isn't broken before instant t, and this is its past there
+pub record HasPast (flat : FlatView) (inputs : InputsView) (σ : Streams) (t r : ℕ) : Type 0 where
+  pub past : Past
+  pub last : before (σ r) t ≡ Some past.last
+  pub ticks : ticked (clock_of_flow inputs σ (flow_at flat r)) t ≡ Some past.ticked
+  pub count : presents (σ r) t ≡ past.count
+
 -- what the machine of site s holds, where it stands at step j of the flow of rank p at instant t
 pub record Stands (job : JobView) (s : ℕ) (now : List Status) (pasts : List Past) (t p j : ℕ)
     (faulted : Bool) : Type 0 where
@@ -62,7 +74,9 @@ pub record Stands (job : JobView) (s : ℕ) (now : List Status) (pasts : List Pa
   pub now_len : length now ≡ flows_of job.plan.flat
   pub pasts_len : length pasts ≡ flows_of job.plan.flat
   pub counts : All (λ x. x.count ≤ t) pasts
-  pub kept : (i : ℕ) → i < flows_of job.plan.flat → knows job.plan s i ≡ true
+  pub known : (i : ℕ) → i < flows_of job.plan.flat → knows job.plan s i ≡ true
+      → HasPast job.plan.flat job.inputs (streams_of job) t i
+  pub kept : (i : ℕ) → i < flows_of job.plan.flat → knows job.plan s i ≡ true → IsKept job.plan s i
       → IsPast job.plan.flat job.inputs (streams_of job) pasts t i
   pub shown : t < job.inputs.instants → (q : ℕ) → q < p
       → knows job.plan s (slice_index job.plan.flat.order q) ≡ true
@@ -139,26 +153,27 @@ pub record IsSet (a : SiteState) : Type 0 where
   pub is_job : IsJob a.inputs.job
   pub plan_is : a.program.plan ≡ a.inputs.job.plan
   pub site_is : a.program.site ≡ a.inputs.site
-  pub rank_is : a.place ≡ rank_at a.program a.row
+  pub rank_is : a.place.value ≡ rank_at a.program a.row
   pub row_in : a.row ≤ length (places_of a.program.plan a.program.site)
   pub shown_fit : length a.shown.items ≡ length (places_of a.program.plan a.program.site)
   pub lasts_fit : length a.lasts.items ≡ length (places_of a.program.plan a.program.site)
   pub pasts_fit : length a.lasts.items ≡ length a.counts.items
   pub logs_fit : length a.logs.items ≡ length (places_of a.program.plan a.program.site)
+  pub kept_are : AreKept a.program.plan a.program.site a.kept.items
 
 -- the fault that a machine reports is one
 abbrev pub ReportsFault : SiteState → Type 0
 ReportsFault a = (fault : Fault) → a.fault ≡ Some fault → IsFaultAt a.inputs.job a.inputs.site fault
 
 abbrev pub StandsAt : SiteState → Type 0
-StandsAt a = Stands a.inputs.job a.inputs.site (shown_of a) (pasts_of a) a.instant a.place a.step
+StandsAt a = Stands a.inputs.job a.inputs.site (shown_of a) (pasts_of a) a.instant a.place.value a.step
     (is_faulted a)
 
 abbrev pub done_of : SiteState → ℕ
-done_of a = items_before a.inputs.job (streams_of a.inputs.job) a.inputs.site a.instant a.place a.step
+done_of a = items_before a.inputs.job (streams_of a.inputs.job) a.inputs.site a.instant a.place.value a.step
 
 abbrev pub IsReadyAt : SiteState → Type 0
-IsReadyAt a = IsReady a.inputs.job a.inputs.site a.instant a.place a.step
+IsReadyAt a = IsReady a.inputs.job a.inputs.site a.instant a.place.value a.step
 
 -- the parts that never change
 pub record IsSameRun (a b : SiteState) : Type 0 where
@@ -168,7 +183,7 @@ pub record IsSameRun (a b : SiteState) : Type 0 where
 -- falls with each move that does nothing
 abbrev pub rest_of : SiteState → ℕ
 rest_of a = (a.inputs.job.inputs.instants - a.instant) * (length a.program.plan.flat.order + 1) +
-    (length a.program.plan.flat.order - a.place)
+    (length a.program.plan.flat.order - a.place.value)
 
 -- how many items a flow has, as the machine works it out: by whether its clock is open, whether it is the
 -- site's own, whether the instant is one of the table, the number of links out, and whether there is one in
@@ -189,6 +204,24 @@ cell_size_of part flow n t now = in_cell (not (nat_lt t n) || is_open (clock_the
 abbrev pub cell_size : SiteState → ℕ → ℕ
 cell_size a i = cell_size_of (part_at a.program i)
     (flow_at a.program.plan.flat i) a.inputs.job.inputs.instants a.instant (shown_of a)
+
+-- the flow of the number before is present, as the machine shows its clock
+pub record IsOpenBefore (a : SiteState) : Type 0 where
+  pub number : ℕ
+  pub rank : ℕ
+  pub before : number + 1 ≡ a.row
+  pub there : slice_get (ranks_of a.program.plan a.program.site) number ≡ Some rank
+  pub is : is_open (clock_there (shown_of a)
+      (flow_at a.program.plan.flat (slice_index a.program.plan.flat.order rank))) ≡ true
+
+-- the flow of the number before is absent at this instant
+pub record IsShutBefore (a : SiteState) : Type 0 where
+  pub number : ℕ
+  pub rank : ℕ
+  pub before : number + 1 ≡ a.row
+  pub there : slice_get (ranks_of a.program.plan a.program.site) number ≡ Some rank
+  pub is : is_open (clock_of_flow a.inputs.job.inputs (streams_of a.inputs.job)
+      (flow_at a.inputs.job.plan.flat (slice_index a.inputs.job.plan.flat.order rank)) a.instant) ≡ false
 
 -- the value that the machine of a site works out for flow i, where its input is given
 abbrev pub outcome_of : Option Datum → List Status → List Past → ℕ → Option Flow → Outcome
@@ -233,7 +266,7 @@ offered_at a None = Ended
 offered_at a (Some i) = offered_part a i (part_at a.program i)
 
 abbrev pub offered : SiteState → Next
-offered a = if is_faulted a then Faulted else offered_at a (slice_get a.program.plan.flat.order a.place)
+offered a = if is_faulted a then Faulted else offered_at a (slice_get a.program.plan.flat.order a.place.value)
 
 -- Item n of the script is what the machine offers; a put's message is the one of the list whose number is the
 -- count of puts before it; at the end nothing stopped the script, or a computation of a broken flow was its

@@ -5,6 +5,7 @@
 //! - [`SiteReport`], [`Standing`]: what a site leaves.
 #![tactic(auto)]
 
+mod kept;
 mod left;
 mod next;
 mod report;

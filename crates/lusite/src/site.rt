@@ -6,12 +6,14 @@ ghost use Rattle.lueval_lines.specs.declared.cell.Cell.TheVariants.{Absent};
 ghost use Rattle.luworld.specs.Needs.{sites_of};
 ghost use Rattle.luworld.specs.Outline.{left_after};
 ghost use Rattle.luworld.specs.Jobs.{IsJob, IsJobView, outline, outputs_of, streams_of};
+ghost use Rattle.lusite.specs.KeptFlows.{AreKept};
 ghost use Rattle.lusite.specs.Logs.{IsOutput};
 ghost use Rattle.lusite.specs.Machine.{IsAtInstant, IsNext, IsLocalNext, IsPutNext, IsTakeNext, IsFaultAt};
 ghost use Rattle.lusite.specs.Widths.{most_left};
 ghost use Rattle.lusite_program.specs.Logs.{IsNewRow, row_items};
 ghost use Rattle.lusite_program.specs.Programs.{output_names, part_of, places_of, reports_output};
 
+use crate::kept::kept_of;
 use crate::next::{Fault, Next};
 use crate::state::SiteState;
 use lubase::Name;
@@ -20,16 +22,19 @@ use luplace::SiteInputs;
 use lusite_program::{Held, SiteProgram, drawn, new_held};
 use std::alloc::{AllocError, Global};
 use std::marker::Model;
+use std::snapshot::Snapshot;
 
 /// The machine of one site. A contract sees its job, its site, and how many items of the site's script are done.
 pub struct Site {
     state: SiteState,
+    /// True only where the next item is a computation.
+    local: bool,
 }
 
 // By hand, so that it is proved here alone, and not in each crate that owns one.
 impl Drop for Site {
     fn drop(self) {
-        let Self { state: _ } = self;
+        let Self { state: _, local: _ } = self;
     }
 }
 
@@ -40,11 +45,11 @@ impl Model for Site {
 
     ghost view = { λ a. site_at a.state };
 
-    ghost invariant = { λ a. IsSite a.state };
+    ghost invariant = { λ a. IsSite a.state a.local };
 }
 
 /// The site's machine at the start of its script, from what a new site holds.
-fn begun(program: SiteProgram, inputs: SiteInputs, held: Held) -> Site
+fn begun(program: SiteProgram, inputs: SiteInputs, held: Held, kept: Vec<usize>) -> Site
     requires job { IsJob inputs.job }
     requires plan_is { program.plan ≡ inputs.job.plan }
     requires site_is { program.site ≡ inputs.site }
@@ -58,6 +63,7 @@ fn begun(program: SiteProgram, inputs: SiteInputs, held: Held) -> Site
     requires each { (k i : ℕ) → slice_get (places_of program.plan program.site) k ≡ Some i
         → ForSome (slice_get held.logs.items k) (λ y. IsNewRow (part_of program.plan program.site
         i).reported inputs.job.inputs.instants y) }
+    requires kept { AreKept program.plan program.site kept.items }
     ensures job { result.job ≡ inputs.job }
     ensures site { result.site ≡ inputs.site }
     ensures done { result.done ≡ 0 }
@@ -68,13 +74,15 @@ fn begun(program: SiteProgram, inputs: SiteInputs, held: Held) -> Site
         counts,
         logs,
     } = held;
-    let place = program.rank(0);
+    let rank = program.rank(0);
+    let place = Snapshot::of(&rank);
     let mut state = SiteState {
         program,
         inputs,
         shown,
         lasts,
         counts,
+        kept,
         logs,
         instant: 0,
         row: 0,
@@ -82,8 +90,8 @@ fn begun(program: SiteProgram, inputs: SiteInputs, held: Held) -> Site
         step: 0,
         fault: None,
     };
-    state.settle();
-    Site { state }
+    let local = state.settle();
+    Site { state, local }
 }
 
 impl Site {
@@ -97,8 +105,9 @@ impl Site {
         ensures done { IfOk result (λ x. x.done ≡ 0) }
     {
         inputs.recall_invariant();
+        let kept = kept_of(alloc, &program)?;
         let held = new_held(alloc, &program, inputs.instants())?;
-        Ok(begun(program, inputs, held))
+        Ok(begun(program, inputs, held, kept))
     }
 
     /// The number of the site, from 0. Takes no memory.
@@ -114,6 +123,14 @@ impl Site {
         ensures job { IsJob self.now.job }
     {
         self.state.inputs.instants()
+    }
+
+    /// Does nothing. A proof has from it that the job's plan is one and its inputs are those of its program.
+    #[inline(always)]
+    pub fn recall_invariant(&self)
+        ensures { IsJobView self.now.job }
+    {
+        self.state.inputs.recall_invariant();
     }
 
     /// The instant at which the site stands, from 0: it has done all its items of the instants before. Once it has done all
@@ -151,6 +168,9 @@ impl Site {
     pub fn next(&self) -> Next
         ensures { IsNext self.now.job self.now.site self.now.done result }
     {
+        if self.local {
+            return Next::Local;
+        }
         self.state.offer()
     }
 
@@ -169,7 +189,7 @@ impl Site {
         ensures each { IfOk result (λ rows. (k : ℕ) → IsOutput self.job self.site self.done k
             (row_items (slice_get rows.items k))) }
     {
-        let Site { state } = self;
+        let Site { state, local: _ } = self;
         let SiteState { program, logs, .. } = state;
         drawn(alloc, &program, logs)
     }
@@ -207,9 +227,10 @@ impl Site {
         ensures site { self.new.site ≡ self.old.site }
         ensures done { self.new.done ≡ self.old.done + 1 }
     {
-        self.state.work();
-        if self.state.fault.is_none() {
-            self.state.settle();
+        self.local = false;
+        let unsent = self.state.is_unsent();
+        if self.state.work() {
+            self.local = self.state.settle_computed(unsent);
         }
     }
 
@@ -221,7 +242,7 @@ impl Site {
         ensures done { self.new.done ≡ self.old.done + 1 }
     {
         self.state.sent();
-        self.state.settle();
+        self.local = self.state.settle();
     }
 
     /// The take at hand gave this message, the next of its link.
@@ -232,6 +253,6 @@ impl Site {
         ensures done { self.new.done ≡ self.old.done + 1 }
     {
         self.state.given_message(msg);
-        self.state.settle();
+        self.local = self.state.settle();
     }
 }

@@ -1,6 +1,6 @@
 pub mod Written
 pub mod Ranges
-mod Sifted
+pub mod Sifted
 pub mod Ranks
 pub mod Carried
 pub mod Spread

@@ -20,7 +20,7 @@ use Rattle.lueval_lines.proofs.Lines.{few_branches}
 use Rattle.lueval_lines.proofs.Spans.{form_same, inside_more, slice_get_front}
 use Rattle.lusite_program.specs.declared.program.Part.{Part}
 use Rattle.lusite_program.specs.declared.program.SiteFlow.{SiteFlow}
-use Rattle.lusite_program.specs.Programs.{SiteProgramView, part_of, part_at, no_part, ranks_of, places_of, AreNumbers, IsSiteFlow}
+use Rattle.lusite_program.specs.Programs.{SiteProgramView, part_of, part_at, no_part, ranks_of, places_of, clock_at_rank, AreNumbers, HaveSame, IsSiteFlow}
 use Rattle.lusite_program.proofs.Ranks.{places_has, rank_in}
 use Rattle.lusite_program.proofs.Written.{slice_get-set_same, slice_get-set_other}
 
@@ -112,6 +112,13 @@ site_flows_more plan s old new links more site_flows site_flows' k rank site_flo
     let P : ℕ → SiteFlow → Type 0 = λ i y. (q : ℕ) → slice_get (ranks_of plan s) i ≡ Some q → IsSiteFlow plan s new (links ++ more) q y in
     let here : P (length site_flows) site_flow = λ q eq. subst (λ (r : ℕ). IsSiteFlow plan s new (links ++ more) r site_flow) (same_Some rank q (sym there ∙ ap (slice_get (ranks_of plan s)) (sym len) ∙ eq)) last in
     pushed P site_flows site_flow here (λ i y ey q eq. longer_site_flow plan s old new links more q y longer (each i q y eq ey)) j x (ap (λ (ys : List SiteFlow). slice_get ys j) (sym is) ∙ ex) p ep
+
+-- whether its clock is that of the one before it, one flow later
+pub same_more : (plan : PlanView) (s : ℕ) (site_flows : List SiteFlow) (next : SiteFlow) (rank : ℕ) → HaveSame plan s site_flows → ((j p : ℕ) → j + 1 ≡ length site_flows → slice_get (ranks_of plan s) j ≡ Some p → next.same ≡ true → clock_at_rank plan p ≡ clock_at_rank plan rank) → slice_get (ranks_of plan s) (length site_flows) ≡ Some rank → (site_flows' : List SiteFlow) → site_flows' ≡ site_flows ++ next ∷ [] → HaveSame plan s site_flows'
+same_more plan s site_flows next rank so_far here there site_flows' is j p q x ep eq ex on =
+    let P : ℕ → SiteFlow → Type 0 = λ i y. (k : ℕ) → k + 1 ≡ i → (a b : ℕ) → slice_get (ranks_of plan s) k ≡ Some a → slice_get (ranks_of plan s) i ≡ Some b → y.same ≡ true → clock_at_rank plan a ≡ clock_at_rank plan b in
+    let last : P (length site_flows) next = λ k ek a b ea eb own. here k a ek ea own ∙ ap (clock_at_rank plan) (same_Some rank b (sym there ∙ eb)) in
+    pushed P site_flows next last (λ i y ey k ek a b ea eb own. so_far k a b y ea (ap (slice_get (ranks_of plan s)) ek ∙ eb) (ap (slice_get site_flows) ek ∙ ey) own) (j + 1) x (ap (λ (ys : List SiteFlow). slice_get ys (j + 1)) (sym is) ∙ ex) j refl p q ep eq on
 
 -- a site has few flows, so their merges have few branches
 pub few_site_flows : (plan : PlanView) (s k : ℕ) (ranks branches : List ℕ) → IsPlan plan → ranks ≡ ranks_of plan s → k < length ranks → length branches ≤ k * 255 → length branches < 2 ^ 32

@@ -7,6 +7,7 @@ use Rattle.luworld.specs.Needs.{PlanView, IsPlan, sites_of, stands, home}
 use Rattle.luworld.specs.Jobs.{link_into, sends, outputs_of, knows}
 use Rattle.luflow.specs.declared.variable.Variable.{Variable}
 use Rattle.std.specs.Option.{option_map}
+use Rattle.luflow.specs.declared.form.Clock.{Clock}
 use Rattle.luflow.specs.declared.form.Flow.{Flow}
 use Rattle.lueval_lines.specs.Cells.{clock_of}
 use Rattle.lueval_lines.specs.Moving.{moved_clock, moved_form}
@@ -60,6 +61,16 @@ rank_at p k = unwrap_or (slice_get (ranks_of p.plan p.site) k) (length p.plan.fl
 abbrev pub AreNumbers : PlanView → ℕ → List ℕ → Type 0
 AreNumbers plan s numbers = (k i : ℕ) → slice_get (places_of plan s) k ≡ Some i → slice_get numbers i ≡ Some k
 
+-- the clock of the flow of rank p
+abbrev pub clock_at_rank : PlanView → ℕ → Option Clock
+clock_at_rank plan p = option_map (λ (x : Flow). x.clock) (flow_at plan.flat (slice_index plan.flat.order p))
+
+-- a flow that says so has the clock of the one before it
+abbrev pub HaveSame : PlanView → ℕ → List SiteFlow → Type 0
+HaveSame plan s site_flows = (k p q : ℕ) (site_flow : SiteFlow) → slice_get (ranks_of plan s) k ≡ Some p
+    → slice_get (ranks_of plan s) (k + 1) ≡ Some q → slice_get site_flows (k + 1) ≡ Some site_flow
+    → site_flow.same ≡ true → clock_at_rank plan p ≡ clock_at_rank plan q
+
 -- What the machine of a site has of the flow of rank p: its line, with the numbers of the site's flows in
 -- place of their places, and the site's part in it. Its branches, where it is a merge, are among these, and
 -- so are the links by which the site sends it.
@@ -88,6 +99,7 @@ pub record AreSiteFlows (plan : PlanView) (s : ℕ) (branches links : List ℕ)
   pub len : length site_flows ≡ length (ranks_of plan s)
   pub each : (k p : ℕ) (site_flow : SiteFlow) → slice_get (ranks_of plan s) k ≡ Some p
       → slice_get site_flows k ≡ Some site_flow → IsSiteFlow plan s branches links p site_flow
+  pub same : HaveSame plan s site_flows
 
 -- the number of an output's flow, where the site reports it
 abbrev pub Reports : PlanView → ℕ → ℕ → Option ℕ → Type 0

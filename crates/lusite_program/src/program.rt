@@ -44,6 +44,8 @@ pub struct SiteFlow {
     pub first: u32,
     /// By how many links the site sends the flow.
     pub outs: u32,
+    /// True only where the flow before it in order of rank has the same clock.
+    pub same: bool,
 }
 
 /// What of a plan a site runs: the flows that it computes or takes, in order of rank, and its part in each. It keeps, for contracts

@@ -1,20 +1,21 @@
 //! From a plan to a site's program.
 
-ghost use Rattle.std.specs.Prelude.{◌≡◌, ◌≢◌, ℕ, ◌+◌, ◌<◌, ◌^◌, ◌&&◌, cond, List, [], ◌∷◌, ◌++◌, filter, map, length, IfOk, OnOk, Option, slice_get, slice_index, slice_set, true};
+ghost use Rattle.std.specs.Prelude.{◌≡◌, ◌≢◌, ℕ, ◌+◌, ◌<◌, ◌^◌, ◌&&◌, cond, List, [], ◌∷◌, ◌++◌, filter, map, length, IfOk, OnOk, Option, Some, slice_get, slice_index, slice_set, true};
 ghost use Rattle.std.specs.List.{range_with_len};
 ghost use Rattle.std.specs.Option.{ForSome};
 ghost use Rattle.luworld.specs.Needs.{IsPlan, sites_of, home, stands};
 ghost use Rattle.luworld.specs.Jobs.{knows, link_into, outputs_of, sends};
 ghost use Rattle.lusite_program.specs.Carriers.{HasSources};
-ghost use Rattle.lusite_program.specs.Programs.{part_of, ranks_of, places_of, AreNumbers, IsSiteFlow, AreSiteFlows, AreReported, Reports, output_names, role_at};
+ghost use Rattle.lusite_program.specs.Programs.{clock_at_rank, part_of, ranks_of, places_of, AreNumbers, IsSiteFlow, AreSiteFlows, AreReported, Reports, output_names, role_at};
 ghost use Rattle.luflow.specs.Program.{flows_of};
 ghost use Rattle.luflow.specs.Variables.{is_output_of, is_output, variable_name};
+ghost use Rattle.lueval_lines.specs.Cells.{clock_of};
 ghost use Rattle.lueval_lines.specs.Operations.{IsLonger};
 
 use crate::carriers::{Carriers, carriers_of, take_row};
 use crate::program::{LinkNo, Part, SiteFlow, SiteProgram};
 use lubase::{Name, Row, number_at};
-use lueval_lines::{line_of, moved_branches, moved_line};
+use lueval_lines::{LineClock, line_of, moved_branches, moved_line};
 use luflow::{Flat, Variable};
 use luplace::Plan;
 use std::alloc::{AllocError, Global};
@@ -227,8 +228,21 @@ fn put_links(links: &mut Vec<LinkNo>, more: &[LinkNo]) -> Result<(), AllocError>
     Ok(())
 }
 
+/// Whether two clocks are surely the same.
+fn same_clock(a: LineClock, b: LineClock) -> bool
+    ensures { result ≡ true → clock_of a ≡ clock_of b }
+{
+    match (a, b) {
+        (LineClock::Base, LineClock::Base) => true,
+        (LineClock::Truth(x, c), LineClock::Truth(y, d)) => x == y && c == d,
+        (LineClock::Name(x, c), LineClock::Name(y, d)) => x == y && c == d,
+        _ => false,
+    }
+}
+
 /// The flow of a rank, as the machine of a site has it. The places of its branches, where it is a merge, are put behind those of
-/// other flows, and the links by which the site sends it behind those of others.
+/// other flows, and the links by which the site sends it behind those of others. The clock of the flow before is given, and its own comes
+/// in the place of that.
 fn site_flow(
     plan: &Plan,
     site: u8,
@@ -236,6 +250,7 @@ fn site_flow(
     numbers: &[u16],
     branches: &mut Vec<u16>,
     links: &mut Vec<LinkNo>,
+    clock: &mut LineClock,
     rank: usize,
 ) -> Result<SiteFlow, AllocError>
     requires rank { rank < length plan.now.flat.order }
@@ -247,8 +262,13 @@ fn site_flow(
         branches.new.items) links.new.items rank) }
     ensures longer { OnOk result (IsLonger branches.old.items branches.new.items) }
     ensures links { OnOk result (links.new.items ≡ links.old.items ++ part.now.to) }
+    ensures clock { OnOk result (Some (clock_of clock.new) ≡ clock_at_rank plan.now rank) }
+    ensures same { IfOk result
+        (λ x. x.same ≡ true → clock_of clock.old ≡ clock_of clock.new) }
 {
     let line = line_of(plan.flat(), rank, branches)?;
+    let same = same_clock(*clock, line.clock);
+    *clock = line.clock;
     let first = links.len() as u32;
     put_links(links, part.to.as_slice())?;
     Ok(SiteFlow {
@@ -259,6 +279,7 @@ fn site_flow(
         from: part.from,
         first,
         outs: part.to.as_slice().len() as u32,
+        same,
     })
 }
 
@@ -281,6 +302,7 @@ fn site_parts_of(
     let mut site_flows = Vec::with_capacity(alloc, ranks.len())?;
     let mut branches = Vec::new(alloc);
     let mut links = Vec::new(alloc);
+    let mut clock = LineClock::Base;
     for k in 0..ranks.len() {
         let next = site_flow(
             plan,
@@ -289,6 +311,7 @@ fn site_parts_of(
             numbers,
             &mut branches,
             &mut links,
+            &mut clock,
             ranks[k],
         )?;
         site_flows.push_reserved(next);

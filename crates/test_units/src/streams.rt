@@ -46,11 +46,44 @@ fn are_streams(flat: &Flat, streams: &Streams, want: &[&[Status]]) -> bool
     true
 }
 
+/// Whether these are the outputs among the program's variables, in order.
+fn are_outputs(flat: &Flat, columns: &[(String, Vec<Status>)], want: &[&[Status]]) -> bool {
+    let mut at = 0usize;
+    for variable in 0..want.len() {
+        if flat.is_output(variable) {
+            match columns.get(at) {
+                Some(column) => {
+                    if column.1.as_slice() != want[variable] {
+                        return false;
+                    }
+                }
+                None => return false,
+            }
+            at = at.wrapping_add(1);
+        }
+    }
+    at == columns.len()
+}
+
+/// Whether the main variables have these streams, and the outputs among them theirs.
+fn are_answer(alloc: Global, flat: &Flat, streams: Streams, want: &[&[Status]]) -> bool
+    requires { length streams ≡ length flat.now.variables }
+{
+    if !are_streams(flat, &streams, want) {
+        return false;
+    }
+    match streams.outputs(alloc, flat) {
+        Ok(Some(outputs)) => are_outputs(flat, outputs.columns(), want),
+        Ok(None) => are_outputs(flat, &[], want),
+        Err(_) => false,
+    }
+}
+
 /// Whether the table fits, and this is the answer.
 fn is_answer(alloc: Global, flat: &Flat, inputs: &Inputs, want: Want) -> bool {
     if inputs.fits(flat) {
         match (whole(alloc, flat, inputs), want) {
-            (Ok(streams), Want::Streams(rows)) => are_streams(flat, &streams, rows),
+            (Ok(streams), Want::Streams(rows)) => are_answer(alloc, flat, streams, rows),
             (Err(error), Want::Fault(fault)) => error == fault,
             _ => false,
         }

@@ -13,6 +13,6 @@ loop-site-preserved c =
     let e = ap length p.items in
     record {
       len = let b = inv.len in omega (arith, e, n, b);
-      each = λ s b at. pushed_at (IsAssembly c.args.job.now 0) c.loop-site.assemblies.items c.in_ok-assembly.assembly (subst (λ (m : ℕ). IsAssembly c.args.job.now 0 m c.in_ok-assembly.assembly) (sym inv.len) c.in_ok-assembly.ensures) inv.each s b (ap (λ (xs : List Assembly). slice_get xs s) (sym p.items) ∙ at);
+      each = λ s b at. pushed_at (IsAssembly c.args.job.now [] 0) c.loop-site.assemblies.items c.in_ok-assembly.assembly (subst (λ (m : ℕ). IsAssembly c.args.job.now [] 0 m c.in_ok-assembly.assembly) (sym inv.len) c.in_ok-assembly.ensures) inv.each s b (ap (λ (xs : List Assembly). slice_get xs s) (sym p.items) ∙ at);
       room = let a = p.capacity in let b = inv.room in omega (arith, a, b);
     }

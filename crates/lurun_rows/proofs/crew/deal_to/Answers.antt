@@ -1,4 +1,4 @@
-use Rattle.std.proofs.Common.{◌<◌, length, rules, Vec, Global}
+use Rattle.std.proofs.Common.{◌<◌, length, refl, rules, Vec, Global}
 use Rattle.lublock_site.specs.RowStations.{RowStationView}
 use Rattle.lurun_reports.proofs.Lists.{got_at}
 use Rattle.lurun_threads.proofs.Dealing.{one_dealt}
@@ -9,3 +9,15 @@ returns-clause-one c =
     let l : c.args.to < length c.args.shares.now.items = search rules in
     let now = c.index_mut-share.result.now in
     one_dealt (λ (s : Vec RowStationView Global). s.items) c.args.shares.now.items c.args.to now c.push.new.self c.args.served (got_at c.args.shares.now.items c.args.to now l c.index_mut-share.ensures.value) c.in_ok-push.ensures.items
+
+pub returns-clause-to : goal.returns-clause-to
+returns-clause-to c =
+    let l : c.args.to < length c.args.shares.now.items = search rules in
+    let now = c.index_mut-share.result.now in
+    record {
+      before = now;
+      after = c.push.new.self;
+      was = got_at c.args.shares.now.items c.args.to now l c.index_mut-share.ensures.value;
+      is = refl;
+      more = c.in_ok-push.ensures.items;
+    }

@@ -1,4 +1,4 @@
-use Rattle.std.proofs.Common.{◌≡◌, ◌≤◌, length, vec_len, vec_capacity}
+use Rattle.std.proofs.Common.{◌≡◌, ◌≤◌, [], All, length, vec_len, vec_capacity}
 use Rattle.lurun_rows.specs.Crew.{dealt}
 use Rattle.lurun_rows.proofs.crew.no_shares.Given as goal
 
@@ -7,4 +7,5 @@ invariant-loop l = record {
   room : l.count ≤ vec_capacity l.shares;
   len : vec_len l.shares ≡ l.counter;
   none : length (dealt l.shares.items) ≡ 0;
+  empty : All (λ s. s.items ≡ []) l.shares.items;
 }

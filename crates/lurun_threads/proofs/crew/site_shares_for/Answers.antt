@@ -11,12 +11,22 @@ weaker P Q (Ok x) f p = f x p
 weaker P Q (Err e) f p = tt
 
 pub returns-clause-all : goal.returns-clause-all
-returns-clause-all c = weaker _ _ c.site_shares_of.result (λ site_shares same. subst (IsPermutation c.args.stations.items) (sym same) c.in_ok-shares.ensures) c.site_shares_of.ensures.all
+returns-clause-all c = weaker _ _ c.site_shares_of.result (λ site_shares same. subst (IsPermutation c.args.stations.items) (sym same) c.in_ok-shares.ensures.all) c.site_shares_of.ensures.all
 
 pub returns-clause-count : goal.returns-clause-count
 returns-clause-count c = weaker _ _ c.site_shares_of.result
     (λ site_shares same.
-    (let n = length_permutation c.args.stations.items (held site_shares.items) (subst (IsPermutation c.args.stations.items) (sym same) c.in_ok-shares.ensures) in
+    (let n = length_permutation c.args.stations.items (held site_shares.items) (subst (IsPermutation c.args.stations.items) (sym same) c.in_ok-shares.ensures.all) in
     let m : vec_len c.args.stations ≡ length c.args.stations.items = search rules in
     omega (arith, n, m)))
     c.site_shares_of.ensures.all
+
+pub returns-clause-each : goal.returns-clause-each
+returns-clause-each c = weaker _ _ c.site_shares_of.result
+    (λ site_shares started. record {
+      shares = c.in_ok-shares.shares.items;
+      count = c.in_ok-shares.ensures.count;
+      each = c.in_ok-shares.ensures.each;
+      started = started;
+    })
+    c.site_shares_of.ensures.each

@@ -1,15 +1,18 @@
-use Rattle.std.proofs.Common.{refl, subst}
+use Rattle.std.proofs.Common.{◌≡◌, ◌∙◌, None, Some, ap, sym, refl, subst, slice_get}
+use Rattle.std.proofs.lemmas.Option.{slice_get_within}
+use Rattle.lusite_program.proofs.Written.{slice_get-set_same}
 use Rattle.luworld.specs.Systems.{Puts}
 use Rattle.lurun_threads.specs.declared.tries.Tried.{Tried}
 use Rattle.lurun_threads.specs.Crew.{is_done}
 use Rattle.lurun_threads.specs.Stations.{PutAs}
+use Rattle.lurun_threads.proofs.Places.{put_end}
 use Rattle.lurun_threads.proofs.Moves.{put_moves, put_none_moves, receivers_kept}
 use Rattle.lurun_threads.proofs.tries.offer_one.Goals as goal
 
 pub returns-in-Done-clause-senders : goal.returns-in-Done-clause-senders
 returns-in-Done-clause-senders c =
-    let f = c.in-Some.ensures in
-    let p = c.offer_at.ensures f.0 f.1 in
+    let f = c.in-Some.ensures.at in
+    let p = c.offer_at.ensures.put f.0 f.1 in
     put_moves c.args.site.now c.sent.new.self (c.sent.ensures.job, c.sent.ensures.site) c.sent.ensures.done c.args.txs.now.items c.offer_at.new.txs.items c.args.link c.in-Some.i c.args.msg f.0 p.0 c.requires.next.0 f.1 f.2
     (subst (λ (x : Tried). PutAs (is_done x) c.args.msg f.0 p.0) c.in-Done.is p.2) p.1 c.requires.senders
 
@@ -18,12 +21,26 @@ returns-in-Done-clause-receivers c = λ rxs. receivers_kept c.args.site.now c.se
 
 pub returns-in-Blocked-clause-senders : goal.returns-in-Blocked-clause-senders
 returns-in-Blocked-clause-senders c =
-    let f = c.in-Some.ensures in
-    let p = c.offer_at.ensures f.0 f.1 in
+    let f = c.in-Some.ensures.at in
+    let p = c.offer_at.ensures.put f.0 f.1 in
     put_none_moves c.args.site.now c.args.txs.now.items c.offer_at.new.txs.items c.in-Some.i f.0 p.0 f.1 (subst (λ (x : Tried). PutAs (is_done x) c.args.msg f.0 p.0) c.in-Blocked.is p.2) p.1 c.requires.senders
 
 pub returns-in-Over-clause-senders : goal.returns-in-Over-clause-senders
 returns-in-Over-clause-senders c =
-    let f = c.in-Some.ensures in
-    let p = c.offer_at.ensures f.0 f.1 in
+    let f = c.in-Some.ensures.at in
+    let p = c.offer_at.ensures.put f.0 f.1 in
     put_none_moves c.args.site.now c.args.txs.now.items c.offer_at.new.txs.items c.in-Some.i f.0 p.0 f.1 (subst (λ (x : Tried). PutAs (is_done x) c.args.msg f.0 p.0) c.in-Over.is p.2) p.1 c.requires.senders
+
+pub returns-in-Over-clause-over : goal.returns-in-Over-clause-over
+returns-in-Over-clause-over c = λ _.
+    (let f = c.in-Some.ensures.at in
+    let p = c.offer_at.ensures.put f.0 f.1 in
+    let none = subst (λ (x : Tried). PutAs (is_done x) c.args.msg f.0 p.0) c.in-Over.is p.2 in
+    let at = ap (λ ts. slice_get ts c.in-Some.i) p.1 ∙ slice_get-set_same c.args.txs.now.items c.in-Some.i p.0 (slice_get_within c.args.txs.now.items c.in-Some.i f.0 f.1) in
+    (c.in-Some.i, p.0, at, none.1 ∙ f.2, c.offer_at.ensures.gone c.in-Over.is p.0 at))
+
+pub unreachable-requires : goal.unreachable-requires
+unreachable-requires c =
+    let e = put_end c.args.site.now c.args.txs.now.items c.args.link c.args.msg c.recall_invariant.ensures c.requires.senders c.requires.next in
+    let there : None ≡ Some e.1.0 = sym c.in-None.is ∙ c.sender_place.ensures.found e.0 e.1.0 e.1.1 e.1.2 e.1.3 in
+    cc

@@ -26,8 +26,8 @@ use Rattle.lusite.proofs.Reported.{logged_new, none_yet, wanted_known}
 use Rattle.lusite.proofs.Machine.{there}
 use Rattle.lusite.proofs.site.begun.Goals as goal
 
-pub settle-requires : goal.settle-requires
-settle-requires c =
+pub settle-local-requires : goal.settle-local-requires
+settle-local-requires c =
     let job = c.args.inputs.job in
     let s = c.args.inputs.site in
     let p = c.args.program in
@@ -55,17 +55,18 @@ settle-requires c =
           is_job = ok;
           plan_is = e.plan_is;
           site_is = e.site_is;
-          rank_is = c.rank-place.ensures;
+          rank_is = c.of-place.ensures ∙ c.rank-rank.ensures;
+          kept_are = e.kept;
           shown_fit = ap length es ∙ length-replicate m Absent;
           lasts_fit = ap length el ∙ length-replicate m Absent;
           pasts_fit = ap length el ∙ length-replicate m Absent ∙ sym (ap length en ∙ length-replicate m 0);
           logs_fit = e.len;
           row_in = omega arith;
         };
-        stands = subst (λ (r : ℕ). Stands job s shown pasts 0 r 0 false) (sym c.rank-place.ensures)
+        stands = subst (λ (r : ℕ). Stands job s shown pasts 0 r 0 false) (sym (c.of-place.ensures ∙ c.rank-rank.ensures))
             (stands_skip job s ok shown pasts 0 0 (rank_at p 0) st (omega arith) at.0 at.1);
-        logged = none_yet job s (logs_in p logs) 0 c.rank-place.result true
-            (subst (λ (r : ℕ). IsLogged job s (logs_in p logs) 0 r) (sym c.rank-place.ensures)
+        logged = none_yet job s (logs_in p logs) 0 c.of-place.result.value true
+            (subst (λ (r : ℕ). IsLogged job s (logs_in p logs) 0 r) (sym (c.of-place.ensures ∙ c.rank-rank.ensures))
             (logged_skip job s ok (logs_in p logs) 0 0 (rank_at p 0) (omega arith) at.1
             (logged_new job s (logs_in p logs) (λ q lq. (there job s ok q lq).2)
             (λ i li wanted.
@@ -86,7 +87,7 @@ returns-clause-done c =
     let s = c.args.inputs.site in
     let at = start_next c.args.program job s c.requires.plan_is c.requires.site_is in
     let ok = c.requires.job in
-    c.settle.ensures.done
-    ∙ ap (λ p. items_before job (streams_of job) s 0 p 0) c.rank-place.ensures
+    c.settle-local.ensures.done
+    ∙ ap (λ p. items_before job (streams_of job) s 0 p 0) (c.of-place.ensures ∙ c.rank-rank.ensures)
     ∙ before_skip job s ok 0 0 (rank_at c.args.program 0) (omega arith) at.0 at.1
     ∙ before_start job (streams_of job) s

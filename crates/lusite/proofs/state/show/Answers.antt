@@ -1,5 +1,5 @@
 use Rattle.lusite.proofs.Held.{statuses_set}
 use Rattle.lusite.proofs.state.show.Goals as goal
 
-pub returns-then-i-len-clause-shown : goal.returns-then-i-len-clause-shown
-returns-then-i-len-clause-shown c = statuses_set c.args.shown.now.items c.args.i c.args.cell
+pub returns-clause-shown : goal.returns-clause-shown
+returns-clause-shown c = statuses_set c.args.shown.now.items c.args.i c.args.cell

@@ -1,5 +1,7 @@
 use Rattle.std.proofs.Common.{◌≡◌, ℕ, ◌+◌, ◌++◌, List, length, length-append, map, ap, subst, sym, ◌∙◌, arith}
-use Rattle.std.specs.Prelude.{slice_index}
+use Rattle.std.specs.Prelude.{slice_index, Some}
+use Rattle.std.specs.Option.{option_map}
+use Rattle.luflow.specs.declared.form.Flow.{Flow}
 use Rattle.std.proofs.lemmas.List.{get_or-append-add, length-map}
 use Rattle.luflow.specs.Program.{FlatView, flow_at}
 use Rattle.lueval_lines.specs.Cells.{IsLine}
@@ -46,3 +48,10 @@ returns-clause-site_flow c =
       linked = let n = ap length links in let m = length-append old to in let k = ap length c.as_slice-2.ensures in omega (arith, n, m, k);
       to = λ j l. ap (λ (n : ℕ). slice_index c.put_links.new.links.items (n + j)) first ∙ ap (λ (xs : List ℕ). slice_index xs (length old + j)) links ∙ get_or-append-add old to j 0 ∙ ap (λ (x : Part). slice_index x.to j) part;
     }
+
+pub returns-clause-clock : goal.returns-clause-clock
+returns-clause-clock c =
+    let plan = c.args.plan.now in
+    let line = c.in_ok-line.line in
+    let is = subst (λ (f : FlatView). IsLine f c.line_of.new.branches.items c.args.rank line) c.flat.ensures.flat c.in_ok-line.ensures.line in
+    ap Some is.clock ∙ ap (option_map (λ (x : Flow). x.clock)) (sym is.there ∙ ap (flow_at plan.flat) is.place)

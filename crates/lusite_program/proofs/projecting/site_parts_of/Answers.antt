@@ -1,8 +1,9 @@
-use Rattle.std.proofs.Common.{ℕ, ◌∷◌, [], List, ap, sym, subst, ◌∙◌, length, length-append, map, arith}
-use Rattle.std.specs.Prelude.{slice_index}
+use Rattle.std.proofs.Common.{◌≡◌, ℕ, ◌∷◌, [], List, ap, sym, subst, ◌∙◌, length, length-append, map, arith}
+use Rattle.std.specs.Prelude.{slice_get, slice_index, Some}
 use Rattle.lusite_program.specs.declared.program.Part.{Part}
-use Rattle.lusite_program.specs.Programs.{IsSiteFlow}
-use Rattle.lusite_program.proofs.SiteFlows.{rank_below, few_site_flows, few_sends, few_ranks, part_rank, longer_moved, site_flows_more}
+use Rattle.lusite_program.specs.Programs.{ranks_of, clock_at_rank, IsSiteFlow}
+use Rattle.std.proofs.lemmas.Option.{same_Some}
+use Rattle.lusite_program.proofs.SiteFlows.{rank_below, few_site_flows, few_sends, few_ranks, part_rank, longer_moved, site_flows_more, same_more}
 use Rattle.lusite_program.proofs.projecting.site_parts_of.Goals as goal
 
 pub site_flow-requires-clause-rank : goal.site_flow-requires-clause-rank
@@ -45,5 +46,11 @@ loop-k-preserved c =
       few = let f = so_far.few in let m = ap length longer.is in let own = longer.few in let both = length-append c.loop-k.branches.items longer.more in omega (arith, f, m, own, both);
       few_links = let f = so_far.few_links in omega (arith, f, grown, both_links, to, outs);
       each = λ j q x eq ex. subst (λ (ls : List ℕ). IsSiteFlow plan site (map put new) ls q x) (sym more) (site_flows_more plan site (map put c.loop-k.branches.items) (map put new) c.loop-k.links.items c.index-parts-k.result.to c.loop-k.site_flows.items c.push_reserved.new.self.items k (slice_index c.args.ranks.now k) next (longer_moved put c.loop-k.branches.items new longer) p.items so_far.len there (subst (λ (ls : List ℕ). IsSiteFlow plan site (map put new) ls (slice_index c.args.ranks.now k) next) more c.in_ok-next.ensures.site_flow) so_far.each j q x eq ex);
+      before = λ j r ej er. let same : j ≡ k = omega (arith, ej) in
+          let here : slice_index c.args.ranks.now k ≡ r = same_Some (slice_index c.args.ranks.now k) r (sym there ∙ ap (slice_get (ranks_of plan site)) (sym same) ∙ er) in
+          c.in_ok-next.ensures.clock ∙ ap (clock_at_rank plan) here;
+      same = same_more plan site c.loop-k.site_flows.items next (slice_index c.args.ranks.now k) so_far.same
+          (λ j r ej er on. sym (so_far.before j r (let b = so_far.len in omega (arith, ej, b)) er) ∙ ap Some (c.in_ok-next.ensures.same on) ∙ c.in_ok-next.ensures.clock)
+          (ap (slice_get (ranks_of plan site)) so_far.len ∙ there) c.push_reserved.new.self.items p.items;
       room = let a = p.capacity in let b = so_far.room in omega (arith, a, b);
     }

@@ -19,8 +19,8 @@ given_message-requires-clause-ready c =
     let next = subst (λ (v : SiteView). IsTakeNext v.job v.site v.done c.args.msg) (sym c.self.view_is) c.requires in
     c.self.invariant.ready (not_stopped c.self.inside.state _ c.self.invariant.in_order.stands next.1)
 
-pub settle-requires : goal.settle-requires
-settle-requires c =
+pub settle-self-inside-requires : goal.settle-self-inside-requires
+settle-self-inside-requires c =
     let next = subst (λ (v : SiteView). IsTakeNext v.job v.site v.done c.args.msg) (sym c.self.view_is) c.requires in
     let goes = not_stopped c.self.inside.state _ c.self.invariant.in_order.stands next.1 in
     record { in_order = c.given_message.ensures.goes_on.in_order; going = ap is_some c.given_message.ensures.goes_on.fault ∙ goes }
@@ -30,21 +30,22 @@ invariant_of-self c =
     let next = subst (λ (v : SiteView). IsTakeNext v.job v.site v.done c.args.msg) (sym c.self.view_is) c.requires in
     let goes = not_stopped c.self.inside.state _ c.self.invariant.in_order.stands next.1 in
     record {
-      in_order = c.settle.ensures.goes_on.in_order;
-      tells = λ fault e. absurd (false≢true (sym goes ∙ ap is_some (sym (c.settle.ensures.goes_on.fault ∙ c.given_message.ensures.goes_on.fault) ∙ e)));
-      ready = λ _. c.settle.ensures.ready;
+      in_order = c.settle-self-inside.ensures.goes_on.in_order;
+      tells = λ fault e. absurd (false≢true (sym goes ∙ ap is_some (sym (c.settle-self-inside.ensures.goes_on.fault ∙ c.given_message.ensures.goes_on.fault) ∙ e)));
+      ready = λ _. c.settle-self-inside.ensures.ready;
+      offers = c.settle-self-inside.ensures.local;
     }
 
 pub returns : goal.returns
 returns c =
     let a = c.self.inside.state in
     let b = c.given_message.new.self in
-    let d = c.settle.new.self in
+    let d = c.settle-self-inside.new.self in
     let v = c.args.self.now in
     let one = c.given_message.ensures.goes_on.same in
-    let two = c.settle.ensures.goes_on.same in
+    let two = c.settle-self-inside.ensures.goes_on.same in
     record {
       job = same_job a b d v c.self.view_is one two;
       site = same_site a b d v c.self.view_is one two;
-      done = done_more a b d v c.self.view_is one two c.given_message.ensures.done c.settle.ensures.done;
+      done = done_more a b d v c.self.view_is one two c.given_message.ensures.done c.settle-self-inside.ensures.done;
     }

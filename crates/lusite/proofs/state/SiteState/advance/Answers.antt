@@ -17,23 +17,23 @@ has_item-requires-clause-begun c some =
     let w = (g.stands.step_le some).1 in
     omega (arith, size, w)
 
-pub pass-requires-clause-within : goal.pass-requires-clause-within
-pass-requires-clause-within c =
+pub pass_all-requires-clause-within : goal.pass_all-requires-clause-within
+pass_all-requires-clause-within c =
     let a = c.args.self.now in
     place_within a c.requires.in_order.set (omega (arith, ap length c.places.ensures))
 
-pub pass-requires-clause-all : goal.pass-requires-clause-all
-pass-requires-clause-all c =
+pub pass_all-requires-clause-all : goal.pass_all-requires-clause-all
+pass_all-requires-clause-all c =
     let a = c.args.self.now in
     let l : a.row < length (places_of a.program.plan a.program.site) = omega (arith, ap length c.places.ensures) in
-    let i = slice_index a.program.plan.flat.order a.place in
+    let i = slice_index a.program.plan.flat.order a.place.value in
     full_state a (going_state a c.requires) (place_within a c.requires.in_order.set l) (lt_no a.step (cell_size a i) (sym c.has_item.ensures ∙ c.if-has_item.false))
 
 pub returns-then-has_item-clause-ready : goal.returns-then-has_item-clause-ready
 returns-then-has_item-clause-ready c _ =
     let a = c.args.self.now in
     let l : a.row < length (places_of a.program.plan a.program.site) = omega (arith, ap length c.places.ensures) in
-    let i = slice_index a.program.plan.flat.order a.place in
+    let i = slice_index a.program.plan.flat.order a.place.value in
     ready_state a (going_state a c.requires) (place_within a c.requires.in_order.set l) (ltb-true a.step (cell_size a i) (sym c.has_item.ensures ∙ c.if-has_item.true))
 
 pub tick-requires-clause-last : goal.tick-requires-clause-last
@@ -45,5 +45,5 @@ pub returns-clause-ready : goal.returns-clause-ready
 returns-clause-ready c _ =
     let a = c.args.self.now in
     let g = going_state a c.requires in
-    let end : a.place ≡ length a.inputs.job.plan.flat.order = place_over a c.requires.in_order.set (omega (arith, ap length c.places.ensures)) ∙ ap (λ (q : PlanView). length q.flat.order) c.requires.in_order.set.plan_is in
+    let end : a.place.value ≡ length a.inputs.job.plan.flat.order = place_over a c.requires.in_order.set (omega (arith, ap length c.places.ensures)) ∙ ap (λ (q : PlanView). length q.flat.order) c.requires.in_order.set.plan_is in
     Over (omega (arith, c.requires.in_order.stands.instant_le, c.if-self-instants.false, c.instants.ensures)) end (no_step a g end)

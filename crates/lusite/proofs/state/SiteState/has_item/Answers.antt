@@ -10,7 +10,7 @@ returns-then-self-eq0 c =
     let site_flow = c.site_flow-site_flow.result.now in
     let early = nat_lt a.instant c.instants.result in
     let size = size_is a c.requires.set site_flow c.site_flow-site_flow.ensures.0 c.site_flow-site_flow.ensures.1 c.site_flow-site_flow.ensures.2 c.requires.within early (ap (nat_lt a.instant) c.instants.ensures) in
-    c.has_first.ensures ∙ ap (nat_lt 0) (sym size) ∙ ap (λ (j : ℕ). nat_lt j (cell_size a (slice_index a.program.plan.flat.order a.place))) (sym c.if-self-eq0.true)
+    c.has_first.ensures ∙ ap (nat_lt 0) (sym size) ∙ ap (λ (j : ℕ). nat_lt j (cell_size a (slice_index a.program.plan.flat.order a.place.value))) (sym c.if-self-eq0.true)
 
 pub returns : goal.returns
 returns c =

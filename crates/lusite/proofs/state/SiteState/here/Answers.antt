@@ -13,4 +13,4 @@ returns c =
     let n = length-map (ranks_of a.program.plan a.program.site) (slice_index a.program.plan.flat.order) in
     let e = c.code.ensures.len in
     let l = c.requires.within in
-    c.code.ensures.each a.row a.place _ (rank_here a c.requires.set l) (slice_get-get_or site_flows a.row _ (omega (arith, n, e, l)))
+    c.code.ensures.each a.row a.place.value _ (rank_here a c.requires.set l) (slice_get-get_or site_flows a.row _ (omega (arith, n, e, l)))

@@ -7,7 +7,7 @@ use Rattle.lusite.proofs.SiteStates.{going}
 use Rattle.lusite.proofs.Widths.{state_early, state_late, widths_first}
 use Rattle.lusite.proofs.state.SiteState.left.Goals as goal
 
-from_here : (a : SiteState) → IsSet a → (early : Bool) → widths a.program early (drop (rank_at a.program a.row) a.program.plan.flat.order) ≡ widths a.program early (drop a.place a.program.plan.flat.order)
+from_here : (a : SiteState) → IsSet a → (early : Bool) → widths a.program early (drop (rank_at a.program a.row) a.program.plan.flat.order) ≡ widths a.program early (drop a.place.value a.program.plan.flat.order)
 from_here a set early = ap (λ (p : ℕ). widths a.program early (drop p a.program.plan.flat.order)) (sym set.rank_is)
 
 pub overflow_sub-here : goal.overflow_sub-here

@@ -15,7 +15,7 @@ returns-then-site_flow c =
     let links = c.here.result.2.now in
     let is = c.here.ensures in
     let l : a.row < length (places_of a.program.plan a.program.site) = omega (arith, ap length c.places.ensures) in
-    let i = slice_index a.program.plan.flat.order a.place in
+    let i = slice_index a.program.plan.flat.order a.place.value in
     let goes : is_faulted a ≡ false = sym c.is_some.ensures ∙ c.if-is_some.false in
     c.offer_own.ensures ∙ offered_own_here a c.requires l goes i refl (sym (own_is a c.requires site_flow branches links is l) ∙ c.if-site_flow.true)
 
@@ -27,7 +27,7 @@ returns-else-site_flow c =
     let links = c.here.result.2.now in
     let is = c.here.ensures in
     let l : a.row < length (places_of a.program.plan a.program.site) = omega (arith, ap length c.places.ensures) in
-    let i = slice_index a.program.plan.flat.order a.place in
+    let i = slice_index a.program.plan.flat.order a.place.value in
     let goes : is_faulted a ≡ false = sym c.is_some.ensures ∙ c.if-is_some.false in
     ap Take (c.unwrap_or.ensures ∙ ap (λ o. unwrap_or o 0) (from_is a c.requires site_flow branches links is l))
     ∙ offered_take_here a c.requires l goes i refl (sym (own_is a c.requires site_flow branches links is l) ∙ c.if-site_flow.false)

@@ -13,7 +13,7 @@ returns c =
     let a = c.args.self.now in
     let r = c.requires in
     let site_flow = c.args.site_flow.now in
-    let i = slice_index a.program.plan.flat.order a.place in
+    let i = slice_index a.program.plan.flat.order a.place.value in
     let n : c.count_at-no.result ≡ count_kept (pasts_of a) i = c.count_at-no.ensures ∙ ap (λ (xs : List ℕ). unwrap_or (slice_get xs a.row) 0) c.deref.ensures.value ∙ sym (count_row a c.requires.set c.requires.within) in
     offered_close a i (part_at a.program i).to c.link_of-link.result c.count_at-no.result
     (lt-false a.instant a.inputs.job.inputs.instants c.requires.late)

@@ -18,13 +18,13 @@ pub returns-clause-less : goal.returns-clause-less
 returns-clause-less c =
     let a = c.args.self.now in
     let above = next_above a c.requires.going.in_order.set c.requires.row in
-    omega (arith, above, c.rank-self.ensures, c.requires.within)
+    omega (arith, above, (c.of.ensures ∙ c.rank-rank.ensures), c.requires.within)
 
 pub returns-clause-done : goal.returns-clause-done
 returns-clause-done c =
     let a = c.args.self.now in
     let g = going_state a c.requires.going in
-    ap (λ p. items_before a.inputs.job (streams_of a.inputs.job) a.inputs.site a.instant p 0) c.rank-self.ensures
+    ap (λ p. items_before a.inputs.job (streams_of a.inputs.job) a.inputs.site a.instant p 0) (c.of.ensures ∙ c.rank-rank.ensures)
     ∙ (pass_next a g c.requires.row (shown_in a.program c.clear.new.shown.items) c.requires.all (λ e. shown_set a c.requires.going.in_order.set c.requires.row c.clear.new.shown.items Absent (c.clear.ensures.cleared e)) (λ l. left_same a c.clear.new.shown.items (c.clear.ensures.left l))).1
 
 pub note-requires-clause-within : goal.note-requires-clause-within
@@ -34,7 +34,7 @@ pub note-requires-clause-room : goal.note-requires-clause-room
 note-requires-clause-room c on =
     let a = c.args.self.now in
     let g = going_state a c.requires.going in
-    let i = slice_index a.program.plan.flat.order a.place in
+    let i = slice_index a.program.plan.flat.order a.place.value in
     let y = absent_yes a.step (is_noted a i) c.absent_noted-wanted.result c.absent_noted-wanted.ensures on in
     log_room a c.requires.going.in_order.set c.requires.row (note_room a g c.requires.within c.requires.going.in_order.logged y.0 y.1).1
 
@@ -45,7 +45,7 @@ returns-clause-goes_on c =
     let g = going_state a on in
     let set = on.in_order.set in
     let logged = on.in_order.logged in
-    let i = slice_index a.program.plan.flat.order a.place in
+    let i = slice_index a.program.plan.flat.order a.place.value in
     let w = c.absent_noted-wanted.ensures in
     let r = c.absent_noted-wanted.result in
     let shown = shown_in a.program c.clear.new.shown.items in
@@ -65,17 +65,21 @@ returns-clause-goes_on c =
           is_job = set.is_job;
           plan_is = set.plan_is;
           site_is = set.site_is;
-          rank_is = c.rank-self.ensures;
+          rank_is = c.of.ensures ∙ c.rank-rank.ensures;
+          kept_are = set.kept_are;
           shown_fit = c.clear.ensures.len ∙ set.shown_fit;
           lasts_fit = set.lasts_fit;
           pasts_fit = set.pasts_fit;
           logs_fit = c.note.ensures.len ∙ set.logs_fit;
           row_in = let l = c.requires.row in omega (arith, l);
         };
-        stands = subst (λ (p : ℕ). Stands a.inputs.job a.inputs.site shown (pasts_of a) a.instant p 0 (is_faulted a)) (sym c.rank-self.ensures)
+        stands = subst (λ (p : ℕ). Stands a.inputs.job a.inputs.site shown (pasts_of a) a.instant p 0 (is_faulted a)) (sym (c.of.ensures ∙ c.rank-rank.ensures))
             (pass_next a g c.requires.row shown c.requires.all cleared left).0;
-        logged = none_yet a.inputs.job a.inputs.site (logs_in a.program logs) a.instant c.rank-self.result (not (is_faulted a))
-            (subst (λ (p : ℕ). IsLogged a.inputs.job a.inputs.site (logs_in a.program logs) a.instant p) (sym c.rank-self.ensures) (logged_next a g c.requires.row (logs_in a.program logs) n));
+        logged = none_yet a.inputs.job a.inputs.site (logs_in a.program logs) a.instant c.of.result.value (not (is_faulted a))
+            (subst (λ (p : ℕ). IsLogged a.inputs.job a.inputs.site (logs_in a.program logs) a.instant p) (sym (c.of.ensures ∙ c.rank-rank.ensures)) (logged_next a g c.requires.row (logs_in a.program logs) n));
       };
       fault = refl;
     }
+
+pub returns-clause-shown : goal.returns-clause-shown
+returns-clause-shown c some = left_same c.args.self.now c.clear.new.shown.items (c.clear.ensures.left some)
