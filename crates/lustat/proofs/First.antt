@@ -36,7 +36,7 @@ no_rule (CurrentMayBeNil byte) h = absurd (cc)
 no_rule OutOfMemory h = refl
 
 -- the stage of the rule that a refusal reports
-stage_of_reported : (e : StatError) (rule : Rule) → rule_of e ≡ Some rule → stage_reported e ≡ stage rule
+pub stage_of_reported : (e : StatError) (rule : Rule) → rule_of e ≡ Some rule → stage_reported e ≡ stage rule
 stage_of_reported e rule reported = ap (λ n. n / 10) (ap number_reported reported)
 
 pub first_of_names : (p : Program) (main : List ℕ) (e : StatError) → ReportsRule 1 (program_view p) main e → IsFirstOfNames p main e → IsReportedFirst p main e

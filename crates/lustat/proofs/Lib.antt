@@ -1,3 +1,4 @@
 mod Reporting
 mod First
 pub mod Same
+mod Surveyed

@@ -1,9 +1,11 @@
 -- From the tests of single rules to the check of a place.
-use Rattle.std.proofs.Common.{◌≡◌, ◌⊎◌, inl, inr, ℕ, Option, None, Some, IsTrue, refl, sym, subst, true≢false}
+use Rattle.std.proofs.Common.{◌≡◌, ◌⊎◌, inl, inr, ℕ, ◌∷◌, [], Option, None, Some, IsTrue, refl, sym, true≢false}
 use Rattle.lustat_rules.specs.Accepted.{Rule, duplicate_name, unknown_name, unknown_node, type_mismatch, wrong_arity, undefined, defined_twice, recursive_node, no_main, bad_merge, clock_mismatch, not_a_clock, clocked_parameter, hidden_clock, maybe_nil, current_may_be_nil}
 use Rattle.lustat_rules.specs.declared.error.StatError.{StatError}
 use Rattle.lustat_rules.specs.Faults.{lesser_of, IsJudged, FaultAt, AllKept}
 use Rattle.lustat_rules.proofs.Judging.{RuleFault, judged_both, judged_same}
+use Rattle.lustat_faults.specs.Told.{Tells}
+use Rattle.lustat_faults.proofs.Telling.{TellsOne, tells_last, tells_more, tells_same}
 use Rattle.lustat_clocks.specs.Asked.{is_asked}
 
 module _ (byte : ℕ) (K : Rule → Type 0) where
@@ -77,19 +79,37 @@ module _ (byte : ℕ) (K : Rule → Type 0) where
   silent : (rule : Rule) → K rule → One rule None
   silent rule k = (k, λ e f. f.2 k)
 
-  lesser_none : (o : Option StatError) → lesser_of o None ≡ o
-  lesser_none None = refl
-  lesser_none (Some e) = refl
+  -- without a rule that is kept
+  unmatched : K clock_mismatch → (e : StatError) → Any e → Fault not_a_clock e ⊎ (Fault clocked_parameter e ⊎ Fault hidden_clock e)
+  unmatched k e (inl h) = absurd (h.2 k)
+  unmatched k e (inr h) = h
 
-  pub declaration_judged : (b c d : Option StatError) → K clock_mismatch → One not_a_clock b → One clocked_parameter c → One hidden_clock d →
-      IsJudged (FaultAt is_asked byte K) (AllKept is_asked K) (lesser_of b (lesser_of c d))
-  declaration_judged b c d k jb jc jd = all_judged None b c d (silent clock_mismatch k) jb jc jd
+  unhidden : K hidden_clock → (e : StatError) → Any e → Fault clock_mismatch e ⊎ (Fault not_a_clock e ⊎ Fault clocked_parameter e)
+  unhidden k e (inl h) = inl h
+  unhidden k e (inr (inl h)) = inr (inl h)
+  unhidden k e (inr (inr (inl h))) = inr (inr h)
+  unhidden k e (inr (inr (inr h))) = absurd (h.2 k)
 
-  pub equation_judged : (a b c : Option StatError) → K hidden_clock → One clock_mismatch a → One not_a_clock b → One clocked_parameter c →
-      IsJudged (FaultAt is_asked byte K) (AllKept is_asked K) (lesser_of a (lesser_of b c))
-  equation_judged a b c k ja jb jc =
-      let P : Option StatError → Type 0 = λ o. IsJudged (FaultAt is_asked byte K) (AllKept is_asked K) (lesser_of a (lesser_of b o)) in
-      subst P (lesser_none c) (all_judged a b c None ja jb jc (silent hidden_clock k))
+  first_three : (e : StatError) → Fault clock_mismatch e ⊎ (Fault not_a_clock e ⊎ Fault clocked_parameter e) → Any e
+  first_three e (inl h) = inl h
+  first_three e (inr (inl h)) = inr (inl h)
+  first_three e (inr (inr h)) = inr (inr (inl h))
+
+  pub declaration_told : (b c d : Option StatError) → K clock_mismatch → TellsOne (Fault not_a_clock) (K not_a_clock) b → TellsOne (Fault clocked_parameter) (K clocked_parameter) c → TellsOne (Fault hidden_clock) (K hidden_clock) d →
+      Tells (FaultAt is_asked byte K) (AllKept is_asked K) (b ∷ c ∷ d ∷ [])
+  declaration_told b c d k tb tc td =
+      tells_same (λ e. Fault not_a_clock e ⊎ (Fault clocked_parameter e ⊎ Fault hidden_clock e)) (FaultAt is_asked byte K) (K not_a_clock × (K clocked_parameter × K hidden_clock)) (AllKept is_asked K) (b ∷ c ∷ d ∷ [])
+      (λ e h. to e (inr h)) (λ e f. unmatched k e (from_rule f.rule f.one e (f.reported, f.at, f.broken))) (λ h. kept (k, h))
+      (tells_more (Fault not_a_clock) (λ e. Fault clocked_parameter e ⊎ Fault hidden_clock e) (K not_a_clock) (K clocked_parameter × K hidden_clock) b (c ∷ d ∷ []) tb
+      (tells_more (Fault clocked_parameter) (Fault hidden_clock) (K clocked_parameter) (K hidden_clock) c (d ∷ []) tc (tells_last (Fault hidden_clock) (K hidden_clock) d td)))
+
+  pub equation_told : (a b c : Option StatError) → K hidden_clock → TellsOne (Fault clock_mismatch) (K clock_mismatch) a → TellsOne (Fault not_a_clock) (K not_a_clock) b → TellsOne (Fault clocked_parameter) (K clocked_parameter) c →
+      Tells (FaultAt is_asked byte K) (AllKept is_asked K) (a ∷ b ∷ c ∷ [])
+  equation_told a b c k ta tb tc =
+      tells_same (λ e. Fault clock_mismatch e ⊎ (Fault not_a_clock e ⊎ Fault clocked_parameter e)) (FaultAt is_asked byte K) (K clock_mismatch × (K not_a_clock × K clocked_parameter)) (AllKept is_asked K) (a ∷ b ∷ c ∷ [])
+      (λ e h. to e (first_three e h)) (λ e f. unhidden k e (from_rule f.rule f.one e (f.reported, f.at, f.broken))) (λ h. kept (h.0, (h.1.0, (h.1.1, k))))
+      (tells_more (Fault clock_mismatch) (λ e. Fault not_a_clock e ⊎ Fault clocked_parameter e) (K clock_mismatch) (K not_a_clock × K clocked_parameter) a (b ∷ c ∷ []) ta
+      (tells_more (Fault not_a_clock) (Fault clocked_parameter) (K not_a_clock) (K clocked_parameter) b (c ∷ []) tb (tells_last (Fault clocked_parameter) (K clocked_parameter) c tc)))
 
   pub silent_judged : K clock_mismatch → K not_a_clock → K clocked_parameter → K hidden_clock → IsJudged (FaultAt is_asked byte K) (AllKept is_asked K) None
   silent_judged i j k l = all_judged None None None None (silent clock_mismatch i) (silent not_a_clock j) (silent clocked_parameter k) (silent hidden_clock l)

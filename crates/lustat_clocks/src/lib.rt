@@ -6,7 +6,7 @@
 //! - [`names_clocks`]: whether those of the clocks that an expression names have them.
 //! - [`is_unclocked`], [`main_is_unclocked`], [`calls_unclocked`]: whether inputs and outputs are on the base clock.
 //! - [`declaration_fault`], [`equation_fault`]: the least fault at a place.
-//! - [`clock_fault`]: the least fault of a program.
+//! - [`clock_fault`]: the least fault of a program. [`all_clock_faults`]: all of them, in order of place.
 //! - [`is_visible`]: whether the clocks of the main node's outputs are inputs or outputs.
 #![tactic(auto)]
 
@@ -17,6 +17,7 @@ mod fault;
 mod fit;
 mod parameter;
 mod search;
+mod survey;
 
 pub use agree::agrees;
 pub use chain::{chain_ends, is_clock, names_clocks};
@@ -24,3 +25,4 @@ pub use fault::{declaration_fault, equation_fault};
 pub use fit::fits;
 pub use parameter::{calls_unclocked, is_unclocked, is_visible, main_is_unclocked};
 pub use search::clock_fault;
+pub use survey::all_clock_faults;

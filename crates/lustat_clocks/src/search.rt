@@ -19,10 +19,10 @@ use std::alloc::{AllocError, Global};
 // The rules of clocks at the places of a program, with the name of its main node, and whether that one has all its outputs on the base
 // clock. The tests of a node share the marks of the declarations whose chains of clocks end.
 #[derive(Drop)]
-struct ClockStage<'r, 'a> {
-    catalog: &'r Catalog<'a>,
-    main: &'r str,
-    unclocked: bool,
+pub(crate) struct ClockStage<'r, 'a> {
+    pub(crate) catalog: &'r Catalog<'a>,
+    pub(crate) main: &'r str,
+    pub(crate) unclocked: bool,
     ghost tells: { IsTrue unclocked
         ↔ IfSome (node_called (program_view catalog.now) main.now) HasUnclockedOutputs } by { Prim.hlevel props },
 }

@@ -1,12 +1,14 @@
 -- From the tests of single rules to the check of an equation.
-use Rattle.std.proofs.Common.{◌↔◌, ◌⊎◌, inl, inr, ℕ, List, Option, IsTrue, refl, sym, true≢false}
+use Rattle.std.proofs.Common.{◌↔◌, ◌⊎◌, inl, inr, ℕ, ◌∷◌, [], List, Option, IsTrue, refl, sym, true≢false}
 use Rattle.lutree.specs.Tree.{EquationTree, NodeTree}
 use Rattle.lustat_rules.specs.Accepted.{Rule, duplicate_name, unknown_name, unknown_node, type_mismatch, wrong_arity, undefined, defined_twice, recursive_node, no_main, bad_merge, clock_mismatch, not_a_clock, clocked_parameter, hidden_clock, maybe_nil, current_may_be_nil}
 use Rattle.lustat_rules.specs.Classes.{Classes, IsLeast}
 use Rattle.lustat_rules.specs.declared.error.StatError.{StatError}
-use Rattle.lustat_rules.specs.Faults.{lesser_of, IsJudged, FaultAt, AllKept}
-use Rattle.lustat_rules.proofs.Judging.{RuleFault, judged_both, judged_same}
+use Rattle.lustat_rules.specs.Faults.{FaultAt, AllKept}
+use Rattle.lustat_rules.proofs.Judging.{RuleFault}
 use Rattle.lustat_rules.proofs.Raising.{is_one_grows, needs_fall}
+use Rattle.lustat_faults.specs.Told.{Tells}
+use Rattle.lustat_faults.proofs.Telling.{TellsOne, tells_last, tells_more, tells_same}
 use Rattle.lustat_init.specs.Judged.{KeepsClasses}
 use Rattle.lustat_init.specs.Faults.{is_asked, KeepsLeast}
 
@@ -24,9 +26,6 @@ keeps_least n a q least = (there, λ h. h a least) where
 module _ (byte : ℕ) (K : Rule → Type 0) where
   abbrev pub Fault : Rule → StatError → Type 0
   Fault rule = RuleFault rule byte (K rule)
-
-  abbrev pub One : Rule → Option StatError → Type 0
-  One rule = IsJudged (Fault rule) (K rule)
 
   abbrev Any : StatError → Type 0
   Any e = Fault maybe_nil e ⊎ Fault current_may_be_nil e
@@ -77,8 +76,8 @@ module _ (byte : ℕ) (K : Rule → Type 0) where
   kept h clocked_parameter one = absurd (true≢false (sym one))
   kept h hidden_clock one = absurd (true≢false (sym one))
 
-  pub equation_judged : (a b : Option StatError) → One maybe_nil a → One current_may_be_nil b → IsJudged (FaultAt is_asked byte K) (AllKept is_asked K) (lesser_of a b)
-  equation_judged a b ja jb =
-      judged_same Any (FaultAt is_asked byte K) Both (AllKept is_asked K) (lesser_of a b)
+  pub equation_told : (a b : Option StatError) → TellsOne (Fault maybe_nil) (K maybe_nil) a → TellsOne (Fault current_may_be_nil) (K current_may_be_nil) b → Tells (FaultAt is_asked byte K) (AllKept is_asked K) (a ∷ b ∷ [])
+  equation_told a b ta tb =
+      tells_same Any (FaultAt is_asked byte K) Both (AllKept is_asked K) (a ∷ b ∷ [])
       to (λ e f. from_rule f.rule f.one e (f.reported, f.at, f.broken)) kept
-      (judged_both (Fault maybe_nil) (Fault current_may_be_nil) (K maybe_nil) (K current_may_be_nil) a b ja jb)
+      (tells_more (Fault maybe_nil) (Fault current_may_be_nil) (K maybe_nil) (K current_may_be_nil) a (b ∷ []) ta (tells_last (Fault current_may_be_nil) (K current_may_be_nil) b tb))

@@ -9,3 +9,4 @@ mod Pushed
 mod Beginning
 mod Tabled
 mod Naming
+mod Surveyed

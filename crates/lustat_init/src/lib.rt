@@ -8,6 +8,7 @@
 //! - [`clocks_named`], [`keeps_classes`]: whether an equation keeps the rules of classes.
 //! - [`initialise`], [`Initialised`]: whether a program keeps these rules: the classes of each node, or the fault that
 //!   is reported.
+//! - [`all_class_faults`]: all faults by these rules, in order of place.
 //! - [`laws`]: what the least classes decide.
 //!
 //! # The condition of `current`
@@ -26,6 +27,7 @@ mod known;
 pub mod laws;
 mod least;
 mod search;
+mod survey;
 
 pub use class::{is_one, needs_met};
 pub use current::Firsts;
@@ -33,3 +35,4 @@ pub use judge::{clocks_named, keeps_classes};
 pub use known::{all_lefts_known, lefts_are_known};
 pub use least::least_classes;
 pub use search::{Initialised, initialise};
+pub use survey::all_class_faults;

@@ -5,6 +5,7 @@ ghost use Rattle.lutree.specs.declared.program.Node.{Node};
 ghost use Rattle.lutree.specs.Tree.{node_view, program_view};
 ghost use Rattle.lustat_rules.specs.Accepted.{Passes};
 ghost use Rattle.lustat_rules.specs.Faults.{IsJudged};
+ghost use Rattle.lustat_faults.specs.Told.{Tells};
 ghost use Rattle.lustat_init.specs.Assigned.{LeftsKnown};
 ghost use Rattle.lustat_init.specs.Faults.{EquationKept, EquationFault, AreKept, IsFault, ReportsBroken};
 ghost use Rattle.lustat_init.specs.Served.{Serves, AreLeast};
@@ -13,7 +14,8 @@ ghost use Rattle.lustat_init.specs.Rows.{plain, GiveLeastBelow, AreClasses, IfKe
 use crate::Firsts;
 use crate::judge::{clocks_named, keeps_classes};
 use crate::least::least_classes;
-use lustat_rules::{Catalog, Places, Scope, Stage, StatError, least_fault, lesser, reported};
+use lustat_faults::least_of;
+use lustat_rules::{Catalog, Places, Scope, Stage, StatError, least_fault, reported};
 use lutree::{Declaration, DeclaredName, Equation, TypeDeclaration};
 use std::alloc::{AllocError, Global};
 
@@ -30,17 +32,35 @@ pub enum Initialised {
 // What the tests of the equations of a node share: the variables that clocks name, those that are true or false at first, and the marks
 // of the node's least classes.
 #[derive(Drop)]
-struct Prepared<'r, 'a> {
-    named: Places<'a>,
-    firsts: Firsts<'a>,
-    marks: &'r [bool],
+pub(crate) struct Prepared<'r, 'a> {
+    pub(crate) named: Places<'a>,
+    pub(crate) firsts: Firsts<'a>,
+    pub(crate) marks: &'r [bool],
+}
+
+// The faults of an equation, rule by rule.
+pub(crate) fn equation_faults(
+    prepared: &Prepared,
+    scope: &Scope,
+    equation: &Equation,
+) -> [Option<StatError>; 2]
+    requires { Serves scope.now prepared.now.named prepared.now.firsts prepared.now.marks.now }
+    ensures { Tells (EquationFault scope.now equation.now) (EquationKept scope.now equation.now)
+        result }
+{
+    let byte = equation.byte;
+    let keeps = keeps_classes(scope, prepared.marks, &prepared.named, equation);
+    let starts = prepared.firsts.currents_start(scope, equation);
+    let nil = reported(keeps, StatError::MaybeNil { byte });
+    let current = reported(starts, StatError::CurrentMayBeNil { byte });
+    [nil, current]
 }
 
 // The rules of initialisation at the equations of nodes, with marks of the least classes for each node.
 #[derive(Drop)]
-struct ClassStage<'r, 'a> {
-    catalog: &'r Catalog<'a>,
-    rows: &'r [Vec<bool>],
+pub(crate) struct ClassStage<'r, 'a> {
+    pub(crate) catalog: &'r Catalog<'a>,
+    pub(crate) rows: &'r [Vec<bool>],
     ghost least: { AreLeast catalog.now.nodes (plain rows.now) },
 }
 
@@ -123,17 +143,13 @@ impl<'r, 'a> Stage<'a> for ClassStage<'r, 'a> {
         _place: usize,
         equation: &Equation,
     ) -> Option<StatError> {
-        let byte = equation.byte;
-        let keeps = keeps_classes(scope, prepared.marks, &prepared.named, equation);
-        let starts = prepared.firsts.currents_start(scope, equation);
-        let nil = reported(keeps, StatError::MaybeNil { byte });
-        let current = reported(starts, StatError::CurrentMayBeNil { byte });
-        lesser(nil, current)
+        let row = equation_faults(prepared, scope, equation);
+        least_of(&row)
     }
 }
 
 // The least classes of nodes, in order.
-fn rows_of(alloc: Global, scopes: &[Scope]) -> Result<Vec<Vec<bool>>, AllocError>
+pub(crate) fn rows_of(alloc: Global, scopes: &[Scope]) -> Result<Vec<Vec<bool>>, AllocError>
     requires { All (λ (n : Node). LeftsKnown (node_view n)) scopes.now }
     ensures { IfOk result
         (λ rows. GiveLeastBelow (length scopes.now) scopes.now (plain rows.items)) }

@@ -1,10 +1,12 @@
 -- From the tests of single rules to the check of a place.
-use Rattle.std.proofs.Common.{◌≡◌, ◌⊎◌, inl, inr, ℕ, Option, Some, IsTrue, refl, sym, true≢false}
+use Rattle.std.proofs.Common.{◌≡◌, ◌⊎◌, inl, inr, ℕ, ◌∷◌, [], Option, Some, IsTrue, refl, sym, true≢false}
 use Rattle.lustat_rules.specs.Accepted.{Rule, duplicate_name, unknown_name, unknown_node, type_mismatch, wrong_arity, undefined, defined_twice, recursive_node, no_main, bad_merge, clock_mismatch, not_a_clock, clocked_parameter, hidden_clock, maybe_nil, current_may_be_nil}
 use Rattle.lustat_rules.specs.declared.error.StatError.{StatError}
 use Rattle.lustat_rules.specs.Reported.{rule_of, byte_of}
-use Rattle.lustat_rules.specs.Faults.{lesser_of, IsJudged, FaultAt, AllKept}
-use Rattle.lustat_rules.proofs.Judging.{RuleFault, judged_both, judged_same}
+use Rattle.lustat_rules.specs.Faults.{IsJudged, FaultAt, AllKept}
+use Rattle.lustat_rules.proofs.Judging.{RuleFault, judged_same}
+use Rattle.lustat_faults.specs.Told.{Tells}
+use Rattle.lustat_faults.proofs.Telling.{TellsOne, tells_last, tells_more, tells_same}
 use Rattle.lutype.specs.Asked.{is_asked}
 
 -- PROGRAM
@@ -64,6 +66,10 @@ program_judged byte K o0 t0 t1 t2 t3 t4 t5 t6 t7 j0 =
     (program_kept K t0 t1 t2 t3 t4 t5 t6 t7)
     j0
 
+-- the one rule that can be broken there
+pub program_only : (byte : ℕ) (K : Rule → Type 0) → K duplicate_name → K unknown_name → K unknown_node → K type_mismatch → K wrong_arity → K undefined → K defined_twice → K bad_merge → (e : StatError) → FaultAt is_asked byte K e → (rule_of e ≡ Some no_main) × (byte_of e ≡ byte)
+program_only byte K t0 t1 t2 t3 t4 t5 t6 t7 e h = let f = program_from_rule byte K t0 t1 t2 t3 t4 t5 t6 t7 e h.rule h.reported h.one h.at h.broken in (f.0, f.1)
+
 -- TYPES, NAMES OF ENUMERATIONS AND NODES
 
 abbrev name_faults : ℕ → (Rule → Type 0) → StatError → Type 0
@@ -121,6 +127,10 @@ name_judged byte K o0 t0 t1 t2 t3 t4 t5 t6 t7 j0 =
     (name_kept K t0 t1 t2 t3 t4 t5 t6 t7)
     j0
 
+-- the one rule that can be broken there
+pub name_only : (byte : ℕ) (K : Rule → Type 0) → K unknown_name → K unknown_node → K type_mismatch → K wrong_arity → K undefined → K defined_twice → K no_main → K bad_merge → (e : StatError) → FaultAt is_asked byte K e → (rule_of e ≡ Some duplicate_name) × (byte_of e ≡ byte)
+name_only byte K t0 t1 t2 t3 t4 t5 t6 t7 e h = let f = name_from_rule byte K t0 t1 t2 t3 t4 t5 t6 t7 e h.rule h.reported h.one h.at h.broken in (f.0, f.1)
+
 -- DECLARATIONS
 
 abbrev declaration_faults : ℕ → (Rule → Type 0) → StatError → Type 0
@@ -170,15 +180,17 @@ declaration_kept K t0 t1 t2 t3 t4 t5 h hidden_clock one = absurd (true≢false (
 declaration_kept K t0 t1 t2 t3 t4 t5 h maybe_nil one = absurd (true≢false (sym one))
 declaration_kept K t0 t1 t2 t3 t4 t5 h current_may_be_nil one = absurd (true≢false (sym one))
 
-pub declaration_judged : (byte : ℕ) (K : Rule → Type 0) (o0 o1 o2 : Option StatError) → K unknown_node → K type_mismatch → K wrong_arity → K defined_twice → K no_main → K bad_merge
-    → IsJudged (RuleFault duplicate_name byte (K duplicate_name)) (K duplicate_name) o0 → IsJudged (RuleFault unknown_name byte (K unknown_name)) (K unknown_name) o1 → IsJudged (RuleFault undefined byte (K undefined)) (K undefined) o2
-    → IsJudged (FaultAt is_asked byte K) (AllKept is_asked K) (lesser_of o0 (lesser_of o1 (o2)))
-declaration_judged byte K o0 o1 o2 t0 t1 t2 t3 t4 t5 j0 j1 j2 =
-    judged_same (declaration_faults byte K) (FaultAt is_asked byte K) (declaration_rules K) (AllKept is_asked K) (lesser_of o0 (lesser_of o1 (o2)))
+pub declaration_told : (byte : ℕ) (K : Rule → Type 0) (o0 o1 o2 : Option StatError) → K unknown_node → K type_mismatch → K wrong_arity → K defined_twice → K no_main → K bad_merge
+    → TellsOne (RuleFault duplicate_name byte (K duplicate_name)) (K duplicate_name) o0 → TellsOne (RuleFault unknown_name byte (K unknown_name)) (K unknown_name) o1 → TellsOne (RuleFault undefined byte (K undefined)) (K undefined) o2
+    → Tells (FaultAt is_asked byte K) (AllKept is_asked K) (o0 ∷ o1 ∷ o2 ∷ [])
+declaration_told byte K o0 o1 o2 t0 t1 t2 t3 t4 t5 j0 j1 j2 =
+    tells_same (declaration_faults byte K) (FaultAt is_asked byte K) (declaration_rules K) (AllKept is_asked K) (o0 ∷ o1 ∷ o2 ∷ [])
     (declaration_to byte K)
     (λ e h. declaration_from_rule byte K t0 t1 t2 t3 t4 t5 e h.rule h.reported h.one h.at h.broken)
     (declaration_kept K t0 t1 t2 t3 t4 t5)
-    (judged_both (RuleFault duplicate_name byte (K duplicate_name)) (λ e. RuleFault unknown_name byte (K unknown_name) e ⊎ (RuleFault undefined byte (K undefined) e)) (K duplicate_name) (K unknown_name × (K undefined)) o0 (lesser_of o1 (o2)) j0 (judged_both (RuleFault unknown_name byte (K unknown_name)) (λ e. RuleFault undefined byte (K undefined) e) (K unknown_name) (K undefined) o1 o2 j1 j2))
+    (tells_more (RuleFault duplicate_name byte (K duplicate_name)) (λ e. RuleFault unknown_name byte (K unknown_name) e ⊎ RuleFault undefined byte (K undefined) e) (K duplicate_name) (K unknown_name × K undefined) o0 (o1 ∷ o2 ∷ []) j0
+    (tells_more (RuleFault unknown_name byte (K unknown_name)) (RuleFault undefined byte (K undefined)) (K unknown_name) (K undefined) o1 (o2 ∷ []) j1
+    (tells_last (RuleFault undefined byte (K undefined)) (K undefined) o2 j2)))
 
 -- EQUATIONS
 
@@ -232,12 +244,17 @@ equation_kept K t0 t1 t2 h hidden_clock one = absurd (true≢false (sym one))
 equation_kept K t0 t1 t2 h maybe_nil one = absurd (true≢false (sym one))
 equation_kept K t0 t1 t2 h current_may_be_nil one = absurd (true≢false (sym one))
 
-pub equation_judged : (byte : ℕ) (K : Rule → Type 0) (o0 o1 o2 o3 o4 o5 : Option StatError) → K duplicate_name → K undefined → K no_main
-    → IsJudged (RuleFault unknown_name byte (K unknown_name)) (K unknown_name) o0 → IsJudged (RuleFault unknown_node byte (K unknown_node)) (K unknown_node) o1 → IsJudged (RuleFault type_mismatch byte (K type_mismatch)) (K type_mismatch) o2 → IsJudged (RuleFault wrong_arity byte (K wrong_arity)) (K wrong_arity) o3 → IsJudged (RuleFault defined_twice byte (K defined_twice)) (K defined_twice) o4 → IsJudged (RuleFault bad_merge byte (K bad_merge)) (K bad_merge) o5
-    → IsJudged (FaultAt is_asked byte K) (AllKept is_asked K) (lesser_of o0 (lesser_of o1 (lesser_of o2 (lesser_of o3 (lesser_of o4 (o5))))))
-equation_judged byte K o0 o1 o2 o3 o4 o5 t0 t1 t2 j0 j1 j2 j3 j4 j5 =
-    judged_same (equation_faults byte K) (FaultAt is_asked byte K) (equation_rules K) (AllKept is_asked K) (lesser_of o0 (lesser_of o1 (lesser_of o2 (lesser_of o3 (lesser_of o4 (o5))))))
+pub equation_told : (byte : ℕ) (K : Rule → Type 0) (o0 o1 o2 o3 o4 o5 : Option StatError) → K duplicate_name → K undefined → K no_main
+    → TellsOne (RuleFault unknown_name byte (K unknown_name)) (K unknown_name) o0 → TellsOne (RuleFault unknown_node byte (K unknown_node)) (K unknown_node) o1 → TellsOne (RuleFault type_mismatch byte (K type_mismatch)) (K type_mismatch) o2 → TellsOne (RuleFault wrong_arity byte (K wrong_arity)) (K wrong_arity) o3 → TellsOne (RuleFault defined_twice byte (K defined_twice)) (K defined_twice) o4 → TellsOne (RuleFault bad_merge byte (K bad_merge)) (K bad_merge) o5
+    → Tells (FaultAt is_asked byte K) (AllKept is_asked K) (o0 ∷ o1 ∷ o2 ∷ o3 ∷ o4 ∷ o5 ∷ [])
+equation_told byte K o0 o1 o2 o3 o4 o5 t0 t1 t2 j0 j1 j2 j3 j4 j5 =
+    tells_same (equation_faults byte K) (FaultAt is_asked byte K) (equation_rules K) (AllKept is_asked K) (o0 ∷ o1 ∷ o2 ∷ o3 ∷ o4 ∷ o5 ∷ [])
     (equation_to byte K)
     (λ e h. equation_from_rule byte K t0 t1 t2 e h.rule h.reported h.one h.at h.broken)
     (equation_kept K t0 t1 t2)
-    (judged_both (RuleFault unknown_name byte (K unknown_name)) (λ e. RuleFault unknown_node byte (K unknown_node) e ⊎ (RuleFault type_mismatch byte (K type_mismatch) e ⊎ (RuleFault wrong_arity byte (K wrong_arity) e ⊎ (RuleFault defined_twice byte (K defined_twice) e ⊎ (RuleFault bad_merge byte (K bad_merge) e))))) (K unknown_name) (K unknown_node × (K type_mismatch × (K wrong_arity × (K defined_twice × (K bad_merge))))) o0 (lesser_of o1 (lesser_of o2 (lesser_of o3 (lesser_of o4 (o5))))) j0 (judged_both (RuleFault unknown_node byte (K unknown_node)) (λ e. RuleFault type_mismatch byte (K type_mismatch) e ⊎ (RuleFault wrong_arity byte (K wrong_arity) e ⊎ (RuleFault defined_twice byte (K defined_twice) e ⊎ (RuleFault bad_merge byte (K bad_merge) e)))) (K unknown_node) (K type_mismatch × (K wrong_arity × (K defined_twice × (K bad_merge)))) o1 (lesser_of o2 (lesser_of o3 (lesser_of o4 (o5)))) j1 (judged_both (RuleFault type_mismatch byte (K type_mismatch)) (λ e. RuleFault wrong_arity byte (K wrong_arity) e ⊎ (RuleFault defined_twice byte (K defined_twice) e ⊎ (RuleFault bad_merge byte (K bad_merge) e))) (K type_mismatch) (K wrong_arity × (K defined_twice × (K bad_merge))) o2 (lesser_of o3 (lesser_of o4 (o5))) j2 (judged_both (RuleFault wrong_arity byte (K wrong_arity)) (λ e. RuleFault defined_twice byte (K defined_twice) e ⊎ (RuleFault bad_merge byte (K bad_merge) e)) (K wrong_arity) (K defined_twice × (K bad_merge)) o3 (lesser_of o4 (o5)) j3 (judged_both (RuleFault defined_twice byte (K defined_twice)) (λ e. RuleFault bad_merge byte (K bad_merge) e) (K defined_twice) (K bad_merge) o4 o5 j4 j5)))))
+    (tells_more (RuleFault unknown_name byte (K unknown_name)) (λ e. RuleFault unknown_node byte (K unknown_node) e ⊎ (RuleFault type_mismatch byte (K type_mismatch) e ⊎ (RuleFault wrong_arity byte (K wrong_arity) e ⊎ (RuleFault defined_twice byte (K defined_twice) e ⊎ (RuleFault bad_merge byte (K bad_merge) e))))) (K unknown_name) (K unknown_node × (K type_mismatch × (K wrong_arity × (K defined_twice × (K bad_merge))))) o0 (o1 ∷ o2 ∷ o3 ∷ o4 ∷ o5 ∷ []) j0
+    (tells_more (RuleFault unknown_node byte (K unknown_node)) (λ e. RuleFault type_mismatch byte (K type_mismatch) e ⊎ (RuleFault wrong_arity byte (K wrong_arity) e ⊎ (RuleFault defined_twice byte (K defined_twice) e ⊎ (RuleFault bad_merge byte (K bad_merge) e)))) (K unknown_node) (K type_mismatch × (K wrong_arity × (K defined_twice × (K bad_merge)))) o1 (o2 ∷ o3 ∷ o4 ∷ o5 ∷ []) j1
+    (tells_more (RuleFault type_mismatch byte (K type_mismatch)) (λ e. RuleFault wrong_arity byte (K wrong_arity) e ⊎ (RuleFault defined_twice byte (K defined_twice) e ⊎ (RuleFault bad_merge byte (K bad_merge) e))) (K type_mismatch) (K wrong_arity × (K defined_twice × (K bad_merge))) o2 (o3 ∷ o4 ∷ o5 ∷ []) j2
+    (tells_more (RuleFault wrong_arity byte (K wrong_arity)) (λ e. RuleFault defined_twice byte (K defined_twice) e ⊎ (RuleFault bad_merge byte (K bad_merge) e)) (K wrong_arity) (K defined_twice × (K bad_merge)) o3 (o4 ∷ o5 ∷ []) j3
+    (tells_more (RuleFault defined_twice byte (K defined_twice)) (RuleFault bad_merge byte (K bad_merge)) (K defined_twice) (K bad_merge) o4 (o5 ∷ []) j4
+    (tells_last (RuleFault bad_merge byte (K bad_merge)) (K bad_merge) o5 j5))))))

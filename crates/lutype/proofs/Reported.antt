@@ -1,5 +1,5 @@
 -- What the check of names reports.
-use Rattle.std.proofs.Common.{◌≡◌, ◌<◌, ◌≤◌, inl, inr, ⊎_elim, ℕ, List, length, Option, Some, IsTrue, refl, sym, ap, ◌∙◌, subst, arith, true≢false}
+use Rattle.std.proofs.Common.{◌≡◌, ◌↔◌, ◌<◌, ◌≤◌, inl, inr, ⊎_elim, ℕ, List, length, Option, Some, IsTrue, refl, sym, ap, ◌∙◌, subst, arith, true≢false}
 use Rattle.std.proofs.lemmas.List.{length-map}
 use Rattle.std.proofs.lemmas.Option.{slice_get_within, same_Some}
 use Rattle.std.specs.Prelude.{slice_get}
@@ -99,20 +99,29 @@ one_recursion p e f a b =
     let same : a.node ≡ b.node = same_Some a.node b.node (sym a.there ∙ ap (slice_get p.nodes) one ∙ b.there) in
     a.reported ∙ ap (λ (n : Node). RecursiveNode n.byte) same ∙ sym b.reported
 
--- the fault of recursion among others
-pub reported_with : (p : Program) (main : List ℕ) (place byte : ℕ) (found : Option StatError) (r : StatError) → IsJudged (IsFault is_asked p main) (AreKept is_asked p main) found
-    → IsRecursive (program_view p) place → NoneRecursiveBefore (program_view p) place → ((node : Node) → slice_get p.nodes place ≡ Some node → byte ≡ node.byte)
-    → Some r ≡ lesser_of found (Some (RecursiveNode byte)) → ReportsRule 1 (program_view p) main r × IsReportedFirst p main r
-reported_with p main place byte found r judged recursive first at is =
+-- the fault of the first recursive node
+pub recursion_at : (p : Program) (place byte : ℕ) → IsRecursive (program_view p) place → NoneRecursiveBefore (program_view p) place → ((node : Node) → slice_get p.nodes place ≡ Some node → byte ≡ node.byte) → IsRecursionFault p (RecursiveNode byte)
+recursion_at p place byte recursive first at =
     let (node, there, seen) = view_item node_view p.nodes place recursive.0 recursive.1 in
-    let fault : IsRecursionFault p (RecursiveNode byte) = record {
+    record {
       place = place;
       node = node;
       there = there;
       recursive = subst (λ (n : NodeTree). Reaches (program_view p) n.name n.name) (sym seen) recursive.2;
       first = first;
       reported = ap RecursiveNode (at node there);
-    } in
+    }
+
+-- it is the only one
+pub recursion_told : (p : Program) (fault : StatError) → IsRecursionFault p fault → (e : StatError) → (Some fault ≡ Some e) ↔ IsRecursionFault p e
+recursion_told p fault here e = (λ is. subst (IsRecursionFault p) (same_Some fault e is) here, λ other. ap Some (one_recursion p fault e here other))
+
+-- the fault of recursion among others
+pub reported_with : (p : Program) (main : List ℕ) (place byte : ℕ) (found : Option StatError) (r : StatError) → IsJudged (IsFault is_asked p main) (AreKept is_asked p main) found
+    → IsRecursive (program_view p) place → NoneRecursiveBefore (program_view p) place → ((node : Node) → slice_get p.nodes place ≡ Some node → byte ≡ node.byte)
+    → Some r ≡ lesser_of found (Some (RecursiveNode byte)) → ReportsRule 1 (program_view p) main r × IsReportedFirst p main r
+reported_with p main place byte found r judged recursive first at is =
+    let fault : IsRecursionFault p (RecursiveNode byte) = recursion_at p place byte recursive first at in
     let own : IsJudged (IsRecursionFault p) (Unit {0}) (Some (RecursiveNode byte)) =
     (fault, λ f other. let e = one_recursion p (RecursiveNode byte) f fault other in inr (ap byte_of e, (let n = ap number_of e in omega (arith, n)))) in
     let both = judged_joined (IsFault is_asked p main) (IsRecursionFault p) (AreKept is_asked p main) (Unit {0}) found (Some (RecursiveNode byte)) (Some r) is judged own in (

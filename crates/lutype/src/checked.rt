@@ -16,7 +16,7 @@ use lutree::Program;
 use std::alloc::Global;
 
 /// The place of a node's name in the text.
-fn byte_of_node(catalog: &Catalog, place: usize) -> usize
+pub(crate) fn byte_of_node(catalog: &Catalog, place: usize) -> usize
     requires { place < length catalog.now.nodes }
     ensures { (node : Node) → slice_get catalog.now.nodes place ≡ Some node → result ≡ node.byte }
 {

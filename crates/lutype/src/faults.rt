@@ -5,13 +5,15 @@ ghost use Rattle.lutree.specs.Tree.{type_view, declaration_view, equation_view, 
 ghost use Rattle.lustat_rules.specs.Naming.{IsNewType, IsNewNode, IsNewVariable, HasMain, NamesKnown, CallsKnown, AritiesRight};
 ghost use Rattle.lustat_rules.specs.Typing.{MergesWhole, IsTyped};
 ghost use Rattle.lustat_rules.specs.Faults.{declared_in, lesser_of, IsJudged, ProgramFault, ProgramKept, TypeFault, TypeKept, NameFault, NameKept, NodeFault, NodeKept, DeclarationFault, DeclarationKept, EquationFault, EquationKept};
+ghost use Rattle.lustat_faults.specs.Told.{Tells};
 ghost use Rattle.lutype.specs.Asked.{is_asked};
 
 use crate::{
     Definitions, arities_are_right, calls_are_known, declaration_is_known, defines_anew,
     is_defined, is_well_typed, merges_are_whole, names_are_known,
 };
-use lustat_rules::{Catalog, Scope, StatError, is_reported_before, lesser, reported};
+use lustat_faults::least_of;
+use lustat_rules::{Catalog, Scope, StatError, is_reported_before, reported};
 use lutree::{Declaration, DeclaredName, Equation, Node, TypeDeclaration};
 
 /// Whether a place that was found is another.
@@ -130,6 +132,30 @@ pub fn name_fault(catalog: &Catalog, place: usize, node: &Node) -> Option<StatEr
     reported(is_new, StatError::DuplicateName { byte: node.byte })
 }
 
+/// The faults of a declaration, rule by rule.
+pub(crate) fn declaration_faults(
+    catalog: &Catalog,
+    scope: &Scope,
+    definitions: &Definitions,
+    place: usize,
+    declaration: &Declaration,
+) -> [Option<StatError>; 3]
+    requires same { definitions.now ≡ scope.now }
+    requires at { slice_get (declared_in scope.now) place ≡ Some declaration.now }
+    ensures { (main : List ℕ) → Tells (DeclarationFault is_asked catalog.now main scope.now place
+        declaration.now) (DeclarationKept is_asked catalog.now main scope.now place declaration.now)
+        result }
+{
+    let byte = declaration.byte;
+    let is_new = is_new_variable(catalog, scope, place, declaration);
+    let is_known = declaration_is_known(catalog, scope, declaration);
+    let is_defined = is_defined(scope, definitions, declaration);
+    let duplicate = reported(is_new, StatError::DuplicateName { byte });
+    let unknown = reported(is_known, StatError::UnknownName { byte });
+    let undefined = reported(is_defined, StatError::Undefined { byte });
+    [duplicate, unknown, undefined]
+}
+
 /// The least fault of a declaration.
 pub fn declaration_fault(
     catalog: &Catalog,
@@ -144,27 +170,21 @@ pub fn declaration_fault(
         declaration.now) (DeclarationKept is_asked catalog.now main scope.now place declaration.now)
         result }
 {
-    let byte = declaration.byte;
-    let is_new = is_new_variable(catalog, scope, place, declaration);
-    let is_known = declaration_is_known(catalog, scope, declaration);
-    let is_defined = is_defined(scope, definitions, declaration);
-    let duplicate = reported(is_new, StatError::DuplicateName { byte });
-    let unknown = reported(is_known, StatError::UnknownName { byte });
-    let undefined = reported(is_defined, StatError::Undefined { byte });
-    lesser(duplicate, lesser(unknown, undefined))
+    let row = declaration_faults(catalog, scope, definitions, place, declaration);
+    least_of(&row)
 }
 
-/// The least fault of an equation.
-pub fn equation_fault(
+/// The faults of an equation, rule by rule.
+pub(crate) fn equation_faults(
     catalog: &Catalog,
     scope: &Scope,
     definitions: &Definitions,
     place: usize,
     equation: &Equation,
-) -> Option<StatError>
+) -> [Option<StatError>; 6]
     requires same { definitions.now ≡ scope.now }
     requires at { slice_get scope.now.equations place ≡ Some equation.now }
-    ensures { (main : List ℕ) → IsJudged (EquationFault is_asked catalog.now main scope.now place
+    ensures { (main : List ℕ) → Tells (EquationFault is_asked catalog.now main scope.now place
         equation.now) (EquationKept is_asked catalog.now main scope.now place equation.now) result }
 {
     let byte = equation.byte;
@@ -185,13 +205,24 @@ pub fn equation_fault(
     let arity = reported(are_right, StatError::WrongArity { byte });
     let twice = reported(is_anew, StatError::DefinedTwice { byte });
     let merge = reported(are_whole, StatError::BadMerge { byte });
-    lesser(
-        unknown_name,
-        lesser(
-            unknown_node,
-            lesser(mismatch, lesser(arity, lesser(twice, merge))),
-        ),
-    )
+    [unknown_name, unknown_node, mismatch, arity, twice, merge]
+}
+
+/// The least fault of an equation.
+pub fn equation_fault(
+    catalog: &Catalog,
+    scope: &Scope,
+    definitions: &Definitions,
+    place: usize,
+    equation: &Equation,
+) -> Option<StatError>
+    requires same { definitions.now ≡ scope.now }
+    requires at { slice_get scope.now.equations place ≡ Some equation.now }
+    ensures { (main : List ℕ) → IsJudged (EquationFault is_asked catalog.now main scope.now place
+        equation.now) (EquationKept is_asked catalog.now main scope.now place equation.now) result }
+{
+    let row = equation_faults(catalog, scope, definitions, place, equation);
+    least_of(&row)
 }
 
 /// Of a fault, if there is one, and that of recursion the one that is reported.

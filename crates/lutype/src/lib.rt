@@ -6,6 +6,7 @@
 //!   broken.
 //! - [`Typed`]: a program whose names and types are in order.
 //! - [`least_fault`]: the fault that is reported, by the rules that look at one place alone.
+//! - [`all_name_faults`]: all faults by the rules of names and types, in order of place.
 //!
 //! # The types of operators, by those of their operands
 //!
@@ -58,6 +59,7 @@ mod merges;
 mod order;
 mod parts;
 mod search;
+mod survey;
 mod typed;
 mod typing;
 
@@ -78,5 +80,6 @@ pub use lustat_rules::StatError;
 pub use order::{CallOrder, call_order};
 pub use parts::merges_are_whole;
 pub use search::least_fault;
+pub use survey::all_name_faults;
 pub use typed::Typed;
 pub use typing::{is_well_typed, only_kind};

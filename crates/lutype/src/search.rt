@@ -14,9 +14,9 @@ use std::alloc::{AllocError, Global};
 
 // The rules of names and types at the places of a program, with the name of its main node. The tests of a node share its definitions.
 #[derive(Drop)]
-struct NameStage<'r, 'a> {
-    catalog: &'r Catalog<'a>,
-    main: &'r str,
+pub(crate) struct NameStage<'r, 'a> {
+    pub(crate) catalog: &'r Catalog<'a>,
+    pub(crate) main: &'r str,
 }
 
 impl<'r, 'a> Stage<'a> for NameStage<'r, 'a> {

@@ -4,6 +4,7 @@
 //!
 //! - `lists`, `graph`: plain data, and graphs (`lubase`).
 //! - `stages`: clocks and initialisation of texts that the stage before refuses, and of programs that no text has.
+//! - `surveys`: all faults of the first stage that has any (`lustat`).
 //! - `flats`: what a program that keeps all rules lends, and flat lists with their ranks and owners (`lustat`, `lucore`).
 //! - `operators`: operators at data of the wrong types and at nil (`lueval`).
 //! - `streams`: tables that fit a program, its streams and outputs (`luflow`, `lueval`).
@@ -35,5 +36,7 @@ mod placements;
 mod stages;
 #[cfg(test)]
 mod streams;
+#[cfg(test)]
+mod surveys;
 #[cfg(test)]
 mod values;

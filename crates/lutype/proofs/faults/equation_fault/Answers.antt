@@ -1,32 +1,11 @@
-use Rattle.std.proofs.Common.{◌≡◌, ◌∙◌, refl, ap, sym, subst}
-use Rattle.lutree.specs.Tree.{program_view, node_view, equation_view}
-use Rattle.lustat_rules.specs.Accepted.{Rule, EquationKeeps, unknown_name, unknown_node, type_mismatch, wrong_arity, defined_twice, bad_merge}
-use Rattle.lustat_rules.specs.declared.error.StatError.TheVariants.{UnknownName, UnknownNode, TypeMismatch, WrongArity, DefinedTwice, BadMerge}
-use Rattle.lustat_rules.specs.Faults.{lesser_of, IsJudged, EquationFault, EquationKept}
-use Rattle.lustat_rules.proofs.Judging.{judged_reported}
+use Rattle.lustat_rules.specs.Faults.{EquationFault, EquationKept}
+use Rattle.lustat_faults.proofs.Telling.{judged_told}
 use Rattle.lutype.specs.Asked.{is_asked}
-use Rattle.lutype.proofs.Places.{equation_judged}
 use Rattle.lutype.proofs.faults.equation_fault.Goals as goal
 
 pub returns : goal.returns
 returns c = λ main.
-    let program = c.args.catalog.now in
+    let p = c.args.catalog.now in
     let n = c.args.scope.now in
     let q = c.args.equation.now in
-    let K : Rule → Type 0 = λ rule. EquationKeeps (program_view program) main rule (node_view n) c.args.place (equation_view q) in
-    let a = c.reported-unknown_name.result in
-    let b = c.reported-unknown_node.result in
-    let d = c.reported-mismatch.result in
-    let e = c.reported-arity.result in
-    let f = c.reported-twice.result in
-    let g = c.reported-merge.result in
-    let all : c.lesser-5.result ≡ lesser_of a (lesser_of b (lesser_of d (lesser_of e (lesser_of f g)))) =
-    c.lesser-5.ensures ∙ ap (lesser_of a) (c.lesser-4.ensures ∙ ap (lesser_of b) (c.lesser-3.ensures ∙ ap (lesser_of d) (c.lesser-2.ensures ∙ ap (lesser_of e) c.lesser.ensures))) in
-    subst (IsJudged (EquationFault is_asked program main n c.args.place q) (EquationKept is_asked program main n c.args.place q)) (sym all)
-    (equation_judged q.byte K a b d e f g tt tt tt
-    (judged_reported unknown_name q.byte (K unknown_name) c.names_are_known-are_known.result (UnknownName q.byte) a c.reported-unknown_name.ensures refl refl c.names_are_known-are_known.ensures)
-    (judged_reported unknown_node q.byte (K unknown_node) c.calls_are_known-are_nodes.result (UnknownNode q.byte) b c.reported-unknown_node.ensures refl refl c.calls_are_known-are_nodes.ensures)
-    (judged_reported type_mismatch q.byte (K type_mismatch) c.is_typed-is_typed.result (TypeMismatch q.byte) d c.reported-mismatch.ensures refl refl c.is_typed-is_typed.ensures)
-    (judged_reported wrong_arity q.byte (K wrong_arity) c.arities_are_right-are_right.result (WrongArity q.byte) e c.reported-arity.ensures refl refl c.arities_are_right-are_right.ensures)
-    (judged_reported defined_twice q.byte (K defined_twice) c.defines_anew-is_anew.result (DefinedTwice q.byte) f c.reported-twice.ensures refl refl c.defines_anew-is_anew.ensures)
-    (judged_reported bad_merge q.byte (K bad_merge) c.merges_are_whole-are_whole.result (BadMerge q.byte) g c.reported-merge.ensures refl refl c.merges_are_whole-are_whole.ensures))
+    judged_told (EquationFault is_asked p main n c.args.place q) (EquationKept is_asked p main n c.args.place q) c.equation_faults-row.result c.least_of.result c.least_of.ensures (c.equation_faults-row.ensures main)

@@ -1,34 +1,12 @@
-use Rattle.std.proofs.Common.{◌↔◌, IsTrue, refl, sym, subst}
-use Rattle.lutree.specs.declared.program.Node.{Node}
-use Rattle.lutree.specs.Tree.{node_view, equation_view}
-use Rattle.lustat_rules.specs.Accepted.{Rule, maybe_nil, current_may_be_nil}
-use Rattle.lustat_rules.specs.Classes.{CurrentsStart}
-use Rattle.lustat_rules.specs.declared.error.StatError.TheVariants.{MaybeNil, CurrentMayBeNil}
-use Rattle.lustat_rules.specs.Faults.{IsJudged}
-use Rattle.lustat_rules.proofs.Judging.{judged_reported}
-use Rattle.lustat_init.specs.Assigned.{assigned}
-use Rattle.lustat_init.specs.Faults.{EquationSays, EquationKept, EquationFault}
-use Rattle.lustat_init.proofs.Equations.{keeps_least, equation_judged}
+use Rattle.lustat_faults.proofs.Telling.{judged_told}
+use Rattle.lustat_init.specs.Faults.{EquationKept, EquationFault}
 use Rattle.lustat_init.proofs.search.ClassStageStage.equation_fault.Goals as goal
 
-pub keeps_classes-keeps-requires : goal.keeps_classes-keeps-requires
-keeps_classes-keeps-requires c = c.requires.serves.named_by_clocks
-
-pub currents_start-starts-requires : goal.currents_start-starts-requires
-currents_start-starts-requires c = sym c.requires.serves.own
+pub equation_faults-row-requires : goal.equation_faults-row-requires
+equation_faults-row-requires c = c.requires.serves
 
 pub returns : goal.returns
 returns c =
     let n = c.args.scope.now in
     let q = c.args.equation.now in
-    let K : Rule → Type 0 = EquationSays n q in
-    let a = c.reported-nil.result in
-    let b = c.reported-current.result in
-    let serves = c.requires.serves in
-    let all = keeps_least (node_view n) (assigned (node_view n) c.args.prepared.now.marks.now) (equation_view q) serves.least in
-    let one = c.keeps_classes-keeps.ensures in
-    let start = subst (λ (m : Node). IsTrue c.currents_start-starts.result ↔ CurrentsStart (node_view m) (equation_view q)) serves.own c.currents_start-starts.ensures in
-    subst (IsJudged (EquationFault n q) (EquationKept n q)) (sym c.lesser.ensures)
-    (equation_judged q.byte K a b
-    (judged_reported maybe_nil q.byte (K maybe_nil) c.keeps_classes-keeps.result (MaybeNil q.byte) a c.reported-nil.ensures refl refl (λ h. all.0 (one.0 h), λ h. one.1 (all.1 h)))
-    (judged_reported current_may_be_nil q.byte (K current_may_be_nil) c.currents_start-starts.result (CurrentMayBeNil q.byte) b c.reported-current.ensures refl refl start))
+    judged_told (EquationFault n q) (EquationKept n q) c.equation_faults-row.result c.least_of.result c.least_of.ensures c.equation_faults-row.ensures

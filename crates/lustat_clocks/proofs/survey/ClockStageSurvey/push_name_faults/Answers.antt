@@ -1,0 +1,15 @@
+use Rattle.lutree.specs.Tree.{type_view, program_view}
+use Rattle.lustat_rules.specs.Accepted.{Rule, NameKeeps}
+use Rattle.lustat_rules.specs.Faults.{NameFault}
+use Rattle.lustat_faults.proofs.Gaining.{gains_none}
+use Rattle.lustat_clocks.specs.Asked.{is_asked}
+use Rattle.lustat_clocks.proofs.Places.{silent_judged}
+use Rattle.lustat_clocks.proofs.survey.ClockStageSurvey.push_name_faults.Goals as goal
+
+pub returns : goal.returns
+returns c =
+    let p = c.args.self.now.catalog.now in
+    let main = c.args.self.now.main.now in
+    let t = c.args._declaration.now in
+    let x = c.args._name.now in
+    gains_none (NameFault is_asked p main c.args._place t c.args._number x) c.args._found.now.items (silent_judged x.byte (λ (rule : Rule). NameKeeps (program_view p) main rule c.args._place (type_view t) c.args._number x.name) tt tt tt tt).1

@@ -1,0 +1,3 @@
+pub mod Gaining
+pub mod Ordering
+pub mod Telling

@@ -1,0 +1,5 @@
+use Rattle.lustat_faults.proofs.Gaining.{gains_none}
+use Rattle.lustat_init.proofs.survey.ClassStageSurvey.push_type_faults.Goals as goal
+
+pub returns : goal.returns
+returns c = gains_none (λ _. ⊥) c.args._found.now.items (λ e no. no)
